@@ -1,0 +1,2 @@
+//! Captures of a stream: their records, read and written.
+#![tactic(auto)]

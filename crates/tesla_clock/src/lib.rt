@@ -1,0 +1,2 @@
+//! The intervals of a stream, and the bound on the sender's interval.
+#![tactic(auto)]
