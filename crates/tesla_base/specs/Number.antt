@@ -1,5 +1,5 @@
 -- Whole numbers as decimal texts, one spelling for each number.
-use Rattle.std.specs.Prelude.{ℕ, zero, suc, ◌+◌, ◌-◌, ◌^◌, ◌<◌, Bool, not, ◌&&◌, List, [], ◌∷◌, length, drop, ℤ, pos, negsuc, Option, Some, None, Result, Ok, Err, nat_lt, nat_le, ◌==◌, slice_index, position, if◌then◌else◌}
+use Rattle.std.specs.Prelude.{ℕ, zero, suc, ◌+◌, ◌-◌, ◌^◌, not, ◌&&◌, List, length, drop, ℤ, pos, negsuc, Option, Some, None, Result, Ok, Err, nat_lt, nat_le, ◌==◌, slice_index, position, if◌then◌else◌}
 use Rattle.std.specs.Char.{is_ascii_digit}
 use Rattle.std.specs.Str.Parse.{digits_value, starts_with_minus}
 use Rattle.tesla_base.specs.declared.number.NumberFault.{NumberFault}

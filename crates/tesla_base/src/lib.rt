@@ -12,6 +12,6 @@ mod text;
 pub use field::{u16_at, u32_at, u64_at};
 pub use memory::NoMemory;
 pub use names::{ChainNo, Key, Name, StreamId, Tag};
-pub use number::NumberFault;
+pub use number::{NumberFault, read_decimal, read_signed};
 pub use steps::Steps;
 pub use text::Text;
