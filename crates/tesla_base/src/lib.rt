@@ -15,3 +15,6 @@ pub use names::{ChainNo, Key, Name, StreamId, Tag};
 pub use number::{NumberFault, read_decimal, read_signed};
 pub use steps::Steps;
 pub use text::Text;
+
+#[cfg(test)]
+mod tests;
