@@ -1,2 +1,12 @@
-//! To come.
+//! The outside of the project: sources, sinks and the desk that opens and closes them, with what each
+//! tells of its bytes and how often it failed.
 #![tactic(auto)]
+
+mod desk;
+mod sink;
+mod source;
+
+pub use desk::{CONSOLE, Desk, OpenRefusal};
+pub use sink::{Sink, WriteStep, write_all};
+pub use source::{ReadStep, Source};
+pub use tesla_base::Text;
