@@ -38,6 +38,7 @@ pub trait Sink {
 ///
 /// True: the piece was appended. False: a front of it was appended, and the sink's count of faults
 /// rose, since a write failed or took nothing.
+#[tactic(auto, using(crate::proofs::Told::appends_more, crate::proofs::Told::appends_none))]
 pub fn write_all<S: Sink>(sink: &mut S, piece: &[u8]) -> bool
     ensures all { result ≡ true → S.written sink.new ≡ with_bytes (S.written sink.old) piece.now }
     ensures front { AppendsFront (S.written sink.old) (S.written sink.new) piece.now }
