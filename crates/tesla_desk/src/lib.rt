@@ -3,6 +3,7 @@
 #![tactic(auto)]
 
 mod desk;
+mod shelf;
 mod sink;
 mod source;
 
