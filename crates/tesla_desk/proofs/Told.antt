@@ -1,7 +1,8 @@
 -- Bytes that are told, appended one piece after another.
-use Rattle.std.proofs.Common.{◌≡◌, ◌∙◌, ℕ, ◌≤◌, ◌<◌, Option, Some, None, ◌+◌, ◌-◌, List, [], ◌++◌, refl, ap, sym, append_assoc, append-nil, length-drop, length, take, drop}
-use Rattle.std.proofs.Math.Seq.{take-add, take-length}
-use Rattle.tesla_desk.specs.Outside.{with_bytes, after_bytes}
+use Rattle.std.proofs.Common.{◌≡◌, ◌∙◌, ℕ, ◌≤◌, ◌<◌, Option, Some, None, ◌+◌, ◌-◌, List, [], ◌++◌, refl, ap, sym, append_assoc, append-nil, length-append, length-drop, arith, length, take, drop}
+use Rattle.std.proofs.Math.Seq.{take-add, take-length, take-append_seam}
+use Rattle.std.proofs.lemmas.List.{drop-drop, length-take-le, take-append-drop}
+use Rattle.tesla_desk.specs.Outside.{with_bytes, after_bytes, Brings}
 
 -- two pieces one after another are one piece
 pub with_bytes_twice : (written : Option (List ℕ)) (a b : List ℕ) → with_bytes (with_bytes written a) b ≡ with_bytes written (a ++ b)
@@ -26,3 +27,19 @@ appends_more before now next whole i n e f =
 pub appends_none : (before : Option (List ℕ)) → before ≡ with_bytes before []
 appends_none None = refl
 appends_none (Some front) = ap (λ bytes. Some bytes) (sym (append-nil front))
+
+-- a front of the rest was moved to the front of a slice
+pub brings_front : (slice bytes moved tail : List ℕ) (at n : ℕ) → slice ≡ bytes → 0 < n → n ≤ length (take (length slice - at) (drop at slice)) → moved ≡ take n (take (length slice - at) (drop at slice)) → Brings n (Some (drop at bytes)) (Some (drop (at + n) bytes)) (moved ++ tail)
+brings_front slice bytes moved tail at n same some fits is =
+    let rest : take (length slice - at) (drop at slice) ≡ drop at bytes = rest_is slice at ∙ ap (λ whole. drop at whole) same in
+    let front : moved ≡ take n (drop at bytes) = is ∙ ap (λ r. take n r) rest in
+    let long : n ≤ length (drop at bytes) = omega (arith, ap length rest) in
+    let size : length moved ≡ n = ap length front ∙ length-take-le n (drop at bytes) long in
+    let taken : take n (moved ++ tail) ≡ moved = ap (λ k. take k (moved ++ tail)) (sym size) ∙ take-append_seam moved tail in
+    let split : take n (drop at bytes) ++ drop (at + n) bytes ≡ drop at bytes =
+        ap (λ r. take n (drop at bytes) ++ r) (sym (drop-drop n at bytes)) ∙ take-append-drop n (drop at bytes) in
+    record {
+      some = some;
+      fits = omega (arith, length-append moved tail, size);
+      left = ap (λ r. Some r) (sym (ap (λ b. b ++ drop (at + n) bytes) (taken ∙ front) ∙ split));
+    }
