@@ -1,9 +1,9 @@
 -- Counts of faults: they never fall, they stand still at the end of their type, and a failure is answered only where one rose.
-use Rattle.std.specs.Prelude.{◌≡◌, ◌⊎◌, ℕ, ◌+◌, ◌-◌, ◌^◌, ◌<◌, ◌≤◌, min, if◌then◌else◌, nat_lt}
+use Rattle.std.specs.Prelude.{◌≡◌, ◌⊎◌, ℕ, ◌+◌, ◌-◌, ◌^◌, ◌<◌, ◌≤◌, if◌then◌else◌, nat_lt}
 
--- a count after one fault more
+-- a count after one fault more: it stands still at the end of its type
 abbrev pub raised : ℕ → ℕ
-raised n = min (n + 1) (2 ^ 64 - 1)
+raised n = if nat_lt n (2 ^ 64 - 1) then n + 1 else n
 
 -- a count of objects that failed, after an object with this many faults was closed
 abbrev pub raised_where_failed : ℕ → ℕ → ℕ
@@ -11,7 +11,7 @@ raised_where_failed faults n = if nat_lt 0 faults then raised n else n
 
 -- the count rose, or stood at the end of its type
 abbrev pub Rose : ℕ → ℕ → Type 0
-Rose before now = (before < now) ⊎ (before ≡ 2 ^ 64 - 1)
+Rose before now = (before < now) ⊎ (2 ^ 64 - 1 ≤ before)
 
 -- the count has not fallen, and where the call failed it rose
 pub record HasCause (before now : ℕ) (failed : Type 0) : Type 0 where

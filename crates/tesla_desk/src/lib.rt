@@ -18,3 +18,6 @@ pub use sink::{Sink, WriteStep, write_all};
 pub use source::{ReadStep, Source};
 pub use tesla_base::Text;
 
+
+#[cfg(test)]
+mod tests;
