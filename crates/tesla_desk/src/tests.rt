@@ -1,0 +1,107 @@
+//! Tests of what no clause says: that calls which can want memory give what they are asked for; and a caller that is proved from the traits alone.
+
+ghost use Rattle.std.specs.Prelude.{◌≡◌, ◌≢◌, true, List, ℕ, Some, Bool};
+ghost use Rattle.tesla_desk.specs.Faults.{HasCause, Rose};
+ghost use Rattle.tesla_desk.specs.Outside.{Holds, with_bytes};
+
+use super::*;
+use std::test::Fail;
+
+/// What became of a copy.
+#[derive(Clone, Copy, Debug, PartialEq, Eq)]
+enum Copied {
+    Whole,
+    TooLong,
+    ReadFault,
+    WriteFault,
+    OpenFault,
+    NoMemory,
+}
+
+// Copies what is left in a source, at most 100 pieces of it.
+fn copy_all<I: Source, O: Sink>(from: &mut I, to: &mut O) -> Copied
+    ensures whole { (bytes : List ℕ) → I.left from.old ≡ Some bytes → result ≡ Copied.Whole → O.written to.new ≡ with_bytes (O.written to.old) bytes }
+    ensures reads { HasCause (I.faults from.old) (I.faults from.new) (result ≡ Copied.ReadFault) }
+    ensures writes { HasCause (O.faults to.old) (O.faults to.new) (result ≡ Copied.WriteFault) }
+    ensures opened { result ≢ Copied.OpenFault }
+    ensures name { O.name to.new ≡ O.name to.old }
+{
+    let mut buffer = [0u8; 4];
+    for _ in 0..100 {
+        match from.read(&mut buffer) {
+            ReadStep::Got(count) => {
+                if !write_all(to, &buffer[..count]) {
+                    return Copied::WriteFault;
+                }
+            }
+            ReadStep::End => return Copied::Whole,
+            ReadStep::Failed => return Copied::ReadFault,
+        }
+    }
+    Copied::TooLong
+}
+
+// Copies a page, as a caller above does its work: by the traits alone.
+fn copy_page<D: Desk>(desk: &mut D, from: &str, to: &str) -> Copied
+    ensures whole { (bytes written : List ℕ) (failed other : Bool) → D.page desk.old from.now ≡ Holds bytes failed → result ≡ Copied.Whole → D.page desk.new to.now ≡ Holds written other → written ≡ bytes }
+    ensures read { result ≡ Copied.ReadFault → Rose (D.faults desk.old).reads (D.faults desk.new).reads }
+    ensures write { result ≡ Copied.WriteFault → Rose (D.faults desk.old).writes (D.faults desk.new).writes }
+    ensures open { result ≡ Copied.OpenFault → Rose (D.faults desk.old).openings (D.faults desk.new).openings }
+{
+    let mut source = match desk.open_source(from) {
+        Ok(source) => source,
+        Err(OpenRefusal::Failed) => return Copied::OpenFault,
+        Err(OpenRefusal::NoMemory) => return Copied::NoMemory,
+    };
+    let mut sink = match desk.open_sink(to) {
+        Ok(sink) => sink,
+        Err(refusal) => {
+            desk.close_source(source);
+            return match refusal {
+                OpenRefusal::Failed => Copied::OpenFault,
+                OpenRefusal::NoMemory => Copied::NoMemory,
+            };
+        }
+    };
+    let done = copy_all(&mut source, &mut sink);
+    desk.close_source(source);
+    desk.close_sink(sink);
+    done
+}
+
+#[test]
+fn a_page_is_copied(rt: HostRuntime) -> Result<(), Fail> {
+    let mut desk = MemoryDesk::new(rt.alloc(), 16)?;
+    desk.put_page("from", b"first to last")?;
+    assert_eq!(rt; copy_page(&mut desk, "from", "to"), Copied::Whole);
+    assert_eq!(rt;
+        desk.page("to").ok_or("no page")?,
+        b"first to last".as_slice()
+    );
+    assert_eq!(rt; copy_page(&mut desk, "nothing", "to"), Copied::OpenFault);
+    Ok(())
+}
+
+#[test]
+fn a_sink_with_too_small_a_room_keeps_a_front(rt: HostRuntime) -> Result<(), Fail> {
+    let mut desk = MemoryDesk::new(rt.alloc(), 3)?;
+    let Ok(mut sink) = desk.open_sink(CONSOLE) else {
+        return Err("not opened".into());
+    };
+    let done = write_all(&mut sink, b"abcd");
+    desk.close_sink(sink);
+    assert!(rt; !done);
+    assert_eq!(rt; desk.page(CONSOLE).ok_or("no page")?, b"abc".as_slice());
+    Ok(())
+}
+
+#[test]
+fn a_missing_source_is_not_opened(rt: HostRuntime) -> Result<(), Fail> {
+    let mut desk = MemoryDesk::new(rt.alloc(), 3)?;
+    match desk.open_source("nothing") {
+        Ok(source) => desk.close_source(source),
+        Err(refusal) => assert_eq!(rt; refusal, OpenRefusal::Failed),
+    }
+    assert!(rt; desk.page("nothing").is_none());
+    Ok(())
+}
