@@ -13,3 +13,6 @@ pub use reading::read_setup;
 pub use refusal::{SetupKind, SetupRefusal};
 pub use row::ChainRow;
 pub use setup::Setup;
+
+#[cfg(test)]
+mod tests;
