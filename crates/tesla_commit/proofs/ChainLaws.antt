@@ -122,13 +122,13 @@ chain_row last before line row h =
     let k = bind_ok (hex_in 32 w.0.2) (λ key. row_judged last before (record { delay = d.0; index = i.0; key = record { 0 = key } })) row d.2 in
     row_stands last before (record { delay = d.0; index = i.0; key = record { 0 = k.0 } }) row k.2
 
-abbrev no_row : ℕ → Bool → Result (List ChainRow) (ℕ × SetupKind)
+abbrev pub no_row : ℕ → Bool → Result (List ChainRow) (ℕ × SetupKind)
 no_row number first = cond first (Err (number, NoChain)) (Ok [])
 
-abbrev no_line : ℕ → Bool → Result (List ChainRow) (ℕ × SetupKind)
+abbrev pub no_line : ℕ → Bool → Result (List ChainRow) (ℕ × SetupKind)
 no_line number over = cond over (Err (number, TooManyChains)) (Err (number, BadLine))
 
-last_ok : (none first over : Bool) (number : ℕ) (rows : List ChainRow) → cond none (no_row number first) (no_line number over) ≡ Ok rows → (none ≡ true) × (first ≡ false) × (rows ≡ [])
+pub last_ok : (none first over : Bool) (number : ℕ) (rows : List ChainRow) → cond none (no_row number first) (no_line number over) ≡ Ok rows → (none ≡ true) × (first ≡ false) × (rows ≡ [])
 last_ok true true over number rows h = absurd cc
 last_ok true false over number rows h = (refl, refl, sym (ok_is [] rows (Ok []) refl h))
 last_ok false first true number rows h = absurd cc

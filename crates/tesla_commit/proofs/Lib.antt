@@ -1,3 +1,4 @@
 pub mod RowLaws
 pub mod WordLaws
 pub mod ChainLaws
+pub mod Spelled
