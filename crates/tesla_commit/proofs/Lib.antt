@@ -2,3 +2,4 @@ pub mod RowLaws
 pub mod WordLaws
 pub mod ChainLaws
 pub mod Spelled
+pub mod Spelling

@@ -130,7 +130,7 @@ within_found least most number n h =
 
 -- ---- hexadecimal digits
 
-lower_low : (k : ℕ) → k < 10 → slice_index lower_digits k ≡ 48 + k
+pub lower_low : (k : ℕ) → k < 10 → slice_index lower_digits k ≡ 48 + k
 lower_low zero h = refl
 lower_low (suc zero) h = refl
 lower_low (suc (suc zero)) h = refl
@@ -143,7 +143,7 @@ lower_low (suc (suc (suc (suc (suc (suc (suc (suc zero)))))))) h = refl
 lower_low (suc (suc (suc (suc (suc (suc (suc (suc (suc zero))))))))) h = refl
 lower_low (suc (suc (suc (suc (suc (suc (suc (suc (suc (suc k)))))))))) h = absurd (omega arith)
 
-lower_high : (k : ℕ) → k < 6 → slice_index lower_digits (10 + k) ≡ 97 + k
+pub lower_high : (k : ℕ) → k < 6 → slice_index lower_digits (10 + k) ≡ 97 + k
 lower_high zero h = refl
 lower_high (suc zero) h = refl
 lower_high (suc (suc zero)) h = refl
@@ -300,7 +300,7 @@ more : (whole front : List ℕ) (number : ℕ) (parts : List (List ℕ)) (x : Li
 more whole front number parts x name value h k text =
     h ∙ ap (λ (r : List ℕ). front ++ r) (line_found number parts x k ∙ line_then x.0 name value (join_with_byte 10 x.1) text) ∙ sym (append_assoc front (line name value) (join_with_byte 10 x.1))
 
-abbrev opening_text : StreamId → List ℕ
+abbrev pub opening_text : StreamId → List ℕ
 opening_text stream = line (codes "tesla") (codes "1") ++ line (codes "stream") (encode_lower (to_be_bytes w64 stream.0))
 
 opening_found : (whole : List ℕ) (parts : List (List ℕ)) (x : StreamId × List (List ℕ)) → whole ≡ join_with_byte 10 parts → opening_judged parts ≡ Ok x → (whole ≡ opening_text x.0 ++ join_with_byte 10 x.1) × (x.0.0 < 2 ^ 64)
@@ -316,7 +316,7 @@ opening_found whole parts x start h =
     let made : StreamId × List (List ℕ) = (stream.0, two.0.1) in
     subst (λ (y : StreamId × List (List ℕ)). (whole ≡ opening_text y.0 ++ join_with_byte 10 y.1) × (y.0.0 < 2 ^ 64)) (ok_is made x (Ok made) refl stream.2) (second, said.1)
 
-abbrev times_text : List ℕ → Times → List ℕ
+abbrev pub times_text : List ℕ → Times → List ℕ
 times_text front times = front ++ line (codes "start") (decimal times.start) ++ line (codes "interval") (decimal times.length) ++ line (codes "last") (decimal times.last)
 
 times_found : (whole front : List ℕ) (parts : List (List ℕ)) (x : Times × List (List ℕ)) → whole ≡ front ++ join_with_byte 10 parts → times_judged parts ≡ Ok x → (whole ≡ times_text front x.0 ++ join_with_byte 10 x.1) × IsSchedule x.0 × (x.0.start < 2 ^ 64)
