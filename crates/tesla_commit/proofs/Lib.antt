@@ -3,3 +3,4 @@ pub mod WordLaws
 pub mod ChainLaws
 pub mod Spelled
 pub mod Spelling
+pub mod Written

@@ -1,31 +1,31 @@
 -- What is read is spelled so: from what a text is judged to say to its bytes.
-use Rattle.std.proofs.Common.{◌≡◌, ℕ, zero, suc, ◌+◌, ◌-◌, ◌*◌, ◌/◌, ◌%◌, ◌^◌, ◌<◌, ◌≤◌, Bool, true, false, cond, eqb, ltb, List, [], ◌∷◌, ◌++◌, length, get_or, Option, Some, None, Result, Ok, Err, refl, sym, ap, subst, ◌∙◌, append_assoc, arith, inl, inr}
+use Rattle.std.proofs.Common.{◌≡◌, ℕ, zero, suc, ◌+◌, ◌-◌, ◌*◌, ◌/◌, ◌%◌, ◌^◌, ◌<◌, ◌≤◌, Bool, true, false, cond, eqb, ltb, List, [], ◌∷◌, ◌++◌, length, Option, Some, None, Result, Ok, Err, refl, sym, ap, subst, ◌∙◌, append_assoc, arith, inl, inr}
 use Rattle.std.proofs.lemmas.Bool.{cases_lt}
 use Rattle.std.specs.Str.Parse.{digits_value}
 use Rattle.tesla_base.specs.declared.number.NumberFault.TheVariants.{Empty}
-use Rattle.std.specs.Prelude.{slice_index, codes, decimal, IfOk, nat_le, ◌&&◌, ◌||◌}
+use Rattle.std.specs.Prelude.{slice_index, codes, decimal, IfOk, nat_le, ◌&&◌}
 use Rattle.std.specs.Int.{w64, from_be_bytes, to_be_bytes}
 use Rattle.std.specs.List.{join_with_byte, flat_map, list_all, AllByRecursion}
 use Rattle.std.specs.Str.{bytes_eq}
 use Rattle.std.proofs.lemmas.Bool.Decides.{nat_tests}
 use Rattle.std.proofs.lemmas.List.Splits.{join_with_byte-slice_split}
-use Rattle.std.proofs.lemmas.Nat.{be_bytes_8, from_be_bytes-to_be_bytes_8}
+use Rattle.std.proofs.lemmas.Nat.{be_bytes_8}
 use Rattle.std.proofs.lemmas.Slice.Eq.{bytes_eq-Decides}
 use Rattle.hex.specs.Hex.{◌>>=◌ as ◌hex>>=◌, encode_lower, encode_with, lower_digits, decode_sized, decode_pairs, decode_of, hex_digit_value, pair_value, value_at, digit_or_error, IsBytes}
 use Rattle.hex.specs.declared.error.FromHexError.{FromHexError}
 use Rattle.hex.proofs.HexLemmas.{decode_sized-ok, decode_sized-twice, decode_of-ok, decode_of-even}
-use Rattle.tesla_base.specs.Number.{decimal_of, number_of, value_of, value_unless, first_other}
+use Rattle.tesla_base.specs.Number.{decimal_of, number_of, value_unless, first_other}
 use Rattle.tesla_base.specs.declared.number.NumberFault.{NumberFault}
 use Rattle.tesla_base.proofs.Spellings.{number_spelled}
 use Rattle.tesla_base.specs.declared.names.StreamId.{StreamId}
 use Rattle.tesla_clock.specs.Schedule.{Times, IsSchedule}
 use Rattle.tesla_commit.specs.declared.row.ChainRow.{ChainRow}
-use Rattle.tesla_commit.specs.Parts.{Parts, IsSetupOf}
+use Rattle.tesla_commit.specs.Parts.{Parts}
 use Rattle.tesla_commit.specs.SetupText.{line, chain_values, chain_line, setup_text, HasKey, IsSetup}
 use Rattle.tesla_commit.specs.Judging.{◌>>=◌, at, row_judged}
 use Rattle.tesla_commit.specs.Reading.{between, lines, words, next_line, value_in, chain_words, number_or_bad, number_in, within, is_lower_digit, bytes_or_bad, hex_in, title_in, stream_in, start_in, limited_in, chain_in, chains_judged, opening_judged, times_judged, judged}
 use Rattle.tesla_commit.specs.declared.refusal.SetupKind.{SetupKind}
-use Rattle.tesla_commit.specs.declared.refusal.SetupKind.TheVariants.{BadLine, BadNumber, BadHex, LimitPassed, TooManyChains, TooLong}
+use Rattle.tesla_commit.specs.declared.refusal.SetupKind.TheVariants.{BadLine, BadHex, LimitPassed, TooManyChains, TooLong}
 use Rattle.tesla_commit.proofs.ChainLaws.{last_ok, chains_are}
 use Rattle.tesla_commit.proofs.RowLaws.{bind_ok, guard_ok, ok_is, at_ok, row_is, setup_is}
 

@@ -1,8 +1,8 @@
 -- What is spelled so is read: from the parts of a setup to what its text is judged to say.
-use Rattle.std.proofs.Common.{◌≡◌, ◌≢◌, ℕ, zero, suc, ◌+◌, ◌-◌, ◌*◌, ◌/◌, ◌%◌, ◌^◌, ◌<◌, ◌≤◌, Bool, true, false, cond, eqb, ltb, List, [], ◌∷◌, ◌++◌, length, get_or, Result, Ok, Err, refl, sym, ap, subst, ◌∙◌, append_assoc, arith, inl, inr}
-use Rattle.std.specs.Prelude.{slice_index, codes, decimal, nat_lt, nat_le, ◌&&◌, ◌||◌}
-use Rattle.std.specs.Int.{w64, from_be_bytes, to_be_bytes}
-use Rattle.std.specs.List.{slice_split, flat_map, list_all, All, AllByRecursion}
+use Rattle.std.proofs.Common.{◌≡◌, ◌≢◌, ℕ, zero, suc, ◌+◌, ◌-◌, ◌/◌, ◌%◌, ◌^◌, ◌<◌, ◌≤◌, true, false, eqb, ltb, List, [], ◌∷◌, ◌++◌, length, Result, Ok, Err, refl, sym, ap, ◌∙◌, append_assoc, arith, inl, inr}
+use Rattle.std.specs.Prelude.{slice_index, codes, decimal, nat_lt, nat_le, ◌&&◌}
+use Rattle.std.specs.Int.{w64, to_be_bytes}
+use Rattle.std.specs.List.{flat_map, list_all, All, AllByRecursion}
 use Rattle.std.specs.Str.{bytes_eq}
 use Rattle.std.proofs.lemmas.Bool.{cases_lt}
 use Rattle.std.proofs.lemmas.Bool.Decides.{nat_tests}
@@ -12,7 +12,7 @@ use Rattle.std.proofs.lemmas.List.Splits.{slice_split_at, slice_split_none}
 use Rattle.std.proofs.lemmas.List.Sums.{AllPass-from_list_all}
 use Rattle.std.proofs.lemmas.Nat.{from_be_bytes-to_be_bytes_8}
 use Rattle.std.proofs.lemmas.Slice.Eq.{bytes_eq-Decides}
-use Rattle.hex.specs.Hex.{encode_lower, encode_with, lower_digits, decode_sized, IsBytes}
+use Rattle.hex.specs.Hex.{encode_lower, encode_with, lower_digits, IsBytes}
 use Rattle.hex.proofs.HexLemmas.{decode_sized-encode_lower}
 use Rattle.tesla_base.specs.Number.{decimal_of}
 use Rattle.tesla_base.specs.declared.names.StreamId.{StreamId}
@@ -21,14 +21,13 @@ use Rattle.tesla_clock.specs.Schedule.{Times, IsSchedule}
 use Rattle.std.specs.Prelude.{IfOk, ◌⊎◌}
 use Rattle.tesla_commit.specs.declared.refusal.SetupRefusal.{SetupRefusal}
 use Rattle.tesla_commit.specs.declared.refusal.SetupRefusal.TheVariants as refusals
-use Rattle.tesla_commit.specs.Judging.{◌>>=◌, at, row_judged, Gives}
-use Rattle.tesla_commit.specs.Parts.{Parts, IsRow, IsSetupOf}
-use Rattle.tesla_commit.specs.Reading.{between, lines, words, next_line, value_in, chain_words, number_or_bad, number_in, within, is_lower_digit, bytes_or_bad, hex_in, title_in, stream_in, start_in, limited_in, chain_in, chains_judged, opening_judged, times_judged, judged}
+use Rattle.tesla_commit.specs.Judging.{Gives}
+use Rattle.tesla_commit.specs.Parts.{Parts, IsSetupOf}
+use Rattle.tesla_commit.specs.Reading.{between, lines, words, next_line, value_in, chain_words, number_or_bad, number_in, within, is_lower_digit, hex_in, stream_in, start_in, limited_in, chain_in, chains_judged, opening_judged, times_judged, judged}
 use Rattle.tesla_commit.specs.SetupText.{line, chain_values, chain_line, setup_text, HasKey, IsSetup}
 use Rattle.tesla_commit.specs.declared.row.ChainRow.{ChainRow}
 use Rattle.tesla_commit.specs.declared.refusal.SetupKind.{SetupKind}
-use Rattle.tesla_commit.specs.declared.refusal.SetupKind.TheVariants.{BadLine, BadNumber, BadHex, LimitPassed, TooManyChains, TooLong}
-use Rattle.tesla_commit.proofs.RowLaws.{AreRows, RiseFrom, IsNext, ok_is, not_line, row_again, rise_again}
+use Rattle.tesla_commit.proofs.RowLaws.{AreRows, IsNext, ok_is, not_line, row_again, rise_again}
 use Rattle.tesla_commit.proofs.WordLaws.{has_first, next_line_is, lines_of_nothing}
 use Rattle.tesla_commit.proofs.Spelled.{lower_low, lower_high, judged_found}
 
