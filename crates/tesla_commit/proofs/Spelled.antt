@@ -26,7 +26,7 @@ use Rattle.tesla_commit.specs.Judging.{◌>>=◌, at, row_judged}
 use Rattle.tesla_commit.specs.Reading.{between, lines, words, next_line, value_in, chain_words, number_or_bad, number_in, within, is_lower_digit, bytes_or_bad, hex_in, title_in, stream_in, start_in, limited_in, chain_in, chains_judged, opening_judged, times_judged, judged}
 use Rattle.tesla_commit.specs.declared.refusal.SetupKind.{SetupKind}
 use Rattle.tesla_commit.specs.declared.refusal.SetupKind.TheVariants.{BadLine, BadHex, LimitPassed, TooManyChains, TooLong}
-use Rattle.tesla_commit.proofs.ChainLaws.{last_ok, chains_are}
+use Rattle.tesla_commit.proofs.ChainLaws.{same_taken, last_ok, chains_are, chain_is}
 use Rattle.tesla_commit.proofs.RowLaws.{bind_ok, guard_ok, ok_is, at_ok, row_is, setup_is}
 
 -- what stands between such bytes, with those bytes put back
@@ -35,12 +35,6 @@ unfolding between
 joined byte text = join_with_byte-slice_split byte text
 
 -- ---- lines and words
-
-abbrev taken : List ℕ × List (List ℕ) → Result (List ℕ × List (List ℕ)) (ℕ × SetupKind)
-taken x = Ok x
-
-same_taken : (x y : List ℕ × List (List ℕ)) → taken x ≡ taken y → x ≡ y
-same_taken x y h = cc
 
 pub line_found : (number : ℕ) (parts : List (List ℕ)) (x : List ℕ × List (List ℕ)) → next_line number parts ≡ Ok x → join_with_byte 10 parts ≡ x.0 ++ 10 ∷ join_with_byte 10 x.1
 line_found number [] x h = absurd cc
@@ -274,21 +268,17 @@ limited_found name least most text n h =
     let value : w.0 ≡ decimal n = (number_found w.0 d.0 d.1).0 ∙ ap decimal l.0 in
     (value_found name w.0 text w.1 ∙ ap (λ (v : List ℕ). name ++ 32 ∷ v) value, l.1, l.2)
 
-row_values : (last before : ℕ) (text : List ℕ) (w : List ℕ × List ℕ × List ℕ) (number delay index : ℕ) (key : List ℕ) (row : ChainRow) → text ≡ codes "chain" ++ 32 ∷ (w.0 ++ 32 ∷ w.1 ++ 32 ∷ w.2) → w.0 ≡ decimal delay → w.1 ≡ decimal index → IsSpelled 32 w.2 key → row_judged last before (record { delay = delay; index = index; key = record { 0 = key } }) ≡ Ok row → (text ≡ codes "chain" ++ 32 ∷ chain_values row) × HasKey row
-row_values last before text w number delay index key row line d i k h =
+row_values : (last before : ℕ) (text : List ℕ) (w : List ℕ × List ℕ × List ℕ) (delay index : ℕ) (key : List ℕ) (row : ChainRow) → text ≡ codes "chain" ++ 32 ∷ (w.0 ++ 32 ∷ w.1 ++ 32 ∷ w.2) → w.0 ≡ decimal delay → w.1 ≡ decimal index → IsSpelled 32 w.2 key → row_judged last before (record { delay = delay; index = index; key = record { 0 = key } }) ≡ Ok row → (text ≡ codes "chain" ++ 32 ∷ chain_values row) × HasKey row
+row_values last before text w delay index key row line d i k h =
     let made : ChainRow = record { delay = delay; index = index; key = record { 0 = key } } in
     let spelled : text ≡ codes "chain" ++ 32 ∷ chain_values made = line ∙ rw (d, i, k.text) refl in
     subst (λ (r : ChainRow). (text ≡ codes "chain" ++ 32 ∷ chain_values r) × HasKey r) (row_is last before made row h).0 (spelled, record { whole = k.whole; bytes = k.fits })
 
 row_found : (last before : ℕ) (text : List ℕ) (row : ChainRow) → chain_in last before text ≡ Ok row → (text ≡ codes "chain" ++ 32 ∷ chain_values row) × HasKey row
-unfolding chain_in
 row_found last before text row h =
-    let w = bind_ok (chain_words (words text)) (λ word. number_in word.0 >>= λ number. number_in word.1 >>= λ index. within 1 4096 number >>= λ delay. hex_in 32 word.2 >>= λ key. row_judged last before (record { delay = delay; index = index; key = record { 0 = key } })) row h in
-    let n = bind_ok (number_in w.0.0) (λ number. number_in w.0.1 >>= λ index. within 1 4096 number >>= λ delay. hex_in 32 w.0.2 >>= λ key. row_judged last before (record { delay = delay; index = index; key = record { 0 = key } })) row w.2 in
-    let i = bind_ok (number_in w.0.1) (λ index. within 1 4096 n.0 >>= λ delay. hex_in 32 w.0.2 >>= λ key. row_judged last before (record { delay = delay; index = index; key = record { 0 = key } })) row n.2 in
-    let d = bind_ok (within 1 4096 n.0) (λ delay. hex_in 32 w.0.2 >>= λ key. row_judged last before (record { delay = delay; index = i.0; key = record { 0 = key } })) row i.2 in
-    let k = bind_ok (hex_in 32 w.0.2) (λ key. row_judged last before (record { delay = d.0; index = i.0; key = record { 0 = key } })) row d.2 in
-    row_values last before text w.0 n.0 d.0 i.0 k.0 row (chain_found w.0 text w.1) ((number_found w.0.0 n.0 n.1).0 ∙ ap decimal (within_found 1 4096 n.0 d.0 d.1).0) (number_found w.0.1 i.0 i.1).0 (hex_found 32 w.0.2 k.0 k.1) k.2
+    let is = chain_is last before text row h in
+    let delay : is.word.0 ≡ decimal is.delay = (number_found is.word.0 is.number is.delays).0 ∙ ap decimal (within_found 1 4096 is.number is.delay is.limit).0 in
+    row_values last before text is.word is.delay is.index is.key row (chain_found is.word text is.said) delay (number_found is.word.1 is.index is.indexes).0 (hex_found 32 is.word.2 is.key is.keys) is.judged
 
 -- ---- the whole text
 
