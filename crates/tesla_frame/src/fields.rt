@@ -1,6 +1,6 @@
 //! The fields of a frame, each read off the front of the bytes.
 
-ghost use Rattle.std.specs.Prelude.{◌≡◌, option_map};
+ghost use Rattle.std.specs.Prelude.{◌≡◌, ◌≤◌, length, option_map, IfSome};
 ghost use Rattle.std.specs.Int.{w16, w32, w64};
 ghost use Rattle.tesla_frame.specs.Reading.{number_at, bytes_at, key_at, optional_key_at, tag_row_at, chain_at, key_row_at, count_at, payload_at};
 ghost use Rattle.tesla_frame.specs.View.{tag_row};
@@ -128,7 +128,9 @@ pub fn key_row_of(bytes: &[u8]) -> Option<(KeyRow, &[u8])>
 /// The number of rows.
 #[tactic(auto, unfolding(crate::specs::Reading::count_at))]
 pub fn count_of(bytes: &[u8]) -> Option<(u8, &[u8])>
-    ensures { option_map (λ x. (x.0, x.1.now)) result ≡ count_at bytes.now }
+    ensures exact { option_map (λ x. (x.0, x.1.now)) result ≡ count_at bytes.now }
+    ensures some { IfSome result (λ x. 1 ≤ x.0) }
+    ensures few { IfSome result (λ x. x.0 ≤ 4) }
 {
     match bytes {
         [count, rest @ ..] => {
@@ -145,7 +147,8 @@ pub fn count_of(bytes: &[u8]) -> Option<(u8, &[u8])>
 /// The payload, behind its length.
 #[tactic(auto, unfolding(crate::specs::Reading::payload_at))]
 pub fn payload_of(bytes: &[u8]) -> Option<(&[u8], &[u8])>
-    ensures { option_map (λ x. (x.0.now, x.1.now)) result ≡ payload_at bytes.now }
+    ensures exact { option_map (λ x. (x.0.now, x.1.now)) result ≡ payload_at bytes.now }
+    ensures limit { IfSome result (λ x. length x.0.now ≤ 1200) }
 {
     let Some((length, rest)) = u16_of(bytes) else {
         return None;

@@ -2,6 +2,11 @@
 #![tactic(auto)]
 
 mod fields;
+mod reading;
 mod row;
+mod rows;
+mod view;
 
+pub use reading::read_frame;
 pub use row::KeyRow;
+pub use view::{DataView, FrameView, KeysView};
