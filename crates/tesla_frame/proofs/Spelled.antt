@@ -29,6 +29,10 @@ byte_at [] h i = omega arith
 byte_at (b ∷ bytes) h zero = h.0
 byte_at (b ∷ bytes) h (suc i) = byte_at bytes h.1 i
 
+pub bytes_from : (bytes : List ℕ) → ((i : ℕ) → get_or bytes i 0 < 256) → AreBytes bytes
+bytes_from [] h = tt
+bytes_from (b ∷ bytes) h = (h 0, bytes_from bytes (λ i. h (suc i)))
+
 -- the value of a step that did not fail
 pub bind_some : {A B : Type 0} (o : Option A) (f : A → Option B) (y : B) → (o >>= f) ≡ Some y → (x : A) × (o ≡ Some x) × (f x ≡ Some y)
 bind_some (Some x) f y e = (x, refl, e)
@@ -65,7 +69,7 @@ pub record IsField {A : Type 0} (at : List ℕ → Option (A × List ℕ)) (text
 
 -- ---- bytes and numbers
 
-bytes_take : (n : ℕ) (bytes : List ℕ) (x : List ℕ × List ℕ) → AreBytes bytes → bytes_at n bytes ≡ Some x → Takes bytes x.0 x.1 × (length x.0 ≡ n) × AreBytes x.0
+pub bytes_take : (n : ℕ) (bytes : List ℕ) (x : List ℕ × List ℕ) → AreBytes bytes → bytes_at n bytes ≡ Some x → Takes bytes x.0 x.1 × (length x.0 ≡ n) × AreBytes x.0
 bytes_take n bytes x fits e =
     let g = guard_some (ltb (length bytes) n) (Some (take n bytes, drop n bytes)) x e in
     let long : n ≤ length bytes = ltb-false _ _ g.0 in
@@ -73,16 +77,10 @@ bytes_take n bytes x fits e =
     subst (λ (p : List ℕ × List ℕ). Takes bytes p.0 p.1 × (length p.0 ≡ n) × AreBytes p.0) (some_is (take n bytes, drop n bytes) x g.1)
     (record { parts = sym (take-append-drop n bytes); rest_fits = AreBytes-drop n bytes fits }, len, AreBytes-take n bytes fits)
 
-bytes_again : (n : ℕ) (x rest : List ℕ) → length x ≡ n → bytes_at n (x ++ rest) ≡ Some (x, rest)
+pub bytes_again : (n : ℕ) (x rest : List ℕ) → length x ≡ n → bytes_at n (x ++ rest) ≡ Some (x, rest)
 bytes_again n x rest len =
     let long : ltb (length (x ++ rest)) n ≡ false = le-ltb _ _ (omega (arith, length-append x rest)) in
     rw (long, take_at x rest n len, drop_at x rest n len) refl
-
-pub bytes_field : (n : ℕ) → IsField (bytes_at n) (λ x. x) (λ x. (length x ≡ n) × AreBytes x)
-bytes_field n = record {
-  takes = λ bytes x fits e. (let t = bytes_take n bytes x fits e in (t.0, (t.1, t.2)));
-  again = λ x rest fits. bytes_again n x rest fits.0;
-}
 
 record IsWide (w : Width) (limit : ℕ) : Type 0 where
   pub len : (n : ℕ) → length (to_be_bytes w n) ≡ byte_len w

@@ -2,6 +2,7 @@
 #![tactic(auto)]
 
 mod fields;
+pub mod laws;
 mod reading;
 mod row;
 mod rows;
@@ -10,3 +11,6 @@ mod view;
 pub use reading::read_frame;
 pub use row::KeyRow;
 pub use view::{DataView, FrameView, KeysView};
+
+#[cfg(test)]
+mod tests;

@@ -1,6 +1,7 @@
 //! A frame read from a datagram.
 
-ghost use Rattle.std.specs.Prelude.{◌≡◌, Some, option_map};
+ghost use Rattle.std.specs.Prelude.{◌≡◌, Some, option_map, IfSome};
+ghost use Rattle.tesla_frame.specs.Frame.{Frame, IsFrame};
 ghost use Rattle.tesla_frame.specs.Reading.{chains_rise, data_of, keys_of, body_of, frame_of};
 ghost use Rattle.tesla_frame.specs.Shown.{shown};
 
@@ -97,10 +98,22 @@ fn body(bytes: &[u8]) -> Option<FrameView<'_>>
     }
 }
 
-/// The frame that the datagram is. None where it isn't a frame. It takes no memory.
-#[tactic(auto, unfolding(crate::specs::Reading::frame_of))]
+/// The frame that the datagram is, with no byte more. None exactly where it isn't a frame. It takes no
+/// memory.
 pub fn read_frame(bytes: &[u8]) -> Option<FrameView<'_>>
+    // What is read is spelled so.
+    ensures found { IfSome result (λ view. IsFrame bytes.now (shown view)) }
+    // What is spelled so is read.
+    ensures only { (frame : Frame) → IsFrame bytes.now frame → option_map shown result ≡ Some frame }
+    // Both in one equation.
     ensures exact { option_map shown result ≡ frame_of bytes.now }
+{
+    frame(bytes)
+}
+
+#[tactic(auto, unfolding(crate::specs::Reading::frame_of))]
+fn frame(bytes: &[u8]) -> Option<FrameView<'_>>
+    ensures { option_map shown result ≡ frame_of bytes.now }
 {
     if bytes.len() < 5 {
         return None;
