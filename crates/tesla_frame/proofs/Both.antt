@@ -1,7 +1,7 @@
 -- The two laws: what is read is the frame's spelling, and each spelling of a frame is read.
-use Rattle.std.proofs.Common.{◌≡◌, ℕ, zero, suc, ◌^◌, ◌<◌, ◌≤◌, Bool, true, false, cond, ltb, eqb, List, [], ◌∷◌, ◌++◌, ◌&&◌, length, Option, Some, None, refl, sym, ap, subst, ◌∙◌, append_assoc, arith}
+use Rattle.std.proofs.Common.{◌≡◌, ℕ, zero, suc, true, cond, ltb, eqb, List, [], ◌∷◌, ◌++◌, ◌&&◌, length, Option, Some, None, refl, sym, ap, subst, ◌∙◌, append_assoc, arith}
 use Rattle.std.specs.Prelude.{bytes_eq, option_map, IfSome}
-use Rattle.std.specs.List.{flat_map, AllByRecursion}
+use Rattle.std.specs.List.{flat_map}
 use Rattle.std.specs.Int.{w16, w32, w64, to_be_bytes}
 use Rattle.std.proofs.lemmas.Bool.{ltb-true, lt-ltb, eqb-true, and_parts, and_from}
 use Rattle.std.proofs.lemmas.List.{append-nil, nil_from_length}
@@ -9,9 +9,9 @@ use Rattle.std.proofs.lemmas.Slice.Eq.{bytes_eq-Decides}
 use Rattle.tesla_frame.specs.declared.view.FrameView.{FrameView}
 use Rattle.tesla_frame.specs.Shown.{shown}
 use Rattle.tesla_frame.specs.declared.row.KeyRow.{KeyRow}
-use Rattle.tesla_frame.specs.Frame.{TagRow, DataFrame, KeysFrame, Frame, Data, Disclosure, IsTagRow, IsKeyRow, IsDataFrame, IsKeysFrame, IsFrame, HasLimits, ChainsRise, AreBytes, head, frame_text, tag_row_text, key_row_text}
-use Rattle.tesla_frame.specs.Reading.{◌>>=◌, bytes_at, number_at, tag_row_at, key_row_at, rows_at, count_at, payload_at, chains_rise, data_of, keys_of, body_of, frame_of}
-use Rattle.tesla_frame.proofs.Spelled.{bind_some, test_some, done, some_is, Takes, Takes-then, bytes_take, bytes_again, field16, field32, field64, payload_text, payload_field, count_field, tag_row_field, key_row_field, rows_take, rows_again}
+use Rattle.tesla_frame.specs.Frame.{DataFrame, KeysFrame, Frame, Data, Disclosure, IsTagRow, IsKeyRow, IsDataFrame, IsKeysFrame, IsFrame, HasLimits, ChainsRise, AreBytes, head, frame_text, tag_row_text, key_row_text}
+use Rattle.tesla_frame.specs.Reading.{bytes_at, number_at, tag_row_at, key_row_at, rows_at, count_at, payload_at, chains_rise, data_of, keys_of, body_of, frame_of}
+use Rattle.tesla_frame.proofs.Spelled.{bind_some, test_some, some_is, bytes_take, bytes_again, field16, field32, field64, payload_text, payload_field, count_field, tag_row_field, key_row_field, rows_take, rows_again}
 
 -- ---- data frames
 
@@ -45,8 +45,14 @@ data_takes bytes f fits e =
     let e1 = t1.0.parts ∙ ap (λ (r : List ℕ). to_be_bytes w32 s1.0.0 ++ r) e2 in
     let e0 : bytes ≡ data_text made = t0.0.parts ∙ ap (λ (r : List ℕ). to_be_bytes w64 s0.0.0 ++ r) e1 in
     let limits : IsDataFrame made = record {
-      stream = t0.1; interval = t1.1; number = t2.1; payload = t3.1.0; bytes = t3.1.1;
-      some = omega (arith, t4.1.0, t5.1); few = omega (arith, t4.1.1, t5.1); rows = t5.2;
+      stream = t0.1;
+      interval = t1.1;
+      number = t2.1;
+      payload = t3.1.0;
+      bytes = t3.1.1;
+      some = omega (arith, t4.1.0, t5.1);
+      few = omega (arith, t4.1.1, t5.1);
+      rows = t5.2;
     } in
     subst (λ (x : DataFrame). (bytes ≡ data_text x) × IsDataFrame x) (some_is made f g.1) (e0, limits)
 
@@ -58,8 +64,14 @@ data_again f fits =
     let r3 = payload_text f.payload ++ r4 in
     let r2 = to_be_bytes w16 f.name.number ++ r3 in
     let r1 = to_be_bytes w32 f.name.interval ++ r2 in
-    rw (field64.again f.stream.0 r1 fits.stream, field32.again f.name.interval r2 fits.interval, field16.again f.name.number r3 fits.number,
-      payload_field.again f.payload r4 (fits.payload, fits.bytes), count_field.again (length f.rows) (flat_map tag_row_text f.rows) (fits.some, fits.few), rows) refl
+    rw (
+      field64.again f.stream.0 r1 fits.stream,
+      field32.again f.name.interval r2 fits.interval,
+      field16.again f.name.number r3 fits.number,
+      payload_field.again f.payload r4 (fits.payload, fits.bytes),
+      count_field.again (length f.rows) (flat_map tag_row_text f.rows) (fits.some, fits.few),
+      rows,
+    ) refl
 
 -- ---- disclosure frames
 
@@ -96,7 +108,11 @@ keys_takes bytes f fits e =
     let e4 : s0.0.1 ≡ length s5.0.0 ∷ [] ++ flat_map key_row_text s5.0.0 = t4.0.parts ∙ ap (λ (r : List ℕ). s4.0.0 ∷ r) e5 ∙ ap (λ (k : ℕ). k ∷ flat_map key_row_text s5.0.0) (sym t5.1) in
     let e0 : bytes ≡ keys_text made = t0.0.parts ∙ ap (λ (r : List ℕ). to_be_bytes w64 s0.0.0 ++ r) e4 in
     let limits : IsKeysFrame made = record {
-      stream = t0.1; some = omega (arith, t4.1.0, t5.1); few = omega (arith, t4.1.1, t5.1); rows = t5.2; rise = rises s5.0.0 tests.1;
+      stream = t0.1;
+      some = omega (arith, t4.1.0, t5.1);
+      few = omega (arith, t4.1.1, t5.1);
+      rows = t5.2;
+      rise = rises s5.0.0 tests.1;
     } in
     subst (λ (x : KeysFrame). (bytes ≡ keys_text x) × IsKeysFrame x) (some_is made f g.1) (e0, limits)
 

@@ -1,5 +1,5 @@
 -- Frames read from left to right, all of the bytes.
-use Rattle.std.specs.Prelude.{◌≡◌, ℕ, zero, suc, Bool, true, ◌&&◌, List, [], ◌∷◌, length, take, drop, Option, Some, None, nat_lt, ◌==◌, bytes_eq, if◌then◌else◌}
+use Rattle.std.specs.Prelude.{ℕ, zero, suc, Bool, true, ◌&&◌, List, [], ◌∷◌, length, take, drop, Option, Some, None, nat_lt, ◌==◌, bytes_eq, if◌then◌else◌}
 use Rattle.std.specs.Int.{Width, w16, w32, w64, byte_len, from_be_bytes}
 use Rattle.tesla_base.specs.declared.names.Key.{Key}
 use Rattle.tesla_frame.specs.declared.row.KeyRow.{KeyRow}
@@ -85,8 +85,8 @@ data_of bytes = do
   count ← count_at payload.1
   rows ← rows_at tag_row_at count.0 count.1
   if length rows.1 == 0
-    then Some (record { stream = record { 0 = stream.0 }; name = record { interval = interval.0; number = number.0 }; payload = payload.0; rows = rows.0 })
-    else None
+      then Some (record { stream = record { 0 = stream.0 }; name = record { interval = interval.0; number = number.0 }; payload = payload.0; rows = rows.0 })
+      else None
 
 -- all of the bytes after the kind of a disclosure frame
 unfoldable pub keys_of : List ℕ → Option KeysFrame
@@ -95,8 +95,8 @@ keys_of bytes = do
   count ← count_at stream.1
   rows ← rows_at key_row_at count.0 count.1
   if length rows.1 == 0 && chains_rise rows.0
-    then Some (record { stream = record { 0 = stream.0 }; rows = rows.0 })
-    else None
+      then Some (record { stream = record { 0 = stream.0 }; rows = rows.0 })
+      else None
 
 -- the kind, and what follows it
 unfoldable pub body_of : List ℕ → Option Frame

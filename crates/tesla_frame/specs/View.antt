@@ -1,6 +1,5 @@
 -- What the views of a frame show.
-use Rattle.std.specs.Prelude.{ℕ, List, Option, Some, None}
-use Rattle.tesla_frame.specs.Frame.{TagRow, Frame, Data, Disclosure}
+use Rattle.tesla_frame.specs.Frame.{TagRow}
 use Rattle.tesla_frame.specs.declared.row.TagAndKey.{TagAndKey}
 
 -- what a data frame carries for one chain, as a list of bytes and a key

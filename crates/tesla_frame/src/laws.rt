@@ -10,5 +10,4 @@ pub fn frames()
     ensures found { (bytes : List ℕ) (frame : Frame) → AreBytes bytes → frame_of bytes ≡ Some frame → IsFrame bytes frame }
     // What is spelled so is read.
     ensures only { (bytes : List ℕ) (frame : Frame) → IsFrame bytes frame → frame_of bytes ≡ Some frame }
-{
-}
+{}

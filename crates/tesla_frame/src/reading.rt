@@ -119,5 +119,9 @@ fn frame(bytes: &[u8]) -> Option<FrameView<'_>>
         return None;
     }
     let (front, rest) = bytes.split_at(5);
-    if front == HEAD.as_slice() { body(rest) } else { None }
+    if front == HEAD.as_slice() {
+        body(rest)
+    } else {
+        None
+    }
 }

@@ -1,5 +1,5 @@
-use Rattle.std.proofs.Common.{◌≡◌, map, take, refl, sym, arith, length-set}
-use Rattle.tesla_frame.specs.Reading.{rows_at, tag_row_at}
+use Rattle.std.proofs.Common.{map, take, arith, length-set}
+use Rattle.tesla_frame.specs.Reading.{tag_row_at}
 use Rattle.tesla_frame.specs.View.{tag_row}
 use Rattle.tesla_frame.proofs.Loop.{goes_on_in, ends, is_done}
 use Rattle.tesla_frame.proofs.rows.tag_rows_of.Goals as goal
