@@ -1,2 +1,10 @@
-//! Captures of a stream: their records, read and written.
+//! Captures of a stream and records of released packets, read and written.
 #![tactic(auto)]
+
+mod reading;
+mod record;
+mod release;
+
+pub use reading::{body, is_capture, next_record};
+pub use record::Record;
+pub use release::Head;
