@@ -1,6 +1,7 @@
 //! Captures of a stream and records of released packets, read and written.
 #![tactic(auto)]
 
+pub mod laws;
 mod reading;
 mod record;
 mod release;

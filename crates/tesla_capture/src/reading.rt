@@ -1,7 +1,9 @@
 //! Captures read from memory, record after record.
 
-ghost use Rattle.std.specs.Prelude.{◌≡◌, ◌<◌, length, option_map, is_some, IfSome};
+ghost use Rattle.std.specs.Prelude.{◌≡◌, ◌<◌, length, option_map, is_some, IfSome, IsTrue, ◌↔◌, List};
 ghost use Rattle.std.specs.Int.{w16, w64};
+ghost use Rattle.tesla_capture.specs.Capture as captures;
+ghost use Rattle.tesla_capture.specs.Capture.{IsCapture};
 ghost use Rattle.tesla_capture.specs.Reading.{number_at, datagram_at, arrival_at, record_at, body_of, records_of, records_after};
 ghost use Rattle.tesla_capture.specs.Shown.{shown};
 
@@ -92,9 +94,8 @@ pub fn next_record(rest: &[u8]) -> Option<(Record<'_>, &[u8])>
     record(rest)
 }
 
-/// Whether the bytes are a capture: a head, and whole records up to the end.
-pub fn is_capture(bytes: &[u8]) -> bool
-    ensures exact { result ≡ is_some (records_of bytes.now) }
+fn has_records(bytes: &[u8]) -> bool
+    ensures { result ≡ is_some (records_of bytes.now) }
 {
     let Some(mut rest) = body(bytes) else {
         return false;
@@ -106,4 +107,12 @@ pub fn is_capture(bytes: &[u8]) -> bool
         rest = after;
     }
     true
+}
+
+/// Whether the bytes are a capture: a head, and whole records up to the end.
+pub fn is_capture(bytes: &[u8]) -> bool
+    ensures grammar { IsTrue result ↔ ((records : List captures.Record) × IsCapture bytes.now records) }
+    ensures exact { result ≡ is_some (records_of bytes.now) }
+{
+    has_records(bytes)
 }
