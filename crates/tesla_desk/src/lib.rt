@@ -6,18 +6,17 @@ mod desk;
 mod heap;
 mod memory;
 mod pages;
-mod shelf;
+mod stored;
 mod sink;
 mod source;
 
+pub use desk::{CONSOLE, Desk, OpenRefusal};
 pub use heap::Heap;
 pub use memory::MemoryDesk;
 pub use pages::Pages;
-pub use desk::{CONSOLE, Desk, OpenRefusal};
 pub use sink::{Sink, WriteStep, write_all};
 pub use source::{ReadStep, Source};
 pub use tesla_base::Text;
-
 
 #[cfg(test)]
 mod tests;

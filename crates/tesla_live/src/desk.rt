@@ -6,9 +6,8 @@ ghost use Rattle.tesla_desk.specs.Outside.{Untold};
 
 use crate::sink::Target;
 use crate::{FileSink, FileSource};
-use std::fs;
-use std::io;
 use std::rt::Files;
+use std::{fs, io};
 use tesla_base::Text;
 use tesla_desk::{CONSOLE, Desk, OpenRefusal};
 
@@ -39,6 +38,7 @@ impl<'a, R: Files + Print + AllocGlobal> LiveDesk<'a, R> {
 
 impl<'a, R: Files + Print + AllocGlobal> Desk for LiveDesk<'a, R> {
     type In = FileSource<R::File>;
+
     type Out = FileSink<'a, R>;
 
     ghost page = { λ _ _. Untold };

@@ -8,3 +8,6 @@ mod source;
 pub use desk::LiveDesk;
 pub use sink::FileSink;
 pub use source::FileSource;
+
+#[cfg(test)]
+mod tests;
