@@ -10,7 +10,7 @@ ghost use Rattle.tesla_capture.specs.Shown.{shown};
 use crate::record::Record;
 
 /// The first bytes of every capture: the magic, and version 1.
-const HEAD: [u8; 5] = [b'T', b'C', b'A', b'P', 1];
+pub const HEAD: [u8; 5] = [b'T', b'C', b'A', b'P', 1];
 
 fn u16_of(bytes: &[u8]) -> Option<(u16, &[u8])>
     ensures { option_map (λ x. (x.0, x.1.now)) result ≡ number_at w16 bytes.now }
