@@ -11,3 +11,6 @@ pub use reading::{body, is_capture, next_record};
 pub use record::Record;
 pub use release::Head;
 pub use writing::{write_arrival, write_head, write_record, write_take};
+
+#[cfg(test)]
+mod tests;

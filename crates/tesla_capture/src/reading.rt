@@ -82,7 +82,11 @@ pub fn body(bytes: &[u8]) -> Option<&[u8]>
         return None;
     }
     let (front, rest) = bytes.split_at(5);
-    if front == HEAD.as_slice() { Some(rest) } else { None }
+    if front == HEAD.as_slice() {
+        Some(rest)
+    } else {
+        None
+    }
 }
 
 /// The whole record at the front, and what stands after it. None where there is none: nothing is left,
