@@ -7,6 +7,7 @@ mod reading;
 mod row;
 mod rows;
 mod view;
+mod writing;
 
 pub use reading::read_frame;
 pub use row::KeyRow;
