@@ -4,7 +4,8 @@ use Rattle.tesla_base.specs.declared.names.Key.{Key}
 use Rattle.tesla_base.specs.declared.names.Name.{Name}
 use Rattle.tesla_base.specs.declared.names.StreamId.{StreamId}
 use Rattle.tesla_base.specs.declared.names.Tag.{Tag}
-use Rattle.tesla_frame.specs.Frame.{TagRow, Frame, Data}
+use Rattle.tesla_frame.specs.declared.row.KeyRow.{KeyRow}
+use Rattle.tesla_frame.specs.Frame.{TagRow, Frame, Data, Disclosure}
 
 -- now begins with the text, and the bytes after it are those that stood there before
 abbrev pub Begins : List ℕ → List ℕ → List ℕ → Type 0
@@ -19,3 +20,7 @@ rows_of (tag ∷ tags) (key ∷ keys) = record { tag = tag.0; key = key } ∷ ro
 -- the data frame with these parts
 abbrev pub data_frame : StreamId → Name → List ℕ → List Tag → List (Option Key) → Frame
 data_frame stream name payload tags keys = Data (record { stream = stream; name = name; payload = payload; rows = rows_of tags keys })
+
+-- the disclosure frame with these parts
+abbrev pub keys_frame : StreamId → List KeyRow → Frame
+keys_frame stream rows = Disclosure (record { stream = stream; rows = rows })

@@ -12,6 +12,7 @@ mod writing;
 pub use reading::read_frame;
 pub use row::KeyRow;
 pub use view::{DataView, FrameView, KeysView};
+pub use writing::{write_data, write_disclosure};
 
 #[cfg(test)]
 mod tests;

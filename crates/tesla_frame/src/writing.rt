@@ -3,8 +3,8 @@
 ghost use Rattle.std.specs.Prelude.{◌≡◌, ◌+◌, ◌*◌, ◌≤◌, List, ℕ, [], ◌∷◌, ◌++◌, length};
 ghost use Rattle.std.specs.Int.{w16, w32, w64, to_be_bytes};
 ghost use Rattle.std.specs.List.{flat_map};
-ghost use Rattle.tesla_frame.specs.Frame.{KeysFrame, Disclosure, ChainsRise, head, tag_row_text, key_row_text, frame_text};
-ghost use Rattle.tesla_frame.specs.Written.{Begins, rows_of, data_frame};
+ghost use Rattle.tesla_frame.specs.Frame.{ChainsRise, head, tag_row_text, key_row_text, frame_text};
+ghost use Rattle.tesla_frame.specs.Written.{Begins, rows_of, data_frame, keys_frame};
 
 use crate::reading::HEAD;
 use crate::row::KeyRow;
@@ -100,4 +100,47 @@ pub fn write_data(
     let at = put(into, at, payload);
     let at = put(into, at, &[tags.len() as u8]);
     put_tag_rows(into, at, tags, keys)
+}
+
+/// Puts a disclosed key with its chain and its index.
+fn put_key_row(into: &mut [u8; 2048], at: usize, row: &KeyRow) -> usize
+    requires { at + 37 ≤ 2048 }
+    ensures next { result ≡ at + length (key_row_text row.now) }
+    ensures few { result ≤ at + 37 }
+    ensures text { (text before : List ℕ) → length text ≡ at → Begins text before into.old → Begins (text ++ key_row_text row.now) before into.new }
+{
+    let mut front = [0; 5];
+    front[0] = row.chain.0;
+    front[1..].copy_from_slice(&row.index.to_be_bytes());
+    let at = put(into, at, &front);
+    put(into, at, &row.key.0)
+}
+
+/// Puts the rows one after the other.
+fn put_key_rows(into: &mut [u8; 2048], at: usize, rows: &[KeyRow]) -> usize
+    requires { at + 37 * length rows.now ≤ 2048 }
+    ensures next { result ≡ at + length (flat_map key_row_text rows.now) }
+    ensures text { (text before : List ℕ) → length text ≡ at → Begins text before into.old → Begins (text ++ flat_map key_row_text rows.now) before into.new }
+{
+    match rows {
+        [row, rows @ ..] => {
+            let at = put_key_row(into, at, row);
+            put_key_rows(into, at, rows)
+        }
+        [] => at,
+    }
+}
+
+/// Writes the disclosure frame with one to four rows, whose chains rise strictly. It gives the frame's
+/// length, and leaves the bytes after it as they are. It takes no memory.
+pub fn write_disclosure(stream: StreamId, rows: &[KeyRow], into: &mut [u8; 2048]) -> usize
+    requires some { 1 ≤ length rows.now }
+    requires few { length rows.now ≤ 4 }
+    requires rise { ChainsRise rows.now }
+    ensures length { result ≡ length (frame_text (keys_frame stream rows.now)) }
+    ensures text { Begins (frame_text (keys_frame stream rows.now)) into.old into.new }
+{
+    let at = put(into, 0, &keys_head(stream));
+    let at = put(into, at, &[rows.len() as u8]);
+    put_key_rows(into, at, rows)
 }
