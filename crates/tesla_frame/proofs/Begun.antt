@@ -1,5 +1,5 @@
 -- A text at the front of a room, written one piece after the other.
-use Rattle.std.proofs.Common.{◌≡◌, ◌∙◌, ℕ, ◌+◌, ◌-◌, ◌≤◌, List, ◌++◌, length, take, drop, ap, sym, refl, subst, arith, append_assoc, length-append, [], ◌∷◌, Option}
+use Rattle.std.proofs.Common.{◌≡◌, ◌∙◌, ℕ, ◌+◌, ◌-◌, List, ◌++◌, length, take, drop, ap, sym, refl, subst, arith, append_assoc, length-append, [], ◌∷◌, Option}
 use Rattle.std.proofs.lemmas.List.{take_at, drop_at, drop-drop}
 use borrow.Rule.Slice.PartMut.{put_mid}
 use Rattle.tesla_frame.specs.Written.{Begins, rows_of}
@@ -15,7 +15,7 @@ begins_more text piece before now new at step len begun =
     let behind = drop (length text) before in
     let front : take at now ≡ text = ap (take at) begun ∙ take_at text behind at len in
     let back : drop (at + k) now ≡ drop (length (text ++ piece)) before =
-      sym (drop-drop k at now) ∙ ap (λ (l : List ℕ). drop k (drop at l)) begun ∙ ap (drop k) (drop_at text behind at len) ∙ drop-drop k (length text) before ∙ ap (λ (n : ℕ). drop n before) (sym (length-append text piece)) in
+    sym (drop-drop k at now) ∙ ap (λ (l : List ℕ). drop k (drop at l)) begun ∙ ap (drop k) (drop_at text behind at len) ∙ drop-drop k (length text) before ∙ ap (λ (n : ℕ). drop n before) (sym (length-append text piece)) in
     step ∙ ap (λ (a : List ℕ). a ++ (piece ++ drop (at + k) now)) front ∙ ap (λ (b : List ℕ). text ++ (piece ++ b)) back ∙ sym (append_assoc text piece (drop (length (text ++ piece)) before))
 
 -- the same, from what a write to a part of a slice leaves

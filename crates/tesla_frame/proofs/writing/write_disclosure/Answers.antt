@@ -1,4 +1,4 @@
-use Rattle.std.proofs.Common.{◌≡◌, ℕ, List, [], ◌∷◌, ◌++◌, length, refl, subst, arith, length-append}
+use Rattle.std.proofs.Common.{ℕ, List, [], ◌∷◌, ◌++◌, length, refl, subst, arith, length-append}
 use Rattle.std.specs.List.{flat_map}
 use Rattle.tesla_frame.specs.Frame.{key_row_text}
 use Rattle.tesla_frame.specs.Written.{Begins}
