@@ -28,7 +28,7 @@ begins_put text piece before now part at same len begun =
 pub begins_none : (before : List ℕ) → Begins [] before before
 begins_none before = refl
 
-rows_length : (tags : List Tag) (keys : List (Option Key)) → length keys ≡ length tags → length (rows_of tags keys) ≡ length tags
+pub rows_length : (tags : List Tag) (keys : List (Option Key)) → length keys ≡ length tags → length (rows_of tags keys) ≡ length tags
 rows_length [] keys same = refl
 rows_length (tag ∷ tags) [] same = absurd (omega arith)
 rows_length (tag ∷ tags) (key ∷ keys) same = (let rest = rows_length tags keys (omega arith) in omega (arith, rest))

@@ -1,19 +1,20 @@
 //! Frames written into the room for a datagram.
 
-ghost use Rattle.std.specs.Prelude.{◌≡◌, ◌+◌, ◌*◌, ◌≤◌, List, ℕ, [], ◌∷◌, ◌++◌, length};
+ghost use Rattle.std.specs.Prelude.{◌≡◌, ◌+◌, ◌*◌, ◌^◌, ◌<◌, ◌≤◌, List, ℕ, [], ◌∷◌, ◌++◌, length};
 ghost use Rattle.std.specs.Int.{w16, w32, w64, to_be_bytes};
-ghost use Rattle.std.specs.List.{flat_map};
-ghost use Rattle.tesla_frame.specs.Frame.{ChainsRise, head, tag_row_text, key_row_text, frame_text};
+ghost use Rattle.std.specs.List.{flat_map, AllByRecursion};
+ghost use Rattle.tesla_frame.specs.Frame.{AreBytes, ChainsRise, IsTagRow, IsKeyRow, HasLimits, head, tag_row_text, key_row_text, frame_text};
 ghost use Rattle.tesla_frame.specs.Written.{Begins, rows_of, data_frame, keys_frame};
 
 use crate::reading::HEAD;
 use crate::row::KeyRow;
-use tesla_base::{Key, Name, StreamId, Tag};
+use tesla_base::{ChainNo, Key, Name, StreamId, Tag};
 
 /// Puts the piece at a place, and gives the place after it.
 fn put(into: &mut [u8; 2048], at: usize, piece: &[u8]) -> usize
     requires { at + length piece.now ≤ 2048 }
     ensures next { result ≡ at + length piece.now }
+    ensures bytes { AreBytes piece.now }
     ensures text { (text before : List ℕ) → length text ≡ at → Begins text before into.old → Begins (text ++ piece.now) before into.new }
 {
     let next = at + piece.len();
@@ -49,6 +50,7 @@ fn put_tag_row(into: &mut [u8; 2048], at: usize, tag: &Tag, key: &Option<Key>) -
     requires { at + 49 ≤ 2048 }
     ensures next { result ≡ at + length (tag_row_text (record { tag = tag.now.0; key = key.now })) }
     ensures few { result ≤ at + 49 }
+    ensures row { IsTagRow (record { tag = tag.now.0; key = key.now }) }
     ensures text { (text before : List ℕ) → length text ≡ at → Begins text before into.old → Begins (text ++ tag_row_text (record { tag = tag.now.0; key = key.now })) before into.new }
 {
     let at = put(into, at, &tag.0);
@@ -65,6 +67,7 @@ fn put_tag_row(into: &mut [u8; 2048], at: usize, tag: &Tag, key: &Option<Key>) -
 fn put_tag_rows(into: &mut [u8; 2048], at: usize, tags: &[Tag], keys: &[Option<Key>]) -> usize
     requires { at + 49 * length tags.now ≤ 2048 }
     ensures next { result ≡ at + length (flat_map tag_row_text (rows_of tags.now keys.now)) }
+    ensures rows { AllByRecursion IsTagRow (rows_of tags.now keys.now) }
     ensures text { (text before : List ℕ) → length text ≡ at → Begins text before into.old → Begins (text ++ flat_map tag_row_text (rows_of tags.now keys.now)) before into.new }
 {
     match tags {
@@ -94,6 +97,7 @@ pub fn write_data(
     requires few { length tags.now ≤ 4 }
     requires same { length keys.now ≡ length tags.now }
     ensures length { result ≡ length (frame_text (data_frame stream name payload.now tags.now keys.now)) }
+    ensures limits { HasLimits (data_frame stream name payload.now tags.now keys.now) }
     ensures text { Begins (frame_text (data_frame stream name payload.now tags.now keys.now)) into.old into.new }
 {
     let at = put(into, 0, &data_head(stream, name, payload.len() as u16));
@@ -102,16 +106,26 @@ pub fn write_data(
     put_tag_rows(into, at, tags, keys)
 }
 
+/// The fields of a row before its key.
+fn key_head(chain: ChainNo, index: u32) -> [u8; 5]
+    ensures bytes { result ≡ chain.0 ∷ [] ++ to_be_bytes w32 index }
+    ensures index { index < 2 ^ 32 }
+{
+    let mut bytes = [0; 5];
+    bytes[0] = chain.0;
+    bytes[1..].copy_from_slice(&index.to_be_bytes());
+    bytes
+}
+
 /// Puts a disclosed key with its chain and its index.
 fn put_key_row(into: &mut [u8; 2048], at: usize, row: &KeyRow) -> usize
     requires { at + 37 ≤ 2048 }
     ensures next { result ≡ at + length (key_row_text row.now) }
     ensures few { result ≤ at + 37 }
+    ensures row { IsKeyRow row.now }
     ensures text { (text before : List ℕ) → length text ≡ at → Begins text before into.old → Begins (text ++ key_row_text row.now) before into.new }
 {
-    let mut front = [0; 5];
-    front[0] = row.chain.0;
-    front[1..].copy_from_slice(&row.index.to_be_bytes());
+    let front = key_head(row.chain, row.index);
     let at = put(into, at, &front);
     put(into, at, &row.key.0)
 }
@@ -120,6 +134,7 @@ fn put_key_row(into: &mut [u8; 2048], at: usize, row: &KeyRow) -> usize
 fn put_key_rows(into: &mut [u8; 2048], at: usize, rows: &[KeyRow]) -> usize
     requires { at + 37 * length rows.now ≤ 2048 }
     ensures next { result ≡ at + length (flat_map key_row_text rows.now) }
+    ensures rows { AllByRecursion IsKeyRow rows.now }
     ensures text { (text before : List ℕ) → length text ≡ at → Begins text before into.old → Begins (text ++ flat_map key_row_text rows.now) before into.new }
 {
     match rows {
@@ -138,6 +153,7 @@ pub fn write_disclosure(stream: StreamId, rows: &[KeyRow], into: &mut [u8; 2048]
     requires few { length rows.now ≤ 4 }
     requires rise { ChainsRise rows.now }
     ensures length { result ≡ length (frame_text (keys_frame stream rows.now)) }
+    ensures limits { HasLimits (keys_frame stream rows.now) }
     ensures text { Begins (frame_text (keys_frame stream rows.now)) into.old into.new }
 {
     let at = put(into, 0, &keys_head(stream));

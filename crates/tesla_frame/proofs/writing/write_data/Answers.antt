@@ -2,7 +2,7 @@ use Rattle.std.proofs.Common.{ℕ, List, [], ◌∷◌, ◌++◌, length, refl, 
 use Rattle.std.specs.List.{flat_map}
 use Rattle.tesla_frame.specs.Frame.{tag_row_text}
 use Rattle.tesla_frame.specs.Written.{Begins, rows_of}
-use Rattle.tesla_frame.proofs.Begun.{begins_none, data_begun}
+use Rattle.tesla_frame.proofs.Begun.{begins_none, data_begun, rows_length}
 use Rattle.tesla_frame.proofs.writing.write_data.Goals as goal
 
 pub returns-clause-text : goal.returns-clause-text
@@ -17,3 +17,17 @@ returns-clause-text c =
     let f4 = c.put_tag_rows.ensures.text ((front ++ payload) ++ count) before (omega (arith, length-append front payload, length-append (front ++ payload) count)) f3 in
     subst (λ (h : List ℕ). Begins (((h ++ payload) ++ length (rows_of c.args.tags.now c.args.keys.now) ∷ []) ++ flat_map tag_row_text (rows_of c.args.tags.now c.args.keys.now)) before c.put_tag_rows.new.into)
     c.data_head.ensures (data_begun front payload c.args.tags.now c.args.keys.now before c.put_tag_rows.new.into c.requires.same f4)
+
+pub returns-clause-limits : goal.returns-clause-limits
+returns-clause-limits c =
+    let count = rows_length c.args.tags.now c.args.keys.now c.requires.same in
+    record {
+      stream = omega arith;
+      interval = omega arith;
+      number = omega arith;
+      payload = c.requires.limit;
+      bytes = c.put-at-2.ensures.bytes;
+      some = omega (arith, count);
+      few = omega (arith, count);
+      rows = c.put_tag_rows.ensures.rows;
+    }
