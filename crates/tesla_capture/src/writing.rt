@@ -75,7 +75,7 @@ pub fn write_arrival<S: Sink>(sink: &mut S, reading: u64, bytes: &[u8]) -> bool
 
 /// Writes the record of a take. It takes no memory.
 ///
-/// True: the record was appended. False: nothing was appended, and the sink's count of faults rose.
+/// True: the record was appended. False: a front of it was appended, and the sink's count of faults rose.
 pub fn write_take<S: Sink>(sink: &mut S) -> bool
     ensures all { result ≡ true → S.written sink.new ≡ with_bytes (S.written sink.old) (record_text Takes) }
     ensures front { AppendsFront (S.written sink.old) (S.written sink.new) (record_text Takes) }
