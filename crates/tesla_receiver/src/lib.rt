@@ -1,2 +1,17 @@
-//! To come.
+//! The receiver: judges each arrival, and releases each authentic packet once.
 #![tactic(auto)]
+
+mod book;
+mod config;
+mod history;
+mod keys;
+mod packet;
+mod release;
+mod verdict;
+
+pub use book::Book;
+pub use config::Config;
+pub use history::{Arrival, Entry, Reply};
+pub use packet::Packet;
+pub use release::Release;
+pub use verdict::Verdict;

@@ -1,0 +1,4 @@
+pub mod Enumerated
+pub mod EachAfter
+pub mod Newest
+pub mod Finds
