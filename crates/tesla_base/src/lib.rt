@@ -2,12 +2,19 @@
 //! the count of HMAC evaluations.
 #![tactic(auto)]
 
+mod field;
 mod memory;
 mod names;
+mod number;
 mod steps;
 mod text;
 
+pub use field::{u16_at, u32_at, u64_at};
 pub use memory::NoMemory;
 pub use names::{ChainNo, Key, Name, StreamId, Tag};
+pub use number::{NumberFault, read_decimal, read_signed};
 pub use steps::Steps;
 pub use text::Text;
+
+#[cfg(test)]
+mod tests;

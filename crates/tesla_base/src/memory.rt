@@ -1,5 +1,7 @@
 //! The answer for want of memory.
 
+ghost use Rattle.std.specs.Prelude.{◌≡◌};
+
 use std::alloc::{AllocError, AllocFailed};
 use std::fmt;
 
@@ -15,12 +17,16 @@ impl fmt::Display for NoMemory {
 }
 
 impl From<AllocError> for NoMemory {
+    ghost from_gives = { λ _ e. e ≡ record {} };
+
     fn from(_: AllocError) -> NoMemory {
         NoMemory
     }
 }
 
 impl<T: Drop> From<AllocFailed<T>> for NoMemory {
+    ghost from_gives = { λ _ e. e ≡ record {} };
+
     fn from(_: AllocFailed<T>) -> NoMemory {
         NoMemory
     }
