@@ -1,0 +1,39 @@
+-- Counts of faults: they never fall, they stand still at the end of their type, and a failure is answered only where one rose.
+use Rattle.std.specs.Prelude.{◌≡◌, ◌⊎◌, ℕ, ◌+◌, ◌-◌, ◌^◌, ◌<◌, ◌≤◌, if◌then◌else◌, nat_lt}
+
+-- a count after one fault more: it stands still at the end of its type
+abbrev pub raised : ℕ → ℕ
+raised n = if nat_lt n (2 ^ 64 - 1) then n + 1 else n
+
+-- a count of objects that failed, after an object with this many faults was closed
+abbrev pub raised_where_failed : ℕ → ℕ → ℕ
+raised_where_failed faults n = if nat_lt 0 faults then raised n else n
+
+-- the count rose, or stood at the end of its type
+abbrev pub Rose : ℕ → ℕ → Type 0
+Rose before now = (before < now) ⊎ (2 ^ 64 - 1 ≤ before)
+
+-- the count has not fallen, and where the call failed it rose
+pub record HasCause (before now : ℕ) (failed : Type 0) : Type 0 where
+  pub stays : before ≤ now
+  pub rose : failed → Rose before now
+
+-- how many sources, sinks and openings of a desk failed
+pub record Faults : Type 0 where
+  pub reads : ℕ
+  pub writes : ℕ
+  pub openings : ℕ
+
+-- what an opening does to the counts of its desk
+pub record CountsOpening (before now : Faults) (failed : Type 0) : Type 0 where
+  pub reads : now.reads ≡ before.reads
+  pub writes : now.writes ≡ before.writes
+  pub openings : HasCause before.openings now.openings failed
+
+-- the counts after the closing of a source with this many faults
+abbrev pub after_source : Faults → ℕ → Faults
+after_source before faults = record before { reads = raised_where_failed faults before.reads }
+
+-- the counts after the closing of a sink with this many faults
+abbrev pub after_sink : Faults → ℕ → Faults
+after_sink before faults = record before { writes = raised_where_failed faults before.writes }

@@ -1,0 +1,68 @@
+-- What the calls of sources, sinks and desks do to the bytes that these tell.
+use Rattle.std.specs.Prelude.{◌≡◌, ℕ, ◌<◌, ◌≤◌, Bool, nat_lt, Option, Some, None, IfSome, List, [], ◌++◌, length, take}
+use Rattle.std.specs.Option.{option_map}
+use Rattle.tesla_desk.specs.declared.source.ReadStep.{ReadStep}
+use Rattle.tesla_desk.specs.declared.source.ReadStep.TheVariants.{Got, End, Failed as ReadFailed}
+use Rattle.tesla_desk.specs.declared.sink.WriteStep.{WriteStep}
+use Rattle.tesla_desk.specs.declared.sink.WriteStep.TheVariants.{Took, Failed as WriteFailed}
+
+-- what a desk tells of the bytes under a name: nothing, that there are none, or the bytes and whether the sink that was closed last under the name failed
+pub data Page : Type 0 where
+  Untold : Page
+  Absent : Page
+  Holds : List ℕ → Bool → Page
+
+-- the page under the name of a closed sink, from the bytes that it told and its count of faults
+abbrev pub page_of : Option (List ℕ) → ℕ → Page
+page_of None faults = Untold
+page_of (Some bytes) faults = Holds bytes (nat_lt 0 faults)
+
+-- what is left, where it is told, was led by these bytes
+abbrev pub after_bytes : List ℕ → Option (List ℕ) → Option (List ℕ)
+after_bytes bytes left = option_map (λ rest. bytes ++ rest) left
+
+-- what was written, where it is told, with these bytes at its end
+abbrev pub with_bytes : Option (List ℕ) → List ℕ → Option (List ℕ)
+with_bytes written bytes = option_map (λ front. front ++ bytes) written
+
+-- the first n bytes of what was left now stand at the front of this slice
+pub record Brings (n : ℕ) (old new : Option (List ℕ)) (into : List ℕ) : Type 0 where
+  pub some : 0 < n
+  pub fits : n ≤ length into
+  pub left : old ≡ after_bytes (take n into) new
+
+-- nothing is left
+pub record Ends (old new : Option (List ℕ)) : Type 0 where
+  pub empty : IfSome old (λ rest. rest ≡ [])
+  pub left : new ≡ old
+
+-- what one read does to what is left, and to the slice that it reads into
+abbrev pub Reads : Option (List ℕ) → Option (List ℕ) → List ℕ → ReadStep → Type 0
+Reads old new into (Got n) = Brings n old new into
+Reads old new into End = Ends old new
+Reads old new into ReadFailed = new ≡ old
+
+-- the first n bytes of the piece were appended
+pub record Appends (n : ℕ) (old new : Option (List ℕ)) (piece : List ℕ) : Type 0 where
+  pub fits : n ≤ length piece
+  pub written : new ≡ with_bytes old (take n piece)
+
+-- what one write does to what was written
+abbrev pub Writes : Option (List ℕ) → Option (List ℕ) → List ℕ → WriteStep → Type 0
+Writes old new piece (Took n) = Appends n old new piece
+Writes old new piece WriteFailed = new ≡ old
+
+-- the write failed, or took none of the bytes that there were
+abbrev pub Stalls : List ℕ → WriteStep → Type 0
+Stalls piece (Took n) = (n ≡ 0) × (0 < length piece)
+Stalls piece WriteFailed = Unit {0}
+
+-- some front of the piece was appended
+abbrev pub AppendsFront : Option (List ℕ) → Option (List ℕ) → List ℕ → Type 0
+AppendsFront old new piece = (n : ℕ) × Appends n old new piece
+
+-- a new source has what its desk tells under the name
+abbrev pub Opened : Page → Option (List ℕ) → Type 0
+Opened Untold left = left ≡ None
+Opened Absent left = ⊥
+Opened (Holds bytes failed) left = left ≡ Some bytes
