@@ -15,14 +15,14 @@ pub struct Schedule {
 }
 
 impl Model for Schedule {
-    ghost use Rattle.std.specs.Prelude.{ℕ};
+    ghost use Rattle.std.specs.Prelude.{◌<◌, ◌^◌};
     ghost use Rattle.tesla_clock.specs.Schedule.{Times, IsSchedule};
 
     ghost Value = { Times };
 
     ghost view = { λ s. record { start = s.start; length = s.length; last = s.last } };
 
-    ghost invariant = { λ s. IsSchedule (record { start = s.start; length = s.length; last = s.last }) };
+    ghost invariant = { λ s. IsSchedule (record { start = s.start; length = s.length; last = s.last }) × (s.start < 2 ^ 64) };
 
     ghost inverse = { λ t. record { start = t.start; length = t.length; last = t.last } };
 }
@@ -56,6 +56,7 @@ impl Schedule {
     pub fn length(&self) -> u32
         ensures value { result ≡ self.now.length }
         ensures limits { IsSchedule self.now }
+        ensures start { self.now.start < 2 ^ 64 }
     {
         self.length
     }
@@ -64,6 +65,7 @@ impl Schedule {
     pub fn last(&self) -> u32
         ensures value { result ≡ self.now.last }
         ensures limits { IsSchedule self.now }
+        ensures start { self.now.start < 2 ^ 64 }
     {
         self.last
     }

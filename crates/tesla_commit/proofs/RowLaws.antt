@@ -1,0 +1,204 @@
+-- Judging rows one after another.
+use Rattle.std.proofs.Common.{◌≡◌, ◌≢◌, ℕ, ◌+◌, ◌^◌, ◌<◌, ◌≤◌, Bool, true, false, cond, eqb, List, [], ◌∷◌, ◌++◌, length, take, drop, get_or, Result, Ok, Err, refl, sym, ap, subst, ◌∙◌, append_assoc, add-one, arith}
+use Rattle.std.specs.Prelude.{◌||◌, nat_lt, nat_le}
+use Rattle.std.specs.List.{AllByRecursion}
+use Rattle.std.proofs.lemmas.Bool.Decides.{nat_tests}
+use Rattle.std.proofs.lemmas.List.{append-nil, take_more, take_all, drop_all}
+use Rattle.std.proofs.Math.Seq.{drop-cons}
+use Rattle.tesla_clock.specs.Schedule.{IsSchedule}
+use Rattle.tesla_commit.specs.Parts.{Parts, IsRow, DelaysRise, IsSetupOf}
+use Rattle.tesla_commit.specs.Judging.{◌>>=◌, at, row_judged, rows_judged}
+use Rattle.tesla_commit.specs.declared.row.ChainRow.{ChainRow}
+use Rattle.tesla_commit.specs.declared.refusal.SetupKind.{SetupKind}
+use Rattle.tesla_commit.specs.declared.refusal.SetupKind.TheVariants.{NoChain, TooManyChains, DelaysNotRising, IndexPastLast, LimitPassed}
+
+-- rows before those that are judged
+abbrev pub onto : {A E : Type 0} → List A → Result (List A) E → Result (List A) E
+onto front (Ok others) = Ok (front ++ others)
+onto front (Err e) = Err e
+
+-- a step that was not refused
+pub bind_ok : {A B E : Type 0} (r : Result A E) (f : A → Result B E) (y : B) → (r >>= f) ≡ Ok y → (x : A) × (r ≡ Ok x) × (f x ≡ Ok y)
+bind_ok (Ok x) f y e = (x, refl, e)
+bind_ok (Err d) f y e = absurd cc
+
+-- a test that did not refuse
+pub guard_ok : {A E : Type 0} (b : Bool) (e : E) (r : Result A E) (x : A) → cond b (Err e) r ≡ Ok x → (b ≡ false) × (r ≡ Ok x)
+guard_ok true e r x h = absurd cc
+guard_ok false e r x h = (refl, h)
+
+pub at_ok : {A : Type 0} (line : ℕ) (r : Result A SetupKind) (x : A) → at line r ≡ Ok x → r ≡ Ok x
+at_ok line (Ok y) x h = cc
+at_ok line (Err kind) x h = absurd cc
+
+ok_is : {A E : Type 0} (x y : A) (r : Result A E) → r ≡ Ok x → r ≡ Ok y → x ≡ y
+ok_is x y r h k = cc
+
+-- a row that is not refused
+pub record IsNext (last before : ℕ) (row : ChainRow) : Type 0 where
+  pub limits : IsRow last row
+  pub above : before < row.delay
+
+pub row_is : (last before : ℕ) (row other : ChainRow) → row_judged last before row ≡ Ok other → (row ≡ other) × IsNext last before row
+row_is last before row other h =
+    let a = guard_ok (nat_lt row.delay 1 || nat_lt 4096 row.delay) LimitPassed (cond (nat_le row.delay before) (Err DelaysNotRising) (cond (nat_lt last row.index) (Err IndexPastLast) (Ok row))) other h in
+    let b = guard_ok (nat_le row.delay before) DelaysNotRising (cond (nat_lt last row.index) (Err IndexPastLast) (Ok row)) other a.1 in
+    let d = guard_ok (nat_lt last row.index) IndexPastLast (Ok row) other b.1 in (
+      ok_is row other (Ok row) refl d.1,
+      record {
+        limits = record { shortest = grind (arith, nat_tests); longest = grind (arith, nat_tests); within = grind (arith, nat_tests) };
+        above = grind (arith, nat_tests);
+      },
+    )
+
+pub row_again : (last before : ℕ) (row : ChainRow) → IsNext last before row → row_judged last before row ≡ Ok row
+row_again last before row h =
+    let shortest = h.limits.shortest in
+    let longest = h.limits.longest in
+    let within = h.limits.within in
+    let above = h.above in
+    let a : nat_lt row.delay 1 ≡ false = grind (arith, nat_tests) in
+    let b : nat_lt 4096 row.delay ≡ false = grind (arith, nat_tests) in
+    let d : nat_le row.delay before ≡ false = grind (arith, nat_tests) in
+    let e : nat_lt last row.index ≡ false = grind (arith, nat_tests) in
+    rw (a, b, d, e) refl
+
+onto_first : {A E : Type 0} (front : List A) (x : A) (r : Result (List A) E) → onto front (r >>= λ others. Ok (x ∷ others)) ≡ onto (front ++ x ∷ []) r
+onto_first front x (Ok others) = ap Ok (sym (append_assoc front (x ∷ []) others))
+onto_first front x (Err e) = refl
+
+not_line : (line other : ℕ) → line ≢ other → eqb line other ≡ false
+not_line line other h = grind (arith, nat_tests)
+
+pub rows_step : (last line before : ℕ) (front rows : List ChainRow) (row other : ChainRow) → line ≢ 10 → row_judged last before row ≡ Ok other → onto front (rows_judged last line before (row ∷ rows)) ≡ onto (front ++ row ∷ []) (rows_judged last (line + 1) row.delay rows)
+unfolding rows_judged
+rows_step last line before front rows row other ne h =
+    let e = (row_is last before row other h).0 in
+    let judged : row_judged last before row ≡ Ok row = h ∙ ap Ok (sym e) in
+    let test = not_line line 10 ne in
+    rw (test, judged) (onto_first front row (rows_judged last (line + 1) row.delay rows))
+
+pub rows_refused : (last line before : ℕ) (front rows : List ChainRow) (row : ChainRow) (kind : SetupKind) → line ≢ 10 → row_judged last before row ≡ Err kind → onto front (rows_judged last line before (row ∷ rows)) ≡ Err (line, kind)
+unfolding rows_judged
+rows_refused last line before front rows row kind ne h =
+    let test = not_line line 10 ne in
+    rw (test, h) refl
+
+pub rows_over : (last before : ℕ) (front rows : List ChainRow) (row : ChainRow) → onto front (rows_judged last 10 before (row ∷ rows)) ≡ Err (10, TooManyChains)
+unfolding rows_judged
+rows_over last before front rows row = refl
+
+pub rows_none : (last before : ℕ) (front : List ChainRow) → onto front (rows_judged last 6 before []) ≡ Err (6, NoChain)
+unfolding rows_judged
+rows_none last before front = refl
+
+pub rows_end : (last line before : ℕ) (front : List ChainRow) → line ≢ 6 → onto front (rows_judged last line before []) ≡ Ok front
+unfolding rows_judged
+rows_end last line before front ne =
+    let test = not_line line 6 ne in
+    rw test (ap Ok (append-nil front))
+
+from_place : (rows : List ChainRow) (i : ℕ) (d : ChainRow) → i < length rows → drop i rows ≡ get_or rows i d ∷ drop (i + 1) rows
+from_place rows i d lt = rw (add-one, drop-cons rows i d) refl
+
+pub at_step : (last line before i : ℕ) (rows : List ChainRow) (d other : ChainRow) → i < length rows → line ≢ 10 → row_judged last before (get_or rows i d) ≡ Ok other → onto (take i rows) (rows_judged last line before (drop i rows)) ≡ onto (take (i + 1) rows) (rows_judged last (line + 1) (get_or rows i d).delay (drop (i + 1) rows))
+at_step last line before i rows d other lt ne h =
+    let e = from_place rows i d lt in
+    let t : take (i + 1) rows ≡ take i rows ++ get_or rows i d ∷ [] = take_more rows i d lt in
+    rw (e, t) (rows_step last line before (take i rows) (drop (i + 1) rows) (get_or rows i d) other ne h)
+
+pub at_refused : (last line before i : ℕ) (rows : List ChainRow) (d : ChainRow) (kind : SetupKind) → i < length rows → line ≢ 10 → row_judged last before (get_or rows i d) ≡ Err kind → onto (take i rows) (rows_judged last line before (drop i rows)) ≡ Err (line, kind)
+at_refused last line before i rows d kind lt ne h =
+    rw (from_place rows i d lt) (rows_refused last line before (take i rows) (drop (i + 1) rows) (get_or rows i d) kind ne h)
+
+pub at_over : (last line before i : ℕ) (rows : List ChainRow) (d : ChainRow) → i < length rows → line ≡ 10 → onto (take i rows) (rows_judged last line before (drop i rows)) ≡ Err (line, TooManyChains)
+at_over last line before i rows d lt e =
+    rw (e, from_place rows i d lt) (rows_over last before (take i rows) (drop (i + 1) rows) (get_or rows i d))
+
+pub at_none : (last line before i : ℕ) (rows : List ChainRow) → length rows ≤ i → line ≡ 6 → onto (take i rows) (rows_judged last line before (drop i rows)) ≡ Err (line, NoChain)
+at_none last line before i rows le e = rw (e, drop_all i rows le) (rows_none last before (take i rows))
+
+pub at_end : (last line before i : ℕ) (rows : List ChainRow) → length rows ≤ i → line ≢ 6 → onto (take i rows) (rows_judged last line before (drop i rows)) ≡ Ok rows
+at_end last line before i rows le ne = rw (drop_all i rows le, take_all i rows le) (rows_end last line before rows ne)
+
+-- ---- what rows that are not refused are
+
+-- each delay is above the one before, the first above that number
+abbrev pub RiseFrom : ℕ → List ChainRow → Type 0
+RiseFrom before [] = Unit {0}
+RiseFrom before (row ∷ rows) = (before < row.delay) × RiseFrom row.delay rows
+
+pub rise_is : (before : ℕ) (rows : List ChainRow) → RiseFrom before rows → DelaysRise rows
+rise_is before [] h = tt
+rise_is before (row ∷ []) h = tt
+rise_is before (row ∷ next ∷ rows) h = (h.1.0, rise_is row.delay (next ∷ rows) h.1)
+
+rise_after : (row : ChainRow) (rows : List ChainRow) → DelaysRise (row ∷ rows) → RiseFrom row.delay rows
+rise_after row [] rise = tt
+rise_after row (next ∷ rows) rise = (rise.0, rise_after next rows rise.1)
+
+pub rise_again : (last : ℕ) (rows : List ChainRow) → AllByRecursion (IsRow last) rows → DelaysRise rows → RiseFrom 0 rows
+rise_again last [] each rise = tt
+rise_again last (row ∷ rows) each rise = (each.0.shortest, rise_after row rows rise)
+
+-- rows that are not refused from that line on
+pub record AreRows (last line before : ℕ) (rows : List ChainRow) : Type 0 where
+  pub some : 7 ≤ line + length rows
+  pub few : line + length rows ≤ 10
+  pub each : AllByRecursion (IsRow last) rows
+  pub rise : RiseFrom before rows
+
+pub rows_are : (last line before : ℕ) (rows other : List ChainRow) → 6 ≤ line → line ≤ 10 → rows_judged last line before rows ≡ Ok other → (rows ≡ other) × AreRows last line before rows
+unfolding rows_judged
+rows_are last line before [] other low high h =
+    let g = guard_ok (eqb line 6) (line, NoChain) (Ok []) other h in
+    let ne : line ≢ 6 = grind (arith, nat_tests, g.0) in
+    (ok_is [] other (Ok []) refl g.1, record { some = omega arith; few = omega arith; each = tt; rise = tt })
+rows_are last line before (row ∷ rows) other low high h =
+    let g = guard_ok (eqb line 10) (line, TooManyChains) (at line (row_judged last before row) >>= λ first. rows_judged last (line + 1) first.delay rows >>= λ others. Ok (first ∷ others)) other h in
+    let ne : line ≢ 10 = grind (arith, nat_tests, g.0) in
+    let a = bind_ok (at line (row_judged last before row)) (λ first. rows_judged last (line + 1) first.delay rows >>= λ others. Ok (first ∷ others)) other g.1 in
+    let one = row_is last before row a.0 (at_ok line (row_judged last before row) a.0 a.1) in
+    let b = bind_ok (rows_judged last (line + 1) a.0.delay rows) (λ others. Ok (a.0 ∷ others)) other a.2 in
+    let two = rows_are last (line + 1) a.0.delay rows b.0 (omega arith) (omega arith) b.1 in
+    let same : row.delay ≡ a.0.delay = ap (λ (r : ChainRow). r.delay) one.0 in
+    let whole : (row ∷ rows) ≡ other = ap (λ (r : ChainRow). r ∷ rows) one.0 ∙ ap (λ (rs : List ChainRow). a.0 ∷ rs) two.0 ∙ ok_is (a.0 ∷ b.0) other (Ok (a.0 ∷ b.0)) refl b.2 in (
+      whole,
+      record {
+        some = omega (arith, two.1.some);
+        few = omega (arith, two.1.few);
+        each = (one.1.limits, two.1.each);
+        rise = (one.1.above, subst (λ (n : ℕ). RiseFrom n rows) (sym same) two.1.rise);
+      },
+    )
+
+pub rows_again : (last line before : ℕ) (rows : List ChainRow) → AreRows last line before rows → rows_judged last line before rows ≡ Ok rows
+unfolding rows_judged
+rows_again last line before [] h =
+    let some = h.some in
+    let ne : line ≢ 6 = omega arith in
+    let test = not_line line 6 ne in
+    rw test refl
+rows_again last line before (row ∷ rows) h =
+    let few = h.few in
+    let ne : line ≢ 10 = omega arith in
+    let test = not_line line 10 ne in
+    let one = row_again last before row (record { limits = h.each.0; above = h.rise.0 }) in
+    let some = h.some in
+    let two = rows_again last (line + 1) row.delay rows (record { some = omega arith; few = omega arith; each = h.each.1; rise = h.rise.1 }) in
+    rw (test, one, two) refl
+
+-- ---- a setup of rows that are not refused
+
+pub setup_is : (parts : Parts) (other : List ChainRow) → parts.stream.0 < 2 ^ 64 → parts.times.start < 2 ^ 64 → IsSchedule parts.times → rows_judged parts.times.last 6 0 parts.rows ≡ Ok other → IsSetupOf parts
+setup_is parts other stream start times h =
+    let a = (rows_are parts.times.last 6 0 parts.rows other (omega arith) (omega arith) h).1 in
+    let some = a.some in
+    let few = a.few in
+    record { stream = stream; start = start; times = times; some = omega arith; few = omega arith; each = a.each; rise = rise_is 0 parts.rows a.rise }
+
+pub setup_again : (parts : Parts) → IsSetupOf parts → rows_judged parts.times.last 6 0 parts.rows ≡ Ok parts.rows
+setup_again parts h =
+    let some = h.some in
+    let few = h.few in
+    rows_again parts.times.last 6 0 parts.rows (record { some = omega arith; few = omega arith; each = h.each; rise = rise_again parts.times.last parts.rows h.each h.rise })

@@ -1,0 +1,73 @@
+//! Why a setup is refused.
+
+ghost use Rattle.std.specs.Prelude.{◌≡◌};
+ghost use Rattle.tesla_commit.specs.declared.refusal.SetupRefusal.TheVariants as refusals;
+
+use std::alloc::{AllocError, AllocFailed};
+use std::fmt;
+
+/// What is wrong with a line of a setup. The texts are the names.
+#[derive(Clone, Copy, Debug, PartialEq, Eq)]
+pub enum SetupKind {
+    /// The line is not there, has no LF, or has other words.
+    BadLine,
+    /// A word that should be a decimal is none.
+    BadNumber,
+    /// A word that should be lower-case hexadecimal digits of a fixed number is not.
+    BadHex,
+    /// There is no chain.
+    NoChain,
+    /// There are more than four chains.
+    TooManyChains,
+    /// The delay is not above that of the chain before.
+    DelaysNotRising,
+    /// The index of the committed key is above the last interval.
+    IndexPastLast,
+    /// The length of an interval, the last interval or a delay is outside its limits.
+    LimitPassed,
+    /// The text has more than 4,096 bytes.
+    TooLong,
+}
+
+impl fmt::Display for SetupKind {
+    fn fmt<W: fmt::Write>(&self, f: &mut fmt::Formatter<W>) -> fmt::Result {
+        let name = match self {
+            SetupKind::BadLine => "BadLine",
+            SetupKind::BadNumber => "BadNumber",
+            SetupKind::BadHex => "BadHex",
+            SetupKind::NoChain => "NoChain",
+            SetupKind::TooManyChains => "TooManyChains",
+            SetupKind::DelaysNotRising => "DelaysNotRising",
+            SetupKind::IndexPastLast => "IndexPastLast",
+            SetupKind::LimitPassed => "LimitPassed",
+            SetupKind::TooLong => "TooLong",
+        };
+        f.write_str(name)
+    }
+}
+
+/// Why a setup is refused.
+#[derive(Clone, Copy, Debug, PartialEq, Eq)]
+pub enum SetupRefusal {
+    /// The first refused line, counted from 1, or 0 for the whole text. Row `k` of chains has line
+    /// `6 + k`.
+    At { line: u32, kind: SetupKind },
+    /// The allocator had no memory.
+    NoMemory,
+}
+
+impl From<AllocError> for SetupRefusal {
+    ghost from_gives = { λ _ e. e ≡ refusals.NoMemory };
+
+    fn from(_: AllocError) -> SetupRefusal {
+        SetupRefusal::NoMemory
+    }
+}
+
+impl<T: Drop> From<AllocFailed<T>> for SetupRefusal {
+    ghost from_gives = { λ _ e. e ≡ refusals.NoMemory };
+
+    fn from(_: AllocFailed<T>) -> SetupRefusal {
+        SetupRefusal::NoMemory
+    }
+}
