@@ -1,6 +1,6 @@
-//! A disclosed key.
+//! The rows of a frame.
 
-use tesla_base::{ChainNo, Key};
+use tesla_base::{ChainNo, Key, Tag};
 
 /// A key of a chain, with its index: the interval whose messages it authenticates.
 #[derive(Clone, Copy, Debug, PartialEq, Eq)]
@@ -8,4 +8,11 @@ pub struct KeyRow {
     pub chain: ChainNo,
     pub index: u32,
     pub key: Key,
+}
+
+/// What a data frame carries for one chain.
+#[derive(Clone, Copy, Debug, PartialEq, Eq)]
+pub struct TagAndKey {
+    pub tag: Tag,
+    pub key: Option<Key>,
 }

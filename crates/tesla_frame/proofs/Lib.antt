@@ -1,0 +1,3 @@
+pub mod Loop
+pub mod Spelled
+pub mod Both

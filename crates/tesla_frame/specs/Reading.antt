@@ -1,0 +1,115 @@
+-- Frames read from left to right, all of the bytes.
+use Rattle.std.specs.Prelude.{ℕ, zero, suc, Bool, true, ◌&&◌, List, [], ◌∷◌, length, take, drop, Option, Some, None, nat_lt, ◌==◌, bytes_eq, if◌then◌else◌}
+use Rattle.std.specs.Int.{Width, w16, w32, w64, byte_len, from_be_bytes}
+use Rattle.tesla_base.specs.declared.names.Key.{Key}
+use Rattle.tesla_frame.specs.declared.row.KeyRow.{KeyRow}
+use Rattle.tesla_frame.specs.Frame.{TagRow, DataFrame, KeysFrame, Frame, Data, Disclosure, head}
+
+infixl 10 ◌>>=◌
+abbrev pub ◌>>=◌ : {A B : Type 0} → Option A → (A → Option B) → Option B
+None >>= f = None
+(Some x) >>= f = f x
+
+-- a field is a value with the bytes after it: here so many bytes
+abbrev pub bytes_at : ℕ → List ℕ → Option (List ℕ × List ℕ)
+bytes_at n bytes = if nat_lt (length bytes) n then None else Some (take n bytes, drop n bytes)
+
+abbrev pub number_at : Width → List ℕ → Option (ℕ × List ℕ)
+number_at w bytes =
+    if nat_lt (length bytes) (byte_len w) then None
+    else Some (from_be_bytes w (take (byte_len w) bytes), drop (byte_len w) bytes)
+
+unfoldable pub key_at : List ℕ → Option (Key × List ℕ)
+key_at bytes = do
+  key ← bytes_at 32 bytes
+  Some (record { 0 = key.0 }, key.1)
+
+-- a flag, and a key behind a 1
+unfoldable pub optional_key_at : List ℕ → Option (Option Key × List ℕ)
+optional_key_at [] = None
+optional_key_at (zero ∷ rest) = Some (None, rest)
+optional_key_at (suc zero ∷ rest) = do
+  key ← key_at rest
+  Some (Some key.0, key.1)
+optional_key_at (suc (suc _) ∷ rest) = None
+
+unfoldable pub tag_row_at : List ℕ → Option (TagRow × List ℕ)
+tag_row_at bytes = do
+  tag ← bytes_at 16 bytes
+  key ← optional_key_at tag.1
+  Some (record { tag = tag.0; key = key.0 }, key.1)
+
+unfoldable pub chain_at : List ℕ → Option (ℕ × List ℕ)
+chain_at [] = None
+chain_at (chain ∷ rest) = Some (chain, rest)
+
+unfoldable pub key_row_at : List ℕ → Option (KeyRow × List ℕ)
+key_row_at bytes = do
+  chain ← chain_at bytes
+  index ← number_at w32 chain.1
+  key ← key_at index.1
+  Some (record { chain = record { 0 = chain.0 }; index = index.0; key = key.0 }, key.1)
+
+-- so many rows, each as row_at reads it
+unfoldable pub rows_at : {A : Type 0} → (List ℕ → Option (A × List ℕ)) → ℕ → List ℕ → Option (List A × List ℕ)
+rows_at row_at zero bytes = Some ([], bytes)
+rows_at row_at (suc n) bytes = do
+  first ← row_at bytes
+  others ← rows_at row_at n first.1
+  Some (first.0 ∷ others.0, others.1)
+
+-- the number of rows, which has limits
+unfoldable pub count_at : List ℕ → Option (ℕ × List ℕ)
+count_at [] = None
+count_at (count ∷ rest) = if nat_lt 0 count && nat_lt count 5 then Some (count, rest) else None
+
+-- the payload behind its length, which has a limit
+unfoldable pub payload_at : List ℕ → Option (List ℕ × List ℕ)
+payload_at bytes = do
+  n ← number_at w16 bytes
+  if nat_lt 1200 n.0 then None else bytes_at n.0 n.1
+
+-- each chain's number is above the one before
+abbrev pub chains_rise : List KeyRow → Bool
+chains_rise [] = true
+chains_rise (row ∷ []) = true
+chains_rise (row ∷ next ∷ rows) = nat_lt row.chain.0 next.chain.0 && chains_rise (next ∷ rows)
+
+-- all of the bytes after the kind of a data frame
+unfoldable pub data_of : List ℕ → Option DataFrame
+data_of bytes = do
+  stream ← number_at w64 bytes
+  interval ← number_at w32 stream.1
+  number ← number_at w16 interval.1
+  payload ← payload_at number.1
+  count ← count_at payload.1
+  rows ← rows_at tag_row_at count.0 count.1
+  if length rows.1 == 0
+      then Some (record { stream = record { 0 = stream.0 }; name = record { interval = interval.0; number = number.0 }; payload = payload.0; rows = rows.0 })
+      else None
+
+-- all of the bytes after the kind of a disclosure frame
+unfoldable pub keys_of : List ℕ → Option KeysFrame
+keys_of bytes = do
+  stream ← number_at w64 bytes
+  count ← count_at stream.1
+  rows ← rows_at key_row_at count.0 count.1
+  if length rows.1 == 0 && chains_rise rows.0
+      then Some (record { stream = record { 0 = stream.0 }; rows = rows.0 })
+      else None
+
+-- the kind, and what follows it
+unfoldable pub body_of : List ℕ → Option Frame
+body_of (suc zero ∷ rest) = do
+  f ← data_of rest
+  Some (Data f)
+body_of (suc (suc zero) ∷ rest) = do
+  f ← keys_of rest
+  Some (Disclosure f)
+body_of _ = None
+
+-- the frame that the bytes are, all of them
+unfoldable pub frame_of : List ℕ → Option Frame
+frame_of bytes = do
+  front ← bytes_at 5 bytes
+  if bytes_eq front.0 head then body_of front.1 else None

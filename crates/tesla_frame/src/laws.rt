@@ -1,0 +1,13 @@
+//! Laws about frames, as contracts of functions that do nothing.
+
+ghost use Rattle.std.specs.Prelude.{◌≡◌, List, ℕ, Some};
+ghost use Rattle.tesla_frame.specs.Frame.{Frame, IsFrame, AreBytes};
+ghost use Rattle.tesla_frame.specs.Reading.{frame_of};
+
+/// Reading gives the frame that the bytes are, and each frame has one spelling.
+pub fn frames()
+    // What is read is spelled so.
+    ensures found { (bytes : List ℕ) (frame : Frame) → AreBytes bytes → frame_of bytes ≡ Some frame → IsFrame bytes frame }
+    // What is spelled so is read.
+    ensures only { (bytes : List ℕ) (frame : Frame) → IsFrame bytes frame → frame_of bytes ≡ Some frame }
+{}
