@@ -1,2 +1,3 @@
+pub mod Feeding
 pub mod Hmac
 pub mod Keys

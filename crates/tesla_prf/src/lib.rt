@@ -1,2 +1,13 @@
 //! HMAC over SHA-256, the two one-way functions of a key chain, and the tags of messages.
 #![tactic(auto)]
+
+mod keyed;
+mod keys;
+mod tags;
+
+pub use keyed::hmac;
+pub use keys::{mac_key, next_key, walk_back};
+pub use tags::{same, tag};
+
+#[cfg(test)]
+mod tests;

@@ -1,0 +1,42 @@
+//! The two one-way functions of a key chain (RFC 4082, section 3.2).
+
+ghost use Rattle.std.specs.Prelude.{◌≡◌, ◌+◌};
+ghost use Rattle.tesla_prf.specs.Keys.{mac_of, next_of, walk};
+
+use crate::keyed::hmac;
+use std::sync::ledger::Ledger;
+use tesla_base::{Key, Steps};
+
+/// What a key is hashed with to give the key of the interval before, and the MAC key of its own interval.
+const NEXT: u8 = 0;
+
+const MAC: u8 = 1;
+
+/// The key of the interval before (`F` of RFC 4082): one counted step.
+pub fn next_key<L: Ledger>(key: &Key, steps: &mut Steps<L>) -> Key
+    ensures value { result ≡ next_of key.now }
+    ensures cost { steps.new ≡ steps.old + 1 }
+{
+    Key(hmac(&key.0, &[NEXT], steps))
+}
+
+/// The MAC key of the key's own interval (`F'` of RFC 4082): one counted step.
+pub fn mac_key<L: Ledger>(key: &Key, steps: &mut Steps<L>) -> Key
+    ensures value { result ≡ mac_of key.now }
+    ensures cost { steps.new ≡ steps.old + 1 }
+{
+    Key(hmac(&key.0, &[MAC], steps))
+}
+
+/// The key so many intervals before: `distance` counted steps.
+#[tactic(auto, using(crate::proofs::Walks::walk_none, crate::proofs::Walks::walk_more))]
+pub fn walk_back<L: Ledger>(key: &Key, distance: u32, steps: &mut Steps<L>) -> Key
+    ensures value { result ≡ walk key.now distance }
+    ensures cost { steps.new ≡ steps.old + distance }
+{
+    let mut walked = *key;
+    for _ in 0..distance {
+        walked = next_key(&walked, steps);
+    }
+    walked
+}
