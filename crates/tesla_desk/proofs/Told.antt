@@ -37,7 +37,7 @@ brings_front slice bytes moved tail at n same some fits is =
     let size : length moved ≡ n = ap length front ∙ length-take-le n (drop at bytes) long in
     let taken : take n (moved ++ tail) ≡ moved = ap (λ k. take k (moved ++ tail)) (sym size) ∙ take-append_seam moved tail in
     let split : take n (drop at bytes) ++ drop (at + n) bytes ≡ drop at bytes =
-        ap (λ r. take n (drop at bytes) ++ r) (sym (drop-drop n at bytes)) ∙ take-append-drop n (drop at bytes) in
+    ap (λ r. take n (drop at bytes) ++ r) (sym (drop-drop n at bytes)) ∙ take-append-drop n (drop at bytes) in
     record {
       some = some;
       fits = omega (arith, length-append moved tail, size);

@@ -24,6 +24,7 @@ pub enum OpenRefusal {
 /// it opened, which the compiler sees to.
 pub trait Desk {
     type In: Source;
+
     type Out: Sink;
 
     /// What the desk tells of the bytes under a name.

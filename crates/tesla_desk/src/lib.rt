@@ -10,14 +10,13 @@ mod shelf;
 mod sink;
 mod source;
 
+pub use desk::{CONSOLE, Desk, OpenRefusal};
 pub use heap::Heap;
 pub use memory::MemoryDesk;
 pub use pages::Pages;
-pub use desk::{CONSOLE, Desk, OpenRefusal};
 pub use sink::{Sink, WriteStep, write_all};
 pub use source::{ReadStep, Source};
 pub use tesla_base::Text;
-
 
 #[cfg(test)]
 mod tests;

@@ -71,6 +71,7 @@ impl MemoryDesk {
 
 impl Desk for MemoryDesk {
     type In = Pages;
+
     type Out = Heap;
 
     ghost page = { page_under };

@@ -48,7 +48,10 @@ fn a_page_is_copied(rt: HostRuntime) -> Result<(), Fail> {
     let mut desk = MemoryDesk::new(rt.alloc(), 16)?;
     desk.put_page("from", b"first to last")?;
     assert!(rt; copy_page(&mut desk, "from", "to"));
-    assert_eq!(rt; desk.page("to").ok_or("no page")?, b"first to last".as_slice());
+    assert_eq!(rt;
+        desk.page("to").ok_or("no page")?,
+        b"first to last".as_slice()
+    );
     assert!(rt; !copy_page(&mut desk, "nothing", "to"));
     Ok(())
 }

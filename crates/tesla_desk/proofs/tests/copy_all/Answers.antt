@@ -7,6 +7,6 @@ loop-preserved g c = record {
   size = c.read.auto.into ∙ c.loop.invariant.size;
   name = c.write_all.ensures.name ∙ c.loop.invariant.name;
   moved =
-    let before = c.loop.invariant.moved in
-    (_, after_more _ _ _ _ _ before.1 c.in-Got.ensures.step.left, with_more _ _ _ _ _ before.2 (c.if-not-write_all.ensures.all refl));
+      let before = c.loop.invariant.moved in
+      (_, after_more _ _ _ _ _ before.1 c.in-Got.ensures.step.left, with_more _ _ _ _ _ before.2 (c.if-not-write_all.ensures.all refl));
 }

@@ -1,4 +1,4 @@
-use Rattle.std.proofs.Common.{◌≡◌, ◌∙◌, sym, ap}
+use Rattle.std.proofs.Common.{◌∙◌, sym, ap}
 use Rattle.tesla_desk.proofs.Told.{page_of_holds, opened_holds, first_written}
 use Rattle.tesla_desk.proofs.tests.copy_page.Goals as goal
 

@@ -1,4 +1,4 @@
-use Rattle.std.proofs.Common.{arith, ◌<◌, ◌≤◌, ◌-◌, length, take, drop, false-eqb}
+use Rattle.std.proofs.Common.{arith, false-eqb}
 use Rattle.tesla_desk.proofs.Told.{brings_front}
 use Rattle.tesla_desk.proofs.pages.PagesSource.read.Goals as goal
 

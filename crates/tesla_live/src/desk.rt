@@ -1,0 +1,90 @@
+//! The desk of the running system.
+
+ghost use Rattle.std.specs.Prelude.{◌≡◌};
+ghost use Rattle.tesla_desk.specs.Faults.{HasCause};
+ghost use Rattle.tesla_desk.specs.Outside.{Untold};
+
+use crate::sink::Target;
+use crate::{FileSink, FileSource};
+use std::rt::Files;
+use std::{fs, io};
+use tesla_base::Text;
+use tesla_desk::{CONSOLE, Desk, OpenRefusal};
+
+/// The files of the system, and standard output under the name of the console. It tells no bytes.
+#[derive(Drop)]
+pub struct LiveDesk<'a, R> {
+    rt: &'a R,
+    reads: u64,
+    writes: u64,
+    openings: u64,
+}
+
+impl<'a, R: Files + Print + AllocGlobal> LiveDesk<'a, R> {
+    /// A desk with no faults.
+    pub fn new(rt: &'a R) -> LiveDesk<'a, R>
+        ensures reads { result.reads ≡ 0 }
+        ensures writes { result.writes ≡ 0 }
+        ensures openings { result.openings ≡ 0 }
+    {
+        LiveDesk {
+            rt,
+            reads: 0,
+            writes: 0,
+            openings: 0,
+        }
+    }
+}
+
+impl<'a, R: Files + Print + AllocGlobal> Desk for LiveDesk<'a, R> {
+    type In = FileSource<R::File>;
+
+    type Out = FileSink<'a, R>;
+
+    ghost page = { λ _ _. Untold };
+
+    ghost faults = { λ desk. record { reads = desk.reads; writes = desk.writes; openings = desk.openings } };
+
+    fn open_source(&mut self, name: &str) -> Result<FileSource<R::File>, OpenRefusal> {
+        match fs::open(self.rt, name) {
+            Ok(file) => Ok(FileSource::new(file)),
+            Err(error) => Err(refusal_of(&mut self.openings, error)),
+        }
+    }
+
+    fn open_sink(&mut self, name: &str) -> Result<FileSink<'a, R>, OpenRefusal> {
+        let Ok(own_name) = Text::new(self.rt.alloc(), name.as_bytes()) else {
+            return Err(OpenRefusal::NoMemory);
+        };
+        if name == CONSOLE {
+            return Ok(FileSink::new(own_name, Target::Console(self.rt)));
+        }
+        match fs::create(self.rt, name) {
+            Ok(file) => Ok(FileSink::new(own_name, Target::File(file))),
+            Err(error) => Err(refusal_of(&mut self.openings, error)),
+        }
+    }
+
+    fn close_source(&mut self, it: FileSource<R::File>) {
+        if 0 < it.into_faults() {
+            self.reads = self.reads.saturating_add(1);
+        }
+    }
+
+    fn close_sink(&mut self, it: FileSink<'a, R>) {
+        if 0 < it.into_faults() {
+            self.writes = self.writes.saturating_add(1);
+        }
+    }
+}
+
+// What an error of the system means for an opening. All but want of memory are faults.
+fn refusal_of(openings: &mut u64, error: io::Error) -> OpenRefusal
+    ensures { HasCause openings.old openings.new (result ≡ OpenRefusal.Failed) }
+{
+    if error.kind() == io::ErrorKind::OutOfMemory {
+        return OpenRefusal::NoMemory;
+    }
+    *openings = openings.saturating_add(1);
+    OpenRefusal::Failed
+}
