@@ -5,6 +5,7 @@ mod refusal;
 mod row;
 mod rows;
 mod setup;
+mod words;
 
 pub use refusal::{SetupKind, SetupRefusal};
 pub use row::ChainRow;

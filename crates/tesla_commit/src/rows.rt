@@ -3,7 +3,9 @@
 ghost use Rattle.std.specs.Prelude.{◌≡◌, ◌<◌, ◌≤◌, length};
 ghost use Rattle.tesla_commit.specs.Judging.{Gives, row_judged, rows_judged};
 
-use crate::{ChainRow, SetupKind, SetupRefusal};
+use crate::ChainRow;
+use crate::{SetupKind, SetupRefusal};
+use tesla_base::Key;
 
 /// The line of the first chain.
 pub const FIRST: u32 = 6;
@@ -11,20 +13,30 @@ pub const FIRST: u32 = 6;
 /// The line past the last chain that there may be.
 pub const END: u32 = 10;
 
-/// What is wrong with a row that comes after one with this delay, 0 where none comes before.
-pub fn judge_row(last: u32, before: u16, row: ChainRow) -> Result<ChainRow, SetupKind>
-    ensures { result ≡ row_judged last before row }
+/// The row of these values, after a row with the delay `before`, 0 where none comes before.
+pub fn judge_row(
+    last: u32,
+    before: u16,
+    delay: u16,
+    index: u64,
+    key: Key,
+) -> Result<ChainRow, SetupKind>
+    ensures { result ≡ row_judged last before (record { delay = delay; index = index; key = key }) }
 {
-    if row.delay < 1 || row.delay > 4096 {
+    if delay < 1 || delay > 4096 {
         return Err(SetupKind::LimitPassed);
     }
-    if row.delay <= before {
+    if delay <= before {
         return Err(SetupKind::DelaysNotRising);
     }
-    if row.index > last {
+    if index > u64::from(last) {
         return Err(SetupKind::IndexPastLast);
     }
-    Ok(row)
+    Ok(ChainRow {
+        delay,
+        index: index as u32,
+        key,
+    })
 }
 
 /// What is wrong with rows that are all rows of a setup.
@@ -40,7 +52,7 @@ pub fn judge_rows(last: u32, rows: &[ChainRow]) -> Result<(), SetupRefusal>
                 kind: SetupKind::TooManyChains,
             });
         }
-        if let Err(kind) = judge_row(last, before, *row) {
+        if let Err(kind) = judge_row(last, before, row.delay, u64::from(row.index), row.key) {
             return Err(SetupRefusal::At { line, kind });
         }
         before = row.delay;

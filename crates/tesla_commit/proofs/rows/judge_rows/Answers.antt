@@ -8,7 +8,7 @@ returns-then-line-eq-END c =
 
 pub returns-in-Err : goal.returns-in-Err
 returns-in-Err c =
-    sym c.loop-row.invariant.so_far ∙ at_refused _ _ _ _ _ _ _ c.loop-row-test.true c.if-line-eq-END.false (sym c.judge_row.ensures ∙ c.in-Err.is)
+    sym c.loop-row.invariant.so_far ∙ at_refused _ _ _ _ _ _ _ c.loop-row-test.true c.if-line-eq-END.false (sym (rw c.from.ensures at c.judge_row.ensures) ∙ c.in-Err.is)
 
 pub loop-row-preserved : goal.loop-row-preserved
 loop-row-preserved c =
@@ -16,7 +16,7 @@ loop-row-preserved c =
     record {
       place = omega arith;
       few = omega arith;
-      so_far = sym (at_step _ _ _ _ _ _ _ c.loop-row-test.true ne (sym c.judge_row.ensures ∙ c.in_default.is)) ∙ c.loop-row.invariant.so_far;
+      so_far = sym (at_step _ _ _ _ _ _ _ c.loop-row-test.true ne (sym (rw c.from.ensures at c.judge_row.ensures) ∙ c.in_default.is)) ∙ c.loop-row.invariant.so_far;
     }
 
 pub returns-then-line-eq-FIRST : goal.returns-then-line-eq-FIRST

@@ -1,0 +1,63 @@
+-- What stands between the bytes of a text: its lines, and the words of a line.
+use Rattle.std.proofs.Common.{◌≡◌, ℕ, ◌+◌, ◌-◌, ◌<◌, ◌≤◌, Bool, true, false, cond, eqb, ltb, List, [], ◌∷◌, ◌++◌, length, take, drop, get_or, Option, Some, None, Result, Ok, Err, refl, sym, ap, subst, ◌∙◌, arith}
+use Rattle.std.specs.Prelude.{position, codes}
+use Rattle.std.specs.List.{slice_split, position_or_len}
+use Rattle.std.specs.Str.{bytes_eq}
+use Rattle.std.proofs.lemmas.List.{take_all, length-drop}
+use Rattle.std.proofs.lemmas.List.Sums.{fails_before_first}
+use Rattle.std.proofs.lemmas.Bool.{ltb-false}
+use borrow.Author.Tests.{ltb-true}
+use Rattle.std.proofs.lemmas.List.Splits.{length-slice_split, slice_split_first, slice_split_none}
+use Rattle.tesla_commit.specs.Reading.{between, lines, words, next_line, value_in, chain_words}
+use Rattle.tesla_commit.specs.declared.refusal.SetupKind.{SetupKind}
+use Rattle.tesla_commit.specs.declared.refusal.SetupKind.TheVariants.{BadLine}
+
+cons_of : {A : Type 0} (xs : List A) → 1 ≤ length xs → (first : A) × (others : List A) × (xs ≡ first ∷ others)
+cons_of [] h = absurd (omega arith)
+cons_of (x ∷ xs) h = (x, xs, refl)
+
+-- there is always a first part
+pub has_first : (byte : ℕ) (text : List ℕ) → (first : List ℕ) × (others : List (List ℕ)) × (between byte text ≡ first ∷ others)
+unfolding between
+has_first byte text =
+    let count = length-slice_split (λ b. eqb b byte) text in
+    cons_of (slice_split (λ b. eqb b byte) text) (omega arith)
+
+pub next_line_is : (number : ℕ) (text line rest : List ℕ) → between 10 text ≡ line ∷ between 10 rest → next_line number (between 10 text) ≡ Ok (line, between 10 rest)
+next_line_is number text line rest h =
+    let n = has_first 10 rest in
+    rw (h, n.2) refl
+
+pub value_more : (name line first value second more : List ℕ) → between 32 line ≡ first ∷ between 32 value → between 32 value ≡ second ∷ between 32 more → value_in name (between 32 line) ≡ Err BadLine
+value_more name line first value second more h k =
+    let n = has_first 32 more in
+    rw (h, k, n.2) refl
+
+pub chain_more : (line first a delay b index c key more : List ℕ) → between 32 line ≡ first ∷ between 32 a → between 32 a ≡ delay ∷ between 32 b → between 32 b ≡ index ∷ between 32 c → between 32 c ≡ key ∷ between 32 more → chain_words (between 32 line) ≡ Err BadLine
+chain_more line first a delay b index c key more h0 h1 h2 h3 =
+    let n = has_first 32 more in
+    rw (h0, h1, h2, h3, n.2) refl
+
+at_most : (b : Bool) (place : ℕ) → cond b (Some place) None ≡ None → b ≡ false
+at_most true place h = absurd cc
+at_most false place h = refl
+
+at_place : (b : Bool) (place other : ℕ) → cond b (Some place) None ≡ Some other → (b ≡ true) × (place ≡ other)
+at_place true place other h = (refl, cc)
+at_place false place other h = absurd cc
+
+pub not_found : (byte : ℕ) (text : List ℕ) → position (λ b. eqb b byte) text ≡ None → between byte text ≡ text ∷ []
+unfolding between
+not_found byte text h =
+    let p = position_or_len (λ b. eqb b byte) text in
+    let past : length text ≤ p = ltb-false _ _ (at_most (ltb p (length text)) p h) in
+    slice_split_none (λ b. eqb b byte) text (λ k d lt. fails_before_first (λ b. eqb b byte) text k d (omega (arith, past)))
+
+pub found_at : (byte : ℕ) (text : List ℕ) (place : ℕ) → position (λ b. eqb b byte) text ≡ Some place → (place < length text) × (between byte text ≡ take place text ∷ between byte (take (length text - (place + 1)) (drop (place + 1) text)))
+unfolding between
+found_at byte text place h =
+    let p = position_or_len (λ b. eqb b byte) text in
+    let a = at_place (ltb p (length text)) p place h in
+    let lt : p < length text = ltb-true _ _ a.0 in
+    let whole : take (length text - (place + 1)) (drop (place + 1) text) ≡ drop (place + 1) text = take_all _ _ (omega (arith, length-drop (place + 1) text)) in
+    (rw (← a.1) lt, rw (whole, ← a.1) (slice_split_first (λ b. eqb b byte) text 0 lt))
