@@ -5,3 +5,5 @@ pub mod Held
 pub mod Answer
 pub mod History
 pub mod Book
+pub mod Report
+pub mod Played

@@ -7,6 +7,7 @@ mod history;
 mod keys;
 mod packet;
 mod release;
+mod report;
 mod verdict;
 
 pub use book::Book;
@@ -14,4 +15,5 @@ pub use config::Config;
 pub use history::{Arrival, Entry, Reply};
 pub use packet::Packet;
 pub use release::Release;
+pub use report::Report;
 pub use verdict::Verdict;
