@@ -1,14 +1,14 @@
 -- The records of a body, one after the other, and the two laws of captures.
-use Rattle.std.proofs.Common.{◌≡◌, ℕ, zero, suc, ◌<◌, ◌≤◌, Bool, true, false, cond, eqb, List, [], ◌∷◌, ◌++◌, length, Option, Some, None, refl, sym, ap, subst, ◌∙◌, append_assoc, arith}
+use Rattle.std.proofs.Common.{◌≡◌, ℕ, zero, suc, ◌<◌, ◌≤◌, Bool, true, false, cond, eqb, List, [], ◌∷◌, ◌++◌, length, Option, Some, None, refl, sym, ap, subst, ◌∙◌, arith}
 use Rattle.std.specs.Prelude.{bytes_eq, option_map, is_some, IsTrue, ◌↔◌}
 use Rattle.std.specs.List.{flat_map, AllByRecursion}
 use Rattle.std.proofs.lemmas.Bool.{eqb-true}
 use Rattle.std.proofs.lemmas.List.{nil_from_length}
 use Rattle.std.proofs.lemmas.List.Concat.{flat_map-cons}
 use Rattle.std.proofs.lemmas.Slice.Eq.{bytes_eq-Decides}
-use Rattle.tesla_capture.specs.Capture.{Record, Arrives, AreBytes, head, record_text, capture_text, IsRecord, IsCapture}
+use Rattle.tesla_capture.specs.Capture.{Record, AreBytes, head, record_text, capture_text, IsRecord, IsCapture}
 use Rattle.tesla_capture.specs.Reading.{◌>>=◌, bytes_at, record_at, records_within, records_after, body_of, records_of}
-use Rattle.tesla_capture.proofs.Spelled.{bind_some, test_some, done, some_is, Takes, bytes_take, bytes_again, record_takes, record_again, record_shorter}
+use Rattle.tesla_capture.proofs.Spelled.{bind_some, test_some, some_is, bytes_take, bytes_again, record_takes, record_again, record_shorter}
 
 -- a record with those behind it, from what the front gives
 abbrev with_others : ℕ → Option (Record × List ℕ) → Option (List Record)
@@ -22,10 +22,10 @@ within_same zero m (b ∷ bytes) ln lm = absurd (omega arith)
 within_same (suc n) zero (b ∷ bytes) ln lm = absurd (omega arith)
 within_same (suc n) (suc m) (b ∷ bytes) ln lm =
     let step : (first : Option (Record × List ℕ)) → record_at (b ∷ bytes) ≡ first → with_others n first ≡ with_others m first = λ first e.
-      (elim first as (λ o. record_at (b ∷ bytes) ≡ o → with_others n o ≡ with_others m o) [
-        | None ↦ λ h. refl
-        | Some x ↦ λ h. (let short = record_shorter (b ∷ bytes) x h in ap (λ (o : Option (List Record)). o >>= λ others. Some (x.0 ∷ others)) (within_same n m x.1 (omega (arith, short)) (omega (arith, short))))
-      ]) e in
+    (elim first as (λ o. record_at (b ∷ bytes) ≡ o → with_others n o ≡ with_others m o) [
+      | None ↦ λ h. refl
+      | Some x ↦ λ h. (let short = record_shorter (b ∷ bytes) x h in ap (λ (o : Option (List Record)). o >>= λ others. Some (x.0 ∷ others)) (within_same n m x.1 (omega (arith, short)) (omega (arith, short))))
+    ]) e in
     step (record_at (b ∷ bytes)) refl
 
 map_is : {A B : Type 0} (f : A → B) (o : Option A) → (o >>= λ x. Some (f x)) ≡ option_map f o
@@ -126,6 +126,7 @@ found_in None h = absurd cc
 found_in (Some x) h = (x, refl)
 
 pub is_a_capture : (bytes : List ℕ) (b : Bool) → AreBytes bytes → b ≡ is_some (records_of bytes) → IsTrue b ↔ ((records : List Record) × IsCapture bytes records)
-is_a_capture bytes b fits e =
-    (λ h. (let s = found_in (records_of bytes) (subst IsTrue e h) in (s.0, capture_takes bytes s.0 fits s.1)),
-      λ p. subst IsTrue (sym e) (subst (λ (o : Option (List Record)). IsTrue (is_some o)) (sym (capture_again bytes p.0 p.1)) refl))
+is_a_capture bytes b fits e = (
+  λ h. (let s = found_in (records_of bytes) (subst IsTrue e h) in (s.0, capture_takes bytes s.0 fits s.1)),
+  λ p. subst IsTrue (sym e) (subst (λ (o : Option (List Record)). IsTrue (is_some o)) (sym (capture_again bytes p.0 p.1)) refl),
+)

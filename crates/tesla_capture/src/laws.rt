@@ -10,8 +10,7 @@ pub fn captures()
     ensures found { (bytes : List ℕ) (records : List Record) → AreBytes bytes → records_of bytes ≡ Some records → IsCapture bytes records }
     // What is spelled so is read.
     ensures only { (bytes : List ℕ) (records : List Record) → IsCapture bytes records → records_of bytes ≡ Some records }
-{
-}
+{}
 
 /// The records of a rest, one record after the other.
 pub fn records()
@@ -25,5 +24,4 @@ pub fn records()
     ensures shorter { (rest after : List ℕ) (first : Record) → record_at rest ≡ Some (first, after) → length after < length rest }
     // The records of a capture are those of what stands after its head.
     ensures body { (bytes rest : List ℕ) → body_of bytes ≡ Some rest → records_of bytes ≡ records_after rest }
-{
-}
+{}

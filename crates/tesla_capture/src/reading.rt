@@ -10,7 +10,7 @@ ghost use Rattle.tesla_capture.specs.Shown.{shown};
 use crate::record::Record;
 
 /// The first bytes of every capture: the magic, and version 1.
-const HEAD: [u8; 5] = [b'T', b'C', b'A', b'P', 1];
+pub const HEAD: [u8; 5] = [b'T', b'C', b'A', b'P', 1];
 
 fn u16_of(bytes: &[u8]) -> Option<(u16, &[u8])>
     ensures { option_map (λ x. (x.0, x.1.now)) result ≡ number_at w16 bytes.now }
@@ -82,7 +82,11 @@ pub fn body(bytes: &[u8]) -> Option<&[u8]>
         return None;
     }
     let (front, rest) = bytes.split_at(5);
-    if front == HEAD.as_slice() { Some(rest) } else { None }
+    if front == HEAD.as_slice() {
+        Some(rest)
+    } else {
+        None
+    }
 }
 
 /// The whole record at the front, and what stands after it. None where there is none: nothing is left,

@@ -1,4 +1,4 @@
-use Rattle.std.proofs.Common.{sym, ap, arith, is_some}
+use Rattle.std.proofs.Common.{sym, ap, is_some}
 use Rattle.tesla_capture.specs.Shown.{shown}
 use Rattle.tesla_capture.proofs.Records.{of_body, of_other, whole_after, not_whole, whole_at_end}
 use Rattle.tesla_capture.proofs.reading.has_records.Goals as goal
