@@ -19,6 +19,8 @@ pub struct Tag(pub [u8; 16]);
 /// The name of a message: its interval, and its number within the interval.
 #[derive(Clone, Copy, Debug, PartialEq, Eq)]
 pub struct Name {
+    /// The interval in which the message was made.
     pub interval: u32,
+    /// Which of the interval's messages it is, counted from 0.
     pub number: u16,
 }

@@ -101,11 +101,12 @@ fn negated(magnitude: u64) -> Result<i64, NumberFault>
 {
     match magnitude {
         0 => Err(NumberFault::LeadingZero),
+        // 2^63 isn't an i64, but its negation is.
         _ => Ok(-((magnitude - 1) as i64) - 1),
     }
 }
 
-/// `read_signed`.
+/// What `read_signed` answers.
 #[tactic(auto, unfolding(crate::specs::Number::signed_of))]
 fn signed(text: &[u8]) -> Result<i64, NumberFault>
     ensures { result ≡ signed_of text.now }
