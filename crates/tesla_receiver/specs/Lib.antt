@@ -1,0 +1,9 @@
+pub mod Config
+pub mod Keys
+pub mod Packets
+pub mod Held
+pub mod Answer
+pub mod History
+pub mod Book
+pub mod Report
+pub mod Played

@@ -1,0 +1,5 @@
+pub mod Enumerated
+pub mod EachAfter
+pub mod Newest
+pub mod Finds
+pub mod Verified

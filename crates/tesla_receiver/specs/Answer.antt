@@ -1,0 +1,79 @@
+-- The one answer of a receiver to each event.
+use Rattle.std.specs.Prelude.{ℕ, ◌+◌, Bool, true, not, ◌&&◌, ◌||◌, List, [], ◌∷◌, ◌++◌, length, Option, Some, None, is_some, unwrap_or, option_map, nat_lt, ◌==◌, if◌then◌else◌, find}
+use Rattle.std.specs.List.{list_any, enumerate_from}
+use Rattle.tesla_base.specs.declared.names.StreamId.{StreamId}
+use Rattle.tesla_clock.specs.Schedule.{bound_of}
+use Rattle.tesla_frame.specs.declared.row.KeyRow.{KeyRow}
+use Rattle.tesla_frame.specs.Frame.{Frame, Data, Disclosure, DataFrame, TagRow}
+use Rattle.tesla_frame.specs.Reading.{frame_of}
+use Rattle.tesla_receiver.specs.declared.history.Arrival.{Arrival}
+use Rattle.tesla_receiver.specs.declared.verdict.Verdict.{Verdict}
+use Rattle.tesla_receiver.specs.declared.verdict.Verdict.TheVariants.{Malformed, Foreign, Misfit, Future, BadKey, Late, Repeat, Full, Kept, Keys}
+use Rattle.tesla_receiver.specs.declared.config.Config.{Config}
+use Rattle.tesla_receiver.specs.Config.{chains, chain_row}
+use Rattle.tesla_receiver.specs.Keys.{keys_of, newest, is_good}
+use Rattle.tesla_receiver.specs.Packets.{chain_set, is_safe, has_name, released}
+use Rattle.tesla_receiver.specs.Held.{held_of}
+
+abbrev pub stream_of : Frame → StreamId
+stream_of (Data f) = f.stream
+stream_of (Disclosure f) = f.stream
+
+-- the frame doesn't fit the setup
+abbrev pub is_misfit : Config → Frame → Bool
+is_misfit cfg (Data f) =
+    f.name.interval == 0 || nat_lt cfg.setup.times.last f.name.interval || not (length f.rows == length cfg.setup.rows)
+    || list_any (λ (p : ℕ × TagRow). is_some p.1.key && nat_lt f.name.interval (chain_row cfg p.0).delay) (enumerate_from 0 f.rows)
+is_misfit cfg (Disclosure f) =
+    list_any (λ row. not (nat_lt row.chain.0 (length cfg.setup.rows)) || nat_lt cfg.setup.times.last row.index) f.rows
+
+-- the sender's interval can't have reached the frame's yet
+abbrev pub is_future : Config → Option ℕ → Frame → Bool
+is_future cfg None frame = true
+is_future cfg (Some bound) (Data f) = nat_lt bound f.name.interval
+is_future cfg (Some bound) (Disclosure f) = list_any (λ row. nat_lt bound (row.index + (chain_row cfg row.chain.0).delay)) f.rows
+
+-- a key that is newer than those taken before and isn't good
+abbrev pub is_bad : Config → List Arrival → KeyRow → Bool
+is_bad cfg arrivals row = nat_lt (newest cfg arrivals row.chain.0) row.index && not (is_good cfg arrivals row)
+
+-- the chains that are safe for a packet of the interval
+abbrev pub safe_chains : Config → List Arrival → Option ℕ → ℕ → ℕ
+safe_chains cfg arrivals None interval = 0
+safe_chains cfg arrivals (Some bound) interval = chain_set (is_safe cfg arrivals bound interval) (length cfg.setup.rows)
+
+-- the verdict on a data frame whose keys are taken
+abbrev pub packet_verdict : Config → List Arrival → ℕ → ℕ → DataFrame → Verdict
+packet_verdict cfg arrivals given set f =
+    if set == 0 then Late
+    else (if list_any (has_name f.name) (released cfg arrivals) then Repeat
+    else (if held_of cfg arrivals given None == cfg.capacity
+        || held_of cfg arrivals given (Some f.name.interval) == cfg.quota then Full
+    else Kept set))
+
+-- the verdict on a frame whose keys are taken; `arrivals` has it at its end
+abbrev pub verdict_taken : Config → List Arrival → ℕ → Option ℕ → Frame → Verdict
+verdict_taken cfg arrivals given bound (Data f) =
+    packet_verdict cfg arrivals given (safe_chains cfg arrivals bound f.name.interval) f
+verdict_taken cfg arrivals given bound (Disclosure f) = Keys
+
+-- why a frame is refused before its keys are taken
+abbrev pub refusal : Config → List Arrival → Option ℕ → Frame → Option Verdict
+refusal cfg arrivals bound frame =
+    if not ((stream_of frame).0 == cfg.setup.stream.0) then Some (Foreign (stream_of frame))
+    else (if is_misfit cfg frame then Some Misfit
+    else (if is_future cfg bound frame then Some (Future bound)
+    else option_map (λ row. BadKey row.chain) (find (is_bad cfg arrivals) (keys_of cfg frame))))
+
+abbrev pub verdict_on : Config → List Arrival → ℕ → Arrival → Option ℕ → Option Frame → Verdict
+verdict_on cfg arrivals given late bound None = Malformed
+verdict_on cfg arrivals given late bound (Some frame) =
+    unwrap_or (refusal cfg arrivals bound frame) (verdict_taken cfg (arrivals ++ late ∷ []) given bound frame)
+
+abbrev pub late_arrival : ℕ → ℕ → List ℕ → Arrival
+late_arrival ingest reading bytes = record { ingest = ingest; reading = reading; bytes = bytes; verdict = Late }
+
+-- the verdict on an arrival after the earlier ones, when so many packets were given
+unfoldable pub verdict_of : Config → List Arrival → ℕ → ℕ → ℕ → List ℕ → Verdict
+verdict_of cfg arrivals given ingest reading bytes =
+    verdict_on cfg arrivals given (late_arrival ingest reading bytes) (bound_of cfg.setup.times cfg.lag reading) (frame_of bytes)

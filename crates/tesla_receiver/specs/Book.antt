@@ -1,0 +1,18 @@
+-- What a receiver has seen: its configuration, and the arrivals with their verdicts.
+use Rattle.std.specs.Prelude.{◌≡◌, List}
+use Rattle.tesla_frame.specs.declared.row.KeyRow.{KeyRow}
+use Rattle.tesla_receiver.specs.declared.config.Config.{Config}
+use Rattle.tesla_receiver.specs.declared.history.Arrival.{Arrival}
+use Rattle.tesla_receiver.specs.declared.release.Release.{Release}
+use Rattle.tesla_receiver.specs.Keys.{fresh_keys}
+use Rattle.tesla_receiver.specs.Packets.{candidates, released}
+
+pub record Seen : Type 0 where
+  pub config : Config
+  pub arrivals : List Arrival
+
+-- the lists that are kept beside the arrivals are those that the definitions name
+pub record IsKept (config : Config) (arrivals : List Arrival) (new : List KeyRow) (proved given : List Release) : Type 0 where
+  pub fresh : new ≡ fresh_keys config arrivals
+  pub candidates : proved ≡ candidates config arrivals
+  pub released : given ≡ released config arrivals

@@ -1,0 +1,46 @@
+-- How many packets have a place.
+use Rattle.std.specs.Prelude.{ℕ, Bool, true, false, not, ◌&&◌, ◌||◌, List, take, Option, Some, None, nat_le, ◌==◌, count_by}
+use Rattle.std.specs.List.{list_any, list_all, enumerate_from}
+use Rattle.tesla_receiver.specs.declared.history.Arrival.{Arrival}
+use Rattle.tesla_receiver.specs.declared.release.Release.{Release}
+use Rattle.tesla_receiver.specs.declared.config.Config.{Config}
+use Rattle.tesla_receiver.specs.Config.{chains}
+use Rattle.tesla_receiver.specs.Keys.{newest}
+use Rattle.tesla_receiver.specs.declared.packet.Packet.{Packet}
+use Rattle.tesla_receiver.specs.Packets.{packet_of, has_chain, candidates, released}
+
+abbrev pub is_at : ℕ → Release → Bool
+is_at place release = release.place == place
+
+-- a key of the chain that reaches the interval was taken
+abbrev pub has_passed : Config → List Arrival → ℕ → ℕ → Bool
+has_passed cfg arrivals interval chain = nat_le interval (newest cfg arrivals chain)
+
+-- the packet was proved, or no chain can prove it any more
+abbrev pub is_settled : Config → List Arrival → ℕ → Packet → Bool
+is_settled cfg arrivals place packet =
+    list_any (is_at place) (candidates cfg arrivals)
+    || list_all (λ chain. not (has_chain packet.chains chain) || has_passed cfg arrivals packet.frame.name.interval chain) (chains cfg)
+
+-- the packet is settled and isn't released, or it was given and every chain has passed it
+abbrev pub is_gone : Config → List Arrival → ℕ → ℕ → Packet → Bool
+is_gone cfg arrivals given place packet =
+    is_settled cfg arrivals place packet && not (list_any (is_at place) (released cfg arrivals))
+    || list_any (is_at place) (take given (released cfg arrivals))
+      && list_all (has_passed cfg arrivals packet.frame.name.interval) (chains cfg)
+
+-- any interval, or the one that is told
+abbrev pub is_asked : Option ℕ → ℕ → Bool
+is_asked None interval = true
+is_asked (Some asked) interval = interval == asked
+
+-- the packet is of the interval, if one is told, and isn't gone
+abbrev pub has_place : Config → List Arrival → ℕ → Option ℕ → ℕ → Option Packet → Bool
+has_place cfg arrivals given asked place None = false
+has_place cfg arrivals given asked place (Some packet) =
+    is_asked asked packet.frame.name.interval && not (is_gone cfg arrivals given place packet)
+
+-- how many kept packets aren't gone: of one interval, or of all
+unfoldable pub held_of : Config → List Arrival → ℕ → Option ℕ → ℕ
+held_of cfg arrivals given asked =
+    count_by (λ (p : ℕ × Arrival). has_place cfg arrivals given asked p.0 (packet_of p.1)) (enumerate_from 0 arrivals)

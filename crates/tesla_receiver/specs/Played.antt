@@ -1,0 +1,31 @@
+-- The one history that a capture plays.
+use Rattle.std.specs.Prelude.{ℕ, suc, ◌-◌, Bool, true, false, List, [], ◌∷◌, ◌++◌, length, map, replicate}
+use Rattle.tesla_capture.specs.Capture.{Record} 
+use Rattle.tesla_capture.specs.Capture as captures
+use Rattle.tesla_receiver.specs.declared.config.Config.{Config}
+use Rattle.tesla_receiver.specs.declared.history.Entry.{Entry}
+use Rattle.tesla_receiver.specs.Packets.{released}
+use Rattle.tesla_receiver.specs.History.{Event, Arrives, Takes, Ends, entry_of, arrivals_in, given_in}
+
+-- a record of a capture, as an arrival of ingest 0 or a take of releaser 0
+abbrev pub event_in : Record → Event
+event_in (captures.Arrives reading bytes) = Arrives 0 reading bytes
+event_in captures.Takes = Takes 0
+
+-- the history after these events, each with its answer
+abbrev pub after_events : Config → List Entry → List Event → List Entry
+after_events cfg history [] = history
+after_events cfg history (event ∷ events) = after_events cfg (history ++ entry_of cfg history event ∷ []) events
+
+-- how many released packets wait to be taken
+abbrev pub waiting_in : Config → List Entry → ℕ
+waiting_in cfg history = length (released cfg (arrivals_in history)) - given_in history
+
+-- the history after the end of ingest 0 and takes up to and with the first that is over: one for each packet that waits, and one more
+abbrev pub finished : Config → List Entry → List Entry
+finished cfg history = after_events cfg (after_events cfg history (Ends 0 ∷ [])) (replicate (suc (waiting_in cfg history)) (Takes 0))
+
+-- the history that the records of a capture play, with its end where the capture is whole
+abbrev pub played : Config → List Record → Bool → List Entry
+played cfg records true = finished cfg (after_events cfg [] (map event_in records))
+played cfg records false = after_events cfg [] (map event_in records)

@@ -1,0 +1,56 @@
+-- The counts of a history, and the release records that it gave.
+use Rattle.std.specs.Prelude.{ℕ, Bool, true, false, List, [], ◌++◌, length, ◌==◌, if◌then◌else◌, count_by, flat_map}
+use Rattle.tesla_capture.specs.Release.{release_text}
+use Rattle.tesla_receiver.specs.declared.history.Arrival.{Arrival}
+use Rattle.tesla_receiver.specs.declared.history.Entry.{Entry}
+use Rattle.tesla_receiver.specs.declared.history.Entry.TheVariants.{Arrived, Taken, Ended}
+use Rattle.tesla_receiver.specs.declared.history.Reply.{Reply}
+use Rattle.tesla_receiver.specs.declared.history.Reply.TheVariants.{Given, Empty, Over}
+use Rattle.tesla_receiver.specs.declared.report.Report.{Report}
+use Rattle.tesla_receiver.specs.declared.verdict.Verdict.{Verdict}
+use Rattle.tesla_receiver.specs.declared.verdict.Verdict.TheVariants.{Malformed, Foreign, Misfit, Future, BadKey, Late, Repeat, Full, Kept, Keys}
+use Rattle.tesla_receiver.specs.History.{arrivals_in, given_in}
+
+-- the place of a verdict in a report
+abbrev pub line_of : Verdict → ℕ
+line_of Malformed = 1
+line_of (Foreign stream) = 2
+line_of Misfit = 3
+line_of (Future bound) = 4
+line_of (BadKey chain) = 5
+line_of Late = 6
+line_of Repeat = 7
+line_of Full = 8
+line_of (Kept chains) = 9
+line_of Keys = 10
+
+-- how many arrivals have a verdict of this line
+abbrev pub count_of : ℕ → List Arrival → ℕ
+count_of line arrivals = count_by (λ arrival. line_of arrival.verdict == line) arrivals
+
+abbrev pub report_on : List Arrival → ℕ → Report
+report_on arrivals given =
+    record {
+      arrivals = length arrivals; malformed = count_of 1 arrivals; foreign = count_of 2 arrivals; misfit = count_of 3 arrivals;
+      future = count_of 4 arrivals; badkey = count_of 5 arrivals; late = count_of 6 arrivals; repeat = count_of 7 arrivals;
+      full = count_of 8 arrivals; kept = count_of 9 arrivals; keys = count_of 10 arrivals; given = given;
+    }
+
+-- the report of a history
+abbrev pub report_of : List Entry → Report
+report_of history = report_on (arrivals_in history) (given_in history)
+
+abbrev pub text_given : Reply → List ℕ
+text_given (Given head payload) = release_text head payload
+text_given Empty = []
+text_given Over = []
+
+-- the release record of a take by this releaser that gave a packet
+abbrev pub record_in : ℕ → Entry → List ℕ
+record_in releaser (Taken taker reply) = if taker == releaser then text_given reply else []
+record_in releaser (Arrived arrival) = []
+record_in releaser (Ended ingest) = []
+
+-- the release records of a releaser's takes, in order
+abbrev pub records_of : ℕ → List Entry → List ℕ
+records_of releaser history = flat_map (record_in releaser) history

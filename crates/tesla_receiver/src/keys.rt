@@ -1,0 +1,111 @@
+//! The keys that frames carry.
+
+ghost use Rattle.std.specs.Prelude.{◌≡◌, [], ◌∷◌, not, ◌||◌, IfOk, flat_map};
+ghost use Rattle.std.specs.List.{enumerate_from, list_all};
+ghost use Rattle.tesla_frame.specs.Shown.{shown};
+ghost use Rattle.tesla_receiver.specs.Config.{chain_row};
+ghost use Rattle.tesla_receiver.specs.Keys.{greatest, carried, keys_of, leads_to, is_of};
+
+use crate::Config;
+use std::alloc::Global;
+use std::sync::ledger::Ledger;
+use tesla_base::{ChainNo, Key, NoMemory, Steps};
+use tesla_commit::ChainRow;
+use tesla_frame::{DataView, FrameView, KeyRow, KeysView};
+
+/// The commitment and delay of a chain, or an empty row where the setup has no such chain.
+pub fn chain_row(config: &Config, chain: u8) -> ChainRow
+    ensures { result ≡ chain_row config.now chain }
+{
+    if chain < config.setup.count() {
+        config.setup.row(chain)
+    } else {
+        ChainRow {
+            delay: 0,
+            index: 0,
+            key: Key([0; 32]),
+        }
+    }
+}
+
+/// The greatest of these indexes and of those of the chain's rows.
+pub fn greatest(rows: &[KeyRow], chain: u8, index: u32) -> u32
+    ensures { result ≡ greatest chain index rows.now }
+{
+    rows.iter()
+        .filter(|row| row.chain.0 == chain)
+        .fold(index, |newest, row| newest.max(row.index))
+}
+
+/// The keys that a frame carries.
+pub fn keys_of(
+    alloc: Global,
+    config: &Config,
+    frame: &FrameView<'_>,
+) -> Result<Vec<KeyRow>, NoMemory>
+    ensures { IfOk result (λ rows. rows.items ≡ keys_of config.now (shown frame.now)) }
+{
+    match frame {
+        FrameView::Data(data) => data_keys(alloc, config, data),
+        FrameView::Disclosure(keys) => disclosed_keys(alloc, keys),
+    }
+}
+
+fn data_keys(
+    alloc: Global,
+    config: &Config,
+    frame: &DataView<'_>,
+) -> Result<Vec<KeyRow>, NoMemory>
+    ensures { IfOk result (λ rows. rows.items ≡
+        flat_map (λ p. carried config.now frame.now.name.interval p.0 p.1.key) (enumerate_from 0 frame.now.rows)) }
+{
+    let interval = frame.name().interval;
+    let mut rows = Vec::new(alloc);
+    for chain in 0..frame.count() {
+        if let Some(key) = frame.key(chain) {
+            rows.push(carried_row(config, interval, chain, key))?;
+        }
+    }
+    Ok(rows)
+}
+
+fn carried_row(config: &Config, interval: u32, chain: u8, key: Key) -> KeyRow
+    ensures { carried config.now interval chain (Some key) ≡ result ∷ [] }
+{
+    let delay = u32::from(chain_row(config, chain).delay);
+    KeyRow {
+        chain: ChainNo(chain),
+        index: interval.saturating_sub(delay),
+        key,
+    }
+}
+
+fn disclosed_keys(alloc: Global, frame: &KeysView<'_>) -> Result<Vec<KeyRow>, NoMemory>
+    ensures { IfOk result (λ rows. rows.items ≡ frame.now.rows) }
+{
+    let mut rows = Vec::new(alloc);
+    for place in 0..frame.count() {
+        rows.push(frame.row(place))?;
+    }
+    Ok(rows)
+}
+
+/// Whether a key walks to another of its chain, whose index isn't above its own.
+pub fn leads_to<L: Ledger>(row: &KeyRow, index: u32, key: &Key, steps: &mut Steps<L>) -> bool
+    ensures { result ≡ leads_to row.now index key.now }
+{
+    let walked = tesla_prf::walk_back(&row.key, row.index.saturating_sub(index), steps);
+    walked.0.as_slice() == key.0.as_slice()
+}
+
+/// Whether a key walks to each of these keys that is of its chain.
+pub fn leads_to_each<L: Ledger>(row: &KeyRow, others: &[KeyRow], steps: &mut Steps<L>) -> bool
+    ensures { result ≡ list_all (λ other. not (is_of row.now.chain.0 other) || leads_to row.now other.index other.key) others.now }
+{
+    for other in others {
+        if other.chain.0 == row.chain.0 && !leads_to(row, other.index, &other.key, steps) {
+            return false;
+        }
+    }
+    true
+}
