@@ -3,6 +3,7 @@
 #![tactic(auto)]
 
 mod field;
+mod front;
 mod memory;
 mod names;
 mod number;
@@ -10,6 +11,7 @@ mod steps;
 mod text;
 
 pub use field::{u16_at, u32_at, u64_at};
+pub use front::{take_u16, take_u32, take_u64};
 pub use memory::NoMemory;
 pub use names::{ChainNo, Key, Name, StreamId, Tag};
 pub use number::{NumberFault, read_decimal, read_signed};

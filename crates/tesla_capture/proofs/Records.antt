@@ -6,9 +6,11 @@ use Rattle.std.proofs.lemmas.Bool.{eqb-true}
 use Rattle.std.proofs.lemmas.List.{nil_from_length}
 use Rattle.std.proofs.lemmas.List.Concat.{flat_map-cons}
 use Rattle.std.proofs.lemmas.Slice.Eq.{bytes_eq-Decides}
-use Rattle.tesla_capture.specs.Capture.{Record, AreBytes, head, record_text, capture_text, IsRecord, IsCapture}
-use Rattle.tesla_capture.specs.Reading.{◌>>=◌, bytes_at, record_at, records_within, records_after, body_of, records_of}
-use Rattle.tesla_capture.proofs.Spelled.{bind_some, test_some, some_is, bytes_take, bytes_again, record_takes, record_again, record_shorter}
+use Rattle.tesla_base.specs.Front.{AreBytes, ◌>>=◌, bytes_front}
+use Rattle.tesla_base.proofs.Fronts.{bind_some, test_some, some_is, bytes_take, bytes_again}
+use Rattle.tesla_capture.specs.Capture.{Record, head, record_text, capture_text, IsRecord, IsCapture}
+use Rattle.tesla_capture.specs.Reading.{record_at, records_within, records_after, body_of, records_of}
+use Rattle.tesla_capture.proofs.Spelled.{record_takes, record_again, record_shorter}
 
 -- a record with those behind it, from what the front gives
 abbrev with_others : ℕ → Option (Record × List ℕ) → Option (List Record)
@@ -81,7 +83,7 @@ pub capture_takes : (bytes : List ℕ) (records : List Record) → AreBytes byte
 unfolding records_of body_of records_after
 capture_takes bytes records fits e =
     let b = bind_some (body_of bytes) (λ rest. records_after rest) records e in
-    let s = bind_some (bytes_at 5 bytes) (λ front. cond (bytes_eq front.0 head) (Some front.1) None) b.0 b.1 in
+    let s = bind_some (bytes_front 5 bytes) (λ front. cond (bytes_eq front.0 head) (Some front.1) None) b.0 b.1 in
     let g = test_some (bytes_eq s.0.0 head) (Some s.0.1) b.0 s.2 in
     let same : s.0.0 ≡ head = (bytes_eq-Decides s.0.0 head).0 g.0 in
     let front = bytes_take 5 bytes s.0 fits s.1 in
@@ -93,7 +95,7 @@ capture_takes bytes records fits e =
 pub capture_again : (bytes : List ℕ) (records : List Record) → IsCapture bytes records → records_of bytes ≡ Some records
 unfolding body_of
 capture_again bytes records is =
-    let front : bytes_at 5 (capture_text records) ≡ Some (head, flat_map record_text records) = bytes_again 5 head (flat_map record_text records) refl in
+    let front : bytes_front 5 (capture_text records) ≡ Some (head, flat_map record_text records) = bytes_again 5 head (flat_map record_text records) refl in
     let rest : body_of (capture_text records) ≡ Some (flat_map record_text records) = rw front refl in
     ap records_of is.spelled ∙ of_body (capture_text records) (flat_map record_text records) rest ∙ after_again records is.limits
 

@@ -2,6 +2,7 @@
 use Rattle.std.specs.Prelude.{◌≡◌, ℕ, ◌<◌, ◌≤◌, ◌^◌, List, [], ◌∷◌, ◌++◌, length, codes}
 use Rattle.std.specs.List.{flat_map, AllByRecursion}
 use Rattle.std.specs.Int.{w16, w64, to_be_bytes}
+pub use Rattle.tesla_base.specs.Front.{AreBytes}
 
 -- a datagram that came when the receiver's clock gave the reading, or a take of the next released packet
 pub data Record : Type 0 where
@@ -21,10 +22,6 @@ record_text Takes = 2 ∷ []
 -- the one spelling of a capture
 abbrev pub capture_text : List Record → List ℕ
 capture_text records = head ++ flat_map record_text records
-
--- each byte is one
-abbrev pub AreBytes : List ℕ → Type 0
-AreBytes bytes = AllByRecursion (λ b. b < 256) bytes
 
 -- the limits of a record's fields
 abbrev pub IsRecord : Record → Type 0

@@ -1,7 +1,8 @@
 //! Laws about captures, as contracts of functions that do nothing.
 
 ghost use Rattle.std.specs.Prelude.{◌≡◌, ◌<◌, ◌∷◌, [], List, ℕ, Some, None, length, option_map};
-ghost use Rattle.tesla_capture.specs.Capture.{Record, IsCapture, AreBytes};
+ghost use Rattle.tesla_base.specs.Front.{AreBytes};
+ghost use Rattle.tesla_capture.specs.Capture.{Record, IsCapture};
 ghost use Rattle.tesla_capture.specs.Reading.{records_of, records_after, record_at, body_of};
 
 /// Reading gives the records of a capture, and each capture has one spelling.

@@ -1,45 +1,22 @@
 //! Captures read from memory, record after record.
 
 ghost use Rattle.std.specs.Prelude.{◌≡◌, ◌<◌, length, option_map, is_some, IfSome, IsTrue, ◌↔◌, List};
-ghost use Rattle.std.specs.Int.{w16, w64};
 ghost use Rattle.tesla_capture.specs.Capture as captures;
 ghost use Rattle.tesla_capture.specs.Capture.{IsCapture};
-ghost use Rattle.tesla_capture.specs.Reading.{number_at, datagram_at, arrival_at, record_at, body_of, records_of, records_after};
+ghost use Rattle.tesla_capture.specs.Reading.{datagram_at, arrival_at, record_at, body_of, records_of, records_after};
 ghost use Rattle.tesla_capture.specs.Shown.{shown};
 
 use crate::record::Record;
+use tesla_base::{take_u16, take_u64};
 
 /// The first bytes of every capture: the magic, and version 1.
 pub const HEAD: [u8; 5] = [b'T', b'C', b'A', b'P', 1];
-
-fn u16_of(bytes: &[u8]) -> Option<(u16, &[u8])>
-    ensures { option_map (λ x. (x.0, x.1.now)) result ≡ number_at w16 bytes.now }
-{
-    if bytes.len() < 2 {
-        return None;
-    }
-    let (front, rest) = bytes.split_at(2);
-    Some((u16::from_be_bytes([front[0], front[1]]), rest))
-}
-
-fn u64_of(bytes: &[u8]) -> Option<(u64, &[u8])>
-    ensures { option_map (λ x. (x.0, x.1.now)) result ≡ number_at w64 bytes.now }
-{
-    if bytes.len() < 8 {
-        return None;
-    }
-    let (front, rest) = bytes.split_at(8);
-    let number = u64::from_be_bytes([
-        front[0], front[1], front[2], front[3], front[4], front[5], front[6], front[7],
-    ]);
-    Some((number, rest))
-}
 
 #[tactic(auto, unfolding(crate::specs::Reading::datagram_at))]
 fn datagram(bytes: &[u8]) -> Option<(&[u8], &[u8])>
     ensures { option_map (λ x. (x.0.now, x.1.now)) result ≡ datagram_at bytes.now }
 {
-    let Some((length, rest)) = u16_of(bytes) else {
+    let Some((length, rest)) = take_u16(bytes) else {
         return None;
     };
     let length = length as usize;
@@ -53,7 +30,7 @@ fn datagram(bytes: &[u8]) -> Option<(&[u8], &[u8])>
 fn arrival(bytes: &[u8]) -> Option<(Record<'_>, &[u8])>
     ensures { option_map (λ x. (shown x.0, x.1.now)) result ≡ arrival_at bytes.now }
 {
-    let Some((reading, rest)) = u64_of(bytes) else {
+    let Some((reading, rest)) = take_u64(bytes) else {
         return None;
     };
     let Some((bytes, rest)) = datagram(rest) else {

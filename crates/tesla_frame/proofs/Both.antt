@@ -6,12 +6,14 @@ use Rattle.std.specs.Int.{w16, w32, w64, to_be_bytes}
 use Rattle.std.proofs.lemmas.Bool.{ltb-true, lt-ltb, eqb-true, and_parts, and_from}
 use Rattle.std.proofs.lemmas.List.{append-nil, nil_from_length}
 use Rattle.std.proofs.lemmas.Slice.Eq.{bytes_eq-Decides}
+use Rattle.tesla_base.specs.Front.{AreBytes, bytes_front, number_front}
+use Rattle.tesla_base.proofs.Fronts.{bind_some, test_some, some_is, bytes_take, bytes_again, field16, field32, field64}
 use Rattle.tesla_frame.specs.declared.view.FrameView.{FrameView}
 use Rattle.tesla_frame.specs.Shown.{shown}
 use Rattle.tesla_frame.specs.declared.row.KeyRow.{KeyRow}
-use Rattle.tesla_frame.specs.Frame.{DataFrame, KeysFrame, Frame, Data, Disclosure, IsTagRow, IsKeyRow, IsDataFrame, IsKeysFrame, IsFrame, HasLimits, ChainsRise, AreBytes, head, frame_text, tag_row_text, key_row_text}
-use Rattle.tesla_frame.specs.Reading.{bytes_at, number_at, tag_row_at, key_row_at, rows_at, count_at, payload_at, chains_rise, data_of, keys_of, body_of, frame_of}
-use Rattle.tesla_frame.proofs.Spelled.{bind_some, test_some, some_is, bytes_take, bytes_again, field16, field32, field64, payload_text, payload_field, count_field, tag_row_field, key_row_field, rows_take, rows_again}
+use Rattle.tesla_frame.specs.Frame.{DataFrame, KeysFrame, Frame, Data, Disclosure, IsTagRow, IsKeyRow, IsDataFrame, IsKeysFrame, IsFrame, HasLimits, ChainsRise, head, frame_text, tag_row_text, key_row_text}
+use Rattle.tesla_frame.specs.Reading.{tag_row_at, key_row_at, rows_at, count_at, payload_at, chains_rise, data_of, keys_of, body_of, frame_of}
+use Rattle.tesla_frame.proofs.Spelled.{payload_text, payload_field, count_field, tag_row_field, key_row_field, rows_take, rows_again}
 
 -- ---- data frames
 
@@ -23,9 +25,9 @@ data_text f =
 data_takes : (bytes : List ℕ) (f : DataFrame) → AreBytes bytes → data_of bytes ≡ Some f → (bytes ≡ data_text f) × IsDataFrame f
 unfolding data_of
 data_takes bytes f fits e =
-    let s0 = bind_some (number_at w64 bytes) _ f e in
-    let s1 = bind_some (number_at w32 s0.0.1) _ f s0.2 in
-    let s2 = bind_some (number_at w16 s1.0.1) _ f s1.2 in
+    let s0 = bind_some (number_front w64 bytes) _ f e in
+    let s1 = bind_some (number_front w32 s0.0.1) _ f s0.2 in
+    let s2 = bind_some (number_front w16 s1.0.1) _ f s1.2 in
     let s3 = bind_some (payload_at s2.0.1) _ f s2.2 in
     let s4 = bind_some (count_at s3.0.1) _ f s3.2 in
     let s5 = bind_some (rows_at tag_row_at s4.0.0 s4.0.1) _ f s4.2 in
@@ -94,7 +96,7 @@ keys_text f = to_be_bytes w64 f.stream.0 ++ (length f.rows ∷ [] ++ flat_map ke
 keys_takes : (bytes : List ℕ) (f : KeysFrame) → AreBytes bytes → keys_of bytes ≡ Some f → (bytes ≡ keys_text f) × IsKeysFrame f
 unfolding keys_of
 keys_takes bytes f fits e =
-    let s0 = bind_some (number_at w64 bytes) _ f e in
+    let s0 = bind_some (number_front w64 bytes) _ f e in
     let s4 = bind_some (count_at s0.0.1) _ f s0.2 in
     let s5 = bind_some (rows_at key_row_at s4.0.0 s4.0.1) _ f s4.2 in
     let made : KeysFrame = record { stream = record { 0 = s0.0.0 }; rows = s5.0.0 } in
@@ -155,7 +157,7 @@ body_again (Disclosure f) fits = rw (keys_again f fits) refl
 pub frame_takes : (bytes : List ℕ) (f : Frame) → AreBytes bytes → frame_of bytes ≡ Some f → IsFrame bytes f
 unfolding frame_of
 frame_takes bytes f fits e =
-    let s = bind_some (bytes_at 5 bytes) (λ front. cond (bytes_eq front.0 head) (body_of front.1) None) f e in
+    let s = bind_some (bytes_front 5 bytes) (λ front. cond (bytes_eq front.0 head) (body_of front.1) None) f e in
     let g = test_some (bytes_eq s.0.0 head) (body_of s.0.1) f s.2 in
     let same : s.0.0 ≡ head = (bytes_eq-Decides s.0.0 head).0 g.0 in
     let front = bytes_take 5 bytes s.0 fits s.1 in
@@ -166,7 +168,7 @@ frame_takes bytes f fits e =
 pub frame_again : (bytes : List ℕ) (f : Frame) → IsFrame bytes f → frame_of bytes ≡ Some f
 unfolding frame_of
 frame_again bytes f is =
-    let front : bytes_at 5 (head ++ body_text f) ≡ Some (head, body_text f) = bytes_again 5 head (body_text f) refl in
+    let front : bytes_front 5 (head ++ body_text f) ≡ Some (head, body_text f) = bytes_again 5 head (body_text f) refl in
     let step : frame_of (head ++ body_text f) ≡ body_of (body_text f) = rw front refl in
     ap frame_of (is.spelled ∙ frame_text_is f) ∙ step ∙ body_again f is.limits
 

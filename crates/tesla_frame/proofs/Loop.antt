@@ -3,7 +3,8 @@ use Rattle.std.proofs.Common.{◌≡◌, ℕ, suc, ◌-◌, ◌+◌, ◌≤◌, 
 use Rattle.std.proofs.Math.ListN.{set}
 use Rattle.std.proofs.lemmas.List.{append-nil, map_push}
 use Rattle.std.proofs.lemmas.Grind.{take-set_at}
-use Rattle.tesla_frame.specs.Reading.{◌>>=◌, rows_at}
+use Rattle.tesla_base.specs.Front.{◌>>=◌}
+use Rattle.tesla_frame.specs.Reading.{rows_at}
 
 -- what was read before, and what is still read
 abbrev pub with_front : {A : Type 0} → List A → Option (List A × List ℕ) → Option (List A × List ℕ)

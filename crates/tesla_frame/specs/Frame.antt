@@ -2,6 +2,7 @@
 use Rattle.std.specs.Prelude.{◌≡◌, ℕ, ◌<◌, ◌≤◌, ◌^◌, List, [], ◌∷◌, ◌++◌, length, Option, Some, None, IfSome, codes}
 use Rattle.std.specs.List.{flat_map, AllByRecursion}
 use Rattle.std.specs.Int.{w16, w32, w64, to_be_bytes}
+pub use Rattle.tesla_base.specs.Front.{AreBytes}
 use Rattle.tesla_base.specs.declared.names.Key.{Key}
 use Rattle.tesla_base.specs.declared.names.Name.{Name}
 use Rattle.tesla_base.specs.declared.names.StreamId.{StreamId}
@@ -50,10 +51,6 @@ frame_text (Data f) =
     ++ to_be_bytes w16 (length f.payload) ++ f.payload ++ length f.rows ∷ [] ++ flat_map tag_row_text f.rows
 frame_text (Disclosure f) =
     head ++ 2 ∷ [] ++ to_be_bytes w64 f.stream.0 ++ length f.rows ∷ [] ++ flat_map key_row_text f.rows
-
--- each byte is one
-abbrev pub AreBytes : List ℕ → Type 0
-AreBytes bytes = AllByRecursion (λ b. b < 256) bytes
 
 abbrev pub IsKey : Key → Type 0
 IsKey key = (length key.0 ≡ 32) × AreBytes key.0

@@ -1,27 +1,15 @@
 -- Frames read from left to right, all of the bytes.
-use Rattle.std.specs.Prelude.{ℕ, zero, suc, Bool, true, ◌&&◌, List, [], ◌∷◌, length, take, drop, Option, Some, None, nat_lt, ◌==◌, bytes_eq, if◌then◌else◌}
-use Rattle.std.specs.Int.{Width, w16, w32, w64, byte_len, from_be_bytes}
+use Rattle.std.specs.Prelude.{ℕ, zero, suc, Bool, true, ◌&&◌, List, [], ◌∷◌, length, Option, Some, None, nat_lt, ◌==◌, bytes_eq, if◌then◌else◌}
+use Rattle.std.specs.Int.{w16, w32, w64}
+use Rattle.tesla_base.specs.Front.{◌>>=◌, bytes_front, number_front}
 use Rattle.tesla_base.specs.declared.names.Key.{Key}
 use Rattle.tesla_frame.specs.declared.row.KeyRow.{KeyRow}
 use Rattle.tesla_frame.specs.Frame.{TagRow, DataFrame, KeysFrame, Frame, Data, Disclosure, head}
 
-infixl 10 ◌>>=◌
-abbrev pub ◌>>=◌ : {A B : Type 0} → Option A → (A → Option B) → Option B
-None >>= f = None
-(Some x) >>= f = f x
-
--- a field is a value with the bytes after it: here so many bytes
-abbrev pub bytes_at : ℕ → List ℕ → Option (List ℕ × List ℕ)
-bytes_at n bytes = if nat_lt (length bytes) n then None else Some (take n bytes, drop n bytes)
-
-abbrev pub number_at : Width → List ℕ → Option (ℕ × List ℕ)
-number_at w bytes =
-    if nat_lt (length bytes) (byte_len w) then None
-    else Some (from_be_bytes w (take (byte_len w) bytes), drop (byte_len w) bytes)
-
+-- a field is a value with the bytes after it: here a key
 unfoldable pub key_at : List ℕ → Option (Key × List ℕ)
 key_at bytes = do
-  key ← bytes_at 32 bytes
+  key ← bytes_front 32 bytes
   Some (record { 0 = key.0 }, key.1)
 
 -- a flag, and a key behind a 1
@@ -35,7 +23,7 @@ optional_key_at (suc (suc _) ∷ rest) = None
 
 unfoldable pub tag_row_at : List ℕ → Option (TagRow × List ℕ)
 tag_row_at bytes = do
-  tag ← bytes_at 16 bytes
+  tag ← bytes_front 16 bytes
   key ← optional_key_at tag.1
   Some (record { tag = tag.0; key = key.0 }, key.1)
 
@@ -46,7 +34,7 @@ chain_at (chain ∷ rest) = Some (chain, rest)
 unfoldable pub key_row_at : List ℕ → Option (KeyRow × List ℕ)
 key_row_at bytes = do
   chain ← chain_at bytes
-  index ← number_at w32 chain.1
+  index ← number_front w32 chain.1
   key ← key_at index.1
   Some (record { chain = record { 0 = chain.0 }; index = index.0; key = key.0 }, key.1)
 
@@ -66,8 +54,8 @@ count_at (count ∷ rest) = if nat_lt 0 count && nat_lt count 5 then Some (count
 -- the payload behind its length, which has a limit
 unfoldable pub payload_at : List ℕ → Option (List ℕ × List ℕ)
 payload_at bytes = do
-  n ← number_at w16 bytes
-  if nat_lt 1200 n.0 then None else bytes_at n.0 n.1
+  n ← number_front w16 bytes
+  if nat_lt 1200 n.0 then None else bytes_front n.0 n.1
 
 -- each chain's number is above the one before
 abbrev pub chains_rise : List KeyRow → Bool
@@ -78,9 +66,9 @@ chains_rise (row ∷ next ∷ rows) = nat_lt row.chain.0 next.chain.0 && chains_
 -- all of the bytes after the kind of a data frame
 unfoldable pub data_of : List ℕ → Option DataFrame
 data_of bytes = do
-  stream ← number_at w64 bytes
-  interval ← number_at w32 stream.1
-  number ← number_at w16 interval.1
+  stream ← number_front w64 bytes
+  interval ← number_front w32 stream.1
+  number ← number_front w16 interval.1
   payload ← payload_at number.1
   count ← count_at payload.1
   rows ← rows_at tag_row_at count.0 count.1
@@ -91,7 +79,7 @@ data_of bytes = do
 -- all of the bytes after the kind of a disclosure frame
 unfoldable pub keys_of : List ℕ → Option KeysFrame
 keys_of bytes = do
-  stream ← number_at w64 bytes
+  stream ← number_front w64 bytes
   count ← count_at stream.1
   rows ← rows_at key_row_at count.0 count.1
   if length rows.1 == 0 && chains_rise rows.0
@@ -111,5 +99,5 @@ body_of _ = None
 -- the frame that the bytes are, all of them
 unfoldable pub frame_of : List ℕ → Option Frame
 frame_of bytes = do
-  front ← bytes_at 5 bytes
+  front ← bytes_front 5 bytes
   if bytes_eq front.0 head then body_of front.1 else None

@@ -1,49 +1,15 @@
 //! The fields of a frame, each read off the front of the bytes.
 
 ghost use Rattle.std.specs.Prelude.{◌≡◌, ◌≤◌, length, option_map, IfSome};
-ghost use Rattle.std.specs.Int.{w16, w32, w64};
-ghost use Rattle.tesla_frame.specs.Reading.{number_at, bytes_at, key_at, optional_key_at, tag_row_at, chain_at, key_row_at, count_at, payload_at};
+ghost use Rattle.tesla_base.specs.Front.{bytes_front};
+ghost use Rattle.tesla_frame.specs.Reading.{key_at, optional_key_at, tag_row_at, chain_at, key_row_at, count_at, payload_at};
 ghost use Rattle.tesla_frame.specs.View.{tag_row};
 
 use crate::row::{KeyRow, TagAndKey};
-use tesla_base::{ChainNo, Key, Tag};
-
-pub fn u16_of(bytes: &[u8]) -> Option<(u16, &[u8])>
-    ensures { option_map (λ x. (x.0, x.1.now)) result ≡ number_at w16 bytes.now }
-{
-    if bytes.len() < 2 {
-        return None;
-    }
-    let (front, rest) = bytes.split_at(2);
-    Some((u16::from_be_bytes([front[0], front[1]]), rest))
-}
-
-pub fn u32_of(bytes: &[u8]) -> Option<(u32, &[u8])>
-    ensures { option_map (λ x. (x.0, x.1.now)) result ≡ number_at w32 bytes.now }
-{
-    if bytes.len() < 4 {
-        return None;
-    }
-    let (front, rest) = bytes.split_at(4);
-    let number = u32::from_be_bytes([front[0], front[1], front[2], front[3]]);
-    Some((number, rest))
-}
-
-pub fn u64_of(bytes: &[u8]) -> Option<(u64, &[u8])>
-    ensures { option_map (λ x. (x.0, x.1.now)) result ≡ number_at w64 bytes.now }
-{
-    if bytes.len() < 8 {
-        return None;
-    }
-    let (front, rest) = bytes.split_at(8);
-    let number = u64::from_be_bytes([
-        front[0], front[1], front[2], front[3], front[4], front[5], front[6], front[7],
-    ]);
-    Some((number, rest))
-}
+use tesla_base::{ChainNo, Key, Tag, take_u16, take_u32};
 
 fn tag_of(bytes: &[u8]) -> Option<(Tag, &[u8])>
-    ensures { option_map (λ x. (x.0.0, x.1.now)) result ≡ bytes_at 16 bytes.now }
+    ensures { option_map (λ x. (x.0.0, x.1.now)) result ≡ bytes_front 16 bytes.now }
 {
     if bytes.len() < 16 {
         return None;
@@ -115,7 +81,7 @@ pub fn key_row_of(bytes: &[u8]) -> Option<(KeyRow, &[u8])>
     let Some((chain, rest)) = chain_of(bytes) else {
         return None;
     };
-    let Some((index, rest)) = u32_of(rest) else {
+    let Some((index, rest)) = take_u32(rest) else {
         return None;
     };
     let Some((key, rest)) = key_of(rest) else {
@@ -150,7 +116,7 @@ pub fn payload_of(bytes: &[u8]) -> Option<(&[u8], &[u8])>
     ensures exact { option_map (λ x. (x.0.now, x.1.now)) result ≡ payload_at bytes.now }
     ensures limit { IfSome result (λ x. length x.0.now ≤ 1200) }
 {
-    let Some((length, rest)) = u16_of(bytes) else {
+    let Some((length, rest)) = take_u16(bytes) else {
         return None;
     };
     let length = length as usize;

@@ -1,7 +1,8 @@
 //! Laws about frames, as contracts of functions that do nothing.
 
 ghost use Rattle.std.specs.Prelude.{◌≡◌, List, ℕ, Some};
-ghost use Rattle.tesla_frame.specs.Frame.{Frame, IsFrame, AreBytes};
+ghost use Rattle.tesla_base.specs.Front.{AreBytes};
+ghost use Rattle.tesla_frame.specs.Frame.{Frame, IsFrame};
 ghost use Rattle.tesla_frame.specs.Reading.{frame_of};
 
 /// Reading gives the frame that the bytes are, and each frame has one spelling.

@@ -5,11 +5,11 @@ ghost use Rattle.tesla_frame.specs.Frame.{Frame, IsFrame};
 ghost use Rattle.tesla_frame.specs.Reading.{chains_rise, data_of, keys_of, body_of, frame_of};
 ghost use Rattle.tesla_frame.specs.Shown.{shown};
 
-use crate::fields::{count_of, payload_of, u16_of, u32_of, u64_of};
+use crate::fields::{count_of, payload_of};
 use crate::row::KeyRow;
 use crate::rows::{key_rows_of, tag_rows_of};
 use crate::view::{DataView, FrameView, KeysView};
-use tesla_base::{Name, StreamId};
+use tesla_base::{Name, StreamId, take_u16, take_u32, take_u64};
 
 /// The first bytes of every frame: the magic, and version 1.
 pub const HEAD: [u8; 5] = [b'T', b'S', b'L', b'A', 1];
@@ -31,13 +31,13 @@ fn do_chains_rise(rows: &[KeyRow]) -> bool
 fn data(bytes: &[u8]) -> Option<DataView<'_>>
     ensures { result ≡ data_of bytes.now }
 {
-    let Some((stream, rest)) = u64_of(bytes) else {
+    let Some((stream, rest)) = take_u64(bytes) else {
         return None;
     };
-    let Some((interval, rest)) = u32_of(rest) else {
+    let Some((interval, rest)) = take_u32(rest) else {
         return None;
     };
-    let Some((number, rest)) = u16_of(rest) else {
+    let Some((number, rest)) = take_u16(rest) else {
         return None;
     };
     let Some((payload, rest)) = payload_of(rest) else {
@@ -61,7 +61,7 @@ fn data(bytes: &[u8]) -> Option<DataView<'_>>
 fn keys(bytes: &[u8]) -> Option<KeysView<'_>>
     ensures { result ≡ keys_of bytes.now }
 {
-    let Some((stream, rest)) = u64_of(bytes) else {
+    let Some((stream, rest)) = take_u64(bytes) else {
         return None;
     };
     let Some((count, rest)) = count_of(rest) else {

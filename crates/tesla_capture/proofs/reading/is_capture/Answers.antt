@@ -1,5 +1,5 @@
 use Rattle.std.proofs.Common.{arith}
-use Rattle.tesla_capture.proofs.Spelled.{bytes_from}
+use Rattle.tesla_base.proofs.Fronts.{bytes_from}
 use Rattle.tesla_capture.proofs.Records.{is_a_capture}
 use Rattle.tesla_capture.proofs.reading.is_capture.Goals as goal
 

@@ -1,5 +1,5 @@
 use Rattle.std.proofs.Common.{arith, subst}
-use Rattle.tesla_frame.specs.Frame.{AreBytes}
+use Rattle.tesla_base.specs.Front.{AreBytes}
 use Rattle.tesla_frame.proofs.writing.put_key_row.Goals as goal
 
 pub returns-clause-row : goal.returns-clause-row
