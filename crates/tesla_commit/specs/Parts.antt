@@ -1,4 +1,4 @@
--- What a setup says: the commitment that receivers trust beforehand (RFC 4082, section 3.4).
+-- What a setup says: the commitment that receivers trust beforehand (RFC 4082, section 3.3).
 use Rattle.std.specs.Prelude.{ℕ, ◌<◌, ◌≤◌, ◌^◌, List, [], ◌∷◌, length}
 use Rattle.std.specs.List.{AllByRecursion}
 use Rattle.tesla_base.specs.declared.names.StreamId.{StreamId}

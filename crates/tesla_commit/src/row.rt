@@ -2,7 +2,7 @@
 
 use tesla_base::Key;
 
-/// One key chain of a setup (RFC 4082, section 3.4).
+/// One key chain of a setup (RFC 4082, section 3.3).
 #[derive(Clone, Copy, Debug, PartialEq, Eq)]
 pub struct ChainRow {
     /// How many intervals after its own a key is disclosed: 1 to 4,096.

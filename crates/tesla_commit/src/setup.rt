@@ -11,7 +11,7 @@ use std::marker::Model;
 use tesla_base::{NoMemory, StreamId};
 use tesla_clock::Schedule;
 
-/// What receivers trust beforehand of a stream (RFC 4082, section 3.4): its number, its intervals, and
+/// What receivers trust beforehand of a stream (RFC 4082, section 3.3): its number, its intervals, and
 /// one to four key chains with strictly rising disclosure delays.
 #[derive(Debug, Drop)]
 pub struct Setup {

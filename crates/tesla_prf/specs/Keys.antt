@@ -1,4 +1,4 @@
--- The one-way functions of a key chain, and the tag of a message (RFC 4082, sections 3.2 and 3.3).
+-- The one-way functions of a key chain, and the tag of a message (RFC 4082, sections 3.2 and 3.4).
 use Rattle.std.specs.Prelude.{ℕ, zero, suc, List, [], ◌∷◌, ◌++◌, take}
 use Rattle.std.specs.Int.{w16, w32, w64, to_be_bytes}
 use Rattle.tesla_base.specs.declared.names.ChainNo.{ChainNo}

@@ -1,4 +1,4 @@
-//! The two one-way functions of a key chain (RFC 4082, section 3.2).
+//! The two one-way functions of a key chain (RFC 4082, sections 3.2 and 3.4).
 
 ghost use Rattle.std.specs.Prelude.{◌≡◌, ◌+◌};
 ghost use Rattle.tesla_prf.specs.Keys.{mac_of, next_of, walk};

@@ -1,4 +1,4 @@
-//! The tags of messages (RFC 4082, section 3.3).
+//! The tags of messages (RFC 4082, section 3.4).
 
 ghost use Rattle.std.specs.Prelude.{◌≡◌, ◌+◌, ◌↔◌, IsTrue, bytes_eq};
 ghost use Rattle.tesla_prf.specs.Keys.{tag_under};
