@@ -3,3 +3,4 @@ pub mod EachAfter
 pub mod Newest
 pub mod Finds
 pub mod Verified
+pub mod Grown

@@ -3,7 +3,10 @@
 
 mod book;
 mod config;
+mod fitting;
+mod growing;
 mod history;
+mod holding;
 mod keys;
 mod packet;
 mod proving;
