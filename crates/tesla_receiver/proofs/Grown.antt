@@ -1,13 +1,15 @@
 -- The lists of a book with one more arrival.
 use Rattle.std.proofs.Common.{◌≡◌, ℕ, ◌+◌, ◌<◌, ◌≤◌, cond, List, [], ◌∷◌, ◌++◌, length, get_or, take, count_by, Option, sym, ap, ◌∙◌}
-use Rattle.std.specs.Prelude.{option_to_list}
+use Rattle.std.specs.Prelude.{option_to_list, filter, nat_lt}
 use Rattle.std.specs.List.{enumerate_from}
 use Rattle.std.proofs.lemmas.List.{append-nil, take_more, take_all}
 use Rattle.tesla_frame.specs.declared.row.KeyRow.{KeyRow}
 use Rattle.tesla_receiver.specs.declared.config.Config.{Config}
 use Rattle.tesla_receiver.specs.declared.history.Arrival.{Arrival}
 use Rattle.tesla_receiver.specs.declared.release.Release.{Release}
-use Rattle.tesla_receiver.specs.Keys.{each_after, new_keys, fresh_keys}
+use Rattle.tesla_receiver.specs.Keys.{each_after, takes_keys, keys_in, keys_taken, newest, new_keys, fresh_keys}
+use Rattle.tesla_receiver.specs.declared.verdict.Verdict.{Verdict}
+use Rattle.tesla_frame.specs.Reading.{frame_of}
 use Rattle.tesla_receiver.specs.Packets.{unless_named, proved_by, batch, candidates, released, packet_of}
 use Rattle.tesla_receiver.specs.Held.{has_place, held_of}
 use Rattle.tesla_receiver.specs.Book.{IsKept}
@@ -47,4 +49,22 @@ kept_more cfg arrivals arrival fresh new proved given more firsts k n m f =
       released =
         ap (λ rs. rs ++ firsts) (k.released ∙ ap (each_after unless_named []) (sym k.candidates)) ∙ ap (λ rs. each_after unless_named [] proved ++ rs) f
         ∙ sym (each_after-append unless_named [] proved more) ∙ ap (each_after unless_named []) all;
+    }
+
+-- an arrival takes the same keys with another verdict with which it takes them
+same_taken : (cfg : Config) (a : Arrival) (verdict : Verdict) → takes_keys a.verdict ≡ takes_keys verdict → keys_taken cfg a ≡ keys_taken cfg (record { ingest = a.ingest; reading = a.reading; bytes = a.bytes; verdict = verdict })
+same_taken cfg a verdict e = ap (λ b. cond b (keys_in cfg (frame_of a.bytes)) []) e
+
+-- the kept lists stay with another verdict of the last arrival with which it takes its keys
+pub kept_rejudged : (cfg : Config) (front : List Arrival) (a : Arrival) (verdict : Verdict) (fresh : List KeyRow) (proved given : List Release) → takes_keys a.verdict ≡ takes_keys verdict → IsKept cfg (front ++ a ∷ []) fresh proved given → IsKept cfg (front ++ record { ingest = a.ingest; reading = a.reading; bytes = a.bytes; verdict = verdict } ∷ []) fresh proved given
+unfolding fresh_keys candidates released
+kept_rejudged cfg front a verdict fresh proved given e k =
+    let b : Arrival = record { ingest = a.ingest; reading = a.reading; bytes = a.bytes; verdict = verdict } in
+    let new : new_keys cfg front a ≡ new_keys cfg front b = ap (filter (λ row. nat_lt (newest cfg front row.chain.0) row.index)) (same_taken cfg a verdict e) in
+    let all : each_after (batch cfg) [] (front ++ a ∷ []) ≡ each_after (batch cfg) [] (front ++ b ∷ []) =
+      each_after_more (batch cfg) front a ∙ ap (λ rs. each_after (batch cfg) [] front ++ proved_by cfg front rs) new ∙ sym (each_after_more (batch cfg) front b) in
+    record {
+      fresh = k.fresh ∙ each_after_more (new_keys cfg) front a ∙ ap (λ rs. each_after (new_keys cfg) [] front ++ rs) new ∙ sym (each_after_more (new_keys cfg) front b);
+      candidates = k.candidates ∙ all;
+      released = k.released ∙ ap (each_after unless_named []) all;
     }

@@ -4,3 +4,4 @@ pub mod Newest
 pub mod Finds
 pub mod Verified
 pub mod Grown
+pub mod Verdicts
