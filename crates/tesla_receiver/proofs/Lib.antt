@@ -5,3 +5,4 @@ pub mod Finds
 pub mod Verified
 pub mod Grown
 pub mod Verdicts
+pub mod Standing

@@ -3,6 +3,7 @@
 
 mod book;
 mod config;
+mod counting;
 mod fitting;
 mod growing;
 mod history;
@@ -11,6 +12,7 @@ mod judging;
 mod keys;
 mod packet;
 mod proving;
+mod receiver;
 mod release;
 mod report;
 mod taking;
@@ -21,6 +23,7 @@ pub use config::Config;
 pub use history::{Arrival, Entry, Reply};
 pub use judging::Datagram;
 pub use packet::Packet;
+pub use receiver::Receiver;
 pub use release::Release;
 pub use report::Report;
 pub use taking::Take;

@@ -1,10 +1,10 @@
 //! The next released packet.
 
-ghost use Rattle.std.specs.Prelude.{◌≡◌, ◌≤◌, length, slice_get, List, ℕ};
+ghost use Rattle.std.specs.Prelude.{◌≡◌, ◌+◌, ◌^◌, ◌<◌, ◌≤◌, true, if◌then◌else◌, length, slice_get, OnSome};
 ghost use Rattle.tesla_frame.specs.Reading.{frame_of};
 ghost use Rattle.tesla_receiver.specs.History.{payload_in, payload_of, reply_with};
 ghost use Rattle.tesla_receiver.specs.Packets.{released};
-ghost use Rattle.tesla_receiver.specs.Replies.{reply_shown};
+ghost use Rattle.tesla_receiver.specs.Replies.{reply_shown, is_given};
 
 use crate::{Book, Release};
 use tesla_capture::Head;
@@ -19,6 +19,17 @@ pub enum Take {
     Empty,
     /// None waits, and every ingest has ended.
     Over,
+}
+
+/// How many packets were given after this take, when so many were before it.
+pub fn given_after(given: usize, take: &Take) -> usize
+    requires { is_given take.now ≡ true → given + 1 < 2 ^ 64 }
+    ensures { result ≡ given + (if is_given take.now then 1 else 0) }
+{
+    match take {
+        Take::Given(_) => given + 1,
+        Take::Empty | Take::Over => given,
+    }
 }
 
 // The payload of a datagram, empty where it is no data frame.
@@ -46,15 +57,21 @@ impl Book {
 
     // The release with so many before it.
     fn release_at(&self, position: usize) -> Option<Release>
-        ensures { result ≡ slice_get (released self.now.config self.now.arrivals) position }
+        ensures room { OnSome result (position + 1 < 2 ^ 64) }
+        ensures value { result ≡ slice_get (released self.now.config self.now.arrivals) position }
     {
-        self.released.get(position).copied()
+        if position < self.released.len() {
+            Some(self.released[position])
+        } else {
+            None
+        }
     }
 
     /// The answer to a take when so many packets were given, where it is known whether all ingests have
     /// ended. The payload of a packet is copied to the front of the buffer. It takes no memory.
     pub fn next(&self, position: usize, ended: bool, into: &mut [u8; 1200]) -> Take
-        ensures { reply_shown result into.new ≡ reply_with self.now.arrivals position
+        ensures room { is_given result ≡ true → position + 1 < 2 ^ 64 }
+        ensures reply { reply_shown result into.new ≡ reply_with self.now.arrivals position
             (slice_get (released self.now.config self.now.arrivals) position) ended }
     {
         let Some(release) = self.release_at(position) else {
