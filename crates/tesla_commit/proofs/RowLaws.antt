@@ -31,7 +31,7 @@ pub at_ok : {A : Type 0} (line : ℕ) (r : Result A SetupKind) (x : A) → at li
 at_ok line (Ok y) x h = cc
 at_ok line (Err kind) x h = absurd cc
 
-ok_is : {A E : Type 0} (x y : A) (r : Result A E) → r ≡ Ok x → r ≡ Ok y → x ≡ y
+pub ok_is : {A E : Type 0} (x y : A) (r : Result A E) → r ≡ Ok x → r ≡ Ok y → x ≡ y
 ok_is x y r h k = cc
 
 -- a row that is not refused
@@ -63,11 +63,11 @@ row_again last before row h =
     let e : nat_lt last row.index ≡ false = grind (arith, nat_tests) in
     rw (a, b, d, e) refl
 
-onto_first : {A E : Type 0} (front : List A) (x : A) (r : Result (List A) E) → onto front (r >>= λ others. Ok (x ∷ others)) ≡ onto (front ++ x ∷ []) r
+pub onto_first : {A E : Type 0} (front : List A) (x : A) (r : Result (List A) E) → onto front (r >>= λ others. Ok (x ∷ others)) ≡ onto (front ++ x ∷ []) r
 onto_first front x (Ok others) = ap Ok (sym (append_assoc front (x ∷ []) others))
 onto_first front x (Err e) = refl
 
-not_line : (line other : ℕ) → line ≢ other → eqb line other ≡ false
+pub not_line : (line other : ℕ) → line ≢ other → eqb line other ≡ false
 not_line line other h = grind (arith, nat_tests)
 
 pub rows_step : (last line before : ℕ) (front rows : List ChainRow) (row other : ChainRow) → line ≢ 10 → row_judged last before row ≡ Ok other → onto front (rows_judged last line before (row ∷ rows)) ≡ onto (front ++ row ∷ []) (rows_judged last (line + 1) row.delay rows)

@@ -1,14 +1,13 @@
 -- What stands between the bytes of a text: its lines, and the words of a line.
-use Rattle.std.proofs.Common.{◌≡◌, ℕ, ◌+◌, ◌-◌, ◌<◌, ◌≤◌, Bool, true, false, cond, eqb, ltb, List, [], ◌∷◌, ◌++◌, length, take, drop, get_or, Option, Some, None, Result, Ok, Err, refl, sym, ap, subst, ◌∙◌, arith}
-use Rattle.std.specs.Prelude.{position, codes}
+use Rattle.std.proofs.Common.{◌≡◌, ℕ, ◌+◌, ◌-◌, ◌<◌, ◌≤◌, Bool, true, false, cond, eqb, ltb, List, [], ◌∷◌, length, take, drop, Some, None, Ok, Err, refl, ap, ◌∙◌, arith}
+use Rattle.std.specs.Prelude.{position}
 use Rattle.std.specs.List.{slice_split, position_or_len}
-use Rattle.std.specs.Str.{bytes_eq}
 use Rattle.std.proofs.lemmas.List.{take_all, length-drop}
 use Rattle.std.proofs.lemmas.List.Sums.{fails_before_first}
 use Rattle.std.proofs.lemmas.Bool.{ltb-false}
 use borrow.Author.Tests.{ltb-true}
-use Rattle.std.proofs.lemmas.List.Splits.{length-slice_split, slice_split_first, slice_split_none}
-use Rattle.tesla_commit.specs.Reading.{between, lines, words, next_line, value_in, chain_words}
+use Rattle.std.proofs.lemmas.List.Splits.{length-slice_split, slice_split_first, slice_split_none, join_with_byte-slice_split}
+use Rattle.tesla_commit.specs.Reading.{between, lines, next_line, value_in, chain_words}
 use Rattle.tesla_commit.specs.declared.refusal.SetupKind.{SetupKind}
 use Rattle.tesla_commit.specs.declared.refusal.SetupKind.TheVariants.{BadLine}
 
@@ -61,3 +60,31 @@ found_at byte text place h =
     let lt : p < length text = ltb-true _ _ a.0 in
     let whole : take (length text - (place + 1)) (drop (place + 1) text) ≡ drop (place + 1) text = take_all _ _ (omega (arith, length-drop (place + 1) text)) in
     (rw (← a.1) lt, rw (whole, ← a.1) (slice_split_first (λ b. eqb b byte) text 0 lt))
+
+-- a text of one part is that part
+pub only_part : (byte : ℕ) (text other : List ℕ) → between byte text ≡ other ∷ [] → other ≡ text
+unfolding between
+only_part byte text other h =
+    let joined = join_with_byte-slice_split byte text in
+    rw h at joined
+
+pub is_only : (text other : List ℕ) → lines text ≡ other ∷ [] → other ≡ text
+is_only text other h = only_part 10 text other h
+
+pub lines_of_nothing : (text : List ℕ) → length text ≡ 0 → lines text ≡ [] ∷ []
+unfolding between
+lines_of_nothing [] h = refl
+lines_of_nothing (b ∷ text) h = absurd (omega arith)
+
+refused_line : (number : ℕ) (parts : List (List ℕ)) (e : ℕ × SetupKind) → 1 ≤ length parts → next_line number parts ≡ Err e → (other : List ℕ) × (parts ≡ other ∷ [])
+refused_line number [] e some h = absurd (omega arith)
+refused_line number (unended ∷ []) e some h = (unended, refl)
+refused_line number (line ∷ next ∷ others) e some h = absurd cc
+
+-- a text of which no line can be taken has one part
+pub only_line : (number : ℕ) (text : List ℕ) (e : ℕ × SetupKind) → next_line number (lines text) ≡ Err e → lines text ≡ text ∷ []
+only_line number text e h =
+    let f = has_first 10 text in
+    let count : 1 ≤ length (lines text) = omega (arith, ap (length {A = List ℕ}) f.2) in
+    let r = refused_line number (lines text) e count h in
+    r.1 ∙ ap (λ (x : List ℕ). x ∷ []) (is_only text r.0 r.1)

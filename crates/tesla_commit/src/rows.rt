@@ -3,8 +3,7 @@
 ghost use Rattle.std.specs.Prelude.{◌≡◌, ◌<◌, ◌≤◌, length};
 ghost use Rattle.tesla_commit.specs.Judging.{Gives, row_judged, rows_judged};
 
-use crate::ChainRow;
-use crate::{SetupKind, SetupRefusal};
+use crate::{ChainRow, SetupKind, SetupRefusal};
 use tesla_base::Key;
 
 /// The line of the first chain.

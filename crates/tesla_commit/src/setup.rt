@@ -46,11 +46,20 @@ impl Setup {
         ensures { Gives (λ setup. setup) result (parts_judged stream schedule rows.now) }
     {
         judge_rows(schedule.last(), rows)?;
-        Ok(Setup {
+        let rows = Vec::from_slice(alloc, rows)?;
+        Ok(Setup::assemble(stream, schedule, rows))
+    }
+
+    /// The setup of parts within the limits.
+    pub(crate) fn assemble(stream: StreamId, schedule: Schedule, rows: Vec<ChainRow>) -> Setup
+        requires { IsSetupOf (record { stream = stream; times = schedule; rows = rows.items }) }
+        ensures { result ≡ record { stream = stream; times = schedule; rows = rows.items } }
+    {
+        Setup {
             stream,
             schedule,
-            rows: Vec::from_slice(alloc, rows)?,
-        })
+            rows,
+        }
     }
 
     /// The number of the stream.

@@ -90,7 +90,7 @@ pub fn number_in(word: &[u8]) -> Result<u64, SetupKind>
 /// A number within limits.
 pub fn within(least: u64, most: u64, number: u64) -> Result<u64, SetupKind>
     ensures value { result ≡ within least most number }
-    ensures limits { IfOk result (λ n. n ≤ most) }
+    ensures limits { IfOk result (λ n. (least ≤ n) × (n ≤ most)) }
 {
     if least <= number && number <= most {
         Ok(number)

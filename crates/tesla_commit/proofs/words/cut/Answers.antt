@@ -1,4 +1,4 @@
-use Rattle.std.proofs.Common.{◌≡◌, sym, ◌∙◌}
+use Rattle.std.proofs.Common.{sym, ◌∙◌}
 use Rattle.tesla_commit.proofs.WordLaws.{not_found, found_at}
 use Rattle.tesla_commit.proofs.words.cut.Goals as goal
 
