@@ -22,10 +22,14 @@ record_text Takes = 2 ∷ []
 abbrev pub capture_text : List Record → List ℕ
 capture_text records = head ++ flat_map record_text records
 
+-- each byte is one
+abbrev pub AreBytes : List ℕ → Type 0
+AreBytes bytes = AllByRecursion (λ b. b < 256) bytes
+
 -- the limits of a record's fields
 abbrev pub IsRecord : Record → Type 0
 IsRecord (Arrives reading bytes) =
-    (reading < 2 ^ 64) × (length bytes ≤ 2048) × AllByRecursion (λ b. b < 256) bytes
+    (reading < 2 ^ 64) × (length bytes ≤ 2048) × AreBytes bytes
 IsRecord Takes = Unit {0}
 
 -- the bytes spell the capture

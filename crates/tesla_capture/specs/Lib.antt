@@ -1,1 +1,4 @@
 pub mod Capture
+pub mod Reading
+pub mod Shown
+pub mod Release

@@ -1,4 +1,4 @@
 pub mod Faults
 pub mod Memory
 pub mod Outside
-pub mod Shelf
+pub mod Stored

@@ -4,7 +4,7 @@ ghost use Rattle.std.specs.Prelude.{◌≡◌, ◌≤◌, ◌+◌, ◌-◌, min,
 ghost use Rattle.tesla_desk.specs.Faults.{HasCause};
 ghost use Rattle.tesla_desk.specs.Outside.{Writes, Stalls};
 
-use crate::shelf::{Sheet, Shelf};
+use crate::stored::{StoredPage, StoredPages};
 use crate::{Sink, WriteStep};
 use std::alloc::Global;
 use tesla_base::{NoMemory, Text};
@@ -12,11 +12,11 @@ use tesla_base::{NoMemory, Text};
 /// Bytes written in memory, with a room that is taken at the opening. Its writes never fail; one that
 /// finds no room takes nothing, and counts as a fault.
 pub struct Heap {
-    sheet: Sheet,
+    stored: StoredPage,
     room: usize,
     faults: u64,
-    spare: Box<Shelf>,
-    ghost fits: { vec_len sheet.bytes + room ≤ vec_capacity sheet.bytes },
+    spare: Box<StoredPages>,
+    ghost fits: { vec_len stored.bytes + room ≤ vec_capacity stored.bytes },
 }
 
 impl Heap {
@@ -29,39 +29,39 @@ impl Heap {
         ensures faults { IfOk result (λ it. write_faults_of it ≡ 0) }
         ensures room { IfOk result (λ it. room_of it ≡ room) }
     {
-        let spare = Box::new(alloc, Shelf::Empty)?;
-        let sheet = Sheet {
+        let spare = Box::new(alloc, StoredPages::Empty)?;
+        let stored = StoredPage {
             name: Text::new(alloc, name.as_bytes())?,
             bytes: Vec::with_capacity(alloc, room)?,
             failed: false,
         };
         Ok(Heap {
-            sheet,
+            stored,
             room,
             faults: 0,
             spare,
         })
     }
 
-    /// The bytes as a page, and the box that puts it on a shelf.
-    pub(crate) fn close(self) -> (Sheet, Box<Shelf>)
+    /// The bytes as a page, and the box that puts it on a pages.
+    pub(crate) fn close(self) -> (StoredPage, Box<StoredPages>)
         ensures name { result.0.name ≡ name_of self }
         ensures bytes { result.0.bytes.items ≡ bytes_of self }
         ensures failed { result.0.failed ≡ nat_lt 0 (write_faults_of self) }
     {
         let Heap {
-            mut sheet,
+            mut stored,
             room: _,
             faults,
             spare,
         } = self;
-        sheet.failed = 0 < faults;
-        (sheet, spare)
+        stored.failed = 0 < faults;
+        (stored, spare)
     }
 }
 
 impl Sink for Heap {
-    ghost use Rattle.tesla_desk.specs.Memory.{name_of, bytes_of, write_faults_of, room_of};
+    ghost use Rattle.tesla_desk.specs.Memory.{faults_after, name_of, bytes_of, write_faults_of, room_of};
 
     ghost written = { λ it. Some (bytes_of it) };
 
@@ -74,6 +74,7 @@ impl Sink for Heap {
         ensures step { Writes (Some (bytes_of self.old)) (Some (bytes_of self.new)) piece.now result }
         ensures cause { HasCause (write_faults_of self.old) (write_faults_of self.new) (Stalls piece.now result) }
         ensures name { name_of self.new ≡ name_of self.old }
+        ensures counted { write_faults_of self.new ≡ faults_after piece.now (room_of self.old) (write_faults_of self.old) }
         ensures exact { result ≡ WriteStep.Took (min (length piece.now) (room_of self.old)) }
         ensures room { room_of self.new ≡ room_of self.old - length piece.now }
     {
@@ -82,7 +83,7 @@ impl Sink for Heap {
             self.faults = self.faults.saturating_add(1);
         }
         self.room -= count;
-        let _ = self.sheet.bytes.extend_from_slice(&piece[..count]);
+        let _ = self.stored.bytes.extend_from_slice(&piece[..count]);
         WriteStep::Took(count)
     }
 }

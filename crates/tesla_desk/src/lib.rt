@@ -6,7 +6,7 @@ mod desk;
 mod heap;
 mod memory;
 mod pages;
-mod shelf;
+mod stored;
 mod sink;
 mod source;
 

@@ -6,7 +6,7 @@ ghost use Rattle.tesla_desk.specs.Faults.{CountsOpening, after_source, after_sin
 ghost use Rattle.tesla_desk.specs.Memory.{bytes_in, unread, read_faults_of, name_of, bytes_of, write_faults_of, room_of, page_under, counts_of, sink_room, counts_of_new, after_search};
 ghost use Rattle.tesla_desk.specs.Outside.{Untold, Absent, Holds, page_of, Opened};
 
-use crate::shelf::{Sheet, Shelf, put_on_top, sheet_under};
+use crate::stored::{StoredPage, StoredPages, put_newest, stored_under};
 use crate::{Desk, Heap, OpenRefusal, Pages};
 use std::alloc::Global;
 use tesla_base::{NoMemory, Text};
@@ -16,7 +16,7 @@ use tesla_base::{NoMemory, Text};
 pub struct MemoryDesk {
     alloc: Global,
     room: usize,
-    shelf: Shelf,
+    pages: StoredPages,
     reads: u64,
     writes: u64,
     openings: u64,
@@ -32,7 +32,7 @@ impl MemoryDesk {
         Ok(MemoryDesk {
             alloc,
             room,
-            shelf: Shelf::Empty,
+            pages: StoredPages::Empty,
             reads: 0,
             writes: 0,
             openings: 0,
@@ -47,13 +47,13 @@ impl MemoryDesk {
         ensures counts { counts_of self.new ≡ counts_of self.old }
         ensures room { sink_room self.new ≡ sink_room self.old }
     {
-        let spare = Box::new(self.alloc, Shelf::Empty)?;
-        let sheet = Sheet {
+        let spare = Box::new(self.alloc, StoredPages::Empty)?;
+        let stored = StoredPage {
             name: Text::new(self.alloc, name.as_bytes())?,
             bytes: Vec::from_slice(self.alloc, bytes)?,
             failed: false,
         };
-        put_on_top(&mut self.shelf, sheet, spare);
+        put_newest(&mut self.pages, stored, spare);
         Ok(())
     }
 
@@ -62,8 +62,8 @@ impl MemoryDesk {
         ensures bytes { option_map (λ bytes. bytes.now) result ≡ bytes_in (page_under self.now name.now) }
         ensures told { page_under self.now name.now ≢ Untold }
     {
-        match sheet_under(&self.shelf, name.as_bytes()) {
-            Some(sheet) => Some(sheet.bytes.as_slice()),
+        match stored_under(&self.pages, name.as_bytes()) {
+            Some(stored) => Some(stored.bytes.as_slice()),
             None => None,
         }
     }
@@ -88,8 +88,8 @@ impl Desk for MemoryDesk {
         ensures exact { counts_of self.new ≡ after_search (page_under self.old name.now) (counts_of self.old) }
         ensures room { sink_room self.new ≡ sink_room self.old }
     {
-        match sheet_under(&self.shelf, name.as_bytes()) {
-            Some(sheet) => match Pages::new(self.alloc, sheet.bytes.as_slice()) {
+        match stored_under(&self.pages, name.as_bytes()) {
+            Some(stored) => match Pages::new(self.alloc, stored.bytes.as_slice()) {
                 Ok(it) => Ok(it),
                 Err(_) => Err(OpenRefusal::NoMemory),
             },
@@ -131,10 +131,10 @@ impl Desk for MemoryDesk {
         ensures counts { counts_of self.new ≡ after_sink (counts_of self.old) (write_faults_of it) }
         ensures room { sink_room self.new ≡ sink_room self.old }
     {
-        let (sheet, spare) = it.close();
-        if sheet.failed {
+        let (stored, spare) = it.close();
+        if stored.failed {
             self.writes = self.writes.saturating_add(1);
         }
-        put_on_top(&mut self.shelf, sheet, spare);
+        put_newest(&mut self.pages, stored, spare);
     }
 }
