@@ -6,3 +6,5 @@ pub mod Verified
 pub mod Grown
 pub mod Verdicts
 pub mod Standing
+pub mod Places
+pub mod Playing

@@ -1,22 +1,19 @@
 -- A receiver stands for one entry more.
-use Rattle.std.proofs.Common.{◌≡◌, ℕ, zero, suc, ◌+◌, ◌<◌, Bool, true, false, cond, ◌||◌, List, [], ◌∷◌, ◌++◌, length, length-append, map, set, replicate, refl, sym, ap, subst, ◌∙◌, arith, append_assoc, count_by, flat_map, ◌==◌, add-zero}
+use Rattle.std.proofs.Common.{◌≡◌, ℕ, zero, suc, ◌+◌, ◌<◌, Bool, true, false, cond, ◌||◌, List, [], ◌∷◌, ◌++◌, length-append, map, set, replicate, refl, sym, ap, subst, ◌∙◌, arith, append_assoc, ◌==◌, add-zero}
 use Rattle.std.proofs.lemmas.Bool.{eq-eqb, ne_eqb}
 use Rattle.tesla_receiver.specs.declared.taking.Take.{Take}
 use Rattle.tesla_receiver.specs.declared.taking.Take.TheVariants as takes
 use Rattle.tesla_receiver.specs.Replies.{reply_shown, is_given}
 use Rattle.std.specs.Prelude.{slice_get}
-use Rattle.std.specs.List.{list_any, list_all, range_with_len}
+use Rattle.std.specs.List.{list_all, range_with_len}
 use Rattle.std.proofs.Math.Bool.{or-false}
 use Rattle.std.proofs.lemmas.List.{append-nil}
 use Rattle.std.proofs.lemmas.List.Concat.{flat_map-append}
 use Rattle.std.proofs.lemmas.List.Folds.{list_any-append, list_all-map}
 use Rattle.std.proofs.lemmas.List.Sums.{sum_by_push}
 use Rattle.tesla_receiver.specs.declared.config.Config.{Config}
-use Rattle.tesla_receiver.specs.declared.history.Arrival.{Arrival}
 use Rattle.tesla_receiver.specs.declared.history.Entry.{Entry}
-use Rattle.tesla_receiver.specs.declared.history.Entry.TheVariants.{Arrived, Taken, Ended}
-use Rattle.tesla_receiver.specs.declared.history.Reply.{Reply}
-use Rattle.tesla_receiver.specs.declared.history.Reply.TheVariants.{Given, Empty, Over}
+use Rattle.tesla_receiver.specs.declared.history.Entry.TheVariants.{Taken, Ended}
 use Rattle.tesla_receiver.specs.Packets.{released}
 use Rattle.tesla_receiver.specs.Answer.{verdict_of}
 use Rattle.tesla_receiver.specs.History.{Event, Arrives, Takes, Ends, event_of, entry_of, IsLegalAfter, IsLegal, arrival_in, arrivals_in, gives, given_in, ends, has_end, reply_to, reply_with, State, Stands}
@@ -92,7 +89,8 @@ stands_more s after h event st config arrivals given ended calls = record {
   calls = calls ∙ ap (λ n. n + 1) st.calls ∙ sym (length-append h (entry_of s.config h event ∷ []));
 }
 
-given_same : (h : List Entry) (e : Entry) → gives e ≡ false → given_in h ≡ given_in (h ++ e ∷ [])
+-- an entry that gives nothing
+pub given_same : (h : List Entry) (e : Entry) → gives e ≡ false → given_in h ≡ given_in (h ++ e ∷ [])
 given_same h e none = sym (sum_by_push (λ x. cond (gives x) 1 0) h e ∙ ap (λ b. given_in h + cond b 1 0) none ∙ add-zero (given_in h))
 
 -- one arrival more
@@ -100,22 +98,22 @@ pub stands_arrival : (s after : State) (h : List Entry) (ingest reading : ℕ) (
 stands_arrival s after h ingest reading bytes st config arrivals given ended calls =
     let e : Entry = entry_of s.config h (Arrives ingest reading bytes) in
     stands_more s after h (Arrives ingest reading bytes) st config
-      (arrivals
-        ∙ ap (λ xs. xs ++ record { ingest = ingest; reading = reading; bytes = bytes; verdict = verdict_of s.config xs s.given ingest reading bytes } ∷ []) st.arrivals
-        ∙ ap (λ g. arrivals_in h ++ record { ingest = ingest; reading = reading; bytes = bytes; verdict = verdict_of s.config (arrivals_in h) g ingest reading bytes } ∷ []) st.given
-        ∙ sym (flat_map-append arrival_in h (e ∷ [])))
-      (given ∙ st.given ∙ given_same h e refl)
-      (ended ∙ st.ended ∙ ended_same h e s.config.ingests (λ k. refl))
-      calls
+    (arrivals
+    ∙ ap (λ xs. xs ++ record { ingest = ingest; reading = reading; bytes = bytes; verdict = verdict_of s.config xs s.given ingest reading bytes } ∷ []) st.arrivals
+    ∙ ap (λ g. arrivals_in h ++ record { ingest = ingest; reading = reading; bytes = bytes; verdict = verdict_of s.config (arrivals_in h) g ingest reading bytes } ∷ []) st.given
+    ∙ sym (flat_map-append arrival_in h (e ∷ [])))
+    (given ∙ st.given ∙ given_same h e refl)
+    (ended ∙ st.ended ∙ ended_same h e s.config.ingests (λ k. refl))
+    calls
 
 -- one end more
 pub stands_end : (s after : State) (h : List Entry) (ingest : ℕ) → Stands s h → after.config ≡ s.config → after.arrivals ≡ s.arrivals → after.given ≡ s.given → after.ended ≡ set s.ended ingest true → after.calls ≡ s.calls + 1 → Stands after (h ++ entry_of s.config h (Ends ingest) ∷ [])
 stands_end s after h ingest st config arrivals given ended calls =
     stands_more s after h (Ends ingest) st config
-      (arrivals ∙ st.arrivals ∙ sym (flat_map-append arrival_in h (Ended ingest ∷ []) ∙ append-nil (arrivals_in h)))
-      (given ∙ st.given ∙ given_same h (Ended ingest) refl)
-      (ended ∙ ap (λ bs. set bs ingest true) st.ended ∙ ended_more h ingest s.config.ingests)
-      calls
+    (arrivals ∙ st.arrivals ∙ sym (flat_map-append arrival_in h (Ended ingest ∷ []) ∙ append-nil (arrivals_in h)))
+    (given ∙ st.given ∙ given_same h (Ended ingest) refl)
+    (ended ∙ ap (λ bs. set bs ingest true) st.ended ∙ ended_more h ingest s.config.ingests)
+    calls
 
 -- the answer to a take, by what the receiver keeps
 pub reply_kept : (s : State) (h : List Entry) → Stands s h → reply_with s.arrivals s.given (slice_get (released s.config s.arrivals) s.given) (list_all (λ b. b) s.ended) ≡ reply_to s.config h
@@ -136,7 +134,7 @@ stands_take s after h releaser take into st reply config arrivals given ended ca
     let e : Entry = Taken releaser (reply_to s.config h) in
     let gave : is_given take ≡ gives e = sym (gives_shown releaser take into) ∙ ap (λ r. gives (Taken releaser r)) reply in
     stands_more s after h (Takes releaser) st config
-      (arrivals ∙ st.arrivals ∙ sym (flat_map-append arrival_in h (e ∷ []) ∙ append-nil (arrivals_in h)))
-      (given ∙ ap (λ b. s.given + cond b 1 0) gave ∙ ap (λ n. n + cond (gives e) 1 0) st.given ∙ sym (sum_by_push (λ x. cond (gives x) 1 0) h e))
-      (ended ∙ st.ended ∙ ended_same h e s.config.ingests (λ k. refl))
-      calls
+    (arrivals ∙ st.arrivals ∙ sym (flat_map-append arrival_in h (e ∷ []) ∙ append-nil (arrivals_in h)))
+    (given ∙ ap (λ b. s.given + cond b 1 0) gave ∙ ap (λ n. n + cond (gives e) 1 0) st.given ∙ sym (sum_by_push (λ x. cond (gives x) 1 0) h e))
+    (ended ∙ st.ended ∙ ended_same h e s.config.ingests (λ k. refl))
+    calls

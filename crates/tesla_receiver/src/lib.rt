@@ -10,6 +10,7 @@ mod history;
 mod holding;
 mod judging;
 mod keys;
+pub mod laws;
 mod packet;
 mod proving;
 mod receiver;
