@@ -3,3 +3,8 @@ pub mod EachAfter
 pub mod Newest
 pub mod Finds
 pub mod Verified
+pub mod Grown
+pub mod Verdicts
+pub mod Standing
+pub mod Places
+pub mod Playing

@@ -1,5 +1,5 @@
 -- Histories: what happened to a receiver, with its answers.
-use Rattle.std.specs.Prelude.{◌≡◌, ℕ, Bool, true, false, List, [], ◌∷◌, ◌++◌, length, Option, Some, None, slice_get, nat_lt, ◌==◌, if◌then◌else◌, count_by, flat_map, map}
+use Rattle.std.specs.Prelude.{◌≡◌, ℕ, Bool, true, false, List, [], ◌∷◌, ◌++◌, length, Option, Some, None, slice_get, ◌==◌, count_by, flat_map, map}
 use Rattle.std.specs.List.{list_any, list_all, range_with_len}
 use Rattle.tesla_capture.specs.declared.release.Head.{Head}
 use Rattle.tesla_frame.specs.Frame.{Frame, Data, Disclosure}
@@ -77,8 +77,8 @@ reply_with arrivals position None false = Empty
 unfoldable pub reply_to : Config → List Entry → Reply
 reply_to cfg history =
     reply_with (arrivals_in history) (given_in history)
-      (slice_get (released cfg (arrivals_in history)) (given_in history))
-      (list_all (has_end history) (range_with_len 0 cfg.ingests))
+    (slice_get (released cfg (arrivals_in history)) (given_in history))
+    (list_all (has_end history) (range_with_len 0 cfg.ingests))
 
 -- the entry of an event after a history: the event with its answer
 abbrev pub entry_of : Config → List Entry → Event → Entry

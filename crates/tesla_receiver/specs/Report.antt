@@ -1,5 +1,6 @@
 -- The counts of a history, and the release records that it gave.
-use Rattle.std.specs.Prelude.{ℕ, Bool, true, false, List, [], ◌++◌, length, ◌==◌, if◌then◌else◌, count_by, flat_map}
+use Rattle.std.specs.Prelude.{ℕ, List, [], length, ◌==◌, if◌then◌else◌, count_by, flat_map, slice_get}
+use Rattle.std.specs.List.{enumerate_from}
 use Rattle.tesla_capture.specs.Release.{release_text}
 use Rattle.tesla_receiver.specs.declared.history.Arrival.{Arrival}
 use Rattle.tesla_receiver.specs.declared.history.Entry.{Entry}
@@ -9,7 +10,10 @@ use Rattle.tesla_receiver.specs.declared.history.Reply.TheVariants.{Given, Empty
 use Rattle.tesla_receiver.specs.declared.report.Report.{Report}
 use Rattle.tesla_receiver.specs.declared.verdict.Verdict.{Verdict}
 use Rattle.tesla_receiver.specs.declared.verdict.Verdict.TheVariants.{Malformed, Foreign, Misfit, Future, BadKey, Late, Repeat, Full, Kept, Keys}
-use Rattle.tesla_receiver.specs.History.{arrivals_in, given_in}
+use Rattle.tesla_receiver.specs.declared.config.Config.{Config}
+use Rattle.tesla_receiver.specs.declared.release.Release.{Release}
+use Rattle.tesla_receiver.specs.Packets.{released}
+use Rattle.tesla_receiver.specs.History.{arrivals_in, given_in, payload_of, head_of}
 
 -- the place of a verdict in a report
 abbrev pub line_of : Verdict → ℕ
@@ -31,9 +35,18 @@ count_of line arrivals = count_by (λ arrival. line_of arrival.verdict == line) 
 abbrev pub report_on : List Arrival → ℕ → Report
 report_on arrivals given =
     record {
-      arrivals = length arrivals; malformed = count_of 1 arrivals; foreign = count_of 2 arrivals; misfit = count_of 3 arrivals;
-      future = count_of 4 arrivals; badkey = count_of 5 arrivals; late = count_of 6 arrivals; repeat = count_of 7 arrivals;
-      full = count_of 8 arrivals; kept = count_of 9 arrivals; keys = count_of 10 arrivals; given = given;
+      arrivals = length arrivals;
+      malformed = count_of 1 arrivals;
+      foreign = count_of 2 arrivals;
+      misfit = count_of 3 arrivals;
+      future = count_of 4 arrivals;
+      badkey = count_of 5 arrivals;
+      late = count_of 6 arrivals;
+      repeat = count_of 7 arrivals;
+      full = count_of 8 arrivals;
+      kept = count_of 9 arrivals;
+      keys = count_of 10 arrivals;
+      given = given;
     }
 
 -- the report of a history
@@ -54,3 +67,16 @@ record_in releaser (Ended ingest) = []
 -- the release records of a releaser's takes, in order
 abbrev pub records_of : ℕ → List Entry → List ℕ
 records_of releaser history = flat_map (record_in releaser) history
+
+-- the release record of a released packet, with how many were released before it
+abbrev pub text_of : List Arrival → ℕ × Release → List ℕ
+text_of arrivals p =
+    release_text (head_of p.0 p.1 (payload_of (slice_get arrivals p.1.place))) (payload_of (slice_get arrivals p.1.place))
+
+-- the release records of these packets, in order
+abbrev pub texts_of : List Arrival → List Release → List ℕ
+texts_of arrivals releases = flat_map (text_of arrivals) (enumerate_from 0 releases)
+
+-- the release records of all that is released
+abbrev pub released_text : Config → List Arrival → List ℕ
+released_text cfg arrivals = texts_of arrivals (released cfg arrivals)
