@@ -1,10 +1,12 @@
 //! The commands.
 #![tactic(auto)]
 
+mod judging;
 mod outcome;
 mod reading;
 mod words;
 
+pub use judging::{first_record, judge_capture};
 pub use outcome::Outcome;
 pub use reading::{ReadRefusal, read_up_to};
 pub use words::{ReplayWords, replay_words};
