@@ -24,6 +24,10 @@ pub record Faults : Type 0 where
   pub writes : ℕ
   pub openings : ℕ
 
+-- nothing failed yet
+abbrev pub no_faults : Faults
+no_faults = record { reads = 0; writes = 0; openings = 0 }
+
 -- what an opening does to the counts of its desk
 pub record CountsOpening (before now : Faults) (failed : Type 0) : Type 0 where
   pub reads : now.reads ≡ before.reads

@@ -45,10 +45,6 @@ bytes_in (Holds bytes failed) = Some bytes
 abbrev pub counts_of : MemoryDesk → Faults
 counts_of desk = record { reads = desk.reads; writes = desk.writes; openings = desk.openings }
 
--- the counts of a new desk
-abbrev pub counts_of_new : Faults
-counts_of_new = record { reads = 0; writes = 0; openings = 0 }
-
 -- how many bytes each new sink takes
 abbrev pub sink_room : MemoryDesk → ℕ
 sink_room desk = desk.room

@@ -6,9 +6,9 @@ mod desk;
 mod heap;
 mod memory;
 mod pages;
-mod stored;
 mod sink;
 mod source;
+mod stored;
 
 pub use desk::{CONSOLE, Desk, OpenRefusal};
 pub use heap::Heap;

@@ -2,8 +2,8 @@
 
 ghost use Rattle.std.specs.Prelude.{◌≡◌, ◌≢◌, ◌↔◌, false, List, ℕ, [], Some, IfOk, OnOk, OnErr};
 ghost use Rattle.std.specs.Option.{option_map};
-ghost use Rattle.tesla_desk.specs.Faults.{CountsOpening, after_source, after_sink};
-ghost use Rattle.tesla_desk.specs.Memory.{bytes_in, unread, read_faults_of, name_of, bytes_of, write_faults_of, room_of, page_under, counts_of, sink_room, counts_of_new, after_search};
+ghost use Rattle.tesla_desk.specs.Faults.{CountsOpening, no_faults, after_source, after_sink};
+ghost use Rattle.tesla_desk.specs.Memory.{bytes_in, unread, read_faults_of, name_of, bytes_of, write_faults_of, room_of, page_under, counts_of, sink_room, after_search};
 ghost use Rattle.tesla_desk.specs.Outside.{Untold, Absent, Holds, page_of, Opened};
 
 use crate::stored::{StoredPage, StoredPages, put_newest, stored_under};
@@ -26,7 +26,7 @@ impl MemoryDesk {
     /// A desk with no page and no faults, each of whose sinks takes `room` bytes.
     pub fn new(alloc: Global, room: usize) -> Result<MemoryDesk, NoMemory>
         ensures pages { IfOk result (λ desk. (n : List ℕ) → page_under desk n ≡ Absent) }
-        ensures counts { IfOk result (λ desk. counts_of desk ≡ counts_of_new) }
+        ensures counts { IfOk result (λ desk. counts_of desk ≡ no_faults) }
         ensures room { IfOk result (λ desk. sink_room desk ≡ room) }
     {
         Ok(MemoryDesk {

@@ -1,41 +1,67 @@
-//! Tests of what no clause says: that each call that can want memory gives what it is asked for.
+//! Tests of what no clause says: that calls which can want memory give what they are asked for; and a caller that is proved from the traits alone.
 
 ghost use Rattle.std.specs.Prelude.{◌≡◌, ◌≢◌, true, List, ℕ, Some, Bool};
+ghost use Rattle.tesla_desk.specs.Faults.{HasCause, Rose};
 ghost use Rattle.tesla_desk.specs.Outside.{Holds, with_bytes};
 
 use super::*;
 use std::test::Fail;
 
-// Copies what is left in a source, as a caller above would.
-fn copy_all<I: Source, O: Sink>(from: &mut I, to: &mut O) -> bool
-    ensures copied { (bytes : List ℕ) → I.left from.old ≡ Some bytes → result ≡ true → O.written to.new ≡ with_bytes (O.written to.old) bytes }
+/// What became of a copy.
+#[derive(Clone, Copy, Debug, PartialEq, Eq)]
+enum Copied {
+    Whole,
+    TooLong,
+    ReadFault,
+    WriteFault,
+    OpenFault,
+    NoMemory,
+}
+
+// Copies what is left in a source, at most 100 pieces of it.
+fn copy_all<I: Source, O: Sink>(from: &mut I, to: &mut O) -> Copied
+    ensures whole { (bytes : List ℕ) → I.left from.old ≡ Some bytes → result ≡ Copied.Whole → O.written to.new ≡ with_bytes (O.written to.old) bytes }
+    ensures reads { HasCause (I.faults from.old) (I.faults from.new) (result ≡ Copied.ReadFault) }
+    ensures writes { HasCause (O.faults to.old) (O.faults to.new) (result ≡ Copied.WriteFault) }
+    ensures opened { result ≢ Copied.OpenFault }
     ensures name { O.name to.new ≡ O.name to.old }
 {
     let mut buffer = [0u8; 4];
-    for _ in 0..u64::MAX {
+    for _ in 0..100 {
         match from.read(&mut buffer) {
             ReadStep::Got(count) => {
                 if !write_all(to, &buffer[..count]) {
-                    return false;
+                    return Copied::WriteFault;
                 }
             }
-            ReadStep::End => return true,
-            ReadStep::Failed => return false,
+            ReadStep::End => return Copied::Whole,
+            ReadStep::Failed => return Copied::ReadFault,
         }
     }
-    false
+    Copied::TooLong
 }
 
-// Copies a page, as a caller above would.
-fn copy_page<D: Desk>(desk: &mut D, from: &str, to: &str) -> bool
-    ensures { (bytes written : List ℕ) (failed other : Bool) → D.page desk.old from.now ≡ Holds bytes failed → result ≡ true → D.page desk.new to.now ≡ Holds written other → written ≡ bytes }
+// Copies a page, as a caller above does its work: by the traits alone.
+fn copy_page<D: Desk>(desk: &mut D, from: &str, to: &str) -> Copied
+    ensures whole { (bytes written : List ℕ) (failed other : Bool) → D.page desk.old from.now ≡ Holds bytes failed → result ≡ Copied.Whole → D.page desk.new to.now ≡ Holds written other → written ≡ bytes }
+    ensures read { result ≡ Copied.ReadFault → Rose (D.faults desk.old).reads (D.faults desk.new).reads }
+    ensures write { result ≡ Copied.WriteFault → Rose (D.faults desk.old).writes (D.faults desk.new).writes }
+    ensures open { result ≡ Copied.OpenFault → Rose (D.faults desk.old).openings (D.faults desk.new).openings }
 {
-    let Ok(mut source) = desk.open_source(from) else {
-        return false;
+    let mut source = match desk.open_source(from) {
+        Ok(source) => source,
+        Err(OpenRefusal::Failed) => return Copied::OpenFault,
+        Err(OpenRefusal::NoMemory) => return Copied::NoMemory,
     };
-    let Ok(mut sink) = desk.open_sink(to) else {
-        desk.close_source(source);
-        return false;
+    let mut sink = match desk.open_sink(to) {
+        Ok(sink) => sink,
+        Err(refusal) => {
+            desk.close_source(source);
+            return match refusal {
+                OpenRefusal::Failed => Copied::OpenFault,
+                OpenRefusal::NoMemory => Copied::NoMemory,
+            };
+        }
     };
     let done = copy_all(&mut source, &mut sink);
     desk.close_source(source);
@@ -47,12 +73,12 @@ fn copy_page<D: Desk>(desk: &mut D, from: &str, to: &str) -> bool
 fn a_page_is_copied(rt: HostRuntime) -> Result<(), Fail> {
     let mut desk = MemoryDesk::new(rt.alloc(), 16)?;
     desk.put_page("from", b"first to last")?;
-    assert!(rt; copy_page(&mut desk, "from", "to"));
+    assert_eq!(rt; copy_page(&mut desk, "from", "to"), Copied::Whole);
     assert_eq!(rt;
         desk.page("to").ok_or("no page")?,
         b"first to last".as_slice()
     );
-    assert!(rt; !copy_page(&mut desk, "nothing", "to"));
+    assert_eq!(rt; copy_page(&mut desk, "nothing", "to"), Copied::OpenFault);
     Ok(())
 }
 

@@ -1,7 +1,7 @@
 //! The desk of the running system.
 
 ghost use Rattle.std.specs.Prelude.{◌≡◌};
-ghost use Rattle.tesla_desk.specs.Faults.{HasCause};
+ghost use Rattle.tesla_desk.specs.Faults.{HasCause, no_faults};
 ghost use Rattle.tesla_desk.specs.Outside.{Untold};
 
 use crate::sink::Target;
@@ -23,9 +23,7 @@ pub struct LiveDesk<'a, R> {
 impl<'a, R: Files + Print + AllocGlobal> LiveDesk<'a, R> {
     /// A desk with no faults.
     pub fn new(rt: &'a R) -> LiveDesk<'a, R>
-        ensures reads { result.reads ≡ 0 }
-        ensures writes { result.writes ≡ 0 }
-        ensures openings { result.openings ≡ 0 }
+        ensures { ⟦<LiveDesk<'a, R> as Desk>⟧.faults result ≡ no_faults }
     {
         LiveDesk {
             rt,

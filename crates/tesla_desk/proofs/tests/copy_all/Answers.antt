@@ -1,10 +1,12 @@
-use Rattle.std.proofs.Common.{◌∙◌, refl}
+use Rattle.std.proofs.Common.{◌∙◌, refl, arith}
 use Rattle.tesla_desk.proofs.Told.{after_more, with_more}
 use Rattle.tesla_desk.proofs.tests.copy_all.Goals as goal
 
 pub loop-preserved : goal.loop-preserved
 loop-preserved g c = record {
   size = c.read.auto.into ∙ c.loop.invariant.size;
+  reads = omega (arith, c.in-Got.ensures.cause.stays);
+  writes = omega (arith, c.if-not-write_all.ensures.cause.stays);
   name = c.write_all.ensures.name ∙ c.loop.invariant.name;
   moved =
       let before = c.loop.invariant.moved in
