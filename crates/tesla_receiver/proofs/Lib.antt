@@ -2,3 +2,4 @@ pub mod Enumerated
 pub mod EachAfter
 pub mod Newest
 pub mod Finds
+pub mod Verified

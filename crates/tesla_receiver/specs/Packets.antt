@@ -49,12 +49,14 @@ packet_in Keys frame = None
 abbrev pub packet_of : Arrival → Option Packet
 packet_of arrival = packet_in arrival.verdict (frame_of arrival.bytes)
 
--- the tag is the one under the key that this key walks to at the packet's interval
+-- the tag that the packet has for the chain if it is authentic: the one under the key that this key walks to at the packet's interval
+abbrev pub tag_by : Config → DataFrame → ℕ → KeyRow → List ℕ
+tag_by cfg f chain row =
+    tag_of (tag_length cfg.setup) (walk row.key (row.index - f.name.interval)) cfg.setup.stream (record { 0 = chain }) f.name f.payload
+
 abbrev pub verifies_row : Config → DataFrame → ℕ → KeyRow → Option TagRow → Bool
 verifies_row cfg f chain row None = false
-verifies_row cfg f chain row (Some tagged) =
-    bytes_eq tagged.tag
-      (tag_of (tag_length cfg.setup) (walk row.key (row.index - f.name.interval)) cfg.setup.stream (record { 0 = chain }) f.name f.payload)
+verifies_row cfg f chain row (Some tagged) = bytes_eq tagged.tag (tag_by cfg f chain row)
 
 -- the packet's tag for the chain verifies under the key
 abbrev pub verifies : Config → DataFrame → ℕ → KeyRow → Bool

@@ -6,6 +6,7 @@ mod config;
 mod history;
 mod keys;
 mod packet;
+mod proving;
 mod release;
 mod report;
 mod verdict;
