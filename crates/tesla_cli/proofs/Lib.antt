@@ -1,2 +1,4 @@
 pub mod SixWords
 pub mod Rests
+pub mod GivenPackets
+pub mod Stages

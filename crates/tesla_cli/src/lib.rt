@@ -3,6 +3,7 @@
 
 mod judging;
 mod outcome;
+mod playing;
 mod reading;
 mod words;
 
