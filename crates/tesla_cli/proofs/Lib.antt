@@ -2,3 +2,5 @@ pub mod SixWords
 pub mod Rests
 pub mod GivenPackets
 pub mod Stages
+pub mod Planned
+pub mod Setups

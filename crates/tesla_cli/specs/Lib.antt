@@ -3,3 +3,5 @@ pub mod Reading
 pub mod Outcome
 pub mod Judging
 pub mod Playing
+pub mod Run
+pub mod Replay

@@ -3,6 +3,7 @@
 ghost use Rattle.std.specs.Prelude.{◌≡◌, true, [], None, Err, IfOk, IfErr, MatchOption};
 ghost use Rattle.tesla_capture.specs.Reading.{records_of};
 ghost use Rattle.tesla_capture.specs.Shown.{shown};
+ghost use Rattle.tesla_cli.specs.Replay.{IsCaptureRefusal};
 ghost use Rattle.tesla_cli.specs.Judging.{is_disclosure, are_playable, capture_judged, is_whole, records_in, IsBody, StandsFirst, IsPlayable};
 
 use crate::Outcome;
@@ -18,6 +19,7 @@ pub const MOST_CAPTURE: usize = 1 << 30;
 #[tactic(auto, unfolding(crate::specs::Judging::capture_judged))]
 pub fn judge_capture(capacity: u32, bytes: &[u8]) -> Result<&[u8], Outcome>
     ensures found { IfOk result (λ rest. IsPlayable capacity bytes.now rest.now) }
+    ensures kind { IfErr result IsCaptureRefusal }
     ensures refused { IfErr result (λ refusal. capture_judged capacity bytes.now ≡ Err refusal) }
 {
     if MOST_CAPTURE < bytes.len() {

@@ -1,10 +1,12 @@
 //! The commands.
 #![tactic(auto)]
 
+mod files;
 mod judging;
 mod outcome;
 mod playing;
 mod reading;
+mod replay;
 mod words;
 
 pub use judging::{first_record, judge_capture};
