@@ -4,3 +4,4 @@ pub mod GivenPackets
 pub mod Stages
 pub mod Planned
 pub mod Setups
+pub mod Telling

@@ -5,3 +5,4 @@ pub mod Judging
 pub mod Playing
 pub mod Run
 pub mod Replay
+pub mod TopCall

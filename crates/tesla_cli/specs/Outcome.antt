@@ -58,3 +58,21 @@ text_of OpenFault = line_of OpenFault
 -- what becomes of a report that is to be printed: it is done, or there is no memory, or a write failed
 abbrev pub TellsReport : Report → Outcome → Type 0
 TellsReport report outcome = (outcome ≡ Done report) ⊎ (outcome ≡ NoMemory) ⊎ (outcome ≡ WriteFault)
+
+-- what becomes of an outcome that is printed: a report may be lost, and any other stays
+abbrev pub TellsOutcome : Outcome → Outcome → Type 0
+TellsOutcome (Done report) printed = TellsReport report printed
+TellsOutcome Usage printed = printed ≡ Usage
+TellsOutcome SetupBad printed = printed ≡ SetupBad
+TellsOutcome SetupLater printed = printed ≡ SetupLater
+TellsOutcome CaptureBad printed = printed ≡ CaptureBad
+TellsOutcome CaptureLater printed = printed ≡ CaptureLater
+TellsOutcome ReadFault printed = printed ≡ ReadFault
+TellsOutcome WriteFault printed = printed ≡ WriteFault
+TellsOutcome NoMemory printed = printed ≡ NoMemory
+TellsOutcome OpenFault printed = printed ≡ OpenFault
+
+-- a report was lost since a write failed
+abbrev pub IsLost : Outcome → Outcome → Type 0
+IsLost (Done report) printed = printed ≡ WriteFault
+IsLost _ printed = ⊥

@@ -7,9 +7,11 @@ mod outcome;
 mod playing;
 mod reading;
 mod replay;
+mod run;
 mod words;
 
 pub use judging::{first_record, judge_capture};
 pub use outcome::Outcome;
 pub use reading::{ReadRefusal, read_up_to};
+pub use run::run_here;
 pub use words::{ReplayWords, replay_words};

@@ -3,7 +3,7 @@
 ghost use Rattle.std.specs.Prelude.{◌≡◌, ◌++◌, string_bytes, IfOk, OnOk};
 ghost use Rattle.tesla_desk.specs.Faults.{HasCause};
 ghost use Rattle.tesla_desk.specs.Outside.{with_bytes};
-ghost use Rattle.tesla_cli.specs.Outcome.{status_of, line, report_text, line_of, TellsReport};
+ghost use Rattle.tesla_cli.specs.Outcome.{status_of, line, report_text, line_of, text_of, TellsReport, TellsOutcome, IsLost};
 
 use std::alloc::Global;
 use std::fmt::Write;
@@ -116,4 +116,32 @@ fn print_report<S: Sink>(alloc: Global, console: &mut S, report: &Report) -> Out
         return Outcome::WriteFault;
     }
     Outcome::Done(*report)
+}
+
+// Prints the line of an outcome. A fault in that changes nothing.
+fn print_line<S: Sink>(console: &mut S, outcome: Outcome) -> Outcome
+    ensures same { result ≡ outcome }
+    ensures told { S.faults console.new ≡ 0 → S.written console.new ≡ with_bytes (S.written console.old) (line_of outcome) }
+    ensures cause { HasCause (S.faults console.old) (S.faults console.new) ⊥ }
+    ensures name { S.name console.new ≡ S.name console.old }
+{
+    let _ = write_all(console, outcome.line());
+    outcome
+}
+
+/// Prints an outcome. Where a report can't be printed whole, the outcome is the fault in that. A fault in
+/// printing any other line changes nothing.
+pub fn print<S: Sink>(alloc: Global, console: &mut S, outcome: Outcome) -> Outcome
+    ensures tells { TellsOutcome outcome result }
+    ensures told { S.faults console.old ≡ 0 → S.faults console.new ≡ 0 → S.written console.new ≡ with_bytes (S.written console.old) (text_of result) }
+    ensures cause { HasCause (S.faults console.old) (S.faults console.new) (IsLost outcome result) }
+    ensures name { S.name console.new ≡ S.name console.old }
+{
+    match outcome {
+        Outcome::Done(report) => match print_report(alloc, console, &report) {
+            Outcome::Done(report) => Outcome::Done(report),
+            lost => print_line(console, lost),
+        },
+        other => print_line(console, other),
+    }
 }
