@@ -28,20 +28,23 @@ fn write_both<S: Sink>(sink: &mut S, front: &[u8], back: &[u8]) -> bool
 fn head_bytes(head: &Head) -> [u8; 17]
     ensures { result ≡ head_text head.now }
 {
-    let [a, b, c, d, e, f, g, h] = head.position.to_be_bytes();
-    let [i, j, k, l] = head.interval.to_be_bytes();
-    let [m, n] = head.number.to_be_bytes();
-    let [o, p] = head.length.to_be_bytes();
-    [a, b, c, d, e, f, g, h, i, j, k, l, m, n, head.chain, o, p]
+    let mut bytes = [0; 17];
+    bytes[..8].copy_from_slice(&head.position.to_be_bytes());
+    bytes[8..12].copy_from_slice(&head.interval.to_be_bytes());
+    bytes[12..14].copy_from_slice(&head.number.to_be_bytes());
+    bytes[14] = head.chain;
+    bytes[15..].copy_from_slice(&head.length.to_be_bytes());
+    bytes
 }
 
 /// The fields of an arrival before its bytes.
 fn arrival_bytes(reading: u64, length: u16) -> [u8; 11]
     ensures { result ≡ 1 ∷ [] ++ to_be_bytes w64 reading ++ to_be_bytes w16 length }
 {
-    let [a, b, c, d, e, f, g, h] = reading.to_be_bytes();
-    let [i, j] = length.to_be_bytes();
-    [1, a, b, c, d, e, f, g, h, i, j]
+    let mut bytes = [1; 11];
+    bytes[1..9].copy_from_slice(&reading.to_be_bytes());
+    bytes[9..].copy_from_slice(&length.to_be_bytes());
+    bytes
 }
 
 /// Writes the head of a capture. It takes no memory.
@@ -72,7 +75,7 @@ pub fn write_arrival<S: Sink>(sink: &mut S, reading: u64, bytes: &[u8]) -> bool
 
 /// Writes the record of a take. It takes no memory.
 ///
-/// True: the record was appended. False: nothing was appended, and the sink's count of faults rose.
+/// True: the record was appended. False: a front of it was appended, and the sink's count of faults rose.
 pub fn write_take<S: Sink>(sink: &mut S) -> bool
     ensures all { result ≡ true → S.written sink.new ≡ with_bytes (S.written sink.old) (record_text Takes) }
     ensures front { AppendsFront (S.written sink.old) (S.written sink.new) (record_text Takes) }

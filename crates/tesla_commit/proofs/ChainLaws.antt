@@ -12,13 +12,13 @@ use Rattle.tesla_commit.specs.declared.refusal.SetupKind.TheVariants.{BadLine, N
 use Rattle.tesla_commit.proofs.RowLaws.{onto, onto_first, not_line, bind_ok, guard_ok, at_ok, ok_is, row_is}
 use Rattle.tesla_commit.proofs.WordLaws.{has_first, lines_of_nothing, only_line, is_only}
 
-abbrev taken : List ℕ × List (List ℕ) → Result (List ℕ × List (List ℕ)) (ℕ × SetupKind)
+abbrev pub taken : List ℕ × List (List ℕ) → Result (List ℕ × List (List ℕ)) (ℕ × SetupKind)
 taken x = Ok x
 
 abbrev refused : ℕ × SetupKind → Result (List ℕ × List (List ℕ)) (ℕ × SetupKind)
 refused e = Err e
 
-same_taken : (x y : List ℕ × List (List ℕ)) → taken x ≡ taken y → x ≡ y
+pub same_taken : (x y : List ℕ × List (List ℕ)) → taken x ≡ taken y → x ≡ y
 same_taken x y h = cc
 
 pair_is : (a b : List ℕ) (c d : List (List ℕ)) → taken (a, c) ≡ taken (b, d) → (a ≡ b) × (c ≡ d)
@@ -112,23 +112,42 @@ row_refused last number before front parts others line refusals.NoMemory ne h k 
 row_stands : (last before : ℕ) (made row : ChainRow) → row_judged last before made ≡ Ok row → row_judged last before row ≡ Ok row
 row_stands last before made row h = subst (λ (r : ChainRow). row_judged last before r ≡ Ok row) (row_is last before made row h).0 h
 
-pub chain_row : (last before : ℕ) (line : List ℕ) (row : ChainRow) → chain_in last before line ≡ Ok row → row_judged last before row ≡ Ok row
+-- what a line says where it is the row of a chain
+pub record IsChain (last before : ℕ) (text : List ℕ) (row : ChainRow) : Type 0 where
+  pub word : List ℕ × List ℕ × List ℕ
+  pub number : ℕ
+  pub index : ℕ
+  pub delay : ℕ
+  pub key : List ℕ
+  pub said : chain_words (words text) ≡ Ok word
+  pub delays : number_in word.0 ≡ Ok number
+  pub indexes : number_in word.1 ≡ Ok index
+  pub limit : within 1 4096 number ≡ Ok delay
+  pub keys : hex_in 32 word.2 ≡ Ok key
+  pub judged : row_judged last before (record { delay = delay; index = index; key = record { 0 = key } }) ≡ Ok row
+
+pub chain_is : (last before : ℕ) (text : List ℕ) (row : ChainRow) → chain_in last before text ≡ Ok row → IsChain last before text row
 unfolding chain_in
-chain_row last before line row h =
-    let w = bind_ok (chain_words (words line)) (λ word. number_in word.0 >>= λ number. number_in word.1 >>= λ index. within 1 4096 number >>= λ delay. hex_in 32 word.2 >>= λ key. row_judged last before (record { delay = delay; index = index; key = record { 0 = key } })) row h in
+chain_is last before text row h =
+    let w = bind_ok (chain_words (words text)) (λ word. number_in word.0 >>= λ number. number_in word.1 >>= λ index. within 1 4096 number >>= λ delay. hex_in 32 word.2 >>= λ key. row_judged last before (record { delay = delay; index = index; key = record { 0 = key } })) row h in
     let n = bind_ok (number_in w.0.0) (λ number. number_in w.0.1 >>= λ index. within 1 4096 number >>= λ delay. hex_in 32 w.0.2 >>= λ key. row_judged last before (record { delay = delay; index = index; key = record { 0 = key } })) row w.2 in
     let i = bind_ok (number_in w.0.1) (λ index. within 1 4096 n.0 >>= λ delay. hex_in 32 w.0.2 >>= λ key. row_judged last before (record { delay = delay; index = index; key = record { 0 = key } })) row n.2 in
     let d = bind_ok (within 1 4096 n.0) (λ delay. hex_in 32 w.0.2 >>= λ key. row_judged last before (record { delay = delay; index = i.0; key = record { 0 = key } })) row i.2 in
     let k = bind_ok (hex_in 32 w.0.2) (λ key. row_judged last before (record { delay = d.0; index = i.0; key = record { 0 = key } })) row d.2 in
-    row_stands last before (record { delay = d.0; index = i.0; key = record { 0 = k.0 } }) row k.2
+    record { word = w.0; number = n.0; index = i.0; delay = d.0; key = k.0; said = w.1; delays = n.1; indexes = i.1; limit = d.1; keys = k.1; judged = k.2 }
 
-abbrev no_row : ℕ → Bool → Result (List ChainRow) (ℕ × SetupKind)
+pub chain_row : (last before : ℕ) (text : List ℕ) (row : ChainRow) → chain_in last before text ≡ Ok row → row_judged last before row ≡ Ok row
+chain_row last before text row h =
+    let is = chain_is last before text row h in
+    row_stands last before (record { delay = is.delay; index = is.index; key = record { 0 = is.key } }) row is.judged
+
+abbrev pub no_row : ℕ → Bool → Result (List ChainRow) (ℕ × SetupKind)
 no_row number first = cond first (Err (number, NoChain)) (Ok [])
 
-abbrev no_line : ℕ → Bool → Result (List ChainRow) (ℕ × SetupKind)
+abbrev pub no_line : ℕ → Bool → Result (List ChainRow) (ℕ × SetupKind)
 no_line number over = cond over (Err (number, TooManyChains)) (Err (number, BadLine))
 
-last_ok : (none first over : Bool) (number : ℕ) (rows : List ChainRow) → cond none (no_row number first) (no_line number over) ≡ Ok rows → (none ≡ true) × (first ≡ false) × (rows ≡ [])
+pub last_ok : (none first over : Bool) (number : ℕ) (rows : List ChainRow) → cond none (no_row number first) (no_line number over) ≡ Ok rows → (none ≡ true) × (first ≡ false) × (rows ≡ [])
 last_ok true true over number rows h = absurd cc
 last_ok true false over number rows h = (refl, refl, sym (ok_is [] rows (Ok []) refl h))
 last_ok false first true number rows h = absurd cc

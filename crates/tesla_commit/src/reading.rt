@@ -1,6 +1,9 @@
 //! Reading a setup's text.
 
-ghost use Rattle.std.specs.Prelude.{◌≡◌, ◌<◌, ◌^◌, IfOk};
+ghost use Rattle.std.specs.Prelude.{◌≡◌, ◌⊎◌, IfOk};
+ghost use Rattle.tesla_commit.specs.declared.refusal.SetupRefusal.TheVariants as refusals;
+ghost use Rattle.tesla_commit.specs.Parts.{Parts};
+ghost use Rattle.tesla_commit.specs.SetupText.{IsSetup};
 ghost use Rattle.tesla_clock.specs.Schedule.{IsSchedule};
 ghost use Rattle.tesla_commit.specs.Judging.{Gives};
 ghost use Rattle.tesla_commit.specs.Reading.{lines, chains_judged, opening_judged, times_judged, judged};
@@ -81,10 +84,10 @@ fn chains(alloc: Global, last: u32, text: &[u8]) -> Result<Vec<ChainRow>, SetupR
     Ok(rows)
 }
 
-/// The setup that a text spells, or the first refused line, with line 0 for a text of more than 4,096 bytes.
+/// What a whole text is judged to say.
 #[tactic(auto, unfolding(crate::specs::Reading::judged))]
-pub fn read_setup(alloc: Global, text: &[u8]) -> Result<Setup, SetupRefusal>
-    ensures exact { Gives (λ setup. setup) result (judged text.now) }
+fn all(alloc: Global, text: &[u8]) -> Result<Setup, SetupRefusal>
+    ensures { Gives (λ setup. setup) result (judged text.now) }
 {
     if text.len() > 4096 {
         return Err(SetupRefusal::At {
@@ -99,4 +102,19 @@ pub fn read_setup(alloc: Global, text: &[u8]) -> Result<Setup, SetupRefusal>
     };
     let rows = chains(alloc, schedule.last(), rest)?;
     Ok(Setup::assemble(stream, schedule, rows))
+}
+
+/// The setup that a text spells. Else the first refused line, counted from 1, and what is wrong with it:
+/// `TooLong` at line 0 comes first, and within a line the kinds come in the order `NoChain`,
+/// `TooManyChains`, `BadLine`, `BadNumber`, `LimitPassed`, `BadHex`, `DelaysNotRising`, `IndexPastLast`.
+/// Each setup has one spelling.
+pub fn read_setup(alloc: Global, text: &[u8]) -> Result<Setup, SetupRefusal>
+    // Which setup, or which line and kind, unless memory runs out.
+    ensures exact { Gives (λ setup. setup) result (judged text.now) }
+    // What is read is spelled so.
+    ensures found { IfOk result (λ setup. IsSetup text.now setup) }
+    // What is spelled so is read, unless memory runs out.
+    ensures only { (setup : Parts) → IsSetup text.now setup → (result ≡ Ok setup) ⊎ (result ≡ Err refusals.NoMemory) }
+{
+    all(alloc, text)
 }

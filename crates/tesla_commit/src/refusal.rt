@@ -1,6 +1,7 @@
 //! Why a setup is refused.
 
-ghost use Rattle.std.specs.Prelude.{◌≡◌};
+ghost use Rattle.std.specs.Prelude.{◌≡◌, Some};
+ghost use Rattle.tesla_commit.specs.Names.{kind_name};
 ghost use Rattle.tesla_commit.specs.declared.refusal.SetupRefusal.TheVariants as refusals;
 
 use std::alloc::{AllocError, AllocFailed};
@@ -29,20 +30,28 @@ pub enum SetupKind {
     TooLong,
 }
 
+/// The name of a kind.
+fn name(kind: SetupKind) -> &'static str
+    ensures { result.now ≡ kind_name kind }
+{
+    match kind {
+        SetupKind::BadLine => "BadLine",
+        SetupKind::BadNumber => "BadNumber",
+        SetupKind::BadHex => "BadHex",
+        SetupKind::NoChain => "NoChain",
+        SetupKind::TooManyChains => "TooManyChains",
+        SetupKind::DelaysNotRising => "DelaysNotRising",
+        SetupKind::IndexPastLast => "IndexPastLast",
+        SetupKind::LimitPassed => "LimitPassed",
+        SetupKind::TooLong => "TooLong",
+    }
+}
+
 impl fmt::Display for SetupKind {
+    ghost output = { λ kind. Some (kind_name kind) };
+
     fn fmt<W: fmt::Write>(&self, f: &mut fmt::Formatter<W>) -> fmt::Result {
-        let name = match self {
-            SetupKind::BadLine => "BadLine",
-            SetupKind::BadNumber => "BadNumber",
-            SetupKind::BadHex => "BadHex",
-            SetupKind::NoChain => "NoChain",
-            SetupKind::TooManyChains => "TooManyChains",
-            SetupKind::DelaysNotRising => "DelaysNotRising",
-            SetupKind::IndexPastLast => "IndexPastLast",
-            SetupKind::LimitPassed => "LimitPassed",
-            SetupKind::TooLong => "TooLong",
-        };
-        f.write_str(name)
+        f.write_str(name(*self))
     }
 }
 

@@ -6,7 +6,8 @@ use std::test::Fail;
 use tesla_base::{Key, StreamId};
 use tesla_clock::Schedule;
 
-const BASE: &str = "tesla 1\nstream 00000000000000a7\nstart 1000000\ninterval 100000\nlast 8\nchain 2 0 d37e38b1539f22b758d1e34d417c1032bee6369ad6cd313ca36c4c745fa2a941\nchain 5 0 9ce5072017e83d06da080924aa2251a73ea445e5986eb68ca2d8fb6a3bf70ced\n";
+const BASE: &str =
+    "tesla 1\nstream 00000000000000a7\nstart 1000000\ninterval 100000\nlast 8\nchain 2 0 d37e38b1539f22b758d1e34d417c1032bee6369ad6cd313ca36c4c745fa2a941\nchain 5 0 9ce5072017e83d06da080924aa2251a73ea445e5986eb68ca2d8fb6a3bf70ced\n";
 
 // What is told of a text: a setup, or its refusal.
 fn told(alloc: Global, text: &str) -> Result<String, AllocError> {
@@ -55,6 +56,10 @@ fn base_setup(rt: HostRuntime) -> Result<(), Fail> {
     )?;
     assert_eq!(rt; made.count(), 2);
     assert_eq!(rt; made.row(1), second);
+    let text = write_setup(rt.alloc(), &made)
+        .ok()
+        .ok_or("there is memory")?;
+    assert_eq!(rt; text.as_slice(), BASE.as_bytes());
     Ok(())
 }
 
@@ -69,8 +74,24 @@ fn refused_rows(rt: HostRuntime) -> Result<(), Fail> {
     let stream = StreamId(0);
     let none = Setup::new(rt.alloc(), stream, schedule, [].as_slice());
     let same = Setup::new(rt.alloc(), stream, schedule, [row, row].as_slice());
-    assert!(rt; matches!(none, Err(SetupRefusal::At { line: 6, kind: SetupKind::NoChain })));
-    assert!(rt; matches!(same, Err(SetupRefusal::At { line: 7, kind: SetupKind::DelaysNotRising })));
+    assert!(rt;
+        matches!(
+            none,
+            Err(SetupRefusal::At {
+                line: 6,
+                kind: SetupKind::NoChain
+            })
+        )
+    );
+    assert!(rt;
+        matches!(
+            same,
+            Err(SetupRefusal::At {
+                line: 7,
+                kind: SetupKind::DelaysNotRising
+            })
+        )
+    );
     Ok(())
 }
 
@@ -102,7 +123,11 @@ fn refused_texts(rt: HostRuntime) -> Result<(), Fail> {
         ("chain 2 0 d", "chain 0 0 D", "6 LimitPassed"),
         ("chain 2 0 d", "chain 2 0 D", "6 BadHex"),
         ("chain 2 0", "chain 2 9", "6 IndexPastLast"),
-        ("chain 2 0", "chain 2 18446744073709551615", "6 IndexPastLast"),
+        (
+            "chain 2 0",
+            "chain 2 18446744073709551615",
+            "6 IndexPastLast",
+        ),
         ("chain 2 0", "chain 2 8", "setup"),
         ("chain 2 0", "chain 5 0", "7 DelaysNotRising"),
         ("chain 5 0", "chain 2 9", "7 DelaysNotRising"),
@@ -148,6 +173,14 @@ fn refused_ends(rt: HostRuntime) -> Result<(), Fail> {
 fn refused_length(rt: HostRuntime) -> Result<(), Fail> {
     let text = vec![in rt.alloc(); b'c'; 4097]?;
     let refusal = read_setup(rt.alloc(), text.as_slice());
-    assert!(rt; matches!(refusal, Err(SetupRefusal::At { line: 0, kind: SetupKind::TooLong })));
+    assert!(rt;
+        matches!(
+            refusal,
+            Err(SetupRefusal::At {
+                line: 0,
+                kind: SetupKind::TooLong
+            })
+        )
+    );
     Ok(())
 }

@@ -1,3 +1,4 @@
 pub mod Loop
 pub mod Spelled
 pub mod Both
+pub mod Begun

@@ -212,7 +212,7 @@ key_row_takes bytes x fits e =
     let e1 = Takes-then a.0.1 (to_be_bytes w32 b.0.0) b.0.1 d.0.0.0 d.0.1 t.0 u.0 in
     let e0 = Takes-then bytes (a.0.0 ∷ []) a.0.1 (to_be_bytes w32 b.0.0 ++ d.0.0.0) d.0.1 s.0 e1 in
     let made : KeyRow × List ℕ = (record { chain = record { 0 = a.0.0 }; index = b.0.0; key = d.0.0 }, d.0.1) in
-    subst (λ (p : KeyRow × List ℕ). Takes bytes (key_row_text p.0) p.1 × IsKeyRow p.0) (some_is made x d.2)
+    subst (λ (p : KeyRow × List ℕ). Takes bytes (key_row_text p.0) p.1 × IsKeyRow p.0) {x = made} (some_is made x d.2)
     (e0, record { chain = s.1; index = t.1; key = u.1 })
 
 key_row_again : (x : KeyRow) (rest : List ℕ) → IsKeyRow x → key_row_at (key_row_text x ++ rest) ≡ Some (x, rest)

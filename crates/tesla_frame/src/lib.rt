@@ -7,10 +7,12 @@ mod reading;
 mod row;
 mod rows;
 mod view;
+mod writing;
 
 pub use reading::read_frame;
 pub use row::KeyRow;
 pub use view::{DataView, FrameView, KeysView};
+pub use writing::{write_data, write_disclosure};
 
 #[cfg(test)]
 mod tests;

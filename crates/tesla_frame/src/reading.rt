@@ -12,7 +12,7 @@ use crate::view::{DataView, FrameView, KeysView};
 use tesla_base::{Name, StreamId};
 
 /// The first bytes of every frame: the magic, and version 1.
-const HEAD: [u8; 5] = [b'T', b'S', b'L', b'A', 1];
+pub const HEAD: [u8; 5] = [b'T', b'S', b'L', b'A', 1];
 
 /// Whether each chain's number is above the one before.
 fn do_chains_rise(rows: &[KeyRow]) -> bool

@@ -11,7 +11,9 @@ use tesla_base::{Key, Name, StreamId, Tag};
 /// The frame that a datagram is.
 #[derive(Debug, Drop)]
 pub enum FrameView<'a> {
+    /// A message with its tags, and perhaps keys.
     Data(DataView<'a>),
+    /// Keys alone.
     Disclosure(KeysView<'a>),
 }
 

@@ -3,3 +3,6 @@ pub mod EachAfter
 pub mod Newest
 pub mod Finds
 pub mod Verified
+pub mod Grown
+pub mod Verdicts
+pub mod Standing

@@ -1,6 +1,7 @@
 -- The one answer of a receiver to each event.
 use Rattle.std.specs.Prelude.{ℕ, ◌+◌, Bool, true, not, ◌&&◌, ◌||◌, List, [], ◌∷◌, ◌++◌, length, Option, Some, None, is_some, unwrap_or, option_map, nat_lt, ◌==◌, if◌then◌else◌, find}
 use Rattle.std.specs.List.{list_any, enumerate_from}
+use Rattle.tesla_base.specs.declared.names.Key.{Key}
 use Rattle.tesla_base.specs.declared.names.StreamId.{StreamId}
 use Rattle.tesla_clock.specs.Schedule.{bound_of}
 use Rattle.tesla_frame.specs.declared.row.KeyRow.{KeyRow}
@@ -19,19 +20,30 @@ abbrev pub stream_of : Frame → StreamId
 stream_of (Data f) = f.stream
 stream_of (Disclosure f) = f.stream
 
+-- a data frame's row carries a key though its interval is below the chain's delay
+abbrev pub is_early : Config → ℕ → ℕ → Option Key → Bool
+is_early cfg interval chain key = is_some key && nat_lt interval (chain_row cfg chain).delay
+
+-- a disclosed key's chain isn't in the setup, or its index is above the last interval
+abbrev pub is_outside : Config → KeyRow → Bool
+is_outside cfg row = not (nat_lt row.chain.0 (length cfg.setup.rows)) || nat_lt cfg.setup.times.last row.index
+
 -- the frame doesn't fit the setup
 abbrev pub is_misfit : Config → Frame → Bool
 is_misfit cfg (Data f) =
     f.name.interval == 0 || nat_lt cfg.setup.times.last f.name.interval || not (length f.rows == length cfg.setup.rows)
-    || list_any (λ (p : ℕ × TagRow). is_some p.1.key && nat_lt f.name.interval (chain_row cfg p.0).delay) (enumerate_from 0 f.rows)
-is_misfit cfg (Disclosure f) =
-    list_any (λ row. not (nat_lt row.chain.0 (length cfg.setup.rows)) || nat_lt cfg.setup.times.last row.index) f.rows
+    || list_any (λ (p : ℕ × TagRow). is_early cfg f.name.interval p.0 p.1.key) (enumerate_from 0 f.rows)
+is_misfit cfg (Disclosure f) = list_any (is_outside cfg) f.rows
+
+-- a key's time to be disclosed hasn't come by the bound
+abbrev pub is_undisclosed : Config → ℕ → KeyRow → Bool
+is_undisclosed cfg bound row = nat_lt bound (row.index + (chain_row cfg row.chain.0).delay)
 
 -- the sender's interval can't have reached the frame's yet
 abbrev pub is_future : Config → Option ℕ → Frame → Bool
 is_future cfg None frame = true
 is_future cfg (Some bound) (Data f) = nat_lt bound f.name.interval
-is_future cfg (Some bound) (Disclosure f) = list_any (λ row. nat_lt bound (row.index + (chain_row cfg row.chain.0).delay)) f.rows
+is_future cfg (Some bound) (Disclosure f) = list_any (is_undisclosed cfg bound) f.rows
 
 -- a key that is newer than those taken before and isn't good
 abbrev pub is_bad : Config → List Arrival → KeyRow → Bool

@@ -1,10 +1,11 @@
 -- What a receiver has seen: its configuration, and the arrivals with their verdicts.
-use Rattle.std.specs.Prelude.{◌≡◌, List}
+use Rattle.std.specs.Prelude.{◌≡◌, ℕ, true, List, [], ◌∷◌, ◌++◌}
 use Rattle.tesla_frame.specs.declared.row.KeyRow.{KeyRow}
 use Rattle.tesla_receiver.specs.declared.config.Config.{Config}
 use Rattle.tesla_receiver.specs.declared.history.Arrival.{Arrival}
 use Rattle.tesla_receiver.specs.declared.release.Release.{Release}
-use Rattle.tesla_receiver.specs.Keys.{fresh_keys}
+use Rattle.tesla_receiver.specs.Keys.{takes_keys, fresh_keys}
+use Rattle.tesla_receiver.specs.declared.verdict.Verdict.{Verdict}
 use Rattle.tesla_receiver.specs.Packets.{candidates, released}
 
 pub record Seen : Type 0 where
@@ -16,3 +17,15 @@ pub record IsKept (config : Config) (arrivals : List Arrival) (new : List KeyRow
   pub fresh : new ≡ fresh_keys config arrivals
   pub candidates : proved ≡ candidates config arrivals
   pub released : given ≡ released config arrivals
+
+-- one more arrival with its verdict
+abbrev pub entered : Seen → ℕ → ℕ → List ℕ → Verdict → Seen
+entered seen ingest reading bytes verdict =
+    record { config = seen.config; arrivals = seen.arrivals ++ record { ingest = ingest; reading = reading; bytes = bytes; verdict = verdict } ∷ [] }
+
+-- the last arrival takes its keys
+pub record EndsTaking (arrivals : List Arrival) : Type 0 where
+  pub front : List Arrival
+  pub last : Arrival
+  pub split : arrivals ≡ front ++ last ∷ []
+  pub takes : takes_keys last.verdict ≡ true

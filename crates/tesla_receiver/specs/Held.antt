@@ -16,11 +16,14 @@ is_at place release = release.place == place
 abbrev pub has_passed : Config → List Arrival → ℕ → ℕ → Bool
 has_passed cfg arrivals interval chain = nat_le interval (newest cfg arrivals chain)
 
+-- the chain can't prove the packet any more: it wasn't safe, or it has passed the packet
+abbrev pub is_past : Config → List Arrival → Packet → ℕ → Bool
+is_past cfg arrivals packet chain = not (has_chain packet.chains chain) || has_passed cfg arrivals packet.frame.name.interval chain
+
 -- the packet was proved, or no chain can prove it any more
 abbrev pub is_settled : Config → List Arrival → ℕ → Packet → Bool
 is_settled cfg arrivals place packet =
-    list_any (is_at place) (candidates cfg arrivals)
-    || list_all (λ chain. not (has_chain packet.chains chain) || has_passed cfg arrivals packet.frame.name.interval chain) (chains cfg)
+    list_any (is_at place) (candidates cfg arrivals) || list_all (is_past cfg arrivals packet) (chains cfg)
 
 -- the packet is settled and isn't released, or it was given and every chain has passed it
 abbrev pub is_gone : Config → List Arrival → ℕ → ℕ → Packet → Bool

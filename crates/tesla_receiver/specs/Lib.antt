@@ -7,3 +7,4 @@ pub mod History
 pub mod Book
 pub mod Report
 pub mod Played
+pub mod Replies

@@ -3,18 +3,28 @@
 
 mod book;
 mod config;
+mod counting;
+mod fitting;
+mod growing;
 mod history;
+mod holding;
+mod judging;
 mod keys;
 mod packet;
 mod proving;
+mod receiver;
 mod release;
 mod report;
+mod taking;
 mod verdict;
 
 pub use book::Book;
 pub use config::Config;
 pub use history::{Arrival, Entry, Reply};
+pub use judging::Datagram;
 pub use packet::Packet;
+pub use receiver::Receiver;
 pub use release::Release;
 pub use report::Report;
+pub use taking::Take;
 pub use verdict::Verdict;

@@ -89,8 +89,8 @@ pub fn any_proof<L: Ledger>(
     false
 }
 
-// Appends the release, if there is one.
-fn push_some(releases: &mut Vec<Release>, release: Option<Release>) -> Result<(), NoMemory>
+/// Appends the release, if there is one.
+pub fn push_some(releases: &mut Vec<Release>, release: Option<Release>) -> Result<(), NoMemory>
     ensures { OnOk result (releases.new.items ≡ releases.old.items ++ option_to_list release) }
 {
     if let Some(release) = release {

@@ -1,0 +1,108 @@
+//! Writing a setup's text.
+
+ghost use Rattle.std.specs.Prelude.{◌≡◌, ◌++◌, decimal, string_bytes, codes, take, IfOk, OnOk};
+ghost use Rattle.std.specs.Int.{w64, to_be_bytes};
+ghost use Rattle.std.specs.List.{flat_map};
+ghost use Rattle.hex.specs.Hex.{encode_lower};
+ghost use Rattle.tesla_commit.specs.SetupText.{line, chain_values, chain_line, setup_text};
+
+use crate::{ChainRow, Setup};
+use std::alloc::{AllocError, Global};
+use tesla_base::NoMemory;
+
+/// The digits of a number.
+fn decimal(alloc: Global, number: u64) -> Result<String, AllocError>
+    ensures { IfOk result (λ text. string_bytes text ≡ decimal number) }
+{
+    number.to_string(alloc)
+}
+
+/// Adds a name, a space, a value and an LF.
+fn put_line(out: &mut Vec<u8>, name: &[u8], value: &[u8]) -> Result<(), AllocError>
+    ensures { OnOk result (out.new.items ≡ out.old.items ++ line name.now value.now) }
+{
+    out.extend_from_slice(name)?;
+    out.push(b' ')?;
+    out.extend_from_slice(value)?;
+    out.push(b'\n')?;
+    Ok(())
+}
+
+/// Adds a line of a name and a number.
+fn put_number(alloc: Global, out: &mut Vec<u8>, name: &[u8], number: u64) -> Result<(), AllocError>
+    ensures { OnOk result (out.new.items ≡ out.old.items ++ line name.now (decimal number)) }
+{
+    let digits = decimal(alloc, number)?;
+    put_line(out, name, digits.as_bytes())
+}
+
+/// Adds a line of a name and the hexadecimal digits of bytes.
+fn put_hex(alloc: Global, out: &mut Vec<u8>, name: &[u8], bytes: &[u8]) -> Result<(), AllocError>
+    ensures { OnOk result (out.new.items ≡ out.old.items ++ line name.now (encode_lower bytes.now)) }
+{
+    let digits = hex::encode(alloc, bytes)?;
+    put_line(out, name, digits.as_bytes())
+}
+
+/// The values of a chain's line.
+fn chain_values(alloc: Global, row: ChainRow) -> Result<Vec<u8>, AllocError>
+    ensures { IfOk result (λ text. text.items ≡ chain_values row) }
+{
+    let delay = decimal(alloc, u64::from(row.delay))?;
+    let index = decimal(alloc, u64::from(row.index))?;
+    let key = hex::encode(alloc, row.key.0.as_slice())?;
+    let mut values = Vec::new(alloc);
+    values.extend_from_slice(delay.as_bytes())?;
+    values.push(b' ')?;
+    values.extend_from_slice(index.as_bytes())?;
+    values.push(b' ')?;
+    values.extend_from_slice(key.as_bytes())?;
+    Ok(values)
+}
+
+/// Adds the line of a chain.
+fn put_chain(alloc: Global, out: &mut Vec<u8>, row: ChainRow) -> Result<(), AllocError>
+    ensures { OnOk result (out.new.items ≡ out.old.items ++ chain_line row) }
+{
+    let values = chain_values(alloc, row)?;
+    put_line(out, b"chain", values.as_slice())
+}
+
+/// Adds the lines of the chains.
+fn put_chains(alloc: Global, out: &mut Vec<u8>, setup: &Setup) -> Result<(), AllocError>
+    ensures { OnOk result (out.new.items ≡ out.old.items ++ flat_map chain_line setup.now.rows) }
+{
+    for chain in 0..setup.count() {
+        put_chain(alloc, out, setup.row(chain))?;
+    }
+    Ok(())
+}
+
+/// The lines before the chains.
+fn opening(alloc: Global, setup: &Setup) -> Result<Vec<u8>, AllocError>
+    ensures { IfOk result (λ text. text.items ≡ line (codes "tesla") (codes "1")
+        ++ line (codes "stream") (encode_lower (to_be_bytes w64 setup.now.stream.0))
+        ++ line (codes "start") (decimal setup.now.times.start)
+        ++ line (codes "interval") (decimal setup.now.times.length)
+        ++ line (codes "last") (decimal setup.now.times.last)) }
+{
+    let schedule = setup.schedule();
+    let stream = setup.stream().0.to_be_bytes();
+    let mut out = Vec::new(alloc);
+    put_line(&mut out, b"tesla", b"1")?;
+    put_hex(alloc, &mut out, b"stream", stream.as_slice())?;
+    put_number(alloc, &mut out, b"start", schedule.start())?;
+    put_number(alloc, &mut out, b"interval", u64::from(schedule.length()))?;
+    put_number(alloc, &mut out, b"last", u64::from(schedule.last()))?;
+    Ok(out)
+}
+
+/// The one text of a setup.
+#[tactic(auto, unfolding(crate::specs::SetupText::setup_text))]
+pub fn write_setup(alloc: Global, setup: &Setup) -> Result<Vec<u8>, NoMemory>
+    ensures { IfOk result (λ text. text.items ≡ setup_text setup.now) }
+{
+    let mut out = opening(alloc, setup)?;
+    put_chains(alloc, &mut out, setup)?;
+    Ok(out)
+}

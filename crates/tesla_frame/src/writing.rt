@@ -1,0 +1,162 @@
+//! Frames written into the room for a datagram.
+
+ghost use Rattle.std.specs.Prelude.{◌≡◌, ◌+◌, ◌*◌, ◌^◌, ◌<◌, ◌≤◌, List, ℕ, [], ◌∷◌, ◌++◌, length};
+ghost use Rattle.std.specs.Int.{w16, w32, w64, to_be_bytes};
+ghost use Rattle.std.specs.List.{flat_map, AllByRecursion};
+ghost use Rattle.tesla_frame.specs.Frame.{AreBytes, ChainsRise, IsTagRow, IsKeyRow, HasLimits, head, tag_row_text, key_row_text, frame_text};
+ghost use Rattle.tesla_frame.specs.Written.{Begins, rows_of, data_frame, keys_frame};
+
+use crate::reading::HEAD;
+use crate::row::KeyRow;
+use tesla_base::{ChainNo, Key, Name, StreamId, Tag};
+
+/// Puts the piece at a place, and gives the place after it.
+fn put(into: &mut [u8; 2048], at: usize, piece: &[u8]) -> usize
+    requires { at + length piece.now ≤ 2048 }
+    ensures next { result ≡ at + length piece.now }
+    ensures bytes { AreBytes piece.now }
+    ensures text { (text before : List ℕ) → length text ≡ at → Begins text before into.old → Begins (text ++ piece.now) before into.new }
+{
+    let next = at + piece.len();
+    into[at..next].copy_from_slice(piece);
+    next
+}
+
+/// The fields of a data frame before its payload.
+fn data_head(stream: StreamId, name: Name, length: u16) -> [u8; 22]
+    ensures { result ≡ head ++ 1 ∷ [] ++ to_be_bytes w64 stream.0 ++ to_be_bytes w32 name.interval ++ to_be_bytes w16 name.number ++ to_be_bytes w16 length }
+{
+    let mut bytes = [1; 22];
+    bytes[..5].copy_from_slice(&HEAD);
+    bytes[6..14].copy_from_slice(&stream.0.to_be_bytes());
+    bytes[14..18].copy_from_slice(&name.interval.to_be_bytes());
+    bytes[18..20].copy_from_slice(&name.number.to_be_bytes());
+    bytes[20..].copy_from_slice(&length.to_be_bytes());
+    bytes
+}
+
+/// The fields of a disclosure frame before its count.
+fn keys_head(stream: StreamId) -> [u8; 14]
+    ensures { result ≡ head ++ 2 ∷ [] ++ to_be_bytes w64 stream.0 }
+{
+    let mut bytes = [2; 14];
+    bytes[..5].copy_from_slice(&HEAD);
+    bytes[6..].copy_from_slice(&stream.0.to_be_bytes());
+    bytes
+}
+
+/// Puts the tag and the key of one chain.
+fn put_tag_row(into: &mut [u8; 2048], at: usize, tag: &Tag, key: &Option<Key>) -> usize
+    requires { at + 49 ≤ 2048 }
+    ensures next { result ≡ at + length (tag_row_text (record { tag = tag.now.0; key = key.now })) }
+    ensures few { result ≤ at + 49 }
+    ensures row { IsTagRow (record { tag = tag.now.0; key = key.now }) }
+    ensures text { (text before : List ℕ) → length text ≡ at → Begins text before into.old → Begins (text ++ tag_row_text (record { tag = tag.now.0; key = key.now })) before into.new }
+{
+    let at = put(into, at, &tag.0);
+    match key {
+        None => put(into, at, &[0]),
+        Some(key) => {
+            let at = put(into, at, &[1]);
+            put(into, at, &key.0)
+        }
+    }
+}
+
+/// Puts a row for each tag, with the key at its place.
+fn put_tag_rows(into: &mut [u8; 2048], at: usize, tags: &[Tag], keys: &[Option<Key>]) -> usize
+    requires { at + 49 * length tags.now ≤ 2048 }
+    ensures next { result ≡ at + length (flat_map tag_row_text (rows_of tags.now keys.now)) }
+    ensures rows { AllByRecursion IsTagRow (rows_of tags.now keys.now) }
+    ensures text { (text before : List ℕ) → length text ≡ at → Begins text before into.old → Begins (text ++ flat_map tag_row_text (rows_of tags.now keys.now)) before into.new }
+{
+    match tags {
+        [tag, tags @ ..] => match keys {
+            [key, keys @ ..] => {
+                let at = put_tag_row(into, at, tag, key);
+                put_tag_rows(into, at, tags, keys)
+            }
+            [] => at,
+        },
+        [] => at,
+    }
+}
+
+/// Writes the data frame with these parts: a payload of at most 1,200 bytes, and one to four tags with as
+/// many keys. It gives the frame's length, and leaves the bytes after it as they are. It takes no memory.
+pub fn write_data(
+    stream: StreamId,
+    name: Name,
+    payload: &[u8],
+    tags: &[Tag],
+    keys: &[Option<Key>],
+    into: &mut [u8; 2048],
+) -> usize
+    requires limit { length payload.now ≤ 1200 }
+    requires some { 1 ≤ length tags.now }
+    requires few { length tags.now ≤ 4 }
+    requires same { length keys.now ≡ length tags.now }
+    ensures length { result ≡ length (frame_text (data_frame stream name payload.now tags.now keys.now)) }
+    ensures limits { HasLimits (data_frame stream name payload.now tags.now keys.now) }
+    ensures text { Begins (frame_text (data_frame stream name payload.now tags.now keys.now)) into.old into.new }
+{
+    let at = put(into, 0, &data_head(stream, name, payload.len() as u16));
+    let at = put(into, at, payload);
+    let at = put(into, at, &[tags.len() as u8]);
+    put_tag_rows(into, at, tags, keys)
+}
+
+/// The fields of a row before its key.
+fn key_head(chain: ChainNo, index: u32) -> [u8; 5]
+    ensures bytes { result ≡ chain.0 ∷ [] ++ to_be_bytes w32 index }
+    ensures index { index < 2 ^ 32 }
+{
+    let mut bytes = [0; 5];
+    bytes[0] = chain.0;
+    bytes[1..].copy_from_slice(&index.to_be_bytes());
+    bytes
+}
+
+/// Puts a disclosed key with its chain and its index.
+fn put_key_row(into: &mut [u8; 2048], at: usize, row: &KeyRow) -> usize
+    requires { at + 37 ≤ 2048 }
+    ensures next { result ≡ at + length (key_row_text row.now) }
+    ensures few { result ≤ at + 37 }
+    ensures row { IsKeyRow row.now }
+    ensures text { (text before : List ℕ) → length text ≡ at → Begins text before into.old → Begins (text ++ key_row_text row.now) before into.new }
+{
+    let front = key_head(row.chain, row.index);
+    let at = put(into, at, &front);
+    put(into, at, &row.key.0)
+}
+
+/// Puts the rows one after the other.
+fn put_key_rows(into: &mut [u8; 2048], at: usize, rows: &[KeyRow]) -> usize
+    requires { at + 37 * length rows.now ≤ 2048 }
+    ensures next { result ≡ at + length (flat_map key_row_text rows.now) }
+    ensures rows { AllByRecursion IsKeyRow rows.now }
+    ensures text { (text before : List ℕ) → length text ≡ at → Begins text before into.old → Begins (text ++ flat_map key_row_text rows.now) before into.new }
+{
+    match rows {
+        [row, rows @ ..] => {
+            let at = put_key_row(into, at, row);
+            put_key_rows(into, at, rows)
+        }
+        [] => at,
+    }
+}
+
+/// Writes the disclosure frame with one to four rows, whose chains rise strictly. It gives the frame's
+/// length, and leaves the bytes after it as they are. It takes no memory.
+pub fn write_disclosure(stream: StreamId, rows: &[KeyRow], into: &mut [u8; 2048]) -> usize
+    requires some { 1 ≤ length rows.now }
+    requires few { length rows.now ≤ 4 }
+    requires rise { ChainsRise rows.now }
+    ensures length { result ≡ length (frame_text (keys_frame stream rows.now)) }
+    ensures limits { HasLimits (keys_frame stream rows.now) }
+    ensures text { Begins (frame_text (keys_frame stream rows.now)) into.old into.new }
+{
+    let at = put(into, 0, &keys_head(stream));
+    let at = put(into, at, &[rows.len() as u8]);
+    put_key_rows(into, at, rows)
+}

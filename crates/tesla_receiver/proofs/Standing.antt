@@ -1,0 +1,142 @@
+-- A receiver stands for one entry more.
+use Rattle.std.proofs.Common.{◌≡◌, ℕ, zero, suc, ◌+◌, ◌<◌, Bool, true, false, cond, ◌||◌, List, [], ◌∷◌, ◌++◌, length, length-append, map, set, replicate, refl, sym, ap, subst, ◌∙◌, arith, append_assoc, count_by, flat_map, ◌==◌, add-zero}
+use Rattle.std.proofs.lemmas.Bool.{eq-eqb, ne_eqb}
+use Rattle.tesla_receiver.specs.declared.taking.Take.{Take}
+use Rattle.tesla_receiver.specs.declared.taking.Take.TheVariants as takes
+use Rattle.tesla_receiver.specs.Replies.{reply_shown, is_given}
+use Rattle.std.specs.Prelude.{slice_get}
+use Rattle.std.specs.List.{list_any, list_all, range_with_len}
+use Rattle.std.proofs.Math.Bool.{or-false}
+use Rattle.std.proofs.lemmas.List.{append-nil}
+use Rattle.std.proofs.lemmas.List.Concat.{flat_map-append}
+use Rattle.std.proofs.lemmas.List.Folds.{list_any-append, list_all-map}
+use Rattle.std.proofs.lemmas.List.Sums.{sum_by_push}
+use Rattle.tesla_receiver.specs.declared.config.Config.{Config}
+use Rattle.tesla_receiver.specs.declared.history.Arrival.{Arrival}
+use Rattle.tesla_receiver.specs.declared.history.Entry.{Entry}
+use Rattle.tesla_receiver.specs.declared.history.Entry.TheVariants.{Arrived, Taken, Ended}
+use Rattle.tesla_receiver.specs.declared.history.Reply.{Reply}
+use Rattle.tesla_receiver.specs.declared.history.Reply.TheVariants.{Given, Empty, Over}
+use Rattle.tesla_receiver.specs.Packets.{released}
+use Rattle.tesla_receiver.specs.Answer.{verdict_of}
+use Rattle.tesla_receiver.specs.History.{Event, Arrives, Takes, Ends, event_of, entry_of, IsLegalAfter, IsLegal, arrival_in, arrivals_in, gives, given_in, ends, has_end, reply_to, reply_with, State, Stands}
+
+legal_after_more : (cfg : Config) (before h : List Entry) (e : Entry) → IsLegalAfter cfg before h → e ≡ entry_of cfg (before ++ h) (event_of e) → IsLegalAfter cfg before (h ++ e ∷ [])
+legal_after_more cfg before [] e l answered = (answered ∙ ap (λ b. entry_of cfg b (event_of e)) (append-nil before), tt)
+legal_after_more cfg before (x ∷ h) e l answered =
+    (l.0, legal_after_more cfg (before ++ x ∷ []) h e l.1 (answered ∙ ap (λ b. entry_of cfg b (event_of e)) (sym (append_assoc before (x ∷ []) h))))
+
+-- a legal history with the one answer to one event more
+pub legal_more : (cfg : Config) (h : List Entry) (e : Entry) → IsLegal cfg h → e ≡ entry_of cfg h (event_of e) → IsLegal cfg (h ++ e ∷ [])
+legal_more cfg h e l answered = legal_after_more cfg [] h e l answered
+
+-- the entry of an event is of that event
+pub event_of-entry : (cfg : Config) (h : List Entry) (event : Event) → event_of (entry_of cfg h event) ≡ event
+event_of-entry cfg h (Arrives ingest reading bytes) = refl
+event_of-entry cfg h (Takes releaser) = refl
+event_of-entry cfg h (Ends ingest) = refl
+
+pub entered_legal : (cfg : Config) (h : List Entry) (event : Event) → IsLegal cfg h → IsLegal cfg (h ++ entry_of cfg h event ∷ [])
+entered_legal cfg h event l = legal_more cfg h (entry_of cfg h event) l (ap (entry_of cfg h) (sym (event_of-entry cfg h event)))
+
+has_end_more : (h : List Entry) (e : Entry) (k : ℕ) → has_end (h ++ e ∷ []) k ≡ (has_end h k || ends k e)
+has_end_more h e k = list_any-append (ends k) h (e ∷ []) ∙ ap (λ b. has_end h k || b) (or-false (ends k e))
+
+map_same : {A B : Type 0} (f g : A → B) (xs : List A) → ((x : A) → f x ≡ g x) → map f xs ≡ map g xs
+map_same f g [] h = refl
+map_same f g (x ∷ xs) h = ap (λ y. y ∷ map f xs) (h x) ∙ ap (λ ys. g x ∷ ys) (map_same f g xs h)
+
+-- the ends stay with an entry that is none
+pub ended_same : (h : List Entry) (e : Entry) (n : ℕ) → ((k : ℕ) → ends k e ≡ false) → map (has_end h) (range_with_len 0 n) ≡ map (has_end (h ++ e ∷ [])) (range_with_len 0 n)
+ended_same h e n none =
+    map_same (has_end h) (has_end (h ++ e ∷ [])) (range_with_len 0 n) (λ k. sym (has_end_more h e k ∙ ap (λ b. has_end h k || b) (none k) ∙ or-false (has_end h k)))
+
+below_same : (f : ℕ → Bool) (j a n : ℕ) → j < a → map (λ k. f k || (j == k)) (range_with_len a n) ≡ map f (range_with_len a n)
+below_same f j a zero h = refl
+below_same f j a (suc n) h =
+    ap (λ b. b ∷ map (λ k. f k || (j == k)) (range_with_len (a + 1) n)) (ap (λ b. f a || b) (ne_eqb j a (omega arith)) ∙ or-false (f a))
+    ∙ ap (λ ys. f a ∷ ys) (below_same f j (a + 1) n (omega arith))
+
+or_true : (b : Bool) → (b || true) ≡ true
+or_true true = refl
+or_true false = refl
+
+set_one : (f : ℕ → Bool) (a i n : ℕ) → map (λ k. f k || (a + i == k)) (range_with_len a n) ≡ set (map f (range_with_len a n)) i true
+set_one f a i zero = refl
+set_one f a zero (suc n) =
+    ap (λ j. map (λ k. f k || (j == k)) (range_with_len a (suc n))) (add-zero a)
+    ∙ ap (λ b. b ∷ map (λ k. f k || (a == k)) (range_with_len (a + 1) n)) (ap (λ b. f a || b) (eq-eqb a a refl) ∙ or_true (f a))
+    ∙ ap (λ ys. true ∷ ys) (below_same f a (a + 1) n (omega arith))
+set_one f a (suc i) (suc n) =
+    ap (λ b. b ∷ map (λ k. f k || (a + suc i == k)) (range_with_len (a + 1) n)) (ap (λ b. f a || b) (ne_eqb (a + suc i) a (omega arith)) ∙ or-false (f a))
+    ∙ ap (λ ys. f a ∷ ys) (map_same (λ k. f k || (a + suc i == k)) (λ k. f k || (a + 1 + i == k)) (range_with_len (a + 1) n) (λ k. ap (λ j. f k || (j == k)) (omega arith)) ∙ set_one f (a + 1) i n)
+
+-- the ends with one more
+pub ended_more : (h : List Entry) (ingest n : ℕ) → set (map (has_end h) (range_with_len 0 n)) ingest true ≡ map (has_end (h ++ Ended ingest ∷ [])) (range_with_len 0 n)
+ended_more h ingest n =
+    sym (set_one (has_end h) 0 ingest n)
+    ∙ map_same (λ k. has_end h k || (0 + ingest == k)) (has_end (h ++ Ended ingest ∷ [])) (range_with_len 0 n) (λ k. ap (λ j. has_end h k || (j == k)) (omega arith) ∙ sym (has_end_more h (Ended ingest) k))
+
+-- no ingest has ended in the empty history
+pub none_ended : (a n : ℕ) → replicate n false ≡ map (has_end []) (range_with_len a n)
+none_ended a zero = refl
+none_ended a (suc n) = ap (λ ys. false ∷ ys) (none_ended (a + 1) n)
+
+-- what a receiver keeps after an event
+pub stands_more : (s after : State) (h : List Entry) (event : Event) → Stands s h → after.config ≡ s.config → after.arrivals ≡ arrivals_in (h ++ entry_of s.config h event ∷ []) → after.given ≡ given_in (h ++ entry_of s.config h event ∷ []) → after.ended ≡ map (has_end (h ++ entry_of s.config h event ∷ [])) (range_with_len 0 s.config.ingests) → after.calls ≡ s.calls + 1 → Stands after (h ++ entry_of s.config h event ∷ [])
+stands_more s after h event st config arrivals given ended calls = record {
+  legal = subst (λ (cfg : Config). IsLegal cfg (h ++ entry_of s.config h event ∷ [])) (sym config) (entered_legal s.config h event st.legal);
+  arrivals = arrivals;
+  given = given;
+  ended = ended ∙ ap (λ (cfg : Config). map (has_end (h ++ entry_of s.config h event ∷ [])) (range_with_len 0 cfg.ingests)) (sym config);
+  calls = calls ∙ ap (λ n. n + 1) st.calls ∙ sym (length-append h (entry_of s.config h event ∷ []));
+}
+
+given_same : (h : List Entry) (e : Entry) → gives e ≡ false → given_in h ≡ given_in (h ++ e ∷ [])
+given_same h e none = sym (sum_by_push (λ x. cond (gives x) 1 0) h e ∙ ap (λ b. given_in h + cond b 1 0) none ∙ add-zero (given_in h))
+
+-- one arrival more
+pub stands_arrival : (s after : State) (h : List Entry) (ingest reading : ℕ) (bytes : List ℕ) → Stands s h → after.config ≡ s.config → after.arrivals ≡ s.arrivals ++ record { ingest = ingest; reading = reading; bytes = bytes; verdict = verdict_of s.config s.arrivals s.given ingest reading bytes } ∷ [] → after.given ≡ s.given → after.ended ≡ s.ended → after.calls ≡ s.calls + 1 → Stands after (h ++ entry_of s.config h (Arrives ingest reading bytes) ∷ [])
+stands_arrival s after h ingest reading bytes st config arrivals given ended calls =
+    let e : Entry = entry_of s.config h (Arrives ingest reading bytes) in
+    stands_more s after h (Arrives ingest reading bytes) st config
+      (arrivals
+        ∙ ap (λ xs. xs ++ record { ingest = ingest; reading = reading; bytes = bytes; verdict = verdict_of s.config xs s.given ingest reading bytes } ∷ []) st.arrivals
+        ∙ ap (λ g. arrivals_in h ++ record { ingest = ingest; reading = reading; bytes = bytes; verdict = verdict_of s.config (arrivals_in h) g ingest reading bytes } ∷ []) st.given
+        ∙ sym (flat_map-append arrival_in h (e ∷ [])))
+      (given ∙ st.given ∙ given_same h e refl)
+      (ended ∙ st.ended ∙ ended_same h e s.config.ingests (λ k. refl))
+      calls
+
+-- one end more
+pub stands_end : (s after : State) (h : List Entry) (ingest : ℕ) → Stands s h → after.config ≡ s.config → after.arrivals ≡ s.arrivals → after.given ≡ s.given → after.ended ≡ set s.ended ingest true → after.calls ≡ s.calls + 1 → Stands after (h ++ entry_of s.config h (Ends ingest) ∷ [])
+stands_end s after h ingest st config arrivals given ended calls =
+    stands_more s after h (Ends ingest) st config
+      (arrivals ∙ st.arrivals ∙ sym (flat_map-append arrival_in h (Ended ingest ∷ []) ∙ append-nil (arrivals_in h)))
+      (given ∙ st.given ∙ given_same h (Ended ingest) refl)
+      (ended ∙ ap (λ bs. set bs ingest true) st.ended ∙ ended_more h ingest s.config.ingests)
+      calls
+
+-- the answer to a take, by what the receiver keeps
+pub reply_kept : (s : State) (h : List Entry) → Stands s h → reply_with s.arrivals s.given (slice_get (released s.config s.arrivals) s.given) (list_all (λ b. b) s.ended) ≡ reply_to s.config h
+unfolding reply_to
+reply_kept s h st =
+    ap (λ xs. reply_with xs s.given (slice_get (released s.config xs) s.given) (list_all (λ b. b) s.ended)) st.arrivals
+    ∙ ap (λ g. reply_with (arrivals_in h) g (slice_get (released s.config (arrivals_in h)) g) (list_all (λ b. b) s.ended)) st.given
+    ∙ ap (reply_with (arrivals_in h) (given_in h) (slice_get (released s.config (arrivals_in h)) (given_in h))) (ap (list_all (λ b. b)) st.ended ∙ list_all-map (λ b. b) (has_end h) (range_with_len 0 s.config.ingests))
+
+gives_shown : (releaser : ℕ) (take : Take) (into : List ℕ) → gives (Taken releaser (reply_shown take into)) ≡ is_given take
+gives_shown releaser (takes.Given head) into = refl
+gives_shown releaser takes.Empty into = refl
+gives_shown releaser takes.Over into = refl
+
+-- one take more
+pub stands_take : (s after : State) (h : List Entry) (releaser : ℕ) (take : Take) (into : List ℕ) → Stands s h → reply_shown take into ≡ reply_to s.config h → after.config ≡ s.config → after.arrivals ≡ s.arrivals → after.given ≡ s.given + cond (is_given take) 1 0 → after.ended ≡ s.ended → after.calls ≡ s.calls + 1 → Stands after (h ++ entry_of s.config h (Takes releaser) ∷ [])
+stands_take s after h releaser take into st reply config arrivals given ended calls =
+    let e : Entry = Taken releaser (reply_to s.config h) in
+    let gave : is_given take ≡ gives e = sym (gives_shown releaser take into) ∙ ap (λ r. gives (Taken releaser r)) reply in
+    stands_more s after h (Takes releaser) st config
+      (arrivals ∙ st.arrivals ∙ sym (flat_map-append arrival_in h (e ∷ []) ∙ append-nil (arrivals_in h)))
+      (given ∙ ap (λ b. s.given + cond b 1 0) gave ∙ ap (λ n. n + cond (gives e) 1 0) st.given ∙ sym (sum_by_push (λ x. cond (gives x) 1 0) h e))
+      (ended ∙ st.ended ∙ ended_same h e s.config.ingests (λ k. refl))
+      calls

@@ -1,0 +1,19 @@
+use Rattle.std.proofs.Common.{◌≡◌, length, sym, ◌∙◌, ap, arith}
+use Rattle.tesla_receiver.specs.Held.{has_passed}
+use Rattle.tesla_receiver.proofs.Finds.{not_all_numbers, all_numbers_more, all_numbers}
+use Rattle.tesla_receiver.proofs.book.Book.all_passed.Goals as goal
+
+pub returns-then-not-has_passed : goal.returns-then-not-has_passed
+returns-then-not-has_passed c =
+    let long : c.count-chain-end.result ≡ length c.args.self.now.config.setup.rows = c.count-chain-end.ensures.value ∙ ap (λ s. length s.config.setup.rows) c.self.view_is in
+    sym (not_all_numbers (has_passed c.args.self.now.config c.args.self.now.arrivals c.args.interval) (length c.args.self.now.config.setup.rows) c.loop-chain.chain (rw long at c.loop-chain-test.true) (sym c.has_passed.ensures ∙ c.if-not-has_passed.true))
+
+pub loop-chain-preserved : goal.loop-chain-preserved
+loop-chain-preserved c =
+    let long : c.count-chain-end.result ≡ length c.args.self.now.config.setup.rows = c.count-chain-end.ensures.value ∙ ap (λ s. length s.config.setup.rows) c.self.view_is in
+    all_numbers_more (has_passed c.args.self.now.config c.args.self.now.arrivals c.args.interval) (length c.args.self.now.config.setup.rows) c.loop-chain.chain (rw long at c.loop-chain-test.true) c.loop-chain.invariant (sym c.has_passed.ensures ∙ c.if-not-has_passed.false)
+
+pub returns : goal.returns
+returns c =
+    let long : c.count-chain-end.result ≡ length c.args.self.now.config.setup.rows = c.count-chain-end.ensures.value ∙ ap (λ s. length s.config.setup.rows) c.self.view_is in
+    sym (all_numbers (has_passed c.args.self.now.config c.args.self.now.arrivals c.args.interval) (length c.args.self.now.config.setup.rows) c.loop-chain.chain (rw long at c.loop-chain-test.false) c.loop-chain.invariant)
