@@ -4,7 +4,6 @@ use Rattle.std.proofs.lemmas.List.{length-take}
 use Rattle.tesla_capture.specs.declared.release.Head.{Head}
 use Rattle.tesla_receiver.specs.declared.history.Arrival.{Arrival}
 use Rattle.tesla_receiver.specs.declared.history.Entry.{Entry}
-use Rattle.tesla_receiver.specs.declared.history.Reply.{Reply}
 use Rattle.tesla_receiver.specs.declared.history.Reply.TheVariants.{Given}
 use Rattle.tesla_receiver.specs.declared.release.Release.{Release}
 use Rattle.tesla_receiver.specs.declared.config.Config.{Config}

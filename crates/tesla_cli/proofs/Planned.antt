@@ -1,18 +1,15 @@
 -- What was played of a capture, and what became of the pages of a desk.
-use Rattle.std.proofs.Common.{◌≡◌, ◌≢◌, ◌∙◌, ◌+◌, ◌^◌, ◌≤◌, ◌<◌, ℕ, Bool, true, false, Option, Some, None, IfSome, Result, Ok, Err, List, [], ◌++◌, length, take, nat_lt, refl, sym, ap, subst, arith, inl, inr}
+use Rattle.std.proofs.Common.{◌≡◌, ◌∙◌, ◌^◌, ◌≤◌, ◌<◌, ℕ, Bool, true, false, Option, Result, Ok, List, length, take, nat_lt, refl, sym, ap, subst, arith, inl, inr}
 use Rattle.std.proofs.lemmas.List.{take_all, length-take}
 use Rattle.std.proofs.lemmas.Bool.Decides.{nat_tests}
 use Rattle.tesla_capture.specs.Capture.{Record}
-use Rattle.tesla_desk.specs.Outside.{Page, Untold, Absent, Holds, page_of, with_bytes, Appends, AppendsFront}
 use Rattle.tesla_receiver.specs.declared.config.Config.{Config}
-use Rattle.tesla_receiver.specs.declared.report.Report.{Report}
-use Rattle.tesla_receiver.specs.Report.{report_of, records_of}
 use Rattle.tesla_receiver.specs.Played.{played}
 use Rattle.tesla_cli.specs.declared.outcome.Outcome.{Outcome}
 use Rattle.tesla_cli.specs.declared.outcome.Outcome.TheVariants.{Done, Usage, SetupBad, SetupLater, CaptureBad, CaptureLater, ReadFault, WriteFault, NoMemory, OpenFault}
 use Rattle.tesla_cli.specs.Judging.{capture_judged}
 use Rattle.tesla_cli.specs.Playing.{ComesTo}
-use Rattle.tesla_cli.specs.Run.{Plan, planned, Plays}
+use Rattle.tesla_cli.specs.Run.{planned, Plays}
 
 plays_records : (cfg : Config) (records : List Record) (outcome : Outcome) (before now : Option (List ℕ)) → ComesTo (played cfg records true) outcome before now → Plays (planned cfg (Ok records)) outcome before now
 plays_records cfg records (Done report) before now comes = record { outcome_is = inl (ap (λ r. Done r) comes.0); gets = comes.1 }

@@ -1,13 +1,12 @@
 -- The text of a setup, read up to a limit.
-use Rattle.std.proofs.Common.{◌≡◌, ◌∙◌, ◌<◌, ◌≤◌, ℕ, Bool, true, false, Result, Ok, Err, List, length, take, nat_lt, refl, ap, subst, arith}
+use Rattle.std.proofs.Common.{◌≡◌, ◌∙◌, ◌<◌, ◌≤◌, ℕ, Bool, true, false, Result, List, length, take, nat_lt, refl, ap, subst, arith}
 use Rattle.std.proofs.lemmas.List.{take_all, length-take}
 use Rattle.std.proofs.lemmas.Bool.Decides.{nat_tests}
 use Rattle.tesla_commit.specs.Parts.{Parts}
 use Rattle.tesla_commit.specs.Reading.{judged}
-use Rattle.tesla_desk.specs.Faults.{Faults, HasCause}
 use Rattle.tesla_cli.specs.declared.outcome.Outcome.{Outcome}
 use Rattle.tesla_cli.specs.declared.outcome.Outcome.TheVariants.{Done, Usage, SetupBad, SetupLater, CaptureBad, CaptureLater, ReadFault, WriteFault, NoMemory, OpenFault}
-use Rattle.tesla_cli.specs.Run.{setup_judged, HasCauses}
+use Rattle.tesla_cli.specs.Run.{setup_judged}
 use Rattle.tesla_cli.specs.Replay.{SetupIs, OfReading, OfText, OfSetup}
 
 judged_where : (n : ℕ) (text : List ℕ) (long : Bool) → nat_lt n (length text) ≡ long → 4096 < n → setup_judged (take n text) ≡ setup_judged text

@@ -1,8 +1,7 @@
 -- Events played one after another.
-use Rattle.std.proofs.Common.{◌≡◌, ◌∙◌, ◌+◌, ◌-◌, ◌≤◌, ◌<◌, ℕ, suc, Option, Some, None, List, [], ◌∷◌, ◌++◌, length, take, map, replicate, flat_map, refl, sym, ap, subst, arith, append_assoc, append-nil, length-append, inl, inr}
+use Rattle.std.proofs.Common.{◌≡◌, ◌∙◌, ◌+◌, ◌-◌, ◌≤◌, ◌<◌, ℕ, suc, Option, List, [], ◌∷◌, ◌++◌, length, take, map, replicate, refl, sym, ap, subst, arith, append_assoc, append-nil, length-append, inl, inr}
 use Rattle.std.proofs.lemmas.List.{take-append-le}
-use Rattle.std.proofs.Math.Seq.{take-length}
-use Rattle.tesla_desk.specs.Outside.{with_bytes, Appends, AppendsFront}
+use Rattle.tesla_desk.specs.Outside.{with_bytes, AppendsFront}
 use Rattle.tesla_desk.proofs.Told.{with_bytes_twice, appends_none}
 use Rattle.tesla_capture.specs.Capture.{Record}
 use Rattle.tesla_receiver.specs.declared.config.Config.{Config}

@@ -1,21 +1,21 @@
 -- What stays true of a replay when its outcome is printed and the console is closed.
-use Rattle.std.proofs.Common.{◌≡◌, ◌≢◌, ◌∙◌, ◌⊎◌, ◌≤◌, ◌<◌, ℕ, Bool, true, false, Option, Some, None, IfSome, Result, Ok, Err, List, [], length, take, nat_lt, codes, refl, sym, ap, subst, arith, inl, inr}
+use Rattle.std.proofs.Common.{◌≡◌, ◌∙◌, ◌⊎◌, ◌≤◌, ℕ, Bool, false, Option, Some, None, IfSome, Result, Ok, Err, List, [], length, nat_lt, refl, sym, ap, subst, arith, inl, inr}
 use Rattle.std.proofs.Math.Seq.{take-length}
 use Rattle.std.proofs.lemmas.Bool.Decides.{nat_tests}
 use Rattle.tesla_commit.specs.Parts.{Parts}
-use Rattle.tesla_desk.specs.Faults.{Faults, HasCause, CountsOpening, after_sink, raised_where_failed, Rose}
+use Rattle.tesla_desk.specs.Faults.{Faults, HasCause, CountsOpening, after_sink, raised_where_failed}
 use Rattle.tesla_desk.specs.Outside.{Page, Untold, Absent, Holds, page_of, with_bytes}
-use Rattle.tesla_desk.proofs.Told.{page_of_holds, first_written}
-use Rattle.tesla_desk.proofs.Counts.{rose_within, rose_where_failed, where_failed_stays}
+use Rattle.tesla_desk.proofs.Told.{first_written}
+use Rattle.tesla_desk.proofs.Counts.{rose_where_failed, where_failed_stays}
 use Rattle.tesla_receiver.specs.declared.report.Report.{Report}
 use Rattle.tesla_cli.specs.declared.outcome.Outcome.{Outcome}
 use Rattle.tesla_cli.specs.declared.outcome.Outcome.TheVariants.{Done, Usage, SetupBad, SetupLater, CaptureBad, CaptureLater, ReadFault, WriteFault, NoMemory, OpenFault}
-use Rattle.tesla_cli.specs.Words.{Asked, IsReplay}
+use Rattle.tesla_cli.specs.Words.{Asked}
 use Rattle.tesla_cli.specs.Judging.{capture_judged}
 use Rattle.tesla_cli.specs.Outcome.{text_of, TellsReport, TellsOutcome, IsLost}
 use Rattle.tesla_cli.specs.Replay.{OfCaptureFile, PlaysFile}
-use Rattle.tesla_cli.specs.Run.{Plan, setup_judged, plan_of, plan_under, planned, config_with, IsFault, IsOutcomeOf, HoldsWhere, IsFront, Leaves, Keeps, out_text, HasCauses}
-use Rattle.tesla_cli.specs.TopCall.{SetupSays, Replays, IsNoForm, IsUnwritten, Prints, Run}
+use Rattle.tesla_cli.specs.Run.{setup_judged, plan_of, plan_under, planned, config_with, IsFault, HoldsWhere, IsFront, Keeps, out_text, HasCauses}
+use Rattle.tesla_cli.specs.TopCall.{SetupSays, Replays, Prints}
 
 -- the capture was played under the setup that was judged
 pub replays_played : (asked : Asked) (before mid after : List ℕ → Page) (parts : Parts) (outcome : Outcome) → ((text : List ℕ) (failed : Bool) → before asked.setup ≡ Holds text failed → setup_judged text ≡ Ok parts) → ((name : List ℕ) → mid name ≡ before name) → ((bytes : List ℕ) (failed : Bool) → mid asked.capture ≡ Holds bytes failed → PlaysFile (planned (config_with parts asked.lag asked.capacity) (capture_judged asked.capacity bytes)) outcome (mid asked.out) (after asked.out)) → Keeps outcome (mid asked.out) (after asked.out) → OfCaptureFile outcome → Replays asked before after outcome

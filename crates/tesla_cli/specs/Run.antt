@@ -1,5 +1,5 @@
 -- What a replay comes to, told the bytes of its setup and of its capture.
-use Rattle.std.specs.Prelude.{◌≡◌, ◌≢◌, ◌⊎◌, ℕ, ℤ, Bool, true, List, [], length, take, Option, Result, Ok, Err, ◌==◌, if◌then◌else◌}
+use Rattle.std.specs.Prelude.{◌≡◌, ◌⊎◌, ℕ, ℤ, true, List, [], length, take, Option, Result, Ok, Err, ◌==◌, if◌then◌else◌}
 use Rattle.tesla_capture.specs.Capture.{Record}
 use Rattle.tesla_commit.specs.Parts.{Parts}
 use Rattle.tesla_commit.specs.Reading.{judged}

@@ -18,7 +18,7 @@ use tesla_receiver::{Receiver, Take};
 // Takes once for releaser 0, and writes what was given.
 fn play_take<O: Sink>(receiver: &mut Receiver, out: &mut O) -> Result<(), Outcome>
     requires live { IsLive receiver.old }
-    requires calls { receiver.old.calls < 2 ^ 63 }
+    requires calls { receiver.old.calls + 1 < 2 ^ 64 }
     ensures plays { OnOk result (PlaysOn (Takes 0) receiver.old receiver.new (O.written out.old) (O.written out.new)) }
     ensures stops { OnErr result (StopsIn (Takes 0) receiver.old (O.written out.old) (O.written out.new)) }
     ensures stop { IfErr result IsStop }
@@ -46,7 +46,7 @@ fn play_record<L: Ledger, O: Sink>(
     out: &mut O,
 ) -> Result<(), Outcome>
     requires live { IsLive receiver.old }
-    requires calls { receiver.old.calls < 2 ^ 63 }
+    requires calls { receiver.old.calls + 1 < 2 ^ 64 }
     ensures plays { OnOk result (PlaysOn (event_in (shown it.entry)) receiver.old receiver.new (O.written out.old) (O.written out.new)) }
     ensures stops { OnErr result (StopsIn (event_in (shown it.entry)) receiver.old (O.written out.old) (O.written out.new)) }
     ensures stop { IfErr result IsStop }
@@ -73,7 +73,7 @@ fn play_records<L: Ledger, O: Sink>(
 ) -> Result<(), Outcome>
     requires whole { is_whole rest.now ≡ true }
     requires live { IsLive receiver.old }
-    requires calls { receiver.old.calls + length rest.now ≤ 2 ^ 63 }
+    requires calls { receiver.old.calls + length rest.now < 2 ^ 64 }
     ensures plays { OnOk result (PlaysAll (map event_in (records_in rest.now)) receiver.old receiver.new (O.written out.old) (O.written out.new)) }
     ensures stops { OnErr result (StopsAmong (map event_in (records_in rest.now)) receiver.old (O.written out.old) (O.written out.new)) }
     ensures live { OnOk result (IsLive receiver.new) }
@@ -95,7 +95,7 @@ fn play_records<L: Ledger, O: Sink>(
 // Takes so many times.
 fn take_times<O: Sink>(receiver: &mut Receiver, times: u64, out: &mut O) -> Result<(), Outcome>
     requires live { IsLive receiver.old }
-    requires calls { receiver.old.calls + times ≤ 2 ^ 63 }
+    requires calls { receiver.old.calls + times < 2 ^ 64 }
     ensures plays { OnOk result (PlaysAll (replicate times (Takes 0)) receiver.old receiver.new (O.written out.old) (O.written out.new)) }
     ensures stops { OnErr result (StopsAmong (replicate times (Takes 0)) receiver.old (O.written out.old) (O.written out.new)) }
     ensures stop { IfErr result IsStop }

@@ -1,5 +1,5 @@
-use Rattle.std.proofs.Common.{arith, refl}
-use Rattle.tesla_cli.proofs.Stages.{reached_same, reached_on, reached_all, reached_stops, reached_none, events_first, records_nothing, live_on}
+use Rattle.std.proofs.Common.{arith}
+use Rattle.tesla_cli.proofs.Stages.{reached_same, reached_on, reached_all, reached_stops, events_first, records_nothing, live_on}
 use Rattle.tesla_cli.proofs.playing.play_records.Goals as goal
 
 pub returns-in-Err-clause-stops : goal.returns-in-Err-clause-stops

@@ -1,9 +1,7 @@
-use Rattle.std.proofs.Common.{◌≡◌, ◌+◌, ◌^◌, ◌≤◌, ℕ, true, List, length, map, Option}
-use Rattle.tesla_receiver.specs.declared.config.Config.{Config}
-use Rattle.tesla_receiver.specs.declared.history.Entry.{Entry}
-use Rattle.tesla_receiver.specs.Played.{after_events, event_in}
+use Rattle.std.proofs.Common.{◌≡◌, ◌+◌, ◌≤◌, true, length, map}
+use Rattle.tesla_receiver.specs.Played.{event_in}
 use Rattle.tesla_cli.specs.Judging.{is_whole, records_in}
-use Rattle.tesla_cli.specs.Playing.{IsLive, Stage}
+use Rattle.tesla_cli.specs.Playing.{IsLive}
 use Rattle.tesla_cli.proofs.Stages.{Reached}
 use Rattle.tesla_cli.proofs.playing.play_records.Given as goal
 

@@ -1,7 +1,5 @@
-use Rattle.std.proofs.Common.{◌≡◌, ◌∙◌, List, ℕ, codes, sym, ap, subst, inl, refl}
-use Rattle.tesla_desk.specs.Outside.{page_of}
+use Rattle.std.proofs.Common.{◌≡◌, ◌∙◌, codes, sym, ap, subst, inl}
 use Rattle.tesla_cli.specs.declared.outcome.Outcome.{Outcome}
-use Rattle.tesla_cli.specs.declared.outcome.Outcome.TheVariants.{Usage}
 use Rattle.tesla_cli.specs.Outcome.{TellsOutcome}
 use Rattle.tesla_cli.proofs.Telling.{replays_pages, replays_told, causes_printed, prints_whole}
 use Rattle.tesla_cli.proofs.run.run.Goals as goal
