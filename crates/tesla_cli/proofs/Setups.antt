@@ -25,19 +25,6 @@ pub setup_front : (n : ℕ) (read text : List ℕ) (result : Result Parts Outcom
 setup_front n read text result above e is =
     subst (λ (judged : Result Parts Outcome). SetupIs judged result) (ap (λ b. setup_judged b) e ∙ judged_where n text (nat_lt n (length text)) refl above) is
 
--- why a text gives no setup is why there is none
-pub setup_text : (outcome : Outcome) → OfText outcome → OfSetup outcome
-setup_text (Done report) of = absurd of
-setup_text Usage of = absurd of
-setup_text SetupBad of = tt
-setup_text SetupLater of = tt
-setup_text CaptureBad of = absurd of
-setup_text CaptureLater of = absurd of
-setup_text ReadFault of = absurd of
-setup_text WriteFault of = absurd of
-setup_text NoMemory of = tt
-setup_text OpenFault of = absurd of
-
 -- why a file wasn't read is why there is no setup
 pub setup_reading : (outcome : Outcome) → OfReading outcome → OfSetup outcome
 setup_reading (Done report) of = absurd of

@@ -15,3 +15,6 @@ pub use outcome::Outcome;
 pub use reading::{ReadRefusal, read_up_to};
 pub use run::run_here;
 pub use words::{ReplayWords, replay_words};
+
+#[cfg(test)]
+mod tests;
