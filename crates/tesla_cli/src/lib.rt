@@ -1,8 +1,20 @@
 //! The commands.
 #![tactic(auto)]
 
+mod files;
+mod judging;
+mod outcome;
+mod playing;
 mod reading;
+mod replay;
+mod run;
 mod words;
 
+pub use judging::{first_record, judge_capture};
+pub use outcome::Outcome;
 pub use reading::{ReadRefusal, read_up_to};
+pub use run::run_here;
 pub use words::{ReplayWords, replay_words};
+
+#[cfg(test)]
+mod tests;

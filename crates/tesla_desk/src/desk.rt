@@ -1,6 +1,6 @@
 //! The desk, which opens and closes what is outside by name.
 
-ghost use Rattle.std.specs.Prelude.{◌≡◌, ◌≢◌, [], List, ℕ, IfOk, IfSome};
+ghost use Rattle.std.specs.Prelude.{◌≡◌, ◌≢◌, [], List, ℕ, IfOk, OnErr, IfSome};
 ghost use Rattle.tesla_desk.specs.Faults.{Faults, CountsOpening, after_source, after_sink};
 ghost use Rattle.tesla_desk.specs.Outside.{Page, page_of, Opened};
 
@@ -42,11 +42,12 @@ pub trait Desk {
         ensures counts { CountsOpening (faults self.old) (faults self.new) (result ≡ Err OpenRefusal.Failed) };
 
     /// A sink for bytes under the name, which holds none yet. `Failed` is answered only where the count
-    /// of openings rose.
+    /// of openings rose. A refused opening leaves the bytes under the name as they were.
     fn open_sink(&mut self, name: &str) -> Result<Self::Out, OpenRefusal>
         ensures empty { IfOk result (λ it. IfSome (Self.Out.written it) (λ bytes. bytes ≡ [])) }
         ensures fresh { IfOk result (λ it. Self.Out.faults it ≡ 0) }
         ensures named { IfOk result (λ it. Self.Out.name it ≡ name.now) }
+        ensures refused { OnErr result (page self.new name.now ≡ page self.old name.now) }
         ensures pages { (n : List ℕ) → n ≢ name.now → page self.new n ≡ page self.old n }
         ensures counts { CountsOpening (faults self.old) (faults self.new) (result ≡ Err OpenRefusal.Failed) };
 

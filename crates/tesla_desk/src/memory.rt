@@ -105,6 +105,7 @@ impl Desk for MemoryDesk {
         ensures empty { IfOk result (λ it. bytes_of it ≡ []) }
         ensures fresh { IfOk result (λ it. write_faults_of it ≡ 0) }
         ensures named { IfOk result (λ it. name_of it ≡ name.now) }
+        ensures refused { OnErr result (page_under self.new name.now ≡ page_under self.old name.now) }
         ensures pages { (n : List ℕ) → page_under self.new n ≡ page_under self.old n }
         ensures counts { counts_of self.new ≡ counts_of self.old }
         ensures opens { result ≢ Err OpenRefusal.Failed }

@@ -1,4 +1,4 @@
-use Rattle.std.proofs.Common.{◌≡◌, ◌≤◌, ◌-◌, length, vec_len}
+use Rattle.std.proofs.Common.{◌≡◌, ◌≤◌, ◌-◌, length}
 use Rattle.tesla_desk.specs.Outside.{after_bytes}
 use Rattle.tesla_cli.proofs.reading.read_up_to.Given as goal
 

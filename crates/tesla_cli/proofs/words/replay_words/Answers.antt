@@ -1,4 +1,4 @@
-use Rattle.std.proofs.Common.{◌≡◌, List, ℕ, [], ◌∷◌, IfSome, codes, map, string_bytes, subst, sym, rules}
+use Rattle.std.proofs.Common.{◌≡◌, List, ℕ, [], ◌∷◌, IfSome, codes, map, string_bytes, subst, rules}
 use Rattle.tesla_cli.specs.Words.{IsReplay, asked_of}
 use Rattle.tesla_cli.proofs.SixWords.{six_is}
 use Rattle.tesla_cli.proofs.words.replay_words.Goals as goal

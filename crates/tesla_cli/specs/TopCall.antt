@@ -1,0 +1,53 @@
+-- What a run of the commands does, for all words and desks.
+use Rattle.std.specs.Prelude.{◌≡◌, ◌≢◌, ◌⊎◌, ℕ, Bool, false, List, codes, Result, Ok, Err}
+use Rattle.tesla_commit.specs.Parts.{Parts}
+use Rattle.tesla_desk.specs.Faults.{Faults}
+use Rattle.tesla_desk.specs.Outside.{Page, Holds}
+use Rattle.tesla_cli.specs.declared.outcome.Outcome.{Outcome}
+use Rattle.tesla_cli.specs.declared.outcome.Outcome.TheVariants.{Usage, ReadFault, WriteFault, NoMemory, OpenFault}
+use Rattle.tesla_cli.specs.Words.{Asked, IsReplay}
+use Rattle.tesla_cli.specs.Outcome.{text_of}
+use Rattle.tesla_cli.specs.Replay.{OfCaptureFile, PlaysFile}
+use Rattle.tesla_cli.specs.Run.{setup_judged, plan_of, IsFault, Keeps, HasCauses}
+
+-- a setup that isn't one of one chain is refused so, and one of one chain is not refused, unless something failed
+abbrev pub SetupSays : Result Parts Outcome → Outcome → Type 0
+SetupSays (Err refusal) outcome = (outcome ≡ refusal) ⊎ IsFault outcome
+SetupSays (Ok parts) outcome = OfCaptureFile outcome
+
+-- a replay: before and after are the pages of the desk, as far as they are told
+pub record Replays (asked : Asked) (before after : List ℕ → Page) (outcome : Outcome) : Type 0 where
+  -- the words are a form
+  pub form : outcome ≢ Usage
+  -- exactly the setups that aren't one of one chain are refused
+  pub setup : (text : List ℕ) (failed : Bool) → before asked.setup ≡ Holds text failed → SetupSays (setup_judged text) outcome
+  -- the outcome is the one that both files decide, unless something failed, and the output holds the release records
+  pub plays : (text bytes : List ℕ) (failed other : Bool) → before asked.setup ≡ Holds text failed → before asked.capture ≡ Holds bytes other → PlaysFile (plan_of asked text bytes) outcome (before asked.out) (after asked.out)
+  -- the output is empty where the capture is refused, and untouched where the setup is
+  pub keeps : Keeps outcome (before asked.out) (after asked.out)
+
+-- the words are no form
+abbrev pub IsNoForm : List (List ℕ) → Type 0
+IsNoForm words = (asked : Asked) → IsReplay words asked → ⊥
+
+-- nothing is written under the name
+pub record IsUnwritten (words : List (List ℕ)) (name : List ℕ) : Type 0 where
+  pub out : (asked : Asked) → IsReplay words asked → name ≢ asked.out
+
+-- the console: it wasn't opened, or where it didn't fail it holds the lines of the outcome
+abbrev pub Prints : Outcome → Page → Page → Type 0
+Prints outcome before after =
+    ((after ≡ before) × ((outcome ≡ OpenFault) ⊎ (outcome ≡ NoMemory))) ⊎ ((text : List ℕ) → after ≡ Holds text false → text ≡ text_of outcome)
+
+-- one run
+pub record Run (words : List (List ℕ)) (before after : List ℕ → Page) (old new : Faults) (outcome : Outcome) : Type 0 where
+  -- words that are no form are refused so, if the console was opened
+  pub usage : IsNoForm words → (outcome ≡ Usage) ⊎ (outcome ≡ OpenFault) ⊎ (outcome ≡ NoMemory)
+  -- words that are a form are replayed
+  pub replay : (asked : Asked) → IsReplay words asked → Replays asked before after outcome
+  -- the console holds exactly the lines of the outcome
+  pub console : Prints outcome (before (codes "-")) (after (codes "-"))
+  -- nothing else is written
+  pub pages : (name : List ℕ) → name ≢ codes "-" → IsUnwritten words name → after name ≡ before name
+  -- each fault has its cause
+  pub causes : HasCauses old new (outcome ≡ ReadFault) (outcome ≡ WriteFault) (outcome ≡ OpenFault)
