@@ -4,7 +4,9 @@ use Rattle.std.proofs.lemmas.List.{take_all, length-take}
 use Rattle.std.proofs.lemmas.Bool.Decides.{nat_tests}
 use Rattle.tesla_capture.specs.Capture.{Record}
 use Rattle.tesla_receiver.specs.declared.config.Config.{Config}
+use Rattle.tesla_desk.specs.Outside.{with_bytes, AppendsFront}
 use Rattle.tesla_receiver.specs.Played.{played}
+use Rattle.tesla_receiver.proofs.Playing.{played_all}
 use Rattle.tesla_cli.specs.declared.outcome.Outcome.{Outcome}
 use Rattle.tesla_cli.specs.declared.outcome.Outcome.TheVariants.{Done, Usage, SetupBad, SetupLater, CaptureBad, CaptureLater, ReadFault, WriteFault, NoMemory, OpenFault}
 use Rattle.tesla_cli.specs.Judging.{capture_judged}
@@ -12,15 +14,15 @@ use Rattle.tesla_cli.specs.Playing.{ComesTo}
 use Rattle.tesla_cli.specs.Run.{planned, Plays}
 
 plays_records : (cfg : Config) (records : List Record) (outcome : Outcome) (before now : Option (List ℕ)) → ComesTo (played cfg records true) outcome before now → Plays (planned cfg (Ok records)) outcome before now
-plays_records cfg records (Done report) before now comes = record { outcome_is = inl (ap (λ r. Done r) comes.0); gets = comes.1 }
+plays_records cfg records (Done report) before now comes = record { outcome_is = inl (ap (λ r. Done r) comes.0); gets = comes.1 ∙ ap (with_bytes before) (played_all cfg records) }
 plays_records cfg records Usage before now comes = absurd comes
 plays_records cfg records SetupBad before now comes = absurd comes
 plays_records cfg records SetupLater before now comes = absurd comes
 plays_records cfg records CaptureBad before now comes = absurd comes
 plays_records cfg records CaptureLater before now comes = absurd comes
 plays_records cfg records ReadFault before now comes = absurd comes
-plays_records cfg records WriteFault before now comes = record { outcome_is = inr tt; gets = comes }
-plays_records cfg records NoMemory before now comes = record { outcome_is = inr tt; gets = comes }
+plays_records cfg records WriteFault before now comes = record { outcome_is = inr tt; gets = subst (AppendsFront before now) (played_all cfg records) comes }
+plays_records cfg records NoMemory before now comes = record { outcome_is = inr tt; gets = subst (AppendsFront before now) (played_all cfg records) comes }
 plays_records cfg records OpenFault before now comes = absurd comes
 
 -- records that are to be played were played

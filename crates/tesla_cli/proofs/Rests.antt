@@ -1,7 +1,8 @@
 -- What stands between the records of a capture.
 use Rattle.std.proofs.Common.{◌≡◌, ◌≤◌, ◌<◌, ℕ, Bool, true, false, Option, Some, None, List, [], ◌∷◌, length, drop, is_some, unwrap_or, option_map, refl, ap, arith, length-drop, nat_lt, take, bytes_eq, if◌then◌else◌}
 use Rattle.tesla_capture.specs.Capture.{Record, head}
-use Rattle.tesla_capture.specs.Reading.{records_of, records_after, body_of, ◌>>=◌}
+use Rattle.tesla_base.specs.Front.{◌>>=◌}
+use Rattle.tesla_capture.specs.Reading.{records_of, records_after, body_of}
 use Rattle.tesla_cli.specs.Judging.{is_whole, records_in, StandsFirst, IsBody}
 
 both_some : (first : Record) (a b : Option (List Record)) → a ≡ option_map (λ others. first ∷ others) b → is_some a ≡ true → (unwrap_or a [] ≡ first ∷ unwrap_or b []) × (is_some b ≡ true)

@@ -8,7 +8,8 @@ use Rattle.tesla_desk.specs.Faults.{Faults, HasCause}
 use Rattle.tesla_desk.specs.Outside.{Page, Untold, Absent, Holds, with_bytes, AppendsFront}
 use Rattle.tesla_receiver.specs.declared.config.Config.{Config}
 use Rattle.tesla_receiver.specs.declared.history.Entry.{Entry}
-use Rattle.tesla_receiver.specs.Report.{report_of, records_of}
+use Rattle.tesla_receiver.specs.History.{arrivals_in}
+use Rattle.tesla_receiver.specs.Report.{report_of, released_text}
 use Rattle.tesla_receiver.specs.Played.{played}
 use Rattle.tesla_cli.specs.declared.outcome.Outcome.{Outcome}
 use Rattle.tesla_cli.specs.declared.outcome.Outcome.TheVariants.{Done, Usage, SetupBad, SetupLater, CaptureBad, CaptureLater, ReadFault, WriteFault, NoMemory, OpenFault}
@@ -60,9 +61,9 @@ abbrev pub outcome_of : Result Plan Outcome → Outcome
 outcome_of (Ok plan) = Done (report_of (history_of plan))
 outcome_of (Err refusal) = refusal
 
--- the release records of the history; none where nothing is played
+-- the release records of all that is released in the history; none where nothing is played
 abbrev pub out_text : Result Plan Outcome → List ℕ
-out_text (Ok plan) = records_of 0 (history_of plan)
+out_text (Ok plan) = released_text plan.config (arrivals_in (history_of plan))
 out_text (Err refusal) = []
 
 -- something failed outside, or there was no memory
