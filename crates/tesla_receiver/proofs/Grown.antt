@@ -41,14 +41,14 @@ pub kept_more : (cfg : Config) (arrivals : List Arrival) (arrival : Arrival) (fr
 unfolding fresh_keys candidates released
 kept_more cfg arrivals arrival fresh new proved given more firsts k n m f =
     let all : proved ++ more ≡ each_after (batch cfg) [] (arrivals ++ arrival ∷ []) =
-      ap (λ rs. rs ++ more) k.candidates ∙ ap (λ rs. each_after (batch cfg) [] arrivals ++ rs) (m ∙ ap (proved_by cfg arrivals) n)
-      ∙ sym (each_after_more (batch cfg) arrivals arrival) in
+    ap (λ rs. rs ++ more) k.candidates ∙ ap (λ rs. each_after (batch cfg) [] arrivals ++ rs) (m ∙ ap (proved_by cfg arrivals) n)
+    ∙ sym (each_after_more (batch cfg) arrivals arrival) in
     record {
       fresh = ap (λ rs. rs ++ new) k.fresh ∙ ap (λ rs. each_after (new_keys cfg) [] arrivals ++ rs) n ∙ sym (each_after_more (new_keys cfg) arrivals arrival);
       candidates = all;
       released =
-        ap (λ rs. rs ++ firsts) (k.released ∙ ap (each_after unless_named []) (sym k.candidates)) ∙ ap (λ rs. each_after unless_named [] proved ++ rs) f
-        ∙ sym (each_after-append unless_named [] proved more) ∙ ap (each_after unless_named []) all;
+          ap (λ rs. rs ++ firsts) (k.released ∙ ap (each_after unless_named []) (sym k.candidates)) ∙ ap (λ rs. each_after unless_named [] proved ++ rs) f
+          ∙ sym (each_after-append unless_named [] proved more) ∙ ap (each_after unless_named []) all;
     }
 
 -- an arrival takes the same keys with another verdict with which it takes them
@@ -62,7 +62,7 @@ kept_rejudged cfg front a verdict fresh proved given e k =
     let b : Arrival = record { ingest = a.ingest; reading = a.reading; bytes = a.bytes; verdict = verdict } in
     let new : new_keys cfg front a ≡ new_keys cfg front b = ap (filter (λ row. nat_lt (newest cfg front row.chain.0) row.index)) (same_taken cfg a verdict e) in
     let all : each_after (batch cfg) [] (front ++ a ∷ []) ≡ each_after (batch cfg) [] (front ++ b ∷ []) =
-      each_after_more (batch cfg) front a ∙ ap (λ rs. each_after (batch cfg) [] front ++ proved_by cfg front rs) new ∙ sym (each_after_more (batch cfg) front b) in
+    each_after_more (batch cfg) front a ∙ ap (λ rs. each_after (batch cfg) [] front ++ proved_by cfg front rs) new ∙ sym (each_after_more (batch cfg) front b) in
     record {
       fresh = k.fresh ∙ each_after_more (new_keys cfg) front a ∙ ap (λ rs. each_after (new_keys cfg) [] front ++ rs) new ∙ sym (each_after_more (new_keys cfg) front b);
       candidates = k.candidates ∙ all;

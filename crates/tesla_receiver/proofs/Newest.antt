@@ -13,8 +13,9 @@ use Rattle.tesla_receiver.specs.Keys.{each_after, keys_taken, is_of, greatest, n
 pub greatest-append : (chain index : ℕ) (xs ys : List KeyRow) → greatest chain index (xs ++ ys) ≡ greatest chain (greatest chain index xs) ys
 greatest-append chain index [] ys = refl
 greatest-append chain index (x ∷ xs) ys = elim (is_of chain x) as (λ b. fold (λ n row. max n row.index) index (cond b (x ∷ filter (is_of chain) (xs ++ ys)) (filter (is_of chain) (xs ++ ys))) ≡ greatest chain (fold (λ n row. max n row.index) index (cond b (x ∷ filter (is_of chain) xs) (filter (is_of chain) xs))) ys) [
-    true ↦ greatest-append chain (max index x.index) xs ys
-  | false ↦ greatest-append chain index xs ys ]
+  | true ↦ greatest-append chain (max index x.index) xs ys
+  | false ↦ greatest-append chain index xs ys
+]
 
 below_newest : (N : ℕ → ℕ) (chain n : ℕ) (row : KeyRow) → nat_lt (N row.chain.0) row.index ≡ false → (row.chain.0 == chain) ≡ true → N chain ≤ n → n ≡ max n row.index
 below_newest N chain n row p q h =

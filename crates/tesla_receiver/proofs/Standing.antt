@@ -100,22 +100,22 @@ pub stands_arrival : (s after : State) (h : List Entry) (ingest reading : ℕ) (
 stands_arrival s after h ingest reading bytes st config arrivals given ended calls =
     let e : Entry = entry_of s.config h (Arrives ingest reading bytes) in
     stands_more s after h (Arrives ingest reading bytes) st config
-      (arrivals
-        ∙ ap (λ xs. xs ++ record { ingest = ingest; reading = reading; bytes = bytes; verdict = verdict_of s.config xs s.given ingest reading bytes } ∷ []) st.arrivals
-        ∙ ap (λ g. arrivals_in h ++ record { ingest = ingest; reading = reading; bytes = bytes; verdict = verdict_of s.config (arrivals_in h) g ingest reading bytes } ∷ []) st.given
-        ∙ sym (flat_map-append arrival_in h (e ∷ [])))
-      (given ∙ st.given ∙ given_same h e refl)
-      (ended ∙ st.ended ∙ ended_same h e s.config.ingests (λ k. refl))
-      calls
+    (arrivals
+    ∙ ap (λ xs. xs ++ record { ingest = ingest; reading = reading; bytes = bytes; verdict = verdict_of s.config xs s.given ingest reading bytes } ∷ []) st.arrivals
+    ∙ ap (λ g. arrivals_in h ++ record { ingest = ingest; reading = reading; bytes = bytes; verdict = verdict_of s.config (arrivals_in h) g ingest reading bytes } ∷ []) st.given
+    ∙ sym (flat_map-append arrival_in h (e ∷ [])))
+    (given ∙ st.given ∙ given_same h e refl)
+    (ended ∙ st.ended ∙ ended_same h e s.config.ingests (λ k. refl))
+    calls
 
 -- one end more
 pub stands_end : (s after : State) (h : List Entry) (ingest : ℕ) → Stands s h → after.config ≡ s.config → after.arrivals ≡ s.arrivals → after.given ≡ s.given → after.ended ≡ set s.ended ingest true → after.calls ≡ s.calls + 1 → Stands after (h ++ entry_of s.config h (Ends ingest) ∷ [])
 stands_end s after h ingest st config arrivals given ended calls =
     stands_more s after h (Ends ingest) st config
-      (arrivals ∙ st.arrivals ∙ sym (flat_map-append arrival_in h (Ended ingest ∷ []) ∙ append-nil (arrivals_in h)))
-      (given ∙ st.given ∙ given_same h (Ended ingest) refl)
-      (ended ∙ ap (λ bs. set bs ingest true) st.ended ∙ ended_more h ingest s.config.ingests)
-      calls
+    (arrivals ∙ st.arrivals ∙ sym (flat_map-append arrival_in h (Ended ingest ∷ []) ∙ append-nil (arrivals_in h)))
+    (given ∙ st.given ∙ given_same h (Ended ingest) refl)
+    (ended ∙ ap (λ bs. set bs ingest true) st.ended ∙ ended_more h ingest s.config.ingests)
+    calls
 
 -- the answer to a take, by what the receiver keeps
 pub reply_kept : (s : State) (h : List Entry) → Stands s h → reply_with s.arrivals s.given (slice_get (released s.config s.arrivals) s.given) (list_all (λ b. b) s.ended) ≡ reply_to s.config h
@@ -136,7 +136,7 @@ stands_take s after h releaser take into st reply config arrivals given ended ca
     let e : Entry = Taken releaser (reply_to s.config h) in
     let gave : is_given take ≡ gives e = sym (gives_shown releaser take into) ∙ ap (λ r. gives (Taken releaser r)) reply in
     stands_more s after h (Takes releaser) st config
-      (arrivals ∙ st.arrivals ∙ sym (flat_map-append arrival_in h (e ∷ []) ∙ append-nil (arrivals_in h)))
-      (given ∙ ap (λ b. s.given + cond b 1 0) gave ∙ ap (λ n. n + cond (gives e) 1 0) st.given ∙ sym (sum_by_push (λ x. cond (gives x) 1 0) h e))
-      (ended ∙ st.ended ∙ ended_same h e s.config.ingests (λ k. refl))
-      calls
+    (arrivals ∙ st.arrivals ∙ sym (flat_map-append arrival_in h (e ∷ []) ∙ append-nil (arrivals_in h)))
+    (given ∙ ap (λ b. s.given + cond b 1 0) gave ∙ ap (λ n. n + cond (gives e) 1 0) st.given ∙ sym (sum_by_push (λ x. cond (gives x) 1 0) h e))
+    (ended ∙ st.ended ∙ ended_same h e s.config.ingests (λ k. refl))
+    calls

@@ -60,7 +60,7 @@ packet_verdict cfg arrivals given set f =
     if set == 0 then Late
     else (if list_any (has_name f.name) (released cfg arrivals) then Repeat
     else (if held_of cfg arrivals given None == cfg.capacity
-        || held_of cfg arrivals given (Some f.name.interval) == cfg.quota then Full
+    || held_of cfg arrivals given (Some f.name.interval) == cfg.quota then Full
     else Kept set))
 
 -- the verdict on a frame whose keys are taken; `arrivals` has it at its end

@@ -30,7 +30,7 @@ abbrev pub is_gone : Config → List Arrival → ℕ → ℕ → Packet → Bool
 is_gone cfg arrivals given place packet =
     is_settled cfg arrivals place packet && not (list_any (is_at place) (released cfg arrivals))
     || list_any (is_at place) (take given (released cfg arrivals))
-      && list_all (has_passed cfg arrivals packet.frame.name.interval) (chains cfg)
+    && list_all (has_passed cfg arrivals packet.frame.name.interval) (chains cfg)
 
 -- any interval, or the one that is told
 abbrev pub is_asked : Option ℕ → ℕ → Bool

@@ -77,8 +77,8 @@ reply_with arrivals position None false = Empty
 unfoldable pub reply_to : Config → List Entry → Reply
 reply_to cfg history =
     reply_with (arrivals_in history) (given_in history)
-      (slice_get (released cfg (arrivals_in history)) (given_in history))
-      (list_all (has_end history) (range_with_len 0 cfg.ingests))
+    (slice_get (released cfg (arrivals_in history)) (given_in history))
+    (list_all (has_end history) (range_with_len 0 cfg.ingests))
 
 -- the entry of an event after a history: the event with its answer
 abbrev pub entry_of : Config → List Entry → Event → Entry

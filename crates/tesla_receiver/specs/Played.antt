@@ -1,6 +1,6 @@
 -- The one history that a capture plays.
 use Rattle.std.specs.Prelude.{ℕ, suc, ◌-◌, Bool, true, false, List, [], ◌∷◌, ◌++◌, length, map, replicate}
-use Rattle.tesla_capture.specs.Capture.{Record} 
+use Rattle.tesla_capture.specs.Capture.{Record}
 use Rattle.tesla_capture.specs.Capture as captures
 use Rattle.tesla_receiver.specs.declared.config.Config.{Config}
 use Rattle.tesla_receiver.specs.declared.history.Entry.{Entry}

@@ -31,9 +31,18 @@ count_of line arrivals = count_by (λ arrival. line_of arrival.verdict == line) 
 abbrev pub report_on : List Arrival → ℕ → Report
 report_on arrivals given =
     record {
-      arrivals = length arrivals; malformed = count_of 1 arrivals; foreign = count_of 2 arrivals; misfit = count_of 3 arrivals;
-      future = count_of 4 arrivals; badkey = count_of 5 arrivals; late = count_of 6 arrivals; repeat = count_of 7 arrivals;
-      full = count_of 8 arrivals; kept = count_of 9 arrivals; keys = count_of 10 arrivals; given = given;
+      arrivals = length arrivals;
+      malformed = count_of 1 arrivals;
+      foreign = count_of 2 arrivals;
+      misfit = count_of 3 arrivals;
+      future = count_of 4 arrivals;
+      badkey = count_of 5 arrivals;
+      late = count_of 6 arrivals;
+      repeat = count_of 7 arrivals;
+      full = count_of 8 arrivals;
+      kept = count_of 9 arrivals;
+      keys = count_of 10 arrivals;
+      given = given;
     }
 
 -- the report of a history

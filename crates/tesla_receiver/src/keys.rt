@@ -51,11 +51,7 @@ pub fn keys_of(
     }
 }
 
-fn data_keys(
-    alloc: Global,
-    config: &Config,
-    frame: &DataView<'_>,
-) -> Result<Vec<KeyRow>, NoMemory>
+fn data_keys(alloc: Global, config: &Config, frame: &DataView<'_>) -> Result<Vec<KeyRow>, NoMemory>
     ensures { IfOk result (λ rows. rows.items ≡
         flat_map (λ p. carried config.now frame.now.name.interval p.0 p.1.key) (enumerate_from 0 frame.now.rows)) }
 {

@@ -22,12 +22,12 @@ invariant_of-self-2 g c =
     let p : c.append_all.new.candidates.items ≡ c.self.inside.candidates.items ++ c.in_ok-batch.batch.items = c.in_ok-append_all.ensures.candidates in
     let r : c.append_all.new.released.items ≡ c.self.inside.released.items ++ c.in_ok-firsts.firsts.items = c.in_ok-append_all.ensures.released in
     let k : IsKept s.config s.arrivals c.self.inside.fresh.items c.self.inside.candidates.items c.self.inside.released.items =
-      subst (λ (v : Seen). IsKept v.config v.arrivals c.self.inside.fresh.items c.self.inside.candidates.items c.self.inside.released.items) c.self.view_is c.self.invariant in
+    subst (λ (v : Seen). IsKept v.config v.arrivals c.self.inside.fresh.items c.self.inside.candidates.items c.self.inside.released.items) c.self.view_is c.self.invariant in
     let n : c.in_ok-new.new.items ≡ new_keys s.config s.arrivals c.args.arrival = c.in_ok-new.ensures in
     let m : c.in_ok-batch.batch.items ≡ proved_by s.config s.arrivals c.in_ok-new.new.items = c.in_ok-batch.ensures ∙ ap (proved_by s.config s.arrivals) c.deref.ensures.value in
     let o : c.in_ok-firsts.firsts.items ≡ each_after unless_named c.self.inside.candidates.items c.in_ok-batch.batch.items =
-      c.in_ok-firsts.ensures ∙ ap (λ xs. each_after unless_named xs c.deref-3.result.now) c.deref-2.ensures.value ∙ ap (each_after unless_named c.self.inside.candidates.items) c.deref-3.ensures.value in
+    c.in_ok-firsts.ensures ∙ ap (λ xs. each_after unless_named xs c.deref-3.result.now) c.deref-2.ensures.value ∙ ap (each_after unless_named c.self.inside.candidates.items) c.deref-3.ensures.value in
     let same_config : c.self.inside.config ≡ s.config = ap (λ v. v.config) c.self.view_is in
     let same_arrivals : c.self.inside.arrivals.items ≡ s.arrivals = ap (λ v. v.arrivals) c.self.view_is in
     rw (a, f, p, r, same_config, same_arrivals)
-      (kept_more s.config s.arrivals c.args.arrival c.self.inside.fresh.items c.in_ok-new.new.items c.self.inside.candidates.items c.self.inside.released.items c.in_ok-batch.batch.items c.in_ok-firsts.firsts.items k n m o)
+    (kept_more s.config s.arrivals c.args.arrival c.self.inside.fresh.items c.in_ok-new.new.items c.self.inside.candidates.items c.self.inside.released.items c.in_ok-batch.batch.items c.in_ok-firsts.firsts.items k n m o)

@@ -14,6 +14,6 @@ invariant_of-self-2 c =
     let same : c.in-Some.last ≡ c.requires.taking.last = (same_from_push c.pop.new.self.items c.requires.taking.front c.in-Some.last c.requires.taking.last both).1 in
     let takes : takes_keys c.in-Some.last.verdict ≡ takes_keys c.args.verdict = ap (λ (a : Arrival). takes_keys a.verdict) same ∙ c.requires.taking.takes ∙ sym c.requires.takes in
     let kept : IsKept b.config (c.pop.new.self.items ++ c.in-Some.last ∷ []) b.fresh.items b.candidates.items b.released.items =
-      subst (λ (as' : List Arrival). IsKept b.config as' b.fresh.items b.candidates.items b.released.items) popped c.self.invariant in
+    subst (λ (as' : List Arrival). IsKept b.config as' b.fresh.items b.candidates.items b.released.items) popped c.self.invariant in
     rw c.push_reserved.ensures.items
-      (kept_rejudged b.config c.pop.new.self.items c.in-Some.last c.args.verdict b.fresh.items b.candidates.items b.released.items takes kept)
+    (kept_rejudged b.config c.pop.new.self.items c.in-Some.last c.args.verdict b.fresh.items b.candidates.items b.released.items takes kept)

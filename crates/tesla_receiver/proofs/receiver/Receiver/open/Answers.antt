@@ -11,6 +11,6 @@ returns-clause-stands c =
       arrivals = ap (λ s. s.arrivals) c.new.ensures;
       given = refl;
       ended = c.in_ok-ended.ensures.items_if_clones_equal (λ y p. p) ∙ none_ended 0 c.args.ingests
-        ∙ ap (λ s. map (has_end []) (range_with_len 0 s.config.ingests)) (sym c.new.ensures);
+          ∙ ap (λ s. map (has_end []) (range_with_len 0 s.config.ingests)) (sym c.new.ensures);
       calls = refl;
     }

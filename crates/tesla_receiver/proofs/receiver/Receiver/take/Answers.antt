@@ -19,13 +19,13 @@ pub returns-clause-stands : goal.returns-clause-stands
 returns-clause-stands c = λ h st.
     let b = c.self.inside in
     let reply =
-      c.next-take.ensures.reply
-      ∙ ap (reply_with b.book.arrivals b.given (slice_get (released b.book.config b.book.arrivals) b.given)) (c.all_set-ended.ensures ∙ ap (list_all (λ flag. flag)) c.deref.ensures.value)
-      ∙ ap (λ (v : State). reply_with v.arrivals v.given (slice_get (released v.config v.arrivals) v.given) (list_all (λ flag. flag) v.ended)) c.self.view_is
-      ∙ reply_kept c.args.self.now h st in
+    c.next-take.ensures.reply
+    ∙ ap (reply_with b.book.arrivals b.given (slice_get (released b.book.config b.book.arrivals) b.given)) (c.all_set-ended.ensures ∙ ap (list_all (λ flag. flag)) c.deref.ensures.value)
+    ∙ ap (λ (v : State). reply_with v.arrivals v.given (slice_get (released v.config v.arrivals) v.given) (list_all (λ flag. flag) v.ended)) c.self.view_is
+    ∙ reply_kept c.args.self.now h st in
     stands_take c.args.self.now _ h c.args.releaser c.next-take.result c.next-take.new.into st reply
-      (ap (λ (v : State). v.config) c.self.view_is)
-      (ap (λ (v : State). v.arrivals) c.self.view_is)
-      (c.given_after-self-inside.ensures ∙ ap (λ (v : State). v.given + cond (is_given c.next-take.result) 1 0) c.self.view_is)
-      (ap (λ (v : State). v.ended) c.self.view_is)
-      (ap (λ (v : State). v.calls + 1) c.self.view_is)
+    (ap (λ (v : State). v.config) c.self.view_is)
+    (ap (λ (v : State). v.arrivals) c.self.view_is)
+    (c.given_after-self-inside.ensures ∙ ap (λ (v : State). v.given + cond (is_given c.next-take.result) 1 0) c.self.view_is)
+    (ap (λ (v : State). v.ended) c.self.view_is)
+    (ap (λ (v : State). v.calls + 1) c.self.view_is)
