@@ -135,6 +135,22 @@ const BOTH: Verdict = Verdict::Kept { chains: 3 };
 /// The packet is kept, and only chain 1 is safe.
 const SLOW: Verdict = Verdict::Kept { chains: 2 };
 
+/// A report that counts nothing.
+const NONE: Report = Report {
+    arrivals: 0,
+    malformed: 0,
+    foreign: 0,
+    misfit: 0,
+    future: 0,
+    badkey: 0,
+    late: 0,
+    repeat: 0,
+    full: 0,
+    kept: 0,
+    keys: 0,
+    given: 0,
+};
+
 /// An event, with the answer that is expected.
 #[derive(Clone, Copy)]
 enum Step {
@@ -149,6 +165,147 @@ enum Step {
     /// The report is this.
     Tells(Report),
 }
+
+const LAST_SAFE_MICROSECOND: &[Step] = &[Step::Comes(1_369_999, "bare-2-0-a", BOTH)];
+
+const FIRST_UNSAFE_MICROSECOND: &[Step] = &[Step::Comes(1_370_000, "bare-2-0-a", SLOW)];
+
+const BEFORE_THE_START: &[Step] = &[Step::Comes(
+    960_000,
+    "bare-1-0-a",
+    Verdict::Future { bound: None },
+)];
+
+const FOREIGN_MISFIT_MALFORMED_FUTURE: &[Step] = &[
+    Step::Comes(
+        1_150_000,
+        "bare-1-0-a-of-stream-a8",
+        Verdict::Foreign {
+            stream: StreamId(0xa8),
+        },
+    ),
+    Step::Comes(1_950_000, "bare-1-0-a-of-interval-9", Verdict::Misfit),
+    Step::Comes(1_350_000, "keys-2-1", Verdict::Misfit),
+    Step::Comes(1_350_000, "empty", Verdict::Malformed),
+    Step::Comes(1_350_000, "keys-0-2", Verdict::Future { bound: Some(3) }),
+    Step::Empty,
+    Step::Tells(Report {
+        arrivals: 5,
+        malformed: 1,
+        foreign: 1,
+        misfit: 2,
+        future: 1,
+        ..NONE
+    }),
+];
+
+const FIRST_RELEASE: &[Step] = &[
+    Step::Comes(1_150_000, "data-1-0-hi", BOTH),
+    Step::Comes(1_350_000, "data-3-0-yo", BOTH),
+    Step::Gives(0, 1, 0, 0, "hi"),
+    Step::Empty,
+    Step::Over,
+    Step::Tells(Report {
+        arrivals: 2,
+        kept: 2,
+        given: 1,
+        ..NONE
+    }),
+];
+
+const GAP_KEY_RELEASES_IN_ARRIVAL_ORDER: &[Step] = &[
+    Step::Comes(1_350_000, "bare-3-0-g", BOTH),
+    Step::Comes(1_360_000, "bare-2-0-g", BOTH),
+    Step::Comes(1_550_000, "bare-5-0-g", BOTH),
+    Step::Comes(1_560_000, "bare-4-0-g", BOTH),
+    Step::Comes(1_650_000, "bare-6-0-g", BOTH),
+    Step::Comes(1_850_000, "keys-0-6", Verdict::Keys),
+    Step::Gives(0, 3, 0, 0, "g"),
+    Step::Gives(1, 2, 0, 0, "g"),
+    Step::Gives(2, 5, 0, 0, "g"),
+    Step::Gives(3, 4, 0, 0, "g"),
+    Step::Gives(4, 6, 0, 0, "g"),
+    Step::Empty,
+];
+
+const SLOW_CHAIN_RESCUES: &[Step] = &[
+    Step::Comes(1_250_000, "bare-2-0-a-with-an-altered-tag", BOTH),
+    Step::Comes(1_450_000, "keys-0-2", Verdict::Keys),
+    Step::Empty,
+    Step::Comes(1_750_000, "keys-1-2", Verdict::Keys),
+    Step::Gives(0, 2, 0, 1, "a"),
+    Step::Empty,
+];
+
+const LATE_PACKET_BRINGS_A_KEY: &[Step] = &[
+    Step::Comes(1_150_000, "bare-1-0-a", BOTH),
+    Step::Comes(1_850_000, "data-3-0-z", Verdict::Late),
+    Step::Gives(0, 1, 0, 0, "a"),
+    Step::Empty,
+];
+
+const BAD_KEY_CHANGES_NOTHING: &[Step] = &[
+    Step::Comes(1_150_000, "bare-1-0-a", BOTH),
+    Step::Comes(
+        1_350_000,
+        "keys-0-1-altered",
+        Verdict::BadKey { chain: ChainNo(0) },
+    ),
+    Step::Empty,
+    Step::Comes(1_360_000, "keys-0-1", Verdict::Keys),
+    Step::Gives(0, 1, 0, 0, "a"),
+    Step::Empty,
+];
+
+const LAST_INTERVAL: &[Step] = &[
+    Step::Comes(1_850_000, "bare-8-0-e", BOTH),
+    Step::Comes(2_350_000, "keys-0-8-and-1-8", Verdict::Keys),
+    Step::Gives(0, 8, 0, 0, "e"),
+    Step::Empty,
+];
+
+const THREE_COPIES: &[Step] = &[
+    Step::Comes(1_250_000, "bare-2-0-a", BOTH),
+    Step::Comes(1_250_000, "bare-2-0-a", BOTH),
+    Step::Comes(1_250_000, "bare-2-0-a", BOTH),
+    Step::Comes(1_450_000, "keys-0-2", Verdict::Keys),
+    Step::Gives(0, 2, 0, 0, "a"),
+    Step::Empty,
+    Step::Comes(1_450_000, "bare-3-0-c", BOTH),
+    Step::Comes(1_450_000, "bare-3-0-g", BOTH),
+    Step::Comes(1_450_000, "bare-4-0-g", Verdict::Full),
+];
+
+const REPEAT_AFTER_RELEASE: &[Step] = &[
+    Step::Comes(1_250_000, "bare-2-0-a", BOTH),
+    Step::Comes(1_450_000, "keys-0-2", Verdict::Keys),
+    Step::Comes(1_460_000, "bare-2-0-a", Verdict::Repeat),
+    Step::Gives(0, 2, 0, 0, "a"),
+    Step::Empty,
+];
+
+const FULL_UNTIL_ALL_CHAINS_PASS: &[Step] = &[
+    Step::Comes(1_150_000, "bare-1-0-a", BOTH),
+    Step::Comes(1_160_000, "bare-1-1-b", Verdict::Full),
+    Step::Comes(1_350_000, "keys-0-1", Verdict::Keys),
+    Step::Gives(0, 1, 0, 0, "a"),
+    Step::Comes(1_360_000, "bare-3-0-c", Verdict::Full),
+    Step::Comes(1_650_000, "keys-1-1", Verdict::Keys),
+    Step::Comes(1_660_000, "bare-6-0-d", BOTH),
+];
+
+const FORGERY_GIVES_ITS_PLACE_BACK: &[Step] = &[
+    Step::Comes(1_350_000, "bare-1-0-x-with-altered-tags", SLOW),
+    Step::Comes(1_650_000, "data-6-0-d", BOTH),
+    Step::Empty,
+];
+
+const KEY_COMES_BEFORE_ITS_PACKET: &[Step] = &[
+    Step::Comes(1_350_000, "data-3-0-yo", BOTH),
+    Step::Comes(1_150_000, "data-1-0-hi", SLOW),
+    Step::Empty,
+    Step::Over,
+];
 
 // The bytes of the frame of this name, none where there is no such frame.
 fn frame_named(alloc: Global, name: &str) -> Result<Vec<u8>, Fail> {
@@ -188,7 +345,7 @@ fn is_met<L: Ledger>(
                 interval: *interval,
                 number: *number,
                 chain: *chain,
-                length: payload.len() as u16,
+                length: payload.len().min(1200) as u16,
             };
             Ok(takes(receiver, Take::Given(head), payload))
         }
@@ -211,12 +368,10 @@ fn first_unmet<L: Ledger>(
     requires name { blank.name ≡ L.name }
     requires parts { blank.parts ≡ L.parts }
     requires some { 0 < L.parts }
-    requires one { 1 ≤ capacity }
-    requires few { capacity ≤ 65536 }
 {
     let mut steps = Steps::<L>::new(blank);
     let setup = read_setup(alloc, SETUP.as_bytes())?;
-    let mut receiver = Receiver::open(alloc, setup, 30_000, capacity, 1)?;
+    let mut receiver = Receiver::open(alloc, setup, 30_000, capacity.max(1).min(65_536), 1)?;
     for (place, step) in example.iter().enumerate() {
         if 99 <= receiver.calls() || !is_met(alloc, &mut receiver, step, &mut steps)? {
             return Ok(Some(place));
@@ -227,231 +382,64 @@ fn first_unmet<L: Ledger>(
 
 #[test]
 fn verdicts_of_single_frames(rt: HostRuntime) -> Result<(), Fail> {
-    let last_safe_microsecond = [Step::Comes(1_369_999, "bare-2-0-a", BOTH)];
-    let first_unsafe_microsecond = [Step::Comes(1_370_000, "bare-2-0-a", SLOW)];
-    let before_the_start = [Step::Comes(960_000, "bare-1-0-a", Verdict::Future { bound: None })];
-    let foreign_misfit_malformed_future = [
-        Step::Comes(
-            1_150_000,
-            "bare-1-0-a-of-stream-a8",
-            Verdict::Foreign {
-                stream: StreamId(0xa8),
-            },
+    let examples = [
+        ("last_safe_microsecond", 16, LAST_SAFE_MICROSECOND),
+        ("first_unsafe_microsecond", 16, FIRST_UNSAFE_MICROSECOND),
+        ("before_the_start", 16, BEFORE_THE_START),
+        (
+            "foreign_misfit_malformed_future",
+            16,
+            FOREIGN_MISFIT_MALFORMED_FUTURE,
         ),
-        Step::Comes(1_950_000, "bare-1-0-a-of-interval-9", Verdict::Misfit),
-        Step::Comes(1_350_000, "keys-2-1", Verdict::Misfit),
-        Step::Comes(1_350_000, "empty", Verdict::Malformed),
-        Step::Comes(1_350_000, "keys-0-2", Verdict::Future { bound: Some(3) }),
-        Step::Empty,
-        Step::Tells(Report {
-            arrivals: 5,
-            malformed: 1,
-            foreign: 1,
-            misfit: 2,
-            future: 1,
-            badkey: 0,
-            late: 0,
-            repeat: 0,
-            full: 0,
-            kept: 0,
-            keys: 0,
-            given: 0,
-        }),
     ];
-    let unmet = first_unmet::<Brand>(
-        rt.alloc(),
-        Blank::new(1),
-        16,
-        last_safe_microsecond.as_slice(),
-    )?;
-    assert_eq!(rt; unmet, None, "last_safe_microsecond");
-    let unmet = first_unmet::<Brand>(
-        rt.alloc(),
-        Blank::new(1),
-        16,
-        first_unsafe_microsecond.as_slice(),
-    )?;
-    assert_eq!(rt; unmet, None, "first_unsafe_microsecond");
-    let unmet = first_unmet::<Brand>(rt.alloc(), Blank::new(1), 16, before_the_start.as_slice())?;
-    assert_eq!(rt; unmet, None, "before_the_start");
-    let unmet = first_unmet::<Brand>(
-        rt.alloc(),
-        Blank::new(1),
-        16,
-        foreign_misfit_malformed_future.as_slice(),
-    )?;
-    assert_eq!(rt; unmet, None, "foreign_misfit_malformed_future");
+    for (name, capacity, example) in examples {
+        let unmet = first_unmet::<Brand>(rt.alloc(), Blank::new(1), capacity, example)?;
+        assert_eq!(rt; unmet, None, "{name}");
+    }
     Ok(())
 }
 
 #[test]
 fn keys_release_packets(rt: HostRuntime) -> Result<(), Fail> {
-    let first_release = [
-        Step::Comes(1_150_000, "data-1-0-hi", BOTH),
-        Step::Comes(1_350_000, "data-3-0-yo", BOTH),
-        Step::Gives(0, 1, 0, 0, "hi"),
-        Step::Empty,
-        Step::Over,
-        Step::Tells(Report {
-            arrivals: 2,
-            malformed: 0,
-            foreign: 0,
-            misfit: 0,
-            future: 0,
-            badkey: 0,
-            late: 0,
-            repeat: 0,
-            full: 0,
-            kept: 2,
-            keys: 0,
-            given: 1,
-        }),
-    ];
-    let gap_key_releases_in_arrival_order = [
-        Step::Comes(1_350_000, "bare-3-0-g", BOTH),
-        Step::Comes(1_360_000, "bare-2-0-g", BOTH),
-        Step::Comes(1_550_000, "bare-5-0-g", BOTH),
-        Step::Comes(1_560_000, "bare-4-0-g", BOTH),
-        Step::Comes(1_650_000, "bare-6-0-g", BOTH),
-        Step::Comes(1_850_000, "keys-0-6", Verdict::Keys),
-        Step::Gives(0, 3, 0, 0, "g"),
-        Step::Gives(1, 2, 0, 0, "g"),
-        Step::Gives(2, 5, 0, 0, "g"),
-        Step::Gives(3, 4, 0, 0, "g"),
-        Step::Gives(4, 6, 0, 0, "g"),
-        Step::Empty,
-    ];
-    let slow_chain_rescues = [
-        Step::Comes(1_250_000, "bare-2-0-a-with-an-altered-tag", BOTH),
-        Step::Comes(1_450_000, "keys-0-2", Verdict::Keys),
-        Step::Empty,
-        Step::Comes(1_750_000, "keys-1-2", Verdict::Keys),
-        Step::Gives(0, 2, 0, 1, "a"),
-        Step::Empty,
-    ];
-    let late_packet_brings_a_key = [
-        Step::Comes(1_150_000, "bare-1-0-a", BOTH),
-        Step::Comes(1_850_000, "data-3-0-z", Verdict::Late),
-        Step::Gives(0, 1, 0, 0, "a"),
-        Step::Empty,
-    ];
-    let bad_key_changes_nothing = [
-        Step::Comes(1_150_000, "bare-1-0-a", BOTH),
-        Step::Comes(
-            1_350_000,
-            "keys-0-1-altered",
-            Verdict::BadKey { chain: ChainNo(0) },
+    let examples = [
+        ("first_release", 16, FIRST_RELEASE),
+        (
+            "gap_key_releases_in_arrival_order",
+            16,
+            GAP_KEY_RELEASES_IN_ARRIVAL_ORDER,
         ),
-        Step::Empty,
-        Step::Comes(1_360_000, "keys-0-1", Verdict::Keys),
-        Step::Gives(0, 1, 0, 0, "a"),
-        Step::Empty,
+        ("slow_chain_rescues", 16, SLOW_CHAIN_RESCUES),
+        ("late_packet_brings_a_key", 16, LATE_PACKET_BRINGS_A_KEY),
+        ("bad_key_changes_nothing", 16, BAD_KEY_CHANGES_NOTHING),
+        ("last_interval", 16, LAST_INTERVAL),
     ];
-    let last_interval = [
-        Step::Comes(1_850_000, "bare-8-0-e", BOTH),
-        Step::Comes(2_350_000, "keys-0-8-and-1-8", Verdict::Keys),
-        Step::Gives(0, 8, 0, 0, "e"),
-        Step::Empty,
-    ];
-    let unmet = first_unmet::<Brand>(rt.alloc(), Blank::new(1), 16, first_release.as_slice())?;
-    assert_eq!(rt; unmet, None, "first_release");
-    let unmet = first_unmet::<Brand>(
-        rt.alloc(),
-        Blank::new(1),
-        16,
-        gap_key_releases_in_arrival_order.as_slice(),
-    )?;
-    assert_eq!(rt; unmet, None, "gap_key_releases_in_arrival_order");
-    let unmet = first_unmet::<Brand>(rt.alloc(), Blank::new(1), 16, slow_chain_rescues.as_slice())?;
-    assert_eq!(rt; unmet, None, "slow_chain_rescues");
-    let unmet = first_unmet::<Brand>(
-        rt.alloc(),
-        Blank::new(1),
-        16,
-        late_packet_brings_a_key.as_slice(),
-    )?;
-    assert_eq!(rt; unmet, None, "late_packet_brings_a_key");
-    let unmet = first_unmet::<Brand>(
-        rt.alloc(),
-        Blank::new(1),
-        16,
-        bad_key_changes_nothing.as_slice(),
-    )?;
-    assert_eq!(rt; unmet, None, "bad_key_changes_nothing");
-    let unmet = first_unmet::<Brand>(rt.alloc(), Blank::new(1), 16, last_interval.as_slice())?;
-    assert_eq!(rt; unmet, None, "last_interval");
+    for (name, capacity, example) in examples {
+        let unmet = first_unmet::<Brand>(rt.alloc(), Blank::new(1), capacity, example)?;
+        assert_eq!(rt; unmet, None, "{name}");
+    }
     Ok(())
 }
 
 #[test]
 fn copies_and_places(rt: HostRuntime) -> Result<(), Fail> {
-    let three_copies = [
-        Step::Comes(1_250_000, "bare-2-0-a", BOTH),
-        Step::Comes(1_250_000, "bare-2-0-a", BOTH),
-        Step::Comes(1_250_000, "bare-2-0-a", BOTH),
-        Step::Comes(1_450_000, "keys-0-2", Verdict::Keys),
-        Step::Gives(0, 2, 0, 0, "a"),
-        Step::Empty,
-        Step::Comes(1_450_000, "bare-3-0-c", BOTH),
-        Step::Comes(1_450_000, "bare-3-0-g", BOTH),
-        Step::Comes(1_450_000, "bare-4-0-g", Verdict::Full),
+    let examples = [
+        ("three_copies", 3, THREE_COPIES),
+        ("repeat_after_release", 16, REPEAT_AFTER_RELEASE),
+        ("full_until_all_chains_pass", 1, FULL_UNTIL_ALL_CHAINS_PASS),
+        (
+            "forgery_gives_its_place_back",
+            1,
+            FORGERY_GIVES_ITS_PLACE_BACK,
+        ),
+        (
+            "key_comes_before_its_packet",
+            16,
+            KEY_COMES_BEFORE_ITS_PACKET,
+        ),
     ];
-    let repeat_after_release = [
-        Step::Comes(1_250_000, "bare-2-0-a", BOTH),
-        Step::Comes(1_450_000, "keys-0-2", Verdict::Keys),
-        Step::Comes(1_460_000, "bare-2-0-a", Verdict::Repeat),
-        Step::Gives(0, 2, 0, 0, "a"),
-        Step::Empty,
-    ];
-    let full_until_all_chains_pass = [
-        Step::Comes(1_150_000, "bare-1-0-a", BOTH),
-        Step::Comes(1_160_000, "bare-1-1-b", Verdict::Full),
-        Step::Comes(1_350_000, "keys-0-1", Verdict::Keys),
-        Step::Gives(0, 1, 0, 0, "a"),
-        Step::Comes(1_360_000, "bare-3-0-c", Verdict::Full),
-        Step::Comes(1_650_000, "keys-1-1", Verdict::Keys),
-        Step::Comes(1_660_000, "bare-6-0-d", BOTH),
-    ];
-    let forgery_gives_its_place_back = [
-        Step::Comes(1_350_000, "bare-1-0-x-with-altered-tags", SLOW),
-        Step::Comes(1_650_000, "data-6-0-d", BOTH),
-        Step::Empty,
-    ];
-    let key_comes_before_its_packet = [
-        Step::Comes(1_350_000, "data-3-0-yo", BOTH),
-        Step::Comes(1_150_000, "data-1-0-hi", SLOW),
-        Step::Empty,
-        Step::Over,
-    ];
-    let unmet = first_unmet::<Brand>(rt.alloc(), Blank::new(1), 3, three_copies.as_slice())?;
-    assert_eq!(rt; unmet, None, "three_copies");
-    let unmet = first_unmet::<Brand>(
-        rt.alloc(),
-        Blank::new(1),
-        16,
-        repeat_after_release.as_slice(),
-    )?;
-    assert_eq!(rt; unmet, None, "repeat_after_release");
-    let unmet = first_unmet::<Brand>(
-        rt.alloc(),
-        Blank::new(1),
-        1,
-        full_until_all_chains_pass.as_slice(),
-    )?;
-    assert_eq!(rt; unmet, None, "full_until_all_chains_pass");
-    let unmet = first_unmet::<Brand>(
-        rt.alloc(),
-        Blank::new(1),
-        1,
-        forgery_gives_its_place_back.as_slice(),
-    )?;
-    assert_eq!(rt; unmet, None, "forgery_gives_its_place_back");
-    let unmet = first_unmet::<Brand>(
-        rt.alloc(),
-        Blank::new(1),
-        16,
-        key_comes_before_its_packet.as_slice(),
-    )?;
-    assert_eq!(rt; unmet, None, "key_comes_before_its_packet");
+    for (name, capacity, example) in examples {
+        let unmet = first_unmet::<Brand>(rt.alloc(), Blank::new(1), capacity, example)?;
+        assert_eq!(rt; unmet, None, "{name}");
+    }
     Ok(())
 }
