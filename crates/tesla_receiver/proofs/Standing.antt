@@ -1,22 +1,19 @@
 -- A receiver stands for one entry more.
-use Rattle.std.proofs.Common.{◌≡◌, ℕ, zero, suc, ◌+◌, ◌<◌, Bool, true, false, cond, ◌||◌, List, [], ◌∷◌, ◌++◌, length, length-append, map, set, replicate, refl, sym, ap, subst, ◌∙◌, arith, append_assoc, count_by, flat_map, ◌==◌, add-zero}
+use Rattle.std.proofs.Common.{◌≡◌, ℕ, zero, suc, ◌+◌, ◌<◌, Bool, true, false, cond, ◌||◌, List, [], ◌∷◌, ◌++◌, length-append, map, set, replicate, refl, sym, ap, subst, ◌∙◌, arith, append_assoc, ◌==◌, add-zero}
 use Rattle.std.proofs.lemmas.Bool.{eq-eqb, ne_eqb}
 use Rattle.tesla_receiver.specs.declared.taking.Take.{Take}
 use Rattle.tesla_receiver.specs.declared.taking.Take.TheVariants as takes
 use Rattle.tesla_receiver.specs.Replies.{reply_shown, is_given}
 use Rattle.std.specs.Prelude.{slice_get}
-use Rattle.std.specs.List.{list_any, list_all, range_with_len}
+use Rattle.std.specs.List.{list_all, range_with_len}
 use Rattle.std.proofs.Math.Bool.{or-false}
 use Rattle.std.proofs.lemmas.List.{append-nil}
 use Rattle.std.proofs.lemmas.List.Concat.{flat_map-append}
 use Rattle.std.proofs.lemmas.List.Folds.{list_any-append, list_all-map}
 use Rattle.std.proofs.lemmas.List.Sums.{sum_by_push}
 use Rattle.tesla_receiver.specs.declared.config.Config.{Config}
-use Rattle.tesla_receiver.specs.declared.history.Arrival.{Arrival}
 use Rattle.tesla_receiver.specs.declared.history.Entry.{Entry}
-use Rattle.tesla_receiver.specs.declared.history.Entry.TheVariants.{Arrived, Taken, Ended}
-use Rattle.tesla_receiver.specs.declared.history.Reply.{Reply}
-use Rattle.tesla_receiver.specs.declared.history.Reply.TheVariants.{Given, Empty, Over}
+use Rattle.tesla_receiver.specs.declared.history.Entry.TheVariants.{Taken, Ended}
 use Rattle.tesla_receiver.specs.Packets.{released}
 use Rattle.tesla_receiver.specs.Answer.{verdict_of}
 use Rattle.tesla_receiver.specs.History.{Event, Arrives, Takes, Ends, event_of, entry_of, IsLegalAfter, IsLegal, arrival_in, arrivals_in, gives, given_in, ends, has_end, reply_to, reply_with, State, Stands}

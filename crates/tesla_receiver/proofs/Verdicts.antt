@@ -1,5 +1,5 @@
 -- The verdict on an arrival by what its bytes are.
-use Rattle.std.proofs.Common.{◌≡◌, ℕ, List, [], ◌∷◌, ◌++◌, Option, Some, None, sym, ap, ◌∙◌}
+use Rattle.std.proofs.Common.{◌≡◌, ℕ, List, [], ◌∷◌, ◌++◌, Some, None, ap, ◌∙◌}
 use Rattle.std.specs.Prelude.{unwrap_or}
 use Rattle.tesla_clock.specs.Schedule.{bound_of}
 use Rattle.tesla_frame.specs.Frame.{Frame}

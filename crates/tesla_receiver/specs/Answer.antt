@@ -11,7 +11,7 @@ use Rattle.tesla_receiver.specs.declared.history.Arrival.{Arrival}
 use Rattle.tesla_receiver.specs.declared.verdict.Verdict.{Verdict}
 use Rattle.tesla_receiver.specs.declared.verdict.Verdict.TheVariants.{Malformed, Foreign, Misfit, Future, BadKey, Late, Repeat, Full, Kept, Keys}
 use Rattle.tesla_receiver.specs.declared.config.Config.{Config}
-use Rattle.tesla_receiver.specs.Config.{chains, chain_row}
+use Rattle.tesla_receiver.specs.Config.{chain_row}
 use Rattle.tesla_receiver.specs.Keys.{keys_of, newest, is_good}
 use Rattle.tesla_receiver.specs.Packets.{chain_set, is_safe, has_name, released}
 use Rattle.tesla_receiver.specs.Held.{held_of}

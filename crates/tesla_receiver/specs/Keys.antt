@@ -1,6 +1,6 @@
 -- Which keys frames carry, which of them are new, and which of them are good (RFC 4082, section 3.5, key tests).
-use Rattle.std.specs.Prelude.{ℕ, ◌+◌, ◌-◌, Bool, true, false, not, ◌&&◌, ◌||◌, List, [], ◌∷◌, ◌++◌, max, Option, Some, None, nat_lt, ◌==◌, if◌then◌else◌, bytes_eq, filter, fold, flat_map}
-use Rattle.std.specs.List.{list_any, list_all, enumerate_from}
+use Rattle.std.specs.Prelude.{ℕ, ◌-◌, Bool, true, false, not, ◌&&◌, ◌||◌, List, [], ◌∷◌, ◌++◌, max, Option, Some, None, nat_lt, ◌==◌, if◌then◌else◌, bytes_eq, filter, fold, flat_map}
+use Rattle.std.specs.List.{list_all, enumerate_from}
 use Rattle.tesla_base.specs.declared.names.Key.{Key}
 use Rattle.tesla_frame.specs.declared.row.KeyRow.{KeyRow}
 use Rattle.tesla_frame.specs.Frame.{Frame, Data, Disclosure, TagRow}

@@ -1,5 +1,5 @@
 -- Which packets are safe on arrival, which keys prove them, and what is released (RFC 4082, section 3.5).
-use Rattle.std.specs.Prelude.{ℕ, zero, suc, ◌+◌, ◌-◌, ◌^◌, ◌/◌, ◌%◌, Bool, false, not, ◌&&◌, List, [], ◌∷◌, ◌++◌, Option, Some, None, slice_get, nat_lt, nat_le, ◌==◌, if◌then◌else◌, bytes_eq, find, flat_map}
+use Rattle.std.specs.Prelude.{ℕ, zero, suc, ◌+◌, ◌-◌, ◌^◌, ◌/◌, ◌%◌, Bool, false, ◌&&◌, List, [], ◌∷◌, Option, Some, None, slice_get, nat_lt, nat_le, ◌==◌, if◌then◌else◌, bytes_eq, find, flat_map}
 use Rattle.std.specs.List.{list_any, enumerate_from}
 use Rattle.tesla_base.specs.declared.names.Name.{Name}
 use Rattle.tesla_commit.specs.Parts.{tag_length}

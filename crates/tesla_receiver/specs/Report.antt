@@ -1,5 +1,5 @@
 -- The counts of a history, and the release records that it gave.
-use Rattle.std.specs.Prelude.{ℕ, Bool, true, false, List, [], ◌++◌, length, ◌==◌, if◌then◌else◌, count_by, flat_map}
+use Rattle.std.specs.Prelude.{ℕ, List, [], length, ◌==◌, if◌then◌else◌, count_by, flat_map}
 use Rattle.tesla_capture.specs.Release.{release_text}
 use Rattle.tesla_receiver.specs.declared.history.Arrival.{Arrival}
 use Rattle.tesla_receiver.specs.declared.history.Entry.{Entry}

@@ -1,6 +1,6 @@
 use Rattle.std.proofs.Common.{sym, ◌∙◌}
 use Rattle.tesla_receiver.specs.Answer.{is_outside}
-use Rattle.tesla_receiver.proofs.Finds.{any_got, any_got_more}
+use Rattle.tesla_receiver.proofs.Finds.{any_got}
 use Rattle.tesla_receiver.proofs.fitting.keys_misfit.Goals as goal
 
 pub returns-then-is_outside : goal.returns-then-is_outside

@@ -1,4 +1,4 @@
-use Rattle.std.proofs.Common.{◌≡◌, length, sym, ◌∙◌, ap, arith}
+use Rattle.std.proofs.Common.{◌≡◌, length, sym, ◌∙◌, ap}
 use Rattle.tesla_receiver.specs.Held.{has_passed}
 use Rattle.tesla_receiver.proofs.Finds.{not_all_numbers, all_numbers_more, all_numbers}
 use Rattle.tesla_receiver.proofs.book.Book.all_passed.Goals as goal

@@ -1,4 +1,4 @@
-use Rattle.std.proofs.Common.{◌≡◌, length, sym, ◌∙◌, ap, arith}
+use Rattle.std.proofs.Common.{◌≡◌, length, sym, ◌∙◌, ap}
 use Rattle.tesla_receiver.specs.Held.{is_past}
 use Rattle.tesla_receiver.proofs.Finds.{not_all_numbers, all_numbers_more, all_numbers}
 use Rattle.tesla_receiver.proofs.book.Book.all_past.Goals as goal

@@ -1,5 +1,4 @@
-use Rattle.std.proofs.Common.{◌≡◌, ◌≤◌, length, ap, ◌∙◌, arith, take}
-use Rattle.std.proofs.lemmas.List.{take_all}
+use Rattle.std.proofs.Common.{◌≡◌, ap, ◌∙◌, arith}
 use Rattle.tesla_receiver.proofs.Grown.{held_more, held_whole}
 use Rattle.tesla_receiver.proofs.book.Book.held_of.Goals as goal
 

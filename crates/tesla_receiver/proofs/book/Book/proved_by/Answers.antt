@@ -1,4 +1,4 @@
-use Rattle.std.proofs.Common.{◌≡◌, ap, ◌∙◌, arith}
+use Rattle.std.proofs.Common.{◌≡◌, ap, ◌∙◌}
 use Rattle.tesla_receiver.proofs.Verified.{releases_more}
 use Rattle.tesla_receiver.proofs.book.Book.proved_by.Goals as goal
 

@@ -1,4 +1,4 @@
-use Rattle.std.proofs.Common.{◌≡◌, ◌≤◌, arith}
+use Rattle.std.proofs.Common.{arith}
 use Rattle.tesla_receiver.proofs.book.Book.waiting.Goals as goal
 
 pub returns-clause-few : goal.returns-clause-few

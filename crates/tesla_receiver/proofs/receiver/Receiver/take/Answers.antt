@@ -1,9 +1,9 @@
-use Rattle.std.proofs.Common.{◌≡◌, ◌+◌, cond, ap, ◌∙◌}
+use Rattle.std.proofs.Common.{◌+◌, cond, ap, ◌∙◌}
 use Rattle.std.specs.Prelude.{slice_get}
 use Rattle.std.specs.List.{list_all}
 use Rattle.tesla_receiver.specs.Packets.{released}
 use Rattle.tesla_receiver.specs.History.{State, reply_with}
-use Rattle.tesla_receiver.specs.Replies.{reply_shown, is_given}
+use Rattle.tesla_receiver.specs.Replies.{is_given}
 use Rattle.tesla_receiver.proofs.Standing.{reply_kept, stands_take}
 use Rattle.tesla_receiver.proofs.receiver.Receiver.take.Goals as goal
 
