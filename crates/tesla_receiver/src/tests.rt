@@ -1,7 +1,8 @@
 //! The worked examples of two chains, of delay 2 and 5, whose seeds are 32 bytes 11 and 32 bytes 22.
 //!
 //! The frames were made by another program. Their names tell the kind, the interval, the number and the
-//! payload; those of disclosures tell the chain and the index of each key. A bare frame carries no keys.
+//! payload; those of disclosures tell the chain and the index of each key. A bare frame carries no keys. Of
+//! what is altered, the first byte has its last bit turned.
 
 ghost use Rattle.std.specs.Prelude.{◌≡◌, ◌<◌, ◌≤◌};
 
@@ -264,6 +265,7 @@ const LAST_INTERVAL: &[Step] = &[
     Step::Empty,
 ];
 
+// One packet is held after the take, since chain 1 hasn't passed: two more fill the capacity of 3.
 const THREE_COPIES: &[Step] = &[
     Step::Comes(1_250_000, "bare-2-0-a", BOTH),
     Step::Comes(1_250_000, "bare-2-0-a", BOTH),
