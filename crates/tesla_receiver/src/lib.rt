@@ -29,3 +29,6 @@ pub use release::Release;
 pub use report::Report;
 pub use taking::Take;
 pub use verdict::Verdict;
+
+#[cfg(test)]
+mod tests;
