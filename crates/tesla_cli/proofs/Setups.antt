@@ -7,7 +7,7 @@ use Rattle.tesla_commit.specs.Reading.{judged}
 use Rattle.tesla_cli.specs.declared.outcome.Outcome.{Outcome}
 use Rattle.tesla_cli.specs.declared.outcome.Outcome.TheVariants.{Done, Usage, SetupBad, SetupLater, CaptureBad, CaptureLater, ReadFault, WriteFault, NoMemory, OpenFault}
 use Rattle.tesla_cli.specs.Run.{setup_judged}
-use Rattle.tesla_cli.specs.Replay.{SetupIs, OfReading, OfText, OfSetup}
+use Rattle.tesla_cli.specs.Replay.{SetupIs, OfReading, OfSetup}
 
 judged_where : (n : ℕ) (text : List ℕ) (long : Bool) → nat_lt n (length text) ≡ long → 4096 < n → setup_judged (take n text) ≡ setup_judged text
 unfolding setup_judged judged

@@ -1,10 +1,13 @@
 //! Whole replays over a desk in memory, with values from outside: frames of a stream whose one chain has
 //! delay 2 and the seed of 32 bytes 11.
 
+ghost use Rattle.std.specs.Prelude.{Some};
+ghost use Rattle.tesla_desk.specs.Memory.{unread, page_under, counts_of};
+
 use super::*;
 use std::alloc::Global;
 use std::test::Fail;
-use tesla_desk::{CONSOLE, MemoryDesk};
+use tesla_desk::{CONSOLE, Desk, Heap, MemoryDesk, OpenRefusal, Pages, ReadStep, Source};
 
 const SETUP: &[u8] = b"tesla 1
 stream 00000000000000a7
@@ -55,8 +58,65 @@ fn desk_with(alloc: Global, room: usize, setup: &[u8], parts: &[&str]) -> Result
     Ok(desk)
 }
 
+// A source whose reads all fail.
+struct Torn {
+    pages: Pages,
+    faults: u64,
+}
+
+impl Source for Torn {
+    ghost left = { λ it. Some (unread it.pages) };
+
+    ghost faults = { λ it. it.faults };
+
+    fn read(&mut self, _into: &mut [u8]) -> ReadStep {
+        self.faults = self.faults.saturating_add(1);
+        ReadStep::Failed
+    }
+}
+
+// A desk in memory whose sources are torn.
+#[derive(Drop)]
+struct TornDesk {
+    memory: MemoryDesk,
+    reads: u64,
+}
+
+impl Desk for TornDesk {
+    type In = Torn;
+
+    type Out = Heap;
+
+    ghost page = { λ it. page_under it.memory };
+
+    ghost faults = { λ it. record (counts_of it.memory) { reads = it.reads } };
+
+    fn open_source(&mut self, name: &str) -> Result<Torn, OpenRefusal> {
+        match self.memory.open_source(name) {
+            Ok(pages) => Ok(Torn { pages, faults: 0 }),
+            Err(refusal) => Err(refusal),
+        }
+    }
+
+    fn open_sink(&mut self, name: &str) -> Result<Heap, OpenRefusal> {
+        self.memory.open_sink(name)
+    }
+
+    fn close_source(&mut self, it: Torn) {
+        let Torn { pages, faults } = it;
+        self.memory.close_source(pages);
+        if 0 < faults {
+            self.reads = self.reads.saturating_add(1);
+        }
+    }
+
+    fn close_sink(&mut self, it: Heap) {
+        self.memory.close_sink(it);
+    }
+}
+
 // Runs the words of a line.
-fn run_line(alloc: Global, line: &str, desk: &mut MemoryDesk) -> Result<u8, Fail> {
+fn run_line<D: Desk>(alloc: Global, line: &str, desk: &mut D) -> Result<u8, Fail> {
     let mut words = Vec::new(alloc);
     for word in line.split(' ') {
         words.push(String::from_str(alloc, word)?)?;
@@ -209,5 +269,18 @@ fn no_capture(rt: HostRuntime) -> Result<(), Fail> {
         b"open fault\n".as_slice()
     );
     assert_eq!(rt; page_of(alloc, &desk, "out")?.as_str(), "-");
+    Ok(())
+}
+
+#[test]
+fn reads_that_fail(rt: HostRuntime) -> Result<(), Fail> {
+    let alloc = rt.alloc();
+    let memory = desk_with(alloc, 4096, SETUP, &[HEAD])?;
+    let mut desk = TornDesk { memory, reads: 0 };
+    assert_eq!(rt; run_line(alloc, LINE, &mut desk)?, 4);
+    assert_eq!(rt;
+        desk.memory.page(CONSOLE).ok_or("no console")?,
+        b"read fault\n".as_slice()
+    );
     Ok(())
 }
