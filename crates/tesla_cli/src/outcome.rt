@@ -14,7 +14,7 @@ use tesla_receiver::Report;
 /// What a command comes to.
 #[derive(Clone, Copy, Debug, PartialEq, Eq)]
 pub enum Outcome {
-    /// The input was read to its end, and all output is written.
+    /// All of the capture was played, and all of the output and the report is written.
     Done(Report),
     /// The words are no form of a command.
     Usage,

@@ -35,7 +35,7 @@ is_misfit cfg (Data f) =
     || list_any (λ (p : ℕ × TagRow). is_early cfg f.name.interval p.0 p.1.key) (enumerate_from 0 f.rows)
 is_misfit cfg (Disclosure f) = list_any (is_outside cfg) f.rows
 
--- a key's time to be disclosed hasn't come by the bound
+-- by the bound, the sender can't have disclosed the key
 abbrev pub is_undisclosed : Config → ℕ → KeyRow → Bool
 is_undisclosed cfg bound row = nat_lt bound (row.index + (chain_row cfg row.chain.0).delay)
 
