@@ -1,5 +1,5 @@
 -- What stays true of a replay when its outcome is printed and the console is closed.
-use Rattle.std.proofs.Common.{◌≡◌, ◌∙◌, ◌⊎◌, ◌≤◌, ℕ, Bool, false, Option, Some, None, IfSome, Result, Ok, Err, List, [], length, nat_lt, refl, sym, ap, subst, arith, inl, inr}
+use Rattle.std.proofs.Common.{◌≡◌, ◌∙◌, ◌⊎◌, ◌≤◌, ℕ, Bool, true, false, Option, Some, None, IfSome, Result, Ok, Err, List, [], length, nat_lt, refl, sym, ap, subst, arith, inl, inr}
 use Rattle.std.proofs.Math.Seq.{take-length}
 use Rattle.std.proofs.lemmas.Bool.Decides.{nat_tests}
 use Rattle.tesla_commit.specs.Parts.{Parts}
@@ -13,14 +13,16 @@ use Rattle.tesla_cli.specs.declared.outcome.Outcome.TheVariants.{Done, Usage, Se
 use Rattle.tesla_cli.specs.Words.{Asked}
 use Rattle.tesla_cli.specs.Judging.{capture_judged}
 use Rattle.tesla_cli.specs.Outcome.{text_of, TellsReport, TellsOutcome, IsLost}
-use Rattle.tesla_cli.specs.Replay.{OfCaptureFile, PlaysFile}
+use Rattle.tesla_cli.specs.Replay.{OfCaptureFile, OfSetup, PlaysFile}
 use Rattle.tesla_cli.specs.Run.{setup_judged, plan_of, plan_under, planned, config_with, IsFault, HoldsWhere, IsFront, Keeps, out_text, HasCauses}
-use Rattle.tesla_cli.specs.TopCall.{SetupSays, Replays, Prints}
+use Rattle.tesla_cli.specs.TopCall.{SetupSays, Replays, HoldsLines, Prints}
 
 -- the capture was played under the setup that was judged
-pub replays_played : (asked : Asked) (before mid after : List ℕ → Page) (parts : Parts) (outcome : Outcome) → ((text : List ℕ) (failed : Bool) → before asked.setup ≡ Holds text failed → setup_judged text ≡ Ok parts) → ((name : List ℕ) → mid name ≡ before name) → ((bytes : List ℕ) (failed : Bool) → mid asked.capture ≡ Holds bytes failed → PlaysFile (planned (config_with parts asked.lag asked.capacity) (capture_judged asked.capacity bytes)) outcome (mid asked.out) (after asked.out)) → Keeps outcome (mid asked.out) (after asked.out) → OfCaptureFile outcome → Replays asked before after outcome
-replays_played asked before mid after parts outcome told same plays keeps kind = record {
+pub replays_played : (asked : Asked) (before mid after : List ℕ → Page) (parts : Parts) (outcome : Outcome) → ((text : List ℕ) (failed : Bool) → before asked.setup ≡ Holds text failed → setup_judged text ≡ Ok parts) → ((name : List ℕ) → mid name ≡ before name) → ((bytes : List ℕ) (failed : Bool) → mid asked.capture ≡ Holds bytes failed → PlaysFile (planned (config_with parts asked.lag asked.capacity) (capture_judged asked.capacity bytes)) outcome (mid asked.out) (after asked.out)) → Keeps outcome (mid asked.out) (after asked.out) → OfCaptureFile outcome → (before asked.setup ≡ Absent → ⊥) → (mid asked.capture ≡ Absent → OfSetup outcome) → Replays asked before after outcome
+replays_played asked before mid after parts outcome told same plays keeps kind there absent = record {
   form = λ e. subst OfCaptureFile e kind;
+  no_setup = λ none. absurd (there none);
+  no_capture = λ none. absent (same asked.capture ∙ none);
   setup = λ text failed holds. subst (λ (judged : Result Parts Outcome). SetupSays judged outcome) (sym (told text failed holds)) kind;
   plays = λ text bytes failed other holds_setup holds.
       let it = plays bytes other (same asked.capture ∙ holds) in
@@ -33,6 +35,8 @@ replays_played asked before mid after parts outcome told same plays keeps kind =
 pub replays_pages : (asked : Asked) (before first second after : List ℕ → Page) (outcome : Outcome) → first asked.setup ≡ before asked.setup → first asked.capture ≡ before asked.capture → first asked.out ≡ before asked.out → after asked.out ≡ second asked.out → Replays asked first second outcome → Replays asked before after outcome
 replays_pages asked before first second after outcome setup capture out out_after it = record {
   form = it.form;
+  no_setup = λ none. it.no_setup (setup ∙ none);
+  no_capture = λ none. it.no_capture (capture ∙ none);
   setup = λ text failed holds. it.setup text failed (setup ∙ holds);
   plays = λ text bytes failed other holds_setup holds.
       let played = it.plays text bytes failed other (setup ∙ holds_setup) (capture ∙ holds) in
@@ -55,6 +59,8 @@ setup_fault (Err refusal) outcome fault kind = inr fault
 lost_memory : (asked : Asked) (before after : List ℕ → Page) (report : Report) → Replays asked before after (Done report) → Replays asked before after NoMemory
 lost_memory asked before after report it = record {
   form = λ e. absurd cc;
+  no_setup = λ none. tt;
+  no_capture = λ none. tt;
   setup = λ text failed holds. setup_fault (setup_judged text) NoMemory tt tt;
   plays = λ text bytes failed other holds_setup holds.
       let played = it.plays text bytes failed other holds_setup holds in
@@ -66,6 +72,8 @@ lost_memory asked before after report it = record {
 lost_write : (asked : Asked) (before after : List ℕ → Page) (report : Report) → Replays asked before after (Done report) → Replays asked before after WriteFault
 lost_write asked before after report it = record {
   form = λ e. absurd cc;
+  no_setup = λ none. tt;
+  no_capture = λ none. absurd (it.no_capture none);
   setup = λ text failed holds. setup_fault (setup_judged text) WriteFault tt tt;
   plays = λ text bytes failed other holds_setup holds.
       let played = it.plays text bytes failed other holds_setup holds in
@@ -152,14 +160,17 @@ causes_printed f0 f1 f2 f3 outcome printed Failed opened closed opening run tell
 no_faults : (faults : ℕ) → nat_lt 0 faults ≡ false → faults ≡ 0
 no_faults faults e = grind (arith, nat_tests)
 
-whole_console : (written now : Option (List ℕ)) (faults : ℕ) (printed : Outcome) (text : List ℕ) → IfSome written (λ front. front ≡ []) → (faults ≡ 0 → now ≡ with_bytes written (text_of printed)) → page_of now faults ≡ Holds text false → text ≡ text_of printed
-whole_console written None faults printed text empty told page = absurd cc
-whole_console written (Some held) faults printed text empty told page =
-    let same : held ≡ text = cc in
-    let none : nat_lt 0 faults ≡ false = cc in
-    sym same ∙ first_written written (Some held) (text_of printed) held empty (told (no_faults faults none)) refl
+lines_where : (printed : Outcome) (held : List ℕ) (failed : Bool) → (failed ≡ false → held ≡ text_of printed) → HoldsLines printed (Holds held failed)
+lines_where printed held true told = tt
+lines_where printed held false told = told refl
+
+whole_console : (written now : Option (List ℕ)) (faults : ℕ) (printed : Outcome) → IfSome written (λ front. front ≡ []) → (faults ≡ 0 → now ≡ with_bytes written (text_of printed)) → HoldsLines printed (page_of now faults)
+whole_console written None faults printed empty told = tt
+whole_console written (Some held) faults printed empty told =
+    lines_where printed held (nat_lt 0 faults)
+    (λ none. first_written written (Some held) (text_of printed) held empty (told (no_faults faults none)) refl)
 
 -- a console that did not fail holds the lines
 pub prints_whole : (before after : Page) (written now : Option (List ℕ)) (faults : ℕ) (printed : Outcome) → IfSome written (λ front. front ≡ []) → (faults ≡ 0 → now ≡ with_bytes written (text_of printed)) → after ≡ page_of now faults → Prints printed before after
 prints_whole before after written now faults printed empty told page =
-    inr (λ text holds. whole_console written now faults printed text empty told (sym page ∙ holds))
+    inr (subst (HoldsLines printed) (sym page) (whole_console written now faults printed empty told))

@@ -1,13 +1,13 @@
 -- What a run of the commands does, for all words and desks.
-use Rattle.std.specs.Prelude.{◌≡◌, ◌≢◌, ◌⊎◌, ℕ, Bool, false, List, codes, Result, Ok, Err}
+use Rattle.std.specs.Prelude.{◌≡◌, ◌≢◌, ◌⊎◌, ℕ, Bool, true, false, List, codes, Result, Ok, Err}
 use Rattle.tesla_commit.specs.Parts.{Parts}
 use Rattle.tesla_desk.specs.Faults.{Faults}
-use Rattle.tesla_desk.specs.Outside.{Page, Holds}
+use Rattle.tesla_desk.specs.Outside.{Page, Untold, Absent, Holds}
 use Rattle.tesla_cli.specs.declared.outcome.Outcome.{Outcome}
 use Rattle.tesla_cli.specs.declared.outcome.Outcome.TheVariants.{Usage, ReadFault, WriteFault, NoMemory, OpenFault}
 use Rattle.tesla_cli.specs.Words.{Asked, IsReplay}
 use Rattle.tesla_cli.specs.Outcome.{text_of}
-use Rattle.tesla_cli.specs.Replay.{OfCaptureFile, PlaysFile}
+use Rattle.tesla_cli.specs.Replay.{OfCaptureFile, OfSetup, PlaysFile}
 use Rattle.tesla_cli.specs.Run.{setup_judged, plan_of, IsFault, Keeps, HasCauses}
 
 -- a setup that isn't one of one chain is refused so, and one of one chain is not refused, unless something failed
@@ -21,6 +21,10 @@ pub record Replays (asked : Asked) (before after : List ℕ → Page) (outcome :
   pub form : outcome ≢ Usage
   -- exactly the setups that aren't one of one chain are refused
   pub setup : (text : List ℕ) (failed : Bool) → before asked.setup ≡ Holds text failed → SetupSays (setup_judged text) outcome
+  -- a setup that isn't there is no setup that is refused
+  pub no_setup : before asked.setup ≡ Absent → IsFault outcome
+  -- a capture that isn't there is neither played nor refused
+  pub no_capture : before asked.capture ≡ Absent → OfSetup outcome
   -- the outcome is the one that both files decide, unless something failed, and the output holds the release records
   pub plays : (text bytes : List ℕ) (failed other : Bool) → before asked.setup ≡ Holds text failed → before asked.capture ≡ Holds bytes other → PlaysFile (plan_of asked text bytes) outcome (before asked.out) (after asked.out)
   -- the output is empty where the capture is refused, and untouched where the setup is
@@ -34,10 +38,17 @@ IsNoForm words = (asked : Asked) → IsReplay words asked → ⊥
 pub record IsUnwritten (words : List (List ℕ)) (name : List ℕ) : Type 0 where
   pub out : (asked : Asked) → IsReplay words asked → name ≢ asked.out
 
--- the console: it wasn't opened, or where it didn't fail it holds the lines of the outcome
+-- the page holds the lines of the outcome, unless a write to it failed
+abbrev pub HoldsLines : Outcome → Page → Type 0
+HoldsLines outcome Untold = Unit {0}
+HoldsLines outcome Absent = ⊥
+HoldsLines outcome (Holds text true) = Unit {0}
+HoldsLines outcome (Holds text false) = text ≡ text_of outcome
+
+-- the console: it wasn't opened, or it holds the lines of the outcome
 abbrev pub Prints : Outcome → Page → Page → Type 0
 Prints outcome before after =
-    ((after ≡ before) × ((outcome ≡ OpenFault) ⊎ (outcome ≡ NoMemory))) ⊎ ((text : List ℕ) → after ≡ Holds text false → text ≡ text_of outcome)
+    ((after ≡ before) × ((outcome ≡ OpenFault) ⊎ (outcome ≡ NoMemory))) ⊎ HoldsLines outcome after
 
 -- one run
 pub record Run (words : List (List ℕ)) (before after : List ℕ → Page) (old new : Faults) (outcome : Outcome) : Type 0 where

@@ -2,10 +2,10 @@
 
 ghost use Rattle.std.specs.Prelude.{◌≡◌, ◌≢◌, ◌≤◌, ℕ, List, Bool, take, Some, Err, IfOk, IfErr};
 ghost use Rattle.tesla_desk.specs.Faults.{HasCause};
-ghost use Rattle.tesla_desk.specs.Outside.{Holds};
+ghost use Rattle.tesla_desk.specs.Outside.{Absent, Holds};
 ghost use Rattle.tesla_cli.specs.Judging.{capture_judged};
 ghost use Rattle.tesla_cli.specs.Replay.{IsUnread, IsUnopened, OfReading, OfText, OfSetup, OfCaptureFile, SetupIs, PlaysFile};
-ghost use Rattle.tesla_cli.specs.Run.{HasCauses, setup_judged, planned, config_with, Keeps};
+ghost use Rattle.tesla_cli.specs.Run.{HasCauses, IsFault, setup_judged, planned, config_with, Keeps};
 
 use crate::replay::play_file;
 use crate::{Outcome, ReadRefusal, ReplayWords, read_up_to};
@@ -44,6 +44,7 @@ fn read_file<D: Desk>(
     desk: &mut D,
 ) -> Result<Vec<u8>, Outcome>
     ensures told { IfOk result (λ read. (bytes : List ℕ) (failed : Bool) → D.page desk.old name.now ≡ Holds bytes failed → read.items ≡ take most bytes) }
+    ensures absent { IfOk result (λ read. D.page desk.old name.now ≡ Absent → ⊥) }
     ensures kind { IfErr result OfReading }
     ensures pages { (n : List ℕ) → D.page desk.new n ≡ D.page desk.old n }
     ensures causes { HasCauses (D.faults desk.old) (D.faults desk.new) (result ≡ Err Outcome.ReadFault) (result ≡ Err Outcome.WriteFault) (result ≡ Err Outcome.OpenFault) }
@@ -83,6 +84,8 @@ fn judge_setup(alloc: Global, text: &[u8]) -> Result<Setup, Outcome>
 /// The setup of one chain under a name.
 pub fn setup_in<D: Desk>(alloc: Global, name: &str, desk: &mut D) -> Result<Setup, Outcome>
     ensures told { (bytes : List ℕ) (failed : Bool) → D.page desk.old name.now ≡ Holds bytes failed → SetupIs (setup_judged bytes) result }
+    ensures there { IfOk result (λ setup. D.page desk.old name.now ≡ Absent → ⊥) }
+    ensures absent { IfErr result (λ outcome. D.page desk.old name.now ≡ Absent → IsFault outcome) }
     ensures kind { IfErr result OfSetup }
     ensures pages { (n : List ℕ) → D.page desk.new n ≡ D.page desk.old n }
     ensures causes { HasCauses (D.faults desk.old) (D.faults desk.new) (result ≡ Err Outcome.ReadFault) (result ≡ Err Outcome.WriteFault) (result ≡ Err Outcome.OpenFault) }
@@ -141,6 +144,7 @@ pub fn play_capture<D: Desk>(
     requires least { 1 ≤ asked.now.capacity }
     requires most { asked.now.capacity ≤ 65536 }
     ensures plays { (bytes : List ℕ) (failed : Bool) → D.page desk.old asked.now.capture.now ≡ Holds bytes failed → PlaysFile (planned (config_with setup asked.now.lag asked.now.capacity) (capture_judged asked.now.capacity bytes)) result (D.page desk.old asked.now.out.now) (D.page desk.new asked.now.out.now) }
+    ensures absent { D.page desk.old asked.now.capture.now ≡ Absent → OfSetup result }
     ensures keeps { Keeps result (D.page desk.old asked.now.out.now) (D.page desk.new asked.now.out.now) }
     ensures kind { OfCaptureFile result }
     ensures pages { (n : List ℕ) → n ≢ asked.now.out.now → D.page desk.new n ≡ D.page desk.old n }
