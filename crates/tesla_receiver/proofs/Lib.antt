@@ -8,3 +8,4 @@ pub mod Verdicts
 pub mod Standing
 pub mod Places
 pub mod Playing
+pub mod Walked

@@ -1,6 +1,7 @@
 -- What a receiver has seen: its configuration, and the arrivals with their verdicts.
-use Rattle.std.specs.Prelude.{◌≡◌, ℕ, true, List, [], ◌∷◌, ◌++◌}
+use Rattle.std.specs.Prelude.{◌≡◌, ◌≤◌, ◌-◌, ℕ, true, List, [], ◌∷◌, ◌++◌}
 use Rattle.tesla_frame.specs.declared.row.KeyRow.{KeyRow}
+use Rattle.tesla_prf.specs.Keys.{walk}
 use Rattle.tesla_receiver.specs.declared.config.Config.{Config}
 use Rattle.tesla_receiver.specs.declared.history.Arrival.{Arrival}
 use Rattle.tesla_receiver.specs.declared.release.Release.{Release}
@@ -29,3 +30,8 @@ pub record EndsTaking (arrivals : List Arrival) : Type 0 where
   pub last : Arrival
   pub split : arrivals ≡ front ++ last ∷ []
   pub takes : takes_keys last.verdict ≡ true
+
+-- the second key is the one that the first walks to at its index
+pub record IsWalked (row reached : KeyRow) : Type 0 where
+  pub below : reached.index ≤ row.index
+  pub key : reached.key ≡ walk row.key (row.index - reached.index)

@@ -1,10 +1,12 @@
 //! The keys that frames carry.
 
-ghost use Rattle.std.specs.Prelude.{◌≡◌, [], ◌∷◌, not, ◌||◌, IfOk, flat_map};
+ghost use Rattle.std.specs.Prelude.{◌≡◌, ◌-◌, [], ◌∷◌, not, ◌||◌, IfOk, flat_map};
 ghost use Rattle.std.specs.List.{enumerate_from, list_all};
 ghost use Rattle.tesla_frame.specs.Shown.{shown};
 ghost use Rattle.tesla_receiver.specs.Config.{chain_row};
+ghost use Rattle.tesla_prf.specs.Keys.{walk};
 ghost use Rattle.tesla_receiver.specs.Keys.{greatest, carried, keys_of, leads_to, is_of};
+ghost use Rattle.tesla_receiver.specs.Book.{IsWalked};
 
 use crate::Config;
 use std::alloc::Global;
@@ -94,13 +96,49 @@ pub fn leads_to<L: Ledger>(row: &KeyRow, index: u32, key: &Key, steps: &mut Step
     walked.0.as_slice() == key.0.as_slice()
 }
 
-/// Whether a key walks to each of these keys that is of its chain.
+// Where a walk to the index starts: at the key that was reached, where that isn't below the index, and
+// else at the row's own.
+#[tactic(auto, using(crate::proofs::Walked::walked_none, crate::proofs::Walked::walked_on))]
+fn walk_start(row: &KeyRow, reached: &KeyRow, index: u32) -> KeyRow
+    requires { IsWalked row.now reached.now }
+    ensures walked { IsWalked row.now result }
+    ensures meets { walk result.key (result.index - index) ≡ walk row.now.key (row.now.index - index) }
+{
+    if index <= reached.index {
+        *reached
+    } else {
+        *row
+    }
+}
+
+// The key that the row walks to at the index, on from the key that was reached.
+fn walked_to<L: Ledger>(row: &KeyRow, reached: &KeyRow, index: u32, steps: &mut Steps<L>) -> KeyRow
+    requires { IsWalked row.now reached.now }
+    ensures walked { IsWalked row.now result }
+    ensures value { result.key ≡ walk row.now.key (row.now.index - index) }
+{
+    let start = walk_start(row, reached, index);
+    let distance = start.index.saturating_sub(index);
+    KeyRow {
+        chain: start.chain,
+        index: start.index - distance,
+        key: tesla_prf::walk_back(&start.key, distance, steps),
+    }
+}
+
+/// Whether a key walks to each of these keys that is of its chain. They mostly rise, so that one walk
+/// meets them all, the last one first.
 pub fn leads_to_each<L: Ledger>(row: &KeyRow, others: &[KeyRow], steps: &mut Steps<L>) -> bool
     ensures { result ≡ list_all (λ other. not (is_of row.now.chain.0 other) || leads_to row.now other.index other.key) others.now }
 {
-    for other in others {
-        if other.chain.0 == row.chain.0 && !leads_to(row, other.index, &other.key, steps) {
-            return false;
+    let mut reached = *row;
+    for place in (0..others.len()).rev() {
+        let other = others[place];
+        if other.chain.0 == row.chain.0 {
+            reached = walked_to(row, &reached, other.index, steps);
+            if reached.key.0.as_slice() != other.key.0.as_slice() {
+                return false;
+            }
         }
     }
     true
