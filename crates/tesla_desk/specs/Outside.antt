@@ -1,10 +1,12 @@
 -- What the calls of sources, sinks and desks do to the bytes that these tell.
-use Rattle.std.specs.Prelude.{◌≡◌, ℕ, ◌<◌, ◌≤◌, Bool, nat_lt, Option, Some, None, IfSome, List, [], ◌++◌, length, take}
+use Rattle.std.specs.Prelude.{◌≡◌, ℕ, ◌<◌, ◌≤◌, Bool, nat_lt, Option, Some, None, IfSome, Result, Ok, Err, List, [], ◌∷◌, ◌++◌, length, take}
 use Rattle.std.specs.Option.{option_map}
 use Rattle.tesla_desk.specs.declared.source.ReadStep.{ReadStep}
 use Rattle.tesla_desk.specs.declared.source.ReadStep.TheVariants.{Got, End, Failed as ReadFailed}
 use Rattle.tesla_desk.specs.declared.sink.WriteStep.{WriteStep}
 use Rattle.tesla_desk.specs.declared.sink.WriteStep.TheVariants.{Took, Failed as WriteFailed}
+use Rattle.tesla_desk.specs.declared.desk.OpenRefusal.{OpenRefusal}
+use Rattle.tesla_desk.specs.declared.desk.OpenRefusal.TheVariants as refusals
 
 -- what a desk tells of the bytes under a name: nothing, that there are none, or the bytes and whether the sink that was closed last under the name failed
 pub data Page : Type 0 where
@@ -66,3 +68,18 @@ abbrev pub Opened : Page → Option (List ℕ) → Type 0
 Opened Untold left = left ≡ None
 Opened Absent left = ⊥
 Opened (Holds bytes failed) left = left ≡ Some bytes
+
+-- an opening that a desk was asked for, with the name
+pub data Opening : Type 0 where
+  OfSource : List ℕ → Opening
+  OfSink : List ℕ → Opening
+
+-- the openings asked for, where they are told, with one more at the end
+abbrev pub with_opening : Option (List Opening) → Opening → Option (List Opening)
+with_opening told opening = option_map (λ before. before ++ opening ∷ []) told
+
+-- the openings asked for after this one: one that found no memory is not among them
+abbrev pub after_opening : {A : Type 0} → Opening → Result A OpenRefusal → Option (List Opening) → Option (List Opening)
+after_opening opening (Ok it) told = with_opening told opening
+after_opening opening (Err refusals.Failed) told = with_opening told opening
+after_opening opening (Err refusals.NoMemory) told = told

@@ -1,8 +1,8 @@
 //! The desk, which opens and closes what is outside by name.
 
-ghost use Rattle.std.specs.Prelude.{◌≡◌, ◌≢◌, [], List, ℕ, IfOk, OnErr, IfSome};
+ghost use Rattle.std.specs.Prelude.{◌≡◌, ◌≢◌, [], List, ℕ, Option, IfOk, OnErr, IfSome};
 ghost use Rattle.tesla_desk.specs.Faults.{Faults, CountsOpening, after_source, after_sink};
-ghost use Rattle.tesla_desk.specs.Outside.{Page, page_of, Opened};
+ghost use Rattle.tesla_desk.specs.Outside.{Page, page_of, Opened, Opening, OfSource, OfSink, after_opening};
 
 use crate::{Sink, Source};
 
@@ -34,12 +34,17 @@ pub trait Desk {
     /// sink counts when it is closed. Each count stands still at 2^64 - 1.
     ghost faults: { Self → Faults };
 
+    /// The openings asked for, in order; `None` where the desk does not tell them. One that does not
+    /// tell stays so. An opening that found no memory is not among them.
+    ghost openings: { Self → Option (List Opening) };
+
     /// A source of the bytes under the name. `Failed` is answered only where the count of openings rose.
     fn open_source(&mut self, name: &str) -> Result<Self::In, OpenRefusal>
         ensures opened { IfOk result (λ it. Opened (page self.old name.now) (Self.In.left it)) }
         ensures fresh { IfOk result (λ it. Self.In.faults it ≡ 0) }
         ensures pages { (n : List ℕ) → page self.new n ≡ page self.old n }
-        ensures counts { CountsOpening (faults self.old) (faults self.new) (result ≡ Err OpenRefusal.Failed) };
+        ensures counts { CountsOpening (faults self.old) (faults self.new) (result ≡ Err OpenRefusal.Failed) }
+        ensures asked { openings self.new ≡ after_opening (OfSource name.now) result (openings self.old) };
 
     /// A sink for bytes under the name, which holds none yet. `Failed` is answered only where the count
     /// of openings rose. A refused opening leaves the bytes under the name as they were.
@@ -49,18 +54,21 @@ pub trait Desk {
         ensures named { IfOk result (λ it. Self.Out.name it ≡ name.now) }
         ensures refused { OnErr result (page self.new name.now ≡ page self.old name.now) }
         ensures pages { (n : List ℕ) → n ≢ name.now → page self.new n ≡ page self.old n }
-        ensures counts { CountsOpening (faults self.old) (faults self.new) (result ≡ Err OpenRefusal.Failed) };
+        ensures counts { CountsOpening (faults self.old) (faults self.new) (result ≡ Err OpenRefusal.Failed) }
+        ensures asked { openings self.new ≡ after_opening (OfSink name.now) result (openings self.old) };
 
     /// Closes a source. The count of sources that failed rises exactly where this one did. It takes no
     /// memory and cannot fail.
     fn close_source(&mut self, it: Self::In)
         ensures pages { (n : List ℕ) → page self.new n ≡ page self.old n }
-        ensures counts { faults self.new ≡ after_source (faults self.old) (Self.In.faults it) };
+        ensures counts { faults self.new ≡ after_source (faults self.old) (Self.In.faults it) }
+        ensures asked { openings self.new ≡ openings self.old };
 
     /// Closes a sink. The desk has its bytes under its name, and the count of sinks that failed rises
     /// exactly where this one did. It takes no memory and cannot fail.
     fn close_sink(&mut self, it: Self::Out)
         ensures own { page self.new (Self.Out.name it) ≡ page_of (Self.Out.written it) (Self.Out.faults it) }
         ensures pages { (n : List ℕ) → n ≢ Self.Out.name it → page self.new n ≡ page self.old n }
-        ensures counts { faults self.new ≡ after_sink (faults self.old) (Self.Out.faults it) };
+        ensures counts { faults self.new ≡ after_sink (faults self.old) (Self.Out.faults it) }
+        ensures asked { openings self.new ≡ openings self.old };
 }

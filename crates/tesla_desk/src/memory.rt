@@ -1,6 +1,6 @@
 //! A desk in memory.
 
-ghost use Rattle.std.specs.Prelude.{◌≡◌, ◌≢◌, ◌↔◌, false, List, ℕ, [], Some, IfOk, OnOk, OnErr};
+ghost use Rattle.std.specs.Prelude.{◌≡◌, ◌≢◌, ◌↔◌, false, List, ℕ, [], Some, None, IfOk, OnOk, OnErr};
 ghost use Rattle.std.specs.Option.{option_map};
 ghost use Rattle.tesla_desk.specs.Faults.{CountsOpening, no_faults, after_source, after_sink};
 ghost use Rattle.tesla_desk.specs.Memory.{bytes_in, unread, read_faults_of, name_of, bytes_of, write_faults_of, room_of, page_under, counts_of, sink_room, after_search};
@@ -77,6 +77,8 @@ impl Desk for MemoryDesk {
     ghost page = { page_under };
 
     ghost faults = { counts_of };
+
+    ghost openings = { λ _. None };
 
     /// `Failed` exactly where there is no such page.
     fn open_source(&mut self, name: &str) -> Result<Pages, OpenRefusal>

@@ -1,6 +1,6 @@
 //! The desk of the running system.
 
-ghost use Rattle.std.specs.Prelude.{◌≡◌};
+ghost use Rattle.std.specs.Prelude.{◌≡◌, None};
 ghost use Rattle.tesla_desk.specs.Faults.{HasCause, no_faults};
 ghost use Rattle.tesla_desk.specs.Outside.{Untold};
 
@@ -42,6 +42,8 @@ impl<'a, R: Files + Print + AllocGlobal> Desk for LiveDesk<'a, R> {
     ghost page = { λ _ _. Untold };
 
     ghost faults = { λ desk. record { reads = desk.reads; writes = desk.writes; openings = desk.openings } };
+
+    ghost openings = { λ _. None };
 
     fn open_source(&mut self, name: &str) -> Result<FileSource<R::File>, OpenRefusal> {
         match fs::open(self.rt, name) {
