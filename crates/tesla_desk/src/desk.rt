@@ -5,6 +5,7 @@ ghost use Rattle.tesla_desk.specs.Faults.{Faults, CountsOpening, after_source, a
 ghost use Rattle.tesla_desk.specs.Outside.{Page, page_of, Opened, Opening, OfSource, OfSink, after_opening};
 
 use crate::{Sink, Source};
+use tesla_base::NoMemory;
 
 /// The name of the console, which is a sink.
 pub const CONSOLE: &str = "-";
@@ -16,6 +17,17 @@ pub enum OpenRefusal {
     Failed,
     /// There was no memory.
     NoMemory,
+}
+
+impl From<NoMemory> for OpenRefusal {
+    ghost use Rattle.std.specs.Prelude.{◌≡◌};
+    ghost use Rattle.tesla_desk.specs.declared.desk.OpenRefusal.{OpenRefusal};
+
+    ghost from_gives = { λ _ refusal. refusal ≡ OpenRefusal.NoMemory };
+
+    fn from(_: NoMemory) -> OpenRefusal {
+        OpenRefusal::NoMemory
+    }
 }
 
 /// What opens sources and sinks, and closes them.

@@ -2,10 +2,13 @@
 //! tells of its bytes and how often it failed.
 #![tactic(auto)]
 
+mod calls;
 mod desk;
+mod entries;
 mod heap;
 mod memory;
 mod pages;
+mod settings;
 mod sink;
 mod source;
 mod stored;

@@ -1,22 +1,30 @@
 //! A desk in memory.
 
-ghost use Rattle.std.specs.Prelude.{◌≡◌, ◌≢◌, ◌↔◌, false, List, ℕ, [], Some, None, IfOk, OnOk, OnErr};
+ghost use Rattle.std.specs.Prelude.{◌≡◌, ◌≢◌, ◌≤◌, ◌∷◌, false, List, ℕ, [], Some, IfOk, OnOk, OnErr, is_ok, if◌then◌else◌};
 ghost use Rattle.std.specs.Option.{option_map};
-ghost use Rattle.tesla_desk.specs.Faults.{CountsOpening, no_faults, after_source, after_sink};
-ghost use Rattle.tesla_desk.specs.Memory.{bytes_in, unread, read_faults_of, name_of, bytes_of, write_faults_of, room_of, page_under, counts_of, sink_room, after_search};
-ghost use Rattle.tesla_desk.specs.Outside.{Untold, Absent, Holds, page_of, Opened};
+ghost use Rattle.tesla_desk.specs.Calls.{next_fails, with_failing};
+ghost use Rattle.tesla_desk.specs.Faults.{CountsOpening, after_source, after_sink};
+ghost use Rattle.tesla_desk.specs.Memory.{bytes_in, unread, read_faults_of, name_of, bytes_of, write_faults_of, page_under, counts_of, openings_of, settings_of, opening_calls_of, rest_of, new_rest, with_settings, with_opening_calls, after_counted, after_failed, after_asked, Refuses, refuses_source, NewSource, NewSink, MakesSource, MakesSink};
+ghost use Rattle.tesla_desk.specs.Outside.{Untold, Absent, Holds, page_of, Opened, OfSource, OfSink, after_opening};
+ghost use Rattle.tesla_desk.specs.Settings.{with_room, with_piece, with_failing_call, room_for, piece_for, failing_for};
+ghost use Rattle.tesla_desk.specs.Stored.{opening_of};
 
-use crate::stored::{StoredPage, StoredPages, put_newest, stored_under};
+use crate::calls::Calls;
+use crate::entries::{Entries, Named, newest_under};
+use crate::settings::Settings;
+use crate::stored::{AskedOpening, StoredPage, StoredPages};
 use crate::{Desk, Heap, OpenRefusal, Pages};
 use std::alloc::Global;
 use tesla_base::{NoMemory, Text};
 
-/// A desk whose pages are in memory. It tells all of them.
+/// A desk whose pages are in memory. It tells all of them, and the openings that it was asked for.
 #[derive(Drop)]
 pub struct MemoryDesk {
     alloc: Global,
-    room: usize,
+    settings: Settings,
     pages: StoredPages,
+    asked: Entries<AskedOpening>,
+    calls: Calls,
     reads: u64,
     writes: u64,
     openings: u64,
@@ -26,13 +34,14 @@ impl MemoryDesk {
     /// A desk with no page and no faults, each of whose sinks takes `room` bytes.
     pub fn new(alloc: Global, room: usize) -> Result<MemoryDesk, NoMemory>
         ensures pages { IfOk result (λ desk. (n : List ℕ) → page_under desk n ≡ Absent) }
-        ensures counts { IfOk result (λ desk. counts_of desk ≡ no_faults) }
-        ensures room { IfOk result (λ desk. sink_room desk ≡ room) }
+        ensures rest { IfOk result (λ desk. rest_of desk ≡ new_rest room) }
     {
         Ok(MemoryDesk {
             alloc,
-            room,
-            pages: StoredPages::Empty,
+            settings: Settings::new(room),
+            pages: Entries::Empty,
+            asked: Entries::Empty,
+            calls: Calls::new(Vec::new(alloc)),
             reads: 0,
             writes: 0,
             openings: 0,
@@ -44,16 +53,17 @@ impl MemoryDesk {
         ensures own { OnOk result (page_under self.new name.now ≡ Holds bytes.now false) }
         ensures pages { (n : List ℕ) → n ≢ name.now → page_under self.new n ≡ page_under self.old n }
         ensures err { OnErr result ((n : List ℕ) → page_under self.new n ≡ page_under self.old n) }
-        ensures counts { counts_of self.new ≡ counts_of self.old }
-        ensures room { sink_room self.new ≡ sink_room self.old }
+        ensures rest { rest_of self.new ≡ rest_of self.old }
     {
-        let spare = Box::new(self.alloc, StoredPages::Empty)?;
-        let stored = StoredPage {
+        let spare = Entries::spare(self.alloc)?;
+        let page = Named {
             name: Text::new(self.alloc, name.as_bytes())?,
-            bytes: Vec::from_slice(self.alloc, bytes)?,
-            failed: false,
+            value: StoredPage {
+                bytes: Vec::from_slice(self.alloc, bytes)?,
+                failed: false,
+            },
         };
-        put_newest(&mut self.pages, stored, spare);
+        self.pages.put(page, spare);
         Ok(())
     }
 
@@ -62,10 +72,98 @@ impl MemoryDesk {
         ensures bytes { option_map (λ bytes. bytes.now) result ≡ bytes_in (page_under self.now name.now) }
         ensures told { page_under self.now name.now ≢ Untold }
     {
-        match stored_under(&self.pages, name.as_bytes()) {
+        match newest_under(&self.pages, name.as_bytes()) {
             Some(stored) => Some(stored.bytes.as_slice()),
             None => None,
         }
+    }
+
+    /// Sinks that are opened under the name afterwards take `room` bytes.
+    pub fn set_room(&mut self, name: &str, room: usize) -> Result<(), NoMemory>
+        ensures own { OnOk result (room_for (settings_of self.new) name.now ≡ room) }
+        ensures others { (n : List ℕ) → n ≢ name.now → room_for (settings_of self.new) n ≡ room_for (settings_of self.old) n }
+        ensures pages { (n : List ℕ) → page_under self.new n ≡ page_under self.old n }
+        ensures rest { rest_of self.new ≡ (if is_ok result then with_settings (with_room name.now room) (rest_of self.old) else rest_of self.old) }
+    {
+        self.settings.set_room(self.alloc, name, room)
+    }
+
+    /// Sources and sinks that are opened under the name afterwards move at most `most` bytes a call.
+    pub fn set_piece(&mut self, name: &str, most: usize) -> Result<(), NoMemory>
+        requires { 1 ≤ most }
+        ensures own { OnOk result (piece_for (settings_of self.new) name.now ≡ Some most) }
+        ensures others { (n : List ℕ) → n ≢ name.now → piece_for (settings_of self.new) n ≡ piece_for (settings_of self.old) n }
+        ensures pages { (n : List ℕ) → page_under self.new n ≡ page_under self.old n }
+        ensures rest { rest_of self.new ≡ (if is_ok result then with_settings (with_piece name.now most) (rest_of self.old) else rest_of self.old) }
+    {
+        self.settings.set_piece(self.alloc, name, most)
+    }
+
+    /// The opening with this number fails. Openings of sources and of sinks count together from 0, in
+    /// the order in which they are asked for; one that finds no memory is not counted. An opening after
+    /// number 2^64 - 2 has no number.
+    pub fn fail_open(&mut self, call: u64) -> Result<(), NoMemory>
+        ensures pages { (n : List ℕ) → page_under self.new n ≡ page_under self.old n }
+        ensures rest { rest_of self.new ≡ (if is_ok result then with_opening_calls (with_failing call) (rest_of self.old) else rest_of self.old) }
+    {
+        self.calls.fail(call)
+    }
+
+    /// The call with this number fails of each source and sink that is opened under the name
+    /// afterwards. The calls of each count from 0; one after number 2^64 - 2 has no number.
+    pub fn fail_call(&mut self, name: &str, call: u64) -> Result<(), NoMemory>
+        ensures own { OnOk result (failing_for (settings_of self.new) name.now ≡ call ∷ failing_for (settings_of self.old) name.now) }
+        ensures others { (n : List ℕ) → n ≢ name.now → failing_for (settings_of self.new) n ≡ failing_for (settings_of self.old) n }
+        ensures pages { (n : List ℕ) → page_under self.new n ≡ page_under self.old n }
+        ensures rest { rest_of self.new ≡ (if is_ok result then with_settings (with_failing_call name.now call) (rest_of self.old) else rest_of self.old) }
+    {
+        self.settings.fail_call(self.alloc, name, call)
+    }
+
+    // A source of the page, unless the next opening is refused.
+    fn source_of(&self, name: &str) -> Result<Option<Pages>, NoMemory>
+        ensures { IfOk result (λ made. MakesSource self.now name.now made) }
+    {
+        if self.calls.next_fails() {
+            return Ok(None);
+        }
+        let Some(stored) = newest_under(&self.pages, name.as_bytes()) else {
+            return Ok(None);
+        };
+        let calls = self.settings.calls(self.alloc, name)?;
+        let piece = self.settings.piece(name);
+        Ok(Some(Pages::new(self.alloc, stored.bytes.as_slice(), piece, calls)?))
+    }
+
+    // A sink under the name, unless the next opening fails.
+    fn sink_of(&self, name: &str) -> Result<Option<Heap>, NoMemory>
+        ensures { IfOk result (λ made. MakesSink self.now name.now made) }
+    {
+        if self.calls.next_fails() {
+            return Ok(None);
+        }
+        let calls = self.settings.calls(self.alloc, name)?;
+        let (room, piece) = (self.settings.room(name), self.settings.piece(name));
+        Ok(Some(Heap::new(self.alloc, name, room, piece, calls)?))
+    }
+
+    // Enters an opening and counts it. The box was made before, so that this takes no memory.
+    fn enter(&mut self, asked: AskedOpening, spare: Box<Entries<AskedOpening>>)
+        ensures pages { (n : List ℕ) → page_under self.new n ≡ page_under self.old n }
+        ensures rest { rest_of self.new ≡ after_counted (opening_of asked) (rest_of self.old) }
+    {
+        self.asked.put(asked, spare);
+        self.calls.count();
+    }
+
+    // Counts a failed opening.
+    fn refuse(&mut self) -> OpenRefusal
+        ensures failed { result ≡ OpenRefusal.Failed }
+        ensures pages { (n : List ℕ) → page_under self.new n ≡ page_under self.old n }
+        ensures rest { rest_of self.new ≡ after_failed (rest_of self.old) }
+    {
+        self.openings = self.openings.saturating_add(1);
+        OpenRefusal::Failed
     }
 }
 
@@ -78,66 +176,70 @@ impl Desk for MemoryDesk {
 
     ghost faults = { counts_of };
 
-    ghost openings = { λ _. None };
+    ghost openings = { λ desk. Some (openings_of desk) };
 
-    /// `Failed` exactly where there is no such page.
+    /// `Failed` exactly where the number of the opening is listed or there is no such page.
     fn open_source(&mut self, name: &str) -> Result<Pages, OpenRefusal>
         ensures opened { IfOk result (λ it. Opened (page_under self.old name.now) (Some (unread it))) }
         ensures fresh { IfOk result (λ it. read_faults_of it ≡ 0) }
         ensures pages { (n : List ℕ) → page_under self.new n ≡ page_under self.old n }
         ensures counts { CountsOpening (counts_of self.old) (counts_of self.new) (result ≡ Err OpenRefusal.Failed) }
-        ensures missing { (result ≡ Err OpenRefusal.Failed) ↔ (page_under self.old name.now ≡ Absent) }
-        ensures exact { counts_of self.new ≡ after_search (page_under self.old name.now) (counts_of self.old) }
-        ensures room { sink_room self.new ≡ sink_room self.old }
+        ensures asked { Some (openings_of self.new) ≡ after_opening (OfSource name.now) result (Some (openings_of self.old)) }
+        ensures exact { Refuses (refuses_source self.old name.now) result }
+        ensures set { IfOk result (λ it. NewSource self.old name.now it) }
+        ensures rest { rest_of self.new ≡ after_asked (OfSource name.now) result (rest_of self.old) }
     {
-        match stored_under(&self.pages, name.as_bytes()) {
-            Some(stored) => match Pages::new(self.alloc, stored.bytes.as_slice()) {
-                Ok(it) => Ok(it),
-                Err(_) => Err(OpenRefusal::NoMemory),
-            },
-            None => {
-                self.openings = self.openings.saturating_add(1);
-                Err(OpenRefusal::Failed)
-            }
+        let spare = Entries::spare(self.alloc)?;
+        let asked = AskedOpening::Source(Text::new(self.alloc, name.as_bytes())?);
+        let made = self.source_of(name)?;
+        self.enter(asked, spare);
+        match made {
+            Some(it) => Ok(it),
+            None => Err(self.refuse()),
         }
     }
 
-    /// Never `Failed`.
+    /// `Failed` exactly where the number of the opening is listed.
     fn open_sink(&mut self, name: &str) -> Result<Heap, OpenRefusal>
         ensures empty { IfOk result (λ it. bytes_of it ≡ []) }
         ensures fresh { IfOk result (λ it. write_faults_of it ≡ 0) }
         ensures named { IfOk result (λ it. name_of it ≡ name.now) }
         ensures refused { OnErr result (page_under self.new name.now ≡ page_under self.old name.now) }
         ensures pages { (n : List ℕ) → page_under self.new n ≡ page_under self.old n }
-        ensures counts { counts_of self.new ≡ counts_of self.old }
-        ensures opens { result ≢ Err OpenRefusal.Failed }
-        ensures room { IfOk result (λ it. room_of it ≡ sink_room self.old) }
-        ensures room_stays { sink_room self.new ≡ sink_room self.old }
+        ensures counts { CountsOpening (counts_of self.old) (counts_of self.new) (result ≡ Err OpenRefusal.Failed) }
+        ensures asked { Some (openings_of self.new) ≡ after_opening (OfSink name.now) result (Some (openings_of self.old)) }
+        ensures exact { Refuses (next_fails (opening_calls_of self.old)) result }
+        ensures set { IfOk result (λ it. NewSink self.old name.now it) }
+        ensures rest { rest_of self.new ≡ after_asked (OfSink name.now) result (rest_of self.old) }
     {
-        match Heap::new(self.alloc, name, self.room) {
-            Ok(it) => Ok(it),
-            Err(_) => Err(OpenRefusal::NoMemory),
+        let spare = Entries::spare(self.alloc)?;
+        let asked = AskedOpening::Sink(Text::new(self.alloc, name.as_bytes())?);
+        let made = self.sink_of(name)?;
+        self.enter(asked, spare);
+        match made {
+            Some(it) => Ok(it),
+            None => Err(self.refuse()),
         }
     }
 
     fn close_source(&mut self, it: Pages)
         ensures pages { (n : List ℕ) → page_under self.new n ≡ page_under self.old n }
-        ensures counts { counts_of self.new ≡ after_source (counts_of self.old) (read_faults_of it) }
-        ensures room { sink_room self.new ≡ sink_room self.old }
+        ensures rest { rest_of self.new ≡ record (rest_of self.old) { counts = after_source (counts_of self.old) (read_faults_of it) } }
     {
-        it.close();
+        if 0 < it.close() {
+            self.reads = self.reads.saturating_add(1);
+        }
     }
 
     fn close_sink(&mut self, it: Heap)
         ensures own { page_under self.new (name_of it) ≡ page_of (Some (bytes_of it)) (write_faults_of it) }
         ensures pages { (n : List ℕ) → n ≢ name_of it → page_under self.new n ≡ page_under self.old n }
-        ensures counts { counts_of self.new ≡ after_sink (counts_of self.old) (write_faults_of it) }
-        ensures room { sink_room self.new ≡ sink_room self.old }
+        ensures rest { rest_of self.new ≡ record (rest_of self.old) { counts = after_sink (counts_of self.old) (write_faults_of it) } }
     {
-        let (stored, spare) = it.close();
-        if stored.failed {
+        let (page, spare) = it.close();
+        if page.value.failed {
             self.writes = self.writes.saturating_add(1);
         }
-        put_newest(&mut self.pages, stored, spare);
+        self.pages.put(page, spare);
     }
 }

@@ -105,3 +105,118 @@ fn a_missing_source_is_not_opened(rt: HostRuntime) -> Result<(), Fail> {
     assert!(rt; desk.page("nothing").is_none());
     Ok(())
 }
+
+// What five reads of a new source answer, into 4 bytes each.
+fn five_reads<D: Desk>(desk: &mut D, name: &str) -> Result<[ReadStep; 5], OpenRefusal> {
+    let mut source = desk.open_source(name)?;
+    let mut buffer = [0u8; 4];
+    let mut steps = [ReadStep::End; 5];
+    for step in steps.iter_mut() {
+        *step = source.read(&mut buffer);
+    }
+    desk.close_source(source);
+    Ok(steps)
+}
+
+// What two writes of a new sink answer.
+fn two_writes<D: Desk>(
+    desk: &mut D,
+    name: &str,
+    first: &[u8],
+    second: &[u8],
+) -> Result<[WriteStep; 2], OpenRefusal> {
+    let mut sink = desk.open_sink(name)?;
+    let steps = [sink.write(first), sink.write(second)];
+    desk.close_sink(sink);
+    Ok(steps)
+}
+
+#[test]
+fn a_read_fails_at_its_number_and_goes_on_after_it(rt: HostRuntime) -> Result<(), Fail> {
+    let mut desk = MemoryDesk::new(rt.alloc(), 16)?;
+    desk.put_page("from", b"abcdef")?;
+    desk.fail_call("from", 1)?;
+    assert_eq!(rt;
+        five_reads(&mut desk, "from"),
+        Ok([
+            ReadStep::Got(4),
+            ReadStep::Failed,
+            ReadStep::Got(2),
+            ReadStep::End,
+            ReadStep::End
+        ])
+    );
+    Ok(())
+}
+
+#[test]
+fn a_piece_bounds_each_read_and_write_under_its_name(rt: HostRuntime) -> Result<(), Fail> {
+    let mut desk = MemoryDesk::new(rt.alloc(), 16)?;
+    desk.put_page("pieces", b"abcde")?;
+    desk.set_piece("pieces", 2)?;
+    assert_eq!(rt;
+        five_reads(&mut desk, "pieces"),
+        Ok([
+            ReadStep::Got(2),
+            ReadStep::Got(2),
+            ReadStep::Got(1),
+            ReadStep::End,
+            ReadStep::End
+        ])
+    );
+    assert_eq!(rt;
+        two_writes(&mut desk, "pieces", b"abc", b"c"),
+        Ok([WriteStep::Took(2), WriteStep::Took(1)])
+    );
+    assert_eq!(rt; desk.page("pieces").ok_or("no page")?, b"abc".as_slice());
+    Ok(())
+}
+
+#[test]
+fn a_write_fails_at_its_number(rt: HostRuntime) -> Result<(), Fail> {
+    let mut desk = MemoryDesk::new(rt.alloc(), 16)?;
+    desk.fail_call("to", 0)?;
+    assert_eq!(rt;
+        two_writes(&mut desk, "to", b"ab", b"cd"),
+        Ok([WriteStep::Failed, WriteStep::Took(2)])
+    );
+    assert_eq!(rt; desk.page("to").ok_or("no page")?, b"cd".as_slice());
+    Ok(())
+}
+
+#[test]
+fn a_room_is_that_of_its_name(rt: HostRuntime) -> Result<(), Fail> {
+    let mut desk = MemoryDesk::new(rt.alloc(), 16)?;
+    desk.set_room("small", 3)?;
+    assert_eq!(rt;
+        two_writes(&mut desk, "small", b"abcd", b"d"),
+        Ok([WriteStep::Took(3), WriteStep::Took(0)])
+    );
+    assert_eq!(rt;
+        two_writes(&mut desk, "other", b"abcd", b"d"),
+        Ok([WriteStep::Took(4), WriteStep::Took(1)])
+    );
+    Ok(())
+}
+
+#[test]
+fn an_opening_fails_at_its_number(rt: HostRuntime) -> Result<(), Fail> {
+    let mut desk = MemoryDesk::new(rt.alloc(), 16)?;
+    desk.fail_open(1)?;
+    assert_eq!(rt;
+        two_writes(&mut desk, "page", b"a", b"b"),
+        Ok([WriteStep::Took(1), WriteStep::Took(1)])
+    );
+    assert_eq!(rt; five_reads(&mut desk, "page"), Err(OpenRefusal::Failed));
+    assert_eq!(rt;
+        five_reads(&mut desk, "page"),
+        Ok([
+            ReadStep::Got(2),
+            ReadStep::End,
+            ReadStep::End,
+            ReadStep::End,
+            ReadStep::End
+        ])
+    );
+    Ok(())
+}
