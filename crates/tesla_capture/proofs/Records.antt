@@ -1,134 +1,224 @@
--- The records of a body, one after the other, and the two laws of captures.
-use Rattle.std.proofs.Common.{◌≡◌, ℕ, zero, suc, ◌<◌, ◌≤◌, Bool, true, false, cond, eqb, List, [], ◌∷◌, ◌++◌, length, Option, Some, None, refl, sym, ap, subst, ◌∙◌, arith}
-use Rattle.std.specs.Prelude.{bytes_eq, option_map, is_some, IsTrue, ◌↔◌}
+-- The records of a file up to its end, or up to the first place that is refused.
+use Rattle.std.proofs.Common.{◌≡◌, ◌∙◌, ◌≢◌, ℕ, zero, suc, ◌+◌, ◌<◌, ◌≤◌, Bool, true, false, cond, List, [], ◌∷◌, ◌++◌, length, take, drop, Option, Some, None, refl, sym, ap, subst, arith, bytes_eq, leb, append_assoc, length-append, append-nil}
 use Rattle.std.specs.List.{flat_map, AllByRecursion}
-use Rattle.std.proofs.lemmas.Bool.{eqb-true}
-use Rattle.std.proofs.lemmas.List.{nil_from_length}
+use Rattle.std.proofs.lemmas.Bool.{le-leb}
 use Rattle.std.proofs.lemmas.List.Concat.{flat_map-cons}
 use Rattle.std.proofs.lemmas.Slice.Eq.{bytes_eq-Decides}
-use Rattle.tesla_base.specs.Front.{AreBytes, ◌>>=◌, bytes_front}
+use Rattle.tesla_base.specs.Front.{AreBytes, bytes_front}
 use Rattle.tesla_base.proofs.Fronts.{bind_some, test_some, some_is, bytes_take, bytes_again}
-use Rattle.tesla_capture.specs.Capture.{Record, head, record_text, capture_text, IsRecord, IsCapture}
-use Rattle.tesla_capture.specs.Reading.{record_at, records_within, records_after, body_of, records_of}
+use Rattle.tesla_capture.specs.Capture.{Record, head, record_text, capture_text, limit, IsRecord, IsCapture}
+use Rattle.tesla_capture.specs.Reading.{Next, Ended, Recorded, Refuses, Outline, record_at, body_of, next_by, record_next, after_head, next_at, with_record, outline_by, outline_within, outline_at, outline_of, refused_at}
+use Rattle.tesla_capture.specs.declared.record.RecordKind.{RecordKind}
+use Rattle.tesla_capture.specs.declared.record.RecordKind.TheVariants.{BadHead, BadKind, Truncated, TooLong, TooLarge}
+use Rattle.tesla_capture.specs.Refused.{IsWhy, StopsAfter, IsRefused}
+use Rattle.tesla_capture.proofs.Whys.{refused_why}
+use Rattle.std.proofs.lemmas.List.{take-append-drop}
 use Rattle.tesla_capture.proofs.Spelled.{record_takes, record_again, record_shorter}
+use Rattle.tesla_capture.proofs.Nexts.{record_follows}
 
--- a record with those behind it, from what the front gives
-abbrev with_others : ℕ → Option (Record × List ℕ) → Option (List Record)
-with_others most first = first >>= λ x. records_within most x.1 >>= λ others. Some (x.0 ∷ others)
+-- what comes next behind the records of an outline
+abbrev pub next_of : Option (ℕ × RecordKind) → Next
+next_of None = Ended
+next_of (Some x) = Refuses x.0 x.1
 
--- as many as there are bytes is enough
-within_same : (n m : ℕ) (rest : List ℕ) → length rest ≤ n → length rest ≤ m → records_within n rest ≡ records_within m rest
-unfolding records_within
-within_same n m [] ln lm = refl
-within_same zero m (b ∷ bytes) ln lm = absurd (omega arith)
-within_same (suc n) zero (b ∷ bytes) ln lm = absurd (omega arith)
-within_same (suc n) (suc m) (b ∷ bytes) ln lm =
-    let step : (first : Option (Record × List ℕ)) → record_at (b ∷ bytes) ≡ first → with_others n first ≡ with_others m first = λ first e.
-    (elim first as (λ o. record_at (b ∷ bytes) ≡ o → with_others n o ≡ with_others m o) [
-      | None ↦ λ h. refl
-      | Some x ↦ λ h. (let short = record_shorter (b ∷ bytes) x h in ap (λ (o : Option (List Record)). o >>= λ others. Some (x.0 ∷ others)) (within_same n m x.1 (omega (arith, short)) (omega (arith, short))))
+-- records one after the other from a place on, and what is left behind the last of them
+pub record Walks (place : ℕ) (rest : List ℕ) (outline : Outline) : Type 0 where
+  pub limits : AllByRecursion IsRecord outline.records
+  pub left : List ℕ
+  pub left_fits : AreBytes left
+  pub spelled : rest ≡ flat_map record_text outline.records ++ left
+  pub within : place + length (flat_map record_text outline.records) ≤ limit
+  pub next : record_next (place + length (flat_map record_text outline.records)) left ≡ next_of outline.fault
+
+-- behind the head, what comes next begins with a record
+pub next_is : (place : ℕ) (rest : List ℕ) → 0 < place → next_at place rest ≡ record_next place rest
+unfolding next_at
+next_is zero rest some = absurd (omega arith)
+next_is (suc place) rest some = refl
+
+-- nothing more is walked over
+walks_none : (place : ℕ) (rest : List ℕ) (fault : Option (ℕ × RecordKind)) → place ≤ limit → AreBytes rest → record_next place rest ≡ next_of fault → Walks place rest (record { records = []; fault = fault })
+walks_none place rest fault close fits e = record {
+  limits = tt;
+  left = rest;
+  left_fits = fits;
+  spelled = refl;
+  within = omega arith;
+  next = ap (λ (n : ℕ). record_next n rest) (omega arith) ∙ e;
+}
+
+-- a record before those that are walked over
+walks_more : (place : ℕ) (rest : List ℕ) (first : Record) (now : ℕ) (after : List ℕ) (outline : Outline) → rest ≡ record_text first ++ after → IsRecord first → now ≡ place + length (record_text first) → Walks now after outline → Walks place rest (with_record first outline)
+walks_more place rest first now after outline parts is now_is others =
+    let text : flat_map record_text (first ∷ outline.records) ≡ record_text first ++ flat_map record_text outline.records = flat_map-cons record_text first outline.records in
+    let size : place + length (flat_map record_text (first ∷ outline.records)) ≡ now + length (flat_map record_text outline.records) =
+    (let l = ap length text in omega (arith, l, now_is, length-append (record_text first) (flat_map record_text outline.records))) in
+    record {
+      limits = (is, others.limits);
+      left = others.left;
+      left_fits = others.left_fits;
+      spelled = parts ∙ ap (λ (t : List ℕ). record_text first ++ t) others.spelled ∙ sym (append_assoc (record_text first) (flat_map record_text outline.records) others.left) ∙ ap (λ (t : List ℕ). t ++ others.left) (sym text);
+      within = (let w = others.within in omega arith);
+      next = ap (λ (n : ℕ). record_next n others.left) size ∙ others.next;
+    }
+
+pub walks_within : (n place : ℕ) (rest : List ℕ) → length rest < n → 0 < place → place ≤ limit → AreBytes rest → Walks place rest (outline_within n place rest)
+unfolding outline_within
+walks_within zero place rest enough some close fits = absurd (omega arith)
+walks_within (suc n) place rest enough some close fits =
+    let step : (next : Next) → record_next place rest ≡ next → Walks place rest (outline_by (outline_within n) next) = λ next e.
+    (elim next as (λ k. record_next place rest ≡ k → Walks place rest (outline_by (outline_within n) k)) [
+      | Ended ↦ λ h. walks_none place rest None close fits h
+      | Recorded first now after ↦ λ h. (
+          let f = record_follows place rest first now after h in
+          let t = record_takes rest (first, after) fits f.is in
+          let short = record_shorter rest (first, after) f.is in
+          walks_more place rest first now after (outline_within n now after) t.0.parts t.1 f.now_is
+          (walks_within n now after (omega (arith, short)) (omega (arith, f.now_is)) f.within t.0.rest_fits)
+          )
+      | Refuses at kind ↦ λ h. walks_none place rest (Some (at, kind)) close fits h
     ]) e in
-    step (record_at (b ∷ bytes)) refl
+    step (next_at place rest) (sym (next_is place rest some))
 
-map_is : {A B : Type 0} (f : A → B) (o : Option A) → (o >>= λ x. Some (f x)) ≡ option_map f o
-map_is f None = refl
-map_is f (Some x) = refl
+-- ---- the head
 
-pub after_record : (rest after : List ℕ) (first : Record) → record_at rest ≡ Some (first, after) → records_after rest ≡ option_map (λ others. first ∷ others) (records_after after)
-unfolding records_after records_within
-after_record [] after first e = absurd (let s = record_shorter [] (first, after) e in omega (arith, s))
-after_record (b ∷ bytes) after first e =
-    let short = record_shorter (b ∷ bytes) (first, after) e in
-    let enough : records_within (length bytes) after ≡ records_within (length after) after = within_same (length bytes) (length after) after (omega (arith, short)) (omega arith) in
-    let step : records_after (b ∷ bytes) ≡ (records_within (length bytes) after >>= λ others. Some (first ∷ others)) = ap (with_others (length bytes)) e in
-    step ∙ map_is (λ (others : List Record). first ∷ others) (records_within (length bytes) after) ∙ ap (option_map (λ (others : List Record). first ∷ others)) enough
-
-pub after_nothing : records_after [] ≡ Some []
-unfolding records_after records_within
-after_nothing = refl
-
-pub after_other : (rest : List ℕ) → 0 < length rest → record_at rest ≡ None → records_after rest ≡ None
-unfolding records_after records_within
-after_other [] some e = absurd (omega arith)
-after_other (b ∷ bytes) some e = ap (with_others (length bytes)) e
-
-within_takes : (most : ℕ) (rest : List ℕ) (records : List Record) → AreBytes rest → records_within most rest ≡ Some records → (rest ≡ flat_map record_text records) × AllByRecursion IsRecord records
-unfolding records_within
-within_takes most [] records fits e =
-    subst (λ (l : List Record). ([] ≡ flat_map record_text l) × AllByRecursion IsRecord l) (some_is [] records e) (refl, tt)
-within_takes zero (b ∷ bytes) records fits e = absurd cc
-within_takes (suc most) (b ∷ bytes) records fits e =
-    let x = bind_some (record_at (b ∷ bytes)) (λ first. records_within most first.1 >>= λ others. Some (first.0 ∷ others)) records e in
-    let y = bind_some (records_within most x.0.1) (λ others. Some (x.0.0 ∷ others)) records x.2 in
-    let first = record_takes (b ∷ bytes) x.0 fits x.1 in
-    let others = within_takes most x.0.1 y.0 first.0.rest_fits y.1 in
-    let both : b ∷ bytes ≡ flat_map record_text (x.0.0 ∷ y.0) = first.0.parts ∙ ap (λ (r : List ℕ). record_text x.0.0 ++ r) others.0 ∙ sym (flat_map-cons record_text x.0.0 y.0) in
-    subst (λ (l : List Record). (b ∷ bytes ≡ flat_map record_text l) × AllByRecursion IsRecord l) (some_is (x.0.0 ∷ y.0) records y.2) (both, (first.1, others.1))
-
-after_again : (records : List Record) → AllByRecursion IsRecord records → records_after (flat_map record_text records) ≡ Some records
-after_again [] fits = after_nothing
-after_again (r ∷ records) fits =
-    let first : record_at (flat_map record_text (r ∷ records)) ≡ Some (r, flat_map record_text records) = ap record_at (flat_map-cons record_text r records) ∙ record_again r (flat_map record_text records) fits.0 in
-    after_record (flat_map record_text (r ∷ records)) (flat_map record_text records) r first ∙ ap (option_map (λ (others : List Record). r ∷ others)) (after_again records fits.1)
-
-pub of_body : (bytes rest : List ℕ) → body_of bytes ≡ Some rest → records_of bytes ≡ records_after rest
-unfolding records_of
-of_body bytes rest e = rw e refl
-
-pub of_other : (bytes : List ℕ) → body_of bytes ≡ None → records_of bytes ≡ None
-unfolding records_of
-of_other bytes e = rw e refl
-
-pub capture_takes : (bytes : List ℕ) (records : List Record) → AreBytes bytes → records_of bytes ≡ Some records → IsCapture bytes records
-unfolding records_of body_of records_after
-capture_takes bytes records fits e =
-    let b = bind_some (body_of bytes) (λ rest. records_after rest) records e in
-    let s = bind_some (bytes_front 5 bytes) (λ front. cond (bytes_eq front.0 head) (Some front.1) None) b.0 b.1 in
-    let g = test_some (bytes_eq s.0.0 head) (Some s.0.1) b.0 s.2 in
+body_is : (bytes rest : List ℕ) → AreBytes bytes → body_of bytes ≡ Some rest → (bytes ≡ head ++ rest) × AreBytes rest
+unfolding body_of
+body_is bytes rest fits e =
+    let s = bind_some (bytes_front 5 bytes) (λ front. cond (bytes_eq front.0 head) (Some front.1) None) rest e in
+    let g = test_some (bytes_eq s.0.0 head) (Some s.0.1) rest s.2 in
     let same : s.0.0 ≡ head = (bytes_eq-Decides s.0.0 head).0 g.0 in
     let front = bytes_take 5 bytes s.0 fits s.1 in
-    let rest : s.0.1 ≡ b.0 = some_is s.0.1 b.0 g.1 in
-    let t = within_takes (length b.0) b.0 records (subst AreBytes rest front.0.rest_fits) b.2 in
-    let whole : bytes ≡ capture_text records = front.0.parts ∙ ap (λ (h : List ℕ). h ++ s.0.1) same ∙ ap (λ (r : List ℕ). head ++ r) (rest ∙ t.0) in
-    record { limits = t.1; spelled = whole }
+    let left : s.0.1 ≡ rest = some_is s.0.1 rest g.1 in
+    (front.0.parts ∙ ap (λ (h : List ℕ). h ++ s.0.1) same ∙ ap (λ (r : List ℕ). head ++ r) left, subst AreBytes left front.0.rest_fits)
 
-pub capture_again : (bytes : List ℕ) (records : List Record) → IsCapture bytes records → records_of bytes ≡ Some records
+of_body : (bytes rest : List ℕ) → body_of bytes ≡ Some rest → outline_of bytes ≡ outline_within (suc (length bytes)) 5 rest
+unfolding outline_at outline_within next_at
+of_body bytes rest e = ap (λ (o : Option (List ℕ)). outline_by (outline_within (length bytes)) (after_head o)) e
+
+of_other : (bytes : List ℕ) → body_of bytes ≡ None → outline_of bytes ≡ record { records = []; fault = Some (0, BadHead) }
+unfolding outline_at outline_within next_at
+of_other bytes e = ap (λ (o : Option (List ℕ)). outline_by (outline_within (length bytes)) (after_head o)) e
+
+-- the records behind the head of a file
+walks_of : (bytes rest : List ℕ) → AreBytes bytes → body_of bytes ≡ Some rest → (bytes ≡ head ++ rest) × Walks 5 rest (outline_of bytes)
+walks_of bytes rest fits e =
+    let b = body_is bytes rest fits e in
+    let short : length rest < suc (length bytes) = (let l = ap length b.0 in omega (arith, l)) in
+    (b.0, subst (λ (o : Outline). Walks 5 rest o) (sym (of_body bytes rest e)) (walks_within (suc (length bytes)) 5 rest short (omega arith) (omega arith) b.1))
+
+-- ---- a file without a refused place
+
+by_ended : (place : ℕ) (rest : List ℕ) (x : Record × List ℕ) (fits : Bool) → cond fits (Recorded x.0 (place + length (record_text x.0)) x.1) (refused_at place rest) ≡ Ended → ⊥
+by_ended place rest x true e = absurd cc
+by_ended place rest x false e = absurd cc
+
+not_ended : (place : ℕ) (rest : List ℕ) (o : Option (Record × List ℕ)) → next_by place rest o ≡ Ended → ⊥
+not_ended place rest None e = absurd cc
+not_ended place rest (Some x) e = by_ended place rest x (leb (place + length (record_text x.0)) limit) e
+
+ended : (place : ℕ) (rest : List ℕ) → record_next place rest ≡ Ended → rest ≡ []
+unfolding record_next
+ended place [] e = refl
+ended place (b ∷ rest) e = absurd (not_ended place (b ∷ rest) (record_at (b ∷ rest)) e)
+
+captured : (bytes rest : List ℕ) (outline : Outline) → bytes ≡ head ++ rest → Walks 5 rest outline → outline.fault ≡ None → IsCapture bytes outline.records
+captured bytes rest outline parts walks e =
+    let text = flat_map record_text outline.records in
+    let left : walks.left ≡ [] = ended (5 + length text) walks.left (walks.next ∙ ap next_of e) in
+    let whole : bytes ≡ head ++ text = parts ∙ ap (λ (r : List ℕ). head ++ r) (walks.spelled ∙ ap (λ (l : List ℕ). text ++ l) left ∙ append-nil text) in
+    record { limits = walks.limits; spelled = whole; fits = (let l = ap length whole in let w = walks.within in omega arith) }
+
+found_by : (bytes : List ℕ) (o : Option (List ℕ)) → AreBytes bytes → body_of bytes ≡ o → (outline_of bytes).fault ≡ None → IsCapture bytes (outline_of bytes).records
+found_by bytes None fits b e = absurd (let f = ap (λ (o : Outline). o.fault) (of_other bytes b) in cc)
+found_by bytes (Some rest) fits b e = (let w = walks_of bytes rest fits b in captured bytes rest (outline_of bytes) w.0 w.1 e)
+
+pub capture_takes : (bytes : List ℕ) → AreBytes bytes → (outline_of bytes).fault ≡ None → IsCapture bytes (outline_of bytes).records
+capture_takes bytes fits e = found_by bytes (body_of bytes) fits refl e
+
+-- ---- the outline of a capture
+
+record_is_next : (place : ℕ) (rest : List ℕ) (x : Record × List ℕ) → record_at rest ≡ Some x → place + length (record_text x.0) ≤ limit → record_next place rest ≡ Recorded x.0 (place + length (record_text x.0)) x.1
+unfolding record_next
+record_is_next place [] x e close = absurd (let s = record_shorter [] x e in omega (arith, s))
+record_is_next place (b ∷ rest) x e close =
+    let fits : leb (place + length (record_text x.0)) limit ≡ true = le-leb _ _ close in
+    ap (next_by place (b ∷ rest)) e ∙ ap (λ (t : Bool). cond t (Recorded x.0 (place + length (record_text x.0)) x.1) (refused_at place (b ∷ rest))) fits
+
+nothing_is_next : (place : ℕ) → record_next place [] ≡ Ended
+unfolding record_next
+nothing_is_next place = refl
+
+again_within : (n place : ℕ) (records : List Record) → length (flat_map record_text records) < n → 0 < place → place + length (flat_map record_text records) ≤ limit → AllByRecursion IsRecord records → outline_within n place (flat_map record_text records) ≡ record { records = records; fault = None }
+unfolding outline_within
+again_within zero place records enough some close are = absurd (omega arith)
+again_within (suc n) place [] enough some close are = ap (outline_by (outline_within n)) (next_is place [] some ∙ nothing_is_next place)
+again_within (suc n) place (first ∷ records) enough some close are =
+    let after : List ℕ = flat_map record_text records in
+    let text : flat_map record_text (first ∷ records) ≡ record_text first ++ after = flat_map-cons record_text first records in
+    let size : length (flat_map record_text (first ∷ records)) ≡ length (record_text first) + length after = ap length text ∙ length-append (record_text first) after in
+    let whole : record_at (flat_map record_text (first ∷ records)) ≡ Some (first, after) = ap record_at text ∙ record_again first after are.0 in
+    let short = record_shorter (flat_map record_text (first ∷ records)) (first, after) whole in
+    let now : ℕ = place + length (record_text first) in
+    let next : next_at place (flat_map record_text (first ∷ records)) ≡ Recorded first now after =
+    next_is place (flat_map record_text (first ∷ records)) some ∙ record_is_next place (flat_map record_text (first ∷ records)) (first, after) whole (omega (arith, size, close)) in
+    ap (outline_by (outline_within n)) next
+    ∙ ap (with_record first) (again_within n now records (omega (arith, short, enough)) (omega (arith, some)) (omega (arith, size, close)) are.1)
+
+body_again : (rest : List ℕ) → body_of (head ++ rest) ≡ Some rest
 unfolding body_of
+body_again rest = (let front : bytes_front 5 (head ++ rest) ≡ Some (head, rest) = bytes_again 5 head rest refl in rw front refl)
+
+pub capture_again : (bytes : List ℕ) (records : List Record) → IsCapture bytes records → outline_of bytes ≡ record { records = records; fault = None }
 capture_again bytes records is =
-    let front : bytes_front 5 (capture_text records) ≡ Some (head, flat_map record_text records) = bytes_again 5 head (flat_map record_text records) refl in
-    let rest : body_of (capture_text records) ≡ Some (flat_map record_text records) = rw front refl in
-    ap records_of is.spelled ∙ of_body (capture_text records) (flat_map record_text records) rest ∙ after_again records is.limits
+    let text = flat_map record_text records in
+    let size = ap length is.spelled in
+    let fits = is.fits in
+    ap outline_of is.spelled ∙ of_body (capture_text records) text (body_again text) ∙ again_within (suc (length (capture_text records))) 5 records (omega arith) (omega arith) (omega arith) is.limits
 
--- ---- walking over the records
+-- ---- a file with a refused place
 
-abbrev pub is_whole : List ℕ → Bool
-is_whole rest = is_some (records_after rest)
+by_kind : (bytes : List ℕ) (records : List Record) (place : ℕ) (kind : RecordKind) → StopsAfter bytes records place kind → IsRefused bytes records place kind
+by_kind bytes records place BadHead stops = absurd stops.why
+by_kind bytes records place BadKind stops = stops
+by_kind bytes records place Truncated stops = stops
+by_kind bytes records place TooLong stops = stops
+by_kind bytes records place TooLarge stops = stops
 
-some_kept : {A B : Type 0} (f : A → B) (o : Option A) → is_some (option_map f o) ≡ is_some o
-some_kept f None = refl
-some_kept f (Some x) = refl
+stops : (bytes rest : List ℕ) (outline : Outline) (place : ℕ) (kind : RecordKind) → bytes ≡ head ++ rest → Walks 5 rest outline → outline.fault ≡ Some (place, kind) → StopsAfter bytes outline.records place kind
+stops bytes rest outline place kind parts walks e =
+    let text = flat_map record_text outline.records in
+    let why = refused_why (5 + length text) walks.left place kind walks.within walks.left_fits (walks.next ∙ ap next_of e) in
+    record {
+      limits = walks.limits;
+      rest = walks.left;
+      spelled = parts ∙ ap (λ (r : List ℕ). head ++ r) walks.spelled;
+      place_is = (let at = why.0 in omega arith);
+      why = subst (λ (n : ℕ). IsWhy kind n walks.left) (sym why.0) why.1;
+    }
 
-pub whole_after : (rest after : List ℕ) (first : Record) (total : Bool) → Some (first, after) ≡ record_at rest → is_whole rest ≡ total → is_whole after ≡ total
-whole_after rest after first total e so_far =
-    sym (some_kept (λ (others : List Record). first ∷ others) (records_after after)) ∙ sym (ap is_some (after_record rest after first (sym e))) ∙ so_far
+-- where the head stands there is a body
+body_there : (bytes : List ℕ) → take 5 bytes ≡ head → body_of bytes ≡ Some (drop 5 bytes)
+body_there bytes is =
+    let whole : bytes ≡ head ++ drop 5 bytes = sym (take-append-drop 5 bytes) ∙ ap (λ (h : List ℕ). h ++ drop 5 bytes) is in
+    ap body_of whole ∙ body_again (drop 5 bytes)
 
-some_left : (rest : List ℕ) → false ≡ eqb (length rest) 0 → 0 < length rest
-some_left [] e = absurd cc
-some_left (b ∷ bytes) e = omega arith
+no_head : (bytes : List ℕ) → body_of bytes ≡ None → take 5 bytes ≢ head
+no_head bytes none = λ is. absurd (let there = body_there bytes is in cc)
 
-pub not_whole : (rest : List ℕ) (total : Bool) → false ≡ eqb (length rest) 0 → None ≡ record_at rest → is_whole rest ≡ total → false ≡ total
-not_whole rest total some e so_far = sym (ap is_some (after_other rest (some_left rest some) (sym e))) ∙ so_far
+head_refused : (bytes : List ℕ) (outline : Outline) (place : ℕ) (kind : RecordKind) → outline ≡ record { records = []; fault = Some (0, BadHead) } → take 5 bytes ≢ head → outline.fault ≡ Some (place, kind) → IsRefused bytes outline.records place kind
+head_refused bytes outline place kind is other e =
+    let none : outline.records ≡ [] = ap (λ (o : Outline). o.records) is in
+    let fault : Some (0, BadHead) ≡ Some (place, kind) = sym (ap (λ (o : Outline). o.fault) is) ∙ e in
+    let both : (0, BadHead) ≡ (place, kind) = cc in
+    let at : place ≡ 0 = sym (ap (λ (x : ℕ × RecordKind). x.0) both) in
+    subst (λ (k : RecordKind). IsRefused bytes outline.records place k) (ap (λ (x : ℕ × RecordKind). x.1) both) (at, none, other)
 
-pub whole_at_end : (rest : List ℕ) (total : Bool) → true ≡ eqb (length rest) 0 → is_whole rest ≡ total → true ≡ total
-whole_at_end rest total e so_far =
-    sym (ap is_some (ap records_after (nil_from_length rest (eqb-true _ _ (sym e))) ∙ after_nothing)) ∙ so_far
+refused_by : (bytes : List ℕ) (o : Option (List ℕ)) (place : ℕ) (kind : RecordKind) → AreBytes bytes → body_of bytes ≡ o → (outline_of bytes).fault ≡ Some (place, kind) → IsRefused bytes (outline_of bytes).records place kind
+refused_by bytes None place kind fits b e = head_refused bytes (outline_of bytes) place kind (of_other bytes b) (no_head bytes b) e
+refused_by bytes (Some rest) place kind fits b e =
+    let w = walks_of bytes rest fits b in
+    by_kind bytes (outline_of bytes).records place kind (stops bytes rest (outline_of bytes) place kind w.0 w.1 e)
 
-found_in : {A : Type 0} (o : Option A) → IsTrue (is_some o) → (x : A) × (o ≡ Some x)
-found_in None h = absurd cc
-found_in (Some x) h = (x, refl)
-
-pub is_a_capture : (bytes : List ℕ) (b : Bool) → AreBytes bytes → b ≡ is_some (records_of bytes) → IsTrue b ↔ ((records : List Record) × IsCapture bytes records)
-is_a_capture bytes b fits e = (
-  λ h. (let s = found_in (records_of bytes) (subst IsTrue e h) in (s.0, capture_takes bytes s.0 fits s.1)),
-  λ p. subst IsTrue (sym e) (subst (λ (o : Option (List Record)). IsTrue (is_some o)) (sym (capture_again bytes p.0 p.1)) refl),
-)
+pub is_refused : (bytes : List ℕ) (place : ℕ) (kind : RecordKind) → AreBytes bytes → (outline_of bytes).fault ≡ Some (place, kind) → IsRefused bytes (outline_of bytes).records place kind
+is_refused bytes place kind fits e = refused_by bytes (body_of bytes) place kind fits refl e

@@ -1,13 +1,9 @@
 -- A record that is read is the record that was written, and what was written is read again.
-use Rattle.std.proofs.Common.{◌≡◌, ℕ, zero, suc, ◌<◌, ◌≤◌, false, cond, ltb, List, [], ◌∷◌, ◌++◌, length, Option, Some, None, refl, sym, ap, subst, arith}
-use Rattle.std.proofs.Common.{Bor}
-use Rattle.std.specs.Prelude.{option_map, IfSome}
+use Rattle.std.proofs.Common.{◌≡◌, ℕ, zero, suc, ◌<◌, ◌≤◌, false, cond, ltb, List, [], ◌∷◌, ◌++◌, length, Some, None, refl, sym, ap, subst, arith}
 use Rattle.std.specs.Int.{w16, w64, to_be_bytes}
 use Rattle.std.proofs.lemmas.Bool.{ltb-false, le-ltb}
 use Rattle.tesla_base.specs.Front.{AreBytes, ◌>>=◌, bytes_front, number_front}
 use Rattle.tesla_base.proofs.Fronts.{bind_some, guard_some, some_is, Takes, Takes-then, bytes_take, bytes_again, field16, field64, bytes_shorter, number_shorter}
-use Rattle.tesla_capture.specs.declared.record.Record as lent
-use Rattle.tesla_capture.specs.Shown.{shown}
 use Rattle.tesla_capture.specs.Capture as captures
 use Rattle.tesla_capture.specs.Capture.{Record, Arrives, record_text, IsRecord}
 use Rattle.tesla_capture.specs.Reading.{datagram_at, arrival_at, record_at}
@@ -86,7 +82,3 @@ record_shorter (suc zero ∷ bytes) x e = (let s = arrival_shorter bytes x e in 
 record_shorter (suc (suc zero) ∷ bytes) x e =
     subst (λ (y : Record × List ℕ). length y.1 < length (2 ∷ bytes)) (some_is (captures.Takes, bytes) x e) (omega arith)
 record_shorter (suc (suc (suc b)) ∷ bytes) x e = absurd cc
-
-pub next_shorter : (rest : List ℕ) (r : Option (lent.Record × Bor (List ℕ))) → option_map (λ x. (shown x.0, x.1.now)) r ≡ record_at rest → IfSome r (λ x. length x.1.now < length rest)
-next_shorter rest (Some x) e = record_shorter rest (shown x.0, x.1.now) (sym e)
-next_shorter rest None e = tt

@@ -29,7 +29,12 @@ IsRecord (Arrives reading bytes) =
     (reading < 2 ^ 64) × (length bytes ≤ 2048) × AreBytes bytes
 IsRecord Takes = Unit {0}
 
+-- how many bytes a capture has at most
+abbrev pub limit : ℕ
+limit = 2 ^ 40
+
 -- the bytes spell the capture
 pub record IsCapture (bytes : List ℕ) (records : List Record) : Type 0 where
   pub limits : AllByRecursion IsRecord records
   pub spelled : bytes ≡ capture_text records
+  pub fits : length bytes ≤ limit

@@ -1,4 +1,8 @@
 pub mod Capture
 pub mod Reading
-pub mod Shown
+pub mod Refused
+pub mod Steps
+pub mod Found
+pub mod Names
 pub mod Release
+pub mod Gathering

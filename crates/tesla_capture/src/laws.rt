@@ -1,28 +1,29 @@
 //! Laws about captures, as contracts of functions that do nothing.
 
-ghost use Rattle.std.specs.Prelude.{◌≡◌, ◌<◌, ◌∷◌, [], List, ℕ, Some, None, length, option_map};
+ghost use Rattle.std.specs.Prelude.{◌≡◌, [], List, ℕ, Some, None};
 ghost use Rattle.tesla_base.specs.Front.{AreBytes};
 ghost use Rattle.tesla_capture.specs.Capture.{Record, IsCapture};
-ghost use Rattle.tesla_capture.specs.Reading.{records_of, records_after, record_at, body_of};
+ghost use Rattle.tesla_capture.specs.Reading.{Ended, Recorded, Refuses, next_at, outline_of, outline_at, with_record};
+ghost use Rattle.tesla_capture.specs.Refused.{IsRefused};
+ghost use Rattle.tesla_capture.specs.declared.record.RecordKind.{RecordKind};
 
-/// Reading gives the records of a capture, and each capture has one spelling.
+/// The outline of a file is its capture, and each capture has one spelling; of a file that is none it has
+/// the whole records up to the first place that is refused, and the kind of that refusal.
 pub fn captures()
-    // What is read is spelled so.
-    ensures found { (bytes : List ℕ) (records : List Record) → AreBytes bytes → records_of bytes ≡ Some records → IsCapture bytes records }
-    // What is spelled so is read.
-    ensures only { (bytes : List ℕ) (records : List Record) → IsCapture bytes records → records_of bytes ≡ Some records }
+    // A file without a refused place is a capture.
+    ensures found { (bytes : List ℕ) → AreBytes bytes → (outline_of bytes).fault ≡ None → IsCapture bytes (outline_of bytes).records }
+    // A capture has no refused place, and the outline has its records.
+    ensures only { (bytes : List ℕ) (records : List Record) → IsCapture bytes records → outline_of bytes ≡ record { records = records; fault = None } }
+    // A refused place has its cause.
+    ensures refused { (bytes : List ℕ) (place : ℕ) (kind : RecordKind) → AreBytes bytes → (outline_of bytes).fault ≡ Some (place, kind) → IsRefused bytes (outline_of bytes).records place kind }
 {}
 
-/// The records of a rest, one record after the other.
-pub fn records()
-    // A whole record comes before those after it.
-    ensures one { (rest after : List ℕ) (first : Record) → record_at rest ≡ Some (first, after) → records_after rest ≡ option_map (λ others. first ∷ others) (records_after after) }
-    // Nothing has no records.
-    ensures end { records_after [] ≡ Some [] }
-    // A rest that begins with no whole record has none.
-    ensures none { (rest : List ℕ) → 0 < length rest → record_at rest ≡ None → records_after rest ≡ None }
-    // The rest after a record is shorter.
-    ensures shorter { (rest after : List ℕ) (first : Record) → record_at rest ≡ Some (first, after) → length after < length rest }
-    // The records of a capture are those of what stands after its head.
-    ensures body { (bytes rest : List ℕ) → body_of bytes ≡ Some rest → records_of bytes ≡ records_after rest }
+/// The outline of the rest of a file, one record after the other.
+pub fn outlines()
+    // A file that ended has no record left.
+    ensures ended { (place : ℕ) (rest : List ℕ) → next_at place rest ≡ Ended → outline_at place rest ≡ record { records = []; fault = None } }
+    // A record comes before those after it.
+    ensures one { (place now : ℕ) (rest after : List ℕ) (first : Record) → next_at place rest ≡ Recorded first now after → outline_at place rest ≡ with_record first (outline_at now after) }
+    // A refused place ends the records.
+    ensures refused { (place at : ℕ) (rest : List ℕ) (kind : RecordKind) → next_at place rest ≡ Refuses at kind → outline_at place rest ≡ record { records = []; fault = Some (at, kind) } }
 {}

@@ -1,99 +1,87 @@
-//! Captures read from memory, record after record.
+//! What stands at the front of the bytes of a capture that were read ahead.
 
-ghost use Rattle.std.specs.Prelude.{◌≡◌, ◌<◌, length, option_map, is_some, IfSome, IsTrue, ◌↔◌, List};
-ghost use Rattle.tesla_capture.specs.Capture as captures;
-ghost use Rattle.tesla_capture.specs.Capture.{IsCapture};
-ghost use Rattle.tesla_capture.specs.Reading.{datagram_at, arrival_at, record_at, body_of, records_of, records_after};
-ghost use Rattle.tesla_capture.specs.Shown.{shown};
+ghost use Rattle.std.specs.Prelude.{◌∷◌};
+ghost use Rattle.tesla_capture.specs.Found.{Tells, TellsHead};
 
-use crate::record::Record;
+use crate::record::RecordKind;
 use tesla_base::{take_u16, take_u64};
 
 /// The first bytes of every capture: the magic, and version 1.
 pub const HEAD: [u8; 5] = [b'T', b'C', b'A', b'P', 1];
 
-#[tactic(auto, unfolding(crate::specs::Reading::datagram_at))]
-fn datagram(bytes: &[u8]) -> Option<(&[u8], &[u8])>
-    ensures { option_map (λ x. (x.0.now, x.1.now)) result ≡ datagram_at bytes.now }
-{
-    let Some((length, rest)) = take_u16(bytes) else {
-        return None;
-    };
-    let length = length as usize;
-    if 2048 < length || rest.len() < length {
-        return None;
-    }
-    Some(rest.split_at(length))
+/// What was found at the place of a record.
+#[derive(Clone, Copy)]
+pub enum Found {
+    /// A whole arrival: its reading, and the length of its datagram, which stands after 11 bytes.
+    Arrival { reading: u64, length: u16 },
+    /// A take.
+    Take,
+    /// No whole record within the limit.
+    Refused(RecordKind),
+    /// The end of the file.
+    End,
+    /// Nothing, since a read failed.
+    Failed,
 }
 
-#[tactic(auto, unfolding(crate::specs::Reading::arrival_at))]
-fn arrival(bytes: &[u8]) -> Option<(Record<'_>, &[u8])>
-    ensures { option_map (λ x. (shown x.0, x.1.now)) result ≡ arrival_at bytes.now }
-{
-    let Some((reading, rest)) = take_u64(bytes) else {
-        return None;
-    };
-    let Some((bytes, rest)) = datagram(rest) else {
-        return None;
-    };
-    Some((Record::Arrival { reading, bytes }, rest))
+/// What was found at place 0.
+#[derive(Clone, Copy)]
+pub enum HeadFound {
+    /// The head of a capture.
+    Whole,
+    /// Another byte than the head has there, or the end of the file.
+    Bad,
+    /// Nothing, since a read failed.
+    Failed,
 }
 
-#[tactic(auto, unfolding(crate::specs::Reading::record_at))]
-fn record(rest: &[u8]) -> Option<(Record<'_>, &[u8])>
-    ensures { option_map (λ x. (shown x.0, x.1.now)) result ≡ record_at rest.now }
-{
-    match rest {
-        [1, rest @ ..] => arrival(rest),
-        [2, rest @ ..] => Some((Record::Take, rest)),
-        _ => None,
-    }
-}
-
-/// What stands after the head of a capture. None exactly where the head isn't there.
-#[tactic(auto, unfolding(crate::specs::Reading::body_of))]
-pub fn body(bytes: &[u8]) -> Option<&[u8]>
-    ensures { option_map (λ rest. rest.now) result ≡ body_of bytes.now }
+/// What is known of the head from the bytes at the front of a file. None: they may be a part of it.
+pub fn head_found(bytes: &[u8]) -> Option<HeadFound>
+    ensures { TellsHead result bytes.now }
 {
     if bytes.len() < 5 {
+        if bytes == &HEAD[..bytes.len()] {
+            None
+        } else {
+            Some(HeadFound::Bad)
+        }
+    } else if &bytes[..5] == HEAD.as_slice() {
+        Some(HeadFound::Whole)
+    } else {
+        Some(HeadFound::Bad)
+    }
+}
+
+/// An arrival behind its kind.
+fn arrival_found(rest: &[u8]) -> Option<Found>
+    ensures { Tells result (1 ∷ rest.now) }
+{
+    let Some((reading, rest)) = take_u64(rest) else {
+        return None;
+    };
+    let Some((length, rest)) = take_u16(rest) else {
+        return None;
+    };
+    if 2048 < length {
+        return Some(Found::Refused(RecordKind::TooLong));
+    }
+    if rest.len() < length as usize {
         return None;
     }
-    let (front, rest) = bytes.split_at(5);
-    if front == HEAD.as_slice() {
-        Some(rest)
-    } else {
-        None
+    Some(Found::Arrival { reading, length })
+}
+
+/// What is known of the record at the front of the bytes. None: there is neither a whole record nor
+/// one that is refused, whatever follows.
+pub fn record_found(bytes: &[u8]) -> Option<Found>
+    ensures { Tells result bytes.now }
+{
+    if bytes.is_empty() {
+        return None;
     }
-}
-
-/// The whole record at the front, and what stands after it. None where there is none: nothing is left,
-/// the kind is neither 1 nor 2, the length is above 2,048, or the record is cut.
-pub fn next_record(rest: &[u8]) -> Option<(Record<'_>, &[u8])>
-    ensures exact { option_map (λ x. (shown x.0, x.1.now)) result ≡ record_at rest.now }
-    ensures shorter { IfSome result (λ x. length x.1.now < length rest.now) }
-{
-    record(rest)
-}
-
-fn has_records(bytes: &[u8]) -> bool
-    ensures { result ≡ is_some (records_of bytes.now) }
-{
-    let Some(mut rest) = body(bytes) else {
-        return false;
-    };
-    while !rest.is_empty() {
-        let Some((_, after)) = next_record(rest) else {
-            return false;
-        };
-        rest = after;
+    match bytes[0] {
+        1 => arrival_found(&bytes[1..]),
+        2 => Some(Found::Take),
+        _ => Some(Found::Refused(RecordKind::BadKind)),
     }
-    true
-}
-
-/// Whether the bytes are a capture: a head, and whole records up to the end.
-pub fn is_capture(bytes: &[u8]) -> bool
-    ensures grammar { IsTrue result ↔ ((records : List captures.Record) × IsCapture bytes.now records) }
-    ensures exact { result ≡ is_some (records_of bytes.now) }
-{
-    has_records(bytes)
 }

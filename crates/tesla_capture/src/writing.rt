@@ -25,7 +25,7 @@ fn write_both<S: Sink>(sink: &mut S, front: &[u8], back: &[u8]) -> bool
 }
 
 /// The fields of a record of a released packet before its payload.
-fn head_bytes(head: &Head) -> [u8; 17]
+pub(crate) fn head_bytes(head: &Head) -> [u8; 17]
     ensures { result ≡ head_text head.now }
 {
     let mut bytes = [0; 17];

@@ -1,7 +1,10 @@
 pub mod SixWords
-pub mod Rests
 pub mod GivenPackets
 pub mod Stages
-pub mod Planned
+pub mod Parts
+pub mod Reaching
+pub mod Settled
+pub mod Openings
 pub mod Setups
 pub mod Telling
+pub mod Complete

@@ -5,7 +5,7 @@ use Rattle.std.proofs.lemmas.Bool.Decides.{nat_tests}
 use Rattle.tesla_commit.specs.Parts.{Parts}
 use Rattle.tesla_commit.specs.Reading.{judged}
 use Rattle.tesla_cli.specs.declared.outcome.Outcome.{Outcome}
-use Rattle.tesla_cli.specs.declared.outcome.Outcome.TheVariants.{Done, Usage, SetupBad, SetupLater, CaptureBad, CaptureLater, ReadFault, WriteFault, NoMemory, OpenFault}
+use Rattle.tesla_cli.specs.declared.outcome.Outcome.TheVariants.{Done, Usage, SetupRefused, SetupLater, CaptureRefused, CaptureLater, ReadFault, WriteFault, NoMemory, OpenFault}
 use Rattle.tesla_cli.specs.Run.{setup_judged}
 use Rattle.tesla_cli.specs.Replay.{SetupIs, OfReading, OfSetup}
 
@@ -29,10 +29,10 @@ setup_front n read text result above e is =
 pub setup_reading : (outcome : Outcome) → OfReading outcome → OfSetup outcome
 setup_reading (Done report) of = absurd of
 setup_reading Usage of = absurd of
-setup_reading SetupBad of = absurd of
+setup_reading (SetupRefused line kind) of = absurd of
 setup_reading SetupLater of = absurd of
-setup_reading CaptureBad of = absurd of
-setup_reading CaptureLater of = absurd of
+setup_reading (CaptureRefused place kind) of = absurd of
+setup_reading (CaptureLater place) of = absurd of
 setup_reading ReadFault of = tt
 setup_reading WriteFault of = absurd of
 setup_reading NoMemory of = tt

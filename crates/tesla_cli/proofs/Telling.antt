@@ -7,18 +7,16 @@ use Rattle.tesla_desk.specs.Faults.{Faults, HasCause, CountsOpening, after_sink,
 use Rattle.tesla_desk.specs.Outside.{Page, Untold, Absent, Holds, page_of, with_bytes}
 use Rattle.tesla_desk.proofs.Told.{first_written}
 use Rattle.tesla_desk.proofs.Counts.{rose_where_failed, where_failed_stays}
-use Rattle.tesla_receiver.specs.declared.report.Report.{Report}
 use Rattle.tesla_cli.specs.declared.outcome.Outcome.{Outcome}
-use Rattle.tesla_cli.specs.declared.outcome.Outcome.TheVariants.{Done, Usage, SetupBad, SetupLater, CaptureBad, CaptureLater, ReadFault, WriteFault, NoMemory, OpenFault}
+use Rattle.tesla_cli.specs.declared.outcome.Outcome.TheVariants.{Done, Usage, SetupRefused, SetupLater, CaptureRefused, CaptureLater, ReadFault, WriteFault, NoMemory, OpenFault}
 use Rattle.tesla_cli.specs.Words.{Asked}
-use Rattle.tesla_cli.specs.Judging.{capture_judged}
-use Rattle.tesla_cli.specs.Outcome.{text_of, TellsReport, TellsOutcome, IsLost}
+use Rattle.tesla_cli.specs.Outcome.{text_of, TellsOutcome, HasNumbers, IsDone}
 use Rattle.tesla_cli.specs.Replay.{OfCaptureFile, OfSetup, PlaysFile}
-use Rattle.tesla_cli.specs.Run.{setup_judged, plan_of, plan_under, planned, config_with, IsFault, HoldsWhere, IsFront, Keeps, out_text, HasCauses}
+use Rattle.tesla_cli.specs.Run.{setup_judged, plan_of, plan_under, planned, config_with, IsFault, HoldsWhere, HoldsUnlessFailed, IsFront, Leaves, Keeps, out_text, HasCauses}
 use Rattle.tesla_cli.specs.TopCall.{SetupSays, Replays, HoldsLines, Prints}
 
 -- the capture was played under the setup that was judged
-pub replays_played : (asked : Asked) (before mid after : List ℕ → Page) (parts : Parts) (outcome : Outcome) → ((text : List ℕ) (failed : Bool) → before asked.setup ≡ Holds text failed → setup_judged text ≡ Ok parts) → ((name : List ℕ) → mid name ≡ before name) → ((bytes : List ℕ) (failed : Bool) → mid asked.capture ≡ Holds bytes failed → PlaysFile (planned (config_with parts asked.lag asked.capacity) (capture_judged asked.capacity bytes)) outcome (mid asked.out) (after asked.out)) → Keeps outcome (mid asked.out) (after asked.out) → OfCaptureFile outcome → (before asked.setup ≡ Absent → ⊥) → (mid asked.capture ≡ Absent → OfSetup outcome) → Replays asked before after outcome
+pub replays_played : (asked : Asked) (before mid after : List ℕ → Page) (parts : Parts) (outcome : Outcome) → ((text : List ℕ) (failed : Bool) → before asked.setup ≡ Holds text failed → setup_judged text ≡ Ok parts) → ((name : List ℕ) → mid name ≡ before name) → ((bytes : List ℕ) (failed : Bool) → mid asked.capture ≡ Holds bytes failed → PlaysFile (Ok (planned (config_with parts asked.lag asked.capacity) bytes)) outcome (mid asked.out) (after asked.out)) → Keeps outcome (mid asked.out) (after asked.out) → OfCaptureFile outcome → (before asked.setup ≡ Absent → ⊥) → (mid asked.capture ≡ Absent → OfSetup outcome) → Replays asked before after outcome
 replays_played asked before mid after parts outcome told same plays keeps kind there absent = record {
   form = λ e. subst OfCaptureFile e kind;
   no_setup = λ none. absurd (there none);
@@ -55,52 +53,108 @@ setup_fault : (judged : Result Parts Outcome) (outcome : Outcome) → IsFault ou
 setup_fault (Ok parts) outcome fault kind = kind
 setup_fault (Err refusal) outcome fault kind = inr fault
 
--- a report that was lost for want of memory
-lost_memory : (asked : Asked) (before after : List ℕ → Page) (report : Report) → Replays asked before after (Done report) → Replays asked before after NoMemory
-lost_memory asked before after report it = record {
+-- what an outcome left of the output is left where its text was lost for want of memory
+leaves_lost : (text : List ℕ) (outcome : Outcome) (before after : Page) → HasNumbers outcome → Leaves text outcome before after → Keeps outcome before after → Leaves text NoMemory before after
+leaves_lost text (Done report) before after has leaves keeps = inr (front_whole text after leaves)
+leaves_lost text (CaptureRefused place kind) before after has leaves keeps = inr (front_whole text after leaves)
+leaves_lost text (CaptureLater place) before after has leaves keeps = inr (front_whole text after leaves)
+leaves_lost text (SetupRefused line kind) before after has leaves keeps = inl keeps
+leaves_lost text Usage before after has leaves keeps = absurd has
+leaves_lost text SetupLater before after has leaves keeps = absurd has
+leaves_lost text ReadFault before after has leaves keeps = absurd has
+leaves_lost text WriteFault before after has leaves keeps = absurd has
+leaves_lost text NoMemory before after has leaves keeps = absurd has
+leaves_lost text OpenFault before after has leaves keeps = absurd has
+
+-- a text that was lost for want of memory
+lost_memory : (asked : Asked) (before after : List ℕ → Page) (outcome : Outcome) → HasNumbers outcome → Replays asked before after outcome → Replays asked before after NoMemory
+lost_memory asked before after outcome has it = record {
   form = λ e. absurd cc;
   no_setup = λ none. tt;
   no_capture = λ none. tt;
   setup = λ text failed holds. setup_fault (setup_judged text) NoMemory tt tt;
   plays = λ text bytes failed other holds_setup holds.
       let played = it.plays text bytes failed other holds_setup holds in
-      record { outcome_is = inr tt; leaves = inr (front_whole (out_text (plan_of asked text bytes)) (after asked.out) played.leaves) };
+      record { outcome_is = inr tt; leaves = leaves_lost (out_text (plan_of asked text bytes)) outcome (before asked.out) (after asked.out) has played.leaves it.keeps };
   keeps = tt;
 }
 
+-- a page that holds a text holds it whether its own sink failed or not
+unless_failed : (text : List ℕ) (page : Page) → HoldsWhere page (λ bytes. bytes ≡ text) → HoldsUnlessFailed text page
+unless_failed text Untold holds = tt
+unless_failed text Absent holds = absurd holds
+unless_failed text (Holds bytes true) holds = (length text, holds ∙ sym (take-length text))
+unless_failed text (Holds bytes false) holds = holds
+
+-- what a whole replay left and told
+done_leaves : (text : List ℕ) (outcome : Outcome) (before after : Page) → IsDone outcome → Leaves text outcome before after → HoldsWhere after (λ bytes. bytes ≡ text)
+done_leaves text (Done report) before after done leaves = leaves
+done_leaves text Usage before after done leaves = absurd done
+done_leaves text (SetupRefused line kind) before after done leaves = absurd done
+done_leaves text SetupLater before after done leaves = absurd done
+done_leaves text (CaptureRefused place kind) before after done leaves = absurd done
+done_leaves text (CaptureLater place) before after done leaves = absurd done
+done_leaves text ReadFault before after done leaves = absurd done
+done_leaves text WriteFault before after done leaves = absurd done
+done_leaves text NoMemory before after done leaves = absurd done
+done_leaves text OpenFault before after done leaves = absurd done
+
+done_keeps : (outcome : Outcome) (before after : Page) → IsDone outcome → Keeps outcome before after → HoldsWhere after (λ bytes. Unit {0})
+done_keeps (Done report) before after done keeps = keeps
+done_keeps Usage before after done keeps = absurd done
+done_keeps (SetupRefused line kind) before after done keeps = absurd done
+done_keeps SetupLater before after done keeps = absurd done
+done_keeps (CaptureRefused place kind) before after done keeps = absurd done
+done_keeps (CaptureLater place) before after done keeps = absurd done
+done_keeps ReadFault before after done keeps = absurd done
+done_keeps WriteFault before after done keeps = absurd done
+done_keeps NoMemory before after done keeps = absurd done
+done_keeps OpenFault before after done keeps = absurd done
+
+done_setup : (outcome : Outcome) → IsDone outcome → OfSetup outcome → ⊥
+done_setup (Done report) done of = of
+done_setup Usage done of = done
+done_setup (SetupRefused line kind) done of = done
+done_setup SetupLater done of = done
+done_setup (CaptureRefused place kind) done of = done
+done_setup (CaptureLater place) done of = done
+done_setup ReadFault done of = done
+done_setup WriteFault done of = done
+done_setup NoMemory done of = done
+done_setup OpenFault done of = done
+
 -- a report that was lost since a write failed
-lost_write : (asked : Asked) (before after : List ℕ → Page) (report : Report) → Replays asked before after (Done report) → Replays asked before after WriteFault
-lost_write asked before after report it = record {
+lost_write : (asked : Asked) (before after : List ℕ → Page) (outcome : Outcome) → IsDone outcome → Replays asked before after outcome → Replays asked before after WriteFault
+lost_write asked before after outcome done it = record {
   form = λ e. absurd cc;
   no_setup = λ none. tt;
-  no_capture = λ none. absurd (it.no_capture none);
+  no_capture = λ none. absurd (done_setup outcome done (it.no_capture none));
   setup = λ text failed holds. setup_fault (setup_judged text) WriteFault tt tt;
   plays = λ text bytes failed other holds_setup holds.
       let played = it.plays text bytes failed other holds_setup holds in
-      record { outcome_is = inr tt; leaves = inr (front_whole (out_text (plan_of asked text bytes)) (after asked.out) played.leaves) };
-  keeps = tt;
+      let whole = done_leaves (out_text (plan_of asked text bytes)) outcome (before asked.out) (after asked.out) done played.leaves in
+      record { outcome_is = inr tt; leaves = unless_failed (out_text (plan_of asked text bytes)) (after asked.out) whole };
+  keeps = done_keeps outcome (before asked.out) (after asked.out) done it.keeps;
 }
-
-told_report : (asked : Asked) (before after : List ℕ → Page) (report : Report) (printed : Outcome) → TellsReport report printed → Replays asked before after (Done report) → Replays asked before after printed
-told_report asked before after report printed tells it =
-    let Replayed : Outcome → Type 0 = λ outcome. Replays asked before after outcome in
-    elim tells [
-      | inl e ↦ subst Replayed (sym e) it
-      | inr others ↦ elim others [ inl e ↦ subst Replayed (sym e) (lost_memory asked before after report it) | inr e ↦ subst Replayed (sym e) (lost_write asked before after report it) ]
-    ]
 
 -- a replay stays one when its outcome was printed
 pub replays_told : (asked : Asked) (before after : List ℕ → Page) (outcome printed : Outcome) → TellsOutcome outcome printed → Replays asked before after outcome → Replays asked before after printed
-replays_told asked before after (Done report) printed tells it = told_report asked before after report printed tells it
-replays_told asked before after Usage printed tells it = absurd (it.form refl)
-replays_told asked before after SetupBad printed tells it = subst (λ (o : Outcome). Replays asked before after o) (sym tells) it
-replays_told asked before after SetupLater printed tells it = subst (λ (o : Outcome). Replays asked before after o) (sym tells) it
-replays_told asked before after CaptureBad printed tells it = subst (λ (o : Outcome). Replays asked before after o) (sym tells) it
-replays_told asked before after CaptureLater printed tells it = subst (λ (o : Outcome). Replays asked before after o) (sym tells) it
-replays_told asked before after ReadFault printed tells it = subst (λ (o : Outcome). Replays asked before after o) (sym tells) it
-replays_told asked before after WriteFault printed tells it = subst (λ (o : Outcome). Replays asked before after o) (sym tells) it
-replays_told asked before after NoMemory printed tells it = subst (λ (o : Outcome). Replays asked before after o) (sym tells) it
-replays_told asked before after OpenFault printed tells it = subst (λ (o : Outcome). Replays asked before after o) (sym tells) it
+replays_told asked before after outcome printed tells it =
+    let Replayed : Outcome → Type 0 = λ o. Replays asked before after o in
+    elim tells [
+      | inl e ↦ subst Replayed (sym e) it
+      | inr others ↦ elim others [ inl lost ↦ subst Replayed (sym lost.0) (lost_memory asked before after outcome lost.1 it) | inr lost ↦ subst Replayed (sym lost.0) (lost_write asked before after outcome lost.1 it) ]
+    ]
+
+-- the usage is told as it is
+pub told_usage : (outcome printed : Outcome) → outcome ≡ Usage → TellsOutcome outcome printed → printed ≡ Usage
+told_usage outcome printed is tells =
+    let told : TellsOutcome Usage printed = subst (λ (o : Outcome). TellsOutcome o printed) is tells in
+    elim told [ inl e ↦ e | inr others ↦ elim others [ inl lost ↦ absurd lost.1 | inr lost ↦ absurd lost.1 ] ]
+
+-- a report was lost since a write failed
+abbrev pub IsLost : Outcome → Outcome → Type 0
+IsLost outcome printed = (printed ≡ WriteFault) × IsDone outcome
 
 -- where each fault that is printed comes from
 pub record Origins (outcome printed : Outcome) : Type 0 where
@@ -108,27 +162,15 @@ pub record Origins (outcome printed : Outcome) : Type 0 where
   pub writes : printed ≡ WriteFault → (outcome ≡ WriteFault) ⊎ IsLost outcome printed
   pub openings : printed ≡ OpenFault → outcome ≡ OpenFault
 
-origins_same : (outcome printed : Outcome) → printed ≡ outcome → Origins outcome printed
-origins_same outcome printed same = record { reads = λ e. sym same ∙ e; writes = λ e. inl (sym same ∙ e); openings = λ e. sym same ∙ e }
-
-origins_report : (report : Report) (printed : Outcome) → TellsReport report printed → Origins (Done report) printed
-origins_report report printed tells =
-    elim tells [
-      | inl same ↦ origins_same (Done report) printed same
-      | inr others ↦ elim others [ inl e ↦ record { reads = λ f. absurd cc; writes = λ f. absurd cc; openings = λ f. absurd cc } | inr e ↦ record { reads = λ f. absurd cc; writes = λ f. inr e; openings = λ f. absurd cc } ]
-    ]
-
 pub origins : (outcome printed : Outcome) → TellsOutcome outcome printed → Origins outcome printed
-origins (Done report) printed tells = origins_report report printed tells
-origins Usage printed tells = origins_same Usage printed tells
-origins SetupBad printed tells = origins_same SetupBad printed tells
-origins SetupLater printed tells = origins_same SetupLater printed tells
-origins CaptureBad printed tells = origins_same CaptureBad printed tells
-origins CaptureLater printed tells = origins_same CaptureLater printed tells
-origins ReadFault printed tells = origins_same ReadFault printed tells
-origins WriteFault printed tells = origins_same WriteFault printed tells
-origins NoMemory printed tells = origins_same NoMemory printed tells
-origins OpenFault printed tells = origins_same OpenFault printed tells
+origins outcome printed tells =
+    elim tells [
+      | inl same ↦ record { reads = λ e. sym same ∙ e; writes = λ e. inl (sym same ∙ e); openings = λ e. sym same ∙ e }
+      | inr others ↦ elim others [
+        | inl lost ↦ (let is = lost.0 in record { reads = λ f. absurd cc; writes = λ f. absurd cc; openings = λ f. absurd cc })
+        | inr lost ↦ (let is = lost.0 in record { reads = λ f. absurd cc; writes = λ f. inr lost; openings = λ f. absurd cc })
+      ]
+    ]
 
 -- the causes of an outcome that was printed to a console
 pub causes_printed : (f0 f1 f2 f3 : Faults) (outcome printed : Outcome) (Failed : Type 0) (opened closed : ℕ) → CountsOpening f0 f1 Failed → HasCauses f1 f2 (outcome ≡ ReadFault) (outcome ≡ WriteFault) (outcome ≡ OpenFault) → TellsOutcome outcome printed → opened ≡ 0 → HasCause opened closed (IsLost outcome printed) → f3 ≡ after_sink f2 closed → HasCauses f0 f3 (printed ≡ ReadFault) (printed ≡ WriteFault) (printed ≡ OpenFault)

@@ -1,61 +1,55 @@
--- Which captures are played, and why others are refused.
-use Rattle.std.specs.Prelude.{◌≡◌, ℕ, ◌^◌, ◌<◌, ◌≤◌, Bool, true, false, not, ◌&&◌, List, [], ◌∷◌, length, Option, Some, None, is_some, unwrap_or, Result, Ok, Err, nat_lt, nat_le, ◌==◌, slice_index, count_by, if◌then◌else◌}
-use Rattle.std.specs.List.{list_any}
-use Rattle.tesla_capture.specs.Capture.{Record, Arrives, Takes}
-use Rattle.tesla_capture.specs.Reading.{records_of, records_after}
-use Rattle.tesla_cli.specs.declared.outcome.Outcome.{Outcome}
-use Rattle.tesla_cli.specs.declared.outcome.Outcome.TheVariants.{CaptureBad, CaptureLater}
-
--- the record is an arrival
-abbrev pub is_arrival : Record → Bool
-is_arrival (Arrives reading bytes) = true
-is_arrival Takes = false
+-- What is played of a capture, and how that ends.
+use Rattle.std.specs.Prelude.{ℕ, ◌+◌, ◌-◌, Bool, false, ◌&&◌, ◌||◌, List, [], ◌∷◌, length, Option, Some, None, nat_lt, ◌==◌, slice_index, if◌then◌else◌}
+use Rattle.tesla_capture.specs.Capture.{Record, Arrives, Takes, record_text}
+use Rattle.tesla_capture.specs.Reading.{outline_at, record_place}
+use Rattle.tesla_capture.specs.declared.record.RecordKind.{RecordKind}
 
 -- a frame whose sixth byte is 2 is a disclosure
 abbrev pub is_disclosure : List ℕ → Bool
 is_disclosure bytes = nat_lt 5 (length bytes) && (slice_index bytes 5 == 2)
 
--- the record is an arrival of a disclosure
-abbrev pub discloses : Record → Bool
-discloses (Arrives reading bytes) = is_disclosure bytes
-discloses Takes = false
+-- the record isn't played, with room for so many arrivals: it is a disclosure, or there is no room for it
+abbrev pub is_later : ℕ → Record → Bool
+is_later room (Arrives reading bytes) = (room == 0) || is_disclosure bytes
+is_later room Takes = false
 
--- there are at most so many arrivals, and none of them is a disclosure
-abbrev pub are_playable : ℕ → List Record → Bool
-are_playable capacity records = nat_le (count_by is_arrival records) capacity && not (list_any discloses records)
+-- for how many arrivals there is room after a record
+abbrev pub room_after : ℕ → Record → ℕ
+room_after room (Arrives reading bytes) = room - 1
+room_after room Takes = room
 
--- the records of a file that are played with a buffer of that capacity, where the file is a capture
-abbrev pub records_judged : ℕ → Option (List Record) → Result (List Record) Outcome
-records_judged capacity None = Err CaptureBad
-records_judged capacity (Some records) = if are_playable capacity records then Ok records else Err CaptureLater
+-- how the records that are played end: the file ends, a place of it is refused, or the record at a place isn't played
+pub data Ending : Type 0 where
+  AtEnd : Ending
+  AtFault : ℕ → RecordKind → Ending
+  AtLater : ℕ → Ending
 
--- the records of a file that are played with a buffer of that capacity
-unfoldable pub capture_judged : ℕ → List ℕ → Result (List Record) Outcome
-capture_judged capacity bytes =
-    if nat_lt (2 ^ 30) (length bytes) then Err CaptureLater else records_judged capacity (records_of bytes)
+-- the records that are played, and how they end
+pub record Part : Type 0 where
+  pub records : List Record
+  pub ending : Ending
 
--- what stands after the head, or between two records, holds whole records up to its end
-abbrev pub is_whole : List ℕ → Bool
-is_whole rest = is_some (records_after rest)
+-- a part with one record before it
+abbrev pub with_first : Record → Part → Part
+with_first first part = record { records = first ∷ part.records; ending = part.ending }
 
--- the records of such a rest
-abbrev pub records_in : List ℕ → List Record
-records_in rest = unwrap_or (records_after rest) []
+-- how an outline ends
+abbrev pub ending_of : Option (ℕ × RecordKind) → Ending
+ending_of None = AtEnd
+ending_of (Some fault) = AtFault fault.0 fault.1
 
--- a record stands at the front of a rest, and the others after it
-pub record StandsFirst (rest : List ℕ) (first : Record) (after : List ℕ) : Type 0 where
-  pub both : records_in rest ≡ first ∷ records_in after
-  pub whole : is_whole after ≡ true
-  pub shorter : length after < length rest
+-- of records from a place on, those before the first that isn't played
+unfoldable pub part_from : ℕ → ℕ → List Record → Ending → Part
+part_from room place [] ending = record { records = []; ending = ending }
+part_from room place (first ∷ others) ending =
+    if is_later room first then record { records = []; ending = AtLater place }
+    else with_first first (part_from (room_after room first) (place + length (record_text first)) others ending)
 
--- the rest of a capture whose records are played
-pub record IsPlayable (capacity : ℕ) (bytes rest : List ℕ) : Type 0 where
-  pub judged : capture_judged capacity bytes ≡ Ok (records_in rest)
-  pub whole : is_whole rest ≡ true
-  pub short : length rest ≤ 2 ^ 30
+-- what is played of the rest of a capture that stands from a place on
+abbrev pub part_at : ℕ → ℕ → List ℕ → Part
+part_at room place rest =
+    part_from room (record_place place) (outline_at place rest).records (ending_of (outline_at place rest).fault)
 
--- what stands after the head of a capture
-pub record IsBody (bytes rest : List ℕ) : Type 0 where
-  pub records : records_of bytes ≡ Some (records_in rest)
-  pub whole : is_whole rest ≡ true
-  pub short : length rest ≤ length bytes
+-- what is played of a capture by a receiver that holds so many packets
+unfoldable pub part_of : ℕ → List ℕ → Part
+part_of capacity bytes = part_at capacity 0 bytes

@@ -2,6 +2,7 @@ pub mod Words
 pub mod Reading
 pub mod Outcome
 pub mod Judging
+pub mod Items
 pub mod Playing
 pub mod Run
 pub mod Replay

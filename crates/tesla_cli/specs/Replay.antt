@@ -1,39 +1,40 @@
 -- What each part of a replay can come to.
-use Rattle.std.specs.Prelude.{◌≡◌, ◌⊎◌, ℕ, List, Option, Result, Ok, Err}
+use Rattle.std.specs.Prelude.{◌≡◌, ◌⊎◌, ℕ, Option, List, Result, Ok, Err}
 use Rattle.tesla_commit.specs.Parts.{Parts}
-use Rattle.tesla_desk.specs.Outside.{Page}
+use Rattle.tesla_capture.specs.Gathering.{Gathers}
+use Rattle.tesla_desk.specs.Outside.{Page, AppendsFront}
 use Rattle.tesla_desk.specs.declared.desk.OpenRefusal.{OpenRefusal}
 use Rattle.tesla_desk.specs.declared.desk.OpenRefusal.TheVariants as openings
-use Rattle.tesla_cli.specs.Run.{Plan, IsFault, IsOutcomeOf, Leaves, out_text}
+use Rattle.tesla_cli.specs.Playing.{Begins}
+use Rattle.tesla_cli.specs.Run.{Plan, IsFault, IsOutcomeOf, Leaves, out_text, outcome_of}
 use Rattle.tesla_cli.specs.declared.outcome.Outcome.{Outcome}
-use Rattle.tesla_cli.specs.declared.outcome.Outcome.TheVariants.{Done, Usage, SetupBad, SetupLater, CaptureBad, CaptureLater, ReadFault, WriteFault, NoMemory, OpenFault}
+use Rattle.tesla_cli.specs.declared.outcome.Outcome.TheVariants.{Done, Usage, SetupRefused, SetupLater, CaptureRefused, CaptureLater, ReadFault, WriteFault, NoMemory, OpenFault}
 use Rattle.tesla_cli.specs.declared.reading.ReadRefusal.{ReadRefusal}
 use Rattle.tesla_cli.specs.declared.reading.ReadRefusal.TheVariants as refusals
 
--- a capture is refused
-abbrev pub IsCaptureRefusal : Outcome → Type 0
-IsCaptureRefusal CaptureBad = Unit {0}
-IsCaptureRefusal CaptureLater = Unit {0}
-IsCaptureRefusal _ = ⊥
+-- what the source of a capture comes to
+abbrev pub OfCapture : Outcome → Type 0
+OfCapture (Done report) = Unit {0}
+OfCapture (CaptureRefused place kind) = Unit {0}
+OfCapture (CaptureLater place) = Unit {0}
+OfCapture ReadFault = Unit {0}
+OfCapture WriteFault = Unit {0}
+OfCapture NoMemory = Unit {0}
+OfCapture _ = ⊥
 
--- what the bytes of a capture come to
-abbrev pub OfBytes : Outcome → Type 0
-OfBytes (Done report) = Unit {0}
-OfBytes CaptureBad = Unit {0}
-OfBytes CaptureLater = Unit {0}
-OfBytes WriteFault = Unit {0}
-OfBytes NoMemory = Unit {0}
-OfBytes _ = ⊥
+-- the plan was played to that outcome, and its text was written, but for what is held
+abbrev pub IsPlayed : Plan → Outcome → Option (List ℕ) → Option (List ℕ) → List ℕ → Type 0
+IsPlayed plan outcome before now held = (outcome ≡ outcome_of (Ok plan)) × Gathers before now held (out_text (Ok plan))
 
--- what the file of a capture comes to: where it is refused nothing is written
-abbrev pub OfCapture : Outcome → Option (List ℕ) → Option (List ℕ) → Type 0
-OfCapture (Done report) before now = Unit {0}
-OfCapture CaptureBad before now = now ≡ before
-OfCapture CaptureLater before now = now ≡ before
-OfCapture ReadFault before now = Unit {0}
-OfCapture WriteFault before now = Unit {0}
-OfCapture NoMemory before now = Unit {0}
-OfCapture _ before now = ⊥
+-- what a plan comes to before what is held is written
+abbrev pub IsReady : Plan → Outcome → Option (List ℕ) → Option (List ℕ) → List ℕ → Type 0
+IsReady plan (Done report) before now held = IsPlayed plan (Done report) before now held
+IsReady plan (CaptureRefused place kind) before now held = IsPlayed plan (CaptureRefused place kind) before now held
+IsReady plan (CaptureLater place) before now held = IsPlayed plan (CaptureLater place) before now held
+IsReady plan ReadFault before now held = Begins before now held (out_text (Ok plan))
+IsReady plan NoMemory before now held = Begins before now held (out_text (Ok plan))
+IsReady plan WriteFault before now held = AppendsFront before now (out_text (Ok plan))
+IsReady plan _ before now held = ⊥
 
 -- what a file that wasn't read comes to
 abbrev pub IsUnread : ReadRefusal → Outcome → Type 0
@@ -47,7 +48,7 @@ IsUnopened openings.NoMemory outcome = outcome ≡ NoMemory
 
 -- why there is no setup
 abbrev pub OfSetup : Outcome → Type 0
-OfSetup SetupBad = Unit {0}
+OfSetup (SetupRefused line kind) = Unit {0}
 OfSetup SetupLater = Unit {0}
 OfSetup ReadFault = Unit {0}
 OfSetup NoMemory = Unit {0}
@@ -63,7 +64,7 @@ OfReading _ = ⊥
 
 -- why a text gives no setup
 abbrev pub OfText : Outcome → Type 0
-OfText SetupBad = Unit {0}
+OfText (SetupRefused line kind) = Unit {0}
 OfText SetupLater = Unit {0}
 OfText NoMemory = Unit {0}
 OfText _ = ⊥
@@ -76,7 +77,7 @@ SetupIs judged (Err outcome) = (judged ≡ Err outcome) ⊎ IsFault outcome
 -- what the file of a capture comes to
 abbrev pub OfCaptureFile : Outcome → Type 0
 OfCaptureFile Usage = ⊥
-OfCaptureFile SetupBad = ⊥
+OfCaptureFile (SetupRefused line kind) = ⊥
 OfCaptureFile SetupLater = ⊥
 OfCaptureFile _ = Unit {0}
 

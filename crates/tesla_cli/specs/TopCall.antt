@@ -1,14 +1,14 @@
 -- What a run of the commands does, for all words and desks.
-use Rattle.std.specs.Prelude.{◌≡◌, ◌≢◌, ◌⊎◌, ℕ, Bool, true, false, List, codes, Result, Ok, Err}
+use Rattle.std.specs.Prelude.{◌≡◌, ◌≢◌, ◌⊎◌, ℕ, Bool, true, false, List, [], ◌∷◌, Option, codes, Result, Ok, Err, ◌<◌, ◌-◌, ◌^◌}
 use Rattle.tesla_commit.specs.Parts.{Parts}
 use Rattle.tesla_desk.specs.Faults.{Faults}
-use Rattle.tesla_desk.specs.Outside.{Page, Untold, Absent, Holds}
+use Rattle.tesla_desk.specs.Outside.{Page, Untold, Absent, Holds, Opening, OfSource, OfSink}
 use Rattle.tesla_cli.specs.declared.outcome.Outcome.{Outcome}
 use Rattle.tesla_cli.specs.declared.outcome.Outcome.TheVariants.{Usage, ReadFault, WriteFault, NoMemory, OpenFault}
 use Rattle.tesla_cli.specs.Words.{Asked, IsReplay}
 use Rattle.tesla_cli.specs.Outcome.{text_of}
 use Rattle.tesla_cli.specs.Replay.{OfCaptureFile, OfSetup, PlaysFile}
-use Rattle.tesla_cli.specs.Run.{setup_judged, plan_of, IsFault, Keeps, HasCauses}
+use Rattle.tesla_cli.specs.Run.{setup_judged, plan_of, IsFault, Keeps, HasCauses, AsksFront}
 
 -- a setup that isn't one of one chain is refused so, and one of one chain is not refused, unless something failed
 abbrev pub SetupSays : Result Parts Outcome → Outcome → Type 0
@@ -27,8 +27,16 @@ pub record Replays (asked : Asked) (before after : List ℕ → Page) (outcome :
   pub no_capture : before asked.capture ≡ Absent → OfSetup outcome
   -- the outcome is the one that both files decide, unless something failed, and the output holds the release records
   pub plays : (text bytes : List ℕ) (failed other : Bool) → before asked.setup ≡ Holds text failed → before asked.capture ≡ Holds bytes other → PlaysFile (plan_of asked text bytes) outcome (before asked.out) (after asked.out)
-  -- the output is empty where the capture is refused, and untouched where the setup is
+  -- the output is there where the capture was played, and untouched where it wasn't opened
   pub keeps : Keeps outcome (before asked.out) (after asked.out)
+
+-- the files of a replay, in the order in which they are opened
+abbrev pub files_of : Asked → List Opening
+files_of asked = OfSource asked.setup ∷ OfSource asked.capture ∷ OfSink asked.out ∷ []
+
+-- the console, which is opened first
+abbrev pub console : Opening
+console = OfSink (codes "-")
 
 -- the words are no form
 abbrev pub IsNoForm : List (List ℕ) → Type 0
@@ -50,15 +58,25 @@ abbrev pub Prints : Outcome → Page → Page → Type 0
 Prints outcome before after =
     ((after ≡ before) × ((outcome ≡ OpenFault) ⊎ (outcome ≡ NoMemory))) ⊎ HoldsLines outcome after
 
--- one run
-pub record Run (words : List (List ℕ)) (before after : List ℕ → Page) (old new : Faults) (outcome : Outcome) : Type 0 where
+-- one run: before and after are the pages of the desk as far as they are told, old and new its counts of faults, and asked and more the openings that it was asked for
+pub record Run (words : List (List ℕ)) (before after : List ℕ → Page) (old new : Faults) (asked more : Option (List Opening)) (outcome : Outcome) : Type 0 where
   -- words that are no form are refused so, if the console was opened
   pub usage : IsNoForm words → (outcome ≡ Usage) ⊎ (outcome ≡ OpenFault) ⊎ (outcome ≡ NoMemory)
   -- words that are a form are replayed
-  pub replay : (asked : Asked) → IsReplay words asked → Replays asked before after outcome
+  pub replay : (form : Asked) → IsReplay words form → Replays form before after outcome
   -- the console holds exactly the lines of the outcome
-  pub console : Prints outcome (before (codes "-")) (after (codes "-"))
+  pub console_is : Prints outcome (before (codes "-")) (after (codes "-"))
   -- nothing else is written
   pub pages : (name : List ℕ) → name ≢ codes "-" → IsUnwritten words name → after name ≡ before name
+  -- nothing is opened but the console, and then the files of the form, each once and in order
+  pub opens : (form : Asked) → IsReplay words form → AsksFront (console ∷ files_of form) asked more
+  -- where the words are no form, nothing but the console
+  pub opens_alone : IsNoForm words → AsksFront (console ∷ []) asked more
   -- each fault has its cause
   pub causes : HasCauses old new (outcome ≡ ReadFault) (outcome ≡ WriteFault) (outcome ≡ OpenFault)
+
+-- no count of faults rose, and none stands at the end of its type
+pub record NothingFailed (old new : Faults) : Type 0 where
+  pub reads : (new.reads ≡ old.reads) × (old.reads < 2 ^ 64 - 1)
+  pub writes : (new.writes ≡ old.writes) × (old.writes < 2 ^ 64 - 1)
+  pub openings : (new.openings ≡ old.openings) × (old.openings < 2 ^ 64 - 1)

@@ -1,11 +1,9 @@
 //! The files of a replay, each opened, used and closed.
 
-ghost use Rattle.std.specs.Prelude.{◌≡◌, ◌≢◌, ◌≤◌, ℕ, List, Bool, take, Some, Err, IfOk, IfErr};
-ghost use Rattle.tesla_desk.specs.Faults.{HasCause};
-ghost use Rattle.tesla_desk.specs.Outside.{Absent, Holds};
-ghost use Rattle.tesla_cli.specs.Judging.{capture_judged};
+ghost use Rattle.std.specs.Prelude.{◌≡◌, ◌≢◌, ◌≤◌, ℕ, List, [], ◌∷◌, Bool, take, Some, Ok, Err, IfOk, IfErr};
+ghost use Rattle.tesla_desk.specs.Outside.{Absent, Holds, OfSource, OfSink, with_opening};
 ghost use Rattle.tesla_cli.specs.Replay.{IsUnread, IsUnopened, OfReading, OfText, OfSetup, OfCaptureFile, SetupIs, PlaysFile};
-ghost use Rattle.tesla_cli.specs.Run.{HasCauses, IsFault, setup_judged, planned, config_with, Keeps};
+ghost use Rattle.tesla_cli.specs.Run.{HasCauses, IsFault, setup_judged, planned, config_with, Keeps, AsksFront};
 
 use crate::replay::play_file;
 use crate::{Outcome, ReadRefusal, ReplayWords, read_up_to};
@@ -37,6 +35,7 @@ pub fn unopened(refusal: OpenRefusal) -> Outcome
 }
 
 // The bytes under a name, up to `most` of them.
+#[tactic(auto, using(crate::proofs::Openings::asks_first, crate::proofs::Openings::asks_refused, crate::proofs::Openings::asks_closed))]
 fn read_file<D: Desk>(
     alloc: Global,
     name: &str,
@@ -47,6 +46,8 @@ fn read_file<D: Desk>(
     ensures absent { IfOk result (λ read. D.page desk.old name.now ≡ Absent → ⊥) }
     ensures kind { IfErr result OfReading }
     ensures pages { (n : List ℕ) → D.page desk.new n ≡ D.page desk.old n }
+    ensures asked { AsksFront (OfSource name.now ∷ []) (D.openings desk.old) (D.openings desk.new) }
+    ensures asked_all { IfOk result (λ read. D.openings desk.new ≡ with_opening (D.openings desk.old) (OfSource name.now)) }
     ensures causes { HasCauses (D.faults desk.old) (D.faults desk.new) (result ≡ Err Outcome.ReadFault) (result ≡ Err Outcome.WriteFault) (result ≡ Err Outcome.OpenFault) }
 {
     match desk.open_source(name) {
@@ -77,7 +78,7 @@ fn judge_setup(alloc: Global, text: &[u8]) -> Result<Setup, Outcome>
             }
         }
         Err(SetupRefusal::NoMemory) => Err(Outcome::NoMemory),
-        Err(SetupRefusal::At { .. }) => Err(Outcome::SetupBad),
+        Err(SetupRefusal::At { line, kind }) => Err(Outcome::SetupRefused { line, kind }),
     }
 }
 
@@ -88,6 +89,8 @@ pub fn setup_in<D: Desk>(alloc: Global, name: &str, desk: &mut D) -> Result<Setu
     ensures absent { IfErr result (λ outcome. D.page desk.old name.now ≡ Absent → IsFault outcome) }
     ensures kind { IfErr result OfSetup }
     ensures pages { (n : List ℕ) → D.page desk.new n ≡ D.page desk.old n }
+    ensures asked { AsksFront (OfSource name.now ∷ []) (D.openings desk.old) (D.openings desk.new) }
+    ensures asked_all { IfOk result (λ setup. D.openings desk.new ≡ with_opening (D.openings desk.old) (OfSource name.now)) }
     ensures causes { HasCauses (D.faults desk.old) (D.faults desk.new) (result ≡ Err Outcome.ReadFault) (result ≡ Err Outcome.WriteFault) (result ≡ Err Outcome.OpenFault) }
 {
     match read_file(alloc, name, MOST_SETUP, desk) {
@@ -97,6 +100,7 @@ pub fn setup_in<D: Desk>(alloc: Global, name: &str, desk: &mut D) -> Result<Setu
 }
 
 // Plays a capture that was opened, after OUT is opened too.
+#[tactic(auto, using(crate::proofs::Openings::asks_first, crate::proofs::Openings::asks_refused, crate::proofs::Openings::asks_closed))]
 fn play_opened<D: Desk>(
     alloc: Global,
     setup: Setup,
@@ -107,10 +111,11 @@ fn play_opened<D: Desk>(
     requires least { 1 ≤ asked.now.capacity }
     requires most { asked.now.capacity ≤ 65536 }
     requires fresh { D.In.faults source ≡ 0 }
-    ensures plays { (bytes : List ℕ) → D.In.left source ≡ Some bytes → PlaysFile (planned (config_with setup asked.now.lag asked.now.capacity) (capture_judged asked.now.capacity bytes)) result (D.page desk.old asked.now.out.now) (D.page desk.new asked.now.out.now) }
+    ensures plays { (bytes : List ℕ) → D.In.left source ≡ Some bytes → PlaysFile (Ok (planned (config_with setup asked.now.lag asked.now.capacity) bytes)) result (D.page desk.old asked.now.out.now) (D.page desk.new asked.now.out.now) }
     ensures keeps { Keeps result (D.page desk.old asked.now.out.now) (D.page desk.new asked.now.out.now) }
     ensures kind { OfCaptureFile result }
     ensures pages { (n : List ℕ) → n ≢ asked.now.out.now → D.page desk.new n ≡ D.page desk.old n }
+    ensures asked { AsksFront (OfSink asked.now.out.now ∷ []) (D.openings desk.old) (D.openings desk.new) }
     ensures causes { HasCauses (D.faults desk.old) (D.faults desk.new) (result ≡ Outcome.ReadFault) (result ≡ Outcome.WriteFault) (result ≡ Outcome.OpenFault) }
 {
     match desk.open_sink(asked.out) {
@@ -135,6 +140,7 @@ fn play_opened<D: Desk>(
 }
 
 /// Plays the capture of a replay under its setup.
+#[tactic(auto, using(crate::proofs::Openings::asks_then, crate::proofs::Openings::asks_refused))]
 pub fn play_capture<D: Desk>(
     alloc: Global,
     setup: Setup,
@@ -143,11 +149,12 @@ pub fn play_capture<D: Desk>(
 ) -> Outcome
     requires least { 1 ≤ asked.now.capacity }
     requires most { asked.now.capacity ≤ 65536 }
-    ensures plays { (bytes : List ℕ) (failed : Bool) → D.page desk.old asked.now.capture.now ≡ Holds bytes failed → PlaysFile (planned (config_with setup asked.now.lag asked.now.capacity) (capture_judged asked.now.capacity bytes)) result (D.page desk.old asked.now.out.now) (D.page desk.new asked.now.out.now) }
+    ensures plays { (bytes : List ℕ) (failed : Bool) → D.page desk.old asked.now.capture.now ≡ Holds bytes failed → PlaysFile (Ok (planned (config_with setup asked.now.lag asked.now.capacity) bytes)) result (D.page desk.old asked.now.out.now) (D.page desk.new asked.now.out.now) }
     ensures absent { D.page desk.old asked.now.capture.now ≡ Absent → OfSetup result }
     ensures keeps { Keeps result (D.page desk.old asked.now.out.now) (D.page desk.new asked.now.out.now) }
     ensures kind { OfCaptureFile result }
     ensures pages { (n : List ℕ) → n ≢ asked.now.out.now → D.page desk.new n ≡ D.page desk.old n }
+    ensures asked { AsksFront (OfSource asked.now.capture.now ∷ OfSink asked.now.out.now ∷ []) (D.openings desk.old) (D.openings desk.new) }
     ensures causes { HasCauses (D.faults desk.old) (D.faults desk.new) (result ≡ Outcome.ReadFault) (result ≡ Outcome.WriteFault) (result ≡ Outcome.OpenFault) }
 {
     match desk.open_source(asked.capture) {

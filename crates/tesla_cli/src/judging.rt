@@ -1,82 +1,42 @@
-//! Captures in memory, judged before they are played.
+//! The records of a capture that are played.
 
-ghost use Rattle.std.specs.Prelude.{◌≡◌, true, [], None, Err, IfOk, IfErr, MatchOption};
-ghost use Rattle.tesla_capture.specs.Reading.{records_of};
-ghost use Rattle.tesla_capture.specs.Shown.{shown};
-ghost use Rattle.tesla_cli.specs.Replay.{IsCaptureRefusal};
-ghost use Rattle.tesla_cli.specs.Judging.{is_disclosure, are_playable, capture_judged, is_whole, records_in, IsBody, StandsFirst, IsPlayable};
+ghost use Rattle.std.specs.Prelude.{◌≡◌, ◌≤◌, true, false, Some, List, ℕ};
+ghost use Rattle.tesla_desk.specs.Faults.{HasCause};
+ghost use Rattle.tesla_capture.specs.Capture.{Arrives};
+ghost use Rattle.tesla_cli.specs.Judging.{is_disclosure, is_later, part_at};
 
-use crate::Outcome;
-use tesla_capture::{Record, body, is_capture, laws, next_record};
+use tesla_capture::{Reader, RecordKind, Step, laws};
+use tesla_desk::Source;
 
-/// How many bytes a capture has at most.
-pub const MOST_CAPTURE: usize = 1 << 30;
-
-/// What stands after the head of a capture that is played: its records.
-///
-/// Refused, in this order: more than 2^30 bytes are `CaptureLater`; no capture is `CaptureBad`; more
-/// arrivals than the capacity, or an arrival of a disclosure frame, are `CaptureLater`.
-#[tactic(auto, unfolding(crate::specs::Judging::capture_judged))]
-pub fn judge_capture(capacity: u32, bytes: &[u8]) -> Result<&[u8], Outcome>
-    ensures found { IfOk result (λ rest. IsPlayable capacity bytes.now rest.now) }
-    ensures kind { IfErr result IsCaptureRefusal }
-    ensures refused { IfErr result (λ refusal. capture_judged capacity bytes.now ≡ Err refusal) }
-{
-    if MOST_CAPTURE < bytes.len() {
-        return Err(Outcome::CaptureLater);
-    }
-    let Some(rest) = whole_body(bytes) else {
-        return Err(Outcome::CaptureBad);
-    };
-    if !are_playable(capacity, rest) {
-        return Err(Outcome::CaptureLater);
-    }
-    Ok(rest)
+/// Why no record is played any more.
+#[derive(Clone, Copy, Debug, PartialEq, Eq)]
+pub enum Stop {
+    /// The capture ended.
+    End,
+    /// The file is no capture, by the record at this place.
+    Refused { place: u64, kind: RecordKind },
+    /// The record at this place is a disclosure, or the first arrival beyond the capacity.
+    Later { place: u64 },
+    /// A read failed: the source's count of faults rose.
+    ReadFault,
 }
 
-// What stands after the head, where the bytes are a capture.
-fn whole_body(bytes: &[u8]) -> Option<&[u8]>
-    ensures { MatchOption result (records_of bytes.now ≡ None) (λ rest. IsBody bytes.now rest.now) }
-{
-    laws::records();
-    if !is_capture(bytes) {
-        return None;
-    }
-    match body(bytes) {
-        Some(rest) => Some(rest),
-        None => None,
-    }
+/// What is played next.
+#[derive(Clone, Copy, Debug, PartialEq, Eq)]
+pub enum Item {
+    /// A datagram of so many bytes, with what the receiver's clock gave when it came, in microseconds.
+    Arrival { reading: u64, length: u16 },
+    /// A take of the next released packet.
+    Take,
+    /// Nothing more.
+    Stop(Stop),
 }
 
-/// The first record of a rest that holds whole records, with what stands after it.
-pub fn first_record(rest: &[u8]) -> Option<(Record<'_>, &[u8])>
-    requires { is_whole rest.now ≡ true }
-    ensures { MatchOption result (records_in rest.now ≡ []) (λ x. StandsFirst rest.now (shown x.0) x.1.now) }
-{
-    laws::records();
-    match next_record(rest) {
-        Some((record, after)) => Some((record, after)),
-        None => None,
-    }
-}
-
-// Whether there are at most so many arrivals, and none of them is a disclosure.
-fn are_playable(capacity: u32, rest: &[u8]) -> bool
-    requires { is_whole rest.now ≡ true }
-    ensures { result ≡ are_playable capacity (records_in rest.now) }
-{
-    let mut room = capacity;
-    let mut left = rest;
-    while let Some((record, after)) = first_record(left) {
-        if let Record::Arrival { bytes, .. } = record {
-            if room == 0 || is_disclosure(bytes) {
-                return false;
-            }
-            room -= 1;
-        }
-        left = after;
-    }
-    true
+/// The records of a capture that are played, read from a source: those before the first that isn't played.
+#[derive(Drop)]
+pub struct Records {
+    reader: Reader,
+    room: u32,
 }
 
 // Whether the sixth byte says that the frame is a disclosure.
@@ -84,4 +44,54 @@ fn is_disclosure(bytes: &[u8]) -> bool
     ensures { result ≡ is_disclosure bytes.now }
 {
     5 < bytes.len() && bytes[5] == 2
+}
+
+// Whether an arrival isn't played, with room for so many.
+fn is_later(room: u32, datagram: &[u8]) -> bool
+    ensures exact { (reading : ℕ) → result ≡ is_later room (Arrives reading datagram.now) }
+    ensures some { result ≡ false → 1 ≤ room }
+{
+    room == 0 || is_disclosure(datagram)
+}
+
+impl Records {
+    ghost use Rattle.tesla_cli.specs.Items.{ahead, to_play, GivesItem, GoesOn};
+
+    /// The records that are played to a receiver which holds so many packets.
+    pub fn new(capacity: u32) -> Records
+        ensures ahead { (left : List ℕ) → ahead result (Some left) ≡ Some left }
+        ensures part { (bytes : List ℕ) → to_play result bytes ≡ part_at capacity 0 bytes }
+        ensures place { result.reader.place ≡ 0 }
+        ensures going { result.reader.going ≡ true }
+    {
+        Records {
+            reader: Reader::new(),
+            room: capacity,
+        }
+    }
+
+    /// The next record that is played, whose datagram is then at the front of `into`, or why there is none.
+    pub fn next<S: Source>(&mut self, source: &mut S, into: &mut [u8; 2048]) -> Item
+        requires going { self.old.reader.going ≡ true }
+        ensures gives { (rest : List ℕ) → ahead self.old (S.left source.old) ≡ Some rest → GivesItem result (to_play self.old rest) self.new (S.left source.new) into.new }
+        ensures goes { GoesOn result self.old self.new }
+        ensures cause { HasCause (S.faults source.old) (S.faults source.new) (result ≡ Item.Stop Stop.ReadFault) }
+    {
+        laws::outlines();
+        match self.reader.next(source, into) {
+            Step::Arrival { reading, length } => {
+                if is_later(self.room, &into[..length as usize]) {
+                    return Item::Stop(Stop::Later {
+                        place: self.reader.place() - 11 - length as u64,
+                    });
+                }
+                self.room -= 1;
+                Item::Arrival { reading, length }
+            }
+            Step::Take => Item::Take,
+            Step::End => Item::Stop(Stop::End),
+            Step::Refused { place, kind } => Item::Stop(Stop::Refused { place, kind }),
+            Step::ReadFault => Item::Stop(Stop::ReadFault),
+        }
+    }
 }

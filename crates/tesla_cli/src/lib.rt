@@ -3,6 +3,7 @@
 
 mod files;
 mod judging;
+pub mod laws;
 mod outcome;
 mod playing;
 mod reading;
@@ -10,7 +11,6 @@ mod replay;
 mod run;
 mod words;
 
-pub use judging::{first_record, judge_capture};
 pub use outcome::Outcome;
 pub use reading::{ReadRefusal, read_up_to};
 pub use run::run_here;

@@ -1,32 +1,97 @@
 //! The command `replay`: a capture is played to a receiver, and what it releases is written.
 
-ghost use Rattle.std.specs.Prelude.{◌≡◌, ◌≤◌, ◌<◌, ◌^◌, ℕ, List, true, length, Some};
+ghost use Rattle.std.specs.Prelude.{◌≡◌, ◌≢◌, ◌≤◌, ◌<◌, [], ℕ, List, Option, Some, Ok};
+ghost use Rattle.tesla_capture.specs.Gathering.{gathered};
 ghost use Rattle.tesla_desk.specs.Faults.{HasCause};
-ghost use Rattle.tesla_receiver.specs.Played.{played};
-ghost use Rattle.tesla_cli.specs.Judging.{is_whole, records_in, capture_judged};
-ghost use Rattle.tesla_cli.specs.Playing.{ComesTo};
-ghost use Rattle.tesla_cli.specs.Replay.{OfBytes, OfCapture};
-ghost use Rattle.tesla_cli.specs.Run.{config_with, planned, Plays};
+ghost use Rattle.tesla_receiver.specs.History.{Stands};
+ghost use Rattle.tesla_cli.specs.Judging.{part_at};
+ghost use Rattle.tesla_cli.specs.Replay.{OfCapture, IsReady};
+ghost use Rattle.tesla_cli.specs.Run.{Plan, config_with, planned, Plays};
 
-use crate::files::unread;
-use crate::judging::MOST_CAPTURE;
-use crate::playing::play_all;
-use crate::{Outcome, judge_capture, read_up_to};
+use crate::Outcome;
+use crate::judging::Stop;
+use crate::playing::{Ended, Halt, finish, play_all_records};
 use std::alloc::Global;
 use std::marker::Brand;
 use std::sync::ledger::{Blank, Ledger};
 use tesla_base::Steps;
+use tesla_capture::Gatherer;
 use tesla_commit::Setup;
 use tesla_desk::{Sink, Source};
 use tesla_receiver::Receiver;
 
-// Plays the records of a rest to a receiver with one ingest.
-fn play_counted<L: Ledger, O: Sink>(
+// Plays all of a capture to a new receiver with one ingest. What is gathered afterwards is still to be
+// written.
+fn play_all<L: Ledger, S: Source, O: Sink>(
+    receiver: &mut Receiver,
+    capacity: u32,
+    source: &mut S,
+    steps: &mut Steps<L>,
+    gatherer: &mut Gatherer,
+    out: &mut O,
+) -> Outcome
+    requires fresh { Stands receiver.old [] }
+    requires none { gathered gatherer.old ≡ [] }
+    ensures ready { (bytes : List ℕ) → S.left source.old ≡ Some bytes →
+        IsReady (record { config = receiver.old.config; part = part_at capacity 0 bytes }) result (O.written out.old) (O.written out.new) (gathered gatherer.new) }
+    ensures kind { OfCapture result }
+    ensures reads { HasCause (S.faults source.old) (S.faults source.new) (result ≡ Outcome.ReadFault) }
+    ensures writes { HasCause (O.faults out.old) (O.faults out.new) (result ≡ Outcome.WriteFault) }
+    ensures name { O.name out.new ≡ O.name out.old }
+{
+    match play_all_records(receiver, capacity, source, steps, gatherer, out) {
+        Ended::Stopped(Stop::End) => {
+            if finish(receiver, gatherer, out) {
+                Outcome::Done(receiver.report())
+            } else {
+                Outcome::WriteFault
+            }
+        }
+        Ended::Stopped(Stop::Refused { place, kind }) => Outcome::CaptureRefused { place, kind },
+        Ended::Stopped(Stop::Later { place }) => Outcome::CaptureLater { place },
+        Ended::Stopped(Stop::ReadFault) => Outcome::ReadFault,
+        Ended::Halted(Halt::WriteFault) => Outcome::WriteFault,
+        Ended::Halted(Halt::NoMemory) => Outcome::NoMemory,
+    }
+}
+
+// Writes what is gathered. After a read fault or for want of memory the outcome stays, whatever becomes of
+// that; else a failed write is the outcome.
+fn settle<O: Sink>(outcome: Outcome, mut gatherer: Gatherer, out: &mut O) -> Outcome
+    requires kind { OfCapture outcome }
+    ensures plays { (plan : Plan) (first : Option (List ℕ)) → IsReady plan outcome first (O.written out.old) (gathered gatherer) → Plays (Ok plan) result first (O.written out.new) }
+    ensures kind { OfCapture result }
+    ensures read { result ≡ Outcome.ReadFault → outcome ≡ Outcome.ReadFault }
+    ensures cause { HasCause (O.faults out.old) (O.faults out.new) ((result ≡ Outcome.WriteFault) × (outcome ≢ Outcome.WriteFault)) }
+    ensures name { O.name out.new ≡ O.name out.old }
+{
+    match outcome {
+        Outcome::WriteFault => Outcome::WriteFault,
+        Outcome::ReadFault => {
+            let _ = gatherer.flush(out);
+            Outcome::ReadFault
+        }
+        Outcome::NoMemory => {
+            let _ = gatherer.flush(out);
+            Outcome::NoMemory
+        }
+        _ => {
+            if gatherer.flush(out) {
+                outcome
+            } else {
+                Outcome::WriteFault
+            }
+        }
+    }
+}
+
+// Plays a capture, with a ledger for its evaluations.
+fn play_counted<L: Ledger, S: Source, O: Sink>(
     alloc: Global,
     setup: Setup,
     lag: i64,
     capacity: u32,
-    rest: &[u8],
+    source: &mut S,
     out: &mut O,
     blank: Blank,
 ) -> Outcome
@@ -35,45 +100,33 @@ fn play_counted<L: Ledger, O: Sink>(
     requires some { 0 < L.parts }
     requires least { 1 ≤ capacity }
     requires most { capacity ≤ 65536 }
-    requires whole { is_whole rest.now ≡ true }
-    requires short { length rest.now ≤ 2 ^ 30 }
-    ensures comes { ComesTo (played (config_with setup lag capacity) (records_in rest.now) true) result (O.written out.old) (O.written out.new) }
-    ensures cause { HasCause (O.faults out.old) (O.faults out.new) (result ≡ Outcome.WriteFault) }
+    ensures plays { (bytes : List ℕ) → S.left source.old ≡ Some bytes → Plays (Ok (planned (config_with setup lag capacity) bytes)) result (O.written out.old) (O.written out.new) }
+    ensures kind { OfCapture result }
+    ensures reads { HasCause (S.faults source.old) (S.faults source.new) (result ≡ Outcome.ReadFault) }
+    ensures writes { HasCause (O.faults out.old) (O.faults out.new) (result ≡ Outcome.WriteFault) }
     ensures name { O.name out.new ≡ O.name out.old }
 {
+    let Ok(mut receiver) = Receiver::open(alloc, setup, lag, capacity, 1) else {
+        return Outcome::NoMemory;
+    };
     let mut steps = Steps::<L>::new(blank);
-    match Receiver::open(alloc, setup, lag, capacity, 1) {
-        Ok(mut receiver) => play_all(&mut receiver, rest, &mut steps, out),
-        Err(_) => Outcome::NoMemory,
-    }
+    let mut gatherer = Gatherer::new();
+    let outcome = play_all(
+        &mut receiver,
+        capacity,
+        source,
+        &mut steps,
+        &mut gatherer,
+        out,
+    );
+    settle(outcome, gatherer, out)
 }
 
-// Judges the bytes of a capture, and plays its records.
-fn play_bytes<O: Sink>(
-    alloc: Global,
-    setup: Setup,
-    lag: i64,
-    capacity: u32,
-    bytes: &[u8],
-    out: &mut O,
-) -> Outcome
-    requires least { 1 ≤ capacity }
-    requires most { capacity ≤ 65536 }
-    ensures plays { Plays (planned (config_with setup lag capacity) (capture_judged capacity bytes.now)) result (O.written out.old) (O.written out.new) }
-    ensures kind { OfBytes result }
-    ensures cause { HasCause (O.faults out.old) (O.faults out.new) (result ≡ Outcome.WriteFault) }
-    ensures name { O.name out.new ≡ O.name out.old }
-{
-    match judge_capture(capacity, bytes) {
-        Ok(rest) => {
-            let blank = Blank::new(1);
-            play_counted::<Brand, O>(alloc, setup, lag, capacity, rest, out, blank)
-        }
-        Err(refusal) => refusal,
-    }
-}
-
-/// Reads a capture and plays its records.
+/// Plays a capture that is read from a source, and writes what its packets release to a sink.
+///
+/// At the end of the capture, and at a place of it that is refused or not played, all release records so far
+/// are written before the answer. After a failed read and for want of memory they are written too, if that
+/// goes through.
 pub fn play_file<S: Source, O: Sink>(
     alloc: Global,
     setup: Setup,
@@ -84,14 +137,12 @@ pub fn play_file<S: Source, O: Sink>(
 ) -> Outcome
     requires least { 1 ≤ capacity }
     requires most { capacity ≤ 65536 }
-    ensures plays { (bytes : List ℕ) → S.left source.old ≡ Some bytes → Plays (planned (config_with setup lag capacity) (capture_judged capacity bytes)) result (O.written out.old) (O.written out.new) }
-    ensures kind { OfCapture result (O.written out.old) (O.written out.new) }
-    ensures read_cause { HasCause (S.faults source.old) (S.faults source.new) (result ≡ Outcome.ReadFault) }
-    ensures write_cause { HasCause (O.faults out.old) (O.faults out.new) (result ≡ Outcome.WriteFault) }
+    ensures plays { (bytes : List ℕ) → S.left source.old ≡ Some bytes → Plays (Ok (planned (config_with setup lag capacity) bytes)) result (O.written out.old) (O.written out.new) }
+    ensures kind { OfCapture result }
+    ensures reads { HasCause (S.faults source.old) (S.faults source.new) (result ≡ Outcome.ReadFault) }
+    ensures writes { HasCause (O.faults out.old) (O.faults out.new) (result ≡ Outcome.WriteFault) }
     ensures name { O.name out.new ≡ O.name out.old }
 {
-    match read_up_to(alloc, source, MOST_CAPTURE + 1) {
-        Ok(bytes) => play_bytes(alloc, setup, lag, capacity, bytes.as_slice(), out),
-        Err(refusal) => unread(refusal),
-    }
+    let blank = Blank::new(1);
+    play_counted::<Brand, S, O>(alloc, setup, lag, capacity, source, out, blank)
 }

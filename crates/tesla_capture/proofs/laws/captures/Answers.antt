@@ -1,4 +1,4 @@
-use Rattle.tesla_capture.proofs.Records.{capture_takes, capture_again}
+use Rattle.tesla_capture.proofs.Records.{capture_takes, capture_again, is_refused}
 use Rattle.tesla_capture.proofs.laws.captures.Goals as goal
 
 pub returns-clause-found : goal.returns-clause-found
@@ -6,3 +6,6 @@ returns-clause-found c = capture_takes
 
 pub returns-clause-only : goal.returns-clause-only
 returns-clause-only c = capture_again
+
+pub returns-clause-refused : goal.returns-clause-refused
+returns-clause-refused c = is_refused

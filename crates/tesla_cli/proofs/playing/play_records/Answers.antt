@@ -1,20 +1,24 @@
-use Rattle.std.proofs.Common.{arith}
-use Rattle.tesla_cli.proofs.Stages.{reached_same, reached_on, reached_all, reached_stops, events_first, records_nothing, live_on}
+use Rattle.std.proofs.Common.{◌∙◌, arith, refl}
+use Rattle.tesla_cli.proofs.Reaching.{ahead_on, ended_until}
 use Rattle.tesla_cli.proofs.playing.play_records.Goals as goal
 
-pub returns-in-Err-clause-stops : goal.returns-in-Err-clause-stops
-returns-in-Err-clause-stops g c =
-    reached_stops _ _ _ _ _ _ _ _ (reached_same _ _ _ _ _ _ _ (events_first _ _ _ c.in-Some.ensures) c.loop-first.invariant.played) c.in-Err.ensures.stops
+pub returns-in-Some-clause-plays : goal.returns-in-Some-clause-plays
+returns-in-Some-clause-plays g c bytes told =
+    let reached = c.loop-ended.invariant.played bytes told in
+    ended_until _ _ _ _ _ _ _ _ _ _ _ _ _ _ reached.part (c.in-Some.ensures.plays reached.after reached.left_is)
 
-pub loop-first-preserved : goal.loop-first-preserved
-loop-first-preserved g c = record {
-  live = live_on _ _ _ _ _ c.loop-first.invariant.live c.in-Ok.ensures.plays;
-  whole = c.in-Some.ensures.whole;
-  room = omega (arith, c.in-Some.ensures.shorter, c.in-Ok.ensures.plays.calls);
-  faults = omega (arith, c.play_record.ensures.cause.stays);
-  name = cc (c.play_record.ensures.name);
-  played = reached_on _ _ _ _ _ _ _ _ _ (reached_same _ _ _ _ _ _ _ (events_first _ _ _ c.in-Some.ensures) c.loop-first.invariant.played) c.in-Ok.ensures.plays;
-}
-
-pub returns-clause-plays : goal.returns-clause-plays
-returns-clause-plays g c = reached_all _ _ _ _ _ (reached_same _ _ _ _ _ _ _ (records_nothing _ c.in_default.ensures) c.loop-first.invariant.played)
+pub loop-ended-preserved : goal.loop-ended-preserved
+loop-ended-preserved g c =
+    let up = c.in-None.ensures.rises refl in
+    record {
+      live = c.play_next.ensures.live;
+      calls = omega (arith, c.loop-ended.invariant.calls, c.play_next.ensures.calls, up.rises);
+      limited = up.limited;
+      going = up.going;
+      reads = omega (arith, c.loop-ended.invariant.reads, c.play_next.ensures.reads.stays);
+      writes = omega (arith, c.loop-ended.invariant.writes, c.play_next.ensures.writes.stays);
+      name = c.play_next.ensures.name ∙ c.loop-ended.invariant.name;
+      played = λ bytes told.
+          let reached = c.loop-ended.invariant.played bytes told in
+          ahead_on _ _ _ _ _ _ _ _ _ _ _ _ _ _ reached (c.in-None.ensures.plays reached.after reached.left_is);
+    }

@@ -1,0 +1,13 @@
+use Rattle.std.proofs.Common.{◌≡◌, ◌≤◌, ◌-◌, length}
+use Rattle.tesla_capture.specs.Steps.{pending, ahead}
+use Rattle.tesla_capture.proofs.reader.Reader.find_head.Given as goal
+
+abbrev pub invariant-loop-found : goal.invariant-loop-found
+invariant-loop-found g l = record {
+  place : l.self.place ≡ 0;
+  same : ahead l.self (g.S.Source.left l.source) ≡ ahead l.initial.self (g.S.Source.left l.initial.source);
+  faults : g.S.Source.faults l.initial.source ≤ g.S.Source.faults l.source;
+}
+
+abbrev pub decreases-loop-found : goal.decreases-loop-found
+decreases-loop-found g l = 4096 - length (pending l.self)

@@ -1,0 +1,301 @@
+//! A capture read from a source, record after record.
+
+ghost use Rattle.std.specs.Prelude.{◌≡◌, ◌<◌, ◌≤◌, ◌+◌, ◌-◌, ◌^◌, [], List, ℕ, Option, true, None, Some, IfSome, length, take, drop};
+ghost use Rattle.tesla_desk.specs.Faults.{HasCause};
+ghost use Rattle.tesla_capture.specs.Capture.{limit};
+
+use crate::reading::{Found, HeadFound, head_found, record_found};
+use crate::record::{RecordKind, Step};
+use tesla_desk::{ReadStep, Source};
+
+/// How many bytes a reader holds at most, and asks for at once.
+const PIECE: usize = 4096;
+
+/// How many bytes a capture has at most.
+const LIMIT: u64 = 1 << 40;
+
+/// Reads a capture of at most 2^40 bytes. It holds at most 4,096 bytes that it has read ahead.
+#[derive(Drop)]
+pub struct Reader {
+    piece: [u8; 4096],
+    from: usize,
+    until: usize,
+    place: u64,
+    going: bool,
+    ghost ordered: { from ≤ until },
+    ghost within: { until ≤ 4096 },
+    ghost limited: { place + (until - from) ≤ 2 ^ 40 },
+}
+
+impl Reader {
+    ghost use Rattle.tesla_capture.specs.Steps.{pending, ahead, Gives, Moves, goes_on};
+    ghost use Rattle.tesla_capture.specs.Found.{Finds, Stands, Awaits, FindsHead, StandsHead, ReadsOn};
+
+    /// A reader that has read nothing. It takes no memory.
+    pub fn new() -> Reader
+        ensures pending { pending result ≡ [] }
+        ensures place { result.place ≡ 0 }
+        ensures going { result.going ≡ true }
+    {
+        Reader {
+            piece: [0; 4096],
+            from: 0,
+            until: 0,
+            place: 0,
+            going: true,
+        }
+    }
+
+    /// A reader that has nothing pending at a place.
+    #[cfg(test)]
+    pub(crate) fn at(place: u64) -> Reader
+        requires { place ≤ limit }
+    {
+        Reader {
+            piece: [0; 4096],
+            from: 0,
+            until: 0,
+            place,
+            going: true,
+        }
+    }
+
+    /// Whether the last step gave a record, or there was none yet.
+    pub fn going(&self) -> bool
+        ensures { result ≡ self.now.going }
+    {
+        self.going
+    }
+
+    /// How many bytes were taken as whole records, with the head; 0 before the first step.
+    pub fn place(&self) -> u64
+        ensures value { result ≡ self.now.place }
+        ensures limited { result ≤ limit }
+    {
+        self.place
+    }
+
+    /// The next record, whose datagram is put at the front of `into`, or why there is none. The source is
+    /// asked for more only while neither a whole record nor a refused place is pending, and for no byte
+    /// behind the first 2^40 but the one that tells whether the file goes on there. It takes no memory.
+    ///
+    /// `Refused` comes exactly where the file is no capture by the record at that place, `End` exactly where
+    /// it ends after a whole record or the head, and `ReadFault` only where the source's count of faults
+    /// rose.
+    pub fn next<S: Source>(&mut self, source: &mut S, into: &mut [u8; 2048]) -> Step
+        requires going { self.old.going ≡ true }
+        ensures gives { (rest : List ℕ) → ahead self.old (S.left source.old) ≡ Some rest → Gives result self.old.place rest self.new.place (ahead self.new (S.left source.new)) into.new }
+        ensures moves { Moves result self.old.place self.new.place }
+        ensures limited { self.new.place ≤ limit }
+        ensures goes { self.new.going ≡ goes_on result }
+        ensures cause { HasCause (S.faults source.old) (S.faults source.new) (result ≡ Step.ReadFault) }
+    {
+        let step = self.step(source, into);
+        self.going = matches!(step, Step::Arrival { .. } | Step::Take);
+        step
+    }
+
+    /// What `next` answers.
+    fn step<S: Source>(&mut self, source: &mut S, into: &mut [u8; 2048]) -> Step
+        ensures gives { (rest : List ℕ) → ahead self.old (S.left source.old) ≡ Some rest → Gives result self.old.place rest self.new.place (ahead self.new (S.left source.new)) into.new }
+        ensures moves { Moves result self.old.place self.new.place }
+        ensures cause { HasCause (S.faults source.old) (S.faults source.new) (result ≡ Step.ReadFault) }
+    {
+        if self.place != 0 {
+            return self.next_record(source, into);
+        }
+        match self.find_head(source) {
+            HeadFound::Whole => {
+                self.advance(5);
+                self.next_record(source, into)
+            }
+            HeadFound::Bad => Step::Refused {
+                place: 0,
+                kind: RecordKind::BadHead,
+            },
+            HeadFound::Failed => Step::ReadFault,
+        }
+    }
+
+    /// What comes next after the head.
+    fn next_record<S: Source>(&mut self, source: &mut S, into: &mut [u8; 2048]) -> Step
+        requires { 0 < self.old.place }
+        ensures gives { (rest : List ℕ) → ahead self.old (S.left source.old) ≡ Some rest → Gives result self.old.place rest self.new.place (ahead self.new (S.left source.new)) into.new }
+        ensures moves { Moves result self.old.place self.new.place }
+        ensures cause { HasCause (S.faults source.old) (S.faults source.new) (result ≡ Step.ReadFault) }
+    {
+        let found = self.find_record(source);
+        self.take_record(found, into)
+    }
+
+    /// Takes the record that was found, or says why there is none.
+    fn take_record(&mut self, found: Found, into: &mut [u8; 2048]) -> Step
+        requires placed { 0 < self.old.place }
+        requires stands { Stands found (pending self.old) }
+        ensures gives { (rest : List ℕ) (left : Option (List ℕ)) → Finds found self.old.place (pending self.old) rest left → Gives result self.old.place rest self.new.place (ahead self.new left) into.new }
+        ensures moves { Moves result self.old.place self.new.place }
+        ensures failed { result ≡ Step.ReadFault → found ≡ Found.Failed }
+    {
+        match found {
+            Found::Arrival { reading, length } => {
+                self.take_arrival(length as usize, into);
+                Step::Arrival { reading, length }
+            }
+            Found::Take => {
+                self.advance(1);
+                Step::Take
+            }
+            Found::Refused(kind) => Step::Refused {
+                place: self.place,
+                kind,
+            },
+            Found::End => Step::End,
+            Found::Failed => Step::ReadFault,
+        }
+    }
+
+    /// Takes an arrival of so many bytes, which are put at the front of `into`.
+    fn take_arrival(&mut self, count: usize, into: &mut [u8; 2048])
+        requires whole { 11 + count ≤ length (pending self.old) }
+        requires few { count ≤ 2048 }
+        ensures pending { pending self.new ≡ drop (11 + count) (pending self.old) }
+        ensures datagram { take count into.new ≡ take count (drop 11 (pending self.old)) }
+        ensures place { self.new.place ≡ self.old.place + (11 + count) }
+    {
+        into[..count].copy_from_slice(&self.pending()[11..11 + count]);
+        self.advance(11 + count);
+    }
+
+    /// Reads on until it is known whether the head is there.
+    fn find_head<S: Source>(&mut self, source: &mut S) -> HeadFound
+        requires { self.old.place ≡ 0 }
+        ensures place { self.new.place ≡ 0 }
+        ensures stands { StandsHead result (pending self.new) }
+        ensures finds { (rest : List ℕ) → ahead self.old (S.left source.old) ≡ Some rest → FindsHead result (pending self.new) rest (S.left source.new) }
+        ensures cause { HasCause (S.faults source.old) (S.faults source.new) (result ≡ HeadFound.Failed) }
+    {
+        loop {
+            if let Some(found) = head_found(self.pending()) {
+                return found;
+            }
+            match self.read_on(source) {
+                ReadStep::Got(_) => {}
+                ReadStep::End => return HeadFound::Bad,
+                ReadStep::Failed => return HeadFound::Failed,
+            }
+        }
+    }
+
+    /// Reads on until it is known what comes next.
+    fn find_record<S: Source>(&mut self, source: &mut S) -> Found
+        ensures place { self.new.place ≡ self.old.place }
+        ensures stands { Stands result (pending self.new) }
+        ensures finds { (rest : List ℕ) → ahead self.old (S.left source.old) ≡ Some rest → Finds result self.new.place (pending self.new) rest (S.left source.new) }
+        ensures cause { HasCause (S.faults source.old) (S.faults source.new) (result ≡ Found.Failed) }
+    {
+        loop {
+            if let Some(found) = record_found(self.pending()) {
+                return found;
+            }
+            if let Some(found) = self.find_end(source) {
+                return found;
+            }
+        }
+    }
+
+    /// Reads once where neither a whole record nor a refused one is pending. None: there are more bytes.
+    fn find_end<S: Source>(&mut self, source: &mut S) -> Option<Found>
+        requires { Awaits (pending self.old) }
+        ensures place { self.new.place ≡ self.old.place }
+        ensures more { result ≡ None → length (pending self.old) < length (pending self.new) }
+        ensures ahead { result ≡ None → ahead self.new (S.left source.new) ≡ ahead self.old (S.left source.old) }
+        ensures stands { IfSome result (λ found. Stands found (pending self.new)) }
+        ensures finds { IfSome result (λ found. (rest : List ℕ) → ahead self.old (S.left source.old) ≡ Some rest → Finds found self.new.place (pending self.new) rest (S.left source.new)) }
+        ensures cause { HasCause (S.faults source.old) (S.faults source.new) (result ≡ Some Found.Failed) }
+    {
+        if self.place + self.held() as u64 == LIMIT {
+            return Some(self.find_past(source));
+        }
+        match self.read_on(source) {
+            ReadStep::Got(_) => None,
+            ReadStep::End if self.held() == 0 => Some(Found::End),
+            ReadStep::End => Some(Found::Refused(RecordKind::Truncated)),
+            ReadStep::Failed => Some(Found::Failed),
+        }
+    }
+
+    /// Whether the file goes on where its first 2^40 bytes were read.
+    fn find_past<S: Source>(&self, source: &mut S) -> Found
+        requires awaits { Awaits (pending self.now) }
+        requires full { self.now.place + length (pending self.now) ≡ limit }
+        ensures stands { Stands result (pending self.now) }
+        ensures finds { (rest : List ℕ) → ahead self.now (S.left source.old) ≡ Some rest → Finds result self.now.place (pending self.now) rest (S.left source.new) }
+        ensures cause { HasCause (S.faults source.old) (S.faults source.new) (result ≡ Found.Failed) }
+    {
+        if 0 < self.held() {
+            return Found::Refused(RecordKind::TooLarge);
+        }
+        match source.read(&mut [0]) {
+            ReadStep::Got(_) => Found::Refused(RecordKind::TooLarge),
+            ReadStep::End => Found::End,
+            ReadStep::Failed => Found::Failed,
+        }
+    }
+
+    /// Reads once behind the pending bytes, as many as there is room for within the limit.
+    fn read_on<S: Source>(&mut self, source: &mut S) -> ReadStep
+        requires few { length (pending self.old) < 4096 }
+        requires below { self.old.place + length (pending self.old) < limit }
+        ensures place { self.new.place ≡ self.old.place }
+        ensures reads { ReadsOn result (pending self.old) (S.left source.old) (pending self.new) (S.left source.new) }
+        ensures cause { HasCause (S.faults source.old) (S.faults source.new) (result ≡ ReadStep.Failed) }
+    {
+        self.move_to_front();
+        let most = LIMIT - self.place;
+        let end = if most < 4096 { most as usize } else { PIECE };
+        let until = self.until;
+        let step = source.read(&mut self.piece[until..end]);
+        if let ReadStep::Got(count) = step {
+            self.until = until + count;
+        }
+        step
+    }
+
+    /// Moves the pending bytes to the front of the piece.
+    fn move_to_front(&mut self)
+        ensures pending { pending self.new ≡ pending self.old }
+        ensures from { self.new.from ≡ 0 }
+        ensures place { self.new.place ≡ self.old.place }
+    {
+        if 0 < self.from {
+            let (from, until) = (self.from, self.until);
+            self.piece.copy_within(from..until, 0);
+            self.from = 0;
+            self.until = until - from;
+        }
+    }
+
+    /// The bytes that were read and not taken yet.
+    fn pending(&self) -> &[u8]
+        ensures { result.now ≡ pending self.now }
+    {
+        &self.piece[self.from..self.until]
+    }
+
+    /// How many bytes are pending.
+    fn held(&self) -> usize
+        ensures { result ≡ length (pending self.now) }
+    {
+        self.until - self.from
+    }
+
+    /// Takes so many of the pending bytes.
+    fn advance(&mut self, count: usize)
+        requires { count ≤ length (pending self.old) }
+        ensures pending { pending self.new ≡ drop count (pending self.old) }
+        ensures place { self.new.place ≡ self.old.place + count }
+    {
+        self.from += count;
+        self.place += count as u64;
+    }
+}
