@@ -56,10 +56,12 @@ fn base_setup(rt: HostRuntime) -> Result<(), Fail> {
     )?;
     assert_eq!(rt; made.count(), 2);
     assert_eq!(rt; made.row(1), second);
-    let text = write_setup(rt.alloc(), &made)
-        .ok()
-        .ok_or("there is memory")?;
-    assert_eq!(rt; text.as_slice(), BASE.as_bytes());
+    for written in [&setup, &made] {
+        let text = write_setup(rt.alloc(), written)
+            .ok()
+            .ok_or("there is memory")?;
+        assert_eq!(rt; text.as_slice(), BASE.as_bytes());
+    }
     Ok(())
 }
 
@@ -96,32 +98,84 @@ fn refused_rows(rt: HostRuntime) -> Result<(), Fail> {
 }
 
 #[test]
-fn refused_texts(rt: HostRuntime) -> Result<(), Fail> {
+fn refused_opening(rt: HostRuntime) -> Result<(), Fail> {
     let changes = [
         ("tesla 1", "tesla 2", "1 BadLine"),
+        ("tesla 1", "tesla 3", "1 BadLine"),
+        ("tesla 1", "tesla 01", "1 BadLine"),
+        ("tesla 1", "tesla\t1", "1 BadLine"),
+        ("tesla 1", " tesla 1", "1 BadLine"),
+        ("tesla 1", "tesla 1 1", "1 BadLine"),
         ("tesla 1\n", "tesla 1\r\n", "1 BadLine"),
+        ("tesla 1\n", "tesla 1\n\n", "2 BadLine"),
         ("stream 0", "Stream 0", "2 BadLine"),
+        ("stream 0", "stream\t0", "2 BadLine"),
+        ("stream 0", "stream 0 0", "2 BadLine"),
         ("stream 0", "stream ", "2 BadHex"),
+        ("stream 0", "stream 00", "2 BadHex"),
         ("a7", "A7", "2 BadHex"),
+        ("a7", "g7", "2 BadHex"),
+    ];
+    for (old, new, wanted) in changes {
+        let given = told_with(rt.alloc(), old, new)?;
+        assert_eq!(rt; given.as_str(), wanted, "{old} to {new}");
+    }
+    Ok(())
+}
+
+#[test]
+fn refused_times(rt: HostRuntime) -> Result<(), Fail> {
+    let changes = [
         ("start 1", "start  1", "3 BadLine"),
+        ("start 1", "start 01", "3 BadNumber"),
+        ("start 1", "start +1", "3 BadNumber"),
+        ("start 1000000", "start 1000000\r", "3 BadNumber"),
         ("start 1000000", "start 18446744073709551616", "3 BadNumber"),
         ("start 1000000", "start 18446744073709551615", "setup"),
+        ("start 1000000", "start 0", "setup"),
+        ("start 1000000", "start ", "3 BadNumber"),
         ("start 1000000", "start -1", "3 BadNumber"),
         ("interval 100000", "interval 999", "4 LimitPassed"),
+        ("interval 100000", "interval 1000", "setup"),
+        ("interval 100000", "interval 3600000000", "setup"),
         ("interval 100000", "interval 3600000001", "4 LimitPassed"),
         ("interval 100000", "interval 01000", "4 BadNumber"),
         ("last 8", "last 08", "5 BadNumber"),
         ("last 8", "last 0", "5 LimitPassed"),
+        ("last 8", "last 1048576", "setup"),
         ("last 8", "last 1048577", "5 LimitPassed"),
         ("last 8\n", "last 8 \n", "5 BadLine"),
+        ("last 8\n", "last 8 8\n", "5 BadLine"),
         ("last 8", "last  8", "5 BadLine"),
+        ("last 8\n", "last 8", "5 BadLine"),
+    ];
+    for (old, new, wanted) in changes {
+        let given = told_with(rt.alloc(), old, new)?;
+        assert_eq!(rt; given.as_str(), wanted, "{old} to {new}");
+    }
+    Ok(())
+}
+
+#[test]
+fn refused_chains(rt: HostRuntime) -> Result<(), Fail> {
+    let changes = [
         ("chain 2", "chains 2", "6 BadLine"),
+        ("chain 2 0", "chain 2  0", "6 BadLine"),
+        ("chain 2 0", "chain 2 0 0", "6 BadLine"),
+        ("chain 2 0", "chain 2", "6 BadLine"),
         ("chain 2 0", "chain 02 0", "6 BadNumber"),
+        ("chain 2 0", "chain 2 +0", "6 BadNumber"),
+        ("chain 2 0", "chain 2 00", "6 BadNumber"),
         ("chain 2 0", "chain 0 00", "6 BadNumber"),
+        ("chain 2 0", "chain 0 x", "6 BadNumber"),
         ("chain 2 0", "chain 2 18446744073709551616", "6 BadNumber"),
+        ("chain 2 0", "chain 2 99999999999999999999", "6 BadNumber"),
         ("chain 2 0", "chain 0 0", "6 LimitPassed"),
         ("chain 2 0 d", "chain 0 0 D", "6 LimitPassed"),
         ("chain 2 0 d", "chain 2 0 D", "6 BadHex"),
+        ("chain 2 0 d", "chain 2 0 ", "6 BadHex"),
+        ("chain 2 0 d", "chain 2 0 dd", "6 BadHex"),
+        ("chain 2 0 d", "chain 2 9 D", "6 BadHex"),
         ("chain 2 0", "chain 2 9", "6 IndexPastLast"),
         (
             "chain 2 0",
@@ -130,9 +184,16 @@ fn refused_texts(rt: HostRuntime) -> Result<(), Fail> {
         ),
         ("chain 2 0", "chain 2 8", "setup"),
         ("chain 2 0", "chain 5 0", "7 DelaysNotRising"),
+        ("chain 2 0", "chain 6 0", "7 DelaysNotRising"),
         ("chain 5 0", "chain 2 9", "7 DelaysNotRising"),
         ("chain 5 0 9", "chain 1 0 E", "7 BadHex"),
+        ("chain 5 0", "chain 4096 0", "setup"),
         ("chain 5 0", "chain 4097 0", "7 LimitPassed"),
+        ("ced\n", "ced \n", "7 BadLine"),
+        ("ced\n", "ced\r\n", "7 BadHex"),
+        ("ced\n", "ced", "7 BadLine"),
+        ("ced\n", "ced\n\n", "8 BadLine"),
+        ("ced\n", "ced\nx", "8 BadLine"),
     ];
     for (old, new, wanted) in changes {
         let given = told_with(rt.alloc(), old, new)?;
