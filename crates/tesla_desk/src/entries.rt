@@ -1,6 +1,6 @@
 //! Entries that a desk in memory keeps, the newest first.
 
-ghost use Rattle.std.specs.Prelude.{◌≡◌, ◌∷◌, ◌++◌, OnOk, is_ok, option_map, bytes_eq, if◌then◌else◌};
+ghost use Rattle.std.specs.Prelude.{◌≡◌, [], ◌∷◌, ◌++◌, IfOk, OnOk, is_ok, option_map, bytes_eq, if◌then◌else◌};
 ghost use Rattle.tesla_desk.specs.Stored.{entries_in, newest, values_under};
 
 use std::alloc::Global;
@@ -31,10 +31,11 @@ impl<T> Named<T> {
 }
 
 impl<T> Entries<T> {
-    /// A box for one entry more.
+    /// A box for one entry more, which is made before anything changes.
     pub fn spare(alloc: Global) -> Result<Box<Entries<T>>, NoMemory>
     where
         T: Drop,
+        ensures { IfOk result (λ spare. entries_in spare.value ≡ []) }
     {
         Ok(Box::new(alloc, Entries::Empty)?)
     }
