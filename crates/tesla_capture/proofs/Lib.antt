@@ -5,4 +5,5 @@ pub mod Nexts
 pub mod Outlines
 pub mod Whys
 pub mod Records
+pub mod Refusals
 pub mod Appended

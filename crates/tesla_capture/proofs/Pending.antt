@@ -236,7 +236,7 @@ above_short : (o : Option (ℕ × List ℕ)) (n : ℕ) → n < 2 → is_above (c
 above_short o n few = (let test : ltb n 2 ≡ true = lt-ltb _ _ few in rw test refl)
 
 -- fewer than 11 bytes
-short_tells : (rest : List ℕ) → length rest < 10 → Tells None (1 ∷ rest)
+pub short_tells : (rest : List ℕ) → length rest < 10 → Tells None (1 ∷ rest)
 short_tells rest few =
     part_awaits rest (omega arith) (above_short _ (length (drop 8 rest)) (omega (arith, length-drop 8 rest)))
     (λ left x e. let a = arrival_parts (rest ++ left) x e in omega (arith, arrival_size (rest ++ left) x a))
@@ -295,7 +295,7 @@ front_of_head bytes left few is =
     sym (take_at bytes left (length bytes) refl) ∙ sym (take-take (length bytes) 5 (bytes ++ left) (omega arith)) ∙ ap (take (length bytes)) is
 
 -- what stands behind the head stands behind it
-head_is : (bytes rest : List ℕ) → body_of bytes ≡ Some rest → take 5 bytes ≡ head
+pub head_is : (bytes rest : List ℕ) → body_of bytes ≡ Some rest → take 5 bytes ≡ head
 unfolding body_of
 head_is bytes rest e =
     let a = bind_some (bytes_front 5 bytes) (λ front. cond (bytes_eq front.0 head) (Some front.1) None) rest e in

@@ -6,7 +6,7 @@ use Rattle.std.proofs.lemmas.List.Concat.{flat_map-cons}
 use Rattle.std.proofs.lemmas.Slice.Eq.{bytes_eq-Decides}
 use Rattle.tesla_base.specs.Front.{AreBytes, bytes_front}
 use Rattle.tesla_base.proofs.Fronts.{bind_some, test_some, some_is, bytes_take, bytes_again}
-use Rattle.tesla_capture.specs.Capture.{Record, head, record_text, capture_text, limit, IsRecord, IsCapture}
+use Rattle.tesla_capture.specs.Capture.{Record, head, record_text, limit, IsRecord, IsCapture}
 use Rattle.tesla_capture.specs.Reading.{Next, Ended, Recorded, Refuses, Outline, record_at, body_of, next_by, record_next, after_head, next_at, with_record, outline_by, outline_within, outline_at, outline_of, refused_at}
 use Rattle.tesla_capture.specs.declared.record.RecordKind.{RecordKind}
 use Rattle.tesla_capture.specs.declared.record.RecordKind.TheVariants.{BadHead, BadKind, Truncated, TooLong, TooLarge}
@@ -96,7 +96,7 @@ of_body : (bytes rest : List ℕ) → body_of bytes ≡ Some rest → outline_of
 unfolding outline_at outline_within next_at
 of_body bytes rest e = ap (λ (o : Option (List ℕ)). outline_by (outline_within (length bytes)) (after_head o)) e
 
-of_other : (bytes : List ℕ) → body_of bytes ≡ None → outline_of bytes ≡ record { records = []; fault = Some (0, BadHead) }
+pub of_other : (bytes : List ℕ) → body_of bytes ≡ None → outline_of bytes ≡ record { records = []; fault = Some (0, BadHead) }
 unfolding outline_at outline_within next_at
 of_other bytes e = ap (λ (o : Option (List ℕ)). outline_by (outline_within (length bytes)) (after_head o)) e
 
@@ -149,32 +149,49 @@ nothing_is_next : (place : ℕ) → record_next place [] ≡ Ended
 unfolding record_next
 nothing_is_next place = refl
 
-again_within : (n place : ℕ) (records : List Record) → length (flat_map record_text records) < n → 0 < place → place + length (flat_map record_text records) ≤ limit → AllByRecursion IsRecord records → outline_within n place (flat_map record_text records) ≡ record { records = records; fault = None }
+-- behind the last record stands what comes next
+outline_next : (after : ℕ → List ℕ → Outline) (fault : Option (ℕ × RecordKind)) → outline_by after (next_of fault) ≡ record { records = []; fault = fault }
+outline_next after None = refl
+outline_next after (Some x) = refl
+
+-- records one after the other, and what comes next behind them
+again_within : (n place : ℕ) (records : List Record) (left : List ℕ) (fault : Option (ℕ × RecordKind)) → length (flat_map record_text records ++ left) < n → 0 < place → place + length (flat_map record_text records) ≤ limit → AllByRecursion IsRecord records → record_next (place + length (flat_map record_text records)) left ≡ next_of fault → outline_within n place (flat_map record_text records ++ left) ≡ record { records = records; fault = fault }
 unfolding outline_within
-again_within zero place records enough some close are = absurd (omega arith)
-again_within (suc n) place [] enough some close are = ap (outline_by (outline_within n)) (next_is place [] some ∙ nothing_is_next place)
-again_within (suc n) place (first ∷ records) enough some close are =
-    let after : List ℕ = flat_map record_text records in
-    let text : flat_map record_text (first ∷ records) ≡ record_text first ++ after = flat_map-cons record_text first records in
-    let size : length (flat_map record_text (first ∷ records)) ≡ length (record_text first) + length after = ap length text ∙ length-append (record_text first) after in
-    let whole : record_at (flat_map record_text (first ∷ records)) ≡ Some (first, after) = ap record_at text ∙ record_again first after are.0 in
-    let short = record_shorter (flat_map record_text (first ∷ records)) (first, after) whole in
+again_within zero place records left fault enough some close are next = absurd (omega arith)
+again_within (suc n) place [] left fault enough some close are next =
+    ap (outline_by (outline_within n)) (next_is place left some ∙ ap (λ (k : ℕ). record_next k left) (omega arith) ∙ next) ∙ outline_next (outline_within n) fault
+again_within (suc n) place (first ∷ records) left fault enough some close are next =
+    let others : List ℕ = flat_map record_text records in
+    let after : List ℕ = others ++ left in
+    let all : List ℕ = flat_map record_text (first ∷ records) ++ left in
+    let first_text : flat_map record_text (first ∷ records) ≡ record_text first ++ others = flat_map-cons record_text first records in
+    let text : all ≡ record_text first ++ after = ap (λ (t : List ℕ). t ++ left) first_text ∙ append_assoc (record_text first) others left in
+    let size : length (flat_map record_text (first ∷ records)) ≡ length (record_text first) + length others = ap length first_text ∙ length-append (record_text first) others in
+    let whole : record_at all ≡ Some (first, after) = ap record_at text ∙ record_again first after are.0 in
+    let short = record_shorter all (first, after) whole in
     let now : ℕ = place + length (record_text first) in
-    let next : next_at place (flat_map record_text (first ∷ records)) ≡ Recorded first now after =
-    next_is place (flat_map record_text (first ∷ records)) some ∙ record_is_next place (flat_map record_text (first ∷ records)) (first, after) whole (omega (arith, size, close)) in
-    ap (outline_by (outline_within n)) next
-    ∙ ap (with_record first) (again_within n now records (omega (arith, short, enough)) (omega (arith, some)) (omega (arith, size, close)) are.1)
+    let one : next_at place all ≡ Recorded first now after = next_is place all some ∙ record_is_next place all (first, after) whole (omega (arith, size, close)) in
+    let sum : now + length others ≡ place + length (flat_map record_text (first ∷ records)) = omega (arith, size) in
+    ap (outline_by (outline_within n)) one
+    ∙ ap (with_record first) (again_within n now records left fault (omega (arith, short, enough)) (omega (arith, some)) (omega (arith, size, close)) are.1 (ap (λ (k : ℕ). record_next k left) sum ∙ next))
 
 body_again : (rest : List ℕ) → body_of (head ++ rest) ≡ Some rest
 unfolding body_of
 body_again rest = (let front : bytes_front 5 (head ++ rest) ≡ Some (head, rest) = bytes_again 5 head rest refl in rw front refl)
+
+-- records behind the head, and what comes next behind them
+pub behind_head : (bytes : List ℕ) (records : List Record) (left : List ℕ) (fault : Option (ℕ × RecordKind)) → bytes ≡ head ++ flat_map record_text records ++ left → AllByRecursion IsRecord records → 5 + length (flat_map record_text records) ≤ limit → record_next (5 + length (flat_map record_text records)) left ≡ next_of fault → outline_of bytes ≡ record { records = records; fault = fault }
+behind_head bytes records left fault whole are close next =
+    let behind = flat_map record_text records ++ left in
+    ap outline_of whole ∙ of_body (head ++ behind) behind (body_again behind) ∙ again_within (suc (length (head ++ behind))) 5 records left fault (omega arith) (omega arith) close are next
 
 pub capture_again : (bytes : List ℕ) (records : List Record) → IsCapture bytes records → outline_of bytes ≡ record { records = records; fault = None }
 capture_again bytes records is =
     let text = flat_map record_text records in
     let size = ap length is.spelled in
     let fits = is.fits in
-    ap outline_of is.spelled ∙ of_body (capture_text records) text (body_again text) ∙ again_within (suc (length (capture_text records))) 5 records (omega arith) (omega arith) (omega arith) is.limits
+    let whole : bytes ≡ head ++ text ++ [] = is.spelled ∙ ap (λ (t : List ℕ). head ++ t) (sym (append-nil text)) in
+    behind_head bytes records [] None whole is.limits (omega arith) (nothing_is_next (5 + length text))
 
 -- ---- a file with a refused place
 

@@ -96,6 +96,7 @@ tells_length p more n fits long e =
       reading = take 8 p;
       more = n.1 ++ more;
       eight = length-take-le 8 p (omega arith);
+      fits = t.1;
       spelled = ap (λ (r : List ℕ). 1 ∷ r ++ more) parts ∙ append_assoc (1 ∷ take 8 p ++ to_be_bytes w16 n.0) n.1 more;
     }
 

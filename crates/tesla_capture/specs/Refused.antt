@@ -1,16 +1,17 @@
 -- Why a file is no capture, and at which place.
-use Rattle.std.specs.Prelude.{◌≡◌, ◌≢◌, ◌⊎◌, ℕ, ◌+◌, ◌-◌, ◌<◌, ◌≤◌, List, [], ◌∷◌, ◌++◌, length, take}
+use Rattle.std.specs.Prelude.{◌≡◌, ◌≢◌, ◌⊎◌, ℕ, ◌+◌, ◌-◌, ◌^◌, ◌<◌, ◌≤◌, List, [], ◌∷◌, ◌++◌, length, take}
 use Rattle.std.specs.List.{AllByRecursion}
 use Rattle.std.specs.Int.{w16, to_be_bytes}
 use Rattle.tesla_capture.specs.Capture.{Record, IsRecord, head, capture_text, limit}
 use Rattle.tesla_capture.specs.declared.record.RecordKind.{RecordKind}
 use Rattle.tesla_capture.specs.declared.record.RecordKind.TheVariants.{BadHead, BadKind, Truncated, TooLong, TooLarge}
 
--- an arrival tells this length, behind its kind and the eight bytes of its reading
+-- an arrival tells this length, a number of two bytes, behind its kind and the eight bytes of its reading
 pub record TellsLength (bytes : List ℕ) (n : ℕ) : Type 0 where
   pub reading : List ℕ
   pub more : List ℕ
   pub eight : length reading ≡ 8
+  pub fits : n < 2 ^ 16
   pub spelled : bytes ≡ 1 ∷ reading ++ to_be_bytes w16 n ++ more
 
 -- an arrival that isn't whole: its length isn't there yet, or is within the limit and its datagram isn't there yet

@@ -16,6 +16,8 @@ pub fn captures()
     ensures only { (bytes : List ℕ) (records : List Record) → IsCapture bytes records → outline_of bytes ≡ record { records = records; fault = None } }
     // A refused place has its cause.
     ensures refused { (bytes : List ℕ) (place : ℕ) (kind : RecordKind) → AreBytes bytes → (outline_of bytes).fault ≡ Some (place, kind) → IsRefused bytes (outline_of bytes).records place kind }
+    // What has such a cause is refused there, after these records.
+    ensures refused_only { (bytes : List ℕ) (records : List Record) (place : ℕ) (kind : RecordKind) → IsRefused bytes records place kind → outline_of bytes ≡ record { records = records; fault = Some (place, kind) } }
 {}
 
 /// The outline of the rest of a file, one record after the other.

@@ -202,17 +202,13 @@ causes_printed f0 f1 f2 f3 outcome printed Failed opened closed opening run tell
 no_faults : (faults : ℕ) → nat_lt 0 faults ≡ false → faults ≡ 0
 no_faults faults e = grind (arith, nat_tests)
 
-lines_where : (printed : Outcome) (held : List ℕ) (failed : Bool) → (failed ≡ false → held ≡ text_of printed) → HoldsLines printed (Holds held failed)
-lines_where printed held true told = tt
-lines_where printed held false told = told refl
+whole_console : (written now : Option (List ℕ)) (faults : ℕ) (printed : Outcome) → IfSome written (λ front. front ≡ []) → (faults ≡ 0 → now ≡ with_bytes written (text_of printed)) → (IsDone printed → now ≡ with_bytes written (text_of printed)) → HoldsLines printed (page_of now faults)
+whole_console written None faults printed empty told whole = tt
+whole_console written (Some held) faults printed empty told whole = λ sure.
+    let text : Some held ≡ with_bytes written (text_of printed) = elim sure [ inl none ↦ told (no_faults faults none) | inr done ↦ whole done ] in
+    first_written written (Some held) (text_of printed) held empty text refl
 
-whole_console : (written now : Option (List ℕ)) (faults : ℕ) (printed : Outcome) → IfSome written (λ front. front ≡ []) → (faults ≡ 0 → now ≡ with_bytes written (text_of printed)) → HoldsLines printed (page_of now faults)
-whole_console written None faults printed empty told = tt
-whole_console written (Some held) faults printed empty told =
-    lines_where printed held (nat_lt 0 faults)
-    (λ none. first_written written (Some held) (text_of printed) held empty (told (no_faults faults none)) refl)
-
--- a console that did not fail holds the lines
-pub prints_whole : (before after : Page) (written now : Option (List ℕ)) (faults : ℕ) (printed : Outcome) → IfSome written (λ front. front ≡ []) → (faults ≡ 0 → now ≡ with_bytes written (text_of printed)) → after ≡ page_of now faults → Prints printed before after
-prints_whole before after written now faults printed empty told page =
-    inr (subst (HoldsLines printed) (sym page) (whole_console written now faults printed empty told))
+-- a console that did not fail holds the lines, and any console a report
+pub prints_whole : (before after : Page) (written now : Option (List ℕ)) (faults : ℕ) (printed : Outcome) → IfSome written (λ front. front ≡ []) → (faults ≡ 0 → now ≡ with_bytes written (text_of printed)) → (IsDone printed → now ≡ with_bytes written (text_of printed)) → after ≡ page_of now faults → Prints printed before after
+prints_whole before after written now faults printed empty told whole page =
+    inr (subst (HoldsLines printed) (sym page) (whole_console written now faults printed empty told whole))

@@ -1,12 +1,12 @@
 -- What a run of the commands does, for all words and desks.
-use Rattle.std.specs.Prelude.{◌≡◌, ◌≢◌, ◌⊎◌, ℕ, Bool, true, false, List, [], ◌∷◌, Option, codes, Result, Ok, Err, ◌<◌, ◌-◌, ◌^◌}
+use Rattle.std.specs.Prelude.{◌≡◌, ◌≢◌, ◌⊎◌, ℕ, Bool, false, List, [], ◌∷◌, Option, codes, Result, Ok, Err, ◌<◌, ◌-◌, ◌^◌}
 use Rattle.tesla_commit.specs.Parts.{Parts}
 use Rattle.tesla_desk.specs.Faults.{Faults}
 use Rattle.tesla_desk.specs.Outside.{Page, Untold, Absent, Holds, Opening, OfSource, OfSink}
 use Rattle.tesla_cli.specs.declared.outcome.Outcome.{Outcome}
 use Rattle.tesla_cli.specs.declared.outcome.Outcome.TheVariants.{Usage, ReadFault, WriteFault, NoMemory, OpenFault}
 use Rattle.tesla_cli.specs.Words.{Asked, IsReplay}
-use Rattle.tesla_cli.specs.Outcome.{text_of}
+use Rattle.tesla_cli.specs.Outcome.{text_of, IsDone}
 use Rattle.tesla_cli.specs.Replay.{OfCaptureFile, OfSetup, PlaysFile}
 use Rattle.tesla_cli.specs.Run.{setup_judged, plan_of, IsFault, Keeps, HasCauses, AsksFront}
 
@@ -46,12 +46,11 @@ IsNoForm words = (asked : Asked) → IsReplay words asked → ⊥
 pub record IsUnwritten (words : List (List ℕ)) (name : List ℕ) : Type 0 where
   pub out : (asked : Asked) → IsReplay words asked → name ≢ asked.out
 
--- the page holds the lines of the outcome, unless a write to it failed
+-- the page holds the lines of the outcome, unless a write to it failed; a report is there in any case
 abbrev pub HoldsLines : Outcome → Page → Type 0
 HoldsLines outcome Untold = Unit {0}
 HoldsLines outcome Absent = ⊥
-HoldsLines outcome (Holds text true) = Unit {0}
-HoldsLines outcome (Holds text false) = text ≡ text_of outcome
+HoldsLines outcome (Holds text failed) = ((failed ≡ false) ⊎ IsDone outcome) → text ≡ text_of outcome
 
 -- the console: it wasn't opened, or it holds the lines of the outcome
 abbrev pub Prints : Outcome → Page → Page → Type 0

@@ -1,6 +1,6 @@
 //! What a command comes to, and the lines that tell it.
 
-ghost use Rattle.std.specs.Prelude.{◌≡◌, ◌++◌, string_bytes, IfOk, OnOk, MatchOption, codes};
+ghost use Rattle.std.specs.Prelude.{◌≡◌, ◌++◌, string_bytes, IfOk, OnOk, IfSome, MatchOption, codes};
 ghost use Rattle.tesla_capture.specs.Names as records;
 ghost use Rattle.tesla_commit.specs.Names as setups;
 ghost use Rattle.tesla_desk.specs.Faults.{HasCause};
@@ -129,7 +129,8 @@ fn numbers_text(alloc: Global, outcome: &Outcome) -> Result<String, NoMemory>
 
 // The line of an outcome that has no numbers.
 fn plain_line(outcome: &Outcome) -> Option<&'static [u8]>
-    ensures { MatchOption result (HasNumbers outcome.now) (λ line. line.now ≡ text_of outcome.now) }
+    ensures text { MatchOption result (HasNumbers outcome.now) (λ line. line.now ≡ text_of outcome.now) }
+    ensures plain { IfSome result (λ line. IsDone outcome.now → ⊥) }
 {
     match outcome {
         Outcome::Usage => Some(b"usage: replay SETUP LAG CAPACITY CAPTURE OUT\n"),
@@ -159,6 +160,7 @@ fn print_text<S: Sink>(console: &mut S, text: &[u8], outcome: Outcome) -> Outcom
     requires { text.now ≡ text_of outcome }
     ensures tells { TellsOutcome outcome result }
     ensures told { S.faults console.old ≡ 0 → S.faults console.new ≡ 0 → S.written console.new ≡ with_bytes (S.written console.old) (text_of result) }
+    ensures whole { IsDone result → S.written console.new ≡ with_bytes (S.written console.old) (text_of result) }
     ensures cause { HasCause (S.faults console.old) (S.faults console.new) ((result ≡ Outcome.WriteFault) × IsDone outcome) }
     ensures name { S.name console.new ≡ S.name console.old }
 {
@@ -174,6 +176,7 @@ fn print_text<S: Sink>(console: &mut S, text: &[u8], outcome: Outcome) -> Outcom
 pub fn print<S: Sink>(alloc: Global, console: &mut S, outcome: Outcome) -> Outcome
     ensures tells { TellsOutcome outcome result }
     ensures told { S.faults console.old ≡ 0 → S.faults console.new ≡ 0 → S.written console.new ≡ with_bytes (S.written console.old) (text_of result) }
+    ensures whole { IsDone result → S.written console.new ≡ with_bytes (S.written console.old) (text_of result) }
     ensures cause { HasCause (S.faults console.old) (S.faults console.new) ((result ≡ Outcome.WriteFault) × IsDone outcome) }
     ensures name { S.name console.new ≡ S.name console.old }
 {

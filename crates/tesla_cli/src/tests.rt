@@ -121,3 +121,8 @@ fn expect(
     assert_eq!(rt; given.as_str(), out, "{line}: {told}");
     Ok(())
 }
+
+#[test]
+fn laws_are_called(_rt: HostRuntime) {
+    laws::completeness();
+}

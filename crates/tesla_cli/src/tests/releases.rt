@@ -1,7 +1,7 @@
 //! Replays that release a packet, with files and outputs that move few bytes a call.
 
 use super::{
-    FIRST, HEAD, LINE, ONE_CHAIN, RELEASED, REPORT, SECOND, Setting, desk_with, expect, laws, set,
+    FIRST, HEAD, LINE, ONE_CHAIN, RELEASED, REPORT, SECOND, Setting, desk_with, expect, set,
 };
 use std::test::Fail;
 use tesla_desk::CONSOLE;
@@ -19,7 +19,6 @@ const GAP_RELEASED: &str = "000000000000000000000001000000000161";
 /// The first release of one chain, a key after a gap, and a capture that is cut behind a take.
 #[test]
 fn pieces_of_any_size(rt: HostRuntime) -> Result<(), Fail> {
-    laws::completeness();
     let cut = "3 refused capture 144 Truncated\n";
     let captures = [
         ([HEAD, FIRST, SECOND, ""], REPORT, RELEASED),

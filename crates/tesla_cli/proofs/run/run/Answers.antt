@@ -12,7 +12,7 @@ returns-in-Ok g c =
           replays_told asked _ _ _ _ c.print-printed.ensures.tells
           (replays_pages asked _ _ _ _ _ (c.in-Ok.ensures.pages asked.setup form.names.setup_is.file) (c.in-Ok.ensures.pages asked.capture form.names.capture_is.file) (c.in-Ok.ensures.pages asked.out form.names.out_is.file)
           (c.close_sink.ensures.pages asked.out (λ e. form.names.out_is.file (e ∙ name))) (c.run_words-outcome.ensures.replay asked form));
-      console_is = prints_whole _ _ _ _ _ _ c.in-Ok.ensures.empty (c.print-printed.ensures.told c.in-Ok.ensures.fresh) (ap (λ n. g.D.Desk.page c.close_sink.new.self n) (sym name) ∙ c.close_sink.ensures.own);
+      console_is = prints_whole _ _ _ _ _ _ c.in-Ok.ensures.empty (c.print-printed.ensures.told c.in-Ok.ensures.fresh) c.print-printed.ensures.whole (ap (λ n. g.D.Desk.page c.close_sink.new.self n) (sym name) ∙ c.close_sink.ensures.own);
       pages = λ n other unwritten.
           c.close_sink.ensures.pages n (λ e. other (e ∙ name)) ∙ c.run_words-outcome.ensures.pages n unwritten ∙ c.in-Ok.ensures.pages n other;
       opens = λ form is. asks_closed _ _ _ _ c.close_sink.ensures.asked (asks_then _ _ _ _ _ c.in-Ok.ensures.asked (c.run_words-outcome.ensures.opens form is));
