@@ -7,17 +7,19 @@ use Rattle.tesla_desk.specs.Faults.{Faults, HasCause, CountsOpening, after_sink,
 use Rattle.tesla_desk.specs.Outside.{Page, Untold, Absent, Holds, page_of, with_bytes}
 use Rattle.tesla_desk.proofs.Told.{first_written}
 use Rattle.tesla_desk.proofs.Counts.{rose_where_failed, where_failed_stays}
+use Rattle.tesla_receiver.specs.declared.report.Report.{Report}
 use Rattle.tesla_cli.specs.declared.outcome.Outcome.{Outcome}
 use Rattle.tesla_cli.specs.declared.outcome.Outcome.TheVariants.{Done, Usage, SetupRefused, SetupLater, CaptureRefused, CaptureLater, ReadFault, WriteFault, NoMemory, OpenFault}
 use Rattle.tesla_cli.specs.Words.{Asked}
 use Rattle.tesla_cli.specs.Outcome.{text_of, TellsOutcome, HasNumbers, IsDone}
 use Rattle.tesla_cli.specs.Replay.{OfCaptureFile, OfSetup, PlaysFile}
-use Rattle.tesla_cli.specs.Run.{setup_judged, plan_of, plan_under, planned, config_with, IsFault, HoldsWhere, HoldsUnlessFailed, IsFront, Leaves, Keeps, out_text, HasCauses}
+use Rattle.tesla_cli.specs.Run.{Plan, setup_judged, plan_of, plan_under, planned, outcome_of, IsOutcomeOf, config_with, IsFault, IsSpared, HoldsWhere, HoldsUnlessFailed, IsFront, Leaves, Keeps, out_text, HasCauses}
 use Rattle.tesla_cli.specs.TopCall.{SetupSays, Replays, HoldsLines, Prints}
 
 -- the capture was played under the setup that was judged
-pub replays_played : (asked : Asked) (before mid after : List ℕ → Page) (parts : Parts) (outcome : Outcome) → ((text : List ℕ) (failed : Bool) → before asked.setup ≡ Holds text failed → setup_judged text ≡ Ok parts) → ((name : List ℕ) → mid name ≡ before name) → ((bytes : List ℕ) (failed : Bool) → mid asked.capture ≡ Holds bytes failed → PlaysFile (Ok (planned (config_with parts asked.lag asked.capacity) bytes)) outcome (mid asked.out) (after asked.out)) → Keeps outcome (mid asked.out) (after asked.out) → OfCaptureFile outcome → (before asked.setup ≡ Absent → ⊥) → (mid asked.capture ≡ Absent → OfSetup outcome) → Replays asked before after outcome
-replays_played asked before mid after parts outcome told same plays keeps kind there absent = record {
+pub replays_played : (asked : Asked) (before mid after : List ℕ → Page) (parts : Parts) (outcome : Outcome) → ((text : List ℕ) (failed : Bool) → before asked.setup ≡ Holds text failed → setup_judged text ≡ Ok parts) → ((name : List ℕ) → mid name ≡ before name) → ((bytes : List ℕ) (failed : Bool) → mid asked.capture ≡ Holds bytes failed → PlaysFile (Ok (planned (config_with parts asked.lag asked.capacity) bytes)) outcome (mid asked.out) (after asked.out)) → Keeps outcome (mid asked.out) (after asked.out) → OfCaptureFile outcome → (before asked.setup ≡ Absent → ⊥) → (mid asked.capture ≡ Absent → OfSetup outcome) → (outcome ≡ WriteFault → IsSpared (after asked.out) → ⊥) → Replays asked before after outcome
+replays_played asked before mid after parts outcome told same plays keeps kind there absent own = record {
+  spared = λ text bytes failed other holds_setup holds write spared. absurd (own write spared);
   form = λ e. subst OfCaptureFile e kind;
   no_setup = λ none. absurd (there none);
   no_capture = λ none. absent (same asked.capture ∙ none);
@@ -32,6 +34,8 @@ replays_played asked before mid after parts outcome told same plays keeps kind t
 -- the same pages
 pub replays_pages : (asked : Asked) (before first second after : List ℕ → Page) (outcome : Outcome) → first asked.setup ≡ before asked.setup → first asked.capture ≡ before asked.capture → first asked.out ≡ before asked.out → after asked.out ≡ second asked.out → Replays asked first second outcome → Replays asked before after outcome
 replays_pages asked before first second after outcome setup capture out out_after it = record {
+  spared = λ text bytes failed other holds_setup holds write spared.
+      it.spared text bytes failed other (setup ∙ holds_setup) (capture ∙ holds) write (subst IsSpared out_after spared);
   form = it.form;
   no_setup = λ none. it.no_setup (setup ∙ none);
   no_capture = λ none. it.no_capture (capture ∙ none);
@@ -69,6 +73,7 @@ leaves_lost text OpenFault before after has leaves keeps = absurd has
 -- a text that was lost for want of memory
 lost_memory : (asked : Asked) (before after : List ℕ → Page) (outcome : Outcome) → HasNumbers outcome → Replays asked before after outcome → Replays asked before after NoMemory
 lost_memory asked before after outcome has it = record {
+  spared = λ text bytes failed other holds_setup holds write spared. absurd cc;
   form = λ e. absurd cc;
   no_setup = λ none. tt;
   no_capture = λ none. tt;
@@ -86,56 +91,42 @@ unless_failed text Absent holds = absurd holds
 unless_failed text (Holds bytes true) holds = (length text, holds ∙ sym (take-length text))
 unless_failed text (Holds bytes false) holds = holds
 
--- what a whole replay left and told
-done_leaves : (text : List ℕ) (outcome : Outcome) (before after : Page) → IsDone outcome → Leaves text outcome before after → HoldsWhere after (λ bytes. bytes ≡ text)
-done_leaves text (Done report) before after done leaves = leaves
-done_leaves text Usage before after done leaves = absurd done
-done_leaves text (SetupRefused line kind) before after done leaves = absurd done
-done_leaves text SetupLater before after done leaves = absurd done
-done_leaves text (CaptureRefused place kind) before after done leaves = absurd done
-done_leaves text (CaptureLater place) before after done leaves = absurd done
-done_leaves text ReadFault before after done leaves = absurd done
-done_leaves text WriteFault before after done leaves = absurd done
-done_leaves text NoMemory before after done leaves = absurd done
-done_leaves text OpenFault before after done leaves = absurd done
+-- a whole replay has a report
+done_is : (outcome : Outcome) → IsDone outcome → (report : Report) × (outcome ≡ Done report)
+done_is (Done report) done = (report, refl)
+done_is Usage done = absurd done
+done_is (SetupRefused line kind) done = absurd done
+done_is SetupLater done = absurd done
+done_is (CaptureRefused place kind) done = absurd done
+done_is (CaptureLater place) done = absurd done
+done_is ReadFault done = absurd done
+done_is WriteFault done = absurd done
+done_is NoMemory done = absurd done
+done_is OpenFault done = absurd done
 
-done_keeps : (outcome : Outcome) (before after : Page) → IsDone outcome → Keeps outcome before after → HoldsWhere after (λ bytes. Unit {0})
-done_keeps (Done report) before after done keeps = keeps
-done_keeps Usage before after done keeps = absurd done
-done_keeps (SetupRefused line kind) before after done keeps = absurd done
-done_keeps SetupLater before after done keeps = absurd done
-done_keeps (CaptureRefused place kind) before after done keeps = absurd done
-done_keeps (CaptureLater place) before after done keeps = absurd done
-done_keeps ReadFault before after done keeps = absurd done
-done_keeps WriteFault before after done keeps = absurd done
-done_keeps NoMemory before after done keeps = absurd done
-done_keeps OpenFault before after done keeps = absurd done
+-- a report is what its plan comes to
+done_plan : (plan : Result Plan Outcome) (report : Report) → IsOutcomeOf plan (Done report) → IsDone (outcome_of plan)
+done_plan plan report is = elim is [ inl same ↦ subst IsDone same tt | inr fault ↦ absurd fault ]
 
-done_setup : (outcome : Outcome) → IsDone outcome → OfSetup outcome → ⊥
-done_setup (Done report) done of = of
-done_setup Usage done of = done
-done_setup (SetupRefused line kind) done of = done
-done_setup SetupLater done of = done
-done_setup (CaptureRefused place kind) done of = done
-done_setup (CaptureLater place) done of = done
-done_setup ReadFault done of = done
-done_setup WriteFault done of = done
-done_setup NoMemory done of = done
-done_setup OpenFault done of = done
-
--- a report that was lost since a write failed
-lost_write : (asked : Asked) (before after : List ℕ → Page) (outcome : Outcome) → IsDone outcome → Replays asked before after outcome → Replays asked before after WriteFault
-lost_write asked before after outcome done it = record {
+lost_report : (asked : Asked) (before after : List ℕ → Page) (report : Report) → Replays asked before after (Done report) → Replays asked before after WriteFault
+lost_report asked before after report it = record {
   form = λ e. absurd cc;
   no_setup = λ none. tt;
-  no_capture = λ none. absurd (done_setup outcome done (it.no_capture none));
+  no_capture = λ none. absurd (it.no_capture none);
   setup = λ text failed holds. setup_fault (setup_judged text) WriteFault tt tt;
   plays = λ text bytes failed other holds_setup holds.
       let played = it.plays text bytes failed other holds_setup holds in
-      let whole = done_leaves (out_text (plan_of asked text bytes)) outcome (before asked.out) (after asked.out) done played.leaves in
-      record { outcome_is = inr tt; leaves = unless_failed (out_text (plan_of asked text bytes)) (after asked.out) whole };
-  keeps = done_keeps outcome (before asked.out) (after asked.out) done it.keeps;
+      record { outcome_is = inr tt; leaves = unless_failed (out_text (plan_of asked text bytes)) (after asked.out) played.leaves };
+  spared = λ text bytes failed other holds_setup holds write spared.
+      done_plan (plan_of asked text bytes) report (it.plays text bytes failed other holds_setup holds).outcome_is;
+  keeps = it.keeps;
 }
+
+-- a report that was lost since a write failed
+lost_write : (asked : Asked) (before after : List ℕ → Page) (outcome : Outcome) → IsDone outcome → Replays asked before after outcome → Replays asked before after WriteFault
+lost_write asked before after outcome done it =
+    let whole = done_is outcome done in
+    lost_report asked before after whole.0 (subst (λ (o : Outcome). Replays asked before after o) whole.1 it)
 
 -- a replay stays one when its outcome was printed
 pub replays_told : (asked : Asked) (before after : List ℕ → Page) (outcome printed : Outcome) → TellsOutcome outcome printed → Replays asked before after outcome → Replays asked before after printed

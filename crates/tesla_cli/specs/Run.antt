@@ -127,6 +127,13 @@ HoldsUnlessFailed text Absent = ⊥
 HoldsUnlessFailed text (Holds bytes true) = IsFront text bytes
 HoldsUnlessFailed text (Holds bytes false) = bytes ≡ text
 
+-- the page is told, and its own sink did not fail
+abbrev pub IsSpared : Page → Type 0
+IsSpared Untold = ⊥
+IsSpared Absent = ⊥
+IsSpared (Holds bytes true) = ⊥
+IsSpared (Holds bytes false) = Unit {0}
+
 -- the page of the output afterwards
 abbrev pub Leaves : List ℕ → Outcome → Page → Page → Type 0
 -- where the capture was played up to its end or up to a refused place, it holds the text

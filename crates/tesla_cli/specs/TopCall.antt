@@ -8,7 +8,7 @@ use Rattle.tesla_cli.specs.declared.outcome.Outcome.TheVariants.{Usage, ReadFaul
 use Rattle.tesla_cli.specs.Words.{Asked, IsReplay}
 use Rattle.tesla_cli.specs.Outcome.{text_of, IsDone}
 use Rattle.tesla_cli.specs.Replay.{OfCaptureFile, OfSetup, PlaysFile}
-use Rattle.tesla_cli.specs.Run.{setup_judged, plan_of, IsFault, Keeps, HasCauses, AsksFront}
+use Rattle.tesla_cli.specs.Run.{setup_judged, plan_of, outcome_of, IsFault, IsSpared, Keeps, HasCauses, AsksFront}
 
 -- a setup that isn't one of one chain is refused so, and one of one chain is not refused, unless something failed
 abbrev pub SetupSays : Result Parts Outcome → Outcome → Type 0
@@ -27,6 +27,8 @@ pub record Replays (asked : Asked) (before after : List ℕ → Page) (outcome :
   pub no_capture : before asked.capture ≡ Absent → OfSetup outcome
   -- the outcome is the one that both files decide, unless something failed, and the output holds the release records
   pub plays : (text bytes : List ℕ) (failed other : Bool) → before asked.setup ≡ Holds text failed → before asked.capture ≡ Holds bytes other → PlaysFile (plan_of asked text bytes) outcome (before asked.out) (after asked.out)
+  -- a write fault that isn't the output's own comes of a report: all of the capture was played
+  pub spared : (text bytes : List ℕ) (failed other : Bool) → before asked.setup ≡ Holds text failed → before asked.capture ≡ Holds bytes other → outcome ≡ WriteFault → IsSpared (after asked.out) → IsDone (outcome_of (plan_of asked text bytes))
   -- the output is there where the capture was played, and untouched where it wasn't opened
   pub keeps : Keeps outcome (before asked.out) (after asked.out)
 

@@ -3,7 +3,7 @@
 ghost use Rattle.std.specs.Prelude.{◌≡◌, ◌≢◌, ◌≤◌, ℕ, List, [], ◌∷◌, Bool, take, Some, Ok, Err, IfOk, IfErr};
 ghost use Rattle.tesla_desk.specs.Outside.{Absent, Holds, OfSource, OfSink, with_opening};
 ghost use Rattle.tesla_cli.specs.Replay.{IsUnread, IsUnopened, OfReading, OfText, OfSetup, OfCaptureFile, SetupIs, PlaysFile};
-ghost use Rattle.tesla_cli.specs.Run.{HasCauses, IsFault, setup_judged, planned, config_with, Keeps, AsksFront};
+ghost use Rattle.tesla_cli.specs.Run.{HasCauses, IsFault, setup_judged, planned, config_with, IsSpared, Keeps, AsksFront};
 
 use crate::replay::play_file;
 use crate::{Outcome, ReadRefusal, ReplayWords, read_up_to};
@@ -113,6 +113,7 @@ fn play_opened<D: Desk>(
     requires fresh { D.In.faults source ≡ 0 }
     ensures plays { (bytes : List ℕ) → D.In.left source ≡ Some bytes → PlaysFile (Ok (planned (config_with setup asked.now.lag asked.now.capacity) bytes)) result (D.page desk.old asked.now.out.now) (D.page desk.new asked.now.out.now) }
     ensures keeps { Keeps result (D.page desk.old asked.now.out.now) (D.page desk.new asked.now.out.now) }
+    ensures own { result ≡ Outcome.WriteFault → IsSpared (D.page desk.new asked.now.out.now) → ⊥ }
     ensures kind { OfCaptureFile result }
     ensures pages { (n : List ℕ) → n ≢ asked.now.out.now → D.page desk.new n ≡ D.page desk.old n }
     ensures asked { AsksFront (OfSink asked.now.out.now ∷ []) (D.openings desk.old) (D.openings desk.new) }
@@ -152,6 +153,7 @@ pub fn play_capture<D: Desk>(
     ensures plays { (bytes : List ℕ) (failed : Bool) → D.page desk.old asked.now.capture.now ≡ Holds bytes failed → PlaysFile (Ok (planned (config_with setup asked.now.lag asked.now.capacity) bytes)) result (D.page desk.old asked.now.out.now) (D.page desk.new asked.now.out.now) }
     ensures absent { D.page desk.old asked.now.capture.now ≡ Absent → OfSetup result }
     ensures keeps { Keeps result (D.page desk.old asked.now.out.now) (D.page desk.new asked.now.out.now) }
+    ensures own { result ≡ Outcome.WriteFault → IsSpared (D.page desk.new asked.now.out.now) → ⊥ }
     ensures kind { OfCaptureFile result }
     ensures pages { (n : List ℕ) → n ≢ asked.now.out.now → D.page desk.new n ≡ D.page desk.old n }
     ensures asked { AsksFront (OfSource asked.now.capture.now ∷ OfSink asked.now.out.now ∷ []) (D.openings desk.old) (D.openings desk.new) }

@@ -36,14 +36,14 @@ pub enum Ended {
 
 // Where the datagram of an arrival and the payload of a given packet are put.
 #[derive(Drop)]
-struct Room {
+struct Buffers {
     datagram: [u8; 2048],
     payload: [u8; 1200],
 }
 
-impl Room {
-    fn new() -> Room {
-        Room {
+impl Buffers {
+    fn new() -> Buffers {
+        Buffers {
             datagram: [0; 2048],
             payload: [0; 1200],
         }
@@ -89,12 +89,12 @@ fn play_arrival<L: Ledger>(
     receiver.arrive(0, reading, datagram, steps).is_ok()
 }
 
-// Plays the next record, with room for a datagram and for a payload. None: it was played.
+// Plays the next record. None: it was played.
 fn play_next<L: Ledger, S: Source, O: Sink>(
     receiver: &mut Receiver,
     records: &mut Records,
     source: &mut S,
-    room: &mut Room,
+    buffers: &mut Buffers,
     steps: &mut Steps<L>,
     gatherer: &mut Gatherer,
     out: &mut O,
@@ -111,15 +111,15 @@ fn play_next<L: Ledger, S: Source, O: Sink>(
     ensures writes { HasCause (O.faults out.old) (O.faults out.new) (result ≡ Some (Ended.Halted Halt.WriteFault)) }
     ensures name { O.name out.new ≡ O.name out.old }
 {
-    match records.next(source, &mut room.datagram) {
+    match records.next(source, &mut buffers.datagram) {
         Item::Arrival { reading, length } => {
-            let datagram = &room.datagram[..length as usize];
+            let datagram = &buffers.datagram[..length as usize];
             if !play_arrival(receiver, reading, datagram, steps) {
                 return Some(Ended::Halted(Halt::NoMemory));
             }
         }
         Item::Take => {
-            if !play_take(receiver, &mut room.payload, gatherer, out) {
+            if !play_take(receiver, &mut buffers.payload, gatherer, out) {
                 return Some(Ended::Halted(Halt::WriteFault));
             }
         }
@@ -148,9 +148,17 @@ fn play_records<L: Ledger, S: Source, O: Sink>(
     ensures writes { HasCause (O.faults out.old) (O.faults out.new) (result ≡ Ended.Halted Halt.WriteFault) }
     ensures name { O.name out.new ≡ O.name out.old }
 {
-    let mut room = Room::new();
+    let mut buffers = Buffers::new();
     loop {
-        match play_next(receiver, records, source, &mut room, steps, gatherer, out) {
+        match play_next(
+            receiver,
+            records,
+            source,
+            &mut buffers,
+            steps,
+            gatherer,
+            out,
+        ) {
             Some(ended) => return ended,
             None => {}
         }
