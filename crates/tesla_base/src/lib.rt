@@ -4,6 +4,7 @@
 
 mod field;
 mod front;
+mod kind;
 mod memory;
 mod names;
 mod number;
@@ -12,6 +13,7 @@ mod text;
 
 pub use field::{u16_at, u32_at, u64_at};
 pub use front::{take_u16, take_u32, take_u64};
+pub use kind::Kind;
 pub use memory::NoMemory;
 pub use names::{ChainNo, Key, Name, StreamId, Tag};
 pub use number::{NumberFault, read_decimal, read_signed};
