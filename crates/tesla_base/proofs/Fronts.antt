@@ -1,22 +1,34 @@
 -- What is read off the front of bytes is what was written there, and what was written is read again.
 use Rattle.std.proofs.Common.{◌≡◌, ℕ, zero, suc, ◌^◌, ◌<◌, ◌≤◌, Bool, true, false, cond, ltb, List, [], ◌∷◌, ◌++◌, length, take, drop, get_or, Option, Some, None, refl, sym, ap, subst, ◌∙◌, append_assoc, arith}
 use Rattle.std.specs.Int.{Width, w16, w32, w64, byte_len, from_be_bytes, to_be_bytes}
-use Rattle.std.proofs.lemmas.Bool.{ltb-false, le-ltb}
-use Rattle.std.proofs.lemmas.List.{take_at, drop_at, take-append-drop, length-append, length-take, length-drop}
+use Rattle.std.proofs.lemmas.Bool.{ltb-true, ltb-false, le-ltb}
+use Rattle.std.proofs.lemmas.List.{take_at, drop_at, take-append-le, drop-append-le, take-append-drop, length-append, length-take, length-drop}
 use Rattle.std.proofs.lemmas.Nat.{be_bytes_2, be_bytes_4, be_bytes_8, from_be_bytes-to_be_bytes_2, from_be_bytes-to_be_bytes_4, from_be_bytes-to_be_bytes_8}
 use Rattle.tesla_base.specs.Front.{AreBytes, ◌>>=◌, bytes_front, number_front}
 
 -- ---- bytes
 
-AreBytes-drop : (n : ℕ) (bytes : List ℕ) → AreBytes bytes → AreBytes (drop n bytes)
+-- bytes without their first ones are bytes
+pub AreBytes-drop : (n : ℕ) (bytes : List ℕ) → AreBytes bytes → AreBytes (drop n bytes)
 AreBytes-drop zero bytes h = h
 AreBytes-drop (suc n) [] h = h
 AreBytes-drop (suc n) (b ∷ bytes) h = AreBytes-drop n bytes h.1
 
-AreBytes-take : (n : ℕ) (bytes : List ℕ) → AreBytes bytes → AreBytes (take n bytes)
+-- a front of bytes is bytes
+pub AreBytes-take : (n : ℕ) (bytes : List ℕ) → AreBytes bytes → AreBytes (take n bytes)
 AreBytes-take zero bytes h = tt
 AreBytes-take (suc n) [] h = tt
 AreBytes-take (suc n) (b ∷ bytes) h = (h.0, AreBytes-take n bytes h.1)
+
+-- bytes after bytes are bytes
+pub AreBytes-append : (xs ys : List ℕ) → AreBytes xs → AreBytes ys → AreBytes (xs ++ ys)
+AreBytes-append [] ys h k = k
+AreBytes-append (b ∷ xs) ys h k = (h.0, AreBytes-append xs ys h.1 k)
+
+-- both parts of bytes are bytes
+pub AreBytes-parts : (xs ys : List ℕ) → AreBytes (xs ++ ys) → AreBytes xs × AreBytes ys
+AreBytes-parts [] ys h = (tt, h)
+AreBytes-parts (b ∷ xs) ys h = let parts = AreBytes-parts xs ys h.1 in ((h.0, parts.0), parts.1)
 
 byte_at : (bytes : List ℕ) → AreBytes bytes → (i : ℕ) → get_or bytes i 0 < 256
 byte_at [] h i = omega arith
@@ -43,6 +55,16 @@ guard_some false o y e = (refl, e)
 pub test_some : {A : Type 0} (b : Bool) (o : Option A) (y : A) → cond b o None ≡ Some y → (b ≡ true) × (o ≡ Some y)
 test_some true o y e = (refl, e)
 test_some false o y e = absurd cc
+
+-- a test that failed
+pub guard_none : {A : Type 0} (b : Bool) (x : A) → cond b None (Some x) ≡ None → b ≡ true
+guard_none true x e = refl
+guard_none false x e = absurd cc
+
+-- a step that failed, before one that can't
+pub bind_none : {A B : Type 0} (o : Option A) (f : A → B) → (o >>= λ x. Some (f x)) ≡ None → o ≡ None
+bind_none None f e = refl
+bind_none (Some x) f e = absurd cc
 
 abbrev pub done : {A : Type 0} → A → Option A
 done x = Some x
@@ -136,6 +158,29 @@ field32 = number_field w32 (2 ^ 32) wide32
 
 pub field64 : IsField (number_front w64) (to_be_bytes w64) (λ n. n < 2 ^ 64)
 field64 = number_field w64 (2 ^ 64) wide64
+
+-- ---- what stands behind a number
+
+-- a number that is there has its bytes
+pub number_parts : (w : Width) (bytes : List ℕ) (x : ℕ × List ℕ) → number_front w bytes ≡ Some x → (byte_len w ≤ length bytes) × (x.0 ≡ from_be_bytes w (take (byte_len w) bytes)) × (x.1 ≡ drop (byte_len w) bytes)
+number_parts w bytes x e =
+    let n = byte_len w in
+    let g = guard_some (ltb (length bytes) n) (Some (from_be_bytes w (take n bytes), drop n bytes)) x e in
+    let same = some_is (from_be_bytes w (take n bytes), drop n bytes) x g.1 in
+    (ltb-false _ _ g.0, ap (λ (y : ℕ × List ℕ). y.0) (sym same), ap (λ (y : ℕ × List ℕ). y.1) (sym same))
+
+-- a number that is there stays so, whatever follows
+pub number_more : (w : Width) (bytes more : List ℕ) (x : ℕ × List ℕ) → number_front w bytes ≡ Some x → number_front w (bytes ++ more) ≡ Some (x.0, x.1 ++ more)
+number_more w bytes more x e =
+    let n = byte_len w in
+    let parts = number_parts w bytes x e in
+    let fits : n ≤ length bytes = parts.0 in
+    let long : ltb (length (bytes ++ more)) n ≡ false = le-ltb _ _ (omega (arith, length-append bytes more)) in
+    rw (long, take-append-le n bytes more fits, drop-append-le n bytes more fits, sym parts.1, sym parts.2) refl
+
+-- a number that isn't there is short of bytes
+pub number_none : (w : Width) (bytes : List ℕ) → number_front w bytes ≡ None → length bytes < byte_len w
+number_none w bytes e = ltb-true _ _ (guard_none (ltb (length bytes) (byte_len w)) (from_be_bytes w (take (byte_len w) bytes), drop (byte_len w) bytes) e)
 
 -- ---- the bytes after a field are no more
 

@@ -1,3 +1,4 @@
 pub mod Numbers
 pub mod Spellings
 pub mod Fronts
+pub mod Lists

@@ -56,8 +56,16 @@ fn signed_numbers(rt: HostRuntime) {
 
 #[test]
 fn printed_faults(rt: HostRuntime) -> Result<(), Fail> {
-    let text = format!(in rt.alloc(); "{}, {}", NumberFault::NotDigit(3), NumberFault::TooLarge)?;
-    assert_eq!(rt; text.as_str(), "no digit at place 3, a number too large");
+    let table = [
+        (NumberFault::Empty, "no digits"),
+        (NumberFault::NotDigit(3), "no digit at place 3"),
+        (NumberFault::LeadingZero, "a leading zero"),
+        (NumberFault::TooLarge, "a number too large"),
+    ];
+    for (fault, want) in table {
+        let text = format!(in rt.alloc(); "{fault}")?;
+        assert_eq!(rt; text.as_str(), want);
+    }
     Ok(())
 }
 
