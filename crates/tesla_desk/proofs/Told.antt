@@ -1,8 +1,10 @@
--- Bytes that are told, appended one piece after another.
-use Rattle.std.proofs.Common.{◌≡◌, ◌∙◌, ℕ, ◌≤◌, ◌<◌, Option, Some, None, IfSome, Bool, ◌+◌, ◌-◌, List, [], ◌++◌, refl, ap, sym, append_assoc, append-nil, length-append, length-drop, arith, length, take, drop}
-use Rattle.std.proofs.Math.Seq.{take-add, take-length, take-append_seam}
-use Rattle.std.proofs.lemmas.List.{drop-drop, length-take-le, take-append-drop}
-use Rattle.tesla_desk.specs.Outside.{with_bytes, after_bytes, Brings, Opened, Page, Untold, Absent, Holds, page_of}
+-- What objects and desks tell, for callers that make several calls one after another.
+use Rattle.std.proofs.Common.{◌≡◌, ◌∙◌, ℕ, suc, min, ◌≤◌, ◌<◌, Option, Some, None, IfSome, Result, Ok, Err, Bool, ◌+◌, ◌-◌, List, [], ◌∷◌, ◌++◌, refl, ap, sym, append_assoc, append-nil, length-append, arith, length, take, drop}
+use Rattle.std.proofs.Math.Seq.{take-add, take-append-add, take-length, take-append_seam}
+use Rattle.std.proofs.lemmas.List.{drop-drop, length-take-le, take-append-drop, take-append-le, take_min, take_rest}
+use Rattle.tesla_desk.specs.Outside.{with_bytes, after_bytes, AppendsFront, Brings, Ends, Opened, Page, Untold, Absent, Holds, page_of, Opening, with_opening, with_openings, after_opening, AsksFront}
+use Rattle.tesla_desk.specs.declared.desk.OpenRefusal.{OpenRefusal}
+use Rattle.tesla_desk.specs.declared.desk.OpenRefusal.TheVariants as refusals
 
 -- two pieces one after another are one piece
 pub with_bytes_twice : (written : Option (List ℕ)) (a b : List ℕ) → with_bytes (with_bytes written a) b ≡ with_bytes written (a ++ b)
@@ -14,24 +16,65 @@ pub after_bytes_twice : (left : Option (List ℕ)) (a b : List ℕ) → after_by
 after_bytes_twice None a b = refl
 after_bytes_twice (Some rest) a b = ap (λ bytes. Some bytes) (sym (append_assoc a b rest))
 
--- the rest of a list from a place on, as a slice to its end
-pub rest_is : (whole : List ℕ) (i : ℕ) → take (length whole - i) (drop i whole) ≡ drop i whole
-rest_is whole i = ap (λ n. take n (drop i whole)) (sym (length-drop i whole)) ∙ take-length (drop i whole)
-
 -- after the next piece the whole up to here was appended
 pub appends_more : (before now next : Option (List ℕ)) (whole : List ℕ) (i n : ℕ) → now ≡ with_bytes before (take i whole) → next ≡ with_bytes now (take n (take (length whole - i) (drop i whole))) → next ≡ with_bytes before (take (i + n) whole)
 appends_more before now next whole i n e f =
-    f ∙ ap (λ rest. with_bytes now (take n rest)) (rest_is whole i) ∙ ap (λ w. with_bytes w (take n (drop i whole))) e ∙ with_bytes_twice before (take i whole) (take n (drop i whole)) ∙ ap (λ b. with_bytes before b) (sym (take-add i n whole))
+    f ∙ ap (λ rest. with_bytes now (take n rest)) (take_rest whole i) ∙ ap (λ w. with_bytes w (take n (drop i whole))) e ∙ with_bytes_twice before (take i whole) (take n (drop i whole)) ∙ ap (λ b. with_bytes before b) (sym (take-add i n whole))
 
 -- nothing was appended yet
 pub appends_none : (before : Option (List ℕ)) → before ≡ with_bytes before []
 appends_none None = refl
 appends_none (Some front) = ap (λ bytes. Some bytes) (sym (append-nil front))
 
+-- ---- fronts of a piece
+
+-- nothing of a piece is a front of it
+pub front_none : (written : Option (List ℕ)) (piece : List ℕ) → AppendsFront written written piece
+front_none written piece = (0, record { fits = omega arith; written = appends_none written })
+
+-- the whole of a piece is a front of it
+pub front_whole : (old new : Option (List ℕ)) (piece : List ℕ) → new ≡ with_bytes old piece → AppendsFront old new piece
+front_whole old new piece e = (length piece, record { fits = omega arith; written = e ∙ ap (λ bytes. with_bytes old bytes) (sym (take-length piece)) })
+
+-- a front of a piece is one of a longer piece
+pub front_longer : (old new : Option (List ℕ)) (piece more : List ℕ) → AppendsFront old new piece → AppendsFront old new (piece ++ more)
+front_longer old new piece more front = (
+  front.0,
+  record {
+    fits = omega (arith, front.1.fits, length-append piece more);
+    written = front.1.written ∙ ap (λ bytes. with_bytes old bytes) (sym (take-append-le front.0 piece more front.1.fits));
+  },
+)
+
+-- a front of a piece that comes after another is a front of both
+pub front_after : (first old new : Option (List ℕ)) (a b : List ℕ) → old ≡ with_bytes first a → AppendsFront old new b → AppendsFront first new (a ++ b)
+front_after first old new a b e front = (
+  length a + front.0,
+  record {
+    fits = omega (arith, front.1.fits, length-append a b);
+    written = front.1.written ∙ ap (λ w. with_bytes w (take front.0 b)) e ∙ with_bytes_twice first a (take front.0 b) ∙ ap (λ bytes. with_bytes first bytes) (sym (take-append-add a b front.0));
+  },
+)
+
+-- ---- what is left
+
+-- where what follows bytes is told, it is told what is left behind them
+pub after_bytes_some : (bytes : List ℕ) (left : Option (List ℕ)) (rest : List ℕ) → after_bytes bytes left ≡ Some rest → (more : List ℕ) × (left ≡ Some more) × (rest ≡ bytes ++ more)
+after_bytes_some bytes None rest e = absurd cc
+after_bytes_some bytes (Some more) rest e = (more, refl, cc)
+
+-- once nothing is left, what was told to follow is these bytes
+pub ended_rest : (bytes : List ℕ) (left after : Option (List ℕ)) (rest : List ℕ) → Ends left after → after_bytes bytes left ≡ Some rest → rest ≡ bytes
+ended_rest bytes None after rest ends e = absurd cc
+ended_rest bytes (Some more) after rest ends e =
+    let none : more ≡ [] = ends.empty in
+    let is : rest ≡ bytes ++ more = cc in
+    is ∙ ap (λ m. bytes ++ m) none ∙ append-nil bytes
+
 -- a front of the rest was moved to the front of a slice
 pub brings_front : (slice bytes moved tail : List ℕ) (at n : ℕ) → slice ≡ bytes → 0 < n → n ≤ length (take (length slice - at) (drop at slice)) → moved ≡ take n (take (length slice - at) (drop at slice)) → Brings n (Some (drop at bytes)) (Some (drop (at + n) bytes)) (moved ++ tail)
 brings_front slice bytes moved tail at n same some fits is =
-    let rest : take (length slice - at) (drop at slice) ≡ drop at bytes = rest_is slice at ∙ ap (λ whole. drop at whole) same in
+    let rest : take (length slice - at) (drop at slice) ≡ drop at bytes = take_rest slice at ∙ ap (λ whole. drop at whole) same in
     let front : moved ≡ take n (drop at bytes) = is ∙ ap (λ r. take n r) rest in
     let long : n ≤ length (drop at bytes) = omega (arith, ap length rest) in
     let size : length moved ≡ n = ap length front ∙ length-take-le n (drop at bytes) long in
@@ -75,3 +118,44 @@ pub first_written : (written now : Option (List ℕ)) (bytes held : List ℕ) �
 first_written None now bytes held empty step told = cc
 first_written (Some front) now bytes held empty step told =
     let same : held ≡ front ++ bytes = cc in same ∙ ap (λ f. f ++ bytes) empty
+
+-- ---- openings asked for one after another
+
+-- no opening more
+pub openings_none : (told : Option (List Opening)) → told ≡ with_openings told []
+openings_none None = refl
+openings_none (Some before) = ap (λ openings. Some openings) (sym (append-nil before))
+
+-- one opening, and then others
+pub openings_first : (told : Option (List Opening)) (opening : Opening) (others : List Opening) → with_openings (with_opening told opening) others ≡ with_openings told (opening ∷ others)
+openings_first None opening others = refl
+openings_first (Some before) opening others = ap (λ openings. Some openings) (append_assoc before (opening ∷ []) others)
+
+-- none of these was asked for
+pub asks_nothing : (openings : List Opening) (before now : Option (List Opening)) → now ≡ before → AsksFront openings before now
+asks_nothing openings before now same = (0, same ∙ openings_none before)
+
+-- the first of these was asked for
+pub asks_first : (opening : Opening) (others : List Opening) (before now : Option (List Opening)) → now ≡ with_opening before opening → AsksFront (opening ∷ others) before now
+asks_first opening others before now asked = (1, asked ∙ openings_none (with_opening before opening) ∙ openings_first before opening [])
+
+-- the first of these was tried
+pub asks_tried : {A : Type 0} (opening : Opening) (others : List Opening) (result : Result A OpenRefusal) (before now : Option (List Opening)) → now ≡ after_opening opening result before → AsksFront (opening ∷ others) before now
+asks_tried opening others (Ok it) before now asked = asks_first opening others before now asked
+asks_tried opening others (Err refusals.Failed) before now asked = asks_first opening others before now asked
+asks_tried opening others (Err refusals.NoMemory) before now asked = asks_nothing (opening ∷ others) before now asked
+
+-- the first of these was asked for, and then a front of the others
+pub asks_then : (opening : Opening) (others : List Opening) (before mid now : Option (List Opening)) → mid ≡ with_opening before opening → AsksFront others mid now → AsksFront (opening ∷ others) before now
+asks_then opening others before mid now asked front =
+    (suc front.0, front.1 ∙ ap (λ told. with_openings told (take front.0 others)) asked ∙ openings_first before opening (take front.0 others))
+
+-- a front of openings is one of more openings
+pub asks_longer : (openings more : List Opening) (before now : Option (List Opening)) → AsksFront openings before now → AsksFront (openings ++ more) before now
+asks_longer openings more before now front =
+    let n = min front.0 (length openings) in
+    (n, front.1 ∙ ap (λ asked. with_openings before asked) (sym (take_min front.0 openings) ∙ sym (take-append-le n openings more (omega arith))))
+
+-- what asks for nothing leaves what was asked for
+pub asks_same : (openings : List Opening) (before mid now : Option (List Opening)) → now ≡ mid → AsksFront openings before mid → AsksFront openings before now
+asks_same openings before mid now same front = (front.0, same ∙ front.1)

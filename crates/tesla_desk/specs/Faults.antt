@@ -41,3 +41,9 @@ after_source before faults = record before { reads = raised_where_failed faults 
 -- the counts after the closing of a sink with this many faults
 abbrev pub after_sink : Faults → ℕ → Faults
 after_sink before faults = record before { writes = raised_where_failed faults before.writes }
+
+-- no count of a desk fell, and each failure has its cause
+pub record HasCauses (before now : Faults) (read write opening : Type 0) : Type 0 where
+  pub reads : HasCause before.reads now.reads read
+  pub writes : HasCause before.writes now.writes write
+  pub openings : HasCause before.openings now.openings opening

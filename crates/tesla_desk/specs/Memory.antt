@@ -2,7 +2,7 @@
 use Rattle.std.specs.Prelude.{◌≡◌, ℕ, min, Bool, true, false, Result, Ok, Err, List, [], ◌∷◌, ◌++◌, drop, length, ◌==◌, ◌&&◌, ◌||◌, nat_lt, if◌then◌else◌, Option, Some, None}
 use Rattle.tesla_desk.specs.Calls.{CallNumbers, new_calls, next_fails, after_call}
 use Rattle.tesla_desk.specs.Faults.{Faults, no_faults, raised}
-use Rattle.tesla_desk.specs.Outside.{Page, Untold, Absent, Holds, Opening, Opened}
+use Rattle.tesla_desk.specs.Outside.{Page, Untold, Absent, Holds, Opening, Opened, Told}
 use Rattle.tesla_desk.specs.Settings.{NamedSettings, no_settings, room_for, piece_for, failing_for, within_piece}
 use Rattle.tesla_desk.specs.Stored.{entries_in, page_in, openings_in}
 use Rattle.tesla_desk.specs.declared.desk.OpenRefusal.{OpenRefusal}
@@ -103,6 +103,10 @@ counts_of desk = record { reads = desk.reads; writes = desk.writes; openings = d
 -- the openings that a desk was asked for, in order
 abbrev pub openings_of : MemoryDesk → List Opening
 openings_of desk = openings_in (entries_in desk.asked)
+
+-- what a desk tells: all of it
+abbrev pub told_by : MemoryDesk → Told
+told_by desk = record { page = page_under desk; faults = counts_of desk; openings = Some (openings_of desk) }
 
 -- what a desk was told of the objects that it opens
 abbrev pub settings_of : MemoryDesk → NamedSettings

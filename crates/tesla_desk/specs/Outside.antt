@@ -1,6 +1,7 @@
 -- What the calls of sources, sinks and desks do to the bytes that these tell.
-use Rattle.std.specs.Prelude.{◌≡◌, ℕ, ◌<◌, ◌≤◌, Bool, nat_lt, Option, Some, None, IfSome, Result, Ok, Err, List, [], ◌∷◌, ◌++◌, length, take}
+use Rattle.std.specs.Prelude.{◌≡◌, ◌≢◌, ℕ, ◌<◌, ◌≤◌, Bool, nat_lt, Option, Some, None, IfSome, Result, Ok, Err, OnErr, List, [], ◌∷◌, ◌++◌, length, take}
 use Rattle.std.specs.Option.{option_map}
+use Rattle.tesla_desk.specs.Faults.{Faults, CountsOpening, after_source, after_sink}
 use Rattle.tesla_desk.specs.declared.source.ReadStep.{ReadStep}
 use Rattle.tesla_desk.specs.declared.source.ReadStep.TheVariants.{Got, End, Failed as ReadFailed}
 use Rattle.tesla_desk.specs.declared.sink.WriteStep.{WriteStep}
@@ -83,3 +84,43 @@ abbrev pub after_opening : {A : Type 0} → Opening → Result A OpenRefusal →
 after_opening opening (Ok it) told = with_opening told opening
 after_opening opening (Err refusals.Failed) told = with_opening told opening
 after_opening opening (Err refusals.NoMemory) told = told
+
+-- the openings asked for, where they are told, with these at the end
+abbrev pub with_openings : Option (List Opening) → List Opening → Option (List Opening)
+with_openings told openings = option_map (λ before. before ++ openings) told
+
+-- of these openings a front was asked for, in order
+abbrev pub AsksFront : List Opening → Option (List Opening) → Option (List Opening) → Type 0
+AsksFront openings before now = (n : ℕ) × (now ≡ with_openings before (take n openings))
+
+-- what a desk tells: the page under each name, its counts of faults, and the openings that it was asked for
+pub record Told : Type 0 where
+  pub page : List ℕ → Page
+  pub faults : Faults
+  pub openings : Option (List Opening)
+
+-- what an opening of a source does to what its desk tells
+pub record OpensSource {A : Type 0} (name : List ℕ) (result : Result A OpenRefusal) (before now : Told) : Type 0 where
+  pub pages : (n : List ℕ) → now.page n ≡ before.page n
+  pub counts : CountsOpening before.faults now.faults (result ≡ Err refusals.Failed)
+  pub asked : now.openings ≡ after_opening (OfSource name) result before.openings
+
+-- what an opening of a sink does to what its desk tells
+pub record OpensSink {A : Type 0} (name : List ℕ) (result : Result A OpenRefusal) (before now : Told) : Type 0 where
+  pub refused : OnErr result (now.page name ≡ before.page name)
+  pub pages : (n : List ℕ) → n ≢ name → now.page n ≡ before.page n
+  pub counts : CountsOpening before.faults now.faults (result ≡ Err refusals.Failed)
+  pub asked : now.openings ≡ after_opening (OfSink name) result before.openings
+
+-- what the closing of a source with this many faults does to what its desk tells
+pub record ClosesSource (faults : ℕ) (before now : Told) : Type 0 where
+  pub pages : (n : List ℕ) → now.page n ≡ before.page n
+  pub counts : now.faults ≡ after_source before.faults faults
+  pub asked : now.openings ≡ before.openings
+
+-- what the closing of a sink with this name, these bytes and this many faults does to what its desk tells
+pub record ClosesSink (name : List ℕ) (written : Option (List ℕ)) (faults : ℕ) (before now : Told) : Type 0 where
+  pub own : now.page name ≡ page_of written faults
+  pub pages : (n : List ℕ) → n ≢ name → now.page n ≡ before.page n
+  pub counts : now.faults ≡ after_sink before.faults faults
+  pub asked : now.openings ≡ before.openings

@@ -3,9 +3,9 @@
 ghost use Rattle.std.specs.Prelude.{◌≡◌, ◌≢◌, ◌≤◌, ◌∷◌, false, List, ℕ, [], Some, IfOk, OnOk, OnErr, is_ok, if◌then◌else◌};
 ghost use Rattle.std.specs.Option.{option_map};
 ghost use Rattle.tesla_desk.specs.Calls.{next_fails, with_failing};
-ghost use Rattle.tesla_desk.specs.Faults.{CountsOpening, after_source, after_sink};
-ghost use Rattle.tesla_desk.specs.Memory.{bytes_in, unread, read_faults_of, name_of, bytes_of, write_faults_of, page_under, counts_of, openings_of, settings_of, opening_calls_of, rest_of, new_rest, with_settings, with_opening_calls, after_counted, after_failed, after_asked, Refuses, refuses_source, NewSource, NewSink, MakesSource, MakesSink};
-ghost use Rattle.tesla_desk.specs.Outside.{Untold, Absent, Holds, page_of, Opened, OfSource, OfSink, after_opening};
+ghost use Rattle.tesla_desk.specs.Faults.{after_source, after_sink};
+ghost use Rattle.tesla_desk.specs.Memory.{bytes_in, unread, read_faults_of, name_of, bytes_of, write_faults_of, page_under, counts_of, told_by, settings_of, opening_calls_of, rest_of, new_rest, with_settings, with_opening_calls, after_counted, after_failed, after_asked, Refuses, refuses_source, NewSource, NewSink, MakesSource, MakesSink};
+ghost use Rattle.tesla_desk.specs.Outside.{Untold, Absent, Holds, Opened, OfSource, OfSink, OpensSource, OpensSink, ClosesSource, ClosesSink};
 ghost use Rattle.tesla_desk.specs.Settings.{with_room, with_piece, with_failing_call, room_for, piece_for, failing_for};
 ghost use Rattle.tesla_desk.specs.Stored.{opening_of};
 
@@ -172,19 +172,13 @@ impl Desk for MemoryDesk {
 
     type Out = Heap;
 
-    ghost page = { page_under };
-
-    ghost faults = { counts_of };
-
-    ghost openings = { λ desk. Some (openings_of desk) };
+    ghost told = { told_by };
 
     /// `Failed` exactly where the number of the opening is listed or there is no such page.
     fn open_source(&mut self, name: &str) -> Result<Pages, OpenRefusal>
         ensures opened { IfOk result (λ it. Opened (page_under self.old name.now) (Some (unread it))) }
         ensures fresh { IfOk result (λ it. read_faults_of it ≡ 0) }
-        ensures pages { (n : List ℕ) → page_under self.new n ≡ page_under self.old n }
-        ensures counts { CountsOpening (counts_of self.old) (counts_of self.new) (result ≡ Err OpenRefusal.Failed) }
-        ensures asked { Some (openings_of self.new) ≡ after_opening (OfSource name.now) result (Some (openings_of self.old)) }
+        ensures desk { OpensSource name.now result (told_by self.old) (told_by self.new) }
         ensures exact { Refuses (refuses_source self.old name.now) result }
         ensures set { IfOk result (λ it. NewSource self.old name.now it) }
         ensures rest { rest_of self.new ≡ after_asked (OfSource name.now) result (rest_of self.old) }
@@ -204,10 +198,8 @@ impl Desk for MemoryDesk {
         ensures empty { IfOk result (λ it. bytes_of it ≡ []) }
         ensures fresh { IfOk result (λ it. write_faults_of it ≡ 0) }
         ensures named { IfOk result (λ it. name_of it ≡ name.now) }
-        ensures refused { OnErr result (page_under self.new name.now ≡ page_under self.old name.now) }
+        ensures desk { OpensSink name.now result (told_by self.old) (told_by self.new) }
         ensures pages { (n : List ℕ) → page_under self.new n ≡ page_under self.old n }
-        ensures counts { CountsOpening (counts_of self.old) (counts_of self.new) (result ≡ Err OpenRefusal.Failed) }
-        ensures asked { Some (openings_of self.new) ≡ after_opening (OfSink name.now) result (Some (openings_of self.old)) }
         ensures exact { Refuses (next_fails (opening_calls_of self.old)) result }
         ensures set { IfOk result (λ it. NewSink self.old name.now it) }
         ensures rest { rest_of self.new ≡ after_asked (OfSink name.now) result (rest_of self.old) }
@@ -223,7 +215,7 @@ impl Desk for MemoryDesk {
     }
 
     fn close_source(&mut self, it: Pages)
-        ensures pages { (n : List ℕ) → page_under self.new n ≡ page_under self.old n }
+        ensures desk { ClosesSource (read_faults_of it) (told_by self.old) (told_by self.new) }
         ensures rest { rest_of self.new ≡ record (rest_of self.old) { counts = after_source (counts_of self.old) (read_faults_of it) } }
     {
         if 0 < it.close() {
@@ -232,8 +224,7 @@ impl Desk for MemoryDesk {
     }
 
     fn close_sink(&mut self, it: Heap)
-        ensures own { page_under self.new (name_of it) ≡ page_of (Some (bytes_of it)) (write_faults_of it) }
-        ensures pages { (n : List ℕ) → n ≢ name_of it → page_under self.new n ≡ page_under self.old n }
+        ensures desk { ClosesSink (name_of it) (Some (bytes_of it)) (write_faults_of it) (told_by self.old) (told_by self.new) }
         ensures rest { rest_of self.new ≡ record (rest_of self.old) { counts = after_sink (counts_of self.old) (write_faults_of it) } }
     {
         let (page, spare) = it.close();

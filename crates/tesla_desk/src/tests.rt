@@ -1,8 +1,8 @@
 //! Tests of what no clause says: that calls which can want memory give what they are asked for; and a caller that is proved from the traits alone.
 
-ghost use Rattle.std.specs.Prelude.{◌≡◌, ◌≢◌, true, List, ℕ, Some, Bool};
-ghost use Rattle.tesla_desk.specs.Faults.{HasCause, Rose};
-ghost use Rattle.tesla_desk.specs.Outside.{Holds, with_bytes};
+ghost use Rattle.std.specs.Prelude.{◌≡◌, ◌≢◌, ◌∷◌, [], true, List, ℕ, Some, Bool};
+ghost use Rattle.tesla_desk.specs.Faults.{HasCause, HasCauses};
+ghost use Rattle.tesla_desk.specs.Outside.{AsksFront, Holds, OfSource, OfSink, with_bytes};
 
 use super::*;
 use std::test::Fail;
@@ -43,10 +43,10 @@ fn copy_all<I: Source, O: Sink>(from: &mut I, to: &mut O) -> Copied
 
 // Copies a page, as a caller above does its work: by the traits alone.
 fn copy_page<D: Desk>(desk: &mut D, from: &str, to: &str) -> Copied
-    ensures whole { (bytes written : List ℕ) (failed other : Bool) → D.page desk.old from.now ≡ Holds bytes failed → result ≡ Copied.Whole → D.page desk.new to.now ≡ Holds written other → written ≡ bytes }
-    ensures read { result ≡ Copied.ReadFault → Rose (D.faults desk.old).reads (D.faults desk.new).reads }
-    ensures write { result ≡ Copied.WriteFault → Rose (D.faults desk.old).writes (D.faults desk.new).writes }
-    ensures open { result ≡ Copied.OpenFault → Rose (D.faults desk.old).openings (D.faults desk.new).openings }
+    ensures whole { (bytes written : List ℕ) (failed other : Bool) → (D.told desk.old).page from.now ≡ Holds bytes failed → result ≡ Copied.Whole → (D.told desk.new).page to.now ≡ Holds written other → written ≡ bytes }
+    ensures pages { (n : List ℕ) → n ≢ to.now → (D.told desk.new).page n ≡ (D.told desk.old).page n }
+    ensures causes { HasCauses (D.told desk.old).faults (D.told desk.new).faults (result ≡ Copied.ReadFault) (result ≡ Copied.WriteFault) (result ≡ Copied.OpenFault) }
+    ensures asked { AsksFront (OfSource from.now ∷ OfSink to.now ∷ []) (D.told desk.old).openings (D.told desk.new).openings }
 {
     let mut source = match desk.open_source(from) {
         Ok(source) => source,
