@@ -4,17 +4,22 @@ ghost use Rattle.std.specs.Prelude.{◌≡◌, None};
 ghost use Rattle.tesla_desk.specs.Faults.{HasCause, no_faults};
 ghost use Rattle.tesla_desk.specs.Outside.{Untold};
 
+use crate::files::OpenedFiles;
 use crate::sink::Target;
 use crate::{FileSink, FileSource};
+use std::io;
 use std::rt::Files;
-use std::{fs, io};
 use tesla_base::Text;
 use tesla_desk::{CONSOLE, Desk, OpenRefusal};
 
 /// The files of the system, and standard output under the name of the console. It tells no bytes.
+///
+/// A regular file that it opened before, or that is standard output, is refused as a sink, whatever the
+/// name, and is neither cut nor written.
 #[derive(Drop)]
 pub struct LiveDesk<'a, R> {
     rt: &'a R,
+    opened: OpenedFiles,
     reads: u64,
     writes: u64,
     openings: u64,
@@ -23,10 +28,11 @@ pub struct LiveDesk<'a, R> {
 impl<'a, R: Files + Print + AllocGlobal> LiveDesk<'a, R> {
     /// A desk with no faults.
     pub fn new(rt: &'a R) -> LiveDesk<'a, R>
-        ensures { ⟦<LiveDesk<'a, R> as Desk>⟧.faults result ≡ no_faults }
+        ensures { (⟦<LiveDesk<'a, R> as Desk>⟧.told result).faults ≡ no_faults }
     {
         LiveDesk {
             rt,
+            opened: OpenedFiles::new(rt.alloc()),
             reads: 0,
             writes: 0,
             openings: 0,
@@ -39,14 +45,10 @@ impl<'a, R: Files + Print + AllocGlobal> Desk for LiveDesk<'a, R> {
 
     type Out = FileSink<'a, R>;
 
-    ghost page = { λ _ _. Untold };
-
-    ghost faults = { λ desk. record { reads = desk.reads; writes = desk.writes; openings = desk.openings } };
-
-    ghost openings = { λ _. None };
+    ghost told = { λ desk. record { page = λ _. Untold; faults = record { reads = desk.reads; writes = desk.writes; openings = desk.openings }; openings = None } };
 
     fn open_source(&mut self, name: &str) -> Result<FileSource<R::File>, OpenRefusal> {
-        match fs::open(self.rt, name) {
+        match self.opened.open(self.rt, name) {
             Ok(file) => Ok(FileSource::new(file)),
             Err(error) => Err(refusal_of(&mut self.openings, error)),
         }
@@ -59,7 +61,7 @@ impl<'a, R: Files + Print + AllocGlobal> Desk for LiveDesk<'a, R> {
         if name == CONSOLE {
             return Ok(FileSink::new(own_name, Target::Console(self.rt)));
         }
-        match fs::create(self.rt, name) {
+        match self.opened.create(self.rt, name) {
             Ok(file) => Ok(FileSink::new(own_name, Target::File(file))),
             Err(error) => Err(refusal_of(&mut self.openings, error)),
         }

@@ -2,6 +2,7 @@
 #![tactic(auto)]
 
 mod desk;
+mod files;
 mod sink;
 mod source;
 

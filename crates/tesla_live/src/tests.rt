@@ -1,20 +1,19 @@
-//! A test of each adapter against the running system.
+//! Tests of each adapter against the running system.
+
+mod recording;
 
 use super::*;
+use recording::Recording;
 use std::fs;
 use std::test::Fail;
 use tesla_desk::{CONSOLE, Desk, OpenRefusal, ReadStep, Source, write_all};
 
-const FILE: &str = "written_by_a_test";
-
 // Writes one piece to a new sink, and says whether all of it was taken.
-fn write_page<D: Desk>(desk: &mut D, name: &str, piece: &[u8]) -> bool {
-    let Ok(mut sink) = desk.open_sink(name) else {
-        return false;
-    };
+fn write_page<D: Desk>(desk: &mut D, name: &str, piece: &[u8]) -> Result<bool, OpenRefusal> {
+    let mut sink = desk.open_sink(name)?;
     let done = write_all(&mut sink, piece);
     desk.close_sink(sink);
-    done
+    Ok(done)
 }
 
 // What the first read of a new source answers.
@@ -30,22 +29,61 @@ fn read_once<D: Desk>(
 }
 
 #[test]
-fn a_file_is_written_and_read_back(rt: HostRuntime) -> Result<(), Fail> {
+fn a_file_with_blanks_in_its_name_is_cut_written_and_read_back(
+    rt: HostRuntime,
+) -> Result<(), Fail> {
+    let name = " written by a test ";
+    fs::write(&rt, name, "a longer text")?;
     let mut desk = LiveDesk::new(&rt);
+    let written = write_page(&mut desk, name, b"bytes");
+    let held = fs::read(&rt, name);
     let mut buffer = [0u8; 8];
-    assert!(rt; write_page(&mut desk, FILE, b"longer"));
-    assert!(rt; write_page(&mut desk, FILE, b"bytes"));
-    let step = read_once(&mut desk, FILE, &mut buffer);
-    fs::remove_file(&rt, FILE)?;
+    let step = read_once(&mut desk, name, &mut buffer);
+    fs::remove_file(&rt, name)?;
+    assert_eq!(rt; written, Ok(true));
+    assert_eq!(rt; held?.as_slice(), b"bytes".as_slice());
     assert_eq!(rt; step, Ok(ReadStep::Got(5)));
     assert_eq!(rt; &buffer, b"bytes\0\0\0");
     Ok(())
 }
 
 #[test]
-fn the_console_takes_a_line(rt: HostRuntime) {
+fn a_file_that_was_opened_is_not_written_under_any_name(rt: HostRuntime) -> Result<(), Fail> {
+    let (name, link) = ("opened_by_a_test", "linked_by_a_test");
+    fs::write(&rt, name, "the capture")?;
+    fs::hard_link(&rt, name, link)?;
     let mut desk = LiveDesk::new(&rt);
-    assert!(rt; write_page(&mut desk, CONSOLE, b"a line of the console\n"));
+    let mut buffer = [0u8; 8];
+    let read = read_once(&mut desk, name, &mut buffer);
+    let refused = [
+        write_page(&mut desk, name, b"records"),
+        write_page(&mut desk, "./opened_by_a_test", b"records"),
+        write_page(&mut desk, link, b"records"),
+    ];
+    let held = fs::read(&rt, name);
+    fs::remove_file(&rt, link)?;
+    fs::remove_file(&rt, name)?;
+    assert_eq!(rt; read, Ok(ReadStep::Got(8)));
+    assert_eq!(rt; refused, [Err(OpenRefusal::Failed); 3]);
+    assert_eq!(rt; held?.as_slice(), b"the capture".as_slice());
+    Ok(())
+}
+
+#[test]
+fn the_console_prints_what_is_written(rt: HostRuntime) -> Result<(), Fail> {
+    let recording = Recording::new(&rt);
+    let mut desk = LiveDesk::new(&recording);
+    let written = [
+        write_page(&mut desk, CONSOLE, b"a line\n"),
+        write_page(&mut desk, CONSOLE, b"and more"),
+    ];
+    drop(desk);
+    assert_eq!(rt; written, [Ok(true); 2]);
+    assert_eq!(rt;
+        recording.into_printed().as_slice(),
+        b"a line\nand more".as_slice()
+    );
+    Ok(())
 }
 
 #[test]
@@ -60,5 +98,11 @@ fn what_is_no_file_is_refused_by_name(rt: HostRuntime) {
         read_once(&mut desk, "/", &mut buffer),
         Ok(ReadStep::Failed)
     );
-    assert!(rt; !write_page(&mut desk, "/", b"bytes"));
+    for name in ["/", "no_such_directory/file", "/dev/null/file"] {
+        assert_eq!(rt;
+            write_page(&mut desk, name, b"bytes"),
+            Err(OpenRefusal::Failed)
+        );
+    }
+    assert_eq!(rt; write_page(&mut desk, "/dev/null", b"bytes"), Ok(true));
 }
