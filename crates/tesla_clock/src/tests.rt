@@ -1,4 +1,4 @@
-//! The bound at the ends of its types, and the limits of a schedule.
+//! The bound at the ends of its types, the limits of a schedule, and the safe chains.
 
 use super::*;
 use std::test::Fail;
@@ -41,5 +41,23 @@ fn bounds_at_the_ends(rt: HostRuntime) -> Result<(), Fail> {
     assert!(rt; Schedule::new(0, 3_600_000_001, 1).is_none());
     assert!(rt; Schedule::new(0, 1000, 0).is_none());
     assert!(rt; Schedule::new(0, 1000, 1_048_577).is_none());
+    Ok(())
+}
+
+#[test]
+fn safe_chains_of_interval_two(rt: HostRuntime) -> Result<(), Fail> {
+    let schedule = Schedule::new(1_000_000, 100_000, 8).ok_or("within the limits")?;
+    let delays = [2u16, 5];
+    let rows = [
+        (3, [0u32, 0], 3),
+        (4, [0, 0], 2),
+        (3, [2, 0], 2),
+        (6, [0, 1], 2),
+        (7, [0, 0], 0),
+    ];
+    for (bound, newest, safe) in rows {
+        let given = schedule.safe_chains(bound, 2, delays.as_slice(), newest.as_slice());
+        assert_eq!(rt; given, safe, "bound {bound}");
+    }
     Ok(())
 }
