@@ -2,11 +2,10 @@
 use Rattle.std.proofs.Common.{◌≡◌, ◌≢◌, ℕ, ◌+◌, ◌<◌, ◌≤◌, Bool, true, false, cond, eqb, List, [], ◌∷◌, ◌++◌, length, Result, Ok, Err, refl, sym, ap, subst, ◌∙◌, arith}
 use Rattle.std.proofs.lemmas.Bool.Decides.{nat_tests}
 use Rattle.std.proofs.lemmas.List.{append-nil}
-use Rattle.tesla_commit.specs.Judging.{◌>>=◌, at, Refuses, row_judged, rows_judged}
-use Rattle.tesla_commit.specs.declared.refusal.SetupRefusal.{SetupRefusal}
-use Rattle.tesla_commit.specs.declared.refusal.SetupRefusal.TheVariants as refusals
-use Rattle.tesla_commit.specs.Reading.{lines, words, next_line, chain_words, number_in, within, hex_in, chain_in, chains_judged}
-use Rattle.tesla_commit.specs.declared.row.ChainRow.{ChainRow}
+use Rattle.tesla_commit.specs.JudgedLines.{◌>>=◌, at}
+use Rattle.tesla_commit.specs.ChainRows.{row_judged, rows_judged}
+use Rattle.tesla_commit.specs.Parsing.{lines, words, next_line, chain_words, number_in, within, hex_in, chain_in, chains_judged}
+use Rattle.tesla_commit.specs.declared.chain_row.ChainRow.{ChainRow}
 use Rattle.tesla_commit.specs.declared.refusal.SetupKind.{SetupKind}
 use Rattle.tesla_commit.specs.declared.refusal.SetupKind.TheVariants.{BadLine, NoChain, TooManyChains}
 use Rattle.tesla_commit.proofs.RowLaws.{onto, onto_first, not_line, bind_ok, guard_ok, at_ok, ok_is, row_is}
@@ -88,10 +87,6 @@ chains_end last number before front text none ne =
 
 -- ---- refusals in the loop
 
-pub line_refused : (last number before : ℕ) (front : List ChainRow) (text : List ℕ) (e : SetupRefusal) → 0 < length text → number ≢ 10 → Refuses e (next_line number (lines text)) → Refuses e (onto front (chains_judged last number before (lines text)))
-line_refused last number before front text (refusals.At line kind) some ne h = chains_unended last number before front text (line, kind) some ne h
-line_refused last number before front text refusals.NoMemory some ne h = tt
-
 same_error : {A : Type 0} (e d : ℕ × SetupKind) (r : Result A (ℕ × SetupKind)) → r ≡ Err e → r ≡ Err d → e ≡ d
 same_error e d r h k = cc
 
@@ -101,11 +96,10 @@ at_err number line kind (Err other) h =
     let e = same_error (number, other) (line, kind) (at number (Err other)) refl h in
     (ap (λ (p : ℕ × SetupKind). Err p.1) e, ap (λ (p : ℕ × SetupKind). p.0) e)
 
-pub row_refused : (last number before : ℕ) (front : List ChainRow) (parts others : List (List ℕ)) (line : List ℕ) (e : SetupRefusal) → number ≢ 10 → next_line number parts ≡ Ok (line, others) → Refuses e (at number (chain_in last before line)) → Refuses e (onto front (chains_judged last number before parts))
-row_refused last number before front parts others line (refusals.At other kind) ne h k =
+pub row_refused : (last number before other : ℕ) (front : List ChainRow) (parts others : List (List ℕ)) (line : List ℕ) (kind : SetupKind) → number ≢ 10 → next_line number parts ≡ Ok (line, others) → at number (chain_in last before line) ≡ Err (other, kind) → onto front (chains_judged last number before parts) ≡ Err (other, kind)
+row_refused last number before other front parts others line kind ne h k =
     let a = at_err number other kind (chain_in last before line) k in
     chains_refused last number before front parts others line kind ne h a.0 ∙ ap (λ (n : ℕ). Err (n, kind)) a.1
-row_refused last number before front parts others line refusals.NoMemory ne h k = tt
 
 -- ---- what chains that are not refused are
 

@@ -4,3 +4,8 @@ pub mod ChainLaws
 pub mod Spelled
 pub mod Spelling
 pub mod Written
+pub mod Lengths
+pub mod Causes
+pub mod Refusals
+pub mod Refused
+pub mod Stopped

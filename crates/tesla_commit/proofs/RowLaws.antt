@@ -7,8 +7,10 @@ use Rattle.std.proofs.lemmas.List.{append-nil, take_more, take_all, drop_all}
 use Rattle.std.proofs.Math.Seq.{drop-cons}
 use Rattle.tesla_clock.specs.Schedule.{IsSchedule}
 use Rattle.tesla_commit.specs.Parts.{Parts, IsRow, DelaysRise, IsSetupOf}
-use Rattle.tesla_commit.specs.Judging.{◌>>=◌, at, row_judged, rows_judged}
-use Rattle.tesla_commit.specs.declared.row.ChainRow.{ChainRow}
+use Rattle.tesla_commit.specs.JudgedLines.{◌>>=◌, at}
+use Rattle.tesla_commit.specs.ChainRows.{row_judged, rows_judged}
+use Rattle.tesla_commit.specs.SetupText.{HasKey}
+use Rattle.tesla_commit.specs.declared.chain_row.ChainRow.{ChainRow}
 use Rattle.tesla_commit.specs.declared.refusal.SetupKind.{SetupKind}
 use Rattle.tesla_commit.specs.declared.refusal.SetupKind.TheVariants.{NoChain, TooManyChains, DelaysNotRising, IndexPastLast, LimitPassed}
 
@@ -106,6 +108,17 @@ at_step last line before i rows d other lt ne h =
     let e = from_place rows i d lt in
     let t : take (i + 1) rows ≡ take i rows ++ get_or rows i d ∷ [] = take_more rows i d lt in
     rw (e, t) (rows_step last line before (take i rows) (drop (i + 1) rows) (get_or rows i d) other ne h)
+
+-- one row more that has what the others have
+all_more : {X : Type 0} (P : X → Type 0) (xs : List X) (x : X) → AllByRecursion P xs → P x → AllByRecursion P (xs ++ x ∷ [])
+all_more P [] x h k = (k, tt)
+all_more P (y ∷ xs) x h k = (h.0, all_more P xs x h.1 k)
+
+-- a row that is judged as it stands has the key of the judged one
+pub keys_more : (last before i : ℕ) (rows : List ChainRow) (d other : ChainRow) → i < length rows → row_judged last before (get_or rows i d) ≡ Ok other → HasKey other → AllByRecursion HasKey (take i rows) → AllByRecursion HasKey (take (i + 1) rows)
+keys_more last before i rows d other lt judged key keys =
+    let same : HasKey (get_or rows i d) = subst HasKey (sym (row_is last before (get_or rows i d) other judged).0) key in
+    subst (λ (rs : List ChainRow). AllByRecursion HasKey rs) (sym (take_more rows i d lt)) (all_more HasKey (take i rows) (get_or rows i d) keys same)
 
 pub at_refused : (last line before i : ℕ) (rows : List ChainRow) (d : ChainRow) (kind : SetupKind) → i < length rows → line ≢ 10 → row_judged last before (get_or rows i d) ≡ Err kind → onto (take i rows) (rows_judged last line before (drop i rows)) ≡ Err (line, kind)
 at_refused last line before i rows d kind lt ne h =

@@ -19,11 +19,12 @@ use Rattle.tesla_base.specs.declared.number.NumberFault.{NumberFault}
 use Rattle.tesla_base.proofs.Spellings.{number_spelled}
 use Rattle.tesla_base.specs.declared.names.StreamId.{StreamId}
 use Rattle.tesla_clock.specs.Schedule.{Times, IsSchedule}
-use Rattle.tesla_commit.specs.declared.row.ChainRow.{ChainRow}
+use Rattle.tesla_commit.specs.declared.chain_row.ChainRow.{ChainRow}
 use Rattle.tesla_commit.specs.Parts.{Parts}
 use Rattle.tesla_commit.specs.SetupText.{line, chain_values, chain_line, setup_text, HasKey, IsSetup}
-use Rattle.tesla_commit.specs.Judging.{◌>>=◌, at, row_judged}
-use Rattle.tesla_commit.specs.Reading.{between, lines, words, next_line, value_in, chain_words, number_or_bad, number_in, within, is_lower_digit, bytes_or_bad, hex_in, title_in, stream_in, start_in, limited_in, chain_in, chains_judged, opening_judged, times_judged, judged}
+use Rattle.tesla_commit.specs.JudgedLines.{◌>>=◌, at}
+use Rattle.tesla_commit.specs.ChainRows.{row_judged}
+use Rattle.tesla_commit.specs.Parsing.{between, lines, words, next_line, value_in, chain_words, number_or_bad, number_in, within, is_lower_digit, bytes_or_bad, hex_in, title_in, stream_in, start_in, limited_in, chain_in, chains_judged, opening_judged, times_judged, judged}
 use Rattle.tesla_commit.specs.declared.refusal.SetupKind.{SetupKind}
 use Rattle.tesla_commit.specs.declared.refusal.SetupKind.TheVariants.{BadLine, BadHex, LimitPassed, TooManyChains, TooLong}
 use Rattle.tesla_commit.proofs.ChainLaws.{same_taken, last_ok, chains_are, chain_is}
@@ -42,7 +43,7 @@ line_found number (unended ∷ []) x h = absurd cc
 line_found number (line ∷ next ∷ others) x h =
     subst (λ (y : List ℕ × List (List ℕ)). line ++ 10 ∷ join_with_byte 10 (next ∷ others) ≡ y.0 ++ 10 ∷ join_with_byte 10 y.1) (same_taken (line, next ∷ others) x h) refl
 
-test_ok : {A : Type 0} (b : Bool) (x y : A) → cond b (Ok x) (Err BadLine) ≡ Ok y → (b ≡ true) × (x ≡ y)
+pub test_ok : {A : Type 0} (b : Bool) (x y : A) → cond b (Ok x) (Err BadLine) ≡ Ok y → (b ≡ true) × (x ≡ y)
 test_ok true x y h = (refl, ok_is x y (Ok x) refl h)
 test_ok false x y h = absurd cc
 
@@ -237,13 +238,13 @@ title_ok : (b : Bool) (x : Unit {0}) → cond b (Ok tt) (Err BadLine) ≡ Ok x �
 title_ok true x h = refl
 title_ok false x h = absurd cc
 
-title_found : (text : List ℕ) (x : Unit {0}) → title_in text ≡ Ok x → text ≡ codes "tesla" ++ 32 ∷ codes "1"
+pub title_found : (text : List ℕ) (x : Unit {0}) → title_in text ≡ Ok x → text ≡ codes "tesla" ++ 32 ∷ codes "1"
 title_found text x h = (bytes_eq-Decides text (codes "tesla 1")).0 (title_ok (bytes_eq text (codes "tesla 1")) x h)
 
 eight_below : (bytes : List ℕ) → IsBytes bytes → from_be_bytes w64 bytes < 2 ^ 64
 eight_below bytes fits = omega (arith, fits 0, fits 1, fits 2, fits 3, fits 4, fits 5, fits 6, fits 7)
 
-stream_found : (text : List ℕ) (stream : StreamId) → stream_in text ≡ Ok stream → (text ≡ codes "stream" ++ 32 ∷ encode_lower (to_be_bytes w64 stream.0)) × (stream.0 < 2 ^ 64)
+pub stream_found : (text : List ℕ) (stream : StreamId) → stream_in text ≡ Ok stream → (text ≡ codes "stream" ++ 32 ∷ encode_lower (to_be_bytes w64 stream.0)) × (stream.0 < 2 ^ 64)
 stream_found text stream h =
     let w = bind_ok (value_in (codes "stream") (words text)) (λ word. hex_in 8 word >>= λ bytes. Ok (record { 0 = from_be_bytes w64 bytes })) stream h in
     let b = bind_ok (hex_in 8 w.0) (λ bytes. Ok (record { 0 = from_be_bytes w64 bytes })) stream w.2 in
@@ -254,13 +255,13 @@ stream_found text stream h =
     let line : text ≡ codes "stream" ++ 32 ∷ encode_lower (to_be_bytes w64 made.0) = value_found (codes "stream") w.0 text w.1 ∙ ap (λ (v : List ℕ). codes "stream" ++ 32 ∷ v) value in
     subst (λ (s : StreamId). (text ≡ codes "stream" ++ 32 ∷ encode_lower (to_be_bytes w64 s.0)) × (s.0 < 2 ^ 64)) (ok_is made stream (Ok made) refl b.2) (line, eight_below b.0 spelled.fits)
 
-start_found : (text : List ℕ) (n : ℕ) → start_in text ≡ Ok n → (text ≡ codes "start" ++ 32 ∷ decimal n) × (n < 2 ^ 64)
+pub start_found : (text : List ℕ) (n : ℕ) → start_in text ≡ Ok n → (text ≡ codes "start" ++ 32 ∷ decimal n) × (n < 2 ^ 64)
 start_found text n h =
     let w = bind_ok (value_in (codes "start") (words text)) number_in n h in
     let d = number_found w.0 n w.2 in
     (value_found (codes "start") w.0 text w.1 ∙ ap (λ (v : List ℕ). codes "start" ++ 32 ∷ v) d.0, d.1)
 
-limited_found : (name : List ℕ) (least most : ℕ) (text : List ℕ) (n : ℕ) → limited_in name least most text ≡ Ok n → (text ≡ name ++ 32 ∷ decimal n) × (least ≤ n) × (n ≤ most)
+pub limited_found : (name : List ℕ) (least most : ℕ) (text : List ℕ) (n : ℕ) → limited_in name least most text ≡ Ok n → (text ≡ name ++ 32 ∷ decimal n) × (least ≤ n) × (n ≤ most)
 limited_found name least most text n h =
     let w = bind_ok (value_in name (words text)) (λ word. number_in word >>= λ number. within least most number) n h in
     let d = bind_ok (number_in w.0) (λ number. within least most number) n w.2 in
@@ -274,7 +275,7 @@ row_values last before text w delay index key row line d i k h =
     let spelled : text ≡ codes "chain" ++ 32 ∷ chain_values made = line ∙ rw (d, i, k.text) refl in
     subst (λ (r : ChainRow). (text ≡ codes "chain" ++ 32 ∷ chain_values r) × HasKey r) (row_is last before made row h).0 (spelled, record { whole = k.whole; bytes = k.fits })
 
-row_found : (last before : ℕ) (text : List ℕ) (row : ChainRow) → chain_in last before text ≡ Ok row → (text ≡ codes "chain" ++ 32 ∷ chain_values row) × HasKey row
+pub row_found : (last before : ℕ) (text : List ℕ) (row : ChainRow) → chain_in last before text ≡ Ok row → (text ≡ codes "chain" ++ 32 ∷ chain_values row) × HasKey row
 row_found last before text row h =
     let is = chain_is last before text row h in
     let delay : is.word.0 ≡ decimal is.delay = (number_found is.word.0 is.number is.delays).0 ∙ ap decimal (within_found 1 4096 is.number is.delay is.limit).0 in
@@ -327,11 +328,11 @@ times_found whole front parts x begin h =
     let made : Times × List (List ℕ) = (record { start = start.0; length = span.0; last = last.0 }, five.0.1) in
     subst (λ (y : Times × List (List ℕ)). (whole ≡ times_text front y.0 ++ join_with_byte 10 y.1) × IsSchedule y.0 × (y.0.start < 2 ^ 64)) (ok_is made x (Ok made) refl last.2) (third, record { shortest = spans.1; longest = spans.2; first = lasts.1; most = lasts.2 }, starts.1)
 
-nothing_is : (text : List ℕ) → length text ≡ 0 → text ≡ []
+pub nothing_is : (text : List ℕ) → length text ≡ 0 → text ≡ []
 nothing_is [] h = refl
 nothing_is (b ∷ text) h = absurd (omega arith)
 
-chains_found : (last number before : ℕ) (parts : List (List ℕ)) (rows : List ChainRow) → chains_judged last number before parts ≡ Ok rows → (join_with_byte 10 parts ≡ flat_map chain_line rows) × AllByRecursion HasKey rows
+pub chains_found : (last number before : ℕ) (parts : List (List ℕ)) (rows : List ChainRow) → chains_judged last number before parts ≡ Ok rows → (join_with_byte 10 parts ≡ flat_map chain_line rows) × AllByRecursion HasKey rows
 unfolding chains_judged
 chains_found last number before [] rows h = absurd cc
 chains_found last number before (unended ∷ []) rows h =

@@ -21,11 +21,11 @@ use Rattle.tesla_clock.specs.Schedule.{Times, IsSchedule}
 use Rattle.std.specs.Prelude.{IfOk, ◌⊎◌}
 use Rattle.tesla_commit.specs.declared.refusal.SetupRefusal.{SetupRefusal}
 use Rattle.tesla_commit.specs.declared.refusal.SetupRefusal.TheVariants as refusals
-use Rattle.tesla_commit.specs.Judging.{Gives}
+use Rattle.tesla_commit.specs.JudgedLines.{Answers}
 use Rattle.tesla_commit.specs.Parts.{Parts, IsSetupOf}
-use Rattle.tesla_commit.specs.Reading.{between, lines, words, next_line, value_in, chain_words, number_or_bad, number_in, within, is_lower_digit, hex_in, stream_in, start_in, limited_in, chain_in, chains_judged, opening_judged, times_judged, judged}
+use Rattle.tesla_commit.specs.Parsing.{between, lines, words, next_line, value_in, chain_words, number_or_bad, number_in, within, is_lower_digit, hex_in, stream_in, start_in, limited_in, chain_in, chains_judged, opening_judged, times_judged, judged}
 use Rattle.tesla_commit.specs.SetupText.{line, chain_values, chain_line, setup_text, HasKey, IsSetup}
-use Rattle.tesla_commit.specs.declared.row.ChainRow.{ChainRow}
+use Rattle.tesla_commit.specs.declared.chain_row.ChainRow.{ChainRow}
 use Rattle.tesla_commit.specs.declared.refusal.SetupKind.{SetupKind}
 use Rattle.tesla_commit.proofs.RowLaws.{AreRows, IsNext, ok_is, not_line, row_again, rise_again}
 use Rattle.tesla_commit.proofs.WordLaws.{has_first, next_line_is, lines_of_nothing}
@@ -39,7 +39,7 @@ IsSolid word = All (λ b. 32 < b) word
 abbrev pub IsPlain : List ℕ → Type 0
 IsPlain text = All (λ b. 10 < b) text
 
-solid_from_test : (word : List ℕ) → list_all (nat_lt 32) word ≡ true → IsSolid word
+pub solid_from_test : (word : List ℕ) → list_all (nat_lt 32) word ≡ true → IsSolid word
 solid_from_test word h = All-weaker (λ b. nat_lt 32 b ≡ true) (λ b. 32 < b) (λ b t. grind (arith, nat_tests)) word (AllPass-from_list_all (nat_lt 32) word h)
 
 plain_is : (word : List ℕ) → IsSolid word → IsPlain word
@@ -50,7 +50,7 @@ plain_line name value h k = All-append (λ b. 10 < b) name (32 ∷ value) h (All
 
 -- ---- lines and words
 
-split_line : (text rest : List ℕ) → IsPlain text → between 10 (text ++ 10 ∷ rest) ≡ text ∷ between 10 rest
+pub split_line : (text rest : List ℕ) → IsPlain text → between 10 (text ++ 10 ∷ rest) ≡ text ∷ between 10 rest
 unfolding between
 split_line text rest h = slice_split_at (λ b. eqb b 10) text 10 rest (All-weaker (λ b. 10 < b) (λ b. eqb b 10 ≡ false) (λ b t. grind (arith, nat_tests)) text h) refl
 
@@ -65,10 +65,10 @@ last_word word h = slice_split_none (λ b. eqb b 32) word (All-weaker (λ b. 32 
 lines_of : (name value rest : List ℕ) → IsPlain (name ++ 32 ∷ value) → lines (line name value ++ rest) ≡ (name ++ 32 ∷ value) ∷ lines rest
 lines_of name value rest h = ap lines (append_assoc (name ++ 32 ∷ value) (10 ∷ []) rest) ∙ split_line (name ++ 32 ∷ value) rest h
 
-line_again : (number : ℕ) (name value rest : List ℕ) → IsPlain (name ++ 32 ∷ value) → next_line number (lines (line name value ++ rest)) ≡ Ok (name ++ 32 ∷ value, lines rest)
+pub line_again : (number : ℕ) (name value rest : List ℕ) → IsPlain (name ++ 32 ∷ value) → next_line number (lines (line name value ++ rest)) ≡ Ok (name ++ 32 ∷ value, lines rest)
 line_again number name value rest h = next_line_is number (line name value ++ rest) (name ++ 32 ∷ value) rest (lines_of name value rest h)
 
-same_bytes : (word : List ℕ) → bytes_eq word word ≡ true
+pub same_bytes : (word : List ℕ) → bytes_eq word word ≡ true
 same_bytes word = (bytes_eq-Decides word word).1 refl
 
 value_again : (name value : List ℕ) → IsSolid name → IsSolid value → value_in name (words (name ++ 32 ∷ value)) ≡ Ok value
@@ -89,10 +89,10 @@ decimal_again : (n : ℕ) → n < 2 ^ 64 → decimal_of (decimal n) ≡ Ok n
 unfolding decimal_of
 decimal_again n fits = number_read (2 ^ 64 - 1) 0 n (decimal n) (omega arith) fits refl
 
-number_again : (n : ℕ) → n < 2 ^ 64 → number_in (decimal n) ≡ Ok n
+pub number_again : (n : ℕ) → n < 2 ^ 64 → number_in (decimal n) ≡ Ok n
 number_again n fits = ap number_or_bad (decimal_again n fits)
 
-within_again : (least most n : ℕ) → least ≤ n → n ≤ most → within least most n ≡ Ok n
+pub within_again : (least most n : ℕ) → least ≤ n → n ≤ most → within least most n ≡ Ok n
 within_again least most n low high =
     let t : (nat_le least n && nat_le n most) ≡ true = grind (arith, nat_tests) in
     rw t refl
@@ -120,7 +120,7 @@ lower_all (b ∷ bytes) h =
     let low = lower_digit (b % 16) (omega arith) in
     rw (high, low, lower_all bytes (λ i. h (suc i))) refl
 
-hex_again : (count : ℕ) (bytes : List ℕ) → length bytes ≡ count → IsBytes bytes → hex_in count (encode_lower bytes) ≡ Ok bytes
+pub hex_again : (count : ℕ) (bytes : List ℕ) → length bytes ≡ count → IsBytes bytes → hex_in count (encode_lower bytes) ≡ Ok bytes
 hex_again count bytes whole fits = rw (lower_all bytes fits, decode_sized-encode_lower bytes count whole fits) refl
 
 solid_hex : (bytes : List ℕ) → IsBytes bytes → IsSolid (encode_lower bytes)
@@ -139,17 +139,17 @@ eight_fit n (suc (suc (suc (suc (suc (suc zero)))))) = omega arith
 eight_fit n (suc (suc (suc (suc (suc (suc (suc zero))))))) = omega arith
 eight_fit n (suc (suc (suc (suc (suc (suc (suc (suc i)))))))) = omega arith
 
-stream_again : (stream : StreamId) → stream.0 < 2 ^ 64 → stream_in (codes "stream" ++ 32 ∷ encode_lower (to_be_bytes w64 stream.0)) ≡ Ok stream
+pub stream_again : (stream : StreamId) → stream.0 < 2 ^ 64 → stream_in (codes "stream" ++ 32 ∷ encode_lower (to_be_bytes w64 stream.0)) ≡ Ok stream
 stream_again stream fits =
     let bytes = to_be_bytes w64 stream.0 in
     let value = value_again (codes "stream") (encode_lower bytes) (solid_from_test (codes "stream") refl) (solid_hex bytes (eight_fit stream.0)) in
     let hex = hex_again 8 bytes refl (eight_fit stream.0) in
     rw (value, hex) (ap (λ (n : ℕ). Ok (record { 0 = n })) (from_be_bytes-to_be_bytes_8 stream.0 fits))
 
-start_again : (n : ℕ) → n < 2 ^ 64 → start_in (codes "start" ++ 32 ∷ decimal n) ≡ Ok n
+pub start_again : (n : ℕ) → n < 2 ^ 64 → start_in (codes "start" ++ 32 ∷ decimal n) ≡ Ok n
 start_again n fits = rw (value_again (codes "start") (decimal n) (solid_from_test (codes "start") refl) (solid_decimal n fits)) (number_again n fits)
 
-limited_again : (name : List ℕ) (least most n : ℕ) → IsSolid name → n < 2 ^ 64 → least ≤ n → n ≤ most → limited_in name least most (name ++ 32 ∷ decimal n) ≡ Ok n
+pub limited_again : (name : List ℕ) (least most n : ℕ) → IsSolid name → n < 2 ^ 64 → least ≤ n → n ≤ most → limited_in name least most (name ++ 32 ∷ decimal n) ≡ Ok n
 limited_again name least most n solid fits low high = rw (value_again name (decimal n) solid (solid_decimal n fits), number_again n fits) (within_again least most n low high)
 
 plain_decimal : (name : List ℕ) (n : ℕ) → IsSolid name → n < 2 ^ 64 → IsPlain (name ++ 32 ∷ decimal n)
@@ -185,7 +185,7 @@ times_again times rest limits fits =
     let five = line_again 5 (codes "last") (decimal times.last) rest (plain_decimal (codes "last") times.last last last_fits) in
     rw (three, start_again times.start fits, four, limited_again (codes "interval") 1000 3600000000 times.length interval span_fits shortest longest, five, limited_again (codes "last") 1 1048576 times.last last last_fits first most) refl
 
-row_line_again : (last before : ℕ) (row : ChainRow) → last < 2 ^ 64 → IsNext last before row → HasKey row → chain_in last before (codes "chain" ++ 32 ∷ chain_values row) ≡ Ok row
+pub row_line_again : (last before : ℕ) (row : ChainRow) → last < 2 ^ 64 → IsNext last before row → HasKey row → chain_in last before (codes "chain" ++ 32 ∷ chain_values row) ≡ Ok row
 unfolding chain_in
 row_line_again last before row most next key =
     let within_last = next.limits.within in
@@ -253,14 +253,14 @@ judged_again text parts h = whole_again text parts h.short (h.text ∙ regrouped
 
 -- ---- what is answered of a text
 
-pub answer_found : (text : List ℕ) (r : Result Parts SetupRefusal) → Gives (λ setup. setup) r (judged text) → IfOk r (λ setup. IsSetup text setup)
+pub answer_found : (text : List ℕ) (r : Result Parts SetupRefusal) → Answers (λ setup. setup) r (judged text) → IfOk r (λ setup. IsSetup text setup)
 answer_found text (Ok setup) h = judged_found text setup h
 answer_found text (Err e) h = tt
 
 not_both : (parts : Parts) (e : ℕ × SetupKind) (r : Result Parts (ℕ × SetupKind)) → r ≡ Err e → r ≡ Ok parts → ⊥
 not_both parts e r h k = cc
 
-pub answer_only : (text : List ℕ) (r : Result Parts SetupRefusal) (parts : Parts) → Gives (λ setup. setup) r (judged text) → IsSetup text parts → (r ≡ Ok parts) ⊎ (r ≡ Err refusals.NoMemory)
+pub answer_only : (text : List ℕ) (r : Result Parts SetupRefusal) (parts : Parts) → Answers (λ setup. setup) r (judged text) → IsSetup text parts → (r ≡ Ok parts) ⊎ (r ≡ Err refusals.NoMemory)
 answer_only text (Ok setup) parts h k = inl (ap Ok (ok_is setup parts (judged text) h (judged_again text parts k)))
 answer_only text (Err (refusals.At number kind)) parts h k = absurd (not_both parts (number, kind) (judged text) h (judged_again text parts k))
 answer_only text (Err refusals.NoMemory) parts h k = inr refl

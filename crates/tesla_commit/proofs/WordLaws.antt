@@ -7,7 +7,7 @@ use Rattle.std.proofs.lemmas.List.Sums.{fails_before_first}
 use Rattle.std.proofs.lemmas.Bool.{ltb-false}
 use borrow.Author.Tests.{ltb-true}
 use Rattle.std.proofs.lemmas.List.Splits.{length-slice_split, slice_split_first, slice_split_none, join_with_byte-slice_split}
-use Rattle.tesla_commit.specs.Reading.{between, lines, next_line, value_in, chain_words}
+use Rattle.tesla_commit.specs.Parsing.{between, lines, next_line, value_in, chain_words}
 use Rattle.tesla_commit.specs.declared.refusal.SetupKind.{SetupKind}
 use Rattle.tesla_commit.specs.declared.refusal.SetupKind.TheVariants.{BadLine}
 

@@ -3,7 +3,7 @@ use Rattle.std.specs.Prelude.{ℕ, ◌<◌, ◌≤◌, ◌^◌, List, [], ◌∷
 use Rattle.std.specs.List.{AllByRecursion}
 use Rattle.tesla_base.specs.declared.names.StreamId.{StreamId}
 use Rattle.tesla_clock.specs.Schedule.{Times, IsSchedule}
-use Rattle.tesla_commit.specs.declared.row.ChainRow.{ChainRow}
+use Rattle.tesla_commit.specs.declared.chain_row.ChainRow.{ChainRow}
 
 -- the stream, its intervals, and a row for each key chain
 pub record Parts : Type 0 where

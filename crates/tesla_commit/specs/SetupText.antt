@@ -4,7 +4,7 @@ use Rattle.std.specs.Int.{w64, to_be_bytes}
 use Rattle.std.specs.List.{flat_map, AllByRecursion}
 use Rattle.hex.specs.Hex.{encode_lower, IsBytes}
 use Rattle.tesla_commit.specs.Parts.{Parts, IsSetupOf}
-use Rattle.tesla_commit.specs.declared.row.ChainRow.{ChainRow}
+use Rattle.tesla_commit.specs.declared.chain_row.ChainRow.{ChainRow}
 
 -- a name, a space, a value and an LF
 abbrev pub line : List ℕ → List ℕ → List ℕ

@@ -1,18 +1,20 @@
 //! Setups: the commitments of a stream's key chains, with its intervals, and their text.
 #![tactic(auto)]
 
+mod chain_row;
+mod chain_rows;
+mod laws;
+mod line_words;
 mod lines;
-mod reading;
+mod parsing;
 mod refusal;
-mod row;
-mod rows;
 mod setup;
-mod words;
 mod writing;
 
-pub use reading::read_setup;
+pub use chain_row::ChainRow;
+pub use laws::setups;
+pub use parsing::read_setup;
 pub use refusal::{SetupKind, SetupRefusal};
-pub use row::ChainRow;
 pub use setup::Setup;
 pub use writing::write_setup;
 

@@ -1,10 +1,10 @@
 //! What each line of a setup's text says.
 
 ghost use Rattle.std.specs.Prelude.{◌≡◌, ◌≤◌, IfOk};
-ghost use Rattle.tesla_commit.specs.Reading.{title_in, stream_in, start_in, limited_in, chain_in};
+ghost use Rattle.tesla_commit.specs.Parsing.{title_in, stream_in, start_in, limited_in, chain_in};
 
-use crate::rows::judge_row;
-use crate::words::{chain_words, hex_in, number_in, value_in, within};
+use crate::chain_rows::judge_row;
+use crate::line_words::{chain_words, hex_in, number_in, value_in, within};
 use crate::{ChainRow, SetupKind};
 use tesla_base::{Key, StreamId};
 
@@ -45,7 +45,7 @@ pub fn limited_in(name: &[u8], least: u64, most: u64, line: &[u8]) -> Result<u64
 }
 
 /// The line of a chain that comes after one with the delay `before`, 0 where none comes before.
-#[tactic(auto, unfolding(crate::specs::Reading::chain_in))]
+#[tactic(auto, unfolding(crate::specs::Parsing::chain_in))]
 pub fn chain_in(last: u32, before: u16, line: &[u8]) -> Result<ChainRow, SetupKind>
     ensures { result ≡ chain_in last before line.now }
 {

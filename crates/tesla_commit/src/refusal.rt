@@ -6,6 +6,7 @@ ghost use Rattle.tesla_commit.specs.declared.refusal.SetupRefusal.TheVariants as
 
 use std::alloc::{AllocError, AllocFailed};
 use std::fmt;
+use tesla_base::Kind;
 
 /// What is wrong with a line of a setup. The texts are the names.
 #[derive(Clone, Copy, Debug, PartialEq, Eq)]
@@ -30,20 +31,21 @@ pub enum SetupKind {
     TooLong,
 }
 
-/// The name of a kind.
-fn name(kind: SetupKind) -> &'static str
-    ensures { result.now ≡ kind_name kind }
-{
-    match kind {
-        SetupKind::BadLine => "BadLine",
-        SetupKind::BadNumber => "BadNumber",
-        SetupKind::BadHex => "BadHex",
-        SetupKind::NoChain => "NoChain",
-        SetupKind::TooManyChains => "TooManyChains",
-        SetupKind::DelaysNotRising => "DelaysNotRising",
-        SetupKind::IndexPastLast => "IndexPastLast",
-        SetupKind::LimitPassed => "LimitPassed",
-        SetupKind::TooLong => "TooLong",
+impl Kind for SetupKind {
+    ghost printed = { kind_name };
+
+    fn name(self) -> &'static str {
+        match self {
+            SetupKind::BadLine => "BadLine",
+            SetupKind::BadNumber => "BadNumber",
+            SetupKind::BadHex => "BadHex",
+            SetupKind::NoChain => "NoChain",
+            SetupKind::TooManyChains => "TooManyChains",
+            SetupKind::DelaysNotRising => "DelaysNotRising",
+            SetupKind::IndexPastLast => "IndexPastLast",
+            SetupKind::LimitPassed => "LimitPassed",
+            SetupKind::TooLong => "TooLong",
+        }
     }
 }
 
@@ -51,8 +53,17 @@ impl fmt::Display for SetupKind {
     ghost output = { λ kind. Some (kind_name kind) };
 
     fn fmt<W: fmt::Write>(&self, f: &mut fmt::Formatter<W>) -> fmt::Result {
-        f.write_str(name(*self))
+        f.write_str(self.name())
     }
+}
+
+/// A refused line, with what is wrong with it.
+#[derive(Clone, Copy, Debug, PartialEq, Eq)]
+pub struct LineRefusal {
+    /// The number of the line, counted from 1.
+    pub line: u32,
+    /// What is wrong.
+    pub kind: SetupKind,
 }
 
 /// Why a setup is refused.
@@ -63,6 +74,17 @@ pub enum SetupRefusal {
     At { line: u32, kind: SetupKind },
     /// The allocator had no memory.
     NoMemory,
+}
+
+impl From<LineRefusal> for SetupRefusal {
+    ghost from_gives = { λ refusal e. e ≡ refusals.At refusal.line refusal.kind };
+
+    fn from(refusal: LineRefusal) -> SetupRefusal {
+        SetupRefusal::At {
+            line: refusal.line,
+            kind: refusal.kind,
+        }
+    }
 }
 
 impl From<AllocError> for SetupRefusal {

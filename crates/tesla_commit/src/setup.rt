@@ -1,10 +1,13 @@
 //! A setup and its parts.
 
 ghost use Rattle.std.specs.Prelude.{◌≡◌, ℕ, ◌<◌, ◌≤◌, List, length, slice_get, IfOk};
+ghost use Rattle.std.specs.List.{AllByRecursion};
 ghost use Rattle.tesla_commit.specs.Parts.{Parts, IsRow, IsSetupOf};
-ghost use Rattle.tesla_commit.specs.Judging.{Gives, parts_judged};
+ghost use Rattle.tesla_commit.specs.SetupText.{HasKey};
+ghost use Rattle.tesla_commit.specs.JudgedLines.{Answers};
+ghost use Rattle.tesla_commit.specs.ChainRows.{parts_judged};
 
-use crate::rows::judge_rows;
+use crate::chain_rows::judge_rows;
 use crate::{ChainRow, SetupRefusal};
 use std::alloc::Global;
 use std::marker::Model;
@@ -22,13 +25,15 @@ pub struct Setup {
 
 impl Model for Setup {
     ghost use Rattle.std.specs.Prelude.{ℕ};
+    ghost use Rattle.std.specs.List.{AllByRecursion};
     ghost use Rattle.tesla_commit.specs.Parts.{Parts, IsSetupOf};
+    ghost use Rattle.tesla_commit.specs.SetupText.{HasKey};
 
     ghost Value = { Parts };
 
     ghost view = { λ s. record { stream = s.stream; times = s.schedule; rows = s.rows.items } };
 
-    ghost invariant = { λ s. IsSetupOf (record { stream = s.stream; times = s.schedule; rows = s.rows.items }) };
+    ghost invariant = { λ s. IsSetupOf (record { stream = s.stream; times = s.schedule; rows = s.rows.items }) × AllByRecursion HasKey s.rows.items };
 }
 
 impl Setup {
@@ -43,7 +48,7 @@ impl Setup {
         schedule: Schedule,
         rows: &[ChainRow],
     ) -> Result<Setup, SetupRefusal>
-        ensures { Gives (λ setup. setup) result (parts_judged stream schedule rows.now) }
+        ensures { Answers (λ setup. setup) result (parts_judged stream schedule rows.now) }
     {
         judge_rows(schedule.last(), rows)?;
         let rows = Vec::from_slice(alloc, rows)?;
@@ -52,7 +57,8 @@ impl Setup {
 
     /// The setup of parts within the limits.
     pub(crate) fn assemble(stream: StreamId, schedule: Schedule, rows: Vec<ChainRow>) -> Setup
-        requires { IsSetupOf (record { stream = stream; times = schedule; rows = rows.items }) }
+        requires limits { IsSetupOf (record { stream = stream; times = schedule; rows = rows.items }) }
+        requires keys { AllByRecursion HasKey rows.items }
         ensures { result ≡ record { stream = stream; times = schedule; rows = rows.items } }
     {
         Setup {
@@ -82,6 +88,7 @@ impl Setup {
         ensures some { 1 ≤ result }
         ensures few { result ≤ 4 }
         ensures limits { IsSetupOf self.now }
+        ensures keys { AllByRecursion HasKey self.now.rows }
     {
         self.rows.len() as u8
     }

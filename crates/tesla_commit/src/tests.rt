@@ -5,9 +5,7 @@ use std::alloc::{AllocError, Global};
 use std::test::Fail;
 use tesla_base::{Key, StreamId};
 use tesla_clock::Schedule;
-
-const BASE: &str =
-    "tesla 1\nstream 00000000000000a7\nstart 1000000\ninterval 100000\nlast 8\nchain 2 0 d37e38b1539f22b758d1e34d417c1032bee6369ad6cd313ca36c4c745fa2a941\nchain 5 0 9ce5072017e83d06da080924aa2251a73ea445e5986eb68ca2d8fb6a3bf70ced\n";
+use tesla_examples::SETUP;
 
 // What is told of a text: a setup, or its refusal.
 fn told(alloc: Global, text: &str) -> Result<String, AllocError> {
@@ -20,7 +18,7 @@ fn told(alloc: Global, text: &str) -> Result<String, AllocError> {
 
 // What is told of the base setup with one change.
 fn told_with(alloc: Global, old: &str, new: &str) -> Result<String, AllocError> {
-    match BASE.split_once(old) {
+    match SETUP.split_once(old) {
         None => String::from_str(alloc, "not there"),
         Some((before, after)) => {
             let text = format!(in alloc; "{before}{new}{after}")?;
@@ -31,7 +29,7 @@ fn told_with(alloc: Global, old: &str, new: &str) -> Result<String, AllocError> 
 
 #[test]
 fn base_setup(rt: HostRuntime) -> Result<(), Fail> {
-    let setup = read_setup(rt.alloc(), BASE.as_bytes())?;
+    let setup = read_setup(rt.alloc(), SETUP.as_bytes())?;
     assert_eq!(rt; setup.stream(), StreamId(0xa7));
     assert_eq!(rt; setup.schedule().start(), 1_000_000);
     assert_eq!(rt; setup.schedule().length(), 100_000);
@@ -60,7 +58,7 @@ fn base_setup(rt: HostRuntime) -> Result<(), Fail> {
         let text = write_setup(rt.alloc(), written)
             .ok()
             .ok_or("there is memory")?;
-        assert_eq!(rt; text.as_slice(), BASE.as_bytes());
+        assert_eq!(rt; text.as_slice(), SETUP.as_bytes());
     }
     Ok(())
 }
@@ -98,55 +96,28 @@ fn refused_rows(rt: HostRuntime) -> Result<(), Fail> {
 }
 
 #[test]
-fn refused_opening(rt: HostRuntime) -> Result<(), Fail> {
+fn refused_lines_before_the_chains(rt: HostRuntime) -> Result<(), Fail> {
     let changes = [
         ("tesla 1", "tesla 2", "1 BadLine"),
-        ("tesla 1", "tesla 3", "1 BadLine"),
-        ("tesla 1", "tesla 01", "1 BadLine"),
-        ("tesla 1", "tesla\t1", "1 BadLine"),
-        ("tesla 1", " tesla 1", "1 BadLine"),
-        ("tesla 1", "tesla 1 1", "1 BadLine"),
         ("tesla 1\n", "tesla 1\r\n", "1 BadLine"),
-        ("tesla 1\n", "tesla 1\n\n", "2 BadLine"),
         ("stream 0", "Stream 0", "2 BadLine"),
-        ("stream 0", "stream\t0", "2 BadLine"),
         ("stream 0", "stream 0 0", "2 BadLine"),
-        ("stream 0", "stream ", "2 BadHex"),
         ("stream 0", "stream 00", "2 BadHex"),
         ("a7", "A7", "2 BadHex"),
-        ("a7", "g7", "2 BadHex"),
-    ];
-    for (old, new, wanted) in changes {
-        let given = told_with(rt.alloc(), old, new)?;
-        assert_eq!(rt; given.as_str(), wanted, "{old} to {new}");
-    }
-    Ok(())
-}
-
-#[test]
-fn refused_times(rt: HostRuntime) -> Result<(), Fail> {
-    let changes = [
         ("start 1", "start  1", "3 BadLine"),
         ("start 1", "start 01", "3 BadNumber"),
         ("start 1", "start +1", "3 BadNumber"),
-        ("start 1000000", "start 1000000\r", "3 BadNumber"),
         ("start 1000000", "start 18446744073709551616", "3 BadNumber"),
         ("start 1000000", "start 18446744073709551615", "setup"),
-        ("start 1000000", "start 0", "setup"),
-        ("start 1000000", "start ", "3 BadNumber"),
-        ("start 1000000", "start -1", "3 BadNumber"),
+        ("interval 100000", "interval 01000", "4 BadNumber"),
         ("interval 100000", "interval 999", "4 LimitPassed"),
         ("interval 100000", "interval 1000", "setup"),
         ("interval 100000", "interval 3600000000", "setup"),
         ("interval 100000", "interval 3600000001", "4 LimitPassed"),
-        ("interval 100000", "interval 01000", "4 BadNumber"),
-        ("last 8", "last 08", "5 BadNumber"),
         ("last 8", "last 0", "5 LimitPassed"),
         ("last 8", "last 1048576", "setup"),
         ("last 8", "last 1048577", "5 LimitPassed"),
         ("last 8\n", "last 8 \n", "5 BadLine"),
-        ("last 8\n", "last 8 8\n", "5 BadLine"),
-        ("last 8", "last  8", "5 BadLine"),
         ("last 8\n", "last 8", "5 BadLine"),
     ];
     for (old, new, wanted) in changes {
@@ -156,44 +127,27 @@ fn refused_times(rt: HostRuntime) -> Result<(), Fail> {
     Ok(())
 }
 
+// Where a line has two faults, the kind that comes first is told.
 #[test]
-fn refused_chains(rt: HostRuntime) -> Result<(), Fail> {
+fn refused_lines_of_chains(rt: HostRuntime) -> Result<(), Fail> {
     let changes = [
         ("chain 2", "chains 2", "6 BadLine"),
-        ("chain 2 0", "chain 2  0", "6 BadLine"),
-        ("chain 2 0", "chain 2 0 0", "6 BadLine"),
         ("chain 2 0", "chain 2", "6 BadLine"),
-        ("chain 2 0", "chain 02 0", "6 BadNumber"),
-        ("chain 2 0", "chain 2 +0", "6 BadNumber"),
-        ("chain 2 0", "chain 2 00", "6 BadNumber"),
+        ("chain 2 0", "chain 02 0 0", "6 BadLine"),
         ("chain 2 0", "chain 0 00", "6 BadNumber"),
-        ("chain 2 0", "chain 0 x", "6 BadNumber"),
         ("chain 2 0", "chain 2 18446744073709551616", "6 BadNumber"),
-        ("chain 2 0", "chain 2 99999999999999999999", "6 BadNumber"),
-        ("chain 2 0", "chain 0 0", "6 LimitPassed"),
         ("chain 2 0 d", "chain 0 0 D", "6 LimitPassed"),
-        ("chain 2 0 d", "chain 2 0 D", "6 BadHex"),
-        ("chain 2 0 d", "chain 2 0 ", "6 BadHex"),
-        ("chain 2 0 d", "chain 2 0 dd", "6 BadHex"),
         ("chain 2 0 d", "chain 2 9 D", "6 BadHex"),
+        ("chain 2 0 d", "chain 2 0 dd", "6 BadHex"),
         ("chain 2 0", "chain 2 9", "6 IndexPastLast"),
-        (
-            "chain 2 0",
-            "chain 2 18446744073709551615",
-            "6 IndexPastLast",
-        ),
         ("chain 2 0", "chain 2 8", "setup"),
         ("chain 2 0", "chain 5 0", "7 DelaysNotRising"),
-        ("chain 2 0", "chain 6 0", "7 DelaysNotRising"),
-        ("chain 5 0", "chain 2 9", "7 DelaysNotRising"),
         ("chain 5 0 9", "chain 1 0 E", "7 BadHex"),
+        ("chain 5 0", "chain 2 9", "7 DelaysNotRising"),
         ("chain 5 0", "chain 4096 0", "setup"),
         ("chain 5 0", "chain 4097 0", "7 LimitPassed"),
-        ("ced\n", "ced \n", "7 BadLine"),
-        ("ced\n", "ced\r\n", "7 BadHex"),
         ("ced\n", "ced", "7 BadLine"),
         ("ced\n", "ced\n\n", "8 BadLine"),
-        ("ced\n", "ced\nx", "8 BadLine"),
     ];
     for (old, new, wanted) in changes {
         let given = told_with(rt.alloc(), old, new)?;
@@ -203,45 +157,28 @@ fn refused_chains(rt: HostRuntime) -> Result<(), Fail> {
 }
 
 #[test]
-fn refused_ends(rt: HostRuntime) -> Result<(), Fail> {
+fn refused_texts(rt: HostRuntime) -> Result<(), Fail> {
     let alloc = rt.alloc();
-    assert_eq!(rt; told(alloc, "")?.as_str(), "1 BadLine");
     let fronts = [
+        ("tesla", "", "1 BadLine"),
         ("interval", "", "4 BadLine"),
         ("chain 2", "", "6 NoChain"),
         ("chain 2", "c", "6 BadLine"),
         ("\nchain 5", "\n", "setup"),
         ("\nchain 5", "", "6 BadLine"),
-        ("\nchain 5", "\n\n", "7 BadLine"),
     ];
     for (end, added, wanted) in fronts {
-        let (front, _) = BASE.split_once(end).ok_or("it is there")?;
+        let (front, _) = SETUP.split_once(end).ok_or("it is there")?;
         let text = format!(in alloc; "{front}{added}")?;
         let given = told(alloc, text.as_str())?;
         assert_eq!(rt; given.as_str(), wanted, "{end} and {added}");
     }
-    let (_, key) = BASE.split_once("chain 5 0 ").ok_or("it is there")?;
-    let four = format!(in alloc; "{BASE}chain 6 0 {key}chain 7 0 {key}")?;
+    let (_, key) = SETUP.split_once("chain 5 0 ").ok_or("it is there")?;
+    let four = format!(in alloc; "{SETUP}chain 6 0 {key}chain 7 0 {key}")?;
     assert_eq!(rt; told(alloc, four.as_str())?.as_str(), "setup");
     let more = format!(in alloc; "{four}c")?;
     assert_eq!(rt; told(alloc, more.as_str())?.as_str(), "10 TooManyChains");
-    let five = format!(in alloc; "{four}chain 8 0 {key}")?;
-    assert_eq!(rt; told(alloc, five.as_str())?.as_str(), "10 TooManyChains");
-    Ok(())
-}
-
-#[test]
-fn refused_length(rt: HostRuntime) -> Result<(), Fail> {
-    let text = vec![in rt.alloc(); b'c'; 4097]?;
-    let refusal = read_setup(rt.alloc(), text.as_slice());
-    assert!(rt;
-        matches!(
-            refusal,
-            Err(SetupRefusal::At {
-                line: 0,
-                kind: SetupKind::TooLong
-            })
-        )
-    );
+    let long = "c".repeat(alloc, 4097)?;
+    assert_eq!(rt; told(alloc, long.as_str())?.as_str(), "0 TooLong");
     Ok(())
 }

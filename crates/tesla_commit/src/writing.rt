@@ -4,7 +4,7 @@ ghost use Rattle.std.specs.Prelude.{◌≡◌, ◌++◌, decimal, string_bytes, 
 ghost use Rattle.std.specs.Int.{w64, to_be_bytes};
 ghost use Rattle.std.specs.List.{flat_map};
 ghost use Rattle.hex.specs.Hex.{encode_lower};
-ghost use Rattle.tesla_commit.specs.SetupText.{line, chain_values, chain_line, setup_text};
+ghost use Rattle.tesla_commit.specs.SetupText.{line, chain_values, chain_line, setup_text, IsSetup};
 
 use crate::{ChainRow, Setup};
 use std::alloc::{AllocError, Global};
@@ -68,16 +68,6 @@ fn put_chain(alloc: Global, out: &mut Vec<u8>, row: ChainRow) -> Result<(), Allo
     put_line(out, b"chain", values.as_slice())
 }
 
-/// Adds the lines of the chains.
-fn put_chains(alloc: Global, out: &mut Vec<u8>, setup: &Setup) -> Result<(), AllocError>
-    ensures { OnOk result (out.new.items ≡ out.old.items ++ flat_map chain_line setup.now.rows) }
-{
-    for chain in 0..setup.count() {
-        put_chain(alloc, out, setup.row(chain))?;
-    }
-    Ok(())
-}
-
 /// The lines before the chains.
 fn opening(alloc: Global, setup: &Setup) -> Result<Vec<u8>, AllocError>
     ensures { IfOk result (λ text. text.items ≡ line (codes "tesla") (codes "1")
@@ -100,9 +90,13 @@ fn opening(alloc: Global, setup: &Setup) -> Result<Vec<u8>, AllocError>
 /// The one text of a setup.
 #[tactic(auto, unfolding(crate::specs::SetupText::setup_text))]
 pub fn write_setup(alloc: Global, setup: &Setup) -> Result<Vec<u8>, NoMemory>
-    ensures { IfOk result (λ text. text.items ≡ setup_text setup.now) }
+    ensures text { IfOk result (λ text. text.items ≡ setup_text setup.now) }
+    // What is written is the text of the setup, as reading finds it.
+    ensures spelled { IfOk result (λ text. IsSetup text.items setup.now) }
 {
     let mut out = opening(alloc, setup)?;
-    put_chains(alloc, &mut out, setup)?;
+    for chain in 0..setup.count() {
+        put_chain(alloc, &mut out, setup.row(chain))?;
+    }
     Ok(out)
 }

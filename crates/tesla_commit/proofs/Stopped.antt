@@ -1,0 +1,234 @@
+-- A text that stops behind the front of a setup's lines is refused there.
+use Rattle.std.proofs.Common.{◌≡◌, ◌≢◌, ℕ, zero, suc, ◌+◌, ◌-◌, ◌^◌, ◌<◌, ◌≤◌, true, false, eqb, ltb, List, [], ◌∷◌, ◌++◌, length, map, take, Result, Ok, Err, refl, sym, ap, subst, ◌∙◌, inl, inr, arith}
+use Rattle.std.specs.Prelude.{codes, decimal}
+use Rattle.std.specs.List.{AllByRecursion}
+use Rattle.std.proofs.lemmas.Bool.Decides.{nat_tests}
+use Rattle.tesla_base.specs.declared.names.StreamId.{StreamId}
+use Rattle.tesla_clock.specs.Schedule.{Times, IsSchedule}
+use Rattle.tesla_commit.specs.Parts.{Parts, IsRow}
+use Rattle.tesla_commit.specs.JudgedLines.{◌>>=◌, at}
+use Rattle.tesla_commit.specs.Parsing.{lines, next_line, title_in, stream_in, start_in, limited_in, chain_in, chains_judged, opening_judged, times_judged, judged}
+use Rattle.tesla_commit.specs.SetupText.{HasKey}
+use Rattle.tesla_commit.specs.SetupRefused.{StopsHere, WhyTitle, WhyStream, WhyNumber, WhyChain, head_lines, IsHead, why_head, chain_text, last_delay, StopsAtChain, StopsInChains, IsRefused}
+use Rattle.tesla_commit.specs.declared.chain_row.ChainRow.{ChainRow}
+use Rattle.tesla_commit.specs.declared.refusal.SetupKind.{SetupKind}
+use Rattle.tesla_commit.specs.declared.refusal.SetupKind.TheVariants.{BadLine, BadNumber, BadHex, NoChain, TooManyChains, DelaysNotRising, IndexPastLast, LimitPassed, TooLong}
+use Rattle.tesla_commit.proofs.RowLaws.{not_line, RiseFrom, rise_again}
+use Rattle.tesla_commit.proofs.Spelling.{solid_from_test, stream_again, start_again, limited_again, row_line_again}
+use Rattle.tesla_commit.proofs.Refusals.{after_times, after_opening, whole_setup, stream_line}
+use Rattle.tesla_commit.proofs.Refused.{title_refused, stream_refused, start_refused, limited_refused, chain_refused}
+
+-- an LF ends a line that others stand behind
+next_some : (number : ℕ) (line : List ℕ) (rest : List (List ℕ)) → 0 < length rest → next_line number (line ∷ rest) ≡ Ok (line, rest)
+next_some number line [] some = absurd (omega arith)
+next_some number line (next ∷ others) some = refl
+
+-- a text never stops behind its end
+stops_some : (why : SetupKind → List ℕ → Type 0) (kind : SetupKind) (rest : List (List ℕ)) → StopsHere why kind rest → 0 < length rest
+stops_some why kind [] h = absurd h
+stops_some why kind (unended ∷ []) h = omega arith
+stops_some why kind (line ∷ next ∷ others) h = omega arith
+
+-- what stops at a line is refused at it
+here_refused : {A B : Type 0} (number : ℕ) (why : SetupKind → List ℕ → Type 0) (judge : List ℕ → Result A SetupKind) (f : List ℕ × List (List ℕ) → A → Result B (ℕ × SetupKind)) (kind : SetupKind) (rest : List (List ℕ)) → ((k : SetupKind) (line : List ℕ) → why k line → judge line ≡ Err k) → StopsHere why kind rest → (next_line number rest >>= λ x. at number (judge x.0) >>= λ a. f x a) ≡ Err (number, kind)
+here_refused number why judge f kind [] cause h = absurd h
+here_refused number why judge f kind (unended ∷ []) cause h = ap (λ (k : SetupKind). Err (number, k)) (sym h)
+here_refused number why judge f kind (line ∷ next ∷ others) cause h = rw (cause kind line h) refl
+
+-- ---- lines 1 and 2
+
+-- line 1 is refused
+pub first_refused : (kind : SetupKind) (rest : List (List ℕ)) → StopsHere WhyTitle kind rest → opening_judged rest ≡ Err (1, kind)
+unfolding opening_judged
+first_refused kind rest h = here_refused 1 WhyTitle title_in (λ one title. next_line 2 one.1 >>= λ two. at 2 (stream_in two.0) >>= λ stream. after_opening stream two.1) kind rest title_refused h
+
+-- line 2 is refused behind the title
+pub second_refused : (kind : SetupKind) (rest : List (List ℕ)) → StopsHere WhyStream kind rest → opening_judged (codes "tesla 1" ∷ rest) ≡ Err (2, kind)
+unfolding opening_judged
+second_refused kind rest h =
+    rw (next_some 1 (codes "tesla 1") rest (stops_some WhyStream kind rest h)) (here_refused 2 WhyStream stream_in (λ two stream. after_opening stream two.1) kind rest stream_refused h)
+
+-- lines 1 and 2 are taken
+pub opening_taken : (stream : StreamId) (rest : List (List ℕ)) → stream.0 < 2 ^ 64 → 0 < length rest → opening_judged (codes "tesla 1" ∷ stream_line stream.0 ∷ rest) ≡ Ok (stream, rest)
+unfolding opening_judged
+opening_taken stream rest fits some = rw (next_some 2 (stream_line stream.0) rest some, stream_again stream fits) refl
+
+-- ---- lines 3 to 5
+
+abbrev pub start_line : ℕ → List ℕ
+start_line start = codes "start" ++ 32 ∷ decimal start
+
+abbrev pub span_line : ℕ → List ℕ
+span_line span = codes "interval" ++ 32 ∷ decimal span
+
+abbrev pub last_line : ℕ → List ℕ
+last_line last = codes "last" ++ 32 ∷ decimal last
+
+span_again : (span : ℕ) → 1000 ≤ span → span ≤ 3600000000 → limited_in (codes "interval") 1000 3600000000 (span_line span) ≡ Ok span
+span_again span low high = limited_again (codes "interval") 1000 3600000000 span (solid_from_test (codes "interval") refl) (omega arith) low high
+
+last_again : (last : ℕ) → 1 ≤ last → last ≤ 1048576 → limited_in (codes "last") 1 1048576 (last_line last) ≡ Ok last
+last_again last low high = limited_again (codes "last") 1 1048576 last (solid_from_test (codes "last") refl) (omega arith) low high
+
+-- line 3 is refused
+pub third_refused : (kind : SetupKind) (rest : List (List ℕ)) → StopsHere (WhyNumber (codes "start") 0 (2 ^ 64 - 1)) kind rest → times_judged rest ≡ Err (3, kind)
+unfolding times_judged
+third_refused kind rest h =
+    here_refused 3 (WhyNumber (codes "start") 0 (2 ^ 64 - 1)) start_in (λ three start. next_line 4 three.1 >>= λ four. at 4 (limited_in (codes "interval") 1000 3600000000 four.0) >>= λ length. next_line 5 four.1 >>= λ five. at 5 (limited_in (codes "last") 1 1048576 five.0) >>= λ last. after_times start length last five.1) kind rest start_refused h
+
+-- line 4 is refused
+pub fourth_refused : (kind : SetupKind) (start : ℕ) (rest : List (List ℕ)) → start < 2 ^ 64 → StopsHere (WhyNumber (codes "interval") 1000 3600000000) kind rest → times_judged (start_line start ∷ rest) ≡ Err (4, kind)
+unfolding times_judged
+fourth_refused kind start rest fits h =
+    rw (next_some 3 (start_line start) rest (stops_some (WhyNumber (codes "interval") 1000 3600000000) kind rest h), start_again start fits)
+    (here_refused 4 (WhyNumber (codes "interval") 1000 3600000000) (limited_in (codes "interval") 1000 3600000000) (λ four length. next_line 5 four.1 >>= λ five. at 5 (limited_in (codes "last") 1 1048576 five.0) >>= λ last. after_times start length last five.1) kind rest (limited_refused (codes "interval") 1000 3600000000) h)
+
+-- line 5 is refused
+pub fifth_refused : (kind : SetupKind) (start span : ℕ) (rest : List (List ℕ)) → start < 2 ^ 64 → 1000 ≤ span → span ≤ 3600000000 → StopsHere (WhyNumber (codes "last") 1 1048576) kind rest → times_judged (start_line start ∷ span_line span ∷ rest) ≡ Err (5, kind)
+unfolding times_judged
+fifth_refused kind start span rest fits low high h =
+    rw (start_again start fits, next_some 4 (span_line span) rest (stops_some (WhyNumber (codes "last") 1 1048576) kind rest h), span_again span low high)
+    (here_refused 5 (WhyNumber (codes "last") 1 1048576) (limited_in (codes "last") 1 1048576) (λ five last. after_times start span last five.1) kind rest (limited_refused (codes "last") 1 1048576) h)
+
+-- lines 3 to 5 are taken
+pub times_taken : (times : Times) (rest : List (List ℕ)) → times.start < 2 ^ 64 → IsSchedule times → 0 < length rest → times_judged (start_line times.start ∷ span_line times.length ∷ last_line times.last ∷ rest) ≡ Ok (times, rest)
+unfolding times_judged
+times_taken times rest fits limits some =
+    rw (start_again times.start fits, span_again times.length limits.shortest limits.longest, next_some 5 (last_line times.last) rest some, last_again times.last limits.first limits.most) refl
+
+-- ---- the chains
+
+-- the line of a chain is refused for itself
+chain_here : (last number before : ℕ) (kind : SetupKind) (rest : List (List ℕ)) → number ≢ 10 → rest ≢ [] ∷ [] → StopsHere (WhyChain last before) kind rest → chains_judged last number before rest ≡ Err (number, kind)
+unfolding chains_judged
+chain_here last number before kind [] ne some h = absurd h
+chain_here last number before kind ([] ∷ []) ne some h = absurd (some refl)
+chain_here last number before kind ((b ∷ unended) ∷ []) ne some h =
+    let nonempty : eqb (length (b ∷ unended)) 0 ≡ false = grind (arith, nat_tests) in
+    let test = not_line number 10 ne in
+    rw (nonempty, test) (ap (λ (k : SetupKind). Err (number, k)) (sym h))
+chain_here last number before kind (line ∷ next ∷ others) ne some h =
+    let test = not_line number 10 ne in
+    rw (test, chain_refused last before kind line h) refl
+
+-- a line behind the fourth chain is refused
+chain_over : (last number before : ℕ) (rest : List (List ℕ)) → number ≡ 10 → 0 < length rest → rest ≢ [] ∷ [] → chains_judged last number before rest ≡ Err (number, TooManyChains)
+unfolding chains_judged
+chain_over last number before [] ten some other = absurd (omega arith)
+chain_over last number before ([] ∷ []) ten some other = absurd (other refl)
+chain_over last number before ((b ∷ unended) ∷ []) ten some other =
+    let nonempty : eqb (length (b ∷ unended)) 0 ≡ false = grind (arith, nat_tests) in
+    rw (nonempty, ten) refl
+chain_over last number before (line ∷ next ∷ others) ten some other = rw ten refl
+
+-- a text that ends before the first chain is refused
+chain_none : (last number before : ℕ) (rest : List (List ℕ)) → number ≡ 6 → rest ≡ [] ∷ [] → chains_judged last number before rest ≡ Err (number, NoChain)
+unfolding chains_judged
+chain_none last number before rest six none = rw (none, six) refl
+
+-- the line of a chain is refused where it stops
+chain_stopped : (last number count before : ℕ) (kind : SetupKind) (rest : List (List ℕ)) → number ≡ 6 + count → StopsAtChain count last before kind rest → chains_judged last number before rest ≡ Err (number, kind)
+chain_stopped last number count before NoChain rest place h = chain_none last number before rest (let c = h.0 in omega arith) h.1
+chain_stopped last number count before TooManyChains rest place h = chain_over last number before rest (let c = h.0 in omega arith) h.1 h.2
+chain_stopped last number count before BadLine rest place h = chain_here last number before BadLine rest (let c = h.0 in omega arith) h.1 h.2
+chain_stopped last number count before BadNumber rest place h = chain_here last number before BadNumber rest (let c = h.0 in omega arith) h.1 h.2
+chain_stopped last number count before BadHex rest place h = chain_here last number before BadHex rest (let c = h.0 in omega arith) h.1 h.2
+chain_stopped last number count before DelaysNotRising rest place h = chain_here last number before DelaysNotRising rest (let c = h.0 in omega arith) h.1 h.2
+chain_stopped last number count before IndexPastLast rest place h = chain_here last number before IndexPastLast rest (let c = h.0 in omega arith) h.1 h.2
+chain_stopped last number count before LimitPassed rest place h = chain_here last number before LimitPassed rest (let c = h.0 in omega arith) h.1 h.2
+chain_stopped last number count before TooLong rest place h = chain_here last number before TooLong rest (let c = h.0 in omega arith) h.1 h.2
+
+-- a text stops behind at most four chains, and never behind its end
+chain_bounds : (count last before : ℕ) (kind : SetupKind) (rest : List (List ℕ)) → StopsAtChain count last before kind rest → (count ≤ 4) × (0 < length rest)
+chain_bounds count last before NoChain rest h = (let c = h.0 in omega arith, let n : length rest ≡ 1 = ap (length {A = List ℕ}) h.1 in omega arith)
+chain_bounds count last before TooManyChains rest h = (let c = h.0 in omega arith, h.1)
+chain_bounds count last before BadLine rest h = (let c = h.0 in omega arith, stops_some (WhyChain last before) BadLine rest h.2)
+chain_bounds count last before BadNumber rest h = (let c = h.0 in omega arith, stops_some (WhyChain last before) BadNumber rest h.2)
+chain_bounds count last before BadHex rest h = (let c = h.0 in omega arith, stops_some (WhyChain last before) BadHex rest h.2)
+chain_bounds count last before DelaysNotRising rest h = (let c = h.0 in omega arith, stops_some (WhyChain last before) DelaysNotRising rest h.2)
+chain_bounds count last before IndexPastLast rest h = (let c = h.0 in omega arith, stops_some (WhyChain last before) IndexPastLast rest h.2)
+chain_bounds count last before LimitPassed rest h = (let c = h.0 in omega arith, stops_some (WhyChain last before) LimitPassed rest h.2)
+chain_bounds count last before TooLong rest h = (let c = h.0 in omega arith, stops_some (WhyChain last before) TooLong rest h.2)
+
+-- the refusal of a later line is that of all lines
+one_refused : (last number before : ℕ) (text : List ℕ) (row : ChainRow) (parts : List (List ℕ)) (e : ℕ × SetupKind) → number ≢ 10 → 0 < length parts → chain_in last before text ≡ Ok row → chains_judged last (number + 1) row.delay parts ≡ Err e → chains_judged last number before (text ∷ parts) ≡ Err e
+unfolding chains_judged
+one_refused last number before text row [] e ne some one more = absurd (omega arith)
+one_refused last number before text row (first ∷ others) e ne some one more =
+    let test = not_line number 10 ne in
+    rw (test, one, more) refl
+
+-- something stands behind the lines of chains
+rest_some : (rows : List ChainRow) (rest : List (List ℕ)) → 0 < length rest → 0 < length (map chain_text rows ++ rest)
+rest_some [] rest some = some
+rest_some (row ∷ rows) rest some = omega arith
+
+-- the refusal behind the lines of chains is that of all lines
+chains_behind : (last number before : ℕ) (rows : List ChainRow) (rest : List (List ℕ)) (e : ℕ × SetupKind) → last < 2 ^ 64 → number + length rows ≤ 10 → 0 < length rest → AllByRecursion (IsRow last) rows → RiseFrom before rows → AllByRecursion HasKey rows → chains_judged last (number + length rows) (last_delay before rows) rest ≡ Err e → chains_judged last number before (map chain_text rows ++ rest) ≡ Err e
+chains_behind last number before [] rest e most high some each rise keys h =
+    let same : number + 0 ≡ number = omega arith in
+    subst (λ (n : ℕ). chains_judged last n before rest ≡ Err e) same h
+chains_behind last number before (row ∷ rows) rest e most high some each rise keys h =
+    let same : number + length (row ∷ rows) ≡ (number + 1) + length rows = omega arith in
+    let one = row_line_again last before row most (record { limits = each.0; above = rise.0 }) keys.0 in
+    let more = chains_behind last (number + 1) row.delay rows rest e most (omega arith) some each.1 rise.1 keys.1 (subst (λ (n : ℕ). chains_judged last n (last_delay row.delay rows) rest ≡ Err e) same h) in
+    one_refused last number before (chain_text row) row (map chain_text rows ++ rest) e (omega arith) (rest_some rows rest some) one more
+
+-- ---- the whole text
+
+abbrev whole : List (List ℕ) → Result Parts (ℕ × SetupKind)
+whole text = opening_judged text >>= λ opening. times_judged opening.1 >>= λ times. chains_judged times.0.last 6 0 times.1 >>= λ rows. whole_setup opening.0 times.0 rows
+
+-- a text that stops before its chains is refused there
+head_refused : (before : ℕ) (kind : SetupKind) (parts : Parts) (rest : List (List ℕ)) → IsHead parts → before < 5 → StopsHere (why_head before) kind rest → whole (take before (head_lines parts) ++ rest) ≡ Err (suc before, kind)
+head_refused zero kind parts rest limits few h = rw (first_refused kind rest h) refl
+head_refused (suc zero) kind parts rest limits few h = rw (second_refused kind rest h) refl
+head_refused (suc (suc zero)) kind parts rest limits few h =
+    rw (opening_taken parts.stream rest limits.stream (stops_some (why_head 2) kind rest h), third_refused kind rest h) refl
+head_refused (suc (suc (suc zero))) kind parts rest limits few h =
+    rw (opening_taken parts.stream (start_line parts.times.start ∷ rest) limits.stream (omega arith), fourth_refused kind parts.times.start rest limits.start h) refl
+head_refused (suc (suc (suc (suc zero)))) kind parts rest limits few h =
+    rw (opening_taken parts.stream (start_line parts.times.start ∷ span_line parts.times.length ∷ rest) limits.stream (omega arith), fifth_refused kind parts.times.start parts.times.length rest limits.start limits.times.shortest limits.times.longest h) refl
+head_refused (suc (suc (suc (suc (suc n))))) kind parts rest limits few h = absurd (omega arith)
+
+-- the refusal of the chains is that of the text
+chains_refused_behind : (parts : Parts) (behind : List (List ℕ)) (e : ℕ × SetupKind) → IsHead parts → 0 < length behind → chains_judged parts.times.last 6 0 behind ≡ Err e → whole (head_lines parts ++ behind) ≡ Err e
+chains_refused_behind parts behind e limits some h =
+    rw (opening_taken parts.stream (start_line parts.times.start ∷ span_line parts.times.length ∷ last_line parts.times.last ∷ behind) limits.stream (omega arith), times_taken parts.times behind limits.start limits.times some, h) refl
+
+-- a text that stops in its chains is refused there
+chain_lines_refused : (text : List (List ℕ)) (before : ℕ) (kind : SetupKind) → StopsInChains text before kind → whole text ≡ Err (suc before, kind)
+chain_lines_refused text before kind s =
+    let last = s.parts.times.last in
+    let rows = s.parts.rows in
+    let most = s.limits.times.most in
+    let bounds = chain_bounds (length rows) last (last_delay 0 rows) kind s.rest s.why in
+    let few = bounds.0 in
+    let count = s.count in
+    let number : 6 + length rows ≡ suc before = omega arith in
+    let here = chain_stopped last (6 + length rows) (length rows) (last_delay 0 rows) kind s.rest refl s.why in
+    let stopped = chains_behind last 6 0 rows s.rest (6 + length rows, kind) (omega arith) (omega arith) bounds.1 s.each (rise_again last rows s.each s.rise) s.keys here in
+    ap whole s.spelled ∙ chains_refused_behind s.parts (map chain_text rows ++ s.rest) (6 + length rows, kind) s.limits (rest_some rows s.rest bounds.1) stopped ∙ ap (λ (n : ℕ). Err (n, kind)) number
+
+-- the refusal of the lines is that of a text within its length
+short_refused : (text : List ℕ) (e : ℕ × SetupKind) → length text ≤ 4096 → whole (lines text) ≡ Err e → judged text ≡ Err e
+unfolding judged
+short_refused text e short h =
+    let test : ltb 4096 (length text) ≡ false = grind (arith, nat_tests) in
+    rw test h
+
+-- a text past its length is refused
+long_refused : (text : List ℕ) → 4096 < length text → judged text ≡ Err (0, TooLong)
+unfolding judged
+long_refused text long =
+    let test : ltb 4096 (length text) ≡ true = grind (arith, nat_tests) in
+    rw test refl
+
+-- a text with the cause at a line is refused there
+pub refused_judged : (text : List ℕ) (number : ℕ) (kind : SetupKind) → IsRefused text number kind → judged text ≡ Err (number, kind)
+refused_judged text zero kind h = long_refused text h.1 ∙ ap (λ (k : SetupKind). Err (0, k)) (sym h.0)
+refused_judged text (suc before) kind h =
+    elim h.1 [
+      | inl s ↦ short_refused text (suc before, kind) h.0 (ap whole s.spelled ∙ head_refused before kind s.parts s.rest s.limits s.few s.why)
+      | inr s ↦ short_refused text (suc before, kind) h.0 (chain_lines_refused (lines text) before kind s)
+    ]
