@@ -1,9 +1,9 @@
 pub mod Spelled
-pub mod Pending
-pub mod Ahead
-pub mod Nexts
-pub mod Outlines
-pub mod Whys
-pub mod Records
-pub mod Refusals
-pub mod Appended
+pub mod PendingTells
+pub mod NextRecord
+pub mod StaysAhead
+pub mod StepGives
+pub mod OutlineStep
+pub mod RefusalHasCause
+pub mod OutlineIsCapture
+pub mod CauseRefuses

@@ -6,7 +6,7 @@ use Rattle.tesla_base.specs.Front.{AreBytes, ◌>>=◌, bytes_front, number_fron
 use Rattle.tesla_base.proofs.Fronts.{bind_some, guard_some, some_is, Takes, Takes-then, bytes_take, bytes_again, field16, field64, bytes_shorter, number_shorter}
 use Rattle.tesla_capture.specs.Capture as captures
 use Rattle.tesla_capture.specs.Capture.{Record, Arrives, record_text, IsRecord}
-use Rattle.tesla_capture.specs.Reading.{datagram_at, arrival_at, record_at}
+use Rattle.tesla_capture.specs.Outline.{datagram_at, arrival_at, record_at}
 
 -- ---- records
 

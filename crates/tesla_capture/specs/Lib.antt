@@ -1,7 +1,7 @@
 pub mod Capture
-pub mod Reading
+pub mod Outline
 pub mod Refused
-pub mod Steps
+pub mod Reader
 pub mod Found
 pub mod Names
 pub mod Release

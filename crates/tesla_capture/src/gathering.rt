@@ -34,8 +34,8 @@ impl Gatherer {
     }
 
     /// Puts the record of a released packet, whose payload has the head's length of at most 1,200 bytes,
-    /// behind the records gathered. Where it doesn't fit, these are written to the sink first. It takes no
-    /// memory.
+    /// behind the records gathered. Where it doesn't fit, these are written to the sink first; where it fits,
+    /// the sink is left as it was. It takes no memory.
     ///
     /// True: the record was put. False: a front of the records gathered was written, and the sink's count of
     /// faults rose.
@@ -45,7 +45,7 @@ impl Gatherer {
         ensures all { result ≡ true → Gathers (S.written sink.old) (S.written sink.new) (gathered self.new) (gathered self.old ++ release_text head.now payload.now) }
         ensures front { result ≡ false → AppendsFront (S.written sink.old) (S.written sink.new) (gathered self.old) }
         ensures kept { result ≡ false → gathered self.new ≡ gathered self.old }
-        ensures waits { length (gathered self.old) + 17 + length payload.now ≤ 8192 → S.written sink.new ≡ S.written sink.old }
+        ensures waits { length (gathered self.old) + 17 + length payload.now ≤ 8192 → sink.new ≡ sink.old }
         ensures cause { HasCause (S.faults sink.old) (S.faults sink.new) (result ≡ false) }
         ensures name { S.name sink.new ≡ S.name sink.old }
     {
@@ -56,7 +56,7 @@ impl Gatherer {
         true
     }
 
-    /// Writes the records gathered. It takes no memory.
+    /// Writes the records gathered; where there is none, the sink is left as it was. It takes no memory.
     ///
     /// True: they were written, and none is gathered now. False: a front of them was written, and the
     /// sink's count of faults rose.
@@ -65,14 +65,18 @@ impl Gatherer {
         ensures empty { result ≡ true → gathered self.new ≡ [] }
         ensures kept { result ≡ false → gathered self.new ≡ gathered self.old }
         ensures front { AppendsFront (S.written sink.old) (S.written sink.new) (gathered self.old) }
+        ensures idle { gathered self.old ≡ [] → sink.new ≡ sink.old }
         ensures cause { HasCause (S.faults sink.old) (S.faults sink.new) (result ≡ false) }
         ensures name { S.name sink.new ≡ S.name sink.old }
     {
-        if !write_all(sink, &self.piece[..self.length]) {
-            return false;
+        if self.length == 0 {
+            return true;
         }
-        self.length = 0;
-        true
+        let written = write_all(sink, &self.piece[..self.length]);
+        if written {
+            self.length = 0;
+        }
+        written
     }
 
     /// Puts bytes, for which there is room, behind those gathered.
@@ -101,7 +105,7 @@ impl Gatherer {
         ensures all { result ≡ true → Gathers (S.written sink.old) (S.written sink.new) (gathered self.new) (gathered self.old) }
         ensures front { result ≡ false → AppendsFront (S.written sink.old) (S.written sink.new) (gathered self.old) }
         ensures kept { result ≡ false → gathered self.new ≡ gathered self.old }
-        ensures waits { length (gathered self.old) + more ≤ 8192 → S.written sink.new ≡ S.written sink.old }
+        ensures waits { length (gathered self.old) + more ≤ 8192 → sink.new ≡ sink.old }
         ensures cause { HasCause (S.faults sink.old) (S.faults sink.new) (result ≡ false) }
         ensures name { S.name sink.new ≡ S.name sink.old }
     {

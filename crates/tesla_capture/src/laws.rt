@@ -3,7 +3,7 @@
 ghost use Rattle.std.specs.Prelude.{◌≡◌, [], List, ℕ, Some, None};
 ghost use Rattle.tesla_base.specs.Front.{AreBytes};
 ghost use Rattle.tesla_capture.specs.Capture.{Record, IsCapture};
-ghost use Rattle.tesla_capture.specs.Reading.{Ended, Recorded, Refuses, next_at, outline_of, outline_at, with_record};
+ghost use Rattle.tesla_capture.specs.Outline.{AtEnd, Recorded, Refuses, next_at, outline_of, outline_at, with_record};
 ghost use Rattle.tesla_capture.specs.Refused.{IsRefused};
 ghost use Rattle.tesla_capture.specs.declared.record.RecordKind.{RecordKind};
 
@@ -23,7 +23,7 @@ pub fn captures()
 /// The outline of the rest of a file, one record after the other.
 pub fn outlines()
     // A file that ended has no record left.
-    ensures ended { (place : ℕ) (rest : List ℕ) → next_at place rest ≡ Ended → outline_at place rest ≡ record { records = []; fault = None } }
+    ensures ended { (place : ℕ) (rest : List ℕ) → next_at place rest ≡ AtEnd → outline_at place rest ≡ record { records = []; fault = None } }
     // A record comes before those after it.
     ensures one { (place now : ℕ) (rest after : List ℕ) (first : Record) → next_at place rest ≡ Recorded first now after → outline_at place rest ≡ with_record first (outline_at now after) }
     // A refused place ends the records.

@@ -1,10 +1,10 @@
 //! Captures of a stream and records of released packets, read and written.
 #![tactic(auto)]
 
+mod found;
 mod gathering;
 pub mod laws;
 mod reader;
-mod reading;
 mod record;
 mod release;
 mod writing;

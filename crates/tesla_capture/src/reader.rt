@@ -4,7 +4,7 @@ ghost use Rattle.std.specs.Prelude.{◌≡◌, ◌<◌, ◌≤◌, ◌+◌, ◌-
 ghost use Rattle.tesla_desk.specs.Faults.{HasCause};
 ghost use Rattle.tesla_capture.specs.Capture.{limit};
 
-use crate::reading::{Found, HeadFound, head_found, record_found};
+use crate::found::{Found, HeadFound, head_found, record_found};
 use crate::record::{RecordKind, Step};
 use tesla_desk::{ReadStep, Source};
 
@@ -28,8 +28,8 @@ pub struct Reader {
 }
 
 impl Reader {
-    ghost use Rattle.tesla_capture.specs.Steps.{pending, ahead, Gives, Moves, goes_on};
-    ghost use Rattle.tesla_capture.specs.Found.{Finds, Stands, Awaits, FindsHead, StandsHead, ReadsOn};
+    ghost use Rattle.tesla_capture.specs.Reader.{pending, ahead, Gives, Moves, length_given, goes_on};
+    ghost use Rattle.tesla_capture.specs.Found.{Finds, IsPending, Awaits, FindsHead, HeadIsPending, ReadsOn};
 
     /// A reader that has read nothing. It takes no memory.
     pub fn new() -> Reader
@@ -82,10 +82,16 @@ impl Reader {
     /// `Refused` comes exactly where the file is no capture by the record at that place, `End` exactly where
     /// it ends after a whole record or the head, and `ReadFault` only where the source's count of faults
     /// rose.
+    ///
+    /// No byte is dropped: what isn't taken is pending, or left in the source. After a record that is all
+    /// behind it, after `End` nothing, and after `Refused` all from its place on, but for the byte that told
+    /// that the file goes on behind the limit. After `ReadFault` it is all that was ahead, less the head
+    /// where that was taken, as `place` tells. The bytes of `into` behind the datagram stay as they were.
     pub fn next<S: Source>(&mut self, source: &mut S, into: &mut [u8; 2048]) -> Step
         requires going { self.old.going ≡ true }
         ensures gives { (rest : List ℕ) → ahead self.old (S.left source.old) ≡ Some rest → Gives result self.old.place rest self.new.place (ahead self.new (S.left source.new)) into.new }
         ensures moves { Moves result self.old.place self.new.place }
+        ensures behind { drop (length_given result) into.new ≡ drop (length_given result) into.old }
         ensures limited { self.new.place ≤ limit }
         ensures goes { self.new.going ≡ goes_on result }
         ensures cause { HasCause (S.faults source.old) (S.faults source.new) (result ≡ Step.ReadFault) }
@@ -99,6 +105,7 @@ impl Reader {
     fn step<S: Source>(&mut self, source: &mut S, into: &mut [u8; 2048]) -> Step
         ensures gives { (rest : List ℕ) → ahead self.old (S.left source.old) ≡ Some rest → Gives result self.old.place rest self.new.place (ahead self.new (S.left source.new)) into.new }
         ensures moves { Moves result self.old.place self.new.place }
+        ensures behind { drop (length_given result) into.new ≡ drop (length_given result) into.old }
         ensures cause { HasCause (S.faults source.old) (S.faults source.new) (result ≡ Step.ReadFault) }
     {
         if self.place != 0 {
@@ -122,6 +129,7 @@ impl Reader {
         requires { 0 < self.old.place }
         ensures gives { (rest : List ℕ) → ahead self.old (S.left source.old) ≡ Some rest → Gives result self.old.place rest self.new.place (ahead self.new (S.left source.new)) into.new }
         ensures moves { Moves result self.old.place self.new.place }
+        ensures behind { drop (length_given result) into.new ≡ drop (length_given result) into.old }
         ensures cause { HasCause (S.faults source.old) (S.faults source.new) (result ≡ Step.ReadFault) }
     {
         let found = self.find_record(source);
@@ -131,9 +139,10 @@ impl Reader {
     /// Takes the record that was found, or says why there is none.
     fn take_record(&mut self, found: Found, into: &mut [u8; 2048]) -> Step
         requires placed { 0 < self.old.place }
-        requires stands { Stands found (pending self.old) }
+        requires whole { IsPending found (pending self.old) }
         ensures gives { (rest : List ℕ) (left : Option (List ℕ)) → Finds found self.old.place (pending self.old) rest left → Gives result self.old.place rest self.new.place (ahead self.new left) into.new }
         ensures moves { Moves result self.old.place self.new.place }
+        ensures behind { drop (length_given result) into.new ≡ drop (length_given result) into.old }
         ensures failed { result ≡ Step.ReadFault → found ≡ Found.Failed }
     {
         match found {
@@ -160,6 +169,7 @@ impl Reader {
         requires few { count ≤ 2048 }
         ensures pending { pending self.new ≡ drop (11 + count) (pending self.old) }
         ensures datagram { take count into.new ≡ take count (drop 11 (pending self.old)) }
+        ensures behind { drop count into.new ≡ drop count into.old }
         ensures place { self.new.place ≡ self.old.place + (11 + count) }
     {
         into[..count].copy_from_slice(&self.pending()[11..11 + count]);
@@ -170,7 +180,7 @@ impl Reader {
     fn find_head<S: Source>(&mut self, source: &mut S) -> HeadFound
         requires { self.old.place ≡ 0 }
         ensures place { self.new.place ≡ 0 }
-        ensures stands { StandsHead result (pending self.new) }
+        ensures whole { HeadIsPending result (pending self.new) }
         ensures finds { (rest : List ℕ) → ahead self.old (S.left source.old) ≡ Some rest → FindsHead result (pending self.new) rest (S.left source.new) }
         ensures cause { HasCause (S.faults source.old) (S.faults source.new) (result ≡ HeadFound.Failed) }
     {
@@ -189,7 +199,7 @@ impl Reader {
     /// Reads on until it is known what comes next.
     fn find_record<S: Source>(&mut self, source: &mut S) -> Found
         ensures place { self.new.place ≡ self.old.place }
-        ensures stands { Stands result (pending self.new) }
+        ensures whole { IsPending result (pending self.new) }
         ensures finds { (rest : List ℕ) → ahead self.old (S.left source.old) ≡ Some rest → Finds result self.new.place (pending self.new) rest (S.left source.new) }
         ensures cause { HasCause (S.faults source.old) (S.faults source.new) (result ≡ Found.Failed) }
     {
@@ -209,7 +219,7 @@ impl Reader {
         ensures place { self.new.place ≡ self.old.place }
         ensures more { result ≡ None → length (pending self.old) < length (pending self.new) }
         ensures ahead { result ≡ None → ahead self.new (S.left source.new) ≡ ahead self.old (S.left source.old) }
-        ensures stands { IfSome result (λ found. Stands found (pending self.new)) }
+        ensures whole { IfSome result (λ found. IsPending found (pending self.new)) }
         ensures finds { IfSome result (λ found. (rest : List ℕ) → ahead self.old (S.left source.old) ≡ Some rest → Finds found self.new.place (pending self.new) rest (S.left source.new)) }
         ensures cause { HasCause (S.faults source.old) (S.faults source.new) (result ≡ Some Found.Failed) }
     {
@@ -228,7 +238,7 @@ impl Reader {
     fn find_past<S: Source>(&self, source: &mut S) -> Found
         requires awaits { Awaits (pending self.now) }
         requires full { self.now.place + length (pending self.now) ≡ limit }
-        ensures stands { Stands result (pending self.now) }
+        ensures whole { IsPending result (pending self.now) }
         ensures finds { (rest : List ℕ) → ahead self.now (S.left source.old) ≡ Some rest → Finds result self.now.place (pending self.now) rest (S.left source.new) }
         ensures cause { HasCause (S.faults source.old) (S.faults source.new) (result ≡ Found.Failed) }
     {

@@ -1,9 +1,10 @@
 //! What reading the next record of a capture answers.
 
-ghost use Rattle.std.specs.Prelude.{◌≡◌, Some};
+ghost use Rattle.std.specs.Prelude.{Some};
 ghost use Rattle.tesla_capture.specs.Names.{kind_name};
 
 use std::fmt;
+use tesla_base::Kind;
 
 /// Why a file is refused at a place. The texts are the names.
 #[derive(Clone, Copy, Debug, PartialEq, Eq)]
@@ -20,16 +21,17 @@ pub enum RecordKind {
     TooLarge,
 }
 
-/// The name of a kind.
-fn name(kind: RecordKind) -> &'static str
-    ensures { result.now ≡ kind_name kind }
-{
-    match kind {
-        RecordKind::BadHead => "BadHead",
-        RecordKind::BadKind => "BadKind",
-        RecordKind::Truncated => "Truncated",
-        RecordKind::TooLong => "TooLong",
-        RecordKind::TooLarge => "TooLarge",
+impl Kind for RecordKind {
+    ghost printed = { kind_name };
+
+    fn name(self) -> &'static str {
+        match self {
+            RecordKind::BadHead => "BadHead",
+            RecordKind::BadKind => "BadKind",
+            RecordKind::Truncated => "Truncated",
+            RecordKind::TooLong => "TooLong",
+            RecordKind::TooLarge => "TooLarge",
+        }
     }
 }
 
@@ -37,7 +39,7 @@ impl fmt::Display for RecordKind {
     ghost output = { λ kind. Some (kind_name kind) };
 
     fn fmt<W: fmt::Write>(&self, f: &mut fmt::Formatter<W>) -> fmt::Result {
-        f.write_str(name(*self))
+        f.write_str(self.name())
     }
 }
 

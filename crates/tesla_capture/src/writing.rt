@@ -7,7 +7,7 @@ ghost use Rattle.tesla_desk.specs.Outside.{AppendsFront, with_bytes};
 ghost use Rattle.tesla_capture.specs.Capture.{head as capture_head, record_text, Arrives, Takes};
 ghost use Rattle.tesla_capture.specs.Release.{head_text, release_text};
 
-use crate::reading::HEAD;
+use crate::found::HEAD;
 use crate::release::Head;
 use tesla_desk::{Sink, write_all};
 

@@ -1,5 +1,5 @@
-use Rattle.tesla_capture.proofs.Records.{capture_takes, capture_again, is_refused}
-use Rattle.tesla_capture.proofs.Refusals.{refused_only}
+use Rattle.tesla_capture.proofs.OutlineIsCapture.{capture_takes, capture_again, is_refused}
+use Rattle.tesla_capture.proofs.CauseRefuses.{refused_only}
 use Rattle.tesla_capture.proofs.laws.captures.Goals as goal
 
 pub returns-clause-found : goal.returns-clause-found

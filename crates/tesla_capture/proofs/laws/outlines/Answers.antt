@@ -1,9 +1,9 @@
-use Rattle.tesla_capture.specs.Reading.{Ended, Recorded, Refuses}
-use Rattle.tesla_capture.proofs.Outlines.{one_step}
+use Rattle.tesla_capture.specs.Outline.{AtEnd, Recorded, Refuses}
+use Rattle.tesla_capture.proofs.OutlineStep.{one_step}
 use Rattle.tesla_capture.proofs.laws.outlines.Goals as goal
 
 pub returns-clause-ended : goal.returns-clause-ended
-returns-clause-ended c = λ place rest e. one_step place rest Ended e
+returns-clause-ended c = λ place rest e. one_step place rest AtEnd e
 
 pub returns-clause-one : goal.returns-clause-one
 returns-clause-one c = λ place now rest after first e. one_step place rest (Recorded first now after) e

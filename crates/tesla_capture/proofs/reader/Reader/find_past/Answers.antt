@@ -1,6 +1,6 @@
-use Rattle.std.proofs.Common.{arith}
-use Rattle.tesla_capture.specs.Steps.{pending}
-use Rattle.tesla_capture.proofs.Ahead.{past_finds, more_finds, end_finds}
+use Rattle.std.proofs.Common.{refl, arith}
+use Rattle.tesla_capture.specs.Reader.{pending}
+use Rattle.tesla_capture.proofs.StaysAhead.{past_finds, more_finds, end_finds}
 use Rattle.tesla_capture.proofs.reader.Reader.find_past.Goals as goal
 
 pub returns-then-held-gt0-clause-finds : goal.returns-then-held-gt0-clause-finds
@@ -9,8 +9,8 @@ returns-then-held-gt0-clause-finds g c rest e =
 
 pub returns-in-Got-clause-finds : goal.returns-in-Got-clause-finds
 returns-in-Got-clause-finds g c rest e =
-    more_finds c.args.self.now.place _ (pending c.args.self.now) _ _ _ rest c.requires.awaits c.requires.full c.in-Got.ensures.step e
+    more_finds c.args.self.now.place _ (pending c.args.self.now) _ _ _ rest c.requires.awaits c.requires.full (omega arith) (omega arith) c.in-Got.ensures.step e
 
 pub returns-in-End-clause-finds : goal.returns-in-End-clause-finds
 returns-in-End-clause-finds g c rest e =
-    end_finds c.args.self.now.place (pending c.args.self.now) _ _ rest (omega arith) c.in-End.ensures.step e
+    end_finds c.args.self.now.place (pending c.args.self.now) _ _ _ rest (omega arith) refl c.in-End.ensures.step e

@@ -1,5 +1,5 @@
 use Rattle.std.proofs.Common.{◌≡◌, ◌≤◌, ◌-◌, length}
-use Rattle.tesla_capture.specs.Steps.{pending, ahead}
+use Rattle.tesla_capture.specs.Reader.{pending, ahead}
 use Rattle.tesla_capture.proofs.reader.Reader.find_record.Given as goal
 
 abbrev pub invariant-loop-found : goal.invariant-loop-found

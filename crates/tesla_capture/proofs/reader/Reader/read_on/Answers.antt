@@ -1,6 +1,7 @@
 use Rattle.std.proofs.Common.{ℕ, ◌∙◌, ◌≤◌, List, ◌++◌, length, take, ap, arith}
-use Rattle.tesla_capture.specs.Steps.{pending}
-use Rattle.tesla_capture.proofs.Ahead.{read_behind, got_reads}
+use Rattle.tesla_capture.specs.Reader.{pending}
+use Rattle.tesla_base.proofs.Lists.{part_put_behind}
+use Rattle.tesla_capture.proofs.StaysAhead.{got_reads}
 use Rattle.tesla_capture.proofs.reader.Reader.read_on.Goals as goal
 
 pub returns-in-Got-clause-reads : goal.returns-in-Got-clause-reads
@@ -11,5 +12,5 @@ returns-in-Got-clause-reads g c =
     let within : moved.until ≤ length moved.piece = omega arith in
     let brings = c.in-Got.ensures.step in
     got_reads (pending c.args.self.now) _ into n _ _
-    (read_behind moved.piece into moved.from moved.until _ n moved.ordered within brings.fits ∙ ap (λ (bytes : List ℕ). bytes ++ take n into) c.move_to_front.ensures.pending)
+    (part_put_behind moved.piece into moved.from moved.until _ n moved.ordered within brings.fits ∙ ap (λ (bytes : List ℕ). bytes ++ take n into) c.move_to_front.ensures.pending)
     brings

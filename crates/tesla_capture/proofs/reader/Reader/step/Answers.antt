@@ -1,11 +1,13 @@
-use Rattle.std.proofs.Common.{◌≡◌, ◌∙◌, ℕ, ap, subst, sym, arith}
-use Rattle.tesla_capture.specs.Reading.{next_at}
-use Rattle.tesla_capture.specs.Steps.{pending, ahead, Gives}
-use Rattle.tesla_capture.proofs.Ahead.{next_bad, head_gives}
+use Rattle.std.proofs.Common.{◌≡◌, ℕ, refl, subst, sym, arith, inl}
+use Rattle.tesla_capture.specs.Reader.{pending, ahead, Gives}
+use Rattle.tesla_capture.proofs.StepGives.{bad_gives, head_gives}
 use Rattle.tesla_capture.proofs.reader.Reader.step.Goals as goal
 
 pub returns-in-Bad-clause-gives : goal.returns-in-Bad-clause-gives
-returns-in-Bad-clause-gives g c rest e = ap (λ (place : ℕ). next_at place rest) c.if-self-ne0.false ∙ next_bad rest (c.in-Bad.ensures.finds rest e)
+returns-in-Bad-clause-gives g c rest e = bad_gives _ _ rest _ c.if-self-ne0.false (c.in-Bad.ensures.finds rest e)
+
+pub returns-in-Failed-clause-gives : goal.returns-in-Failed-clause-gives
+returns-in-Failed-clause-gives g c rest e = (rest, c.in-Failed.ensures.finds rest e, inl (omega arith, refl))
 
 pub returns-in-Whole-clause-gives : goal.returns-in-Whole-clause-gives
 returns-in-Whole-clause-gives g c rest e =
