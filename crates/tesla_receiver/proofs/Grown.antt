@@ -14,7 +14,7 @@ use Rattle.tesla_receiver.specs.Packets.{unless_named, proved_by, batch, candida
 use Rattle.tesla_receiver.specs.Held.{has_place, held_of}
 use Rattle.tesla_receiver.specs.Book.{IsKept}
 use Rattle.tesla_receiver.proofs.EachAfter.{each_after-append, each_after_more}
-use Rattle.tesla_receiver.proofs.Enumerated.{count_place_more}
+use Rattle.tesla_base.proofs.Lists.{count_by_numbered_more}
 
 -- the firsts of one release more
 pub firsts_more : (earlier all : List Release) (place : ℕ) (d : Release) (firsts after : List Release) (first : Option Release) → place < length all → firsts ≡ each_after unless_named earlier (take place all) → option_to_list first ≡ unless_named (earlier ++ take place all) (get_or all place d) → after ≡ firsts ++ option_to_list first → after ≡ each_after unless_named earlier (take (place + 1) all)
@@ -29,7 +29,7 @@ pub held_more : (cfg : Config) (arrivals : List Arrival) (given : ℕ) (asked : 
 held_more cfg arrivals given asked place held more arrival h same so_far test =
     ap (λ n. n + more) so_far
     ∙ ap (λ n. count_by (λ (p : ℕ × Arrival). has_place cfg arrivals given asked p.0 (packet_of p.1)) (enumerate_from 0 (take place arrivals)) + n) (test ∙ ap (λ a. cond (has_place cfg arrivals given asked place (packet_of a)) 1 0) same)
-    ∙ sym (count_place_more (λ (p : ℕ × Arrival). has_place cfg arrivals given asked p.0 (packet_of p.1)) arrivals place arrival h)
+    ∙ sym (count_by_numbered_more (λ (p : ℕ × Arrival). has_place cfg arrivals given asked p.0 (packet_of p.1)) arrivals place arrival h)
 
 pub held_whole : (cfg : Config) (arrivals : List Arrival) (given : ℕ) (asked : Option ℕ) (place held : ℕ) → length arrivals ≤ place → held ≡ count_by (λ (p : ℕ × Arrival). has_place cfg arrivals given asked p.0 (packet_of p.1)) (enumerate_from 0 (take place arrivals)) → held ≡ held_of cfg arrivals given asked
 unfolding held_of
@@ -52,17 +52,24 @@ kept_more cfg arrivals arrival fresh new proved given more firsts k n m f =
     }
 
 -- an arrival takes the same keys with another verdict with which it takes them
-same_taken : (cfg : Config) (a : Arrival) (verdict : Verdict) → takes_keys a.verdict ≡ takes_keys verdict → keys_taken cfg a ≡ keys_taken cfg (record { ingest = a.ingest; reading = a.reading; bytes = a.bytes; verdict = verdict })
+pub same_taken : (cfg : Config) (a : Arrival) (verdict : Verdict) → takes_keys a.verdict ≡ takes_keys verdict → keys_taken cfg a ≡ keys_taken cfg (record { ingest = a.ingest; reading = a.reading; bytes = a.bytes; verdict = verdict })
 same_taken cfg a verdict e = ap (λ b. cond b (keys_in cfg (frame_of a.bytes)) []) e
+
+-- what is proved is the same where the last arrival takes the same keys
+pub candidates_same : (cfg : Config) (front : List Arrival) (a b : Arrival) → keys_taken cfg a ≡ keys_taken cfg b → candidates cfg (front ++ a ∷ []) ≡ candidates cfg (front ++ b ∷ [])
+unfolding candidates
+candidates_same cfg front a b same =
+    let new : new_keys cfg front a ≡ new_keys cfg front b = ap (filter (λ row. nat_lt (newest cfg front row.chain.0) row.index)) same in
+    each_after_more (batch cfg) front a ∙ ap (λ rs. each_after (batch cfg) [] front ++ proved_by cfg front rs) new ∙ sym (each_after_more (batch cfg) front b)
 
 -- the kept lists stay with another verdict of the last arrival with which it takes its keys
 pub kept_rejudged : (cfg : Config) (front : List Arrival) (a : Arrival) (verdict : Verdict) (fresh : List KeyRow) (proved given : List Release) → takes_keys a.verdict ≡ takes_keys verdict → IsKept cfg (front ++ a ∷ []) fresh proved given → IsKept cfg (front ++ record { ingest = a.ingest; reading = a.reading; bytes = a.bytes; verdict = verdict } ∷ []) fresh proved given
-unfolding fresh_keys candidates released
+unfolding fresh_keys released
 kept_rejudged cfg front a verdict fresh proved given e k =
     let b : Arrival = record { ingest = a.ingest; reading = a.reading; bytes = a.bytes; verdict = verdict } in
-    let new : new_keys cfg front a ≡ new_keys cfg front b = ap (filter (λ row. nat_lt (newest cfg front row.chain.0) row.index)) (same_taken cfg a verdict e) in
-    let all : each_after (batch cfg) [] (front ++ a ∷ []) ≡ each_after (batch cfg) [] (front ++ b ∷ []) =
-    each_after_more (batch cfg) front a ∙ ap (λ rs. each_after (batch cfg) [] front ++ proved_by cfg front rs) new ∙ sym (each_after_more (batch cfg) front b) in
+    let same : keys_taken cfg a ≡ keys_taken cfg b = same_taken cfg a verdict e in
+    let new : new_keys cfg front a ≡ new_keys cfg front b = ap (filter (λ row. nat_lt (newest cfg front row.chain.0) row.index)) same in
+    let all : candidates cfg (front ++ a ∷ []) ≡ candidates cfg (front ++ b ∷ []) = candidates_same cfg front a b same in
     record {
       fresh = k.fresh ∙ each_after_more (new_keys cfg) front a ∙ ap (λ rs. each_after (new_keys cfg) [] front ++ rs) new ∙ sym (each_after_more (new_keys cfg) front b);
       candidates = k.candidates ∙ all;

@@ -1,9 +1,10 @@
 -- A released packet's place is that of an arrival, so its record stays when more arrives.
-use Rattle.std.proofs.Common.{◌≡◌, ℕ, zero, suc, ◌+◌, ◌<◌, ◌≤◌, Bool, true, false, cond, ◌&&◌, List, [], ◌∷◌, ◌++◌, length, length-append, take, flat_map, Option, Some, None, refl, ap, subst, ◌∙◌, arith}
-use Rattle.std.specs.Prelude.{slice_get, nat_lt, find}
+use Rattle.std.proofs.Common.{◌≡◌, ℕ, ◌+◌, ◌<◌, ◌≤◌, Bool, true, false, cond, List, [], ◌∷◌, ◌++◌, length, length-append, take, flat_map, Option, Some, None, refl, ap, subst, ◌∙◌, arith}
+use Rattle.std.specs.Prelude.{nat_lt, find}
 use Rattle.std.specs.List.{list_any, list_all, enumerate_from}
-use Rattle.std.proofs.lemmas.Bool.{lt-ltb, ltb-true}
+use Rattle.std.proofs.lemmas.Bool.{lt-ltb, ltb-true, and_from, and_parts}
 use Rattle.std.proofs.lemmas.List.Folds.{list_all-append}
+use Rattle.tesla_base.proofs.Lists.{list_all_both, list_all-take, slice_get-append}
 use Rattle.tesla_capture.specs.Release.{release_text}
 use Rattle.tesla_frame.specs.declared.row.KeyRow.{KeyRow}
 use Rattle.tesla_receiver.specs.declared.config.Config.{Config}
@@ -20,36 +21,9 @@ use Rattle.tesla_receiver.specs.Report.{text_of, texts_of}
 abbrev pub is_below : ℕ → Release → Bool
 is_below n release = nat_lt release.place n
 
-both : (a b : Bool) → a ≡ true → b ≡ true → (a && b) ≡ true
-both true b p q = q
-both false b p q = p
-
-first_of : (a b : Bool) → (a && b) ≡ true → a ≡ true
-first_of true b h = refl
-first_of false b h = h
-
-second_of : (a b : Bool) → (a && b) ≡ true → b ≡ true
-second_of true b h = h
-second_of false b h = absurd (cc)
-
-all_joined : (n : ℕ) (xs ys : List Release) → list_all (is_below n) xs ≡ true → list_all (is_below n) ys ≡ true → list_all (is_below n) (xs ++ ys) ≡ true
-all_joined n xs ys p q = list_all-append (is_below n) xs ys ∙ both (list_all (is_below n) xs) (list_all (is_below n) ys) p q
-
-all_wider : (n m : ℕ) (xs : List Release) → n ≤ m → list_all (is_below n) xs ≡ true → list_all (is_below m) xs ≡ true
-all_wider n m [] h p = refl
-all_wider n m (x ∷ xs) h p =
-    let low : x.place < n = ltb-true x.place n (first_of (is_below n x) (list_all (is_below n) xs) p) in
-    both (is_below m x) (list_all (is_below m) xs) (lt-ltb x.place m (omega arith)) (all_wider n m xs h (second_of (is_below n x) (list_all (is_below n) xs) p))
-
-all_front : (n k : ℕ) (xs : List Release) → list_all (is_below n) xs ≡ true → list_all (is_below n) (take k xs) ≡ true
-all_front n zero xs p = refl
-all_front n (suc k) [] p = refl
-all_front n (suc k) (x ∷ xs) p =
-    both (is_below n x) (list_all (is_below n) (take k xs)) (first_of (is_below n x) (list_all (is_below n) xs) p) (all_front n k xs (second_of (is_below n x) (list_all (is_below n) xs) p))
-
 on_below : (n place : ℕ) (packet : Packet) (o : Option ℕ) → place < n → list_all (is_below n) (release_on place packet.frame o) ≡ true
 on_below n place packet None h = refl
-on_below n place packet (Some chain) h = both (nat_lt place n) true (lt-ltb place n h) refl
+on_below n place packet (Some chain) h = and_from (nat_lt place n) true (lt-ltb place n h) refl
 
 of_below : (cfg : Config) (before : List Arrival) (new : List KeyRow) (n place : ℕ) (o : Option Packet) → place < n → list_all (is_below n) (release_of cfg before new place o) ≡ true
 of_below cfg before new n place None h = refl
@@ -58,7 +32,7 @@ of_below cfg before new n place (Some packet) h = on_below n place packet (find 
 proved_below : (cfg : Config) (before : List Arrival) (new : List KeyRow) (n m : ℕ) (xs : List Arrival) → m + length xs ≤ n → list_all (is_below n) (flat_map (λ (p : ℕ × Arrival). release_of cfg before new p.0 (packet_of p.1)) (enumerate_from m xs)) ≡ true
 proved_below cfg before new n m [] h = refl
 proved_below cfg before new n m (x ∷ xs) h =
-    all_joined n (release_of cfg before new m (packet_of x)) (flat_map (λ (p : ℕ × Arrival). release_of cfg before new p.0 (packet_of p.1)) (enumerate_from (m + 1) xs))
+    list_all_both (is_below n) (release_of cfg before new m (packet_of x)) (flat_map (λ (p : ℕ × Arrival). release_of cfg before new p.0 (packet_of p.1)) (enumerate_from (m + 1) xs))
     (of_below cfg before new n m (packet_of x) (omega arith)) (proved_below cfg before new n (m + 1) xs (omega arith))
 
 candidates_below : (cfg : Config) (before xs : List Arrival) → list_all (is_below (length before + length xs)) (each_after (batch cfg) before xs) ≡ true
@@ -67,41 +41,38 @@ candidates_below cfg before (x ∷ xs) =
     let here = proved_below cfg before (new_keys cfg before x) (length before + length (x ∷ xs)) 0 before (omega arith) in
     let later = candidates_below cfg (before ++ x ∷ []) xs in
     let same : length (before ++ x ∷ []) + length xs ≡ length before + length (x ∷ xs) = ap (λ n. n + length xs) (length-append before (x ∷ [])) ∙ omega arith in
-    all_joined (length before + length (x ∷ xs)) (batch cfg before x) (each_after (batch cfg) (before ++ x ∷ []) xs) here (rw same at later)
+    list_all_both (is_below (length before + length (x ∷ xs))) (batch cfg before x) (each_after (batch cfg) (before ++ x ∷ []) xs) here (rw same at later)
 
-unless_below : (n : ℕ) (release : Release) (b : Bool) → is_below n release ≡ true → list_all (is_below n) (cond b [] (release ∷ [])) ≡ true
-unless_below n release true h = refl
-unless_below n release false h = both (is_below n release) true h refl
+pub unless_pass : (q : Release → Bool) (release : Release) (b : Bool) → q release ≡ true → list_all q (cond b [] (release ∷ [])) ≡ true
+unless_pass q release true h = refl
+unless_pass q release false h = and_from (q release) true h refl
 
-firsts_below : (n : ℕ) (before xs : List Release) → list_all (is_below n) xs ≡ true → list_all (is_below n) (each_after unless_named before xs) ≡ true
-firsts_below n before [] p = refl
-firsts_below n before (x ∷ xs) p =
-    all_joined n (unless_named before x) (each_after unless_named (before ++ x ∷ []) xs)
-    (unless_below n x (list_any (has_name x.name) before) (first_of (is_below n x) (list_all (is_below n) xs) p))
-    (firsts_below n (before ++ x ∷ []) xs (second_of (is_below n x) (list_all (is_below n) xs) p))
+-- the first of each name pass what all pass
+pub firsts_pass : (q : Release → Bool) (before xs : List Release) → list_all q xs ≡ true → list_all q (each_after unless_named before xs) ≡ true
+firsts_pass q before [] p = refl
+firsts_pass q before (x ∷ xs) p =
+    list_all-append q (unless_named before x) (each_after unless_named (before ++ x ∷ []) xs)
+    ∙ and_from (list_all q (unless_named before x)) (list_all q (each_after unless_named (before ++ x ∷ []) xs))
+    (unless_pass q x (list_any (has_name x.name) before) ((and_parts (q x) (list_all q xs) p).0))
+    (firsts_pass q (before ++ x ∷ []) xs ((and_parts (q x) (list_all q xs) p).1))
 
 -- each released packet's place is that of an arrival
 pub released_below : (cfg : Config) (arrivals : List Arrival) → list_all (is_below (length arrivals)) (released cfg arrivals) ≡ true
 unfolding released candidates
 released_below cfg arrivals =
     let same : length {A = Arrival} [] + length arrivals ≡ length arrivals = omega arith in
-    firsts_below (length arrivals) [] (each_after (batch cfg) [] arrivals)
+    firsts_pass (is_below (length arrivals)) [] (each_after (batch cfg) [] arrivals)
     (subst (λ n. list_all (is_below n) (each_after (batch cfg) [] arrivals) ≡ true) same (candidates_below cfg [] arrivals))
-
-slice_get_front : {A : Type 0} (xs ys : List A) (k : ℕ) → k < length xs → slice_get (xs ++ ys) k ≡ slice_get xs k
-slice_get_front [] ys k h = absurd (omega arith)
-slice_get_front (x ∷ xs) ys zero h = refl
-slice_get_front (x ∷ xs) ys (suc k) h = slice_get_front xs ys k (omega arith)
 
 texts_stay_from : (arrivals more : List Arrival) (n : ℕ) (xs : List Release) → list_all (is_below (length arrivals)) xs ≡ true → flat_map (text_of (arrivals ++ more)) (enumerate_from n xs) ≡ flat_map (text_of arrivals) (enumerate_from n xs)
 texts_stay_from arrivals more n [] p = refl
 texts_stay_from arrivals more n (x ∷ xs) p =
-    let same = slice_get_front arrivals more x.place (ltb-true x.place (length arrivals) (first_of (is_below (length arrivals) x) (list_all (is_below (length arrivals)) xs) p)) in
-    let later = texts_stay_from arrivals more (n + 1) xs (second_of (is_below (length arrivals) x) (list_all (is_below (length arrivals)) xs) p) in
+    let same = slice_get-append arrivals more x.place (ltb-true x.place (length arrivals) ((and_parts (is_below (length arrivals) x) (list_all (is_below (length arrivals)) xs) p).0)) in
+    let later = texts_stay_from arrivals more (n + 1) xs ((and_parts (is_below (length arrivals) x) (list_all (is_below (length arrivals)) xs) p).1) in
     ap (λ (o : Option Arrival). release_text (head_of n x (payload_of o)) (payload_of o) ++ flat_map (text_of (arrivals ++ more)) (enumerate_from (n + 1) xs)) same
     ∙ ap (λ rs. text_of arrivals (n, x) ++ rs) later
 
 -- the records of packets that were released before stay when more arrives
 pub texts_stay : (cfg : Config) (arrivals more : List Arrival) (k : ℕ) → texts_of (arrivals ++ more) (take k (released cfg arrivals)) ≡ texts_of arrivals (take k (released cfg arrivals))
 texts_stay cfg arrivals more k =
-    texts_stay_from arrivals more 0 (take k (released cfg arrivals)) (all_front (length arrivals) k (released cfg arrivals) (released_below cfg arrivals))
+    texts_stay_from arrivals more 0 (take k (released cfg arrivals)) (list_all-take (is_below (length arrivals)) k (released cfg arrivals) (released_below cfg arrivals))

@@ -3,7 +3,6 @@ use Rattle.std.proofs.Common.{◌≡◌, ℕ, zero, suc, ◌+◌, ◌<◌, ◌�
 use Rattle.std.specs.Prelude.{slice_get}
 use Rattle.std.specs.List.{list_all, range_with_len}
 use Rattle.std.proofs.lemmas.List.{append-nil, take-append-le, take_all}
-use Rattle.std.proofs.lemmas.List.Concat.{flat_map-append}
 use Rattle.std.proofs.lemmas.List.Sums.{sum_by_push}
 use Rattle.std.proofs.lemmas.Option.{slice_get_within, get_or_from_slice_get, slice_get_cases}
 use Rattle.tesla_capture.specs.Capture.{Record}
@@ -13,14 +12,14 @@ use Rattle.tesla_receiver.specs.declared.history.Arrival.{Arrival}
 use Rattle.tesla_receiver.specs.declared.history.Entry.{Entry}
 use Rattle.tesla_receiver.specs.declared.history.Entry.TheVariants.{Arrived, Taken, Ended}
 use Rattle.tesla_receiver.specs.declared.release.Release.{Release}
-use Rattle.tesla_receiver.specs.Keys.{each_after}
-use Rattle.tesla_receiver.specs.Packets.{batch, candidates, unless_named, released}
+use Rattle.tesla_receiver.specs.Packets.{released}
 use Rattle.tesla_receiver.specs.Answer.{verdict_of}
 use Rattle.tesla_receiver.specs.History.{Event, Arrives, Takes, Ends, entry_of, IsLegal, arrival_in, arrivals_in, gives, given_in, has_end, reply_to, reply_with}
 use Rattle.tesla_receiver.specs.Report.{record_in, records_of, text_of, texts_of, released_text}
 use Rattle.tesla_receiver.specs.Played.{event_in, after_events, waiting_in, finished, played}
-use Rattle.tesla_receiver.proofs.EachAfter.{each_after-append}
-use Rattle.tesla_receiver.proofs.Enumerated.{flat_map_place_more}
+use Rattle.tesla_receiver.proofs.Events.{records_more, arrivals_more}
+use Rattle.tesla_receiver.proofs.Fronts.{released_more}
+use Rattle.tesla_base.proofs.Lists.{flat_map_numbered_more}
 use Rattle.tesla_receiver.proofs.Places.{texts_stay}
 use Rattle.tesla_receiver.proofs.Standing.{entered_legal, given_same}
 
@@ -39,26 +38,12 @@ IsAlone (Arrives ingest reading bytes) = Unit {0}
 IsAlone (Takes releaser) = releaser ≡ 0
 IsAlone (Ends ingest) = Unit {0}
 
--- what more is released when more arrives
-released_more : (cfg : Config) (xs ys : List Arrival) → (rest : List Release) × (released cfg (xs ++ ys) ≡ released cfg xs ++ rest)
-unfolding released candidates
-released_more cfg xs ys =
-    let a : List Release = each_after (batch cfg) [] xs in
-    let b : List Release = each_after (batch cfg) xs ys in
-    (each_after unless_named a b, ap (each_after unless_named []) (each_after-append (batch cfg) [] xs ys) ∙ each_after-append unless_named [] a b)
-
-records_more : (h : List Entry) (e : Entry) → records_of 0 (h ++ e ∷ []) ≡ records_of 0 h ++ record_in 0 e
-records_more h e = flat_map-append (record_in 0) h (e ∷ []) ∙ ap (λ r. records_of 0 h ++ r) (append-nil (record_in 0 e))
-
-arrivals_more : (h : List Entry) (e : Entry) → arrivals_in (h ++ e ∷ []) ≡ arrivals_in h ++ arrival_in e
-arrivals_more h e = flat_map-append arrival_in h (e ∷ []) ∙ ap (λ r. arrivals_in h ++ r) (append-nil (arrival_in e))
-
 -- an entry that brings nothing and gives nothing
 wrote_same : (cfg : Config) (h : List Entry) (e : Entry) → Wrote cfg h → arrival_in e ≡ [] → gives e ≡ false → record_in 0 e ≡ [] → Wrote cfg (h ++ e ∷ [])
 wrote_same cfg h e w none quiet nothing =
     let arrivals : arrivals_in (h ++ e ∷ []) ≡ arrivals_in h = arrivals_more h e ∙ ap (λ r. arrivals_in h ++ r) none ∙ append-nil (arrivals_in h) in
     let given : given_in h ≡ given_in (h ++ e ∷ []) = given_same h e quiet in
-    let records : records_of 0 (h ++ e ∷ []) ≡ records_of 0 h = records_more h e ∙ ap (λ r. records_of 0 h ++ r) nothing ∙ append-nil (records_of 0 h) in
+    let records : records_of 0 (h ++ e ∷ []) ≡ records_of 0 h = records_more 0 h e ∙ ap (λ r. records_of 0 h ++ r) nothing ∙ append-nil (records_of 0 h) in
     record {
       few = subst (λ g. g ≤ length (released cfg (arrivals_in (h ++ e ∷ [])))) given (subst (λ (xs : List Arrival). given_in h ≤ length (released cfg xs)) (sym arrivals) w.few);
       same = records ∙ w.same ∙ ap (λ g. texts_of (arrivals_in h) (take g (released cfg (arrivals_in h)))) given
@@ -73,7 +58,7 @@ wrote_arrival cfg h arrival w =
     let more = released_more cfg xs (arrival ∷ []) in
     let arrivals : arrivals_in (h ++ e ∷ []) ≡ xs ++ arrival ∷ [] = arrivals_more h e in
     let given : given_in h ≡ given_in (h ++ e ∷ []) = given_same h e refl in
-    let records : records_of 0 (h ++ e ∷ []) ≡ records_of 0 h = records_more h e ∙ append-nil (records_of 0 h) in
+    let records : records_of 0 (h ++ e ∷ []) ≡ records_of 0 h = records_more 0 h e ∙ append-nil (records_of 0 h) in
     let front : take (given_in h) (released cfg (xs ++ arrival ∷ [])) ≡ take (given_in h) (released cfg xs) =
     ap (take (given_in h)) more.1 ∙ take-append-le (given_in h) (released cfg xs) more.0 w.few in
     let long : length (released cfg (xs ++ arrival ∷ [])) ≡ length (released cfg xs) + length more.0 = ap length more.1 ∙ length-append (released cfg xs) more.0 in
@@ -95,9 +80,9 @@ wrote_given cfg h release ended w next =
     let given : g + 1 ≡ given_in (h ++ e ∷ []) = sym (sum_by_push (λ x. cond (gives x) 1 0) h e) in
     let inside : g < length (released cfg xs) = slice_get_within (released cfg xs) g release next in
     let here : get_or (released cfg xs) g release ≡ release = get_or_from_slice_get (released cfg xs) g release release next in
-    let records : records_of 0 (h ++ e ∷ []) ≡ texts_of xs (take g (released cfg xs)) ++ text_of xs (g, release) = records_more h e ∙ ap (λ r. r ++ text_of xs (g, release)) w.same in
+    let records : records_of 0 (h ++ e ∷ []) ≡ texts_of xs (take g (released cfg xs)) ++ text_of xs (g, release) = records_more 0 h e ∙ ap (λ r. r ++ text_of xs (g, release)) w.same in
     let texts : texts_of xs (take (g + 1) (released cfg xs)) ≡ texts_of xs (take g (released cfg xs)) ++ text_of xs (g, release) =
-    flat_map_place_more (text_of xs) (released cfg xs) g release inside ∙ ap (λ (r : Release). texts_of xs (take g (released cfg xs)) ++ text_of xs (g, r)) here in
+    flat_map_numbered_more (text_of xs) (released cfg xs) g release inside ∙ ap (λ (r : Release). texts_of xs (take g (released cfg xs)) ++ text_of xs (g, r)) here in
     let few : g + 1 ≤ length (released cfg xs) = omega (arith, inside) in
     record {
       few = subst (λ n. n ≤ length (released cfg (arrivals_in (h ++ e ∷ [])))) given (subst (λ (ys : List Arrival). g + 1 ≤ length (released cfg ys)) (sym arrivals) few);

@@ -1,6 +1,5 @@
 -- A receiver stands for one entry more.
-use Rattle.std.proofs.Common.{◌≡◌, ℕ, zero, suc, ◌+◌, ◌<◌, Bool, true, false, cond, ◌||◌, List, [], ◌∷◌, ◌++◌, length-append, map, set, replicate, refl, sym, ap, subst, ◌∙◌, arith, append_assoc, ◌==◌, add-zero}
-use Rattle.std.proofs.lemmas.Bool.{eq-eqb, ne_eqb}
+use Rattle.std.proofs.Common.{◌≡◌, ℕ, zero, suc, ◌+◌, true, false, cond, ◌||◌, List, [], ◌∷◌, ◌++◌, length-append, map, set, replicate, refl, sym, ap, subst, ◌∙◌, arith, append_assoc, ◌==◌, add-zero}
 use Rattle.tesla_receiver.specs.declared.taking.Take.{Take}
 use Rattle.tesla_receiver.specs.declared.taking.Take.TheVariants as takes
 use Rattle.tesla_receiver.specs.Replies.{reply_shown, is_given}
@@ -11,12 +10,13 @@ use Rattle.std.proofs.lemmas.List.{append-nil}
 use Rattle.std.proofs.lemmas.List.Concat.{flat_map-append}
 use Rattle.std.proofs.lemmas.List.Folds.{list_any-append, list_all-map}
 use Rattle.std.proofs.lemmas.List.Sums.{sum_by_push}
+use Rattle.tesla_base.proofs.Lists.{map_same, map_number_set}
 use Rattle.tesla_receiver.specs.declared.config.Config.{Config}
 use Rattle.tesla_receiver.specs.declared.history.Entry.{Entry}
 use Rattle.tesla_receiver.specs.declared.history.Entry.TheVariants.{Taken, Ended}
 use Rattle.tesla_receiver.specs.Packets.{released}
 use Rattle.tesla_receiver.specs.Answer.{verdict_of}
-use Rattle.tesla_receiver.specs.History.{Event, Arrives, Takes, Ends, event_of, entry_of, IsLegalAfter, IsLegal, arrival_in, arrivals_in, gives, given_in, ends, has_end, reply_to, reply_with, State, Stands}
+use Rattle.tesla_receiver.specs.History.{Event, Arrives, Takes, Ends, event_of, entry_of, IsLegalAfter, IsLegal, arrival_in, arrivals_in, gives, given_in, ends, has_end, reply_to, reply_with, reply_of, State, Stands}
 
 legal_after_more : (cfg : Config) (before h : List Entry) (e : Entry) → IsLegalAfter cfg before h → e ≡ entry_of cfg (before ++ h) (event_of e) → IsLegalAfter cfg before (h ++ e ∷ [])
 legal_after_more cfg before [] e l answered = (answered ∙ ap (λ b. entry_of cfg b (event_of e)) (append-nil before), tt)
@@ -36,42 +36,18 @@ event_of-entry cfg h (Ends ingest) = refl
 pub entered_legal : (cfg : Config) (h : List Entry) (event : Event) → IsLegal cfg h → IsLegal cfg (h ++ entry_of cfg h event ∷ [])
 entered_legal cfg h event l = legal_more cfg h (entry_of cfg h event) l (ap (entry_of cfg h) (sym (event_of-entry cfg h event)))
 
-has_end_more : (h : List Entry) (e : Entry) (k : ℕ) → has_end (h ++ e ∷ []) k ≡ (has_end h k || ends k e)
+pub has_end_more : (h : List Entry) (e : Entry) (k : ℕ) → has_end (h ++ e ∷ []) k ≡ (has_end h k || ends k e)
 has_end_more h e k = list_any-append (ends k) h (e ∷ []) ∙ ap (λ b. has_end h k || b) (or-false (ends k e))
-
-map_same : {A B : Type 0} (f g : A → B) (xs : List A) → ((x : A) → f x ≡ g x) → map f xs ≡ map g xs
-map_same f g [] h = refl
-map_same f g (x ∷ xs) h = ap (λ y. y ∷ map f xs) (h x) ∙ ap (λ ys. g x ∷ ys) (map_same f g xs h)
 
 -- the ends stay with an entry that is none
 pub ended_same : (h : List Entry) (e : Entry) (n : ℕ) → ((k : ℕ) → ends k e ≡ false) → map (has_end h) (range_with_len 0 n) ≡ map (has_end (h ++ e ∷ [])) (range_with_len 0 n)
 ended_same h e n none =
     map_same (has_end h) (has_end (h ++ e ∷ [])) (range_with_len 0 n) (λ k. sym (has_end_more h e k ∙ ap (λ b. has_end h k || b) (none k) ∙ or-false (has_end h k)))
 
-below_same : (f : ℕ → Bool) (j a n : ℕ) → j < a → map (λ k. f k || (j == k)) (range_with_len a n) ≡ map f (range_with_len a n)
-below_same f j a zero h = refl
-below_same f j a (suc n) h =
-    ap (λ b. b ∷ map (λ k. f k || (j == k)) (range_with_len (a + 1) n)) (ap (λ b. f a || b) (ne_eqb j a (omega arith)) ∙ or-false (f a))
-    ∙ ap (λ ys. f a ∷ ys) (below_same f j (a + 1) n (omega arith))
-
-or_true : (b : Bool) → (b || true) ≡ true
-or_true true = refl
-or_true false = refl
-
-set_one : (f : ℕ → Bool) (a i n : ℕ) → map (λ k. f k || (a + i == k)) (range_with_len a n) ≡ set (map f (range_with_len a n)) i true
-set_one f a i zero = refl
-set_one f a zero (suc n) =
-    ap (λ j. map (λ k. f k || (j == k)) (range_with_len a (suc n))) (add-zero a)
-    ∙ ap (λ b. b ∷ map (λ k. f k || (a == k)) (range_with_len (a + 1) n)) (ap (λ b. f a || b) (eq-eqb a a refl) ∙ or_true (f a))
-    ∙ ap (λ ys. true ∷ ys) (below_same f a (a + 1) n (omega arith))
-set_one f a (suc i) (suc n) =
-    ap (λ b. b ∷ map (λ k. f k || (a + suc i == k)) (range_with_len (a + 1) n)) (ap (λ b. f a || b) (ne_eqb (a + suc i) a (omega arith)) ∙ or-false (f a))
-    ∙ ap (λ ys. f a ∷ ys) (map_same (λ k. f k || (a + suc i == k)) (λ k. f k || (a + 1 + i == k)) (range_with_len (a + 1) n) (λ k. ap (λ j. f k || (j == k)) (omega arith)) ∙ set_one f (a + 1) i n)
-
 -- the ends with one more
 pub ended_more : (h : List Entry) (ingest n : ℕ) → set (map (has_end h) (range_with_len 0 n)) ingest true ≡ map (has_end (h ++ Ended ingest ∷ [])) (range_with_len 0 n)
 ended_more h ingest n =
-    sym (set_one (has_end h) 0 ingest n)
+    sym (map_number_set (has_end h) 0 ingest n)
     ∙ map_same (λ k. has_end h k || (0 + ingest == k)) (has_end (h ++ Ended ingest ∷ [])) (range_with_len 0 n) (λ k. ap (λ j. has_end h k || (j == k)) (omega arith) ∙ sym (has_end_more h (Ended ingest) k))
 
 -- no ingest has ended in the empty history
@@ -116,7 +92,7 @@ stands_end s after h ingest st config arrivals given ended calls =
     calls
 
 -- the answer to a take, by what the receiver keeps
-pub reply_kept : (s : State) (h : List Entry) → Stands s h → reply_with s.arrivals s.given (slice_get (released s.config s.arrivals) s.given) (list_all (λ b. b) s.ended) ≡ reply_to s.config h
+pub reply_kept : (s : State) (h : List Entry) → Stands s h → reply_of s ≡ reply_to s.config h
 unfolding reply_to
 reply_kept s h st =
     ap (λ xs. reply_with xs s.given (slice_get (released s.config xs) s.given) (list_all (λ b. b) s.ended)) st.arrivals

@@ -8,7 +8,7 @@ use Rattle.tesla_receiver.specs.declared.config.Config.{Config}
 use Rattle.tesla_receiver.specs.Packets.{tag_by, verifies, verifies_row, release_of, packet_of}
 use Rattle.tesla_receiver.specs.declared.history.Arrival.{Arrival}
 use Rattle.tesla_receiver.specs.declared.release.Release.{Release}
-use Rattle.tesla_receiver.proofs.Enumerated.{flat_map_place_more}
+use Rattle.tesla_base.proofs.Lists.{flat_map_numbered_more}
 
 row_tagged : (cfg : Config) (f : DataFrame) (chain : ℕ) (row : KeyRow) (o : Option TagRow) (tag : List ℕ) → option_map (λ r. r.tag) o ≡ Some tag → verifies_row cfg f chain row o ≡ bytes_eq tag (tag_by cfg f chain row)
 row_tagged cfg f chain row None tag h = absurd (cc)
@@ -22,4 +22,4 @@ pub releases_more : (cfg : Config) (arrivals : List Arrival) (new : List KeyRow)
 releases_more cfg arrivals new place arrival releases after release h here so_far found grown =
     grown ∙ ap (λ rs. rs ++ option_to_list release) so_far
     ∙ ap (λ rs. flat_map (λ (p : ℕ × Arrival). release_of cfg arrivals new p.0 (packet_of p.1)) (enumerate_from 0 (take place arrivals)) ++ rs) (found ∙ ap (λ a. release_of cfg arrivals new place (packet_of a)) here)
-    ∙ sym (flat_map_place_more (λ (p : ℕ × Arrival). release_of cfg arrivals new p.0 (packet_of p.1)) arrivals place arrival h)
+    ∙ sym (flat_map_numbered_more (λ (p : ℕ × Arrival). release_of cfg arrivals new p.0 (packet_of p.1)) arrivals place arrival h)

@@ -1,6 +1,5 @@
 -- Walking back along a chain, from a key that was reached before.
-use Rattle.std.proofs.Common.{◌≡◌, ℕ, zero, suc, ◌+◌, ◌-◌, ◌≤◌, Bool, true, List, [], ◌∷◌, length, drop, refl, sym, ap, ◌∙◌, arith, add-zero}
-use Rattle.std.specs.List.{list_all}
+use Rattle.std.proofs.Common.{◌≡◌, ℕ, zero, suc, ◌+◌, ◌-◌, ◌≤◌, sym, ap, ◌∙◌, arith, add-zero}
 use Rattle.tesla_base.specs.declared.names.Key.{Key}
 use Rattle.tesla_frame.specs.declared.row.KeyRow.{KeyRow}
 use Rattle.tesla_prf.specs.Keys.{next_of, walk}
@@ -32,8 +31,3 @@ walked_back row start back distance w h index key =
     let less : back.index ≤ start.index = omega (arith, index) in
     let steps : distance ≡ start.index - back.index = omega (arith, index, h) in
     record { below = omega (arith, less, w.below); key = key ∙ ap (walk start.key) steps ∙ walked_on row start back.index w less }
-
--- all that stands behind the last
-pub none_left : (p : KeyRow → Bool) (rows : List KeyRow) → list_all p (drop (length rows) rows) ≡ true
-none_left p [] = refl
-none_left p (row ∷ rows) = none_left p rows

@@ -4,6 +4,7 @@ use Rattle.std.specs.List.{list_any, enumerate_from}
 use Rattle.tesla_base.specs.declared.names.Key.{Key}
 use Rattle.tesla_base.specs.declared.names.StreamId.{StreamId}
 use Rattle.tesla_clock.specs.Schedule.{bound_of}
+use Rattle.tesla_clock.specs.Safe.{chain_set}
 use Rattle.tesla_frame.specs.declared.row.KeyRow.{KeyRow}
 use Rattle.tesla_frame.specs.Frame.{Frame, Data, Disclosure, DataFrame, TagRow}
 use Rattle.tesla_frame.specs.Reading.{frame_of}
@@ -13,7 +14,7 @@ use Rattle.tesla_receiver.specs.declared.verdict.Verdict.TheVariants.{Malformed,
 use Rattle.tesla_receiver.specs.declared.config.Config.{Config}
 use Rattle.tesla_receiver.specs.Config.{chain_row}
 use Rattle.tesla_receiver.specs.Keys.{keys_of, newest, is_good}
-use Rattle.tesla_receiver.specs.Packets.{chain_set, is_safe, has_name, released}
+use Rattle.tesla_receiver.specs.Packets.{is_safe, has_name, released}
 use Rattle.tesla_receiver.specs.Held.{held_of}
 
 abbrev pub stream_of : Frame → StreamId

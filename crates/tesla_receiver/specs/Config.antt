@@ -1,7 +1,7 @@
 -- What a receiver is set up with, chain by chain.
 use Rattle.std.specs.Prelude.{ℕ, List, length, get_or, replicate}
 use Rattle.std.specs.List.{range_with_len}
-use Rattle.tesla_commit.specs.declared.row.ChainRow.{ChainRow}
+use Rattle.tesla_commit.specs.declared.chain_row.ChainRow.{ChainRow}
 use Rattle.tesla_receiver.specs.declared.config.Config.{Config}
 
 -- the numbers of the stream's key chains

@@ -1,13 +1,14 @@
 -- How many packets have a place.
-use Rattle.std.specs.Prelude.{ℕ, Bool, true, false, not, ◌&&◌, ◌||◌, List, take, Option, Some, None, nat_le, ◌==◌, count_by}
+use Rattle.std.specs.Prelude.{◌≤◌, ℕ, Bool, true, false, not, ◌&&◌, ◌||◌, List, take, Option, Some, None, nat_le, ◌==◌, count_by}
 use Rattle.std.specs.List.{list_any, list_all, enumerate_from}
+use Rattle.tesla_clock.specs.Safe.{has_chain}
 use Rattle.tesla_receiver.specs.declared.history.Arrival.{Arrival}
 use Rattle.tesla_receiver.specs.declared.release.Release.{Release}
 use Rattle.tesla_receiver.specs.declared.config.Config.{Config}
 use Rattle.tesla_receiver.specs.Config.{chains}
 use Rattle.tesla_receiver.specs.Keys.{newest}
 use Rattle.tesla_receiver.specs.declared.packet.Packet.{Packet}
-use Rattle.tesla_receiver.specs.Packets.{packet_of, has_chain, candidates, released}
+use Rattle.tesla_receiver.specs.Packets.{packet_of, candidates, released}
 
 abbrev pub is_at : ℕ → Release → Bool
 is_at place release = release.place == place
@@ -47,3 +48,8 @@ has_place cfg arrivals given asked place (Some packet) =
 unfoldable pub held_of : Config → List Arrival → ℕ → Option ℕ → ℕ
 held_of cfg arrivals given asked =
     count_by (λ (p : ℕ × Arrival). has_place cfg arrivals given asked p.0 (packet_of p.1)) (enumerate_from 0 arrivals)
+
+-- no more packets are held than the capacity, which is at most 65,536
+pub record HeldFits (config : Config) (arrivals : List Arrival) (given : ℕ) : Type 0 where
+  pub few : config.capacity ≤ 65536
+  pub held : held_of config arrivals given None ≤ config.capacity

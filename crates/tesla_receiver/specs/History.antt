@@ -12,6 +12,7 @@ use Rattle.tesla_receiver.specs.declared.history.Reply.TheVariants.{Given, Empty
 use Rattle.tesla_receiver.specs.declared.release.Release.{Release}
 use Rattle.tesla_receiver.specs.declared.config.Config.{Config}
 use Rattle.tesla_receiver.specs.Packets.{released}
+use Rattle.tesla_receiver.specs.Held.{held_of}
 use Rattle.tesla_receiver.specs.Answer.{verdict_of}
 
 -- an event of a receiver, before its answer
@@ -44,6 +45,14 @@ gives (Ended ingest) = false
 -- how many takes gave a packet
 abbrev pub given_in : List Entry → ℕ
 given_in history = count_by gives history
+
+-- how many packets are held after a history: those kept that aren't gone
+abbrev pub held_in : Config → List Entry → ℕ
+held_in cfg history = held_of cfg (arrivals_in history) (given_in history) None
+
+-- how many of them are of an interval
+abbrev pub held_of_interval : Config → List Entry → ℕ → ℕ
+held_of_interval cfg history interval = held_of cfg (arrivals_in history) (given_in history) (Some interval)
 
 abbrev pub ends : ℕ → Entry → Bool
 ends ingest (Ended other) = other == ingest
@@ -103,6 +112,10 @@ pub record State : Type 0 where
   pub given : ℕ
   pub ended : List Bool
   pub calls : ℕ
+
+-- the answer to a take, by what the receiver keeps
+abbrev pub reply_of : State → Reply
+reply_of s = reply_with s.arrivals s.given (slice_get (released s.config s.arrivals) s.given) (list_all (λ flag. flag) s.ended)
 
 -- a receiver stands for a history
 pub record Stands (state : State) (history : List Entry) : Type 0 where

@@ -17,11 +17,12 @@ abbrev pub each_after : {A B : Type 0} → (List A → A → List B) → List A 
 each_after f before [] = []
 each_after f before (x ∷ xs) = f before x ++ each_after f (before ++ x ∷ []) xs
 
--- the key of a chain in a data frame of the interval: it was the chain's key as many intervals before as the delay
+-- the key of a chain in a data frame of the interval: it is of the interval that is the delay before, if there is one
 abbrev pub carried : Config → ℕ → ℕ → Option Key → List KeyRow
 carried cfg interval chain None = []
 carried cfg interval chain (Some key) =
-    record { chain = record { 0 = chain }; index = interval - (chain_row cfg chain).delay; key = key } ∷ []
+    if nat_lt interval (chain_row cfg chain).delay then []
+    else record { chain = record { 0 = chain }; index = interval - (chain_row cfg chain).delay; key = key } ∷ []
 
 -- the keys that a frame carries, each with its chain and index
 abbrev pub keys_of : Config → Frame → List KeyRow

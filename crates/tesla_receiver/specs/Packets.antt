@@ -1,7 +1,9 @@
 -- Which packets are safe on arrival, which keys prove them, and what is released (RFC 4082, section 3.5).
-use Rattle.std.specs.Prelude.{ℕ, zero, suc, ◌+◌, ◌-◌, ◌^◌, ◌/◌, ◌%◌, Bool, false, ◌&&◌, List, [], ◌∷◌, Option, Some, None, slice_get, nat_lt, nat_le, ◌==◌, if◌then◌else◌, bytes_eq, find, flat_map}
+use Rattle.std.specs.Prelude.{ℕ, ◌-◌, Bool, false, ◌&&◌, List, [], ◌∷◌, Option, Some, None, slice_get, nat_lt, nat_le, ◌==◌, if◌then◌else◌, bytes_eq, find, flat_map}
 use Rattle.std.specs.List.{list_any, enumerate_from}
 use Rattle.tesla_base.specs.declared.names.Name.{Name}
+use Rattle.tesla_clock.specs.Safe.{has_chain}
+use Rattle.tesla_clock.specs.Safe as clock
 use Rattle.tesla_commit.specs.Parts.{tag_length}
 use Rattle.tesla_frame.specs.declared.row.KeyRow.{KeyRow}
 use Rattle.tesla_frame.specs.Frame.{Frame, Data, Disclosure, DataFrame, TagRow}
@@ -16,19 +18,9 @@ use Rattle.tesla_receiver.specs.declared.config.Config.{Config}
 use Rattle.tesla_receiver.specs.Config.{chains, chain_row}
 use Rattle.tesla_receiver.specs.Keys.{each_after, is_of, newest, new_keys}
 
--- bit c of the set is set
-abbrev pub has_chain : ℕ → ℕ → Bool
-has_chain set chain = (set / 2 ^ chain) % 2 == 1
-
--- the set of the chains below n that pass
-abbrev pub chain_set : (ℕ → Bool) → ℕ → ℕ
-chain_set test zero = 0
-chain_set test (suc n) = chain_set test n + (if test n then 2 ^ n else 0)
-
--- a chain's key of the interval can't have been disclosed, by the bound on the sender's interval, and wasn't taken
+-- whether the chain is safe for a packet of the interval, by its delay and its newest index
 abbrev pub is_safe : Config → List Arrival → ℕ → ℕ → ℕ → Bool
-is_safe cfg arrivals bound interval chain =
-    nat_lt bound (interval + (chain_row cfg chain).delay) && nat_lt (newest cfg arrivals chain) interval
+is_safe cfg arrivals bound interval chain = clock.is_safe bound interval (chain_row cfg chain).delay (newest cfg arrivals chain)
 
 -- the packet that an arrival with this verdict and frame brought, if it was kept
 abbrev pub packet_in : Verdict → Option Frame → Option Packet

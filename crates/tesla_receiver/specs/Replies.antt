@@ -1,5 +1,5 @@
 -- What a take answers, with the bytes that it fills in.
-use Rattle.std.specs.Prelude.{ℕ, Bool, true, false, List, take}
+use Rattle.std.specs.Prelude.{◌≡◌, ◌≤◌, ℕ, Bool, true, false, List, take, drop}
 use Rattle.tesla_receiver.specs.declared.history.Reply.{Reply}
 use Rattle.tesla_receiver.specs.declared.history.Reply.TheVariants as replies
 use Rattle.tesla_receiver.specs.declared.taking.Take.{Take}
@@ -16,3 +16,9 @@ abbrev pub is_given : Take → Bool
 is_given (Given head) = true
 is_given Empty = false
 is_given Over = false
+
+-- a packet's payload fits the bytes, and those behind it are as they were; without a packet all are
+abbrev pub KeepsBehind : Take → List ℕ → List ℕ → Type 0
+KeepsBehind (Given head) old new = (head.length ≤ 1200) × (drop head.length new ≡ drop head.length old)
+KeepsBehind Empty old new = new ≡ old
+KeepsBehind Over old new = new ≡ old

@@ -1,8 +1,8 @@
 //! The arrivals so far, with the keys and packets that follow from them.
 
-ghost use Rattle.std.specs.Prelude.{◌≡◌, ◌∷◌, ◌++◌, [], List, ℕ, find};
+ghost use Rattle.std.specs.Prelude.{◌≡◌, [], find};
 ghost use Rattle.tesla_receiver.specs.Keys.{newest, is_good};
-ghost use Rattle.tesla_receiver.specs.Packets.{is_safe, chain_set, has_name, released, candidates};
+ghost use Rattle.tesla_receiver.specs.Packets.{has_name, released, candidates};
 ghost use Rattle.tesla_receiver.specs.Answer.{is_bad, safe_chains};
 ghost use Rattle.std.specs.List.{list_any};
 
@@ -81,7 +81,7 @@ impl Book {
     }
 
     /// The first of these keys that is new and not good.
-    #[tactic(auto, using(crate::proofs::Finds::find_here, crate::proofs::Finds::find_none_more))]
+    #[tactic(auto, using(tesla_base::proofs::Lists::find_here, tesla_base::proofs::Lists::find_none_more))]
     pub fn first_bad<L: Ledger>(&self, keys: &[KeyRow], steps: &mut Steps<L>) -> Option<KeyRow>
         ensures { result ≡ find (is_bad self.now.config self.now.arrivals) keys.now }
     {
@@ -93,28 +93,26 @@ impl Book {
         None
     }
 
-    /// Whether a chain is safe for an interval (RFC 4082, section 3.5).
-    pub fn is_safe(&self, bound: u64, interval: u32, chain: u8) -> bool
-        ensures { result ≡ is_safe self.now.config self.now.arrivals bound interval chain }
-    {
-        let delay = chain_row(&self.config, chain).delay;
-        bound < u64::from(interval) + u64::from(delay) && self.newest(chain) < interval
-    }
-
-    /// The chains that are safe for an interval, as a set of bits.
+    /// The chains that are safe for an interval (RFC 4082, section 3.5), as a set of bits.
     pub fn safe_chains(&self, bound: Option<u64>, interval: u32) -> u8
         ensures { result ≡ safe_chains self.now.config self.now.arrivals bound interval }
     {
         let Some(bound) = bound else {
             return 0;
         };
-        let mut set = 0u8;
-        for chain in 0..self.config.setup.count() {
-            if self.is_safe(bound, interval, chain) {
-                set += 1 << chain;
-            }
+        let count = self.config.setup.count();
+        let mut delays = [0u16; 8];
+        let mut newest = [0u32; 8];
+        for chain in 0..count {
+            delays[chain as usize] = chain_row(&self.config, chain).delay;
+            newest[chain as usize] = self.newest(chain);
         }
-        set
+        let delays = &delays[..count as usize];
+        let newest = &newest[..count as usize];
+        self.config
+            .setup
+            .schedule()
+            .safe_chains(bound, interval, delays, newest)
     }
 
     /// Whether a packet of the name was released.

@@ -11,7 +11,7 @@ pub struct Config {
     pub lag: i64,
     /// How many packets are held at most: 1 to 65,536.
     pub capacity: u32,
-    /// How many packets of one interval are held at most.
+    /// How many packets of one interval are held at most: 1 to the capacity.
     pub quota: u32,
     /// How many ingests bring datagrams.
     pub ingests: u8,

@@ -4,9 +4,9 @@ ghost use Rattle.std.specs.Prelude.{◌≡◌, ◌++◌, ◌∷◌, [], option_t
 ghost use Rattle.tesla_receiver.specs.Keys.{each_after, takes_keys, keys_taken, new_keys};
 ghost use Rattle.tesla_receiver.specs.Packets.{unless_named};
 
+use crate::appending::push_some;
 use crate::book::is_named;
 use crate::keys::keys_of;
-use crate::proving::push_some;
 use crate::{Arrival, Book, Config, Release, Verdict};
 use std::alloc::Global;
 use std::sync::ledger::Ledger;

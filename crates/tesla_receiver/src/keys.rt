@@ -1,6 +1,6 @@
 //! The keys that frames carry.
 
-ghost use Rattle.std.specs.Prelude.{◌≡◌, ◌-◌, [], ◌∷◌, not, ◌||◌, IfOk, flat_map};
+ghost use Rattle.std.specs.Prelude.{◌≡◌, ◌-◌, not, ◌||◌, IfOk, flat_map, option_to_list};
 ghost use Rattle.std.specs.List.{enumerate_from, list_all};
 ghost use Rattle.tesla_frame.specs.Shown.{shown};
 ghost use Rattle.tesla_receiver.specs.Config.{chain_row};
@@ -9,6 +9,7 @@ ghost use Rattle.tesla_receiver.specs.Keys.{greatest, carried, keys_of, leads_to
 ghost use Rattle.tesla_receiver.specs.Book.{IsWalked};
 
 use crate::Config;
+use crate::appending::push_some;
 use std::alloc::Global;
 use std::sync::ledger::Ledger;
 use tesla_base::{ChainNo, Key, NoMemory, Steps};
@@ -60,21 +61,24 @@ fn data_keys(alloc: Global, config: &Config, frame: &DataView<'_>) -> Result<Vec
     let interval = frame.name().interval;
     let mut rows = Vec::new(alloc);
     for chain in 0..frame.count() {
-        if let Some(key) = frame.key(chain) {
-            rows.push(carried_row(config, interval, chain, key))?;
-        }
+        let row = carried_row(config, interval, chain, frame.key(chain));
+        push_some(&mut rows, row)?;
     }
     Ok(rows)
 }
 
-fn carried_row(config: &Config, interval: u32, chain: u8, key: Key) -> KeyRow
-    ensures { carried config.now interval chain (Some key) ≡ result ∷ [] }
+// The key of a row with its index. In an interval below the chain's delay it has none.
+fn carried_row(config: &Config, interval: u32, chain: u8, key: Option<Key>) -> Option<KeyRow>
+    ensures { option_to_list result ≡ carried config.now interval chain key }
 {
     let delay = u32::from(chain_row(config, chain).delay);
-    KeyRow {
-        chain: ChainNo(chain),
-        index: interval.saturating_sub(delay),
-        key,
+    match key {
+        Some(key) if delay <= interval => Some(KeyRow {
+            chain: ChainNo(chain),
+            index: interval - delay,
+            key,
+        }),
+        _ => None,
     }
 }
 

@@ -1,11 +1,16 @@
-//! What a history that is played writes, as a contract of a function that does nothing.
+//! What is so of every history, as contracts of functions that do nothing.
 
-ghost use Rattle.std.specs.Prelude.{◌≡◌, Bool, List, true};
+ghost use Rattle.std.specs.Prelude.{◌≡◌, ◌≤◌, ◌++◌, ◌∷◌, [], ℕ, Bool, List, Some, true, take, slice_get};
 ghost use Rattle.tesla_capture.specs.Capture.{Record};
 ghost use Rattle.tesla_receiver.specs.declared.config.Config.{Config};
-ghost use Rattle.tesla_receiver.specs.History.{IsLegal, arrivals_in};
+ghost use Rattle.tesla_receiver.specs.declared.history.Arrival.{Arrival};
+ghost use Rattle.tesla_receiver.specs.declared.history.Entry.{Entry};
+ghost use Rattle.tesla_receiver.specs.declared.release.Release.{Release};
+ghost use Rattle.tesla_receiver.specs.History.{Event, event_of, entry_of, IsLegal, arrivals_in, given_in, held_in, held_of_interval};
+ghost use Rattle.tesla_receiver.specs.Keys.{newest};
+ghost use Rattle.tesla_receiver.specs.Packets.{released};
 ghost use Rattle.tesla_receiver.specs.Report.{records_of, released_text};
-ghost use Rattle.tesla_receiver.specs.Played.{played};
+ghost use Rattle.tesla_receiver.specs.Played.{after_events, Finishes, played};
 
 /// The history that a capture plays: its answers are the ones that a receiver gives, and with its
 /// end it writes the record of each released packet, in order, and of no other.
@@ -14,4 +19,44 @@ pub fn played_history()
     ensures legal { (cfg : Config) (records : List Record) (whole : Bool) → IsLegal cfg (played cfg records whole) }
     // A whole capture's takes write all that is released of its arrivals.
     ensures all { (cfg : Config) (records : List Record) → records_of 0 (played cfg records true) ≡ released_text cfg (arrivals_in (played cfg records true)) }
+{}
+
+/// How a history grows by events, and the release records with it.
+pub fn events()
+    // One event more adds its entry.
+    ensures one { (cfg : Config) (h : List Entry) (es : List Event) (e : Event) →
+        after_events cfg h (es ++ e ∷ []) ≡ after_events cfg h es ++ entry_of cfg (after_events cfg h es) e ∷ [] }
+    // What was before the events stays.
+    ensures front { (cfg : Config) (h : List Entry) (es : List Event) → (more : List Entry) × (after_events cfg h es ≡ h ++ more) }
+    // The records of two histories, one after the other.
+    ensures both { (releaser : ℕ) (h more : List Entry) → records_of releaser (h ++ more) ≡ records_of releaser h ++ records_of releaser more }
+{}
+
+/// What a history is finished with, where there is one ingest: its end, a take that gives for each
+/// packet that waits, and a take that is over.
+pub fn finished_takes()
+    ensures { (cfg : Config) (h : List Entry) → cfg.ingests ≡ 1 → Finishes cfg h }
+{}
+
+/// What was told stays told: of the first arrivals or entries it is a front of what all of them tell.
+pub fn prefixes()
+    // What is released of the first arrivals comes first in what is released of all.
+    ensures released { (cfg : Config) (xs ys : List Arrival) → (rest : List Release) × (released cfg (xs ++ ys) ≡ released cfg xs ++ rest) }
+    // The newest index of a chain only rises.
+    ensures newest { (cfg : Config) (xs ys : List Arrival) (chain : ℕ) → newest cfg xs chain ≤ newest cfg (xs ++ ys) chain }
+    // A front of a legal history is legal.
+    ensures legal { (cfg : Config) (h more : List Entry) → IsLegal cfg (h ++ more) → IsLegal cfg h }
+    // The number of packets that were given only rises.
+    ensures given { (h more : List Entry) → given_in h ≤ given_in (h ++ more) }
+{}
+
+/// Each entry of a legal history is its event with the one answer after the entries before it.
+pub fn by_index()
+    ensures { (cfg : Config) (h : List Entry) → IsLegal cfg h → (n : ℕ) (e : Entry) → slice_get h n ≡ Some e → e ≡ entry_of cfg (take n h) (event_of e) }
+{}
+
+/// No legal history holds more packets than the capacity, nor more of one interval than the quota.
+pub fn held_fits()
+    ensures capacity { (cfg : Config) (h : List Entry) → IsLegal cfg h → held_in cfg h ≤ cfg.capacity }
+    ensures quota { (cfg : Config) (h : List Entry) → IsLegal cfg h → (interval : ℕ) → held_of_interval cfg h interval ≤ cfg.quota }
 {}

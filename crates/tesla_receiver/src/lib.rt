@@ -1,6 +1,7 @@
 //! The receiver: judges each arrival, and releases each authentic packet once.
 #![tactic(auto)]
 
+mod appending;
 mod book;
 mod config;
 mod counting;
@@ -30,5 +31,7 @@ pub use report::Report;
 pub use taking::Take;
 pub use verdict::Verdict;
 
+#[cfg(test)]
+mod examples;
 #[cfg(test)]
 mod tests;

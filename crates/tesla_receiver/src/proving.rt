@@ -1,10 +1,12 @@
 //! Which kept packets new keys prove.
 
-ghost use Rattle.std.specs.Prelude.{◌≡◌, ◌<◌, ◌++◌, option_to_list, IfOk, OnOk, find};
+ghost use Rattle.std.specs.Prelude.{◌≡◌, ◌<◌, option_to_list, IfOk, find};
 ghost use Rattle.std.specs.List.{list_any};
+ghost use Rattle.tesla_clock.specs.Safe.{has_chain};
 ghost use Rattle.tesla_receiver.specs.Config.{chains};
-ghost use Rattle.tesla_receiver.specs.Packets.{has_chain, packet_of, tag_by, verifies, is_proof, proves, release_of, proved_by};
+ghost use Rattle.tesla_receiver.specs.Packets.{packet_of, tag_by, verifies, is_proof, proves, release_of, proved_by};
 
+use crate::appending::push_some;
 use crate::{Arrival, Book, Config, Packet, Release, Verdict};
 use std::alloc::Global;
 use std::sync::ledger::Ledger;
@@ -89,16 +91,6 @@ pub fn any_proof<L: Ledger>(
     false
 }
 
-/// Appends the release, if there is one.
-pub fn push_some(releases: &mut Vec<Release>, release: Option<Release>) -> Result<(), NoMemory>
-    ensures { OnOk result (releases.new.items ≡ releases.old.items ++ option_to_list release) }
-{
-    if let Some(release) = release {
-        releases.push(release)?;
-    }
-    Ok(())
-}
-
 impl Book {
     /// Whether these new keys prove a packet of the book on a chain.
     pub fn proves<L: Ledger>(
@@ -116,8 +108,8 @@ impl Book {
             && any_proof(&self.config, &packet.frame, chain, new, steps)
     }
 
-    #[tactic(auto, using(crate::proofs::Finds::find_number, crate::proofs::Finds::find_no_number, crate::proofs::Finds::find_none_number))]
     /// The least chain on which these new keys prove a packet of the book.
+    #[tactic(auto, using(tesla_base::proofs::Lists::find_number, tesla_base::proofs::Lists::find_no_number_more, tesla_base::proofs::Lists::find_no_number))]
     pub fn proving_chain<L: Ledger>(
         &self,
         new: &[KeyRow],

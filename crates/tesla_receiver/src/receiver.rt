@@ -1,12 +1,12 @@
 //! The receiver's calls.
 
-ghost use Rattle.std.specs.Prelude.{◌≡◌, ◌+◌, ◌^◌, ◌<◌, ◌≤◌, ◌++◌, ◌∷◌, [], List, true, slice_set, IfOk, OnOk, OnErr};
+ghost use Rattle.std.specs.Prelude.{◌≡◌, ◌+◌, ◌^◌, ◌<◌, ◌≤◌, ◌++◌, ◌∷◌, [], List, true, if◌then◌else◌, slice_set, IfOk, OnOk, OnErr};
 ghost use Rattle.std.specs.List.{list_all};
 ghost use Rattle.tesla_receiver.specs.declared.history.Entry.{Entry};
 ghost use Rattle.tesla_receiver.specs.declared.history.Entry.TheVariants.{Arrived};
-ghost use Rattle.tesla_receiver.specs.History.{Arrives, Takes, Ends, entry_of, reply_to, State, Stands};
+ghost use Rattle.tesla_receiver.specs.History.{Arrives, Takes, Ends, entry_of, reply_to, reply_of, State, Stands, held_in};
 ghost use Rattle.tesla_receiver.specs.Played.{waiting_in};
-ghost use Rattle.tesla_receiver.specs.Replies.{reply_shown};
+ghost use Rattle.tesla_receiver.specs.Replies.{reply_shown, is_given, KeepsBehind};
 ghost use Rattle.tesla_receiver.specs.Report.{report_of};
 
 use crate::taking::given_after;
@@ -29,11 +29,14 @@ pub struct Receiver {
 
 impl Model for Receiver {
     ghost use Rattle.std.specs.Prelude.{ℕ};
+    ghost use Rattle.tesla_receiver.specs.Held.{HeldFits};
     ghost use Rattle.tesla_receiver.specs.History.{State};
 
     ghost Value = { State };
 
     ghost view = { λ r. record { config = r.book.config; arrivals = r.book.arrivals; given = r.given; ended = r.ended.items; calls = r.calls } };
+
+    ghost invariant = { λ r. HeldFits r.book.config r.book.arrivals r.given };
 }
 
 // Whether all flags are set.
@@ -59,18 +62,22 @@ fn mark(flags: &mut Vec<bool>, place: usize)
 
 impl Receiver {
     /// A receiver that stands for the empty history. The lag is in microseconds; the capacity is a
-    /// number of packets; each ingest below `ingests` has to end before a take answers `Over`.
+    /// number of packets, at most 65,536, and the quota one of packets of an interval, from 1 to the
+    /// capacity; each ingest below `ingests`, of which there is one at least, has to end before a take
+    /// answers `Over`. `NoMemory`: there was none for a flag of each ingest.
     pub fn open(
         alloc: Global,
         setup: Setup,
         lag: i64,
         capacity: u32,
+        quota: u32,
         ingests: u8,
     ) -> Result<Receiver, NoMemory>
-        requires some { 1 ≤ capacity }
+        requires some { 1 ≤ quota }
+        requires within { quota ≤ capacity }
         requires few { capacity ≤ 65536 }
         requires ingests { 1 ≤ ingests }
-        ensures config { IfOk result (λ r. r.config ≡ record { setup = setup; lag = lag; capacity = capacity; quota = capacity; ingests = ingests }) }
+        ensures config { IfOk result (λ r. r.config ≡ record { setup = setup; lag = lag; capacity = capacity; quota = quota; ingests = ingests }) }
         ensures stands { IfOk result (λ r. Stands r []) }
     {
         let ended = vec![in alloc; false; ingests as usize]?;
@@ -78,7 +85,7 @@ impl Receiver {
             setup,
             lag,
             capacity,
-            quota: capacity,
+            quota,
             ingests,
         };
         Ok(Receiver {
@@ -119,12 +126,17 @@ impl Receiver {
     }
 
     /// Gives the next released packet, whose payload is then at the front of the buffer, or says whether
-    /// all ingests have ended. It takes no memory.
+    /// all ingests have ended. The rest of the buffer stays as it was. It takes no memory.
     pub fn take(&mut self, releaser: u8, into: &mut [u8; 1200]) -> Take
         requires { self.old.calls + 1 < 2 ^ 64 }
         ensures answer { (h : List Entry) → Stands self.old h → reply_shown result into.new ≡ reply_to self.old.config h }
         ensures stands { (h : List Entry) → Stands self.old h → Stands self.new (h ++ entry_of self.old.config h (Takes releaser) ∷ []) }
+        ensures reply { reply_shown result into.new ≡ reply_of self.old }
+        ensures behind { KeepsBehind result into.old into.new }
         ensures config { self.new.config ≡ self.old.config }
+        ensures arrivals { self.new.arrivals ≡ self.old.arrivals }
+        ensures given { self.new.given ≡ self.old.given + (if is_given result then 1 else 0) }
+        ensures ended { self.new.ended ≡ self.old.ended }
         ensures calls { self.new.calls ≡ self.old.calls + 1 }
     {
         let ended = all_set(&self.ended);
@@ -165,5 +177,13 @@ impl Receiver {
         ensures few { result < 2 ^ 63 }
     {
         self.book.waiting(self.given) as u64
+    }
+
+    /// How many packets are held: those kept that aren't gone. It takes no memory.
+    pub fn held(&self) -> u32
+        ensures value { (h : List Entry) → Stands self.now h → result ≡ held_in self.now.config h }
+        ensures few { result ≤ self.now.config.capacity }
+    {
+        self.book.held_of(self.given, None) as u32
     }
 }

@@ -4,7 +4,7 @@ ghost use Rattle.std.specs.Prelude.{◌≡◌, ◌+◌, ◌^◌, ◌<◌, ◌≤
 ghost use Rattle.tesla_frame.specs.Reading.{frame_of};
 ghost use Rattle.tesla_receiver.specs.History.{payload_in, payload_of, reply_with};
 ghost use Rattle.tesla_receiver.specs.Packets.{released};
-ghost use Rattle.tesla_receiver.specs.Replies.{reply_shown, is_given};
+ghost use Rattle.tesla_receiver.specs.Replies.{reply_shown, is_given, KeepsBehind};
 
 use crate::{Book, Release};
 use tesla_capture::Head;
@@ -68,11 +68,13 @@ impl Book {
     }
 
     /// The answer to a take when so many packets were given, where it is known whether all ingests have
-    /// ended. The payload of a packet is copied to the front of the buffer. It takes no memory.
+    /// ended. The payload of a packet is copied to the front of the buffer; the rest of the buffer stays. It
+    /// takes no memory.
     pub fn next(&self, position: usize, ended: bool, into: &mut [u8; 1200]) -> Take
         ensures room { is_given result ≡ true → position + 1 < 2 ^ 64 }
         ensures reply { reply_shown result into.new ≡ reply_with self.now.arrivals position
             (slice_get (released self.now.config self.now.arrivals) position) ended }
+        ensures behind { KeepsBehind result into.old into.new }
     {
         let Some(release) = self.release_at(position) else {
             return if ended { Take::Over } else { Take::Empty };

@@ -1,5 +1,5 @@
 use Rattle.std.proofs.Common.{◌≡◌, sym, ◌∙◌, ap}
-use Rattle.tesla_receiver.proofs.Finds.{early_here, early_more}
+use Rattle.tesla_receiver.proofs.Carried.{early_here, early_more}
 use Rattle.tesla_receiver.proofs.fitting.any_early_key.Goals as goal
 
 pub returns-then-is_early : goal.returns-then-is_early

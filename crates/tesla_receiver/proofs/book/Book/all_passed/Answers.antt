@@ -1,6 +1,6 @@
 use Rattle.std.proofs.Common.{◌≡◌, length, sym, ◌∙◌, ap}
 use Rattle.tesla_receiver.specs.Held.{has_passed}
-use Rattle.tesla_receiver.proofs.Finds.{not_all_numbers, all_numbers_more, all_numbers}
+use Rattle.tesla_base.proofs.Lists.{not_all_numbers, all_numbers_more, all_numbers}
 use Rattle.tesla_receiver.proofs.book.Book.all_passed.Goals as goal
 
 pub returns-then-not-has_passed : goal.returns-then-not-has_passed

@@ -1,6 +1,6 @@
 use Rattle.std.proofs.Common.{◌≡◌, length, sym, ◌∙◌, ap}
 use Rattle.tesla_receiver.specs.Held.{is_past}
-use Rattle.tesla_receiver.proofs.Finds.{not_all_numbers, all_numbers_more, all_numbers}
+use Rattle.tesla_base.proofs.Lists.{not_all_numbers, all_numbers_more, all_numbers}
 use Rattle.tesla_receiver.proofs.book.Book.all_past.Goals as goal
 
 pub returns-then-not-is_past : goal.returns-then-not-is_past

@@ -1,10 +1,14 @@
-use Rattle.std.proofs.Common.{◌≡◌, ◌^◌, ◌<◌}
-use Rattle.tesla_receiver.specs.Packets.{chain_set, is_safe}
+use Rattle.std.proofs.Common.{◌≡◌, ℕ, ◌<◌, length}
+use Rattle.std.specs.Prelude.{slice_index}
+use Rattle.tesla_receiver.specs.Config.{chain_row}
+use Rattle.tesla_receiver.specs.Keys.{newest}
 use Rattle.tesla_receiver.proofs.book.Book.safe_chains.Given as goal
 
--- the safe chains so far
+-- the delays and newest indexes of the chains so far
 abbrev pub invariant-loop-chain : goal.invariant-loop-chain
 invariant-loop-chain l = record {
-  set : l.set ≡ chain_set (is_safe l.self.config l.self.arrivals l.bound l.interval) l.chain;
-  small : l.set < 2 ^ l.chain;
+  long : length l.delays ≡ 8;
+  wide : length l.newest ≡ 8;
+  delays : (c : ℕ) → c < l.chain → slice_index l.delays c ≡ (chain_row l.self.config c).delay;
+  newest : (c : ℕ) → c < l.chain → slice_index l.newest c ≡ newest l.self.config l.self.arrivals c;
 }

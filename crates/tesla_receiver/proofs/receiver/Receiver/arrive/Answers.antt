@@ -1,7 +1,9 @@
-use Rattle.std.proofs.Common.{◌≡◌, ◌+◌, [], ◌∷◌, ◌++◌, ap, ◌∙◌}
+use Rattle.std.proofs.Common.{◌≡◌, ◌+◌, [], ◌∷◌, ◌++◌, sym, ap, subst, ◌∙◌}
 use Rattle.tesla_receiver.specs.History.{State}
 use Rattle.tesla_receiver.specs.Answer.{verdict_of}
-use Rattle.tesla_receiver.specs.Book.{entered}
+use Rattle.tesla_receiver.specs.Book.{Seen, entered}
+use Rattle.tesla_receiver.specs.Held.{HeldFits}
+use Rattle.tesla_receiver.proofs.Limits.{fits_entered}
 use Rattle.tesla_receiver.proofs.Standing.{stands_arrival}
 use Rattle.tesla_receiver.proofs.receiver.Receiver.arrive.Goals as goal
 
@@ -22,3 +24,9 @@ returns-clause-stands g c = λ h st.
     (ap (λ (v : State). v.given) c.self.view_is)
     (ap (λ (v : State). v.ended) c.self.view_is)
     (ap (λ (v : State). v.calls + 1) c.self.view_is)
+
+pub invariant_of-self-2 : goal.invariant_of-self-2
+invariant_of-self-2 g c =
+    let b = c.self.inside in
+    subst (λ (seen : Seen). HeldFits seen.config seen.arrivals b.given) (sym c.in_ok-verdict.ensures.ok)
+    (fits_entered b.book.config b.book.arrivals b.given c.args.ingest c.args.reading c.args.bytes.now c.in_ok-verdict.verdict c.in_ok-verdict.ensures.verdict c.self.invariant)

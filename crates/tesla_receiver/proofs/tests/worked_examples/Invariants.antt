@@ -1,4 +1,4 @@
-use Rattle.tesla_receiver.proofs.tests.keys_release_packets.Given as goal
+use Rattle.tesla_receiver.proofs.tests.worked_examples.Given as goal
 
 abbrev pub ghosts-first_unmet : goal.ghosts-first_unmet
 ghosts-first_unmet a a' = record { name = a'.blank.name; parts = a'.blank.parts }
