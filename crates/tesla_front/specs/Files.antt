@@ -1,0 +1,24 @@
+-- Files that are opened and read.
+use Rattle.std.specs.Prelude.{◌≡◌, ℕ, ◌+◌, ◌≤◌, Option, IfSome, List, [], ◌++◌, length, take}
+use Rattle.tesla_desk.specs.Outside.{Page, Untold, Absent, Holds, after_bytes}
+
+-- there are bytes under a name, and the fact holds of them where they are told
+abbrev pub HoldsWhere : Page → (List ℕ → Type 0) → Type 0
+HoldsWhere Untold Fact = Unit {0}
+HoldsWhere Absent Fact = ⊥
+HoldsWhere (Holds bytes failed) Fact = Fact bytes
+
+-- the bytes are a front of the text
+abbrev pub IsFront : List ℕ → List ℕ → Type 0
+IsFront text bytes = (n : ℕ) × (bytes ≡ take n text)
+
+-- what was read of a file is its front, up to so many bytes
+abbrev pub ReadsFile : ℕ → Page → List ℕ → Type 0
+ReadsFile most page read = HoldsWhere page (λ bytes. read ≡ take most bytes)
+
+-- a piece of n bytes more was read, or none where nothing is left
+pub record ReadsOn (n most : ℕ) (before now : Option (List ℕ)) (old new : List ℕ) : Type 0 where
+  pub fits : n ≤ most
+  pub grown : length new ≡ length old + n
+  pub read : (piece : List ℕ) × (new ≡ old ++ piece) × (before ≡ after_bytes piece now)
+  pub ended : n ≡ 0 → IfSome now (λ rest. rest ≡ [])

@@ -1,0 +1,6 @@
+pub mod Fault
+pub mod Refusal
+pub mod Files
+pub mod Lines
+pub mod Words
+pub mod Setup

@@ -1,0 +1,81 @@
+//! Files that are opened, read from their front up to a limit, and closed.
+
+ghost use Rattle.std.specs.Prelude.{◌≡◌, ◌<◌, ◌≤◌, ℕ, List, [], ◌∷◌, length, take, vec_len, Some, Err, IfOk};
+ghost use Rattle.tesla_desk.specs.Faults.{HasCause};
+ghost use Rattle.tesla_desk.specs.Outside.{OfSource, with_opening, after_bytes, AsksFront};
+ghost use Rattle.tesla_front.specs.Fault.{Causes};
+ghost use Rattle.tesla_front.specs.Files.{ReadsOn, ReadsFile};
+
+use crate::Fault;
+use std::alloc::Global;
+use tesla_desk::{Desk, ReadStep, Source};
+
+/// How many bytes one read asks for at most.
+const PIECE: usize = 4096;
+
+/// The next bytes of a source, up to `most` of them. No byte beyond these is asked for: what was read and what
+/// is left are what there was. They are fewer than `most` only where the source ended.
+///
+/// `Read` only where the source's count of faults rose, `NoMemory` where there was no room for the bytes. What
+/// was read before either is lost.
+pub fn read_up_to<S: Source>(alloc: Global, source: &mut S, most: usize) -> Result<Vec<u8>, Fault>
+    ensures bytes { IfOk result (λ read. (bytes : List ℕ) → S.left source.old ≡ Some bytes → read.items ≡ take most bytes) }
+    ensures left { IfOk result (λ read. S.left source.old ≡ after_bytes read.items (S.left source.new)) }
+    ensures most { IfOk result (λ read. vec_len read ≤ most) }
+    ensures cause { HasCause (S.faults source.old) (S.faults source.new) (result ≡ Err Fault.Read) }
+    ensures kind { (result ≡ Err Fault.Write → ⊥) × (result ≡ Err Fault.Open → ⊥) }
+{
+    let mut bytes = Vec::new(alloc);
+    let mut piece = [0u8; PIECE];
+    while bytes.len() < most {
+        let room = (most - bytes.len()).min(PIECE);
+        if read_on(source, &mut piece[..room], &mut bytes)? == 0 {
+            return Ok(bytes);
+        }
+    }
+    Ok(bytes)
+}
+
+// Reads once into the room, which isn't empty, and appends what was read. It gives how many bytes these
+// are: 0 exactly where nothing is left.
+fn read_on<S: Source>(source: &mut S, room: &mut [u8], bytes: &mut Vec<u8>) -> Result<usize, Fault>
+    requires { 0 < length room.old }
+    ensures reads { IfOk result (λ n. ReadsOn n (length room.old) (S.left source.old) (S.left source.new) bytes.old.items bytes.new.items) }
+    ensures cause { HasCause (S.faults source.old) (S.faults source.new) (result ≡ Err Fault.Read) }
+    ensures kind { (result ≡ Err Fault.Write → ⊥) × (result ≡ Err Fault.Open → ⊥) }
+{
+    match source.read(room) {
+        ReadStep::Got(count) => {
+            if bytes.extend_from_slice(&room[..count]).is_err() {
+                return Err(Fault::NoMemory);
+            }
+            Ok(count)
+        }
+        ReadStep::End => Ok(0),
+        ReadStep::Failed => Err(Fault::Read),
+    }
+}
+
+/// The bytes under a name, up to `most` of them. The file is opened, read and closed, and no other is.
+///
+/// `Open` only where the desk's count of openings rose, as where there is no such file, `Read` only where that
+/// of reads rose, and `NoMemory` where there was no memory. Where it was opened it is closed in any case.
+#[tactic(auto, using(tesla_desk::proofs::Told::asks_first, tesla_desk::proofs::Told::asks_tried))]
+pub fn read_file<D: Desk>(
+    alloc: Global,
+    name: &str,
+    most: usize,
+    desk: &mut D,
+) -> Result<Vec<u8>, Fault>
+    ensures told { IfOk result (λ read. ReadsFile most ((D.told desk.old).page name.now) read.items) }
+    ensures opened { IfOk result (λ read. (D.told desk.new).openings ≡ with_opening (D.told desk.old).openings (OfSource name.now)) }
+    ensures asked { AsksFront (OfSource name.now ∷ []) (D.told desk.old).openings (D.told desk.new).openings }
+    ensures pages { (n : List ℕ) → (D.told desk.new).page n ≡ (D.told desk.old).page n }
+    ensures causes { Causes result (D.told desk.old).faults (D.told desk.new).faults }
+    ensures kind { result ≡ Err Fault.Write → ⊥ }
+{
+    let mut source = desk.open_source(name)?;
+    let read = read_up_to(alloc, &mut source, most);
+    desk.close_source(source);
+    read
+}

@@ -1,0 +1,20 @@
+//! What all commands share: their words and names, files that are opened and read, the setup, faults and
+//! refusals, and the lines of the console.
+#![tactic(auto)]
+
+mod fault;
+mod files;
+mod lines;
+mod refusal;
+mod setup;
+mod words;
+
+pub use fault::Fault;
+pub use files::{read_file, read_up_to};
+pub use lines::{Lines, add_count, refusal_lines};
+pub use refusal::{Refusal, Stop};
+pub use setup::setup_under;
+pub use words::{Places, is_name, places_in};
+
+#[cfg(test)]
+mod tests;

@@ -1,0 +1,44 @@
+//! The setup that a command trusts.
+
+ghost use Rattle.std.specs.Prelude.{◌≡◌, ℕ, List, [], ◌∷◌, IfOk, IfErr};
+ghost use Rattle.tesla_desk.specs.Outside.{OfSource, with_opening, AsksFront};
+ghost use Rattle.tesla_front.specs.Refusal.{StopCauses};
+ghost use Rattle.tesla_front.specs.Setup.{IsSetupIn, IsSetupText, IsNoSetup, IsNoSetupText};
+
+use crate::{Fault, Refusal, Stop, read_file};
+use std::alloc::Global;
+use tesla_commit::{Setup, SetupRefusal, read_setup};
+use tesla_desk::Desk;
+
+/// How many bytes of a setup are asked for: one more than it has at most.
+const MOST: usize = 4097;
+
+// The setup that a text spells.
+fn setup_of(alloc: Global, text: &[u8]) -> Result<Setup, Stop>
+    ensures found { IfOk result (λ setup. IsSetupText text.now setup) }
+    ensures refused { IfErr result (IsNoSetupText text.now) }
+{
+    match read_setup(alloc, text) {
+        Ok(setup) => Ok(setup),
+        Err(SetupRefusal::At { line, kind }) => Err(Stop::Refused(Refusal::Setup { line, kind })),
+        Err(SetupRefusal::NoMemory) => Err(Stop::Failed(Fault::NoMemory)),
+    }
+}
+
+/// The setup under a name. The file is opened, read and closed, and then judged; of a longer file the first
+/// 4,097 bytes are read, which tell that it is too long.
+///
+/// `Refused` with the first refused line where the file's text is no setup, and `Failed` as `read_file` fails.
+pub fn setup_under<D: Desk>(alloc: Global, name: &str, desk: &mut D) -> Result<Setup, Stop>
+    ensures found { IfOk result (λ setup. IsSetupIn ((D.told desk.old).page name.now) setup) }
+    ensures refused { IfErr result (IsNoSetup ((D.told desk.old).page name.now)) }
+    ensures opened { IfOk result (λ setup. (D.told desk.new).openings ≡ with_opening (D.told desk.old).openings (OfSource name.now)) }
+    ensures asked { AsksFront (OfSource name.now ∷ []) (D.told desk.old).openings (D.told desk.new).openings }
+    ensures pages { (n : List ℕ) → (D.told desk.new).page n ≡ (D.told desk.old).page n }
+    ensures causes { StopCauses result (D.told desk.old).faults (D.told desk.new).faults }
+{
+    match read_file(alloc, name, MOST, desk) {
+        Ok(text) => setup_of(alloc, text.as_slice()),
+        Err(fault) => Err(Stop::Failed(fault)),
+    }
+}

@@ -1,0 +1,193 @@
+//! Tests of what no clause says: the words and texts that the project has settled, and that calls which can want memory give what they are asked for.
+
+ghost use Rattle.std.specs.Prelude.{◌≡◌, ◌≤◌};
+
+use super::*;
+use std::alloc::Global;
+use std::test::Fail;
+use tesla_base::{NoMemory, StreamId};
+use tesla_capture::RecordKind;
+use tesla_commit::SetupKind;
+use tesla_desk::{Desk, MemoryDesk, OpenRefusal, Source};
+use tesla_examples::SETUP;
+
+const FALLING: &str =
+    "tesla 1\nstream 00000000000000a7\nstart 1000000\ninterval 100000\nlast 8\nchain 2 0 d37e38b1539f22b758d1e34d417c1032bee6369ad6cd313ca36c4c745fa2a941\nchain 2 9 9ce5072017e83d06da080924aa2251a73ea445e5986eb68ca2d8fb6a3bf70ced\n";
+
+#[test]
+fn names(rt: HostRuntime) {
+    for (word, want) in [("setup", true), ("--", true), ("", false), ("-", false)] {
+        assert_eq!(rt; is_name(word), want, "at {word}");
+    }
+}
+
+#[test]
+fn capacities(rt: HostRuntime) {
+    for (word, capacity, quota) in [
+        ("1", 1, 1),
+        ("16", 16, 16),
+        ("65536", 65_536, 65_536),
+        ("4/2", 4, 2),
+        ("4/4", 4, 4),
+    ] {
+        assert_eq!(rt;
+            places_in(word.as_bytes()),
+            Some(Places { capacity, quota }),
+            "at {word}"
+        );
+    }
+    for word in [
+        "", "0", "016", "65537", "x", "/4", "4/", "4/0", "4/02", "4/5", "4/2/1",
+    ] {
+        assert_eq!(rt; places_in(word.as_bytes()), None, "at {word}");
+    }
+}
+
+#[test]
+fn faults(rt: HostRuntime) {
+    for (fault, status, line) in [
+        (Fault::Read, 4, "read fault\n"),
+        (Fault::Write, 5, "write fault\n"),
+        (Fault::from(NoMemory), 6, "no memory\n"),
+        (Fault::from(OpenRefusal::NoMemory), 6, "no memory\n"),
+        (Fault::from(OpenRefusal::Failed), 7, "open fault\n"),
+    ] {
+        assert_eq!(rt; fault.status(), status, "at {line}");
+        assert_eq!(rt; fault.line(), line.as_bytes());
+        assert_eq!(rt; Stop::from(fault), Stop::Failed(fault));
+    }
+}
+
+// The refusal of a setup at a line.
+fn of_setup(line: u32, kind: SetupKind) -> Refusal {
+    Refusal::Setup { line, kind }
+}
+
+// The refusal of a capture at a place.
+fn of_capture(place: u64, kind: RecordKind) -> Refusal {
+    Refusal::Capture { place, kind }
+}
+
+#[test]
+fn refusals(rt: HostRuntime) {
+    for (refusal, status, line) in [
+        (
+            of_setup(0, SetupKind::TooLong),
+            2,
+            "refused setup 0 TooLong\n",
+        ),
+        (
+            of_setup(7, SetupKind::DelaysNotRising),
+            2,
+            "refused setup 7 DelaysNotRising\n",
+        ),
+        (
+            of_capture(0, RecordKind::BadHead),
+            3,
+            "refused capture 0 BadHead\n",
+        ),
+        (
+            of_capture(178, RecordKind::Truncated),
+            3,
+            "refused capture 178 Truncated\n",
+        ),
+    ] {
+        assert_eq!(rt; refusal.status(), status, "at {line}");
+        assert_eq!(rt; refusal_lines(&refusal).as_str(), line);
+        assert_eq!(rt; Stop::from(refusal), Stop::Refused(refusal));
+    }
+}
+
+#[test]
+fn counts(rt: HostRuntime) {
+    let mut lines = Lines::new();
+    add_count(&mut lines, "malformed", 0);
+    add_count(&mut lines, "kept", 2);
+    add_count(&mut lines, "given", u64::MAX);
+    assert_eq!(rt;
+        lines.as_str(),
+        "malformed 0\nkept 2\ngiven 18446744073709551615\n"
+    );
+}
+
+// A desk with these bytes under "file", which gives at most 3 of them a read.
+fn desk_with(alloc: Global, bytes: &[u8]) -> Result<MemoryDesk, NoMemory> {
+    let mut desk = MemoryDesk::new(alloc, 16)?;
+    desk.put_page("file", bytes)?;
+    desk.set_piece("file", 3)?;
+    Ok(desk)
+}
+
+// Whether a source's next bytes, up to `most` of them, are these.
+fn reads<S: Source>(alloc: Global, source: &mut S, most: usize, want: &str) -> bool {
+    match read_up_to(alloc, source, most) {
+        Ok(read) => read.as_slice() == want.as_bytes(),
+        Err(_) => false,
+    }
+}
+
+#[test]
+fn a_source_is_read_in_parts(rt: HostRuntime) -> Result<(), Fail> {
+    let mut desk = desk_with(rt.alloc(), b"first to last")?;
+    let Ok(mut source) = desk.open_source("file") else {
+        return Err("not opened".into());
+    };
+    let mut met = true;
+    for (most, want) in [(5, "first"), (0, ""), (4, " to "), (100, "last"), (100, "")] {
+        met = met && reads(rt.alloc(), &mut source, most, want);
+    }
+    desk.close_source(source);
+    assert!(rt; met);
+    Ok(())
+}
+
+#[test]
+fn a_file_is_read_up_to_a_limit(rt: HostRuntime) -> Result<(), Fail> {
+    let mut desk = desk_with(rt.alloc(), b"first to last")?;
+    for (most, want) in [
+        (0, ""),
+        (5, "first"),
+        (13, "first to last"),
+        (100, "first to last"),
+    ] {
+        let read = read_file(rt.alloc(), "file", most, &mut desk)?;
+        assert_eq!(rt; read.as_slice(), want.as_bytes());
+    }
+    let missing = read_file(rt.alloc(), "nothing", 5, &mut desk);
+    assert_eq!(rt; missing.err().ok_or("it is not there")?, Fault::Open);
+    desk.fail_call("file", 2)?;
+    let failed = read_file(rt.alloc(), "file", 13, &mut desk);
+    assert_eq!(rt; failed.err().ok_or("the third read fails")?, Fault::Read);
+    Ok(())
+}
+
+#[test]
+fn the_base_setup(rt: HostRuntime) -> Result<(), Fail> {
+    let mut desk = desk_with(rt.alloc(), SETUP.as_bytes())?;
+    let setup = setup_under(rt.alloc(), "file", &mut desk)?;
+    assert_eq!(rt; setup.stream(), StreamId(0xa7));
+    assert_eq!(rt; setup.count(), 2);
+    let missing = setup_under(rt.alloc(), "nothing", &mut desk);
+    assert_eq!(rt;
+        missing.err().ok_or("it is not there")?,
+        Stop::Failed(Fault::Open)
+    );
+    Ok(())
+}
+
+#[test]
+fn refused_setups(rt: HostRuntime) -> Result<(), Fail> {
+    let long = [b'x'; 5000];
+    for (text, want) in [
+        (FALLING.as_bytes(), of_setup(7, SetupKind::DelaysNotRising)),
+        (b"".as_slice(), of_setup(1, SetupKind::BadLine)),
+        (&long[..4096], of_setup(1, SetupKind::BadLine)),
+        (&long[..4097], of_setup(0, SetupKind::TooLong)),
+        (&long[..5000], of_setup(0, SetupKind::TooLong)),
+    ] {
+        let mut desk = desk_with(rt.alloc(), text)?;
+        let stop = setup_under(rt.alloc(), "file", &mut desk);
+        assert_eq!(rt; stop.err().ok_or("a setup")?, Stop::Refused(want));
+    }
+    Ok(())
+}
