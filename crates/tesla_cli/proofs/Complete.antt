@@ -1,44 +1,107 @@
--- A replay that nothing stops comes to its end.
-use Rattle.std.proofs.Common.{◌≡◌, ◌∙◌, ◌⊎◌, ◌<◌, ◌-◌, ◌^◌, ℕ, Bool, Option, List, Result, Ok, refl, ap, subst, arith, inl, inr}
+-- A replay of a setup and a capture comes to its end where nothing fails.
+use Rattle.std.proofs.Common.{◌≡◌, ◌∙◌, ◌⊎◌, inl, inr, ℕ, Bool, true, false, Option, Some, None, Result, Ok, Err, List, refl, sym, ap, subst}
+use Rattle.tesla_capture.specs.Outline.{outline_of}
+use Rattle.tesla_capture.specs.declared.record.RecordKind.{RecordKind}
+use Rattle.tesla_commit.specs.Parsing.{judged}
 use Rattle.tesla_commit.specs.Parts.{Parts}
-use Rattle.tesla_desk.specs.Faults.{Faults, Rose}
-use Rattle.tesla_desk.specs.Outside.{Page, Holds, Opening}
+use Rattle.tesla_desk.specs.Faults.{Faults, HasCauses}
+use Rattle.tesla_desk.specs.Outside.{Page, Untold, Absent, Holds, Told}
+use Rattle.tesla_desk.proofs.Counts.{not_rose}
+use Rattle.tesla_front.specs.Setup.{IsNoSetup, IsSetupIn}
+use Rattle.tesla_front.specs.declared.fault.Fault.{Fault}
+use Rattle.tesla_front.specs.declared.fault.Fault.TheVariants as faults
+use Rattle.tesla_front.specs.declared.refusal.Refusal.TheVariants as refusals
+use Rattle.tesla_front.specs.declared.refusal.Stop.{Stop}
+use Rattle.tesla_front.specs.declared.refusal.Stop.TheVariants as stops
 use Rattle.tesla_receiver.specs.Report.{report_of}
-use Rattle.tesla_cli.specs.Judging.{Ending, AtEnd, part_of}
-use Rattle.tesla_cli.specs.Run.{Plan, IsFault, IsOutcomeOf, config_of, history_of, outcome_by, planned, plan_under, setup_judged}
-use Rattle.tesla_cli.specs.TopCall.{NothingFailed, Run}
-use Rattle.tesla_cli.specs.Words.{Asked, IsReplay}
+use Rattle.tesla_receiver.specs.declared.config.Config.{Config}
+use Rattle.tesla_receiver.specs.declared.history.Entry.{Entry}
+use Rattle.tesla_cli.specs.Asked.{Asked, IsReplay}
+use Rattle.tesla_cli.specs.Form.{Replay}
+use Rattle.tesla_cli.specs.Here.{NothingFailed, Runs, Shows, HasNoConsole, HasConsole}
+use Rattle.tesla_cli.specs.Outcome.{outcome_of}
+use Rattle.tesla_cli.specs.Replay.{config_of, history_of, end_by, PlaysCapture, DoesReplay}
 use Rattle.tesla_cli.specs.declared.outcome.Outcome.{Outcome}
-use Rattle.tesla_cli.specs.declared.outcome.Outcome.TheVariants.{Done, Usage, SetupRefused, SetupLater, CaptureRefused, CaptureLater, ReadFault, WriteFault, NoMemory, OpenFault}
+use Rattle.tesla_cli.specs.declared.outcome.Outcome.TheVariants.{Done, Failed}
+use Rattle.tesla_cli.specs.declared.outcome.Summary.{Summary}
+use Rattle.tesla_cli.specs.declared.outcome.Summary.TheVariants.{Played}
 
--- a count that stayed did not rise
-stayed : (before now : ℕ) → now ≡ before → before < 2 ^ 64 - 1 → Rose before now → ⊥
-stayed before now same below rose = grind (arith, same, below, rose)
+-- each fault of this outcome has its cause
+abbrev Caused : Faults → Faults → Outcome → Type 0
+Caused old new outcome = HasCauses old new (outcome ≡ Failed faults.Read) (outcome ≡ Failed faults.Write) (outcome ≡ Failed faults.Open)
 
--- of the faults, want of memory alone has no count
-memory_left : (outcome : Outcome) → IsFault outcome → (outcome ≡ ReadFault → ⊥) → (outcome ≡ WriteFault → ⊥) → (outcome ≡ OpenFault → ⊥) → outcome ≡ NoMemory
-memory_left (Done report) fault read write opening = absurd fault
-memory_left Usage fault read write opening = absurd fault
-memory_left (SetupRefused line kind) fault read write opening = absurd fault
-memory_left SetupLater fault read write opening = absurd fault
-memory_left (CaptureRefused place kind) fault read write opening = absurd fault
-memory_left (CaptureLater place) fault read write opening = absurd fault
-memory_left ReadFault fault read write opening = absurd (read refl)
-memory_left WriteFault fault read write opening = absurd (write refl)
-memory_left NoMemory fault read write opening = refl
-memory_left OpenFault fault read write opening = absurd (opening refl)
+-- where nothing failed, the one fault is want of memory
+memory_alone : (old new : Faults) (outcome : Outcome) (fault : Fault) → Caused old new outcome → NothingFailed old new → outcome ≡ Failed fault → outcome ≡ Failed faults.NoMemory
+memory_alone old new outcome faults.Read causes none e = absurd (not_rose old.reads new.reads none.reads.0 none.reads.1 (causes.reads.rose e))
+memory_alone old new outcome faults.Write causes none e = absurd (not_rose old.writes new.writes none.writes.0 none.writes.1 (causes.writes.rose e))
+memory_alone old new outcome faults.NoMemory causes none e = e
+memory_alone old new outcome faults.Open causes none e = absurd (not_rose old.openings new.openings none.openings.0 none.openings.1 (causes.openings.rose e))
 
-pub complete : (words : List (List ℕ)) (before after : List ℕ → Page) (old new : Faults) (asked more : Option (List Opening)) (outcome : Outcome) (form : Asked) (text bytes : List ℕ) (failed other : Bool) (parts : Parts) → Run words before after old new asked more outcome → IsReplay words form → before form.setup ≡ Holds text failed → setup_judged text ≡ Ok parts → before form.capture ≡ Holds bytes other → (part_of form.capacity bytes).ending ≡ AtEnd → NothingFailed old new → (outcome ≡ Done (report_of (history_of (planned (config_of form parts) bytes)))) ⊎ (outcome ≡ NoMemory)
-complete words before after old new asked more outcome form text bytes failed other parts run is setup judged capture ends nothing =
-    let plan : Plan = planned (config_of form parts) bytes in
-    let file = (run.replay form is).plays text bytes failed other setup capture in
-    let comes : IsOutcomeOf (Ok plan) outcome = subst (λ (p : Result Plan Outcome). IsOutcomeOf p outcome) (ap (λ (j : Result Parts Outcome). plan_under form j bytes) judged) file.outcome_is in
-    elim comes [
-      | inl told ↦ inl (told ∙ ap (λ (ending : Ending). outcome_by ending (history_of plan)) ends)
-      | inr fault ↦ inr (
-          memory_left outcome fault
-          (λ e. stayed old.reads new.reads nothing.reads.0 nothing.reads.1 (run.causes.reads.rose e))
-          (λ e. stayed old.writes new.writes nothing.writes.0 nothing.writes.1 (run.causes.writes.rose e))
-          (λ e. stayed old.openings new.openings nothing.openings.0 nothing.openings.1 (run.causes.openings.rose e))
-          )
-    ]
+-- what is shown is what came, or a write fault
+shown_as : (came told : Outcome) (page : Page) → Shows came told page → (told ≡ came) ⊎ (told ≡ Failed faults.Write)
+shown_as came told Untold (inl same) = inl same
+shown_as came told Untold (inr lost) = inr lost.0
+shown_as came told Absent shows = absurd shows
+shown_as came told (Holds text false) shows = inl shows.0
+shown_as came told (Holds text true) (inl it) = inl it.0
+shown_as came told (Holds text true) (inr (inl it)) = inl it.0
+shown_as came told (Holds text true) (inr (inr it)) = inr it.0
+
+-- a setup that is told is found
+no_refusal : (page : Page) (stop : Stop) (text : List ℕ) (failed : Bool) (setup : Parts) → page ≡ Holds text failed → judged text ≡ Ok setup → IsNoSetup page stop → (fault : Fault) × (stop ≡ stops.Failed fault)
+no_refusal Untold stop text failed setup page found why = absurd cc
+no_refusal Absent stop text failed setup page found why = absurd cc
+no_refusal (Holds held other) (stops.Failed fault) text failed setup page found why = (fault, refl)
+no_refusal (Holds held other) (stops.Refused (refusals.Capture place kind)) text failed setup page found why = absurd why
+no_refusal (Holds held other) (stops.Refused (refusals.Setup line kind)) text failed setup page found why = absurd (let same : held ≡ text = cc in let no : judged text ≡ Err (line, kind) = sym (ap judged same) ∙ why in cc)
+
+-- it is the one that was told
+one_setup : (page : Page) (text : List ℕ) (failed : Bool) (setup other : Parts) → page ≡ Holds text failed → judged text ≡ Ok setup → IsSetupIn page other → other ≡ setup
+one_setup Untold text failed setup other page found in_page = absurd cc
+one_setup Absent text failed setup other page found in_page = absurd cc
+one_setup (Holds held lost) text failed setup other page found in_page = let same : held ≡ text = cc in let both : Ok other ≡ Ok setup = sym in_page ∙ ap judged same ∙ found in cc
+
+-- where no place is refused, the end is the report
+whole_end : (fault : Option (ℕ × RecordKind)) (history : List Entry) → fault ≡ None → end_by fault history ≡ Ok (Played (report_of history))
+whole_end None history e = refl
+whole_end (Some fault) history e = absurd cc
+
+-- a capture without a refused place comes to that end, or to a fault
+capture_ends : (cfg : Config) (capture before out : Page) (came : Result Summary Stop) (bytes : List ℕ) (failed : Bool) → capture ≡ Holds bytes failed → (outline_of bytes).fault ≡ None → PlaysCapture cfg capture before out came → (came ≡ Ok (Played (report_of (history_of cfg bytes)))) ⊎ ((fault : Fault) × (came ≡ Err (stops.Failed fault)))
+capture_ends cfg capture before out (Ok summary) bytes failed page whole plays = inl (plays.end bytes failed page ∙ whole_end (outline_of bytes).fault (history_of cfg bytes) whole)
+capture_ends cfg capture before out (Err (stops.Refused (refusals.Capture place kind))) bytes failed page whole plays =
+    absurd (let no : Err (stops.Refused (refusals.Capture place kind)) ≡ Ok (Played (report_of (history_of cfg bytes))) = plays.end bytes failed page ∙ whole_end (outline_of bytes).fault (history_of cfg bytes) whole in cc)
+capture_ends cfg capture before out (Err (stops.Refused (refusals.Setup line kind))) bytes failed page whole plays = absurd plays
+capture_ends cfg capture before out (Err (stops.Failed fault)) bytes failed page whole plays = inr (fault, refl)
+
+-- a replay of a setup and a capture comes to the report, or to a fault
+replay_ends : (asked : Asked) (opened : ℕ) (before after : List ℕ → Page) (came : Result Summary Stop) (text bytes : List ℕ) (failed other : Bool) (setup : Parts) → before asked.setup ≡ Holds text failed → judged text ≡ Ok setup → before asked.capture ≡ Holds bytes other → (outline_of bytes).fault ≡ None → DoesReplay asked opened before after came → (came ≡ Ok (Played (report_of (history_of (config_of asked setup) bytes)))) ⊎ ((fault : Fault) × (came ≡ Err (stops.Failed fault)))
+replay_ends asked opened before after came text bytes failed other setup page found capture whole (inl stops) =
+    let it = no_refusal (before asked.setup) stops.stop text failed setup page found stops.why in
+    inr (it.0, stops.came_is ∙ ap (λ stop. Err stop) it.1)
+replay_ends asked opened before after came text bytes failed other setup page found capture whole (inr plays) =
+    let same : plays.setup ≡ setup = one_setup (before asked.setup) text failed setup plays.setup page found plays.found in
+    subst (λ (s : Parts). (came ≡ Ok (Played (report_of (history_of (config_of asked s) bytes)))) ⊎ ((fault : Fault) × (came ≡ Err (stops.Failed fault)))) same
+    (capture_ends (config_of asked plays.setup) (before asked.capture) (before asked.out) (after asked.out) came bytes other capture whole plays.plays)
+
+ends_told : (old new : Faults) (came : Result Summary Stop) (outcome : Outcome) (summary : Summary) → Caused old new outcome → NothingFailed old new → (came ≡ Ok summary) ⊎ ((fault : Fault) × (came ≡ Err (stops.Failed fault))) → (outcome ≡ outcome_of came) ⊎ (outcome ≡ Failed faults.Write) → (outcome ≡ Done summary) ⊎ (outcome ≡ Failed faults.NoMemory)
+ends_told old new came outcome summary causes none end (inr lost) = inr (memory_alone old new outcome faults.Write causes none lost)
+ends_told old new came outcome summary causes none (inl done) (inl same) = inl (same ∙ ap outcome_of done)
+ends_told old new came outcome summary causes none (inr fault) (inl same) = inr (memory_alone old new outcome fault.0 causes none (same ∙ ap outcome_of fault.1))
+
+unopened_told : (old new : Faults) (outcome : Outcome) → Caused old new outcome → NothingFailed old new → (outcome ≡ Failed faults.Open) ⊎ (outcome ≡ Failed faults.NoMemory) → outcome ≡ Failed faults.NoMemory
+unopened_told old new outcome causes none (inl e) = memory_alone old new outcome faults.Open causes none e
+unopened_told old new outcome causes none (inr e) = e
+
+complete_by : (words : List (List ℕ)) (old new : Told) (outcome : Outcome) (asked : Asked) (text bytes : List ℕ) (failed other : Bool) (setup : Parts) → Caused old.faults new.faults outcome → HasNoConsole old new outcome ⊎ HasConsole words old new outcome → IsReplay asked words → old.page asked.setup ≡ Holds text failed → judged text ≡ Ok setup → old.page asked.capture ≡ Holds bytes other → (outline_of bytes).fault ≡ None → NothingFailed old.faults new.faults → (outcome ≡ Done (Played (report_of (history_of (config_of asked setup) bytes)))) ⊎ (outcome ≡ Failed faults.NoMemory)
+complete_by words old new outcome asked text bytes failed other setup causes (inl closed) is page found capture whole none = inr (unopened_told old.faults new.faults outcome causes none closed.fault)
+complete_by words old new outcome asked text bytes failed other setup causes (inr ran) is page found capture whole none =
+    let done = ran.form (Replay asked) is in
+    ends_told old.faults new.faults done.came outcome (Played (report_of (history_of (config_of asked setup) bytes))) causes none
+    (replay_ends asked done.opened old.page new.page done.came text bytes failed other setup page found capture whole done.does)
+    (shown_as (outcome_of done.came) outcome _ done.shows)
+
+-- a replay of a setup and a capture comes to the report, or to want of memory
+pub complete : (words : List (List ℕ)) (old new : Told) (outcome : Outcome) (asked : Asked) (text bytes : List ℕ) (failed other : Bool) (setup : Parts) → Runs words old new outcome → IsReplay asked words → old.page asked.setup ≡ Holds text failed → judged text ≡ Ok setup → old.page asked.capture ≡ Holds bytes other → (outline_of bytes).fault ≡ None → NothingFailed old.faults new.faults → (outcome ≡ Done (Played (report_of (history_of (config_of asked setup) bytes)))) ⊎ (outcome ≡ Failed faults.NoMemory)
+complete words old new outcome asked text bytes failed other setup runs is page found capture whole none =
+    complete_by words old new outcome asked text bytes failed other setup runs.causes runs.ran is page found capture whole none

@@ -1,9 +1,8 @@
-pub mod Words
-pub mod Reading
+pub mod Here
+pub mod Form
 pub mod Outcome
-pub mod Judging
-pub mod Items
-pub mod Playing
-pub mod Run
+pub mod Usage
 pub mod Replay
-pub mod TopCall
+pub mod Asked
+pub mod Playing
+pub mod Steps

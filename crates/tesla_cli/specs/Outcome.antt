@@ -1,67 +1,73 @@
 -- What a command comes to: its status, and the lines that the console is given.
-use Rattle.std.specs.Prelude.{◌≡◌, ◌⊎◌, ℕ, List, [], ◌∷◌, ◌++◌, codes, decimal}
-use Rattle.tesla_capture.specs.Names as records
-use Rattle.tesla_commit.specs.Names as setups
+use Rattle.std.specs.Prelude.{◌≡◌, ◌⊎◌, ℕ, ◌<◌, Option, Result, Ok, Err, List, ◌++◌, take, codes}
+use Rattle.std.specs.List.{flat_map}
+use Rattle.tesla_desk.specs.Outside.{AppendsFront, with_bytes}
+use Rattle.tesla_front.specs.Fault.{fault_status, fault_line}
+use Rattle.tesla_front.specs.Lines.{count_line}
+use Rattle.tesla_front.specs.Refusal.{refusal_status, refusal_line}
+use Rattle.tesla_front.specs.declared.fault.Fault.TheVariants.{Write}
+use Rattle.tesla_front.specs.declared.refusal.Stop.{Stop}
+use Rattle.tesla_front.specs.declared.refusal.Stop.TheVariants as stops
 use Rattle.tesla_receiver.specs.declared.report.Report.{Report}
+use Rattle.tesla_cli.specs.Usage.{form_texts}
+use Rattle.tesla_cli.specs.declared.usage.FormText.{FormText}
 use Rattle.tesla_cli.specs.declared.outcome.Outcome.{Outcome}
-use Rattle.tesla_cli.specs.declared.outcome.Outcome.TheVariants.{Done, Usage, SetupRefused, SetupLater, CaptureRefused, CaptureLater, ReadFault, WriteFault, NoMemory, OpenFault}
+use Rattle.tesla_cli.specs.declared.outcome.Outcome.TheVariants.{Done, Usage, Refused, Failed}
+use Rattle.tesla_cli.specs.declared.outcome.Summary.{Summary}
+use Rattle.tesla_cli.specs.declared.outcome.Summary.TheVariants.{Played}
+
+-- what the end of a command is as an outcome
+abbrev pub outcome_of : Result Summary Stop → Outcome
+outcome_of (Ok summary) = Done summary
+outcome_of (Err (stops.Refused refusal)) = Refused refusal
+outcome_of (Err (stops.Failed fault)) = Failed fault
 
 -- the status that the program ends with
 abbrev pub status_of : Outcome → ℕ
-status_of (Done report) = 0
+status_of (Done summary) = 0
 status_of Usage = 1
-status_of (SetupRefused line kind) = 2
-status_of SetupLater = 2
-status_of (CaptureRefused place kind) = 3
-status_of (CaptureLater place) = 3
-status_of ReadFault = 4
-status_of WriteFault = 5
-status_of NoMemory = 6
-status_of OpenFault = 7
-
--- a name, a space, a number and an LF
-abbrev pub line : List ℕ → ℕ → List ℕ
-line name n = name ++ 32 ∷ decimal n ++ 10 ∷ []
+status_of (Refused refusal) = refusal_status refusal
+status_of (Failed fault) = fault_status fault
 
 -- the lines of a report
 unfoldable pub report_text : Report → List ℕ
 report_text report =
-    line (codes "arrivals") report.arrivals ++ line (codes "malformed") report.malformed ++ line (codes "foreign") report.foreign
-    ++ line (codes "misfit") report.misfit ++ line (codes "future") report.future ++ line (codes "badkey") report.badkey
-    ++ line (codes "late") report.late ++ line (codes "repeat") report.repeat ++ line (codes "full") report.full
-    ++ line (codes "kept") report.kept ++ line (codes "keys") report.keys ++ line (codes "given") report.given
+    count_line (codes "arrivals") report.arrivals ++ count_line (codes "malformed") report.malformed ++ count_line (codes "foreign") report.foreign
+    ++ count_line (codes "misfit") report.misfit ++ count_line (codes "future") report.future ++ count_line (codes "badkey") report.badkey
+    ++ count_line (codes "late") report.late ++ count_line (codes "repeat") report.repeat ++ count_line (codes "full") report.full
+    ++ count_line (codes "kept") report.kept ++ count_line (codes "keys") report.keys ++ count_line (codes "given") report.given
 
--- the line of a refusal: the file, the line or place in it, and the kind
-abbrev pub refusal_text : List ℕ → ℕ → List ℕ → List ℕ
-refusal_text file place kind = codes "refused " ++ file ++ (32 ∷ decimal place ++ (32 ∷ kind ++ 10 ∷ []))
+-- the lines of a summary
+abbrev pub summary_text : Summary → List ℕ
+summary_text (Played report) = report_text report
+
+-- the line that tells a form
+abbrev pub usage_line : List ℕ → List ℕ
+usage_line words = codes "usage: " ++ words ++ codes "\n"
+
+-- the lines that tell some forms
+abbrev pub usage_of : List FormText → List ℕ
+usage_of forms = flat_map (λ (form : FormText). usage_line form.words.now) forms
 
 -- all that an outcome prints
-abbrev pub text_of : Outcome → List ℕ
-text_of (Done report) = report_text report
-text_of Usage = codes "usage: replay SETUP LAG CAPACITY CAPTURE OUT" ++ 10 ∷ []
-text_of (SetupRefused line kind) = refusal_text (codes "setup") line (setups.kind_name kind)
-text_of SetupLater = codes "refused setup 7 Later" ++ 10 ∷ []
-text_of (CaptureRefused place kind) = refusal_text (codes "capture") place (records.kind_name kind)
-text_of (CaptureLater place) = refusal_text (codes "capture") place (codes "Later")
-text_of ReadFault = codes "read fault" ++ 10 ∷ []
-text_of WriteFault = codes "write fault" ++ 10 ∷ []
-text_of NoMemory = codes "no memory" ++ 10 ∷ []
-text_of OpenFault = codes "open fault" ++ 10 ∷ []
+abbrev pub outcome_text : Outcome → List ℕ
+outcome_text (Done summary) = summary_text summary
+outcome_text Usage = flat_map usage_line form_texts
+outcome_text (Refused refusal) = refusal_line refusal
+outcome_text (Failed fault) = fault_line fault
 
--- the text has numbers, so that it takes memory to print it
-abbrev pub HasNumbers : Outcome → Type 0
-HasNumbers (Done report) = Unit {0}
-HasNumbers (SetupRefused line kind) = Unit {0}
-HasNumbers (CaptureRefused place kind) = Unit {0}
-HasNumbers (CaptureLater place) = Unit {0}
-HasNumbers _ = ⊥
-
--- all was played and written
+-- the command came to its end
 abbrev pub IsDone : Outcome → Type 0
-IsDone (Done report) = Unit {0}
+IsDone (Done summary) = Unit {0}
 IsDone _ = ⊥
 
--- what became of an outcome that is printed: it stays, or there was no memory for its text, or a report was lost since a write failed
-abbrev pub TellsOutcome : Outcome → Outcome → Type 0
-TellsOutcome outcome printed =
-    (printed ≡ outcome) ⊎ ((printed ≡ NoMemory) × HasNumbers outcome) ⊎ ((printed ≡ WriteFault) × IsDone outcome)
+-- a front of the lines of a summary, and behind it a front of the line of a write fault
+abbrev pub IsLost : Outcome → List ℕ → Type 0
+IsLost came text = (n : ℕ) × (m : ℕ) × (text ≡ take n (outcome_text came) ++ take m (fault_line Write))
+
+-- what an outcome that came is told as, with what is written of it on a sink that has had so many faults then: it stays, with all of its lines, or where there is no summary with a front of them; a summary that isn't written whole is told as a write fault
+abbrev pub Tells : Outcome → Outcome → Option (List ℕ) → Option (List ℕ) → ℕ → Type 0
+Tells came told before now faults =
+    ((told ≡ came) × (now ≡ with_bytes before (outcome_text came)))
+    ⊎ ((told ≡ came) × (IsDone came → ⊥) × (0 < faults) × AppendsFront before now (outcome_text came))
+    ⊎ ((told ≡ Failed Write) × IsDone came × (0 < faults) × ((text : List ℕ) × IsLost came text × (now ≡ with_bytes before text)))

@@ -1,122 +1,153 @@
--- Playing the records of a capture: what the receiver stands for, and what was written or is gathered.
-use Rattle.std.specs.Prelude.{◌≡◌, ℕ, ◌+◌, List, ◌∷◌, [], ◌++◌, Option, Some, None, map}
-use Rattle.tesla_desk.specs.Outside.{with_bytes, AppendsFront}
-use Rattle.tesla_capture.specs.Capture.{Record}
-use Rattle.tesla_capture.specs.Gathering.{Gathers}
+-- The records of a capture, played one after another to a target that writes what it has to tell of each.
+use Rattle.std.specs.Prelude.{◌≡◌, ◌<◌, ◌≤◌, true, ℕ, suc, Option, Some, None, Result, Ok, Err, List, [], ◌∷◌, ◌++◌, map, replicate}
+use Rattle.tesla_capture.specs.Capture.{Record, limit}
+use Rattle.tesla_capture.specs.declared.reader.Reader.{Reader}
+use Rattle.tesla_capture.specs.Outline.{Outline, outline_of, outline_at}
+use Rattle.tesla_capture.specs.declared.record.RecordKind.{RecordKind}
+use Rattle.tesla_desk.specs.Outside.{AppendsFront, with_bytes}
+use Rattle.tesla_front.specs.Files.{IsFront}
+use Rattle.tesla_front.specs.declared.fault.Fault.{Fault}
+use Rattle.tesla_front.specs.declared.fault.Fault.TheVariants as faults
+use Rattle.tesla_receiver.specs.History.{Event, Arrives, Takes, Ends, entry_of}
+use Rattle.tesla_receiver.specs.Keys.{each_after}
+use Rattle.tesla_receiver.specs.Played.{after_events, event_in, waiting_in}
+use Rattle.tesla_receiver.specs.Report.{record_in, report_of}
+use Rattle.tesla_receiver.specs.declared.report.Report.{Report}
 use Rattle.tesla_receiver.specs.declared.config.Config.{Config}
-use Rattle.tesla_receiver.specs.declared.history.Entry.{Entry}
-use Rattle.tesla_receiver.specs.History.{Event, State, Stands, entry_of}
-use Rattle.tesla_receiver.specs.Report.{record_in, records_of}
-use Rattle.tesla_receiver.specs.Played.{after_events, event_in, finished}
-use Rattle.tesla_cli.specs.Judging.{Part, AtEnd, AtFault, AtLater, with_first}
-use Rattle.tesla_cli.specs.Items.{ahead, to_play, GivesStop}
-use Rattle.tesla_cli.specs.declared.judging.Records.{Records}
-use Rattle.tesla_cli.specs.declared.judging.Stop.{Stop}
-use Rattle.tesla_cli.specs.declared.judging.Stop.TheVariants.{End, Refused, Later, ReadFault}
-use Rattle.tesla_cli.specs.declared.playing.Halt.{Halt}
-use Rattle.tesla_cli.specs.declared.playing.Halt.TheVariants.{WriteFault, NoMemory}
-use Rattle.tesla_cli.specs.declared.playing.Ended.{Ended}
-use Rattle.tesla_cli.specs.declared.playing.Ended.TheVariants.{Stopped, Halted}
+use Rattle.tesla_cli.specs.declared.replay.player.Ending.{Ending}
+use Rattle.tesla_cli.specs.declared.replay.player.Ending.TheVariants.{End, Refused}
+use Rattle.tesla_cli.specs.declared.replay.target.PlayedEvent.{PlayedEvent}
+use Rattle.tesla_cli.specs.declared.replay.target.PlayedEvent.TheVariants as played
 
--- the receiver of that configuration stands for the history, whose release records were written, but for those that are held
-pub record Stage (cfg : Config) (history : List Entry) (state : State) (first now : Option (List ℕ)) (held : List ℕ) : Type 0 where
-  pub config : state.config ≡ cfg
-  pub stands : Stands state history
-  pub gathers : Gathers first now held (records_of 0 history)
+-- what is written of an event after those before it, and how many packets wait and what is counted after some events
+pub record Rule : Type 0 where
+  pub adds : List Event → Event → List ℕ
+  pub waiting : List Event → ℕ
+  pub counts : List Event → Report
 
--- the receiver stands for some history
-abbrev pub IsLive : State → Type 0
-IsLive state = (history : List Entry) × Stands state history
+-- the event of ingest 0 or releaser 0
+abbrev pub event_of : PlayedEvent → Event
+event_of (played.Arrival reading datagram) = Arrives 0 reading datagram.now
+event_of played.Take = Takes 0
+event_of played.End = Ends 0
 
--- one event more: the receiver stands for the history with it, and what it gave was written or is held
-pub record PlaysOn (event : Event) (old new : State) (before now : Option (List ℕ)) (held rest : List ℕ) : Type 0 where
-  pub config : new.config ≡ old.config
-  pub calls : new.calls ≡ old.calls + 1
-  pub stands : (history : List Entry) → Stands old history → Stands new (history ++ entry_of old.config history event ∷ [])
-  pub gathers : (history : List Entry) → Stands old history → Gathers before now rest (held ++ record_in 0 (entry_of old.config history event))
+-- what is written of events, from the first on
+abbrev pub events_text : Rule → List Event → List ℕ
+events_text rule events = each_after rule.adds [] events
 
--- playing stopped: a front of what was held was written, or nothing has changed
-abbrev pub Halts : Halt → Option (List ℕ) → Option (List ℕ) → List ℕ → List ℕ → Type 0
-Halts WriteFault before now held rest = AppendsFront before now held
-Halts NoMemory before now held rest = (now ≡ before) × (rest ≡ held)
+-- the events of a capture's records
+abbrev pub events_in : List Record → List Event
+events_in records = map event_in records
 
--- all of these events were played, from whatever history the receiver stood for
-pub record PlaysAll (events : List Event) (old new : State) (before now : Option (List ℕ)) (held rest : List ℕ) : Type 0 where
-  pub stage : (cfg : Config) (history : List Entry) (first : Option (List ℕ)) → Stage cfg history old first before held → Stage cfg (after_events cfg history events) new first now rest
+-- the end of the ingest, and a take for each packet that waits, and one more
+abbrev pub with_end : Rule → List Event → List Event
+with_end rule events = events ++ Ends 0 ∷ replicate (suc (rule.waiting events)) (Takes 0)
 
--- of this text a front was written, and some more of it is held
-pub record Begins (before now : Option (List ℕ)) (held text : List ℕ) : Type 0 where
-  pub done : List ℕ
-  pub more : List ℕ
-  pub written : now ≡ with_bytes before done
-  pub both : text ≡ done ++ (held ++ more)
+-- all events of a file: those of the records before its first refused place, and where there is none the end
+abbrev pub events_by : Rule → List Event → Option (ℕ × RecordKind) → List Event
+events_by rule events None = with_end rule events
+events_by rule events (Some fault) = events
 
--- some of these events were played: what was written and what is held begin the release records of all
-pub record PlaysSome (events : List Event) (old : State) (before now : Option (List ℕ)) (held rest : List ℕ) : Type 0 where
-  pub begins : (cfg : Config) (history : List Entry) (first : Option (List ℕ)) → Stage cfg history old first before held → Begins first now rest (records_of 0 (after_events cfg history events))
+abbrev pub events_of : Rule → List ℕ → List Event
+events_of rule bytes = events_by rule (events_in (outline_of bytes).records) (outline_of bytes).fault
 
--- some of these events were played, and a front of their release records was written
-pub record WritesSome (events : List Event) (old : State) (before now : Option (List ℕ)) (held : List ℕ) : Type 0 where
-  pub front : (cfg : Config) (history : List Entry) (first : Option (List ℕ)) → Stage cfg history old first before held → AppendsFront first now (records_of 0 (after_events cfg history events))
+-- how the file ends, or the place that is refused
+abbrev pub ending_of : Option (ℕ × RecordKind) → Ending
+ending_of None = End
+ending_of (Some fault) = Refused fault.0 fault.1
 
--- what was played where playing these events stopped
-abbrev pub HaltsAmong : Halt → List Event → State → Option (List ℕ) → Option (List ℕ) → List ℕ → List ℕ → Type 0
-HaltsAmong WriteFault events old before now held rest = WritesSome events old before now held
-HaltsAmong NoMemory events old before now held rest = PlaysSome events old before now held rest
+-- what was written, where it is told, and then what is held are this text
+abbrev pub HoldsText : Option (List ℕ) → List ℕ → List ℕ → Type 0
+HoldsText written held text = (done : List ℕ) → written ≡ Some done → done ++ held ≡ text
 
--- the events of a part
-abbrev pub events_of : Part → List Event
-events_of part = map event_in part.records
+-- what was written, where it is told, and then what is held are a front of this text
+abbrev pub HoldsFront : Option (List ℕ) → List ℕ → List ℕ → Type 0
+HoldsFront written held text = (done : List ℕ) → written ≡ Some done → IsFront text (done ++ held)
 
--- the whole part was played, or some of it, by what ended it
-abbrev pub PlaysPart : Part → Stop → State → State → Option (List ℕ) → Option (List ℕ) → List ℕ → List ℕ → Type 0
-PlaysPart part End old new before now held rest =
-    (part.ending ≡ AtEnd) × PlaysAll (events_of part) old new before now held rest
-PlaysPart part (Refused place kind) old new before now held rest =
-    (part.ending ≡ AtFault place kind) × PlaysAll (events_of part) old new before now held rest
-PlaysPart part (Later place) old new before now held rest =
-    (part.ending ≡ AtLater place) × PlaysAll (events_of part) old new before now held rest
-PlaysPart part ReadFault old new before now held rest = PlaysSome (events_of part) old before now held rest
+-- playing stopped: of what was held a front was written, or nothing has changed
+abbrev pub Halts : Fault → Option (List ℕ) → Option (List ℕ) → List ℕ → List ℕ → Type 0
+Halts faults.Write before now held rest = AppendsFront before now held
+Halts faults.NoMemory before now held rest = (now ≡ before) × (rest ≡ held)
+Halts faults.Read before now held rest = ⊥
+Halts faults.Open before now held rest = ⊥
 
--- the whole part was played, or some of it
-abbrev pub PlaysUntil : Part → Ended → State → State → Option (List ℕ) → Option (List ℕ) → List ℕ → List ℕ → Type 0
-PlaysUntil part (Stopped stop) old new before now held rest = PlaysPart part stop old new before now held rest
-PlaysUntil part (Halted halt) old new before now held rest = HaltsAmong halt (events_of part) old before now held rest
+-- what is held still after a fault: what a failed write leaves behind isn't written any more
+abbrev pub kept : Fault → List ℕ → List ℕ
+kept faults.Write held = []
+kept faults.Read held = held
+kept faults.NoMemory held = held
+kept faults.Open held = held
 
--- the first record of a part was played, and what is left to be played is told by what isn't taken yet of the capture
-pub record PlaysFirst (part : Part) (records : Records) (left : Option (List ℕ)) (old new : State) (before now : Option (List ℕ)) (held rest : List ℕ) : Type 0 where
-  pub first : Record
-  pub after : List ℕ
-  pub left_is : ahead records left ≡ Some after
-  pub part_is : part ≡ with_first first (to_play records after)
-  pub plays : PlaysOn (event_in first) old new before now held rest
+-- a capture was played to a target: it has had all events of the file, and what is written of them is written; or a front of that is
+abbrev pub Plays : Rule → (List Event → Type 0) → List ℕ → Result Ending Fault → Option (List ℕ) → Type 0
+Plays rule Has bytes (Ok ending) written =
+    (ending ≡ ending_of (outline_of bytes).fault) × Has (events_of rule bytes) × HoldsText written [] (events_text rule (events_of rule bytes))
+Plays rule Has bytes (Err fault) written = HoldsFront written [] (events_text rule (events_of rule bytes))
 
--- playing the first record of a part stopped
-pub record HaltsFirst (halt : Halt) (part : Part) (before now : Option (List ℕ)) (held rest : List ℕ) : Type 0 where
-  pub first : Record
-  pub others : Part
-  pub part_is : part ≡ with_first first others
-  pub halts : Halts halt before now held rest
+-- what a receiver of that configuration writes: the records of what its takes give
+abbrev pub rule_of : Config → Rule
+rule_of cfg = record {
+  adds = λ events event. record_in 0 (entry_of cfg (after_events cfg [] events) event);
+  waiting = λ events. waiting_in cfg (after_events cfg [] events);
+  counts = λ events. report_of (after_events cfg [] events);
+}
 
--- nothing has changed
-pub record IsSame (old new : State) (before now : Option (List ℕ)) (held rest : List ℕ) : Type 0 where
-  pub state : new ≡ old
-  pub written : now ≡ before
-  pub gathered : rest ≡ held
+-- one event more was played: it is had and what is written of it is held; or playing stopped, and what was written is a front of every text that begins with what was held
+abbrev pub Adds : Result (Unit {0}) Fault → Event → Rule → (List Event → Type 0) → (List Event → Type 0) → Option (List ℕ) → List ℕ → Option (List ℕ) → List ℕ → Type 0
+Adds (Ok x) event rule Had Has before held now rest =
+    (events : List Event) → Had events → HoldsText before held (events_text rule events) → Has (events ++ event ∷ []) × HoldsText now rest (events_text rule (events ++ event ∷ []))
+Adds (Err fault) event rule Had Has before held now rest =
+    (text more : List ℕ) → HoldsText before held text → HoldsFront now (kept fault rest) (text ++ more)
 
--- what became of the first record of a part
-abbrev pub PlaysNext : Option Ended → Part → Records → Option (List ℕ) → State → State → Option (List ℕ) → Option (List ℕ) → List ℕ → List ℕ → Type 0
-PlaysNext None part records left old new before now held rest =
-    PlaysFirst part records left old new before now held rest
-PlaysNext (Some (Stopped stop)) part records left old new before now held rest =
-    GivesStop stop part × IsSame old new before now held rest
-PlaysNext (Some (Halted halt)) part records left old new before now held rest =
-    HaltsFirst halt part before now held rest
+-- an outline with these records before it
+abbrev pub with_records : List Record → Outline → Outline
+with_records records outline = record { records = records ++ outline.records; fault = outline.fault }
 
--- the end of the ingest was played after any history, and then all takes up to the first that is over
-pub record Finishes (old new : State) (before now : Option (List ℕ)) (held rest : List ℕ) : Type 0 where
-  pub stage : (cfg : Config) (history : List Entry) (first : Option (List ℕ)) → Stage cfg history old first before held → Stage cfg (finished cfg history) new first now rest
+-- these first records of a file were played, and the rest of it isn't taken yet
+pub record IsAt (rule : Rule) (Has : List Event → Type 0) (bytes : List ℕ) (place : ℕ) (ahead written : Option (List ℕ)) (held : List ℕ) : Type 0 where
+  pub records : List Record
+  pub rest : List ℕ
+  pub ahead_is : ahead ≡ Some rest
+  pub outline : outline_of bytes ≡ with_records records (outline_at place rest)
+  pub has : Has (events_in records)
+  pub holds : HoldsText written held (events_text rule (events_in records))
 
--- it was begun, and a front of the release records was written
-pub record WritesFinishing (old : State) (before now : Option (List ℕ)) (held : List ℕ) : Type 0 where
-  pub front : (cfg : Config) (history : List Entry) (first : Option (List ℕ)) → Stage cfg history old first before held → AppendsFront first now (records_of 0 (finished cfg history))
+-- all records before the first refused place were played, or some of them
+abbrev pub PlaysRecords : Result Ending Fault → Rule → (List Event → Type 0) → List ℕ → Option (List ℕ) → List ℕ → Type 0
+PlaysRecords (Ok ending) rule Has bytes written held =
+    (ending ≡ ending_of (outline_of bytes).fault) × Has (events_in (outline_of bytes).records) × HoldsText written held (events_text rule (events_in (outline_of bytes).records))
+PlaysRecords (Err fault) rule Has bytes written held = HoldsFront written (kept fault held) (events_text rule (events_in (outline_of bytes).records))
+
+-- after a record that was played there may be more
+abbrev pub more_after : Result (Unit {0}) Fault → Result (Option Ending) Fault
+more_after (Ok x) = Ok None
+more_after (Err fault) = Err fault
+
+-- all events of a file were played, or some of them
+abbrev pub PlaysAll : Result Ending Fault → Rule → (List Event → Type 0) → List ℕ → Option (List ℕ) → List ℕ → Type 0
+PlaysAll (Ok ending) rule Has bytes written held =
+    (ending ≡ ending_of (outline_of bytes).fault) × Has (events_of rule bytes) × HoldsText written held (events_text rule (events_of rule bytes))
+PlaysAll (Err fault) rule Has bytes written held = HoldsFront written (kept fault held) (events_text rule (events_of rule bytes))
+
+-- the next record was played, or there was none, or playing stopped
+abbrev pub PlaysNext : Result (Option Ending) Fault → Rule → (List Event → Type 0) → List ℕ → ℕ → Option (List ℕ) → Option (List ℕ) → List ℕ → Type 0
+PlaysNext (Ok None) rule Has bytes place ahead written held = IsAt rule Has bytes place ahead written held
+PlaysNext (Ok (Some ending)) rule Has bytes place ahead written held = PlaysRecords (Ok ending) rule Has bytes written held
+PlaysNext (Err fault) rule Has bytes place ahead written held = PlaysRecords (Err fault) rule Has bytes written held
+
+-- the place rose, within the limit, and the reader goes on
+pub record GoesUp (old new : Reader) : Type 0 where
+  pub rises : old.place < new.place
+  pub limited : new.place ≤ limit
+  pub going : new.going ≡ true
+
+-- what is held after some events and so many takes was written or is held; or a front of it was
+abbrev pub PlaysTo : Result (Unit {0}) Fault → Rule → (List Event → Type 0) → List Event → Option (List ℕ) → List ℕ → Type 0
+PlaysTo (Ok x) rule Has events written held = Has events × HoldsText written held (events_text rule events)
+PlaysTo (Err fault) rule Has events written held = HoldsFront written (kept fault held) (events_text rule events)
+
+-- what is held was written at last: a fault of before stays, whatever becomes of that, and else a failed write is one
+abbrev pub Settles : Result Ending Fault → Result Ending Fault → Option (List ℕ) → Option (List ℕ) → List ℕ → Type 0
+Settles (Ok ending) (Ok other) before now held = (other ≡ ending) × (now ≡ with_bytes before held)
+Settles (Ok ending) (Err fault) before now held = (fault ≡ faults.Write) × AppendsFront before now held
+Settles (Err fault) settled before now held = (settled ≡ Err fault) × AppendsFront before now (kept fault held)

@@ -1,87 +1,96 @@
--- What each part of a replay can come to.
-use Rattle.std.specs.Prelude.{◌≡◌, ◌⊎◌, ℕ, Option, List, Result, Ok, Err}
+-- What the command replay does.
+use Rattle.std.specs.Prelude.{◌≡◌, ◌≢◌, ◌⊎◌, ◌≤◌, ℕ, Bool, true, is_none, Option, Some, None, Result, Ok, Err, List}
+use Rattle.tesla_capture.specs.Outline.{outline_of}
+use Rattle.tesla_capture.specs.declared.record.RecordKind.{RecordKind}
 use Rattle.tesla_commit.specs.Parts.{Parts}
-use Rattle.tesla_capture.specs.Gathering.{Gathers}
-use Rattle.tesla_desk.specs.Outside.{Page, AppendsFront}
-use Rattle.tesla_desk.specs.declared.desk.OpenRefusal.{OpenRefusal}
-use Rattle.tesla_desk.specs.declared.desk.OpenRefusal.TheVariants as openings
-use Rattle.tesla_cli.specs.Playing.{Begins}
-use Rattle.tesla_cli.specs.Run.{Plan, IsFault, IsOutcomeOf, Leaves, out_text, outcome_of}
-use Rattle.tesla_cli.specs.declared.outcome.Outcome.{Outcome}
-use Rattle.tesla_cli.specs.declared.outcome.Outcome.TheVariants.{Done, Usage, SetupRefused, SetupLater, CaptureRefused, CaptureLater, ReadFault, WriteFault, NoMemory, OpenFault}
-use Rattle.tesla_cli.specs.declared.reading.ReadRefusal.{ReadRefusal}
-use Rattle.tesla_cli.specs.declared.reading.ReadRefusal.TheVariants as refusals
+use Rattle.tesla_desk.specs.Outside.{Page, Untold, Absent, Holds}
+use Rattle.tesla_front.specs.Files.{HoldsWhere, IsFront}
+use Rattle.tesla_front.specs.Setup.{IsSetupIn, IsNoSetup}
+use Rattle.tesla_front.specs.declared.fault.Fault.TheVariants as faults
+use Rattle.tesla_front.specs.declared.refusal.Refusal.TheVariants as refusals
+use Rattle.tesla_front.specs.declared.refusal.Stop.{Stop}
+use Rattle.tesla_front.specs.declared.refusal.Stop.TheVariants.{Refused, Failed}
+use Rattle.tesla_receiver.specs.declared.config.Config.{Config}
+use Rattle.tesla_receiver.specs.declared.history.Entry.{Entry}
+use Rattle.tesla_receiver.specs.History.{arrivals_in}
+use Rattle.tesla_receiver.specs.Played.{played}
+use Rattle.tesla_receiver.specs.Report.{report_of, records_of, released_text}
+use Rattle.tesla_cli.specs.Asked.{Asked}
+use Rattle.tesla_cli.specs.declared.outcome.Summary.{Summary}
+use Rattle.tesla_cli.specs.declared.outcome.Summary.TheVariants.{Played}
 
--- what the source of a capture comes to
-abbrev pub OfCapture : Outcome → Type 0
-OfCapture (Done report) = Unit {0}
-OfCapture (CaptureRefused place kind) = Unit {0}
-OfCapture (CaptureLater place) = Unit {0}
-OfCapture ReadFault = Unit {0}
-OfCapture WriteFault = Unit {0}
-OfCapture NoMemory = Unit {0}
-OfCapture _ = ⊥
+-- the configuration of the receiver: that of the words, with one ingest
+abbrev pub config_of : Asked → Parts → Config
+config_of asked setup =
+    record { setup = setup; lag = asked.lag; capacity = asked.places.capacity; quota = asked.places.quota; ingests = 1 }
 
--- the plan was played to that outcome, and its text was written, but for what is held
-abbrev pub IsPlayed : Plan → Outcome → Option (List ℕ) → Option (List ℕ) → List ℕ → Type 0
-IsPlayed plan outcome before now held = (outcome ≡ outcome_of (Ok plan)) × Gathers before now held (out_text (Ok plan))
+-- the one history that a file plays: that of the records before its first refused place, and where there is none the end and takes up to the first that is over
+abbrev pub history_of : Config → List ℕ → List Entry
+history_of cfg bytes = played cfg (outline_of bytes).records (is_none (outline_of bytes).fault)
 
--- what a plan comes to before what is held is written
-abbrev pub IsReady : Plan → Outcome → Option (List ℕ) → Option (List ℕ) → List ℕ → Type 0
-IsReady plan (Done report) before now held = IsPlayed plan (Done report) before now held
-IsReady plan (CaptureRefused place kind) before now held = IsPlayed plan (CaptureRefused place kind) before now held
-IsReady plan (CaptureLater place) before now held = IsPlayed plan (CaptureLater place) before now held
-IsReady plan ReadFault before now held = Begins before now held (out_text (Ok plan))
-IsReady plan NoMemory before now held = Begins before now held (out_text (Ok plan))
-IsReady plan WriteFault before now held = AppendsFront before now (out_text (Ok plan))
-IsReady plan _ before now held = ⊥
+-- what playing a file comes to where nothing fails: the report of its history, or the refused place
+abbrev pub end_by : Option (ℕ × RecordKind) → List Entry → Result Summary Stop
+end_by None history = Ok (Played (report_of history))
+end_by (Some fault) history = Err (Refused (refusals.Capture fault.0 fault.1))
 
--- what a file that wasn't read comes to
-abbrev pub IsUnread : ReadRefusal → Outcome → Type 0
-IsUnread refusals.Fault outcome = outcome ≡ ReadFault
-IsUnread refusals.NoMemory outcome = outcome ≡ NoMemory
+abbrev pub end_of : Config → List ℕ → Result Summary Stop
+end_of cfg bytes = end_by (outline_of bytes).fault (history_of cfg bytes)
 
--- what a refused opening comes to
-abbrev pub IsUnopened : OpenRefusal → Outcome → Type 0
-IsUnopened openings.Failed outcome = outcome ≡ OpenFault
-IsUnopened openings.NoMemory outcome = outcome ≡ NoMemory
+-- what is written: the records of all that is released in the history, or where a place is refused the records of its takes
+abbrev pub text_by : Option (ℕ × RecordKind) → Config → List Entry → List ℕ
+text_by None cfg history = released_text cfg (arrivals_in history)
+text_by (Some fault) cfg history = records_of 0 history
 
--- why there is no setup
-abbrev pub OfSetup : Outcome → Type 0
-OfSetup (SetupRefused line kind) = Unit {0}
-OfSetup SetupLater = Unit {0}
-OfSetup ReadFault = Unit {0}
-OfSetup NoMemory = Unit {0}
-OfSetup OpenFault = Unit {0}
-OfSetup _ = ⊥
+abbrev pub out_text : Config → List ℕ → List ℕ
+out_text cfg bytes = text_by (outline_of bytes).fault cfg (history_of cfg bytes)
 
--- why a file wasn't read
-abbrev pub OfReading : Outcome → Type 0
-OfReading ReadFault = Unit {0}
-OfReading NoMemory = Unit {0}
-OfReading OpenFault = Unit {0}
-OfReading _ = ⊥
+-- the fact holds of the bytes of a page, where they are told
+abbrev pub Where : Page → (List ℕ → Type 0) → Type 0
+Where page Fact = (bytes : List ℕ) (failed : Bool) → page ≡ Holds bytes failed → Fact bytes
 
--- why a text gives no setup
-abbrev pub OfText : Outcome → Type 0
-OfText (SetupRefused line kind) = Unit {0}
-OfText SetupLater = Unit {0}
-OfText NoMemory = Unit {0}
-OfText _ = ⊥
+-- the sink that was closed last under the name failed, where that is told
+abbrev pub HasFailed : Page → Type 0
+HasFailed Untold = Unit {0}
+HasFailed Absent = ⊥
+HasFailed (Holds bytes failed) = failed ≡ true
 
--- the setup is the one that was judged, or it was refused for that cause, or something failed
-abbrev pub SetupIs : Result Parts Outcome → Result Parts Outcome → Type 0
-SetupIs judged (Ok setup) = judged ≡ Ok setup
-SetupIs judged (Err outcome) = (judged ≡ Err outcome) ⊎ IsFault outcome
+-- the capture was played as far as it goes: it came to its end, and the output holds its text
+pub record PlaysToEnd (cfg : Config) (capture out : Page) (came : Result Summary Stop) : Type 0 where
+  pub there : capture ≢ Absent
+  pub end : Where capture (λ bytes. came ≡ end_of cfg bytes)
+  pub text : HoldsWhere out (λ written. Where capture (λ bytes. written ≡ out_text cfg bytes))
 
--- what the file of a capture comes to
-abbrev pub OfCaptureFile : Outcome → Type 0
-OfCaptureFile Usage = ⊥
-OfCaptureFile (SetupRefused line kind) = ⊥
-OfCaptureFile SetupLater = ⊥
-OfCaptureFile _ = Unit {0}
+-- playing the capture was broken off: the output holds a front of its text
+pub record BreaksOff (cfg : Config) (capture out : Page) : Type 0 where
+  pub there : capture ≢ Absent
+  pub front : HoldsWhere out (λ written. Where capture (λ bytes. IsFront (out_text cfg bytes) written))
 
--- a plan was played, and its records are under the name of the output
-pub record PlaysFile (plan : Result Plan Outcome) (outcome : Outcome) (before after : Page) : Type 0 where
-  pub outcome_is : IsOutcomeOf plan outcome
-  pub leaves : Leaves (out_text plan) outcome before after
+-- what a capture that is played comes to, and what the output is before and afterwards
+abbrev pub PlaysCapture : Config → Page → Page → Page → Result Summary Stop → Type 0
+PlaysCapture cfg capture before out (Ok summary) = PlaysToEnd cfg capture out (Ok summary)
+PlaysCapture cfg capture before out (Err (Refused (refusals.Capture place kind))) = PlaysToEnd cfg capture out (Err (Refused (refusals.Capture place kind)))
+PlaysCapture cfg capture before out (Err (Refused (refusals.Setup line kind))) = ⊥
+-- a write that failed was one of the output
+PlaysCapture cfg capture before out (Err (Failed faults.Write)) = BreaksOff cfg capture out × HasFailed out
+PlaysCapture cfg capture before out (Err (Failed faults.Read)) = BreaksOff cfg capture out
+-- memory can be wanting before the output is opened
+PlaysCapture cfg capture before out (Err (Failed faults.NoMemory)) = (out ≡ before) ⊎ BreaksOff cfg capture out
+-- the capture or the output wasn't opened
+PlaysCapture cfg capture before out (Err (Failed faults.Open)) = out ≡ before
+
+-- there is no setup, and no other file was asked for
+pub record StopsAtSetup (asked : Asked) (opened : ℕ) (before : List ℕ → Page) (came : Result Summary Stop) : Type 0 where
+  pub alone : opened ≤ 1
+  pub stop : Stop
+  pub came_is : came ≡ Err stop
+  pub why : IsNoSetup (before asked.setup) stop
+
+-- under the setup the capture was played
+pub record PlaysUnder (asked : Asked) (before after : List ℕ → Page) (came : Result Summary Stop) : Type 0 where
+  pub setup : Parts
+  pub found : IsSetupIn (before asked.setup) setup
+  pub plays : PlaysCapture (config_of asked setup) (before asked.capture) (before asked.out) (after asked.out) came
+
+-- a replay of which so many files were asked to be opened, with the pages before and after it, and what it came to
+abbrev pub DoesReplay : Asked → ℕ → (List ℕ → Page) → (List ℕ → Page) → Result Summary Stop → Type 0
+DoesReplay asked opened before after came = StopsAtSetup asked opened before came ⊎ PlaysUnder asked before after came

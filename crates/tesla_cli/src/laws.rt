@@ -1,25 +1,26 @@
 //! Laws about runs of the commands, as contracts of functions that do nothing.
 
-ghost use Rattle.std.specs.Prelude.{◌≡◌, ◌⊎◌, ℕ, List, Bool, Option, Ok};
+ghost use Rattle.std.specs.Prelude.{◌≡◌, ◌⊎◌, ℕ, List, Bool, None, Ok};
+ghost use Rattle.tesla_capture.specs.Outline.{outline_of};
+ghost use Rattle.tesla_commit.specs.Parsing.{judged};
 ghost use Rattle.tesla_commit.specs.Parts.{Parts};
-ghost use Rattle.tesla_desk.specs.Faults.{Faults};
-ghost use Rattle.tesla_desk.specs.Outside.{Page, Holds, Opening};
+ghost use Rattle.tesla_desk.specs.Outside.{Told, Holds};
+ghost use Rattle.tesla_front.specs.declared.fault.Fault.TheVariants as faults;
 ghost use Rattle.tesla_receiver.specs.Report.{report_of};
-ghost use Rattle.tesla_cli.specs.Judging.{AtEnd, part_of};
-ghost use Rattle.tesla_cli.specs.Run.{config_of, history_of, planned, setup_judged};
-ghost use Rattle.tesla_cli.specs.TopCall.{NothingFailed, Run};
-ghost use Rattle.tesla_cli.specs.Words.{Asked, IsReplay};
+ghost use Rattle.tesla_cli.specs.Asked.{Asked, IsReplay};
+ghost use Rattle.tesla_cli.specs.Here.{NothingFailed, Runs};
+ghost use Rattle.tesla_cli.specs.Replay.{config_of, history_of};
 ghost use Rattle.tesla_cli.specs.declared.outcome.Outcome.{Outcome};
-ghost use Rattle.tesla_cli.specs.declared.outcome.Outcome.TheVariants.{Done, NoMemory};
+ghost use Rattle.tesla_cli.specs.declared.outcome.Outcome.TheVariants.{Done, Failed};
+ghost use Rattle.tesla_cli.specs.declared.outcome.Summary.TheVariants.{Played};
 
-/// A replay comes to its end. Where the words are its form, the desk tells a setup of one chain and a
-/// capture whose records are all played, and no count of faults rose, the outcome is the report of what
-/// the capture plays, or want of memory.
+/// A replay comes to its end. Where the words are its form, the desk tells a setup and a capture, and no count of
+/// faults rose, the outcome is the report of the one history that the capture plays, or want of memory.
 pub fn completeness()
-    ensures { (words : List (List ℕ)) (before after : List ℕ → Page) (old new : Faults) (asked more : Option (List Opening)) (outcome : Outcome) (form : Asked) (text bytes : List ℕ) (failed other : Bool) (parts : Parts) →
-        Run words before after old new asked more outcome → IsReplay words form →
-        before form.setup ≡ Holds text failed → setup_judged text ≡ Ok parts →
-        before form.capture ≡ Holds bytes other → (part_of form.capacity bytes).ending ≡ AtEnd →
-        NothingFailed old new →
-        (outcome ≡ Done (report_of (history_of (planned (config_of form parts) bytes)))) ⊎ (outcome ≡ NoMemory) }
+    ensures { (words : List (List ℕ)) (old new : Told) (outcome : Outcome) (asked : Asked) (text bytes : List ℕ) (failed other : Bool) (setup : Parts) →
+        Runs words old new outcome → IsReplay asked words →
+        old.page asked.setup ≡ Holds text failed → judged text ≡ Ok setup →
+        old.page asked.capture ≡ Holds bytes other → (outline_of bytes).fault ≡ None →
+        NothingFailed old.faults new.faults →
+        (outcome ≡ Done (Played (report_of (history_of (config_of asked setup) bytes)))) ⊎ (outcome ≡ Failed faults.NoMemory) }
 {}

@@ -1,20 +1,20 @@
 //! The commands.
 #![tactic(auto)]
 
-mod files;
-mod judging;
+mod form;
+mod here;
 pub mod laws;
 mod outcome;
-mod playing;
-mod reading;
 mod replay;
-mod run;
-mod words;
+mod usage;
 
-pub use outcome::Outcome;
-pub use reading::{ReadRefusal, read_up_to};
-pub use run::run_here;
-pub use words::{ReplayWords, replay_words};
+pub use form::{Form, form_in};
+pub use here::run_here;
+pub use outcome::{Outcome, Summary, outcome_of, tell};
+pub use replay::{
+    Ending, PlayedEvent, Player, ReplayTarget, ReplayWords, Target, replay_words, run_replay,
+};
+pub use usage::{FORMS, FormText};
 
 #[cfg(test)]
 mod tests;

@@ -1,77 +1,121 @@
-//! Whole replays over a desk in memory, with frames and keys from outside: of a stream whose chain 0 has
-//! delay 2 and the seed of 32 bytes 11.
+//! Whole replays over a desk in memory: words and files go in; the status, the console and OUT come out.
 
-mod captures;
+mod examples;
 mod faults;
-mod many;
-mod releases;
-mod setups;
-mod words;
 
 use super::*;
+use examples::{EXAMPLES, FIRST_CAPTURE, FIRST_RELEASED, NO_FORMS, Part, Released, Told};
+use faults::{FAULTS, Left, Setting};
 use std::alloc::Global;
-use std::process::Abort;
 use std::test::Fail;
 use tesla_desk::{CONSOLE, MemoryDesk};
+use tesla_examples::SETUP;
+use tesla_receiver::Report;
 
-const ONE_CHAIN: &str = "tesla 1
-stream 00000000000000a7
-start 1000000
-interval 100000
-last 8
-chain 2 0 d37e38b1539f22b758d1e34d417c1032bee6369ad6cd313ca36c4c745fa2a941
-";
+/// What OUT holds before each run.
+const BEFORE: &[u8] = b"before";
 
-const TWO_CHAINS: &str = "tesla 1
-stream 00000000000000a7
-start 1000000
-interval 100000
-last 8
-chain 2 0 d37e38b1539f22b758d1e34d417c1032bee6369ad6cd313ca36c4c745fa2a941
-chain 5 0 9ce5072017e83d06da080924aa2251a73ea445e5986eb68ca2d8fb6a3bf70ced
-";
-
-const HEAD: &str = "5443415001";
-
-/// The arrival of interval 1 with the payload "hi", at 1,150,000: 53 bytes.
-const FIRST: &str =
-    "010000000000118c30002a54534c41010100000000000000a70000000100000002686901336c6df054ccfbac2901510a3de650c200";
-
-/// The arrival of interval 3 with the payload "yo" and the key of interval 1, at 1,350,000: 85 bytes.
-const SECOND: &str =
-    "010000000000149970004a54534c41010100000000000000a70000000300000002796f01f5485e9c3de8c949c3beebd796a2a71701e35f7f3127486559a519752e19c86876ea056b9c61cf68f0615c0ac4ee21be96";
-
-/// The release record of the payload "hi".
-const RELEASED: &str = "00000000000000000000000100000000026869";
-
-/// The status and the report after both arrivals.
-const REPORT: &str =
-    "0 arrivals 2\nmalformed 0\nforeign 0\nmisfit 0\nfuture 0\nbadkey 0\nlate 0\nrepeat 0\nfull 0\nkept 2\nkeys 0\ngiven 1\n";
-
-const LINE: &str = "replay setup 30000 16 capture out";
-
-/// A desk with a setup, and a capture of these parts in hexadecimal.
-fn desk_with(alloc: Global, setup: &str, parts: &[&str]) -> Result<MemoryDesk, Fail> {
+// The bytes of a capture.
+fn capture_of(alloc: Global, parts: &[Part]) -> Result<Vec<u8>, Fail> {
     let mut capture = Vec::new(alloc);
+    capture.extend_from_slice(b"TCAP\x01")?;
     for part in parts {
-        capture.extend_from_slice(hex::decode(alloc, *part)?.as_slice())?;
+        match part {
+            Part::Comes(reading, digits) => {
+                let datagram = hex::decode(alloc, digits.as_bytes())?;
+                let length = datagram.len().min(2048) as u16;
+                capture.push(1)?;
+                capture.extend_from_slice(&reading.to_be_bytes())?;
+                capture.extend_from_slice(&length.to_be_bytes())?;
+                capture.extend_from_slice(datagram.as_slice())?;
+            }
+            Part::Take => capture.push(2)?,
+            Part::Cut(digits) => {
+                let bytes = hex::decode(alloc, digits.as_bytes())?;
+                capture.extend_from_slice(bytes.as_slice())?;
+            }
+        }
     }
+    Ok(capture)
+}
+
+// The bytes of release records.
+fn records_of(alloc: Global, released: &[Released]) -> Result<Vec<u8>, Fail> {
+    let mut records = Vec::new(alloc);
+    for record in released {
+        let length = record.payload.len().min(1200) as u16;
+        records.extend_from_slice(&record.position.to_be_bytes())?;
+        records.extend_from_slice(&record.interval.to_be_bytes())?;
+        records.extend_from_slice(&record.number.to_be_bytes())?;
+        records.push(record.chain)?;
+        records.extend_from_slice(&length.to_be_bytes())?;
+        records.extend_from_slice(record.payload.as_bytes())?;
+    }
+    Ok(records)
+}
+
+// The lines of a report.
+fn report_of(alloc: Global, report: &Report) -> Result<String, Fail> {
+    let Report {
+        arrivals,
+        malformed,
+        foreign,
+        misfit,
+        future,
+        badkey,
+        late,
+        repeat,
+        full,
+        kept,
+        keys,
+        given,
+    } = *report;
+    let verdicts = format!(in alloc;
+        "malformed {malformed}\nforeign {foreign}\nmisfit {misfit}\nfuture {future}\nbadkey {badkey}\nlate {late}\nrepeat {repeat}\nfull {full}\nkept {kept}\nkeys {keys}\n"
+    )?;
+    Ok(format!(in alloc; "arrivals {arrivals}\n{verdicts}given {given}\n")?)
+}
+
+// What is left after a run: the status and the console in one text, and the bytes of OUT.
+#[derive(Drop)]
+struct Came {
+    told: String,
+    out: Vec<u8>,
+}
+
+// What a run has to come to, told what is released and what OUT holds of that.
+fn wanted(
+    alloc: Global,
+    status: u8,
+    told: &Told,
+    released: &[Released],
+    left: Left,
+) -> Result<Came, Fail> {
+    let text = match told {
+        Told::Counts(report) => report_of(alloc, report)?,
+        Told::Text(text) => String::from_str(alloc, text)?,
+    };
+    let mut out = match left {
+        Left::AsBefore => Vec::from_slice(alloc, BEFORE)?,
+        Left::Front(_) | Left::Whole => records_of(alloc, released)?,
+    };
+    if let Left::Front(count) = left {
+        out.truncate(count);
+    }
+    let told = format!(in alloc; "{status} {text}")?;
+    Ok(Came { told, out })
+}
+
+// A desk with this setup, a capture of these parts, and an output that holds something.
+fn desk_with(alloc: Global, setup: &str, capture: &[Part]) -> Result<MemoryDesk, Fail> {
     let mut desk = MemoryDesk::new(alloc, 10_000)?;
     desk.put_page("setup", setup.as_bytes())?;
-    desk.put_page("capture", capture.as_slice())?;
+    desk.put_page("capture", capture_of(alloc, capture)?.as_slice())?;
+    desk.put_page("out", BEFORE)?;
     Ok(desk)
 }
 
-/// What is set of a desk before a run.
-#[derive(Clone, Copy)]
-enum Setting {
-    Room(&'static str, usize),
-    Piece(&'static str, usize),
-    FailedCall(&'static str, u64),
-    FailedOpening(u64),
-}
-
-/// Sets a desk so.
+// Sets a desk so.
 fn set(desk: &mut MemoryDesk, settings: &[Setting]) -> Result<(), Fail> {
     for setting in settings {
         match *setting {
@@ -84,45 +128,70 @@ fn set(desk: &mut MemoryDesk, settings: &[Setting]) -> Result<(), Fail> {
     Ok(())
 }
 
-/// Runs the words of a line, and tells the status and the console.
-fn run_line(alloc: Global, line: &str, desk: &mut MemoryDesk) -> Result<String, Fail> {
+// Runs a line of words over a desk that is set so.
+fn came_to(
+    alloc: Global,
+    line: &str,
+    desk: &mut MemoryDesk,
+    settings: &[Setting],
+) -> Result<Came, Fail> {
+    set(desk, settings)?;
     let mut words = Vec::new(alloc);
     for word in line.split(' ') {
         words.push(String::from_str(alloc, word)?)?;
     }
     let status = run_here(alloc, words.as_slice(), desk);
-    let console = match desk.page(CONSOLE) {
-        Some(bytes) => std::str::from_utf8(bytes)?,
-        None => "-",
-    };
-    Ok(format!(in alloc; "{status} {console}")?)
+    let console = std::str::from_utf8(desk.page(CONSOLE).unwrap_or(b""))?;
+    let told = format!(in alloc; "{status} {console}")?;
+    let out = Vec::from_slice(alloc, desk.page("out").unwrap_or(b""))?;
+    Ok(Came { told, out })
 }
 
-/// OUT in hexadecimal; `-` where it isn't there.
-fn out_of(alloc: Global, desk: &MemoryDesk) -> Result<String, Fail> {
-    match desk.page("out") {
-        Some(bytes) => Ok(hex::encode(alloc, bytes)?),
-        None => Ok(String::from_str(alloc, "-")?),
+// The settings of a desk whose files, outputs and console move at most so many bytes a call.
+fn pieces(most: usize) -> [Setting; 4] {
+    [
+        Setting::Piece("setup", most),
+        Setting::Piece("capture", most),
+        Setting::Piece("out", most),
+        Setting::Piece(CONSOLE, most),
+    ]
+}
+
+/// Each example, over files, outputs and a console that move at most so many bytes a call.
+#[test]
+fn worked_examples(rt: HostRuntime) -> Result<(), Fail> {
+    for most in [5_000, 1, 2, 7] {
+        for it in EXAMPLES {
+            let mut desk = desk_with(rt.alloc(), SETUP, it.capture)?;
+            let came = came_to(rt.alloc(), it.words, &mut desk, &pieces(most))?;
+            let want = wanted(rt.alloc(), it.status, &it.told, it.released, Left::Whole)?;
+            assert_eq!(rt; came.told.as_str(), want.told.as_str(), "{}", it.name);
+            assert_eq!(rt; came.out.as_slice(), want.out.as_slice(), "{}", it.name);
+        }
     }
-}
-
-/// Runs the words of a line over a desk: the status with the console, and OUT, have to be these.
-fn expect(
-    rt: &impl Abort,
-    alloc: Global,
-    line: &str,
-    mut desk: MemoryDesk,
-    told: &str,
-    out: &str,
-) -> Result<(), Fail> {
-    let given = run_line(alloc, line, &mut desk)?;
-    assert_eq!(rt; given.as_str(), told, "{line}");
-    let given = out_of(alloc, &desk)?;
-    assert_eq!(rt; given.as_str(), out, "{line}: {told}");
     Ok(())
 }
 
 #[test]
-fn laws_are_called(_rt: HostRuntime) {
-    laws::completeness();
+fn failing_desks(rt: HostRuntime) -> Result<(), Fail> {
+    for it in FAULTS {
+        let mut desk = desk_with(rt.alloc(), it.setup, it.capture)?;
+        let came = came_to(rt.alloc(), it.words, &mut desk, it.settings)?;
+        let want = wanted(rt.alloc(), it.status, &it.told, &FIRST_RELEASED, it.left)?;
+        assert_eq!(rt; came.told.as_str(), want.told.as_str(), "{}", it.name);
+        assert_eq!(rt; came.out.as_slice(), want.out.as_slice(), "{}", it.name);
+    }
+    Ok(())
+}
+
+#[test]
+fn no_forms(rt: HostRuntime) -> Result<(), Fail> {
+    for (name, line) in NO_FORMS {
+        let mut desk = desk_with(rt.alloc(), SETUP, &FIRST_CAPTURE)?;
+        let came = came_to(rt.alloc(), line, &mut desk, &[])?;
+        let want = "1 usage: replay SETUP LAG CAPACITY CAPTURE OUT\n";
+        assert_eq!(rt; came.told.as_str(), want, "{name}");
+        assert_eq!(rt; came.out.as_slice(), BEFORE, "{name}");
+    }
+    Ok(())
 }

@@ -1,144 +1,234 @@
-//! Reads, writes and openings that fail.
+//! Replays over a desk that fails: what is set of it, and what the replay has to come to.
 
-use super::Setting::{FailedCall, FailedOpening, Piece, Room};
-use super::{
-    FIRST, HEAD, LINE, ONE_CHAIN, RELEASED, REPORT, SECOND, Setting, desk_with, expect, set,
-};
-use std::alloc::Global;
-use std::process::Abort;
-use std::test::Fail;
+use super::examples::{CUT_CAPTURE, FIRST_CAPTURE, FIRST_COUNTS, Part, Told, USUAL};
 use tesla_desk::CONSOLE;
+use tesla_examples::SETUP;
 
-const READ: &str = "4 read fault\n";
-
-const WRITE: &str = "5 write fault\n";
-
-const CUT: &str = "3 refused capture 144 Truncated\n";
-
-/// The first ten bytes of the release record.
-const FRONT: &str = "00000000000000000000";
-
-/// A desk with the two arrivals and a tail behind them, set so: the status with the console, and OUT, have
-/// to be these.
-fn expect_set(
-    rt: &impl Abort,
-    alloc: Global,
-    settings: &[Setting],
-    tail: &str,
-    told: &str,
-    out: &str,
-) -> Result<(), Fail> {
-    let mut desk = desk_with(alloc, ONE_CHAIN, &[HEAD, FIRST, SECOND, tail])?;
-    set(&mut desk, settings)?;
-    expect(rt, alloc, LINE, desk, told, out)
+/// What is set of a desk before a run.
+#[derive(Clone, Copy)]
+pub enum Setting {
+    /// Sinks under the name take so many bytes.
+    Room(&'static str, usize),
+    /// Sources and sinks under the name move at most so many bytes a call.
+    Piece(&'static str, usize),
+    /// The call of this number fails of sources and sinks under the name.
+    FailedCall(&'static str, u64),
+    /// The opening of this number fails.
+    FailedOpening(u64),
 }
 
-/// The first read of a file, and a later one. The capture has 144 bytes with the take, and the records read
-/// before are played.
-#[test]
-fn failed_reads(rt: HostRuntime) -> Result<(), Fail> {
-    let reads = [
-        ("setup", 7, 0, "02", "-"),
-        ("setup", 7, 20, "02", "-"),
-        ("setup", 7, 21, "02", "-"),
-        ("capture", 7, 0, "02", ""),
-        ("capture", 1, 5, "02", ""),
-        ("capture", 1, 143, "02", ""),
-        ("capture", 1, 144, "02", RELEASED),
-        ("capture", 144, 1, "02", RELEASED),
-        // The read that would give a record, and one that would give the rest of it.
-        ("capture", 144, 1, "020100", RELEASED),
-        ("capture", 73, 2, "020100", RELEASED),
-    ];
-    for (name, most, call, tail, out) in reads {
-        let settings = [Piece(name, most), FailedCall(name, call)];
-        expect_set(&rt, rt.alloc(), &settings, tail, READ, out)?;
-    }
-    Ok(())
+/// What OUT holds after a run.
+#[derive(Clone, Copy)]
+pub enum Left {
+    /// What it held before.
+    AsBefore,
+    /// All that is released.
+    Whole,
+    /// So many first bytes of what is released.
+    Front(usize),
 }
 
-/// The record isn't written whole: at the end, before a place that is refused, and before one that isn't
-/// played.
-#[test]
-fn failed_writes(rt: HostRuntime) -> Result<(), Fail> {
-    let later = "020100000000001620100006000000000002";
-    for tail in ["", "02", "02010000", "0203", later] {
-        expect_set(&rt, rt.alloc(), &[Room("out", 10)], tail, WRITE, FRONT)?;
-        expect_set(&rt, rt.alloc(), &[Room("out", 0)], tail, WRITE, "")?;
-        expect_set(&rt, rt.alloc(), &[FailedCall("out", 0)], tail, WRITE, "")?;
-        let second = [FailedCall("out", 1), Piece("out", 10)];
-        expect_set(&rt, rt.alloc(), &second, tail, WRITE, FRONT)?;
-    }
-    Ok(())
+/// A replay over a desk that is set so, with what it has to come to.
+#[derive(Clone, Copy)]
+pub struct Fault {
+    pub name: &'static str,
+    pub words: &'static str,
+    pub setup: &'static str,
+    pub capture: &'static [Part],
+    pub settings: &'static [Setting],
+    pub status: u8,
+    pub told: Told,
+    pub left: Left,
 }
 
-/// A write that fails after a read failed changes only what OUT holds.
-#[test]
-fn failed_read_and_write(rt: HostRuntime) -> Result<(), Fail> {
-    let read = FailedCall("capture", 144);
-    let piece = Piece("capture", 1);
-    let writes = [
-        (Room("out", 10), FRONT),
-        (Room("out", 0), ""),
-        (FailedCall("out", 0), ""),
-        (FailedCall("out", 1), RELEASED),
-    ];
-    for (write, out) in writes {
-        expect_set(&rt, rt.alloc(), &[read, piece, write], "02", READ, out)?;
-    }
-    Ok(())
-}
+const NOTHING_SET: Fault = Fault {
+    name: "",
+    words: USUAL,
+    setup: SETUP,
+    capture: &FIRST_CAPTURE,
+    settings: &[],
+    status: 0,
+    told: Told::Counts(FIRST_COUNTS),
+    left: Left::Whole,
+};
 
-/// The console, the setup, the capture and OUT are the openings 0 to 3; there are no more.
-#[test]
-fn failed_openings(rt: HostRuntime) -> Result<(), Fail> {
-    let openings = [
-        (0, "7 -", "-"),
-        (1, "7 open fault\n", "-"),
-        (2, "7 open fault\n", "-"),
-        (3, "7 open fault\n", "-"),
-        (4, REPORT, RELEASED),
-    ];
-    for (call, told, out) in openings {
-        expect_set(&rt, rt.alloc(), &[FailedOpening(call)], "", told, out)?;
-    }
-    Ok(())
-}
+const READ: Fault = Fault {
+    status: 4,
+    told: Told::Text("read fault\n"),
+    left: Left::Front(0),
+    ..NOTHING_SET
+};
 
-#[test]
-fn missing_files(rt: HostRuntime) -> Result<(), Fail> {
-    for line in [
-        "replay nothing 30000 16 capture out",
-        "replay setup 30000 16 nothing out",
-    ] {
-        let desk = desk_with(rt.alloc(), ONE_CHAIN, &[HEAD, FIRST, SECOND])?;
-        expect(&rt, rt.alloc(), line, desk, "7 open fault\n", "-")?;
-    }
-    Ok(())
-}
+const WRITE: Fault = Fault {
+    status: 5,
+    told: Told::Text("write fault\n"),
+    ..NOTHING_SET
+};
 
-/// A report that isn't printed whole is a write fault, whose line is tried. Of any other line the status
-/// stays.
-#[test]
-fn failed_prints(rt: HostRuntime) -> Result<(), Fail> {
-    let prints = [
-        (Room(CONSOLE, 20), "", "5 arrivals 2\nmalformed"),
-        (Room(CONSOLE, 0), "", "5 "),
-        (FailedCall(CONSOLE, 0), "", WRITE),
-        (Room(CONSOLE, 10), "02010000", "3 refused ca"),
-        (FailedCall(CONSOLE, 0), "02010000", "3 "),
-        (FailedCall(CONSOLE, 1), "02010000", CUT),
-    ];
-    for (setting, tail, told) in prints {
-        expect_set(&rt, rt.alloc(), &[setting], tail, told, RELEASED)?;
-    }
-    let faults = [
-        (FailedCall("setup", 0), "4 ", "-"),
-        (FailedCall("out", 0), "5 ", ""),
-        (FailedOpening(3), "7 ", "-"),
-    ];
-    for (setting, told, out) in faults {
-        expect_set(&rt, rt.alloc(), &[setting, Room(CONSOLE, 0)], "", told, out)?;
-    }
-    Ok(())
-}
+const OPEN: Fault = Fault {
+    status: 7,
+    told: Told::Text("open fault\n"),
+    left: Left::AsBefore,
+    ..NOTHING_SET
+};
+
+/// A setup whose delays fall.
+const FALLING: &str =
+    "tesla 1\nstream 00000000000000a7\nstart 1000000\ninterval 100000\nlast 8\nchain 5 0 9ce5072017e83d06da080924aa2251a73ea445e5986eb68ca2d8fb6a3bf70ced\nchain 2 0 d37e38b1539f22b758d1e34d417c1032bee6369ad6cd313ca36c4c745fa2a941\n";
+
+const REFUSED: Fault = Fault {
+    setup: FALLING,
+    status: 2,
+    told: Told::Text("refused setup 7 DelaysNotRising\n"),
+    left: Left::AsBefore,
+    ..NOTHING_SET
+};
+
+/// The first record ends at byte 75 of the capture, the second at 177, and a take at 178.
+pub const FAULTS: &[Fault] = &[
+    Fault {
+        name: "first read of SETUP",
+        settings: &[Setting::FailedCall("setup", 0)],
+        left: Left::AsBefore,
+        ..READ
+    },
+    Fault {
+        name: "second read of SETUP",
+        settings: &[
+            Setting::Piece("setup", 100),
+            Setting::FailedCall("setup", 1),
+        ],
+        left: Left::AsBefore,
+        ..READ
+    },
+    Fault {
+        name: "first read of CAPTURE",
+        settings: &[Setting::FailedCall("capture", 0)],
+        ..READ
+    },
+    Fault {
+        name: "read behind the first record",
+        settings: &[
+            Setting::Piece("capture", 75),
+            Setting::FailedCall("capture", 1),
+        ],
+        ..READ
+    },
+    Fault {
+        name: "read behind the take",
+        capture: &CUT_CAPTURE,
+        settings: &[
+            Setting::Piece("capture", 178),
+            Setting::FailedCall("capture", 1),
+        ],
+        left: Left::Whole,
+        ..READ
+    },
+    Fault {
+        name: "read behind the take, and then the write",
+        capture: &CUT_CAPTURE,
+        settings: &[
+            Setting::Piece("capture", 178),
+            Setting::FailedCall("capture", 1),
+            Setting::Room("out", 10),
+        ],
+        left: Left::Front(10),
+        ..READ
+    },
+    Fault {
+        name: "first write of OUT",
+        settings: &[Setting::FailedCall("out", 0)],
+        left: Left::Front(0),
+        ..WRITE
+    },
+    Fault {
+        name: "second write of OUT",
+        settings: &[Setting::Piece("out", 7), Setting::FailedCall("out", 1)],
+        left: Left::Front(7),
+        ..WRITE
+    },
+    Fault {
+        name: "no room for OUT",
+        settings: &[Setting::Room("out", 0)],
+        left: Left::Front(0),
+        ..WRITE
+    },
+    Fault {
+        name: "room for ten bytes of OUT",
+        settings: &[Setting::Room("out", 10)],
+        left: Left::Front(10),
+        ..WRITE
+    },
+    Fault {
+        name: "write before a refused place",
+        capture: &CUT_CAPTURE,
+        settings: &[Setting::Room("out", 10)],
+        left: Left::Front(10),
+        ..WRITE
+    },
+    Fault {
+        name: "first write of a report",
+        settings: &[Setting::FailedCall(CONSOLE, 0)],
+        ..WRITE
+    },
+    Fault {
+        name: "room for a front of a report",
+        settings: &[Setting::Room(CONSOLE, 20)],
+        told: Told::Text("arrivals 2\nmalformed"),
+        ..WRITE
+    },
+    Fault {
+        name: "first write of a refusal",
+        capture: &CUT_CAPTURE,
+        settings: &[Setting::FailedCall(CONSOLE, 0)],
+        status: 3,
+        told: Told::Text(""),
+        ..NOTHING_SET
+    },
+    Fault {
+        name: "opening of the console",
+        settings: &[Setting::FailedOpening(0)],
+        told: Told::Text(""),
+        ..OPEN
+    },
+    Fault {
+        name: "opening of SETUP, which would be refused",
+        setup: FALLING,
+        settings: &[Setting::FailedOpening(1)],
+        ..OPEN
+    },
+    Fault {
+        name: "opening of CAPTURE",
+        settings: &[Setting::FailedOpening(2)],
+        ..OPEN
+    },
+    Fault {
+        name: "opening of OUT",
+        settings: &[Setting::FailedOpening(3)],
+        ..OPEN
+    },
+    Fault {
+        name: "an opening that isn't asked for",
+        settings: &[Setting::FailedOpening(4)],
+        ..NOTHING_SET
+    },
+    Fault {
+        name: "SETUP that is missing",
+        words: "replay nothing 30000 16 capture out",
+        ..OPEN
+    },
+    Fault {
+        name: "CAPTURE that is missing",
+        words: "replay setup 30000 16 nothing out",
+        ..OPEN
+    },
+    Fault {
+        name: "refused SETUP",
+        ..REFUSED
+    },
+    Fault {
+        name: "refused SETUP, and CAPTURE that is missing",
+        words: "replay setup 30000 16 nothing out",
+        ..REFUSED
+    },
+];

@@ -1,10 +1,10 @@
-use Rattle.std.proofs.Common.{◌∙◌, refl, ap}
-use Rattle.std.proofs.lemmas.Int.{to_z-of_z}
-use Rattle.tesla_cli.specs.Run.{config_with}
-use Rattle.tesla_cli.proofs.Settled.{plays_planned}
+use Rattle.std.proofs.Common.{◌∙◌, ap}
+use Rattle.tesla_cli.specs.Playing.{rule_of}
+use Rattle.tesla_cli.proofs.Histories.{plays_source}
 use Rattle.tesla_cli.proofs.replay.play_counted.Goals as goal
 
 pub returns-clause-plays : goal.returns-clause-plays
-returns-clause-plays g c bytes told =
-    let config = c.in-Ok.ensures.config ∙ ap (λ lag. config_with c.args.setup lag c.args.capacity) (to_z-of_z _ _ c.ranges.lag) in
-    plays_planned (config_with c.args.setup c.args.lag c.args.capacity) _ c.args.capacity bytes _ _ _ config refl (c.settle.ensures.plays _ _ (c.play_all-outcome.ensures.ready bytes told))
+returns-clause-plays g c =
+    plays_source c.args.receiver.config (rule_of c.new-player.result.target.receiver.config) (rule_of c.play-target.result.0.receiver.config) _ _ _ c.play-target.result.1 c.summed.result
+    (ap (λ t. rule_of t.receiver.config) c.new-player.ensures.target ∙ ap (λ r. rule_of r.config) c.new.ensures)
+    c.play-target.ensures.rule c.play-target.ensures.plays c.summed.ensures

@@ -1,0 +1,68 @@
+-- What the inner steps of a replay come to.
+use Rattle.std.specs.Prelude.{◌≡◌, ◌⊎◌, ℕ, Option, Some, Result, Ok, Err, List, [], ◌∷◌}
+use Rattle.tesla_desk.specs.Outside.{Page, Told, OfSource, OfSink}
+use Rattle.tesla_front.specs.Files.{HoldsWhere, IsFront}
+use Rattle.tesla_front.specs.declared.fault.Fault.{Fault}
+use Rattle.tesla_front.specs.declared.fault.Fault.TheVariants as faults
+use Rattle.tesla_front.specs.declared.refusal.Refusal.TheVariants as refusals
+use Rattle.tesla_front.specs.declared.refusal.Stop.{Stop}
+use Rattle.tesla_front.specs.declared.refusal.Stop.TheVariants as stops
+use Rattle.tesla_receiver.specs.declared.config.Config.{Config}
+use Rattle.tesla_receiver.specs.declared.report.Report.{Report}
+use Rattle.tesla_receiver.specs.History.{Event}
+use Rattle.tesla_cli.specs.Form.{Opens}
+use Rattle.tesla_cli.specs.Playing.{Rule}
+use Rattle.tesla_cli.specs.Replay.{HasFailed, PlaysCapture, end_of, out_text}
+use Rattle.tesla_cli.specs.declared.outcome.Summary.{Summary}
+use Rattle.tesla_cli.specs.declared.outcome.Summary.TheVariants.{Played}
+use Rattle.tesla_cli.specs.declared.replay.player.Ending.{Ending}
+use Rattle.tesla_cli.specs.declared.replay.player.Ending.TheVariants.{End, Refused}
+
+-- what playing to a target came to, told how the records ended
+abbrev pub Sums : Rule → (List Event → Type 0) → Result Ending Fault → Result Summary Stop → Type 0
+Sums rule Has (Ok End) came = (report : Report) × (came ≡ Ok (Played report)) × ((events : List Event) → Has events → report ≡ rule.counts events)
+Sums rule Has (Ok (Refused place kind)) came = came ≡ Err (stops.Refused (refusals.Capture place kind))
+Sums rule Has (Err fault) came = came ≡ Err (stops.Failed fault)
+
+-- all that a source had left was played, where it is told
+pub record EndsFrom (cfg : Config) (left written : Option (List ℕ)) (came : Result Summary Stop) : Type 0 where
+  pub end : (bytes : List ℕ) → left ≡ Some bytes → came ≡ end_of cfg bytes
+  pub text : (bytes done : List ℕ) → left ≡ Some bytes → written ≡ Some done → done ≡ out_text cfg bytes
+
+-- what playing from a source to a sink came to
+abbrev pub PlaysSource : Config → Option (List ℕ) → Option (List ℕ) → Result Summary Stop → Type 0
+PlaysSource cfg left written (Ok summary) = EndsFrom cfg left written (Ok summary)
+PlaysSource cfg left written (Err (stops.Refused (refusals.Capture place kind))) = EndsFrom cfg left written (Err (stops.Refused (refusals.Capture place kind)))
+PlaysSource cfg left written (Err (stops.Refused (refusals.Setup line kind))) = ⊥
+PlaysSource cfg left written (Err (stops.Failed fault)) = (bytes done : List ℕ) → left ≡ Some bytes → written ≡ Some done → IsFront (out_text cfg bytes) done
+
+-- the output of a capture that was played to its end
+pub record EndsOn (cfg : Config) (left : Option (List ℕ)) (out : Page) (came : Result Summary Stop) : Type 0 where
+  pub end : (bytes : List ℕ) → left ≡ Some bytes → came ≡ end_of cfg bytes
+  pub text : HoldsWhere out (λ written. (bytes : List ℕ) → left ≡ Some bytes → written ≡ out_text cfg bytes)
+
+-- the output of a capture that was broken off
+abbrev pub BreaksOn : Config → Option (List ℕ) → Page → Type 0
+BreaksOn cfg left out = HoldsWhere out (λ written. (bytes : List ℕ) → left ≡ Some bytes → IsFront (out_text cfg bytes) written)
+
+-- what playing an opened capture came to, with the page of the output before and afterwards
+abbrev pub PlaysLeft : Config → Option (List ℕ) → Page → Page → Result Summary Stop → Type 0
+PlaysLeft cfg left before out (Ok summary) = EndsOn cfg left out (Ok summary)
+PlaysLeft cfg left before out (Err (stops.Refused (refusals.Capture place kind))) = EndsOn cfg left out (Err (stops.Refused (refusals.Capture place kind)))
+PlaysLeft cfg left before out (Err (stops.Refused (refusals.Setup line kind))) = ⊥
+PlaysLeft cfg left before out (Err (stops.Failed faults.Write)) = BreaksOn cfg left out × HasFailed out
+PlaysLeft cfg left before out (Err (stops.Failed faults.Read)) = BreaksOn cfg left out
+PlaysLeft cfg left before out (Err (stops.Failed faults.NoMemory)) = (out ≡ before) ⊎ BreaksOn cfg left out
+PlaysLeft cfg left before out (Err (stops.Failed faults.Open)) = out ≡ before
+
+-- an opened capture was played, after the output was opened
+pub record PlaysOpened (cfg : Config) (left : Option (List ℕ)) (out : List ℕ) (old new : Told) (came : Result Summary Stop) : Type 0 where
+  pub opened : ℕ
+  pub opens : Opens (OfSink out ∷ []) opened old new
+  pub plays : PlaysLeft cfg left (old.page out) (new.page out) came
+
+-- a capture was played, after it was opened and then the output
+pub record PlaysFiles (cfg : Config) (capture out : List ℕ) (old new : Told) (came : Result Summary Stop) : Type 0 where
+  pub opened : ℕ
+  pub opens : Opens (OfSource capture ∷ OfSink out ∷ []) opened old new
+  pub plays : PlaysCapture cfg (old.page capture) (old.page out) (new.page out) came

@@ -1,0 +1,6 @@
+-- The forms of commands, as they are told.
+use Rattle.std.specs.Prelude.{ℕ, List, [], ◌∷◌, codes}
+
+-- the words of each form, in the order in which they are told
+abbrev pub form_texts : List (List ℕ)
+form_texts = codes "replay SETUP LAG CAPACITY CAPTURE OUT" ∷ []

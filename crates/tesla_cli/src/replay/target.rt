@@ -1,0 +1,165 @@
+//! What the records of a capture are played to, and what is written of that.
+
+ghost use Rattle.std.specs.Prelude.{◌≡◌, ◌+◌, ◌^◌, ◌<◌, ◌≤◌, ◌++◌, ◌∷◌, [], ℕ, List, true, false, OnOk, IfErr, Ok, Err};
+ghost use Rattle.tesla_capture.specs.Gathering.{gathered, Gathers};
+ghost use Rattle.tesla_desk.specs.Faults.{HasCause};
+ghost use Rattle.tesla_desk.specs.Outside.{AppendsFront};
+ghost use Rattle.tesla_receiver.specs.History.{Event, Takes, entry_of, reply_to, Stands};
+ghost use Rattle.tesla_receiver.specs.Played.{after_events};
+ghost use Rattle.tesla_cli.specs.Playing.{Rule, Halts, event_of};
+ghost use Rattle.tesla_receiver.specs.Report.{text_given};
+ghost use Rattle.tesla_receiver.specs.declared.history.Entry.{Entry};
+
+use std::alloc::Global;
+use std::sync::ledger::Ledger;
+use tesla_base::Steps;
+use tesla_capture::Gatherer;
+use tesla_desk::Sink;
+use tesla_front::Fault;
+use tesla_receiver::{Receiver, Report, Take, laws};
+
+/// An event that is played.
+#[derive(Clone, Copy, Debug)]
+pub enum PlayedEvent<'a> {
+    /// A datagram comes, with the reading of the receiver's clock in microseconds.
+    Arrival { reading: u64, datagram: &'a [u8] },
+    /// The next released packet is taken.
+    Take,
+    /// The datagrams have ended.
+    End,
+}
+
+/// What the records of a capture are played to. It writes what it has to tell of each event through a gatherer.
+pub trait Target {
+    /// What is written of each event after those before it, and how many packets wait and what is counted after them.
+    ghost rule: { Self → Rule };
+
+    /// It has had these events, in this order, and no others.
+    ghost has: { Self → List Event → Type 0 };
+
+    /// How many events it has had.
+    ghost calls: { Self → ℕ };
+
+    /// Plays an event. What is written of it is put behind what is gathered.
+    ///
+    /// `Write`: a front of what was gathered was written, and the sink's count of faults rose. `NoMemory`: nothing has
+    /// changed. No other fault comes.
+    fn play<L: Ledger, O: Sink>(
+        &mut self,
+        event: PlayedEvent<'_>,
+        steps: &mut Steps<L>,
+        gatherer: &mut Gatherer,
+        out: &mut O,
+    ) -> Result<(), Fault>
+        requires { calls self.old + 1 < 2 ^ 64 }
+        ensures rule { rule self.new ≡ rule self.old }
+        ensures has { OnOk result ((es : List Event) → has self.old es → has self.new (es ++ event_of event.entry ∷ [])) }
+        ensures writes { OnOk result ((es : List Event) → has self.old es →
+            Gathers (O.written out.old) (O.written out.new) (gathered gatherer.new) (gathered gatherer.old ++ (rule self.old).adds es (event_of event.entry))) }
+        ensures halts { IfErr result (λ fault. Halts fault (O.written out.old) (O.written out.new) (gathered gatherer.old) (gathered gatherer.new)) }
+        ensures calls { calls self.new ≤ calls self.old + 1 }
+        ensures cause { HasCause (O.faults out.old) (O.faults out.new) (result ≡ Err Fault.Write) }
+        ensures name { O.name out.new ≡ O.name out.old };
+
+    /// How many packets wait to be taken.
+    fn waiting(&self) -> u64
+        ensures value { (es : List Event) → has self.now es → result ≡ (rule self.now).waiting es }
+        ensures few { result < 2 ^ 63 };
+}
+
+/// A receiver whose released packets are written.
+#[derive(Drop)]
+pub struct ReplayTarget {
+    receiver: Receiver,
+    payload: [u8; 1200],
+}
+
+impl ReplayTarget {
+    ghost use Rattle.tesla_cli.specs.Playing.{rule_of};
+
+    /// A target over this receiver.
+    pub fn new(receiver: Receiver) -> ReplayTarget
+        ensures { result.receiver ≡ receiver }
+    {
+        ReplayTarget {
+            receiver,
+            payload: [0; 1200],
+        }
+    }
+
+    /// The counts of what was played.
+    pub fn report(&self) -> Report
+        ensures { (es : List Event) → Stands self.now.receiver (after_events self.now.receiver.config [] es) → result ≡ (rule_of self.now.receiver.config).counts es }
+    {
+        self.receiver.report()
+    }
+}
+
+// Takes once for releaser 0, and gathers the record of what was given. False: a write failed.
+fn take_once<O: Sink>(
+    receiver: &mut Receiver,
+    payload: &mut [u8; 1200],
+    gatherer: &mut Gatherer,
+    out: &mut O,
+) -> bool
+    requires { receiver.old.calls + 1 < 2 ^ 64 }
+    ensures config { receiver.new.config ≡ receiver.old.config }
+    ensures calls { receiver.new.calls ≡ receiver.old.calls + 1 }
+    ensures stands { (h : List Entry) → Stands receiver.old h → Stands receiver.new (h ++ entry_of receiver.old.config h (Takes 0) ∷ []) }
+    ensures writes { result ≡ true → (h : List Entry) → Stands receiver.old h →
+        Gathers (O.written out.old) (O.written out.new) (gathered gatherer.new) (gathered gatherer.old ++ text_given (reply_to receiver.old.config h)) }
+    ensures front { result ≡ false → AppendsFront (O.written out.old) (O.written out.new) (gathered gatherer.old) }
+    ensures cause { HasCause (O.faults out.old) (O.faults out.new) (result ≡ false) }
+    ensures name { O.name out.new ≡ O.name out.old }
+{
+    match receiver.take(0, payload) {
+        Take::Given(head) => gatherer.put(out, &head, &payload[..head.length as usize]),
+        Take::Empty | Take::Over => true,
+    }
+}
+
+impl Target for ReplayTarget {
+    ghost use Rattle.tesla_receiver.specs.History.{Stands};
+    ghost use Rattle.tesla_receiver.specs.Played.{after_events};
+    ghost use Rattle.std.specs.Prelude.{[]};
+    ghost use Rattle.tesla_cli.specs.Playing.{rule_of};
+
+    ghost rule = { λ t. rule_of t.receiver.config };
+
+    ghost has = { λ t es. Stands t.receiver (after_events t.receiver.config [] es) };
+
+    ghost calls = { λ t. t.receiver.calls };
+
+    fn play<L: Ledger, O: Sink>(
+        &mut self,
+        event: PlayedEvent<'_>,
+        steps: &mut Steps<L>,
+        gatherer: &mut Gatherer,
+        out: &mut O,
+    ) -> Result<(), Fault> {
+        laws::events();
+        match event {
+            PlayedEvent::Arrival { reading, datagram } => {
+                match self.receiver.arrive(0, reading, datagram, steps) {
+                    Ok(_) => Ok(()),
+                    Err(_) => Err(Fault::NoMemory),
+                }
+            }
+            PlayedEvent::Take => {
+                if take_once(&mut self.receiver, &mut self.payload, gatherer, out) {
+                    Ok(())
+                } else {
+                    Err(Fault::Write)
+                }
+            }
+            PlayedEvent::End => {
+                self.receiver.end(0);
+                Ok(())
+            }
+        }
+    }
+
+    fn waiting(&self) -> u64 {
+        self.receiver.waiting()
+    }
+}
