@@ -1,0 +1,77 @@
+//! The texts about the program, which `--help` and `--version` ask for.
+
+ghost use Rattle.std.specs.Prelude.{◌≡◌, [], ◌∷◌, Some, IfSome, false, map, string_bytes};
+ghost use Rattle.tesla_desk.specs.Faults.{HasCause};
+ghost use Rattle.tesla_program.specs.About.{word_of};
+
+use tesla_cli::{FORMS, FormText};
+use tesla_desk::{Sink, write_all};
+
+/// A text about the program.
+#[derive(Clone, Copy, Debug, PartialEq, Eq)]
+pub enum About {
+    /// What it is for, the forms of its commands, and its statuses.
+    Help,
+    /// Its name and version.
+    Version,
+}
+
+const HEAD: &[u8] = b"Receives streams that are authenticated with TESLA (RFC 4082).
+
+";
+
+const FOOT: &[u8] = b"tesla --help
+tesla --version
+
+Status: 0 done, 1 usage, 2 setup refused, 3 capture refused, 4 read fault,
+5 write fault, 6 no memory, 7 open fault.
+";
+
+/// The text that one word alone asks for. `None` where the words are something else.
+pub fn about_in(words: &[String]) -> Option<About>
+    ensures found { IfSome result (λ about. map string_bytes words.now ≡ word_of about ∷ []) }
+    ensures only { (about : About) → map string_bytes words.now ≡ word_of about ∷ [] → result ≡ Some about }
+{
+    match words {
+        [word] if word.as_str() == "--help" => Some(About::Help),
+        [word] if word.as_str() == "--version" => Some(About::Version),
+        _ => None,
+    }
+}
+
+// Writes the help on a form. False: a write failed.
+fn write_form<S: Sink>(console: &mut S, form: &FormText) -> bool
+    ensures { HasCause (S.faults console.old) (S.faults console.new) (result ≡ false) }
+{
+    write_all(console, b"tesla ")
+        && write_all(console, form.words.as_bytes())
+        && write_all(console, b"\n")
+        && write_all(console, form.about.as_bytes())
+}
+
+// Writes the help on these forms. False: a write failed.
+fn write_forms<S: Sink>(console: &mut S, forms: &[FormText]) -> bool
+    ensures { HasCause (S.faults console.old) (S.faults console.new) (result ≡ false) }
+{
+    match forms {
+        [form, forms @ ..] => {
+            if !write_form(console, form) {
+                return false;
+            }
+            write_forms(console, forms)
+        }
+        [] => true,
+    }
+}
+
+/// Writes a text about the program. False: a write failed, and the sink's count of faults rose.
+pub fn write_about<S: Sink>(console: &mut S, about: About) -> bool
+    ensures { HasCause (S.faults console.old) (S.faults console.new) (result ≡ false) }
+{
+    match about {
+        About::Help => {
+            write_all(console, HEAD) && write_forms(console, &FORMS) && write_all(console, FOOT)
+        }
+        About::Version => write_all(console, b"tesla 0.1.0\n"),
+    }
+}

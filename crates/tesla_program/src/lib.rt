@@ -1,0 +1,78 @@
+//! The program: the words that the system hands over, `--help` and `--version`, and the commands over the running
+//! system.
+#![tactic(auto)]
+
+ghost use Rattle.std.specs.Prelude.{◌≡◌};
+
+mod about;
+
+use about::{About, about_in, write_about};
+use std::alloc::AllocError;
+use std::process::ExitCode;
+use std::rt::{Env, Files};
+use std::{env, io};
+use tesla_cli::{Outcome, run_here, tell};
+use tesla_desk::{CONSOLE, Desk};
+use tesla_front::Fault;
+use tesla_live::LiveDesk;
+
+// The words after the program's name.
+fn words<R: Env + AllocGlobal>(rt: &R) -> io::Result<Vec<String>> {
+    let mut words = Vec::new(rt.alloc());
+    for word in env::args(rt)?.skip(1) {
+        words.push(word).map_err(AllocError::from)?;
+    }
+    Ok(words)
+}
+
+// Tells on the console that there was no memory, where the console can be opened.
+fn tell_no_memory<D: Desk>(desk: &mut D) -> u8
+    ensures { result ≡ 6 }
+{
+    if let Ok(mut console) = desk.open_sink(CONSOLE) {
+        let _ = tell(&mut console, Outcome::Failed(Fault::NoMemory));
+        desk.close_sink(console);
+    }
+    Fault::NoMemory.status()
+}
+
+// Prints a text about the program, and gives the status of that.
+fn print_about<D: Desk>(desk: &mut D, about: About) -> u8 {
+    match desk.open_sink(CONSOLE) {
+        Ok(mut console) => {
+            let done = write_about(&mut console, about);
+            desk.close_sink(console);
+            if done { 0 } else { Fault::Write.status() }
+        }
+        Err(refusal) => Fault::from(refusal).status(),
+    }
+}
+
+// Runs the words. One that isn't UTF-8 is in no form of a command.
+fn run_words<R: Env + Files + Print + AllocGlobal>(rt: &R) -> u8 {
+    let mut desk = LiveDesk::new(rt);
+    let words = match words(rt) {
+        Ok(words) => words,
+        Err(error) => {
+            if error.kind() == io::ErrorKind::OutOfMemory {
+                return tell_no_memory(&mut desk);
+            }
+            Vec::new(rt.alloc())
+        }
+    };
+    match about_in(words.as_slice()) {
+        Some(about) => print_about(&mut desk, about),
+        None => run_here(rt.alloc(), words.as_slice(), &mut desk),
+    }
+}
+
+/// Runs the words that the system hands over, over its files and its console, and gives the program's status.
+///
+/// `--help` and `--version` alone print a text. All other words are run by [`run_here`], as none at all where one of
+/// them isn't UTF-8. Where there is no memory for the words, that is told, and the status is 6.
+pub fn run_program<R: Env + Files + Print + AllocGlobal>(rt: &R) -> ExitCode {
+    ExitCode::from(run_words(rt))
+}
+
+#[cfg(test)]
+mod tests;
