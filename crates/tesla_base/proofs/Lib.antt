@@ -2,3 +2,4 @@ pub mod Numbers
 pub mod Spellings
 pub mod Fronts
 pub mod Lists
+pub mod Tags

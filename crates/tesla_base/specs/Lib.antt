@@ -1,3 +1,5 @@
 pub mod Field
 pub mod Number
 pub mod Front
+pub mod Version
+pub mod Tag
