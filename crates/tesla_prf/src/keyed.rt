@@ -1,6 +1,7 @@
 //! HMAC over SHA-256 (RFC 2104, section 2; FIPS 180-4), of a text that is fed in pieces.
 
 ghost use Rattle.std.specs.Prelude.{◌≡◌, ℕ, ◌+◌, ◌-◌, ◌≤◌, List, [], ◌++◌, length, replicate};
+ghost use Rattle.sha2.specs.Hashers.{Holds256};
 ghost use Rattle.tesla_prf.specs.Feeding.{Feeds};
 ghost use Rattle.tesla_prf.specs.Hmac.{block_key, hmac_of, padded_with};
 
@@ -48,11 +49,30 @@ fn padded(block: &[u8; BLOCK], pad: u8) -> [u8; BLOCK]
     out
 }
 
+/// A hash that has taken in the block, combined with the pad.
+fn begun_with(block: &[u8; BLOCK], pad: u8) -> Sha256
+    ensures { Holds256 result (padded_with pad block.now) }
+{
+    let mut hash = Sha256::new();
+    hash.update(padded(block, pad));
+    hash
+}
+
+/// A second hash that stands where this one does.
+fn copied(hash: &Sha256) -> Sha256
+    ensures { result ≡ hash.now }
+{
+    let Ok(copy) = hash.clone() else {
+        unreachable!()
+    };
+    copy
+}
+
 /// A running evaluation of HMAC. It is counted when it is finished.
 #[derive(Drop)]
 pub struct Mac {
-    block: [u8; BLOCK],
     inner: Sha256,
+    outer: Sha256,
 }
 
 impl Mac {
@@ -61,9 +81,20 @@ impl Mac {
         ensures { Feeds result key.now [] }
     {
         let block = block_of(key);
-        let mut inner = Sha256::new();
-        inner.update(padded(&block, INNER_PAD));
-        Mac { block, inner }
+        Mac {
+            inner: begun_with(&block, INNER_PAD),
+            outer: begun_with(&block, OUTER_PAD),
+        }
+    }
+
+    /// A second evaluation that stands where this one does.
+    pub fn copied(&self) -> Mac
+        ensures { result ≡ self.now }
+    {
+        Mac {
+            inner: copied(&self.inner),
+            outer: copied(&self.outer),
+        }
     }
 
     /// Adds a piece to the text.
@@ -80,8 +111,7 @@ impl Mac {
     {
         steps.tick();
         let digest = self.inner.finalize();
-        let mut outer = Sha256::new();
-        outer.update(padded(&self.block, OUTER_PAD));
+        let mut outer = self.outer;
         outer.update(digest);
         outer.finalize()
     }

@@ -8,9 +8,9 @@ use std::sync::ledger::Ledger;
 use tesla_base::{Key, Steps};
 
 /// What a key is hashed with to give the key of the interval before, and the MAC key of its own interval.
-const NEXT: u8 = 0;
+pub const NEXT: u8 = 0;
 
-const MAC: u8 = 1;
+pub const MAC: u8 = 1;
 
 /// The key of the interval before (`F` of RFC 4082): one counted step.
 pub fn next_key<L: Ledger>(key: &Key, steps: &mut Steps<L>) -> Key

@@ -3,11 +3,13 @@
 
 mod keyed;
 mod keys;
+mod prepared;
 mod tags;
 
 pub use keyed::hmac;
 pub use keys::{mac_key, next_key, walk_back};
-pub use tags::{same, tag};
+pub use prepared::PreparedKey;
+pub use tags::{same, tag, wide_tag};
 
 #[cfg(test)]
 mod tests;

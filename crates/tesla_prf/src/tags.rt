@@ -1,16 +1,68 @@
 //! The tags of messages (RFC 4082, section 3.4).
 
-ghost use Rattle.std.specs.Prelude.{◌≡◌, ◌+◌, ◌↔◌, IsTrue, bytes_eq};
-ghost use Rattle.tesla_prf.specs.Keys.{tag_under};
+ghost use Rattle.std.specs.Prelude.{◌≡◌, ◌+◌, ◌≤◌, ◌↔◌, ℕ, List, [], IsTrue, bytes_eq, take};
+ghost use Rattle.tesla_base.specs.Tag.{wide_tag};
+ghost use Rattle.tesla_prf.specs.Feeding.{Feeds};
+ghost use Rattle.tesla_prf.specs.Hmac.{hmac_of};
+ghost use Rattle.tesla_prf.specs.Keys.{tag_text, tag_under};
 
 use crate::keyed::Mac;
 use std::sync::ledger::Ledger;
-use tesla_base::{ChainNo, Key, Name, Steps, StreamId, Tag};
+use tesla_base::{ChainNo, Key, Name, Steps, StreamId, Tag, WideTag};
 
-/// The tag of a message on a chain, under the MAC key of the message's interval: one counted step.
-///
-/// It is the first 16 bytes of the HMAC of the stream, the chain, the interval, the number and the payload,
-/// in 8, 1, 4 and 2 bytes and those of the payload, each number with its highest byte first.
+/// The HMAC of a message on a chain, from an evaluation of the empty text so far: of the stream, the chain,
+/// the interval, the number and the payload, in 8, 1, 4 and 2 bytes and those of the payload, each number
+/// with its highest byte first. The pieces are fed one after another, none is copied.
+pub fn message_mac<L: Ledger>(
+    mut text: Mac,
+    stream: StreamId,
+    chain: ChainNo,
+    name: Name,
+    payload: &[u8],
+    steps: &mut Steps<L>,
+) -> [u8; 32]
+    ensures value { (key : List ℕ) → Feeds text key [] → result ≡ hmac_of key (tag_text stream chain name payload.now) }
+    ensures cost { steps.new ≡ steps.old + 1 }
+{
+    text.update(&stream.0.to_be_bytes());
+    text.update(&[chain.0]);
+    text.update(&name.interval.to_be_bytes());
+    text.update(&name.number.to_be_bytes());
+    text.update(payload);
+    text.finish(steps)
+}
+
+/// The tag of 16 bytes that an HMAC begins with.
+pub fn front_of(digest: &[u8; 32]) -> Tag
+    ensures { result.0 ≡ take 16 digest.now }
+{
+    let mut front = [0; 16];
+    front.copy_from_slice(&digest[..16]);
+    Tag(front)
+}
+
+/// The tag of a message on a chain, under the MAC key of the message's interval, where tags have `length`
+/// bytes, 10 to 32: one counted step. It is the first bytes of the message's HMAC.
+pub fn wide_tag<L: Ledger>(
+    mac: &Key,
+    stream: StreamId,
+    chain: ChainNo,
+    name: Name,
+    payload: &[u8],
+    length: u8,
+    steps: &mut Steps<L>,
+) -> WideTag
+    requires shortest { 10 ≤ length }
+    requires longest { length ≤ 32 }
+    ensures value { result ≡ wide_tag (tag_under length mac.now stream chain name payload.now) }
+    ensures cost { steps.new ≡ steps.old + 1 }
+{
+    let digest = message_mac(Mac::new(&mac.0), stream, chain, name, payload, steps);
+    WideTag::of(&digest[..length as usize])
+}
+
+/// The tag of a message on a chain, under the MAC key of the message's interval, where tags have 16 bytes:
+/// one counted step. It is the first bytes of the message's HMAC.
 pub fn tag<L: Ledger>(
     mac: &Key,
     stream: StreamId,
@@ -22,16 +74,8 @@ pub fn tag<L: Ledger>(
     ensures value { result.0 ≡ tag_under 16 mac.now stream chain name payload.now }
     ensures cost { steps.new ≡ steps.old + 1 }
 {
-    let mut text = Mac::new(&mac.0);
-    text.update(&stream.0.to_be_bytes());
-    text.update(&[chain.0]);
-    text.update(&name.interval.to_be_bytes());
-    text.update(&name.number.to_be_bytes());
-    text.update(payload);
-    let digest = text.finish(steps);
-    let mut front = [0; 16];
-    front.copy_from_slice(&digest[..16]);
-    Tag(front)
+    let digest = message_mac(Mac::new(&mac.0), stream, chain, name, payload, steps);
+    front_of(&digest)
 }
 
 /// Whether both tags are the same bytes.

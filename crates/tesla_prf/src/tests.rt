@@ -2,11 +2,12 @@
 
 ghost use Rattle.std.specs.Prelude.{◌≡◌, ◌<◌, ◌≤◌};
 
-use crate::{hmac, mac_key, same, tag, walk_back};
+use crate::{PreparedKey, hmac, mac_key, same, tag, walk_back, wide_tag};
+use std::fmt;
 use std::marker::Brand;
 use std::sync::ledger::{Blank, Ledger};
 use std::test::*;
-use tesla_base::{ChainNo, Key, Name, Steps, StreamId, Tag};
+use tesla_base::{ChainNo, Key, Name, Steps, StreamId, Tag, WideTag};
 
 /// The seed of the chain, which is its key of index 8.
 const SEED: Key = Key([0x11; 32]);
@@ -176,4 +177,98 @@ fn tags_of_messages(rt: HostRuntime) {
         )
     );
     assert!(rt; !same(&hi, &yo));
+}
+
+fn wide_tag_of<L: Ledger>(blank: Blank, length: u8) -> WideTag
+    requires name { blank.name ≡ L.name }
+    requires parts { blank.parts ≡ L.parts }
+    requires some { 0 < L.parts }
+    requires shortest { 10 ≤ length }
+    requires longest { length ≤ 32 }
+{
+    let mut steps = Steps::<L>::new(blank);
+    let key = walk_back(&SEED, 7, &mut steps);
+    let mac = mac_key(&key, &mut steps);
+    let name = Name {
+        interval: 1,
+        number: 0,
+    };
+    wide_tag(
+        &mac,
+        StreamId(0xa7),
+        ChainNo(0),
+        name,
+        b"hi",
+        length,
+        &mut steps,
+    )
+}
+
+#[test]
+fn tags_of_other_lengths(rt: HostRuntime) {
+    let whole =
+        b"\x33\x6c\x6d\xf0\x54\xcc\xfb\xac\x29\x01\x51\x0a\x3d\xe6\x50\xc2\xaf\xca\xa7\xdb\x59\x01\x7b\xee\xd6\x14\x38\x2c\x8f\xcb\xe0\x49";
+    let short = wide_tag_of::<Brand>(Blank::new(1), 10);
+    assert!(rt; short.length == 10 && short.bytes[..10] == whole[..10]);
+    assert!(rt; short.bytes[10..] == [0; 22]);
+    let long = wide_tag_of::<Brand>(Blank::new(1), 32);
+    assert!(rt; long.length == 32 && long.bytes == *whole);
+}
+
+/// The MAC key of interval 1.
+const MAC_KEY: Key = Key(
+    *b"\x21\x61\xfb\x0c\x48\x7a\xec\x3e\x1f\x6a\xa8\xc4\xbb\x8d\x0b\xca\x22\xc7\xe4\x9b\xc3\x76\x6d\xd7\x07\xd7\x69\xcf\x05\xd1\x89\x1b",
+);
+
+fn keys_of_prepared<L: Ledger>(blank: Blank) -> [Key; 3]
+    requires name { blank.name ≡ L.name }
+    requires parts { blank.parts ≡ L.parts }
+    requires some { 0 < L.parts }
+{
+    let mut steps = Steps::<L>::new(blank);
+    let seed = PreparedKey::new(&SEED);
+    [
+        seed.key(),
+        seed.next_key(&mut steps),
+        seed.mac_key(&mut steps),
+    ]
+}
+
+fn tags_of_prepared<L: Ledger>(blank: Blank) -> (Tag, WideTag)
+    requires name { blank.name ≡ L.name }
+    requires parts { blank.parts ≡ L.parts }
+    requires some { 0 < L.parts }
+{
+    let mut steps = Steps::<L>::new(blank);
+    let mac = PreparedKey::new(&MAC_KEY);
+    let name = Name {
+        interval: 1,
+        number: 0,
+    };
+    let narrow = mac.tag(StreamId(0xa7), ChainNo(0), name, b"hi", &mut steps);
+    let wide = mac.wide_tag(StreamId(0xa7), ChainNo(0), name, b"hi", 12, &mut steps);
+    (narrow, wide)
+}
+
+#[test]
+fn prepared_keys(rt: HostRuntime) -> Result<(), fmt::Error> {
+    let [own, next, mac] = keys_of_prepared::<Brand>(Blank::new(1));
+    assert!(rt; own == SEED);
+    assert!(rt;
+        next == Key(
+            *b"\x56\xeb\x22\xf9\xe4\xbd\x94\x71\x67\x6a\x67\x9d\x3e\x9c\xe0\x1c\x1c\x55\xf2\x0d\xbf\xef\x5e\xcf\xac\x83\x26\xe0\x1c\x77\x7d\xfb"
+        )
+    );
+    assert!(rt;
+        mac == Key(
+            *b"\xc4\xed\xe0\x64\xb5\xf2\xa5\x12\x25\xb2\x17\x5e\x5b\x84\xfb\x73\xf9\xce\xc6\x89\xac\x3d\x91\x2a\xc4\x87\x8f\x7e\xbe\xab\x01\x49"
+        )
+    );
+    let (narrow, wide) = tags_of_prepared::<Brand>(Blank::new(1));
+    let whole = b"\x33\x6c\x6d\xf0\x54\xcc\xfb\xac\x29\x01\x51\x0a\x3d\xe6\x50\xc2";
+    assert!(rt; narrow.0 == *whole);
+    assert!(rt; wide.length == 12 && wide.bytes[..12] == whole[..12]);
+    let text = format!(in rt.alloc(); "{:?}", PreparedKey::new(&SEED))?;
+    assert_eq!(rt; text.as_str(), "PreparedKey { .. }");
+    Ok(())
 }
