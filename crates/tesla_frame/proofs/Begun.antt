@@ -5,8 +5,9 @@ use borrow.Rule.Slice.PartMut.{put_mid}
 use Rattle.tesla_frame.specs.Written.{Begins, rows_of}
 use Rattle.std.specs.List.{flat_map}
 use Rattle.tesla_base.specs.declared.names.Key.{Key}
-use Rattle.tesla_base.specs.declared.names.Tag.{Tag}
-use Rattle.tesla_frame.specs.Frame.{tag_row_text}
+use Rattle.tesla_base.specs.declared.names.WideTag.{WideTag}
+use Rattle.tesla_base.specs.declared.version.Version.{Version}
+use Rattle.tesla_frame.specs.Frame.{counts_text, tag_row_text}
 
 -- the next piece stands behind the text
 pub begins_more : (text piece before now new : List ℕ) (at : ℕ) → new ≡ take at now ++ (piece ++ drop (at + length piece) now) → length text ≡ at → Begins text before now → Begins (text ++ piece) before new
@@ -28,14 +29,14 @@ begins_put text piece before now part at same len begun =
 pub begins_none : (before : List ℕ) → Begins [] before before
 begins_none before = refl
 
-pub rows_length : (tags : List Tag) (keys : List (Option Key)) → length keys ≡ length tags → length (rows_of tags keys) ≡ length tags
+pub rows_length : (tags : List WideTag) (keys : List (Option Key)) → length keys ≡ length tags → length (rows_of tags keys) ≡ length tags
 rows_length [] keys same = refl
 rows_length (tag ∷ tags) [] same = absurd (omega arith)
 rows_length (tag ∷ tags) (key ∷ keys) same = (let rest = rows_length tags keys (omega arith) in omega (arith, rest))
 
 -- the count is the number of rows
-pub data_begun : (front payload : List ℕ) (tags : List Tag) (keys : List (Option Key)) (before new : List ℕ) → length keys ≡ length tags
-    → Begins (((front ++ payload) ++ length tags ∷ []) ++ flat_map tag_row_text (rows_of tags keys)) before new
-    → Begins (((front ++ payload) ++ length (rows_of tags keys) ∷ []) ++ flat_map tag_row_text (rows_of tags keys)) before new
-data_begun front payload tags keys before new same begun =
-    subst (λ (n : ℕ). Begins (((front ++ payload) ++ n ∷ []) ++ flat_map tag_row_text (rows_of tags keys)) before new) (sym (rows_length tags keys same)) begun
+pub data_begun : (front payload : List ℕ) (version : Version) (size : ℕ) (tags : List WideTag) (keys : List (Option Key)) (before new : List ℕ) → length keys ≡ length tags
+    → Begins (((front ++ payload) ++ counts_text version (length tags) size) ++ flat_map tag_row_text (rows_of tags keys)) before new
+    → Begins (((front ++ payload) ++ counts_text version (length (rows_of tags keys)) size) ++ flat_map tag_row_text (rows_of tags keys)) before new
+data_begun front payload version size tags keys before new same begun =
+    subst (λ (n : ℕ). Begins (((front ++ payload) ++ counts_text version n size) ++ flat_map tag_row_text (rows_of tags keys)) before new) (sym (rows_length tags keys same)) begun

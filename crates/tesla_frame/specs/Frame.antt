@@ -3,6 +3,9 @@ use Rattle.std.specs.Prelude.{◌≡◌, ℕ, ◌<◌, ◌≤◌, ◌^◌, List,
 use Rattle.std.specs.List.{flat_map, AllByRecursion}
 use Rattle.std.specs.Int.{w16, w32, w64, to_be_bytes}
 pub use Rattle.tesla_base.specs.Front.{AreBytes}
+use Rattle.tesla_base.specs.Version.{number_of, most_chains, IsTagLength}
+use Rattle.tesla_base.specs.declared.version.Version.{Version}
+use Rattle.tesla_base.specs.declared.version.Version.TheVariants.{One, Two}
 use Rattle.tesla_base.specs.declared.names.Key.{Key}
 use Rattle.tesla_base.specs.declared.names.Name.{Name}
 use Rattle.tesla_base.specs.declared.names.StreamId.{StreamId}
@@ -13,15 +16,18 @@ pub record TagRow : Type 0 where
   pub tag : List ℕ
   pub key : Option Key
 
--- a message, with a row for each chain, the first for chain 0
+-- a message, with a row for each chain, the first for chain 0; its tags have one length
 pub record DataFrame : Type 0 where
+  pub version : Version
   pub stream : StreamId
   pub name : Name
   pub payload : List ℕ
+  pub tag_length : ℕ
   pub rows : List TagRow
 
 -- keys alone
 pub record KeysFrame : Type 0 where
+  pub version : Version
   pub stream : StreamId
   pub rows : List KeyRow
 
@@ -29,9 +35,14 @@ pub data Frame : Type 0 where
   Data : (data_frame : DataFrame) → Frame
   Disclosure : (keys_frame : KeysFrame) → Frame
 
--- the first bytes of every frame: the magic, and version 1
-abbrev pub head : List ℕ
-head = codes "TSLA" ++ 1 ∷ []
+-- the first bytes of every frame: the magic, and the version
+abbrev pub head : Version → List ℕ
+head version = codes "TSLA" ++ number_of version ∷ []
+
+-- how many rows a data frame has, and in version 2 how long their tags are
+abbrev pub counts_text : Version → ℕ → ℕ → List ℕ
+counts_text One count size = count ∷ []
+counts_text Two count size = count ∷ size ∷ []
 
 -- a flag, and the key where there is one
 abbrev pub key_text : Option Key → List ℕ
@@ -47,16 +58,17 @@ key_row_text row = row.chain.0 ∷ [] ++ to_be_bytes w32 row.index ++ row.key.0
 -- the one spelling of a frame
 abbrev pub frame_text : Frame → List ℕ
 frame_text (Data f) =
-    head ++ 1 ∷ [] ++ to_be_bytes w64 f.stream.0 ++ to_be_bytes w32 f.name.interval ++ to_be_bytes w16 f.name.number
-    ++ to_be_bytes w16 (length f.payload) ++ f.payload ++ length f.rows ∷ [] ++ flat_map tag_row_text f.rows
+    head f.version ++ 1 ∷ [] ++ to_be_bytes w64 f.stream.0 ++ to_be_bytes w32 f.name.interval ++ to_be_bytes w16 f.name.number
+    ++ to_be_bytes w16 (length f.payload) ++ f.payload ++ counts_text f.version (length f.rows) f.tag_length
+    ++ flat_map tag_row_text f.rows
 frame_text (Disclosure f) =
-    head ++ 2 ∷ [] ++ to_be_bytes w64 f.stream.0 ++ length f.rows ∷ [] ++ flat_map key_row_text f.rows
+    head f.version ++ 2 ∷ [] ++ to_be_bytes w64 f.stream.0 ++ length f.rows ∷ [] ++ flat_map key_row_text f.rows
 
 abbrev pub IsKey : Key → Type 0
 IsKey key = (length key.0 ≡ 32) × AreBytes key.0
 
-pub record IsTagRow (row : TagRow) : Type 0 where
-  pub tag : length row.tag ≡ 16
+pub record IsTagRow (size : ℕ) (row : TagRow) : Type 0 where
+  pub tag : length row.tag ≡ size
   pub bytes : AreBytes row.tag
   pub key : IfSome row.key IsKey
 
@@ -78,15 +90,16 @@ pub record IsDataFrame (f : DataFrame) : Type 0 where
   pub number : f.name.number < 2 ^ 16
   pub payload : length f.payload ≤ 1200
   pub bytes : AreBytes f.payload
+  pub tag_length : IsTagLength f.version f.tag_length
   pub some : 1 ≤ length f.rows
-  pub few : length f.rows ≤ 4
-  pub rows : AllByRecursion IsTagRow f.rows
+  pub few : length f.rows ≤ most_chains f.version
+  pub rows : AllByRecursion (IsTagRow f.tag_length) f.rows
 
 -- the limits of a disclosure frame's fields
 pub record IsKeysFrame (f : KeysFrame) : Type 0 where
   pub stream : f.stream.0 < 2 ^ 64
   pub some : 1 ≤ length f.rows
-  pub few : length f.rows ≤ 4
+  pub few : length f.rows ≤ most_chains f.version
   pub rows : AllByRecursion IsKeyRow f.rows
   pub rise : ChainsRise f.rows
 

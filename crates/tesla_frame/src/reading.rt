@@ -2,34 +2,20 @@
 
 ghost use Rattle.std.specs.Prelude.{◌≡◌, Some, option_map, IfSome};
 ghost use Rattle.tesla_frame.specs.Frame.{Frame, IsFrame};
-ghost use Rattle.tesla_frame.specs.Reading.{chains_rise, data_of, keys_of, body_of, frame_of};
+ghost use Rattle.tesla_frame.specs.Reading.{version_at, data_of, keys_of, body_of, frame_of};
 ghost use Rattle.tesla_frame.specs.Shown.{shown};
 
-use crate::fields::{count_of, payload_of};
-use crate::row::KeyRow;
-use crate::rows::{key_rows_of, tag_rows_of};
+use crate::fields::{byte_of, count_of, payload_of, tag_length_of};
+use crate::rows::{KEY_ROW, do_chains_rise, row_starts};
 use crate::view::{DataView, FrameView, KeysView};
-use tesla_base::{Name, StreamId, take_u16, take_u32, take_u64};
+use tesla_base::{Name, StreamId, Version, take_u16, take_u32, take_u64};
 
-/// The first bytes of every frame: the magic, and version 1.
-pub const HEAD: [u8; 5] = [b'T', b'S', b'L', b'A', 1];
-
-/// Whether each chain's number is above the one before.
-fn do_chains_rise(rows: &[KeyRow]) -> bool
-    ensures { result ≡ chains_rise rows.now }
-{
-    match rows {
-        [row, rest @ ..] => match rest {
-            [next, ..] => row.chain.0 < next.chain.0 && do_chains_rise(rest),
-            [] => true,
-        },
-        [] => true,
-    }
-}
+/// The first bytes of every frame.
+pub const MAGIC: [u8; 4] = [b'T', b'S', b'L', b'A'];
 
 #[tactic(auto, unfolding(crate::specs::Reading::data_of))]
-fn data(bytes: &[u8]) -> Option<DataView<'_>>
-    ensures { result ≡ data_of bytes.now }
+fn data(version: Version, bytes: &[u8]) -> Option<DataView<'_>>
+    ensures { result ≡ data_of version bytes.now }
 {
     let Some((stream, rest)) = take_u64(bytes) else {
         return None;
@@ -43,53 +29,64 @@ fn data(bytes: &[u8]) -> Option<DataView<'_>>
     let Some((payload, rest)) = payload_of(rest) else {
         return None;
     };
-    let Some((count, rest)) = count_of(rest) else {
+    let Some((count, rest)) = count_of(version, rest) else {
         return None;
     };
-    let Some(read) = tag_rows_of(count, rest) else {
+    let Some((size, rows)) = tag_length_of(version, rest) else {
         return None;
     };
-    let (rows, rest) = (read.0, read.1);
-    if !rest.is_empty() {
+    let Some(read) = row_starts(size, count, rows) else {
+        return None;
+    };
+    let (starts, end) = (read.0, read.1);
+    if end != rows.len() {
         return None;
     }
     let name = Name { interval, number };
-    Some(DataView::new(StreamId(stream), name, payload, count, rows))
+    Some(DataView::new(
+        version,
+        StreamId(stream),
+        name,
+        payload,
+        size,
+        count,
+        rows,
+        starts,
+    ))
 }
 
 #[tactic(auto, unfolding(crate::specs::Reading::keys_of))]
-fn keys(bytes: &[u8]) -> Option<KeysView<'_>>
-    ensures { result ≡ keys_of bytes.now }
+fn keys(version: Version, bytes: &[u8]) -> Option<KeysView<'_>>
+    ensures { result ≡ keys_of version bytes.now }
 {
     let Some((stream, rest)) = take_u64(bytes) else {
         return None;
     };
-    let Some((count, rest)) = count_of(rest) else {
+    let Some((count, rows)) = count_of(version, rest) else {
         return None;
     };
-    let Some(read) = key_rows_of(count, rest) else {
-        return None;
-    };
-    let (rows, rest) = (read.0, read.1);
-    if !rest.is_empty() || !do_chains_rise(&rows[..count as usize]) {
+    if rows.len() != KEY_ROW * count as usize {
         return None;
     }
-    Some(KeysView::new(StreamId(stream), count, rows))
+    if !do_chains_rise(count, rows) {
+        return None;
+    }
+    Some(KeysView::new(version, StreamId(stream), count, rows))
 }
 
 #[tactic(auto, unfolding(crate::specs::Reading::body_of))]
-fn body(bytes: &[u8]) -> Option<FrameView<'_>>
-    ensures { option_map shown result ≡ body_of bytes.now }
+fn body(version: Version, bytes: &[u8]) -> Option<FrameView<'_>>
+    ensures { option_map shown result ≡ body_of version bytes.now }
 {
     match bytes {
         [1, rest @ ..] => {
-            let Some(view) = data(rest) else {
+            let Some(view) = data(version, rest) else {
                 return None;
             };
             Some(FrameView::Data(view))
         }
         [2, rest @ ..] => {
-            let Some(view) = keys(rest) else {
+            let Some(view) = keys(version, rest) else {
                 return None;
             };
             Some(FrameView::Disclosure(view))
@@ -98,8 +95,8 @@ fn body(bytes: &[u8]) -> Option<FrameView<'_>>
     }
 }
 
-/// The frame that the datagram is, with no byte more. None exactly where it isn't a frame. It takes no
-/// memory.
+/// The frame that the datagram is, with no byte more, in version 1 or 2. None exactly where it isn't a
+/// frame. It takes no memory, and copies no payload, tag or key.
 pub fn read_frame(bytes: &[u8]) -> Option<FrameView<'_>>
     // What is read is spelled so.
     ensures found { IfSome result (λ view. IsFrame bytes.now (shown view)) }
@@ -111,17 +108,34 @@ pub fn read_frame(bytes: &[u8]) -> Option<FrameView<'_>>
     frame(bytes)
 }
 
+/// The version behind the magic.
+#[tactic(auto, unfolding(crate::specs::Reading::version_at))]
+fn version_of(bytes: &[u8]) -> Option<(Version, &[u8])>
+    ensures { option_map (λ x. (x.0, x.1.now)) result ≡ version_at bytes.now }
+{
+    if bytes.len() < 4 {
+        return None;
+    }
+    let (magic, rest) = bytes.split_at(4);
+    let Some((number, rest)) = byte_of(rest) else {
+        return None;
+    };
+    let Some(version) = Version::of(number) else {
+        return None;
+    };
+    if magic == MAGIC.as_slice() {
+        Some((version, rest))
+    } else {
+        None
+    }
+}
+
 #[tactic(auto, unfolding(crate::specs::Reading::frame_of))]
 fn frame(bytes: &[u8]) -> Option<FrameView<'_>>
     ensures { option_map shown result ≡ frame_of bytes.now }
 {
-    if bytes.len() < 5 {
+    let Some((version, rest)) = version_of(bytes) else {
         return None;
-    }
-    let (front, rest) = bytes.split_at(5);
-    if front == HEAD.as_slice() {
-        body(rest)
-    } else {
-        None
-    }
+    };
+    body(version, rest)
 }

@@ -1,6 +1,6 @@
-//! The rows of a frame.
+//! A row of a disclosure frame.
 
-use tesla_base::{ChainNo, Key, Tag};
+use tesla_base::{ChainNo, Key};
 
 /// A key of a chain, with its index: the interval whose messages it authenticates.
 #[derive(Clone, Copy, Debug, PartialEq, Eq)]
@@ -11,11 +11,4 @@ pub struct KeyRow {
     pub index: u32,
     /// The key.
     pub key: Key,
-}
-
-/// What a data frame carries for one chain.
-#[derive(Clone, Copy, Debug, PartialEq, Eq)]
-pub struct TagAndKey {
-    pub tag: Tag,
-    pub key: Option<Key>,
 }

@@ -13,4 +13,5 @@ returns-clause-text c =
     let f1 = c.put-at.ensures.text [] before refl (begins_none before) in
     let f2 = c.put-at-2.ensures.text front before (omega arith) f1 in
     let f3 = c.put_key_rows.ensures.text (front ++ count) before (omega (arith, length-append front count)) f2 in
-    subst (λ (h : List ℕ). Begins ((h ++ count) ++ flat_map key_row_text c.args.rows.now) before c.put_key_rows.new.into) c.keys_head.ensures f3
+    let f4 = subst (λ (h : List ℕ). Begins ((h ++ count) ++ flat_map key_row_text c.args.rows.now) before c.put_key_rows.new.into) c.keys_head.ensures f3 in
+    rw c.version_of.ensures at f4

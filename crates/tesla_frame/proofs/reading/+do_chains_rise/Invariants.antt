@@ -1,5 +1,0 @@
-use Rattle.std.proofs.Common.{length}
-use Rattle.tesla_frame.proofs.reading.+do_chains_rise.Given as goal
-
-abbrev pub decreases-do_chains_rise : goal.decreases-do_chains_rise
-decreases-do_chains_rise l = length l.rows.now
