@@ -11,10 +11,12 @@ use Rattle.hex.specs.Hex.{encode_lower, decode_sized}
 use Rattle.hex.specs.declared.error.FromHexError.{FromHexError}
 use Rattle.tesla_base.specs.Number.{decimal_of}
 use Rattle.tesla_base.specs.declared.number.NumberFault.{NumberFault}
-use Rattle.tesla_commit.specs.JudgedLines.{◌>>=◌}
+use Rattle.tesla_base.specs.declared.version.Version.{Version}
+use Rattle.tesla_base.specs.declared.version.Version.TheVariants.{One, Two}
+use Rattle.tesla_commit.specs.JudgedLines.{◌>>=◌, within}
 use Rattle.tesla_commit.specs.ChainRows.{row_judged}
-use Rattle.tesla_commit.specs.Parsing.{words, value_in, chain_words, number_or_bad, number_in, within, is_lower_digit, bytes_or_bad, hex_in, title_in, stream_in, start_in, limited_in, chain_in}
-use Rattle.tesla_commit.specs.SetupRefused.{IsNoDecimal, IsNoHex, IsOutside, WhyTitle, WhyStream, WhyNumber, HasWords, HasNumbers, SpellsChain, WhyChain}
+use Rattle.tesla_commit.specs.Parsing.{words, value_in, chain_words, number_or_bad, number_in, is_lower_digit, bytes_or_bad, hex_in, title_in, stream_in, start_in, limited_in, chain_in}
+use Rattle.tesla_commit.specs.SetupRefused.{IsNoDecimal, IsNoHex, IsOutside, title, WhyTitle, WhyStream, WhyNumber, HasWords, HasNumbers, SpellsChain, WhyChain}
 use Rattle.tesla_commit.specs.declared.chain_row.ChainRow.{ChainRow}
 use Rattle.tesla_commit.specs.declared.refusal.SetupKind.{SetupKind}
 use Rattle.tesla_commit.specs.declared.refusal.SetupKind.TheVariants.{BadLine, BadNumber, BadHex, DelaysNotRising, IndexPastLast, LimitPassed}
@@ -29,10 +31,10 @@ pub by_steps : {A B E : Type 0} (P : E → Type 0) (r : Result A E) (f : A → R
 by_steps P (Ok x) f e h k refused = k x refl e refused
 by_steps {B = B} P (Err d) f e h k refused = h e (ap Err (err_is {A = B} d e (Err d) refl refused))
 
-never : {A E : Type 0} (x : A) (e : E) (r : Result A E) → r ≡ Ok x → r ≡ Err e → ⊥
+pub never : {A E : Type 0} (x : A) (e : E) (r : Result A E) → r ≡ Ok x → r ≡ Err e → ⊥
 never x e r h k = cc
 
-not_both : (b : Bool) → b ≡ true → b ≡ false → ⊥
+pub not_both : (b : Bool) → b ≡ true → b ≡ false → ⊥
 not_both b h k = cc
 
 -- a test that refuses with one kind
@@ -92,11 +94,21 @@ within_why least most n kind h =
 
 -- ---- lines
 
+-- two tests that refuse with one kind
+pub title_err : (b c : Bool) (kind : SetupKind) → cond b (Ok One) (cond c (Ok Two) (Err BadLine)) ≡ Err kind → (b ≡ false) × (c ≡ false) × (BadLine ≡ kind)
+title_err true c kind h = absurd cc
+title_err false true kind h = absurd cc
+title_err false false kind h = (refl, refl, err_is {A = Version} BadLine kind (Err BadLine) refl h)
+
+no_title : (line : List ℕ) → bytes_eq line (codes "tesla 1") ≡ false → bytes_eq line (codes "tesla 2") ≡ false → (version : Version) → line ≢ title version
+no_title line one two One e = not_both (bytes_eq line (codes "tesla 1")) ((bytes_eq-Decides line (codes "tesla 1")).1 e) one
+no_title line one two Two e = not_both (bytes_eq line (codes "tesla 2")) ((bytes_eq-Decides line (codes "tesla 2")).1 e) two
+
 pub title_why : (line : List ℕ) (kind : SetupKind) → title_in line ≡ Err kind → WhyTitle kind line
 title_why line kind h =
-    let t = test_err (bytes_eq line (codes "tesla 1")) tt BadLine kind h in
-    let why : WhyTitle BadLine line = λ e. not_both (bytes_eq line (codes "tesla 1")) ((bytes_eq-Decides line (codes "tesla 1")).1 e) t.0 in
-    subst (λ (k : SetupKind). WhyTitle k line) t.1 why
+    let t = title_err (bytes_eq line (codes "tesla 1")) (bytes_eq line (codes "tesla 2")) kind h in
+    let why : WhyTitle BadLine line = no_title line t.0 t.1 in
+    subst (λ (k : SetupKind). WhyTitle k line) t.2 why
 
 stream_hex_why : (line word : List ℕ) (kind : SetupKind) → words line ≡ codes "stream" ∷ word ∷ [] → hex_in 8 word ≡ Err kind → WhyStream kind line
 stream_hex_why line word kind said h =

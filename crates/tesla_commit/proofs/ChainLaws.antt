@@ -2,13 +2,14 @@
 use Rattle.std.proofs.Common.{◌≡◌, ◌≢◌, ℕ, ◌+◌, ◌<◌, ◌≤◌, Bool, true, false, cond, eqb, List, [], ◌∷◌, ◌++◌, length, Result, Ok, Err, refl, sym, ap, subst, ◌∙◌, arith}
 use Rattle.std.proofs.lemmas.Bool.Decides.{nat_tests}
 use Rattle.std.proofs.lemmas.List.{append-nil}
-use Rattle.tesla_commit.specs.JudgedLines.{◌>>=◌, at}
-use Rattle.tesla_commit.specs.ChainRows.{row_judged, rows_judged}
-use Rattle.tesla_commit.specs.Parsing.{lines, words, next_line, chain_words, number_in, within, hex_in, chain_in, chains_judged}
+use Rattle.tesla_base.specs.declared.version.Version.{Version}
+use Rattle.tesla_commit.specs.JudgedLines.{◌>>=◌, at, within}
+use Rattle.tesla_commit.specs.ChainRows.{row_judged, first_line, end_line, rows_judged}
+use Rattle.tesla_commit.specs.Parsing.{lines, words, next_line, chain_words, number_in, hex_in, chain_in, chains_judged}
 use Rattle.tesla_commit.specs.declared.chain_row.ChainRow.{ChainRow}
 use Rattle.tesla_commit.specs.declared.refusal.SetupKind.{SetupKind}
 use Rattle.tesla_commit.specs.declared.refusal.SetupKind.TheVariants.{BadLine, NoChain, TooManyChains}
-use Rattle.tesla_commit.proofs.RowLaws.{onto, onto_first, not_line, bind_ok, guard_ok, at_ok, ok_is, row_is}
+use Rattle.tesla_commit.proofs.RowLaws.{onto, onto_first, not_line, same_line, bind_ok, guard_ok, at_ok, ok_is, row_is}
 use Rattle.tesla_commit.proofs.WordLaws.{has_first, lines_of_nothing, only_line, is_only}
 
 abbrev pub taken : List ℕ × List (List ℕ) → Result (List ℕ × List (List ℕ)) (ℕ × SetupKind)
@@ -28,61 +29,66 @@ pair_is a b c d h =
 same_kind : (e d : ℕ × SetupKind) → refused e ≡ refused d → e ≡ d
 same_kind e d h = cc
 
-pub chains_step : (last number before : ℕ) (front : List ChainRow) (parts others : List (List ℕ)) (line : List ℕ) (row : ChainRow) → number ≢ 10 → next_line number parts ≡ Ok (line, others) → chain_in last before line ≡ Ok row → onto front (chains_judged last number before parts) ≡ onto (front ++ row ∷ []) (chains_judged last (number + 1) row.delay others)
+pub chains_step : (version : Version) (last number before : ℕ) (front : List ChainRow) (parts others : List (List ℕ)) (line : List ℕ) (row : ChainRow) → number ≢ end_line version → next_line number parts ≡ Ok (line, others) → chain_in last before line ≡ Ok row → onto front (chains_judged version last number before parts) ≡ onto (front ++ row ∷ []) (chains_judged version last (number + 1) row.delay others)
 unfolding chains_judged
-chains_step last number before front [] others line row ne h k = absurd cc
-chains_step last number before front (unended ∷ []) others line row ne h k = absurd cc
-chains_step last number before front (first ∷ next ∷ more) others line row ne h k =
+chains_step version last number before front [] others line row ne h k = absurd cc
+chains_step version last number before front (unended ∷ []) others line row ne h k = absurd cc
+chains_step version last number before front (first ∷ next ∷ more) others line row ne h k =
     let p = pair_is first line (next ∷ more) others h in
-    let test = not_line number 10 ne in
+    let test = not_line number (end_line version) ne in
     let judged : chain_in last before first ≡ Ok row = ap (chain_in last before) p.0 ∙ k in
-    rw (test, judged, ← p.1) (onto_first front row (chains_judged last (number + 1) row.delay (next ∷ more)))
+    rw (test, judged, ← p.1) (onto_first front row (chains_judged version last (number + 1) row.delay (next ∷ more)))
 
-pub chains_refused : (last number before : ℕ) (front : List ChainRow) (parts others : List (List ℕ)) (line : List ℕ) (kind : SetupKind) → number ≢ 10 → next_line number parts ≡ Ok (line, others) → chain_in last before line ≡ Err kind → onto front (chains_judged last number before parts) ≡ Err (number, kind)
+pub chains_refused : (version : Version) (last number before : ℕ) (front : List ChainRow) (parts others : List (List ℕ)) (line : List ℕ) (kind : SetupKind) → number ≢ end_line version → next_line number parts ≡ Ok (line, others) → chain_in last before line ≡ Err kind → onto front (chains_judged version last number before parts) ≡ Err (number, kind)
 unfolding chains_judged
-chains_refused last number before front [] others line kind ne h k = absurd cc
-chains_refused last number before front (unended ∷ []) others line kind ne h k = absurd cc
-chains_refused last number before front (first ∷ next ∷ more) others line kind ne h k =
+chains_refused version last number before front [] others line kind ne h k = absurd cc
+chains_refused version last number before front (unended ∷ []) others line kind ne h k = absurd cc
+chains_refused version last number before front (first ∷ next ∷ more) others line kind ne h k =
     let p = pair_is first line (next ∷ more) others h in
-    let test = not_line number 10 ne in
+    let test = not_line number (end_line version) ne in
     let judged : chain_in last before first ≡ Err kind = ap (chain_in last before) p.0 ∙ k in
     rw (test, judged) refl
 
-unended_is : (last number before : ℕ) (front : List ChainRow) (text : List ℕ) (parts : List (List ℕ)) (e : ℕ × SetupKind) → 0 < length text → number ≢ 10 → (parts ≡ text ∷ []) → next_line number parts ≡ Err e → onto front (chains_judged last number before parts) ≡ Err e
+unended_is : (version : Version) (last number before : ℕ) (front : List ChainRow) (text : List ℕ) (parts : List (List ℕ)) (e : ℕ × SetupKind) → 0 < length text → number ≢ end_line version → (parts ≡ text ∷ []) → next_line number parts ≡ Err e → onto front (chains_judged version last number before parts) ≡ Err e
 unfolding chains_judged
-unended_is last number before front text parts e some ne only h =
-    let test = not_line number 10 ne in
+unended_is version last number before front text parts e some ne only h =
+    let test = not_line number (end_line version) ne in
     let nonempty : eqb (length text) 0 ≡ false = grind (arith, nat_tests) in
     let kind : (number, BadLine) ≡ e = same_kind (number, BadLine) e (rw only at h) in
     rw (only, nonempty, test) (ap Err kind)
 
-pub chains_unended : (last number before : ℕ) (front : List ChainRow) (text : List ℕ) (e : ℕ × SetupKind) → 0 < length text → number ≢ 10 → next_line number (lines text) ≡ Err e → onto front (chains_judged last number before (lines text)) ≡ Err e
-chains_unended last number before front text e some ne h =
-    unended_is last number before front text (lines text) e some ne (only_line number text e h) h
+pub chains_unended : (version : Version) (last number before : ℕ) (front : List ChainRow) (text : List ℕ) (e : ℕ × SetupKind) → 0 < length text → number ≢ end_line version → next_line number (lines text) ≡ Err e → onto front (chains_judged version last number before (lines text)) ≡ Err e
+chains_unended version last number before front text e some ne h =
+    unended_is version last number before front text (lines text) e some ne (only_line number text e h) h
 
-over_is : (last before : ℕ) (front : List ChainRow) (text : List ℕ) (parts : List (List ℕ)) → 0 < length text → ((other : List ℕ) → parts ≡ other ∷ [] → other ≡ text) → 1 ≤ length parts → onto front (chains_judged last 10 before parts) ≡ Err (10, TooManyChains)
+over_is : (version : Version) (last number before : ℕ) (front : List ChainRow) (text : List ℕ) (parts : List (List ℕ)) → 0 < length text → number ≡ end_line version → ((other : List ℕ) → parts ≡ other ∷ [] → other ≡ text) → 1 ≤ length parts → onto front (chains_judged version last number before parts) ≡ Err (number, TooManyChains)
 unfolding chains_judged
-over_is last before front text [] some only h = absurd (omega arith)
-over_is last before front text (unended ∷ []) some only h =
+over_is version last number before front text [] some e only h = absurd (omega arith)
+over_is version last number before front text (unended ∷ []) some e only h =
     let same = only unended refl in
     let nonempty : eqb (length unended) 0 ≡ false = rw same (grind (arith, nat_tests)) in
-    rw nonempty refl
-over_is last before front text (line ∷ next ∷ others) some only h = refl
+    let test = same_line number (end_line version) e in
+    rw (nonempty, test) refl
+over_is version last number before front text (line ∷ next ∷ others) some e only h =
+    let test = same_line number (end_line version) e in
+    rw test refl
 
-pub chains_over : (last number before : ℕ) (front : List ChainRow) (text : List ℕ) → 0 < length text → number ≡ 10 → onto front (chains_judged last number before (lines text)) ≡ Err (number, TooManyChains)
-chains_over last number before front text some e =
+pub chains_over : (version : Version) (last number before : ℕ) (front : List ChainRow) (text : List ℕ) → 0 < length text → number ≡ end_line version → onto front (chains_judged version last number before (lines text)) ≡ Err (number, TooManyChains)
+chains_over version last number before front text some e =
     let f = has_first 10 text in
     let count : 1 ≤ length (lines text) = omega (arith, ap (length {A = List ℕ}) f.2) in
-    rw e (over_is last before front text (lines text) some (λ other h. is_only text other h) count)
+    over_is version last number before front text (lines text) some e (λ other h. is_only text other h) count
 
-pub chains_none : (last number before : ℕ) (front : List ChainRow) (text : List ℕ) → length text ≡ 0 → number ≡ 6 → onto front (chains_judged last number before (lines text)) ≡ Err (number, NoChain)
+pub chains_none : (version : Version) (last number before : ℕ) (front : List ChainRow) (text : List ℕ) → length text ≡ 0 → number ≡ first_line version → onto front (chains_judged version last number before (lines text)) ≡ Err (number, NoChain)
 unfolding chains_judged
-chains_none last number before front text none e = rw (lines_of_nothing text none, e) refl
+chains_none version last number before front text none e =
+    let test = same_line number (first_line version) e in
+    rw (lines_of_nothing text none, test) refl
 
-pub chains_end : (last number before : ℕ) (front : List ChainRow) (text : List ℕ) → length text ≡ 0 → number ≢ 6 → onto front (chains_judged last number before (lines text)) ≡ Ok front
+pub chains_end : (version : Version) (last number before : ℕ) (front : List ChainRow) (text : List ℕ) → length text ≡ 0 → number ≢ first_line version → onto front (chains_judged version last number before (lines text)) ≡ Ok front
 unfolding chains_judged
-chains_end last number before front text none ne =
-    let test = not_line number 6 ne in
+chains_end version last number before front text none ne =
+    let test = not_line number (first_line version) ne in
     rw (lines_of_nothing text none, test) (ap Ok (append-nil front))
 
 -- ---- refusals in the loop
@@ -96,10 +102,10 @@ at_err number line kind (Err other) h =
     let e = same_error (number, other) (line, kind) (at number (Err other)) refl h in
     (ap (λ (p : ℕ × SetupKind). Err p.1) e, ap (λ (p : ℕ × SetupKind). p.0) e)
 
-pub row_refused : (last number before other : ℕ) (front : List ChainRow) (parts others : List (List ℕ)) (line : List ℕ) (kind : SetupKind) → number ≢ 10 → next_line number parts ≡ Ok (line, others) → at number (chain_in last before line) ≡ Err (other, kind) → onto front (chains_judged last number before parts) ≡ Err (other, kind)
-row_refused last number before other front parts others line kind ne h k =
+pub row_refused : (version : Version) (last number before other : ℕ) (front : List ChainRow) (parts others : List (List ℕ)) (line : List ℕ) (kind : SetupKind) → number ≢ end_line version → next_line number parts ≡ Ok (line, others) → at number (chain_in last before line) ≡ Err (other, kind) → onto front (chains_judged version last number before parts) ≡ Err (other, kind)
+row_refused version last number before other front parts others line kind ne h k =
     let a = at_err number other kind (chain_in last before line) k in
-    chains_refused last number before front parts others line kind ne h a.0 ∙ ap (λ (n : ℕ). Err (n, kind)) a.1
+    chains_refused version last number before front parts others line kind ne h a.0 ∙ ap (λ (n : ℕ). Err (n, kind)) a.1
 
 -- ---- what chains that are not refused are
 
@@ -147,21 +153,21 @@ last_ok true false over number rows h = (refl, refl, sym (ok_is [] rows (Ok []) 
 last_ok false first true number rows h = absurd cc
 last_ok false first false number rows h = absurd cc
 
-rows_more : (last number before : ℕ) (row : ChainRow) (rows : List ChainRow) → eqb number 10 ≡ false → row_judged last before row ≡ Ok row → rows_judged last (number + 1) row.delay rows ≡ Ok rows → rows_judged last number before (row ∷ rows) ≡ Ok (row ∷ rows)
+rows_more : (version : Version) (last number before : ℕ) (row : ChainRow) (rows : List ChainRow) → eqb number (end_line version) ≡ false → row_judged last before row ≡ Ok row → rows_judged version last (number + 1) row.delay rows ≡ Ok rows → rows_judged version last number before (row ∷ rows) ≡ Ok (row ∷ rows)
 unfolding rows_judged
-rows_more last number before row rows test one two = rw (test, one, two) refl
+rows_more version last number before row rows test one two = rw (test, one, two) refl
 
-pub chains_are : (last number before : ℕ) (parts : List (List ℕ)) (rows : List ChainRow) → chains_judged last number before parts ≡ Ok rows → rows_judged last number before rows ≡ Ok rows
+pub chains_are : (version : Version) (last number before : ℕ) (parts : List (List ℕ)) (rows : List ChainRow) → chains_judged version last number before parts ≡ Ok rows → rows_judged version last number before rows ≡ Ok rows
 unfolding chains_judged rows_judged
-chains_are last number before [] rows h = absurd cc
-chains_are last number before (unended ∷ []) rows h =
-    let l = last_ok (eqb (length unended) 0) (eqb number 6) (eqb number 10) number rows h in
+chains_are version last number before [] rows h = absurd cc
+chains_are version last number before (unended ∷ []) rows h =
+    let l = last_ok (eqb (length unended) 0) (eqb number (first_line version)) (eqb number (end_line version)) number rows h in
     rw (l.2, l.1) refl
-chains_are last number before (line ∷ next ∷ others) rows h =
-    let g = guard_ok (eqb number 10) (number, TooManyChains) (at number (chain_in last before line) >>= λ row. chains_judged last (number + 1) row.delay (next ∷ others) >>= λ rows. Ok (row ∷ rows)) rows h in
-    let a = bind_ok (at number (chain_in last before line)) (λ row. chains_judged last (number + 1) row.delay (next ∷ others) >>= λ rows. Ok (row ∷ rows)) rows g.1 in
+chains_are version last number before (line ∷ next ∷ others) rows h =
+    let g = guard_ok (eqb number (end_line version)) (number, TooManyChains) (at number (chain_in last before line) >>= λ row. chains_judged version last (number + 1) row.delay (next ∷ others) >>= λ rows. Ok (row ∷ rows)) rows h in
+    let a = bind_ok (at number (chain_in last before line)) (λ row. chains_judged version last (number + 1) row.delay (next ∷ others) >>= λ rows. Ok (row ∷ rows)) rows g.1 in
     let one = chain_row last before line a.0 (at_ok number (chain_in last before line) a.0 a.1) in
-    let b = bind_ok (chains_judged last (number + 1) a.0.delay (next ∷ others)) (λ rows. Ok (a.0 ∷ rows)) rows a.2 in
-    let two = chains_are last (number + 1) a.0.delay (next ∷ others) b.0 b.1 in
+    let b = bind_ok (chains_judged version last (number + 1) a.0.delay (next ∷ others)) (λ rows. Ok (a.0 ∷ rows)) rows a.2 in
+    let two = chains_are version last (number + 1) a.0.delay (next ∷ others) b.0 b.1 in
     let whole : (a.0 ∷ b.0) ≡ rows = ok_is (a.0 ∷ b.0) rows (Ok (a.0 ∷ b.0)) refl b.2 in
-    subst (λ (rs : List ChainRow). rows_judged last number before rs ≡ Ok rs) whole (rows_more last number before a.0 b.0 g.0 one two)
+    subst (λ (rs : List ChainRow). rows_judged version last number before rs ≡ Ok rs) whole (rows_more version last number before a.0 b.0 g.0 one two)

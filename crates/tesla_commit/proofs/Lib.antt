@@ -9,3 +9,7 @@ pub mod Causes
 pub mod Refusals
 pub mod Refused
 pub mod Stopped
+pub mod SeedsJudging
+pub mod SeedsSpelled
+pub mod SeedsTexts
+pub mod SeedsStops

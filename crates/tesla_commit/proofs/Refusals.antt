@@ -1,21 +1,25 @@
 -- A refused text stops behind the front of a setup's lines.
-use Rattle.std.proofs.Common.{◌≡◌, ◌≢◌, ◌⊎◌, ℕ, zero, suc, ◌+◌, ◌-◌, ◌^◌, ◌<◌, ◌≤◌, Bool, true, false, cond, eqb, ltb, List, [], ◌∷◌, ◌++◌, length, map, take, Result, Ok, Err, refl, sym, ap, subst, ◌∙◌, inl, inr, arith}
+use Rattle.std.proofs.Common.{◌≡◌, ◌≢◌, ◌⊎◌, ℕ, zero, suc, ◌+◌, ◌-◌, ◌^◌, ◌<◌, ◌≤◌, Bool, true, false, cond, eqb, ltb, List, [], ◌∷◌, ◌++◌, length, map, take, Result, Ok, Err, refl, sym, ap, subst, ◌∙◌, append_assoc, inl, inr, arith}
 use Rattle.std.specs.Prelude.{codes, decimal}
 use Rattle.std.specs.Int.{w64, to_be_bytes}
 use Rattle.std.specs.List.{AllByRecursion}
 use Rattle.std.proofs.lemmas.Bool.Decides.{nat_tests}
 use Rattle.hex.specs.Hex.{encode_lower}
+use Rattle.tesla_base.specs.Version.{most_chains, shortest_tag, longest_tag, IsTagLength}
 use Rattle.tesla_base.specs.declared.names.StreamId.{StreamId}
+use Rattle.tesla_base.specs.declared.version.Version.{Version}
+use Rattle.tesla_base.specs.declared.version.Version.TheVariants.{One, Two}
 use Rattle.tesla_clock.specs.Schedule.{Times, IsSchedule}
 use Rattle.tesla_commit.specs.Parts.{Parts, IsRow}
 use Rattle.tesla_commit.specs.JudgedLines.{◌>>=◌, at}
-use Rattle.tesla_commit.specs.Parsing.{lines, next_line, title_in, stream_in, start_in, limited_in, chain_in, chains_judged, opening_judged, times_judged, judged}
+use Rattle.tesla_commit.specs.ChainRows.{first_line, end_line}
+use Rattle.tesla_commit.specs.Parsing.{lines, next_line, title_in, stream_in, start_in, limited_in, chain_in, chains_judged, opening_judged, times_judged, tag_judged, rest_judged, judged}
 use Rattle.tesla_commit.specs.SetupText.{HasKey}
-use Rattle.tesla_commit.specs.SetupRefused.{StopsHere, head_lines, IsHead, why_head, StopsInHead, chain_text, last_delay, StopsAtChain, StopsInChains, IsRefused, WhyChain}
+use Rattle.tesla_commit.specs.SetupRefused.{title, StopsHere, tag_lines, head_lines, IsHead, why_head, StopsInHead, chain_text, last_delay, StopsAtChain, StopsInChains, IsRefused, WhyChain}
 use Rattle.tesla_commit.specs.declared.chain_row.ChainRow.{ChainRow}
 use Rattle.tesla_commit.specs.declared.refusal.SetupKind.{SetupKind}
 use Rattle.tesla_commit.specs.declared.refusal.SetupKind.TheVariants.{BadLine, BadNumber, BadHex, NoChain, TooManyChains, DelaysNotRising, IndexPastLast, LimitPassed, TooLong}
-use Rattle.tesla_commit.proofs.RowLaws.{bind_ok, at_ok, ok_is, RiseFrom, rise_is, row_is}
+use Rattle.tesla_commit.proofs.RowLaws.{first_bounds, bind_ok, at_ok, ok_is, RiseFrom, rise_is, row_is}
 use Rattle.tesla_commit.proofs.ChainLaws.{same_taken, no_row, no_line, chain_row}
 use Rattle.tesla_commit.proofs.Spelled.{title_found, stream_found, start_found, limited_found, row_found, nothing_is}
 use Rattle.tesla_commit.proofs.WordLaws.{has_first}
@@ -45,11 +49,11 @@ next_why why number (unended ∷ []) d some h =
 next_why why number (line ∷ next ∷ others) d some h = absurd cc
 
 -- the kind that is refused at a line is that of its judgment
-at_why : {A : Type 0} (number : ℕ) (r : Result A SetupKind) (d : ℕ × SetupKind) → at number r ≡ Err d → (number ≡ d.0) × (r ≡ Err d.1)
+pub at_why : {A E : Type 0} (number : ℕ) (r : Result A E) (d : ℕ × E) → at number r ≡ Err d → (number ≡ d.0) × (r ≡ Err d.1)
 at_why number (Ok x) d h = absurd cc
-at_why {A = A} number (Err kind) d h =
+at_why {A = A} {E = E} number (Err kind) d h =
     let e = err_is (number, kind) d (at {A = A} number (Err kind)) refl h in
-    (ap (λ (p : ℕ × SetupKind). p.0) e, ap (λ (p : ℕ × SetupKind). Err p.1) e)
+    (ap (λ (p : ℕ × E). p.0) e, ap (λ (p : ℕ × E). Err p.1) e)
 
 -- why the line that was taken is refused
 pub line_why : {A : Type 0} (why : SetupKind → List ℕ → Type 0) (number : ℕ) (parts : List (List ℕ)) (x : List ℕ × List (List ℕ)) (r : Result A SetupKind) (d : ℕ × SetupKind) → next_line number parts ≡ Ok x → ((k : SetupKind) → r ≡ Err k → why k x.0) → at number r ≡ Err d → (number ≡ d.0) × StopsHere why d.1 parts
@@ -63,20 +67,24 @@ line_why why number (line ∷ next ∷ others) x r d taken cause h =
 -- ---- before the chains
 
 -- the parts with what is known of them
-abbrev known : ℕ → Times → Parts
-known stream times = record { stream = record { 0 = stream }; times = times; rows = [] }
+abbrev known : Version → ℕ → Times → Parts
+known version stream times = record { version = version; stream = record { 0 = stream }; times = times; tag_length = longest_tag version; rows = [] }
 
 abbrev times_of : ℕ → ℕ → Times
 times_of start length = record { start = start; length = length; last = 1 }
 
-pub head_stops : (text : List (List ℕ)) (before : ℕ) (parts : Parts) (rest : List (List ℕ)) (d : ℕ × SetupKind) → IsHead parts → before < 5 → text ≡ take before (head_lines parts) ++ rest → (suc before ≡ d.0) × StopsHere (why_head before) d.1 rest → Stops text d
+pub head_stops : (text : List (List ℕ)) (before : ℕ) (parts : Parts) (rest : List (List ℕ)) (d : ℕ × SetupKind) → IsHead parts → before + 1 < first_line parts.version → text ≡ take before (head_lines parts) ++ rest → (suc before ≡ d.0) × StopsHere (why_head before) d.1 rest → Stops text d
 head_stops text before parts rest d limits few spelled why =
     subst (λ (n : ℕ). StopsAt text n d.1) why.0 (inl (record { parts = parts; limits = limits; few = few; rest = rest; spelled = spelled; why = why.1 }))
 
 -- some head of a setup with that stream
-pub some_head : (stream start length : ℕ) → stream < 2 ^ 64 → start < 2 ^ 64 → 1000 ≤ length → length ≤ 3600000000 → IsHead (known stream (times_of start length))
-some_head stream start length fits begins shortest longest =
-    record { stream = fits; start = begins; times = record { shortest = shortest; longest = longest; first = omega arith; most = omega arith } }
+longest_is : (version : Version) → IsTagLength version (longest_tag version)
+longest_is One = record { shortest = omega arith; longest = omega arith }
+longest_is Two = record { shortest = omega arith; longest = omega arith }
+
+pub some_head : (version : Version) (stream start length : ℕ) → stream < 2 ^ 64 → start < 2 ^ 64 → 1000 ≤ length → length ≤ 3600000000 → IsHead (known version stream (times_of start length))
+some_head version stream start length fits begins shortest longest =
+    record { stream = fits; start = begins; times = record { shortest = shortest; longest = longest; first = omega arith; most = omega arith }; tag_length = longest_is version }
 
 -- the text with one more of its lines known
 pub grown : (text front parts others : List (List ℕ)) (line spelled : List ℕ) → text ≡ front ++ parts → parts ≡ line ∷ others → line ≡ spelled → text ≡ front ++ spelled ∷ others
@@ -86,19 +94,19 @@ abbrev pub stream_line : ℕ → List ℕ
 stream_line stream = codes "stream" ++ 32 ∷ encode_lower (to_be_bytes w64 stream)
 
 -- what is judged of lines 1 and 2
-abbrev pub after_opening : StreamId → List (List ℕ) → Result (StreamId × List (List ℕ)) (ℕ × SetupKind)
-after_opening stream rest = Ok (stream, rest)
+abbrev pub after_opening : Version → StreamId → List (List ℕ) → Result (Version × StreamId × List (List ℕ)) (ℕ × SetupKind)
+after_opening version stream rest = Ok (version, stream, rest)
 
 -- a text whose first line is the title stops at line 2
-second_stops : (text parts : List (List ℕ)) (e : ℕ × SetupKind) → 0 < length parts → text ≡ codes "tesla 1" ∷ parts → (next_line 2 parts >>= λ two. at 2 (stream_in two.0) >>= λ stream. after_opening stream two.1) ≡ Err e → Stops text e
-second_stops text parts e some front h =
-    let known_of = known 0 (times_of 0 1000) in
-    let limits = some_head 0 0 1000 (omega arith) (omega arith) (omega arith) (omega arith) in
-    by_steps (λ (d : ℕ × SetupKind). Stops text d) (next_line 2 parts) (λ two. at 2 (stream_in two.0) >>= λ stream. after_opening stream two.1) e
-    (λ d refused. head_stops text 1 known_of parts d limits (omega arith) front (next_why (why_head 1) 2 parts d some refused))
+second_stops : (version : Version) (text parts : List (List ℕ)) (e : ℕ × SetupKind) → 0 < length parts → text ≡ title version ∷ parts → (next_line 2 parts >>= λ two. at 2 (stream_in two.0) >>= λ stream. after_opening version stream two.1) ≡ Err e → Stops text e
+second_stops version text parts e some front h =
+    let known_of = known version 0 (times_of 0 1000) in
+    let limits = some_head version 0 0 1000 (omega arith) (omega arith) (omega arith) (omega arith) in
+    by_steps (λ (d : ℕ × SetupKind). Stops text d) (next_line 2 parts) (λ two. at 2 (stream_in two.0) >>= λ stream. after_opening version stream two.1) e
+    (λ d refused. head_stops text 1 known_of parts d limits (omega (arith, first_bounds version)) front (next_why (why_head 1) 2 parts d some refused))
     (λ two taken d refused.
-    by_steps (λ (k : ℕ × SetupKind). Stops text k) (at 2 (stream_in two.0)) (λ stream. after_opening stream two.1) d
-    (λ k end. head_stops text 1 known_of parts k limits (omega arith) front (line_why (why_head 1) 2 parts two (stream_in two.0) k taken (λ j r. stream_why two.0 j r) end))
+    by_steps (λ (k : ℕ × SetupKind). Stops text k) (at 2 (stream_in two.0)) (λ stream. after_opening version stream two.1) d
+    (λ k end. head_stops text 1 known_of parts k limits (omega (arith, first_bounds version)) front (line_why (why_head 1) 2 parts two (stream_in two.0) k taken (λ j r. stream_why two.0 j r) end))
     (λ stream ok k end. absurd cc)
     refused)
     h
@@ -107,79 +115,79 @@ second_stops text parts e some front h =
 pub opening_stops : (text : List (List ℕ)) (e : ℕ × SetupKind) → 0 < length text → opening_judged text ≡ Err e → Stops text e
 unfolding opening_judged
 opening_stops text e some h =
-    let known_of = known 0 (times_of 0 1000) in
-    let limits = some_head 0 0 1000 (omega arith) (omega arith) (omega arith) (omega arith) in
-    by_steps (λ (d : ℕ × SetupKind). Stops text d) (next_line 1 text) (λ one. at 1 (title_in one.0) >>= λ title. next_line 2 one.1 >>= λ two. at 2 (stream_in two.0) >>= λ stream. after_opening stream two.1) e
+    let known_of = known One 0 (times_of 0 1000) in
+    let limits = some_head One 0 0 1000 (omega arith) (omega arith) (omega arith) (omega arith) in
+    by_steps (λ (d : ℕ × SetupKind). Stops text d) (next_line 1 text) (λ one. at 1 (title_in one.0) >>= λ version. next_line 2 one.1 >>= λ two. at 2 (stream_in two.0) >>= λ stream. after_opening version stream two.1) e
     (λ d refused. head_stops text 0 known_of text d limits (omega arith) refl (next_why (why_head 0) 1 text d some refused))
     (λ one taken d refused.
-    by_steps (λ (k : ℕ × SetupKind). Stops text k) (at 1 (title_in one.0)) (λ title. next_line 2 one.1 >>= λ two. at 2 (stream_in two.0) >>= λ stream. after_opening stream two.1) d
+    by_steps (λ (k : ℕ × SetupKind). Stops text k) (at 1 (title_in one.0)) (λ version. next_line 2 one.1 >>= λ two. at 2 (stream_in two.0) >>= λ stream. after_opening version stream two.1) d
     (λ k end. head_stops text 0 known_of text k limits (omega arith) refl (line_why (why_head 0) 1 text one (title_in one.0) k taken (λ j r. title_why one.0 j r) end))
-    (λ title ok k end. second_stops text one.1 k (line_taken 1 text one taken).1 (grown text [] text one.1 one.0 (codes "tesla 1") refl (line_taken 1 text one taken).0 (title_found one.0 title (at_ok 1 (title_in one.0) title ok))) end)
+    (λ version ok k end. second_stops version text one.1 k (line_taken 1 text one taken).1 (grown text [] text one.1 one.0 (title version) refl (line_taken 1 text one taken).0 (title_found one.0 version (at_ok 1 (title_in one.0) version ok))) end)
     refused)
     h
 
 -- lines 1 and 2 where neither is refused
-pub opening_front : (text : List (List ℕ)) (x : StreamId × List (List ℕ)) → opening_judged text ≡ Ok x → (text ≡ codes "tesla 1" ∷ stream_line x.0.0 ∷ x.1) × (x.0.0 < 2 ^ 64) × (0 < length x.1)
+pub opening_front : (text : List (List ℕ)) (x : Version × StreamId × List (List ℕ)) → opening_judged text ≡ Ok x → (text ≡ title x.0 ∷ stream_line x.1.0 ∷ x.2) × (x.1.0 < 2 ^ 64) × (0 < length x.2)
 unfolding opening_judged
 opening_front text x h =
-    let one = bind_ok (next_line 1 text) (λ one. at 1 (title_in one.0) >>= λ title. next_line 2 one.1 >>= λ two. at 2 (stream_in two.0) >>= λ stream. Ok (stream, two.1)) x h in
-    let title = bind_ok (at 1 (title_in one.0.0)) (λ title. next_line 2 one.0.1 >>= λ two. at 2 (stream_in two.0) >>= λ stream. Ok (stream, two.1)) x one.2 in
-    let two = bind_ok (next_line 2 one.0.1) (λ two. at 2 (stream_in two.0) >>= λ stream. Ok (stream, two.1)) x title.2 in
-    let stream = bind_ok (at 2 (stream_in two.0.0)) (λ stream. Ok (stream, two.0.1)) x two.2 in
+    let one = bind_ok (next_line 1 text) (λ one. at 1 (title_in one.0) >>= λ version. next_line 2 one.1 >>= λ two. at 2 (stream_in two.0) >>= λ stream. Ok (version, stream, two.1)) x h in
+    let version = bind_ok (at 1 (title_in one.0.0)) (λ version. next_line 2 one.0.1 >>= λ two. at 2 (stream_in two.0) >>= λ stream. Ok (version, stream, two.1)) x one.2 in
+    let two = bind_ok (next_line 2 one.0.1) (λ two. at 2 (stream_in two.0) >>= λ stream. Ok (version.0, stream, two.1)) x version.2 in
+    let stream = bind_ok (at 2 (stream_in two.0.0)) (λ stream. Ok (version.0, stream, two.0.1)) x two.2 in
     let said = stream_found two.0.0 stream.0 (at_ok 2 (stream_in two.0.0) stream.0 stream.1) in
-    let first = grown text [] text one.0.1 one.0.0 (codes "tesla 1") refl (line_taken 1 text one.0 one.1).0 (title_found one.0.0 title.0 (at_ok 1 (title_in one.0.0) title.0 title.1)) in
-    let second = grown text (codes "tesla 1" ∷ []) one.0.1 two.0.1 two.0.0 (stream_line stream.0.0) first (line_taken 2 one.0.1 two.0 two.1).0 said.0 in
-    let made : StreamId × List (List ℕ) = (stream.0, two.0.1) in
-    subst (λ (y : StreamId × List (List ℕ)). (text ≡ codes "tesla 1" ∷ stream_line y.0.0 ∷ y.1) × (y.0.0 < 2 ^ 64) × (0 < length y.1)) (ok_is made x (Ok made) refl stream.2) (second, said.1, (line_taken 2 one.0.1 two.0 two.1).1)
+    let first = grown text [] text one.0.1 one.0.0 (title version.0) refl (line_taken 1 text one.0 one.1).0 (title_found one.0.0 version.0 (at_ok 1 (title_in one.0.0) version.0 version.1)) in
+    let second = grown text (title version.0 ∷ []) one.0.1 two.0.1 two.0.0 (stream_line stream.0.0) first (line_taken 2 one.0.1 two.0 two.1).0 said.0 in
+    let made : Version × StreamId × List (List ℕ) = (version.0, stream.0, two.0.1) in
+    subst (λ (y : Version × StreamId × List (List ℕ)). (text ≡ title y.0 ∷ stream_line y.1.0 ∷ y.2) × (y.1.0 < 2 ^ 64) × (0 < length y.2)) (ok_is made x (Ok made) refl stream.2) (second, said.1, (line_taken 2 one.0.1 two.0 two.1).1)
 
 -- what is judged of lines 3 to 5
 abbrev pub after_times : ℕ → ℕ → ℕ → List (List ℕ) → Result (Times × List (List ℕ)) (ℕ × SetupKind)
 after_times start length last rest = Ok (record { start = start; length = length; last = last }, rest)
 
 -- a text stops at line 5
-fifth_stops : (text parts : List (List ℕ)) (stream start span : ℕ) (e : ℕ × SetupKind) → 0 < length parts → IsHead (known stream (times_of start span)) → text ≡ take 4 (head_lines (known stream (times_of start span))) ++ parts → (next_line 5 parts >>= λ five. at 5 (limited_in (codes "last") 1 1048576 five.0) >>= λ last. after_times start span last five.1) ≡ Err e → Stops text e
-fifth_stops text parts stream start span e some limits front h =
+fifth_stops : (version : Version) (text parts : List (List ℕ)) (stream start span : ℕ) (e : ℕ × SetupKind) → 0 < length parts → IsHead (known version stream (times_of start span)) → text ≡ take 4 (head_lines (known version stream (times_of start span))) ++ parts → (next_line 5 parts >>= λ five. at 5 (limited_in (codes "last") 1 1048576 five.0) >>= λ last. after_times start span last five.1) ≡ Err e → Stops text e
+fifth_stops version text parts stream start span e some limits front h =
     by_steps (λ (d : ℕ × SetupKind). Stops text d) (next_line 5 parts) (λ five. at 5 (limited_in (codes "last") 1 1048576 five.0) >>= λ last. after_times start span last five.1) e
-    (λ d refused. head_stops text 4 (known stream (times_of start span)) parts d limits (omega arith) front (next_why (why_head 4) 5 parts d some refused))
+    (λ d refused. head_stops text 4 (known version stream (times_of start span)) parts d limits (omega (arith, first_bounds version)) front (next_why (why_head 4) 5 parts d some refused))
     (λ five taken d refused.
     by_steps (λ (k : ℕ × SetupKind). Stops text k) (at 5 (limited_in (codes "last") 1 1048576 five.0)) (λ last. after_times start span last five.1) d
-    (λ k end. head_stops text 4 (known stream (times_of start span)) parts k limits (omega arith) front (line_why (why_head 4) 5 parts five (limited_in (codes "last") 1 1048576 five.0) k taken (λ j r. limited_why (codes "last") 1 1048576 five.0 j r) end))
+    (λ k end. head_stops text 4 (known version stream (times_of start span)) parts k limits (omega (arith, first_bounds version)) front (line_why (why_head 4) 5 parts five (limited_in (codes "last") 1 1048576 five.0) k taken (λ j r. limited_why (codes "last") 1 1048576 five.0 j r) end))
     (λ last ok k end. absurd cc)
     refused)
     h
 
 -- a text stops at line 4 or 5
-fourth_stops : (text parts : List (List ℕ)) (stream start : ℕ) (e : ℕ × SetupKind) → 0 < length parts → stream < 2 ^ 64 → start < 2 ^ 64 → text ≡ take 3 (head_lines (known stream (times_of start 1000))) ++ parts → (next_line 4 parts >>= λ four. at 4 (limited_in (codes "interval") 1000 3600000000 four.0) >>= λ length. next_line 5 four.1 >>= λ five. at 5 (limited_in (codes "last") 1 1048576 five.0) >>= λ last. after_times start length last five.1) ≡ Err e → Stops text e
-fourth_stops text parts stream start e some fits begins front h =
-    let known_of = known stream (times_of start 1000) in
-    let limits = some_head stream start 1000 fits begins (omega arith) (omega arith) in
+fourth_stops : (version : Version) (text parts : List (List ℕ)) (stream start : ℕ) (e : ℕ × SetupKind) → 0 < length parts → stream < 2 ^ 64 → start < 2 ^ 64 → text ≡ take 3 (head_lines (known version stream (times_of start 1000))) ++ parts → (next_line 4 parts >>= λ four. at 4 (limited_in (codes "interval") 1000 3600000000 four.0) >>= λ length. next_line 5 four.1 >>= λ five. at 5 (limited_in (codes "last") 1 1048576 five.0) >>= λ last. after_times start length last five.1) ≡ Err e → Stops text e
+fourth_stops version text parts stream start e some fits begins front h =
+    let known_of = known version stream (times_of start 1000) in
+    let limits = some_head version stream start 1000 fits begins (omega arith) (omega arith) in
     by_steps (λ (d : ℕ × SetupKind). Stops text d) (next_line 4 parts) (λ four. at 4 (limited_in (codes "interval") 1000 3600000000 four.0) >>= λ length. next_line 5 four.1 >>= λ five. at 5 (limited_in (codes "last") 1 1048576 five.0) >>= λ last. after_times start length last five.1) e
-    (λ d refused. head_stops text 3 known_of parts d limits (omega arith) front (next_why (why_head 3) 4 parts d some refused))
+    (λ d refused. head_stops text 3 known_of parts d limits (omega (arith, first_bounds version)) front (next_why (why_head 3) 4 parts d some refused))
     (λ four taken d refused.
     by_steps (λ (k : ℕ × SetupKind). Stops text k) (at 4 (limited_in (codes "interval") 1000 3600000000 four.0)) (λ length. next_line 5 four.1 >>= λ five. at 5 (limited_in (codes "last") 1 1048576 five.0) >>= λ last. after_times start length last five.1) d
-    (λ k end. head_stops text 3 known_of parts k limits (omega arith) front (line_why (why_head 3) 4 parts four (limited_in (codes "interval") 1000 3600000000 four.0) k taken (λ j r. limited_why (codes "interval") 1000 3600000000 four.0 j r) end))
+    (λ k end. head_stops text 3 known_of parts k limits (omega (arith, first_bounds version)) front (line_why (why_head 3) 4 parts four (limited_in (codes "interval") 1000 3600000000 four.0) k taken (λ j r. limited_why (codes "interval") 1000 3600000000 four.0 j r) end))
     (λ span ok k end.
     let said = limited_found (codes "interval") 1000 3600000000 four.0 span (at_ok 4 (limited_in (codes "interval") 1000 3600000000 four.0) span ok) in
     let more = grown text (take 3 (head_lines known_of)) parts four.1 four.0 (codes "interval" ++ 32 ∷ decimal span) front (line_taken 4 parts four taken).0 said.0 in
-    fifth_stops text four.1 stream start span k (line_taken 4 parts four taken).1 (some_head stream start span fits begins said.1 said.2) more end)
+    fifth_stops version text four.1 stream start span k (line_taken 4 parts four taken).1 (some_head version stream start span fits begins said.1 said.2) more end)
     refused)
     h
 
 -- a text stops at line 3, 4 or 5
-pub times_stops : (text parts : List (List ℕ)) (stream : ℕ) (e : ℕ × SetupKind) → 0 < length parts → stream < 2 ^ 64 → text ≡ codes "tesla 1" ∷ stream_line stream ∷ parts → times_judged parts ≡ Err e → Stops text e
+pub times_stops : (version : Version) (text parts : List (List ℕ)) (stream : ℕ) (e : ℕ × SetupKind) → 0 < length parts → stream < 2 ^ 64 → text ≡ title version ∷ stream_line stream ∷ parts → times_judged parts ≡ Err e → Stops text e
 unfolding times_judged
-times_stops text parts stream e some fits front h =
-    let known_of = known stream (times_of 0 1000) in
-    let limits = some_head stream 0 1000 fits (omega arith) (omega arith) (omega arith) in
+times_stops version text parts stream e some fits front h =
+    let known_of = known version stream (times_of 0 1000) in
+    let limits = some_head version stream 0 1000 fits (omega arith) (omega arith) (omega arith) in
     by_steps (λ (d : ℕ × SetupKind). Stops text d) (next_line 3 parts) (λ three. at 3 (start_in three.0) >>= λ start. next_line 4 three.1 >>= λ four. at 4 (limited_in (codes "interval") 1000 3600000000 four.0) >>= λ length. next_line 5 four.1 >>= λ five. at 5 (limited_in (codes "last") 1 1048576 five.0) >>= λ last. after_times start length last five.1) e
-    (λ d refused. head_stops text 2 known_of parts d limits (omega arith) front (next_why (why_head 2) 3 parts d some refused))
+    (λ d refused. head_stops text 2 known_of parts d limits (omega (arith, first_bounds version)) front (next_why (why_head 2) 3 parts d some refused))
     (λ three taken d refused.
     by_steps (λ (k : ℕ × SetupKind). Stops text k) (at 3 (start_in three.0)) (λ start. next_line 4 three.1 >>= λ four. at 4 (limited_in (codes "interval") 1000 3600000000 four.0) >>= λ length. next_line 5 four.1 >>= λ five. at 5 (limited_in (codes "last") 1 1048576 five.0) >>= λ last. after_times start length last five.1) d
-    (λ k end. head_stops text 2 known_of parts k limits (omega arith) front (line_why (why_head 2) 3 parts three (start_in three.0) k taken (λ j r. start_why three.0 j r) end))
+    (λ k end. head_stops text 2 known_of parts k limits (omega (arith, first_bounds version)) front (line_why (why_head 2) 3 parts three (start_in three.0) k taken (λ j r. start_why three.0 j r) end))
     (λ start ok k end.
     let said = start_found three.0 start (at_ok 3 (start_in three.0) start ok) in
-    let more = grown text (codes "tesla 1" ∷ stream_line stream ∷ []) parts three.1 three.0 (codes "start" ++ 32 ∷ decimal start) front (line_taken 3 parts three taken).0 said.0 in
-    fourth_stops text three.1 stream start k (line_taken 3 parts three taken).1 fits said.1 more end)
+    let more = grown text (title version ∷ stream_line stream ∷ []) parts three.1 three.0 (codes "start" ++ 32 ∷ decimal start) front (line_taken 3 parts three taken).0 said.0 in
+    fourth_stops version text three.1 stream start k (line_taken 3 parts three taken).1 fits said.1 more end)
     refused)
     h
 
@@ -216,7 +224,7 @@ times_front parts x h =
 -- ---- the chains
 
 -- the lines of chains stop behind those of these rows
-pub record ChainStop (last number before : ℕ) (parts : List (List ℕ)) (e : ℕ × SetupKind) : Type 0 where
+pub record ChainStop (version : Version) (last number before : ℕ) (parts : List (List ℕ)) (e : ℕ × SetupKind) : Type 0 where
   pub rows : List ChainRow
   pub rest : List (List ℕ)
   pub spelled : parts ≡ map chain_text rows ++ rest
@@ -224,16 +232,16 @@ pub record ChainStop (last number before : ℕ) (parts : List (List ℕ)) (e : �
   pub each : AllByRecursion (IsRow last) rows
   pub rise : RiseFrom before rows
   pub keys : AllByRecursion HasKey rows
-  pub why : StopsAtChain (e.0 - 6) last (last_delay before rows) e.1 rest
+  pub why : StopsAtChain (most_chains version) (e.0 - first_line version) last (last_delay before rows) e.1 rest
 
 -- at the first of them
-chain_now : (last number before : ℕ) (parts : List (List ℕ)) (e : ℕ × SetupKind) → StopsAtChain (number - 6) last before e.1 parts → number ≡ e.0 → ChainStop last number before parts e
-chain_now last number before parts e why place =
-    record { rows = []; rest = parts; spelled = refl; place = omega (arith, place); each = tt; rise = tt; keys = tt; why = subst (λ (n : ℕ). StopsAtChain (n - 6) last before e.1 parts) place why }
+chain_now : (version : Version) (last number before : ℕ) (parts : List (List ℕ)) (e : ℕ × SetupKind) → StopsAtChain (most_chains version) (number - first_line version) last before e.1 parts → number ≡ e.0 → ChainStop version last number before parts e
+chain_now version last number before parts e why place =
+    record { rows = []; rest = parts; spelled = refl; place = omega (arith, place); each = tt; rise = tt; keys = tt; why = subst (λ (n : ℕ). StopsAtChain (most_chains version) (n - first_line version) last before e.1 parts) place why }
 
 -- behind one that is not refused
-chain_later : (last number before : ℕ) (line : List ℕ) (others : List (List ℕ)) (row : ChainRow) (e : ℕ × SetupKind) → chain_in last before line ≡ Ok row → ChainStop last (number + 1) row.delay others e → ChainStop last number before (line ∷ others) e
-chain_later last number before line others row e ok more =
+chain_later : (version : Version) (last number before : ℕ) (line : List ℕ) (others : List (List ℕ)) (row : ChainRow) (e : ℕ × SetupKind) → chain_in last before line ≡ Ok row → ChainStop version last (number + 1) row.delay others e → ChainStop version last number before (line ∷ others) e
+chain_later version last number before line others row e ok more =
     let found = row_found last before line row ok in
     let next = (row_is last before row row (chain_row last before line row ok)).1 in
     let place = more.place in
@@ -248,17 +256,17 @@ chain_later last number before line others row e ok more =
       why = more.why;
     }
 
--- the line of a chain that is refused is there, and isn't the fifth
-chain_at : (count last before : ℕ) (kind : SetupKind) (line next : List ℕ) (others : List (List ℕ)) → count < 4 → WhyChain last before kind line → StopsAtChain count last before kind (line ∷ next ∷ others)
-chain_at count last before BadLine line next others few why = (few, λ e. cc, why)
-chain_at count last before BadNumber line next others few why = (few, λ e. cc, why)
-chain_at count last before BadHex line next others few why = (few, λ e. cc, why)
-chain_at count last before NoChain line next others few why = absurd why
-chain_at count last before TooManyChains line next others few why = absurd why
-chain_at count last before DelaysNotRising line next others few why = (few, λ e. cc, why)
-chain_at count last before IndexPastLast line next others few why = (few, λ e. cc, why)
-chain_at count last before LimitPassed line next others few why = (few, λ e. cc, why)
-chain_at count last before TooLong line next others few why = absurd why
+-- the line of a chain that is refused is there, and isn't past the last that there may be
+chain_at : (most count last before : ℕ) (kind : SetupKind) (line next : List ℕ) (others : List (List ℕ)) → count < most → WhyChain last before kind line → StopsAtChain most count last before kind (line ∷ next ∷ others)
+chain_at most count last before BadLine line next others few why = (few, λ e. cc, why)
+chain_at most count last before BadNumber line next others few why = (few, λ e. cc, why)
+chain_at most count last before BadHex line next others few why = (few, λ e. cc, why)
+chain_at most count last before NoChain line next others few why = absurd why
+chain_at most count last before TooManyChains line next others few why = absurd why
+chain_at most count last before DelaysNotRising line next others few why = (few, λ e. cc, why)
+chain_at most count last before IndexPastLast line next others few why = (few, λ e. cc, why)
+chain_at most count last before LimitPassed line next others few why = (few, λ e. cc, why)
+chain_at most count last before TooLong line next others few why = absurd why
 
 -- which of the three refusals the end of a text has
 end_why : (none first over : Bool) (number : ℕ) (e : ℕ × SetupKind) → cond none (no_row number first) (no_line number over) ≡ Err e → ((none ≡ true) × (first ≡ true) × ((number, NoChain) ≡ e)) ⊎ ((none ≡ false) × (((over ≡ true) × ((number, TooManyChains) ≡ e)) ⊎ ((over ≡ false) × ((number, BadLine) ≡ e))))
@@ -273,48 +281,48 @@ not_nothing [] some e = cc
 not_nothing (b ∷ text) some e = cc
 
 -- the end of a text stops the chains
-end_stops : (last number before : ℕ) (unended : List ℕ) (e : ℕ × SetupKind) → 6 ≤ number → number ≤ 10 → cond (eqb (length unended) 0) (no_row number (eqb number 6)) (no_line number (eqb number 10)) ≡ Err e → ChainStop last number before (unended ∷ []) e
-end_stops last number before unended e low high h =
-    elim (end_why (eqb (length unended) 0) (eqb number 6) (eqb number 10) number e h) [
+end_stops : (version : Version) (last number before : ℕ) (unended : List ℕ) (e : ℕ × SetupKind) → first_line version ≤ number → number ≤ end_line version → cond (eqb (length unended) 0) (no_row number (eqb number (first_line version))) (no_line number (eqb number (end_line version))) ≡ Err e → ChainStop version last number before (unended ∷ []) e
+end_stops version last number before unended e low high h =
+    elim (end_why (eqb (length unended) 0) (eqb number (first_line version)) (eqb number (end_line version)) number e h) [
       | inl none ↦
           let nothing : unended ≡ [] = nothing_is unended (grind (arith, nat_tests, none.0)) in
-          let six : number ≡ 6 = grind (arith, nat_tests, none.1) in
-          subst (λ (d : ℕ × SetupKind). ChainStop last number before (unended ∷ []) d) none.2 (chain_now last number before (unended ∷ []) (number, NoChain) (omega arith, ap (λ (t : List ℕ). t ∷ []) nothing) refl)
+          let six : number ≡ first_line version = grind (arith, nat_tests, none.1) in
+          subst (λ (d : ℕ × SetupKind). ChainStop version last number before (unended ∷ []) d) none.2 (chain_now version last number before (unended ∷ []) (number, NoChain) (omega arith, ap (λ (t : List ℕ). t ∷ []) nothing) refl)
       | inr some ↦
           elim some.1 [
             | inl over ↦
-                let ten : number ≡ 10 = grind (arith, nat_tests, over.0) in
-                subst (λ (d : ℕ × SetupKind). ChainStop last number before (unended ∷ []) d) over.1 (chain_now last number before (unended ∷ []) (number, TooManyChains) (omega arith, omega arith, not_nothing unended some.0) refl)
+                let ten : number ≡ end_line version = grind (arith, nat_tests, over.0) in
+                subst (λ (d : ℕ × SetupKind). ChainStop version last number before (unended ∷ []) d) over.1 (chain_now version last number before (unended ∷ []) (number, TooManyChains) (omega arith, omega arith, not_nothing unended some.0) refl)
             | inr bad ↦
-                let ne : number ≢ 10 = grind (arith, nat_tests, bad.0) in
-                subst (λ (d : ℕ × SetupKind). ChainStop last number before (unended ∷ []) d) bad.1 (chain_now last number before (unended ∷ []) (number, BadLine) (omega arith, not_nothing unended some.0, refl) refl)
+                let ne : number ≢ end_line version = grind (arith, nat_tests, bad.0) in
+                subst (λ (d : ℕ × SetupKind). ChainStop version last number before (unended ∷ []) d) bad.1 (chain_now version last number before (unended ∷ []) (number, BadLine) (omega arith, not_nothing unended some.0, refl) refl)
           ]
     ]
 
 -- a test that refuses, or the refusal behind it
-guard_err : {A E : Type 0} (b : Bool) (x : E) (r : Result A E) (e : E) → cond b (Err x) r ≡ Err e → ((b ≡ true) × (x ≡ e)) ⊎ ((b ≡ false) × (r ≡ Err e))
+pub guard_err : {A E : Type 0} (b : Bool) (x : E) (r : Result A E) (e : E) → cond b (Err x) r ≡ Err e → ((b ≡ true) × (x ≡ e)) ⊎ ((b ≡ false) × (r ≡ Err e))
 guard_err {A = A} true x r e h = inl (refl, err_is {A = A} x e (Err x) refl h)
 guard_err false x r e h = inr (refl, h)
 
 -- the lines of chains stop where they are refused
-pub chains_stop : (last number before : ℕ) (parts : List (List ℕ)) (e : ℕ × SetupKind) → 6 ≤ number → number ≤ 10 → 0 < length parts → chains_judged last number before parts ≡ Err e → ChainStop last number before parts e
+pub chains_stop : (version : Version) (last number before : ℕ) (parts : List (List ℕ)) (e : ℕ × SetupKind) → first_line version ≤ number → number ≤ end_line version → 0 < length parts → chains_judged version last number before parts ≡ Err e → ChainStop version last number before parts e
 unfolding chains_judged
-chains_stop last number before [] e low high some h = absurd (omega arith)
-chains_stop last number before (unended ∷ []) e low high some h = end_stops last number before unended e low high h
-chains_stop last number before (line ∷ next ∷ others) e low high some h =
-    elim (guard_err (eqb number 10) (number, TooManyChains) (at number (chain_in last before line) >>= λ row. chains_judged last (number + 1) row.delay (next ∷ others) >>= λ rows. Ok (row ∷ rows)) e h) [
+chains_stop version last number before [] e low high some h = absurd (omega arith)
+chains_stop version last number before (unended ∷ []) e low high some h = end_stops version last number before unended e low high h
+chains_stop version last number before (line ∷ next ∷ others) e low high some h =
+    elim (guard_err (eqb number (end_line version)) (number, TooManyChains) (at number (chain_in last before line) >>= λ row. chains_judged version last (number + 1) row.delay (next ∷ others) >>= λ rows. Ok (row ∷ rows)) e h) [
       | inl over ↦
-          let ten : number ≡ 10 = grind (arith, nat_tests, over.0) in
-          subst (λ (d : ℕ × SetupKind). ChainStop last number before (line ∷ next ∷ others) d) over.1 (chain_now last number before (line ∷ next ∷ others) (number, TooManyChains) (omega arith, omega arith, λ e. cc) refl)
+          let ten : number ≡ end_line version = grind (arith, nat_tests, over.0) in
+          subst (λ (d : ℕ × SetupKind). ChainStop version last number before (line ∷ next ∷ others) d) over.1 (chain_now version last number before (line ∷ next ∷ others) (number, TooManyChains) (omega arith, omega arith, λ e. cc) refl)
       | inr on ↦
-          let ne : number ≢ 10 = grind (arith, nat_tests, on.0) in
-          by_steps (λ (d : ℕ × SetupKind). ChainStop last number before (line ∷ next ∷ others) d) (at number (chain_in last before line)) (λ row. chains_judged last (number + 1) row.delay (next ∷ others) >>= λ rows. Ok (row ∷ rows)) e
+          let ne : number ≢ end_line version = grind (arith, nat_tests, on.0) in
+          by_steps (λ (d : ℕ × SetupKind). ChainStop version last number before (line ∷ next ∷ others) d) (at number (chain_in last before line)) (λ row. chains_judged version last (number + 1) row.delay (next ∷ others) >>= λ rows. Ok (row ∷ rows)) e
           (λ d refused.
           let a = at_why number (chain_in last before line) d refused in
-          chain_now last number before (line ∷ next ∷ others) d (chain_at (number - 6) last before d.1 line next others (omega arith) (chain_why last before line d.1 a.1)) a.0)
+          chain_now version last number before (line ∷ next ∷ others) d (chain_at (most_chains version) (number - first_line version) last before d.1 line next others (omega arith) (chain_why last before line d.1 a.1)) a.0)
           (λ row ok d refused.
-          by_steps (λ (k : ℕ × SetupKind). ChainStop last number before (line ∷ next ∷ others) k) (chains_judged last (number + 1) row.delay (next ∷ others)) (λ rows. Ok (row ∷ rows)) d
-          (λ k end. chain_later last number before line (next ∷ others) row k (at_ok number (chain_in last before line) row ok) (chains_stop last (number + 1) row.delay (next ∷ others) k (omega arith) (omega arith) (omega arith) end))
+          by_steps (λ (k : ℕ × SetupKind). ChainStop version last number before (line ∷ next ∷ others) k) (chains_judged version last (number + 1) row.delay (next ∷ others)) (λ rows. Ok (row ∷ rows)) d
+          (λ k end. chain_later version last number before line (next ∷ others) row k (at_ok number (chain_in last before line) row ok) (chains_stop version last (number + 1) row.delay (next ∷ others) k (omega arith) (omega arith) (omega arith) end))
           (λ rows found k end. absurd cc)
           refused)
           on.1
@@ -322,49 +330,97 @@ chains_stop last number before (line ∷ next ∷ others) e low high some h =
 
 -- ---- the whole text
 
+-- a text stops at the line of the tags' length
+tag_stops : (version : Version) (text parts : List (List ℕ)) (stream : ℕ) (times : Times) (e : ℕ × SetupKind) → 0 < length parts → IsHead (known version stream times) → text ≡ take 5 (head_lines (known version stream times)) ++ parts → tag_judged version parts ≡ Err e → Stops text e
+unfolding tag_judged
+tag_stops One text parts stream times e some limits front h = absurd cc
+tag_stops Two text parts stream times e some limits front h =
+    by_steps (λ (d : ℕ × SetupKind). Stops text d) (next_line 6 parts) (λ six. at 6 (limited_in (codes "tag") (shortest_tag Two) (longest_tag Two) six.0) >>= λ size. Ok (size, six.1)) e
+    (λ d refused. head_stops text 5 (known Two stream times) parts d limits (omega arith) front (next_why (why_head 5) 6 parts d some refused))
+    (λ six taken d refused.
+    by_steps (λ (k : ℕ × SetupKind). Stops text k) (at 6 (limited_in (codes "tag") (shortest_tag Two) (longest_tag Two) six.0)) (λ size. Ok (size, six.1)) d
+    (λ k end. head_stops text 5 (known Two stream times) parts k limits (omega arith) front (line_why (why_head 5) 6 parts six (limited_in (codes "tag") (shortest_tag Two) (longest_tag Two) six.0) k taken (λ j r. limited_why (codes "tag") (shortest_tag Two) (longest_tag Two) six.0 j r) end))
+    (λ size ok k end. absurd cc)
+    refused)
+    h
+
+-- the line of the tags' length where it isn't refused
+tag_front : (version : Version) (parts : List (List ℕ)) (x : ℕ × List (List ℕ)) → 0 < length parts → tag_judged version parts ≡ Ok x → (parts ≡ tag_lines version x.0 ++ x.1) × IsTagLength version x.0 × (0 < length x.1)
+unfolding tag_judged
+tag_front One parts x some h =
+    let made : ℕ × List (List ℕ) = (longest_tag One, parts) in
+    subst (λ (y : ℕ × List (List ℕ)). (parts ≡ tag_lines One y.0 ++ y.1) × IsTagLength One y.0 × (0 < length y.1)) (ok_is made x (Ok made) refl h) (refl, longest_is One, some)
+tag_front Two parts x some h =
+    let six = bind_ok (next_line 6 parts) (λ six. at 6 (limited_in (codes "tag") (shortest_tag Two) (longest_tag Two) six.0) >>= λ size. Ok (size, six.1)) x h in
+    let size = bind_ok (at 6 (limited_in (codes "tag") (shortest_tag Two) (longest_tag Two) six.0.0)) (λ size. Ok (size, six.0.1)) x six.2 in
+    let said = limited_found (codes "tag") (shortest_tag Two) (longest_tag Two) six.0.0 size.0 (at_ok 6 (limited_in (codes "tag") (shortest_tag Two) (longest_tag Two) six.0.0) size.0 size.1) in
+    let taken = line_taken 6 parts six.0 six.1 in
+    let made : ℕ × List (List ℕ) = (size.0, six.0.1) in
+    subst (λ (y : ℕ × List (List ℕ)). (parts ≡ tag_lines Two y.0 ++ y.1) × IsTagLength Two y.0 × (0 < length y.1)) (ok_is made x (Ok made) refl size.2)
+    (grown parts [] parts six.0.1 six.0.0 (codes "tag" ++ 32 ∷ decimal size.0) refl taken.0 said.0, record { shortest = said.1; longest = said.2 }, taken.1)
+
 -- a text stops at a line of its chains
-chains_whole : (text parts : List (List ℕ)) (stream : StreamId) (times : Times) (e : ℕ × SetupKind) → IsHead (known stream.0 times) → text ≡ head_lines (known stream.0 times) ++ parts → 0 < length parts → chains_judged times.last 6 0 parts ≡ Err e → Stops text e
-chains_whole text parts stream times e limits front some h =
-    let c = chains_stop times.last 6 0 parts e (omega arith) (omega arith) some h in
+chains_whole : (text others : List (List ℕ)) (head : Parts) (e : ℕ × SetupKind) → IsHead head → text ≡ head_lines head ++ others → 0 < length others → chains_judged head.version head.times.last (first_line head.version) 0 others ≡ Err e → Stops text e
+chains_whole text others head e limits front some h =
+    let first = first_line head.version in
+    let bounds = first_bounds head.version in
+    let c = chains_stop head.version head.times.last first 0 others e (omega arith) (omega arith) some h in
     let place = c.place in
-    let count : e.0 - 6 ≡ length c.rows = omega arith in
-    let before : suc (5 + length c.rows) ≡ e.0 = omega arith in
+    let count : e.0 - first ≡ length c.rows = omega arith in
+    let before : suc ((first - 1) + length c.rows) ≡ e.0 = omega (arith, bounds.0) in
     subst (λ (n : ℕ). StopsAt text n e.1) before (inr (record {
-      parts = record { stream = stream; times = times; rows = c.rows };
-      limits = record { stream = limits.stream; start = limits.start; times = limits.times };
+      parts = record { version = head.version; stream = head.stream; times = head.times; tag_length = head.tag_length; rows = c.rows };
+      limits = record { stream = limits.stream; start = limits.start; times = limits.times; tag_length = limits.tag_length };
       each = c.each;
       rise = rise_is 0 c.rows c.rise;
       keys = c.keys;
-      count = refl;
+      count = omega (arith, bounds.0);
       rest = c.rest;
-      spelled = front ∙ ap (λ (r : List (List ℕ)). head_lines (known stream.0 times) ++ r) c.spelled;
-      why = subst (λ (n : ℕ). StopsAtChain n times.last (last_delay 0 c.rows) e.1 c.rest) count c.why;
+      spelled = front ∙ ap (λ (r : List (List ℕ)). head_lines head ++ r) c.spelled ∙ sym (append_assoc (head_lines head) (map chain_text c.rows) c.rest);
+      why = subst (λ (n : ℕ). StopsAtChain (most_chains head.version) n head.times.last (last_delay 0 c.rows) e.1 c.rest) count c.why;
     }))
+
+abbrev pub whole_setup : Version → StreamId → Times → ℕ → List ChainRow → Result Parts (ℕ × SetupKind)
+whole_setup version stream times size rows = Ok (record { version = version; stream = stream; times = times; tag_length = size; rows = rows })
+
+-- a text stops behind the lines of the intervals
+rest_stops : (version : Version) (text others : List (List ℕ)) (stream : StreamId) (times : Times) (e : ℕ × SetupKind) → 0 < length others → IsHead (known version stream.0 times) → text ≡ take 5 (head_lines (known version stream.0 times)) ++ others → rest_judged version stream times others ≡ Err e → Stops text e
+unfolding rest_judged
+rest_stops version text others stream times e some limits front h =
+    by_steps (λ (d : ℕ × SetupKind). Stops text d) (tag_judged version others) (λ tag. chains_judged version times.last (first_line version) 0 tag.1 >>= λ rows. whole_setup version stream times tag.0 rows) e
+    (λ d refused. tag_stops version text others stream.0 times d some limits front refused)
+    (λ tag ok d refused.
+    let t = tag_front version others tag some ok in
+    let head : Parts = record { version = version; stream = stream; times = times; tag_length = tag.0; rows = [] } in
+    let whole : text ≡ head_lines head ++ tag.1 = front ∙ ap (λ (r : List (List ℕ)). take 5 (head_lines (known version stream.0 times)) ++ r) t.0 in
+    by_steps (λ (k : ℕ × SetupKind). Stops text k) (chains_judged version times.last (first_line version) 0 tag.1) (λ rows. whole_setup version stream times tag.0 rows) d
+    (λ k stop. chains_whole text tag.1 head k (record { stream = limits.stream; start = limits.start; times = limits.times; tag_length = t.1 }) whole t.2 stop)
+    (λ rows are k stop. absurd cc)
+    refused)
+    h
 
 -- a text within its length that stops is refused there
 refused_at : (text : List ℕ) (number : ℕ) (kind : SetupKind) → length text ≤ 4096 → StopsAt (lines text) number kind → IsRefused text number kind
 refused_at text zero kind short h = absurd h
 refused_at text (suc before) kind short h = (short, h)
 
-abbrev pub whole_setup : StreamId → Times → List ChainRow → Result Parts (ℕ × SetupKind)
-whole_setup stream times rows = Ok (record { stream = stream; times = times; rows = rows })
+-- what is judged of the lines of a text
+abbrev pub whole : List (List ℕ) → Result Parts (ℕ × SetupKind)
+whole text = opening_judged text >>= λ opening. times_judged opening.2 >>= λ times. rest_judged opening.0 opening.1 times.0 times.1
 
 -- the lines of a text stop where they are refused
-lines_stop : (text : List (List ℕ)) (e : ℕ × SetupKind) → 0 < length text → (opening_judged text >>= λ opening. times_judged opening.1 >>= λ times. chains_judged times.0.last 6 0 times.1 >>= λ rows. whole_setup opening.0 times.0 rows) ≡ Err e → Stops text e
+lines_stop : (text : List (List ℕ)) (e : ℕ × SetupKind) → 0 < length text → whole text ≡ Err e → Stops text e
 lines_stop text e some h =
-    by_steps (λ (d : ℕ × SetupKind). Stops text d) (opening_judged text) (λ opening. times_judged opening.1 >>= λ times. chains_judged times.0.last 6 0 times.1 >>= λ rows. whole_setup opening.0 times.0 rows) e
+    by_steps (λ (d : ℕ × SetupKind). Stops text d) (opening_judged text) (λ opening. times_judged opening.2 >>= λ times. rest_judged opening.0 opening.1 times.0 times.1) e
     (λ d refused. opening_stops text d some refused)
     (λ opening ok d refused.
     let o = opening_front text opening ok in
-    by_steps (λ (k : ℕ × SetupKind). Stops text k) (times_judged opening.1) (λ times. chains_judged times.0.last 6 0 times.1 >>= λ rows. whole_setup opening.0 times.0 rows) d
-    (λ k end. times_stops text opening.1 opening.0.0 k o.2 o.1 o.0 end)
+    by_steps (λ (k : ℕ × SetupKind). Stops text k) (times_judged opening.2) (λ times. rest_judged opening.0 opening.1 times.0 times.1) d
+    (λ k end. times_stops opening.0 text opening.2 opening.1.0 k o.2 o.1 o.0 end)
     (λ times found k end.
-    let t = times_front opening.1 times found in
-    let front : text ≡ head_lines (known opening.0.0 times.0) ++ times.1 = o.0 ∙ ap (λ (r : List (List ℕ)). codes "tesla 1" ∷ stream_line opening.0.0 ∷ r) t.spelled in
-    by_steps (λ (j : ℕ × SetupKind). Stops text j) (chains_judged times.0.last 6 0 times.1) (λ rows. whole_setup opening.0 times.0 rows) k
-    (λ j stop. chains_whole text times.1 opening.0 times.0 j (record { stream = o.1; start = t.start; times = t.limits }) front t.more stop)
-    (λ rows are j stop. absurd cc)
-    end)
+    let t = times_front opening.2 times found in
+    let front : text ≡ take 5 (head_lines (known opening.0 opening.1.0 times.0)) ++ times.1 = o.0 ∙ ap (λ (r : List (List ℕ)). title opening.0 ∷ stream_line opening.1.0 ∷ r) t.spelled in
+    rest_stops opening.0 text times.1 opening.1 times.0 k t.more (record { stream = o.1; start = t.start; times = t.limits; tag_length = longest_is opening.0 }) front end)
     refused)
     h
 
@@ -372,7 +428,7 @@ lines_stop text e some h =
 pub judged_refused : (text : List ℕ) (number : ℕ) (kind : SetupKind) → judged text ≡ Err (number, kind) → IsRefused text number kind
 unfolding judged
 judged_refused text number kind h =
-    elim (guard_err (ltb 4096 (length text)) (0, TooLong) (opening_judged (lines text) >>= λ opening. times_judged opening.1 >>= λ times. chains_judged times.0.last 6 0 times.1 >>= λ rows. whole_setup opening.0 times.0 rows) (number, kind) h) [
+    elim (guard_err (ltb 4096 (length text)) (0, TooLong) (whole (lines text)) (number, kind) h) [
       | inl long ↦
           let above : 4096 < length text = grind (arith, nat_tests, long.0) in
           subst (λ (d : ℕ × SetupKind). IsRefused text d.0 d.1) long.1 (refl, above)

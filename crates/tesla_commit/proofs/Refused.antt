@@ -4,15 +4,16 @@ use Rattle.std.specs.Prelude.{codes, decimal, nat_lt, nat_le}
 use Rattle.std.specs.Str.{bytes_eq}
 use Rattle.std.proofs.lemmas.Bool.Decides.{nat_tests}
 use Rattle.hex.specs.Hex.{encode_lower}
+use Rattle.tesla_commit.specs.JudgedLines.{within}
 use Rattle.tesla_commit.specs.ChainRows.{row_judged}
-use Rattle.tesla_commit.specs.Parsing.{words, value_in, chain_words, number_in, within, hex_in, title_in, stream_in, start_in, limited_in, chain_in}
+use Rattle.tesla_commit.specs.Parsing.{words, value_in, chain_words, number_in, hex_in, title_in, stream_in, start_in, limited_in, chain_in}
 use Rattle.tesla_commit.specs.SetupRefused.{IsNoDecimal, IsNoHex, IsOutside, WhyTitle, WhyStream, WhyNumber, HasWords, WhyChain}
 use Rattle.tesla_commit.specs.declared.chain_row.ChainRow.{ChainRow}
 use Rattle.tesla_commit.specs.declared.refusal.SetupKind.{SetupKind}
 use Rattle.tesla_commit.specs.declared.refusal.SetupKind.TheVariants.{BadLine, BadNumber, BadHex, NoChain, TooManyChains, DelaysNotRising, IndexPastLast, LimitPassed, TooLong}
 use Rattle.tesla_commit.proofs.Spelled.{title_found, number_found, within_found, hex_found}
 use Rattle.tesla_commit.proofs.Spelling.{same_bytes, number_again, within_again, hex_again}
-use Rattle.tesla_commit.proofs.Causes.{test_err, value_is, value_why, number_why, hex_why, within_why, words_why, words_are}
+use Rattle.tesla_commit.proofs.Causes.{title_err, value_is, value_why, number_why, hex_why, within_why, words_why, words_are}
 
 -- what can't be taken, and is refused with one kind alone, is refused with it
 refused_by : {A : Type 0} (r : Result A SetupKind) (kind : SetupKind) → ((x : A) → r ≡ Ok x → ⊥) → ((k : SetupKind) → r ≡ Err k → kind ≡ k) → r ≡ Err kind
@@ -21,16 +22,16 @@ refused_by (Err k) kind never same = ap Err (sym (same k refl))
 
 -- ---- words
 
-value_taken : (name word : List ℕ) (parts : List (List ℕ)) → parts ≡ name ∷ word ∷ [] → value_in name parts ≡ Ok word
+pub value_taken : (name word : List ℕ) (parts : List (List ℕ)) → parts ≡ name ∷ word ∷ [] → value_in name parts ≡ Ok word
 value_taken name word parts h = rw (h, same_bytes name) refl
 
-value_refused : (name : List ℕ) (parts : List (List ℕ)) → ((word : List ℕ) → parts ≢ name ∷ word ∷ []) → value_in name parts ≡ Err BadLine
+pub value_refused : (name : List ℕ) (parts : List (List ℕ)) → ((word : List ℕ) → parts ≢ name ∷ word ∷ []) → value_in name parts ≡ Err BadLine
 value_refused name parts never = refused_by (value_in name parts) BadLine (λ w ok. never w (value_is name parts w ok)) (λ k e. (value_why name parts k e).0)
 
 number_refused : (word : List ℕ) → IsNoDecimal word → number_in word ≡ Err BadNumber
 number_refused word never = refused_by (number_in word) BadNumber (λ n ok. let f = number_found word n ok in never n f.1 f.0) (λ k e. (number_why word k e).0)
 
-hex_refused : (count : ℕ) (word : List ℕ) → IsNoHex count word → hex_in count word ≡ Err BadHex
+pub hex_refused : (count : ℕ) (word : List ℕ) → IsNoHex count word → hex_in count word ≡ Err BadHex
 hex_refused count word never = refused_by (hex_in count word) BadHex (λ bytes ok. let f = hex_found count word bytes ok in never bytes f.whole f.fits f.text) (λ k e. (hex_why count word k e).0)
 
 -- a number isn't both within limits and outside
@@ -45,7 +46,7 @@ within_refused least most n out =
 -- ---- lines
 
 pub title_refused : (kind : SetupKind) (line : List ℕ) → WhyTitle kind line → title_in line ≡ Err kind
-title_refused BadLine line why = refused_by (title_in line) BadLine (λ x ok. why (title_found line x ok)) (λ k e. (test_err (bytes_eq line (codes "tesla 1")) tt BadLine k e).1)
+title_refused BadLine line why = refused_by (title_in line) BadLine (λ version ok. why version (title_found line version ok)) (λ k e. (title_err (bytes_eq line (codes "tesla 1")) (bytes_eq line (codes "tesla 2")) k e).2)
 title_refused BadNumber line why = absurd why
 title_refused BadHex line why = absurd why
 title_refused NoChain line why = absurd why

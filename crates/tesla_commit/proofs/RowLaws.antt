@@ -5,10 +5,13 @@ use Rattle.std.specs.List.{AllByRecursion}
 use Rattle.std.proofs.lemmas.Bool.Decides.{nat_tests}
 use Rattle.std.proofs.lemmas.List.{append-nil, take_more, take_all, drop_all}
 use Rattle.std.proofs.Math.Seq.{drop-cons}
+use Rattle.tesla_base.specs.Version.{IsTagLength}
+use Rattle.tesla_base.specs.declared.version.Version.{Version}
+use Rattle.tesla_base.specs.declared.version.Version.TheVariants.{One, Two}
 use Rattle.tesla_clock.specs.Schedule.{IsSchedule}
 use Rattle.tesla_commit.specs.Parts.{Parts, IsRow, DelaysRise, IsSetupOf}
 use Rattle.tesla_commit.specs.JudgedLines.{◌>>=◌, at}
-use Rattle.tesla_commit.specs.ChainRows.{row_judged, rows_judged}
+use Rattle.tesla_commit.specs.ChainRows.{row_judged, first_line, end_line, rows_judged}
 use Rattle.tesla_commit.specs.SetupText.{HasKey}
 use Rattle.tesla_commit.specs.declared.chain_row.ChainRow.{ChainRow}
 use Rattle.tesla_commit.specs.declared.refusal.SetupKind.{SetupKind}
@@ -29,7 +32,7 @@ pub guard_ok : {A E : Type 0} (b : Bool) (e : E) (r : Result A E) (x : A) → co
 guard_ok true e r x h = absurd cc
 guard_ok false e r x h = (refl, h)
 
-pub at_ok : {A : Type 0} (line : ℕ) (r : Result A SetupKind) (x : A) → at line r ≡ Ok x → r ≡ Ok x
+pub at_ok : {A E : Type 0} (line : ℕ) (r : Result A E) (x : A) → at line r ≡ Ok x → r ≡ Ok x
 at_ok line (Ok y) x h = cc
 at_ok line (Err kind) x h = absurd cc
 
@@ -72,42 +75,54 @@ onto_first front x (Err e) = refl
 pub not_line : (line other : ℕ) → line ≢ other → eqb line other ≡ false
 not_line line other h = grind (arith, nat_tests)
 
-pub rows_step : (last line before : ℕ) (front rows : List ChainRow) (row other : ChainRow) → line ≢ 10 → row_judged last before row ≡ Ok other → onto front (rows_judged last line before (row ∷ rows)) ≡ onto (front ++ row ∷ []) (rows_judged last (line + 1) row.delay rows)
+-- line 6 or 7 is that of the first chain
+pub first_bounds : (version : Version) → (6 ≤ first_line version) × (first_line version ≤ 7)
+first_bounds One = (omega arith, omega arith)
+first_bounds Two = (omega arith, omega arith)
+
+pub same_line : (line other : ℕ) → line ≡ other → eqb line other ≡ true
+same_line line other h = grind (arith, nat_tests)
+
+pub rows_step : (version : Version) (last line before : ℕ) (front rows : List ChainRow) (row other : ChainRow) → line ≢ end_line version → row_judged last before row ≡ Ok other → onto front (rows_judged version last line before (row ∷ rows)) ≡ onto (front ++ row ∷ []) (rows_judged version last (line + 1) row.delay rows)
 unfolding rows_judged
-rows_step last line before front rows row other ne h =
+rows_step version last line before front rows row other ne h =
     let e = (row_is last before row other h).0 in
     let judged : row_judged last before row ≡ Ok row = h ∙ ap Ok (sym e) in
-    let test = not_line line 10 ne in
-    rw (test, judged) (onto_first front row (rows_judged last (line + 1) row.delay rows))
+    let test = not_line line (end_line version) ne in
+    rw (test, judged) (onto_first front row (rows_judged version last (line + 1) row.delay rows))
 
-pub rows_refused : (last line before : ℕ) (front rows : List ChainRow) (row : ChainRow) (kind : SetupKind) → line ≢ 10 → row_judged last before row ≡ Err kind → onto front (rows_judged last line before (row ∷ rows)) ≡ Err (line, kind)
+pub rows_refused : (version : Version) (last line before : ℕ) (front rows : List ChainRow) (row : ChainRow) (kind : SetupKind) → line ≢ end_line version → row_judged last before row ≡ Err kind → onto front (rows_judged version last line before (row ∷ rows)) ≡ Err (line, kind)
 unfolding rows_judged
-rows_refused last line before front rows row kind ne h =
-    let test = not_line line 10 ne in
+rows_refused version last line before front rows row kind ne h =
+    let test = not_line line (end_line version) ne in
     rw (test, h) refl
 
-pub rows_over : (last before : ℕ) (front rows : List ChainRow) (row : ChainRow) → onto front (rows_judged last 10 before (row ∷ rows)) ≡ Err (10, TooManyChains)
+pub rows_over : (version : Version) (last line before : ℕ) (front rows : List ChainRow) (row : ChainRow) → line ≡ end_line version → onto front (rows_judged version last line before (row ∷ rows)) ≡ Err (line, TooManyChains)
 unfolding rows_judged
-rows_over last before front rows row = refl
+rows_over version last line before front rows row e =
+    let test = same_line line (end_line version) e in
+    rw test refl
 
-pub rows_none : (last before : ℕ) (front : List ChainRow) → onto front (rows_judged last 6 before []) ≡ Err (6, NoChain)
+pub rows_none : (version : Version) (last line before : ℕ) (front : List ChainRow) → line ≡ first_line version → onto front (rows_judged version last line before []) ≡ Err (line, NoChain)
 unfolding rows_judged
-rows_none last before front = refl
+rows_none version last line before front e =
+    let test = same_line line (first_line version) e in
+    rw test refl
 
-pub rows_end : (last line before : ℕ) (front : List ChainRow) → line ≢ 6 → onto front (rows_judged last line before []) ≡ Ok front
+pub rows_end : (version : Version) (last line before : ℕ) (front : List ChainRow) → line ≢ first_line version → onto front (rows_judged version last line before []) ≡ Ok front
 unfolding rows_judged
-rows_end last line before front ne =
-    let test = not_line line 6 ne in
+rows_end version last line before front ne =
+    let test = not_line line (first_line version) ne in
     rw test (ap Ok (append-nil front))
 
 from_place : (rows : List ChainRow) (i : ℕ) (d : ChainRow) → i < length rows → drop i rows ≡ get_or rows i d ∷ drop (i + 1) rows
 from_place rows i d lt = rw (add-one, drop-cons rows i d) refl
 
-pub at_step : (last line before i : ℕ) (rows : List ChainRow) (d other : ChainRow) → i < length rows → line ≢ 10 → row_judged last before (get_or rows i d) ≡ Ok other → onto (take i rows) (rows_judged last line before (drop i rows)) ≡ onto (take (i + 1) rows) (rows_judged last (line + 1) (get_or rows i d).delay (drop (i + 1) rows))
-at_step last line before i rows d other lt ne h =
+pub at_step : (version : Version) (last line before i : ℕ) (rows : List ChainRow) (d other : ChainRow) → i < length rows → line ≢ end_line version → row_judged last before (get_or rows i d) ≡ Ok other → onto (take i rows) (rows_judged version last line before (drop i rows)) ≡ onto (take (i + 1) rows) (rows_judged version last (line + 1) (get_or rows i d).delay (drop (i + 1) rows))
+at_step version last line before i rows d other lt ne h =
     let e = from_place rows i d lt in
     let t : take (i + 1) rows ≡ take i rows ++ get_or rows i d ∷ [] = take_more rows i d lt in
-    rw (e, t) (rows_step last line before (take i rows) (drop (i + 1) rows) (get_or rows i d) other ne h)
+    rw (e, t) (rows_step version last line before (take i rows) (drop (i + 1) rows) (get_or rows i d) other ne h)
 
 -- one row more that has what the others have
 all_more : {X : Type 0} (P : X → Type 0) (xs : List X) (x : X) → AllByRecursion P xs → P x → AllByRecursion P (xs ++ x ∷ [])
@@ -120,19 +135,19 @@ keys_more last before i rows d other lt judged key keys =
     let same : HasKey (get_or rows i d) = subst HasKey (sym (row_is last before (get_or rows i d) other judged).0) key in
     subst (λ (rs : List ChainRow). AllByRecursion HasKey rs) (sym (take_more rows i d lt)) (all_more HasKey (take i rows) (get_or rows i d) keys same)
 
-pub at_refused : (last line before i : ℕ) (rows : List ChainRow) (d : ChainRow) (kind : SetupKind) → i < length rows → line ≢ 10 → row_judged last before (get_or rows i d) ≡ Err kind → onto (take i rows) (rows_judged last line before (drop i rows)) ≡ Err (line, kind)
-at_refused last line before i rows d kind lt ne h =
-    rw (from_place rows i d lt) (rows_refused last line before (take i rows) (drop (i + 1) rows) (get_or rows i d) kind ne h)
+pub at_refused : (version : Version) (last line before i : ℕ) (rows : List ChainRow) (d : ChainRow) (kind : SetupKind) → i < length rows → line ≢ end_line version → row_judged last before (get_or rows i d) ≡ Err kind → onto (take i rows) (rows_judged version last line before (drop i rows)) ≡ Err (line, kind)
+at_refused version last line before i rows d kind lt ne h =
+    rw (from_place rows i d lt) (rows_refused version last line before (take i rows) (drop (i + 1) rows) (get_or rows i d) kind ne h)
 
-pub at_over : (last line before i : ℕ) (rows : List ChainRow) (d : ChainRow) → i < length rows → line ≡ 10 → onto (take i rows) (rows_judged last line before (drop i rows)) ≡ Err (line, TooManyChains)
-at_over last line before i rows d lt e =
-    rw (e, from_place rows i d lt) (rows_over last before (take i rows) (drop (i + 1) rows) (get_or rows i d))
+pub at_over : (version : Version) (last line before i : ℕ) (rows : List ChainRow) (d : ChainRow) → i < length rows → line ≡ end_line version → onto (take i rows) (rows_judged version last line before (drop i rows)) ≡ Err (line, TooManyChains)
+at_over version last line before i rows d lt e =
+    rw (from_place rows i d lt) (rows_over version last line before (take i rows) (drop (i + 1) rows) (get_or rows i d) e)
 
-pub at_none : (last line before i : ℕ) (rows : List ChainRow) → length rows ≤ i → line ≡ 6 → onto (take i rows) (rows_judged last line before (drop i rows)) ≡ Err (line, NoChain)
-at_none last line before i rows le e = rw (e, drop_all i rows le) (rows_none last before (take i rows))
+pub at_none : (version : Version) (last line before i : ℕ) (rows : List ChainRow) → length rows ≤ i → line ≡ first_line version → onto (take i rows) (rows_judged version last line before (drop i rows)) ≡ Err (line, NoChain)
+at_none version last line before i rows le e = rw (drop_all i rows le) (rows_none version last line before (take i rows) e)
 
-pub at_end : (last line before i : ℕ) (rows : List ChainRow) → length rows ≤ i → line ≢ 6 → onto (take i rows) (rows_judged last line before (drop i rows)) ≡ Ok rows
-at_end last line before i rows le ne = rw (drop_all i rows le, take_all i rows le) (rows_end last line before rows ne)
+pub at_end : (version : Version) (last line before i : ℕ) (rows : List ChainRow) → length rows ≤ i → line ≢ first_line version → onto (take i rows) (rows_judged version last line before (drop i rows)) ≡ Ok rows
+at_end version last line before i rows le ne = rw (drop_all i rows le, take_all i rows le) (rows_end version last line before rows ne)
 
 -- ---- what rows that are not refused are
 
@@ -155,25 +170,25 @@ rise_again last [] each rise = tt
 rise_again last (row ∷ rows) each rise = (each.0.shortest, rise_after row rows rise)
 
 -- rows that are not refused from that line on
-pub record AreRows (last line before : ℕ) (rows : List ChainRow) : Type 0 where
-  pub some : 7 ≤ line + length rows
-  pub few : line + length rows ≤ 10
+pub record AreRows (version : Version) (last line before : ℕ) (rows : List ChainRow) : Type 0 where
+  pub some : first_line version < line + length rows
+  pub few : line + length rows ≤ end_line version
   pub each : AllByRecursion (IsRow last) rows
   pub rise : RiseFrom before rows
 
-pub rows_are : (last line before : ℕ) (rows other : List ChainRow) → 6 ≤ line → line ≤ 10 → rows_judged last line before rows ≡ Ok other → (rows ≡ other) × AreRows last line before rows
+pub rows_are : (version : Version) (last line before : ℕ) (rows other : List ChainRow) → first_line version ≤ line → line ≤ end_line version → rows_judged version last line before rows ≡ Ok other → (rows ≡ other) × AreRows version last line before rows
 unfolding rows_judged
-rows_are last line before [] other low high h =
-    let g = guard_ok (eqb line 6) (line, NoChain) (Ok []) other h in
-    let ne : line ≢ 6 = grind (arith, nat_tests, g.0) in
+rows_are version last line before [] other low high h =
+    let g = guard_ok (eqb line (first_line version)) (line, NoChain) (Ok []) other h in
+    let ne : line ≢ first_line version = grind (arith, nat_tests, g.0) in
     (ok_is [] other (Ok []) refl g.1, record { some = omega arith; few = omega arith; each = tt; rise = tt })
-rows_are last line before (row ∷ rows) other low high h =
-    let g = guard_ok (eqb line 10) (line, TooManyChains) (at line (row_judged last before row) >>= λ first. rows_judged last (line + 1) first.delay rows >>= λ others. Ok (first ∷ others)) other h in
-    let ne : line ≢ 10 = grind (arith, nat_tests, g.0) in
-    let a = bind_ok (at line (row_judged last before row)) (λ first. rows_judged last (line + 1) first.delay rows >>= λ others. Ok (first ∷ others)) other g.1 in
+rows_are version last line before (row ∷ rows) other low high h =
+    let g = guard_ok (eqb line (end_line version)) (line, TooManyChains) (at line (row_judged last before row) >>= λ first. rows_judged version last (line + 1) first.delay rows >>= λ others. Ok (first ∷ others)) other h in
+    let ne : line ≢ end_line version = grind (arith, nat_tests, g.0) in
+    let a = bind_ok (at line (row_judged last before row)) (λ first. rows_judged version last (line + 1) first.delay rows >>= λ others. Ok (first ∷ others)) other g.1 in
     let one = row_is last before row a.0 (at_ok line (row_judged last before row) a.0 a.1) in
-    let b = bind_ok (rows_judged last (line + 1) a.0.delay rows) (λ others. Ok (a.0 ∷ others)) other a.2 in
-    let two = rows_are last (line + 1) a.0.delay rows b.0 (omega arith) (omega arith) b.1 in
+    let b = bind_ok (rows_judged version last (line + 1) a.0.delay rows) (λ others. Ok (a.0 ∷ others)) other a.2 in
+    let two = rows_are version last (line + 1) a.0.delay rows b.0 (omega arith) (omega arith) b.1 in
     let same : row.delay ≡ a.0.delay = ap (λ (r : ChainRow). r.delay) one.0 in
     let whole : (row ∷ rows) ≡ other = ap (λ (r : ChainRow). r ∷ rows) one.0 ∙ ap (λ (rs : List ChainRow). a.0 ∷ rs) two.0 ∙ ok_is (a.0 ∷ b.0) other (Ok (a.0 ∷ b.0)) refl b.2 in (
       whole,
@@ -185,33 +200,33 @@ rows_are last line before (row ∷ rows) other low high h =
       },
     )
 
-pub rows_again : (last line before : ℕ) (rows : List ChainRow) → AreRows last line before rows → rows_judged last line before rows ≡ Ok rows
+pub rows_again : (version : Version) (last line before : ℕ) (rows : List ChainRow) → AreRows version last line before rows → rows_judged version last line before rows ≡ Ok rows
 unfolding rows_judged
-rows_again last line before [] h =
+rows_again version last line before [] h =
     let some = h.some in
-    let ne : line ≢ 6 = omega arith in
-    let test = not_line line 6 ne in
+    let ne : line ≢ first_line version = omega arith in
+    let test = not_line line (first_line version) ne in
     rw test refl
-rows_again last line before (row ∷ rows) h =
+rows_again version last line before (row ∷ rows) h =
     let few = h.few in
-    let ne : line ≢ 10 = omega arith in
-    let test = not_line line 10 ne in
+    let ne : line ≢ end_line version = omega arith in
+    let test = not_line line (end_line version) ne in
     let one = row_again last before row (record { limits = h.each.0; above = h.rise.0 }) in
     let some = h.some in
-    let two = rows_again last (line + 1) row.delay rows (record { some = omega arith; few = omega arith; each = h.each.1; rise = h.rise.1 }) in
+    let two = rows_again version last (line + 1) row.delay rows (record { some = omega arith; few = omega arith; each = h.each.1; rise = h.rise.1 }) in
     rw (test, one, two) refl
 
 -- ---- a setup of rows that are not refused
 
-pub setup_is : (parts : Parts) (other : List ChainRow) → parts.stream.0 < 2 ^ 64 → parts.times.start < 2 ^ 64 → IsSchedule parts.times → rows_judged parts.times.last 6 0 parts.rows ≡ Ok other → IsSetupOf parts
-setup_is parts other stream start times h =
-    let a = (rows_are parts.times.last 6 0 parts.rows other (omega arith) (omega arith) h).1 in
+pub setup_is : (parts : Parts) (other : List ChainRow) → parts.stream.0 < 2 ^ 64 → parts.times.start < 2 ^ 64 → IsSchedule parts.times → IsTagLength parts.version parts.tag_length → rows_judged parts.version parts.times.last (first_line parts.version) 0 parts.rows ≡ Ok other → IsSetupOf parts
+setup_is parts other stream start times tag h =
+    let a = (rows_are parts.version parts.times.last (first_line parts.version) 0 parts.rows other (omega arith) (omega arith) h).1 in
     let some = a.some in
     let few = a.few in
-    record { stream = stream; start = start; times = times; some = omega arith; few = omega arith; each = a.each; rise = rise_is 0 parts.rows a.rise }
+    record { stream = stream; start = start; times = times; tag_length = tag; some = omega arith; few = omega arith; each = a.each; rise = rise_is 0 parts.rows a.rise }
 
-pub setup_again : (parts : Parts) → IsSetupOf parts → rows_judged parts.times.last 6 0 parts.rows ≡ Ok parts.rows
+pub setup_again : (parts : Parts) → IsSetupOf parts → rows_judged parts.version parts.times.last (first_line parts.version) 0 parts.rows ≡ Ok parts.rows
 setup_again parts h =
     let some = h.some in
     let few = h.few in
-    rows_again parts.times.last 6 0 parts.rows (record { some = omega arith; few = omega arith; each = h.each; rise = rise_again parts.times.last parts.rows h.each h.rise })
+    rows_again parts.version parts.times.last (first_line parts.version) 0 parts.rows (record { some = omega arith; few = omega arith; each = h.each; rise = rise_again parts.times.last parts.rows h.each h.rise })

@@ -1,5 +1,5 @@
 -- What is read is spelled so: from what a text is judged to say to its bytes.
-use Rattle.std.proofs.Common.{◌≡◌, ℕ, zero, suc, ◌+◌, ◌-◌, ◌*◌, ◌/◌, ◌%◌, ◌^◌, ◌<◌, ◌≤◌, Bool, true, false, cond, eqb, ltb, List, [], ◌∷◌, ◌++◌, length, Option, Some, None, Result, Ok, Err, refl, sym, ap, subst, ◌∙◌, append_assoc, arith, inl, inr}
+use Rattle.std.proofs.Common.{◌≡◌, ◌⊎◌, ℕ, zero, suc, ◌+◌, ◌-◌, ◌*◌, ◌/◌, ◌%◌, ◌^◌, ◌<◌, ◌≤◌, Bool, true, false, cond, eqb, ltb, List, [], ◌∷◌, ◌++◌, length, Option, Some, None, Result, Ok, Err, refl, sym, ap, subst, ◌∙◌, append_assoc, arith, inl, inr}
 use Rattle.std.proofs.lemmas.Bool.{cases_lt}
 use Rattle.std.specs.Str.Parse.{digits_value}
 use Rattle.tesla_base.specs.declared.number.NumberFault.TheVariants.{Empty}
@@ -8,6 +8,7 @@ use Rattle.std.specs.Int.{w64, from_be_bytes, to_be_bytes}
 use Rattle.std.specs.List.{join_with_byte, flat_map, list_all, AllByRecursion}
 use Rattle.std.specs.Str.{bytes_eq}
 use Rattle.std.proofs.lemmas.Bool.Decides.{nat_tests}
+use Rattle.std.proofs.lemmas.List.{append-nil}
 use Rattle.std.proofs.lemmas.List.Splits.{join_with_byte-slice_split}
 use Rattle.std.proofs.lemmas.Nat.{be_bytes_8}
 use Rattle.std.proofs.lemmas.Slice.Eq.{bytes_eq-Decides}
@@ -18,13 +19,16 @@ use Rattle.tesla_base.specs.Number.{decimal_of, number_of, value_unless, first_o
 use Rattle.tesla_base.specs.declared.number.NumberFault.{NumberFault}
 use Rattle.tesla_base.proofs.Spellings.{number_spelled}
 use Rattle.tesla_base.specs.declared.names.StreamId.{StreamId}
+use Rattle.tesla_base.specs.Version.{shortest_tag, longest_tag, IsTagLength}
+use Rattle.tesla_base.specs.declared.version.Version.{Version}
+use Rattle.tesla_base.specs.declared.version.Version.TheVariants.{One, Two}
 use Rattle.tesla_clock.specs.Schedule.{Times, IsSchedule}
 use Rattle.tesla_commit.specs.declared.chain_row.ChainRow.{ChainRow}
 use Rattle.tesla_commit.specs.Parts.{Parts}
-use Rattle.tesla_commit.specs.SetupText.{line, chain_values, chain_line, setup_text, HasKey, IsSetup}
-use Rattle.tesla_commit.specs.JudgedLines.{◌>>=◌, at}
-use Rattle.tesla_commit.specs.ChainRows.{row_judged}
-use Rattle.tesla_commit.specs.Parsing.{between, lines, words, next_line, value_in, chain_words, number_or_bad, number_in, within, is_lower_digit, bytes_or_bad, hex_in, title_in, stream_in, start_in, limited_in, chain_in, chains_judged, opening_judged, times_judged, judged}
+use Rattle.tesla_commit.specs.SetupText.{line, version_text, tag_line, chain_values, chain_line, setup_text, HasKey, IsSetup}
+use Rattle.tesla_commit.specs.JudgedLines.{◌>>=◌, at, within}
+use Rattle.tesla_commit.specs.ChainRows.{row_judged, rows_judged, first_line, end_line}
+use Rattle.tesla_commit.specs.Parsing.{between, lines, words, next_line, value_in, chain_words, number_or_bad, number_in, is_lower_digit, bytes_or_bad, hex_in, title_in, stream_in, start_in, limited_in, chain_in, chains_judged, opening_judged, times_judged, tag_judged, rest_judged, judged}
 use Rattle.tesla_commit.specs.declared.refusal.SetupKind.{SetupKind}
 use Rattle.tesla_commit.specs.declared.refusal.SetupKind.TheVariants.{BadLine, BadHex, LimitPassed, TooManyChains, TooLong}
 use Rattle.tesla_commit.proofs.ChainLaws.{same_taken, last_ok, chains_are, chain_is}
@@ -234,12 +238,17 @@ hex_found count word bytes h =
 
 -- ---- the parts of a text
 
-title_ok : (b : Bool) (x : Unit {0}) → cond b (Ok tt) (Err BadLine) ≡ Ok x → b ≡ true
-title_ok true x h = refl
-title_ok false x h = absurd cc
+title_ok : (b c : Bool) (version : Version) → cond b (Ok One) (cond c (Ok Two) (Err BadLine)) ≡ Ok version → ((b ≡ true) × (One ≡ version)) ⊎ ((c ≡ true) × (Two ≡ version))
+title_ok true c version h = inl (refl, ok_is One version (Ok One) refl h)
+title_ok false true version h = inr (refl, ok_is Two version (Ok Two) refl h)
+title_ok false false version h = absurd cc
 
-pub title_found : (text : List ℕ) (x : Unit {0}) → title_in text ≡ Ok x → text ≡ codes "tesla" ++ 32 ∷ codes "1"
-title_found text x h = (bytes_eq-Decides text (codes "tesla 1")).0 (title_ok (bytes_eq text (codes "tesla 1")) x h)
+pub title_found : (text : List ℕ) (version : Version) → title_in text ≡ Ok version → text ≡ codes "tesla" ++ 32 ∷ version_text version
+title_found text version h =
+    elim (title_ok (bytes_eq text (codes "tesla 1")) (bytes_eq text (codes "tesla 2")) version h) [
+      | inl one ↦ (bytes_eq-Decides text (codes "tesla 1")).0 one.0 ∙ ap (λ (v : Version). codes "tesla" ++ 32 ∷ version_text v) one.1
+      | inr two ↦ (bytes_eq-Decides text (codes "tesla 2")).0 two.0 ∙ ap (λ (v : Version). codes "tesla" ++ 32 ∷ version_text v) two.1
+    ]
 
 eight_below : (bytes : List ℕ) → IsBytes bytes → from_be_bytes w64 bytes < 2 ^ 64
 eight_below bytes fits = omega (arith, fits 0, fits 1, fits 2, fits 3, fits 4, fits 5, fits 6, fits 7)
@@ -283,7 +292,7 @@ row_found last before text row h =
 
 -- ---- the whole text
 
-line_then : (text name value rest : List ℕ) → text ≡ name ++ 32 ∷ value → text ++ 10 ∷ rest ≡ line name value ++ rest
+pub line_then : (text name value rest : List ℕ) → text ≡ name ++ 32 ∷ value → text ++ 10 ∷ rest ≡ line name value ++ rest
 line_then text name value rest h = rw h (sym (append_assoc (name ++ 32 ∷ value) (10 ∷ []) rest))
 
 -- one more line behind a front
@@ -291,21 +300,21 @@ more : (whole front : List ℕ) (number : ℕ) (parts : List (List ℕ)) (x : Li
 more whole front number parts x name value h k text =
     h ∙ ap (λ (r : List ℕ). front ++ r) (line_found number parts x k ∙ line_then x.0 name value (join_with_byte 10 x.1) text) ∙ sym (append_assoc front (line name value) (join_with_byte 10 x.1))
 
-abbrev pub opening_text : StreamId → List ℕ
-opening_text stream = line (codes "tesla") (codes "1") ++ line (codes "stream") (encode_lower (to_be_bytes w64 stream.0))
+abbrev pub opening_text : Version → StreamId → List ℕ
+opening_text version stream = line (codes "tesla") (version_text version) ++ line (codes "stream") (encode_lower (to_be_bytes w64 stream.0))
 
-opening_found : (whole : List ℕ) (parts : List (List ℕ)) (x : StreamId × List (List ℕ)) → whole ≡ join_with_byte 10 parts → opening_judged parts ≡ Ok x → (whole ≡ opening_text x.0 ++ join_with_byte 10 x.1) × (x.0.0 < 2 ^ 64)
+opening_found : (whole : List ℕ) (parts : List (List ℕ)) (x : Version × StreamId × List (List ℕ)) → whole ≡ join_with_byte 10 parts → opening_judged parts ≡ Ok x → (whole ≡ opening_text x.0 x.1 ++ join_with_byte 10 x.2) × (x.1.0 < 2 ^ 64)
 unfolding opening_judged
 opening_found whole parts x start h =
-    let one = bind_ok (next_line 1 parts) (λ one. at 1 (title_in one.0) >>= λ title. next_line 2 one.1 >>= λ two. at 2 (stream_in two.0) >>= λ stream. Ok (stream, two.1)) x h in
-    let title = bind_ok (at 1 (title_in one.0.0)) (λ title. next_line 2 one.0.1 >>= λ two. at 2 (stream_in two.0) >>= λ stream. Ok (stream, two.1)) x one.2 in
-    let two = bind_ok (next_line 2 one.0.1) (λ two. at 2 (stream_in two.0) >>= λ stream. Ok (stream, two.1)) x title.2 in
-    let stream = bind_ok (at 2 (stream_in two.0.0)) (λ stream. Ok (stream, two.0.1)) x two.2 in
-    let first = more whole [] 1 parts one.0 (codes "tesla") (codes "1") start one.1 (title_found one.0.0 title.0 (at_ok 1 (title_in one.0.0) title.0 title.1)) in
+    let one = bind_ok (next_line 1 parts) (λ one. at 1 (title_in one.0) >>= λ version. next_line 2 one.1 >>= λ two. at 2 (stream_in two.0) >>= λ stream. Ok (version, stream, two.1)) x h in
+    let title = bind_ok (at 1 (title_in one.0.0)) (λ version. next_line 2 one.0.1 >>= λ two. at 2 (stream_in two.0) >>= λ stream. Ok (version, stream, two.1)) x one.2 in
+    let two = bind_ok (next_line 2 one.0.1) (λ two. at 2 (stream_in two.0) >>= λ stream. Ok (title.0, stream, two.1)) x title.2 in
+    let stream = bind_ok (at 2 (stream_in two.0.0)) (λ stream. Ok (title.0, stream, two.0.1)) x two.2 in
+    let first = more whole [] 1 parts one.0 (codes "tesla") (version_text title.0) start one.1 (title_found one.0.0 title.0 (at_ok 1 (title_in one.0.0) title.0 title.1)) in
     let said = stream_found two.0.0 stream.0 (at_ok 2 (stream_in two.0.0) stream.0 stream.1) in
-    let second = more whole (line (codes "tesla") (codes "1")) 2 one.0.1 two.0 (codes "stream") (encode_lower (to_be_bytes w64 stream.0.0)) first two.1 said.0 in
-    let made : StreamId × List (List ℕ) = (stream.0, two.0.1) in
-    subst (λ (y : StreamId × List (List ℕ)). (whole ≡ opening_text y.0 ++ join_with_byte 10 y.1) × (y.0.0 < 2 ^ 64)) (ok_is made x (Ok made) refl stream.2) (second, said.1)
+    let second = more whole (line (codes "tesla") (version_text title.0)) 2 one.0.1 two.0 (codes "stream") (encode_lower (to_be_bytes w64 stream.0.0)) first two.1 said.0 in
+    let made : Version × StreamId × List (List ℕ) = (title.0, stream.0, two.0.1) in
+    subst (λ (y : Version × StreamId × List (List ℕ)). (whole ≡ opening_text y.0 y.1 ++ join_with_byte 10 y.2) × (y.1.0 < 2 ^ 64)) (ok_is made x (Ok made) refl stream.2) (second, said.1)
 
 abbrev pub times_text : List ℕ → Times → List ℕ
 times_text front times = front ++ line (codes "start") (decimal times.start) ++ line (codes "interval") (decimal times.length) ++ line (codes "last") (decimal times.last)
@@ -328,43 +337,78 @@ times_found whole front parts x begin h =
     let made : Times × List (List ℕ) = (record { start = start.0; length = span.0; last = last.0 }, five.0.1) in
     subst (λ (y : Times × List (List ℕ)). (whole ≡ times_text front y.0 ++ join_with_byte 10 y.1) × IsSchedule y.0 × (y.0.start < 2 ^ 64)) (ok_is made x (Ok made) refl last.2) (third, record { shortest = spans.1; longest = spans.2; first = lasts.1; most = lasts.2 }, starts.1)
 
+-- the line of the tags' length, where there is one
+tag_found : (version : Version) (whole front : List ℕ) (parts : List (List ℕ)) (x : ℕ × List (List ℕ)) → whole ≡ front ++ join_with_byte 10 parts → tag_judged version parts ≡ Ok x → (whole ≡ (front ++ tag_line version x.0) ++ join_with_byte 10 x.1) × IsTagLength version x.0
+unfolding tag_judged
+tag_found One whole front parts x begin h =
+    let made : ℕ × List (List ℕ) = (longest_tag One, parts) in
+    subst (λ (y : ℕ × List (List ℕ)). (whole ≡ (front ++ tag_line One y.0) ++ join_with_byte 10 y.1) × IsTagLength One y.0) (ok_is made x (Ok made) refl h) (begin ∙ ap (λ (r : List ℕ). r ++ join_with_byte 10 parts) (sym (append-nil front)), record { shortest = omega arith; longest = omega arith })
+tag_found Two whole front parts x begin h =
+    let six = bind_ok (next_line 6 parts) (λ six. at 6 (limited_in (codes "tag") (shortest_tag Two) (longest_tag Two) six.0) >>= λ size. Ok (size, six.1)) x h in
+    let size = bind_ok (at 6 (limited_in (codes "tag") (shortest_tag Two) (longest_tag Two) six.0.0)) (λ size. Ok (size, six.0.1)) x six.2 in
+    let said = limited_found (codes "tag") (shortest_tag Two) (longest_tag Two) six.0.0 size.0 (at_ok 6 (limited_in (codes "tag") (shortest_tag Two) (longest_tag Two) six.0.0) size.0 size.1) in
+    let made : ℕ × List (List ℕ) = (size.0, six.0.1) in
+    subst (λ (y : ℕ × List (List ℕ)). (whole ≡ (front ++ tag_line Two y.0) ++ join_with_byte 10 y.1) × IsTagLength Two y.0) (ok_is made x (Ok made) refl size.2) (more whole front 6 parts six.0 (codes "tag") (decimal size.0) begin six.1 said.0, record { shortest = said.1; longest = said.2 })
+
 pub nothing_is : (text : List ℕ) → length text ≡ 0 → text ≡ []
 nothing_is [] h = refl
 nothing_is (b ∷ text) h = absurd (omega arith)
 
-pub chains_found : (last number before : ℕ) (parts : List (List ℕ)) (rows : List ChainRow) → chains_judged last number before parts ≡ Ok rows → (join_with_byte 10 parts ≡ flat_map chain_line rows) × AllByRecursion HasKey rows
+pub chains_found : (version : Version) (last number before : ℕ) (parts : List (List ℕ)) (rows : List ChainRow) → chains_judged version last number before parts ≡ Ok rows → (join_with_byte 10 parts ≡ flat_map chain_line rows) × AllByRecursion HasKey rows
 unfolding chains_judged
-chains_found last number before [] rows h = absurd cc
-chains_found last number before (unended ∷ []) rows h =
-    let l = last_ok (eqb (length unended) 0) (eqb number 6) (eqb number 10) number rows h in
+chains_found version last number before [] rows h = absurd cc
+chains_found version last number before (unended ∷ []) rows h =
+    let l = last_ok (eqb (length unended) 0) (eqb number (first_line version)) (eqb number (end_line version)) number rows h in
     let none : length unended ≡ 0 = grind (arith, nat_tests, l.0) in
     rw (l.2, nothing_is unended none) (refl, tt)
-chains_found last number before (text ∷ next ∷ others) rows h =
-    let g = guard_ok (eqb number 10) (number, TooManyChains) (at number (chain_in last before text) >>= λ row. chains_judged last (number + 1) row.delay (next ∷ others) >>= λ rows. Ok (row ∷ rows)) rows h in
-    let a = bind_ok (at number (chain_in last before text)) (λ row. chains_judged last (number + 1) row.delay (next ∷ others) >>= λ rows. Ok (row ∷ rows)) rows g.1 in
-    let b = bind_ok (chains_judged last (number + 1) a.0.delay (next ∷ others)) (λ rows. Ok (a.0 ∷ rows)) rows a.2 in
+chains_found version last number before (text ∷ next ∷ others) rows h =
+    let g = guard_ok (eqb number (end_line version)) (number, TooManyChains) (at number (chain_in last before text) >>= λ row. chains_judged version last (number + 1) row.delay (next ∷ others) >>= λ rows. Ok (row ∷ rows)) rows h in
+    let a = bind_ok (at number (chain_in last before text)) (λ row. chains_judged version last (number + 1) row.delay (next ∷ others) >>= λ rows. Ok (row ∷ rows)) rows g.1 in
+    let b = bind_ok (chains_judged version last (number + 1) a.0.delay (next ∷ others)) (λ rows. Ok (a.0 ∷ rows)) rows a.2 in
     let one = row_found last before text a.0 (at_ok number (chain_in last before text) a.0 a.1) in
-    let two = chains_found last (number + 1) a.0.delay (next ∷ others) b.0 b.1 in
+    let two = chains_found version last (number + 1) a.0.delay (next ∷ others) b.0 b.1 in
     let whole : (a.0 ∷ b.0) ≡ rows = ok_is (a.0 ∷ b.0) rows (Ok (a.0 ∷ b.0)) refl b.2 in
     let spelled : join_with_byte 10 (text ∷ next ∷ others) ≡ chain_line a.0 ++ flat_map chain_line b.0 = line_then text (codes "chain") (chain_values a.0) (join_with_byte 10 (next ∷ others)) one.0 ∙ ap (λ (r : List ℕ). chain_line a.0 ++ r) two.0 in
     subst (λ (rs : List ChainRow). (join_with_byte 10 (text ∷ next ∷ others) ≡ flat_map chain_line rs) × AllByRecursion HasKey rs) whole (spelled, (one.1, two.1))
 
+abbrev pub head_text : Parts → List ℕ
+head_text parts = times_text (opening_text parts.version parts.stream) parts.times ++ tag_line parts.version parts.tag_length
+
+-- what a setup's lines are known to spell
+pub record IsFound (whole : List ℕ) (parts : Parts) : Type 0 where
+  pub text : whole ≡ head_text parts ++ flat_map chain_line parts.rows
+  pub rows : rows_judged parts.version parts.times.last (first_line parts.version) 0 parts.rows ≡ Ok parts.rows
+  pub keys : AllByRecursion HasKey parts.rows
+  pub tag_length : IsTagLength parts.version parts.tag_length
+
+rest_found : (version : Version) (stream : StreamId) (times : Times) (whole : List ℕ) (text : List (List ℕ)) (parts : Parts) → whole ≡ times_text (opening_text version stream) times ++ join_with_byte 10 text → rest_judged version stream times text ≡ Ok parts → (version ≡ parts.version) × (stream ≡ parts.stream) × (times ≡ parts.times) × IsFound whole parts
+unfolding rest_judged
+rest_found version stream times whole text parts begin h =
+    let a = bind_ok (tag_judged version text) (λ tag. chains_judged version times.last (first_line version) 0 tag.1 >>= λ rows. Ok (record { version = version; stream = stream; times = times; tag_length = tag.0; rows = rows })) parts h in
+    let b = bind_ok (chains_judged version times.last (first_line version) 0 a.0.1) (λ rows. Ok (record { version = version; stream = stream; times = times; tag_length = a.0.0; rows = rows })) parts a.2 in
+    let made : Parts = record { version = version; stream = stream; times = times; tag_length = a.0.0; rows = b.0 } in
+    let tag = tag_found version whole (times_text (opening_text version stream) times) text a.0 begin a.1 in
+    let chains = chains_found version times.last (first_line version) 0 a.0.1 b.0 b.1 in
+    let spelled : whole ≡ head_text made ++ flat_map chain_line b.0 = tag.0 ∙ ap (λ (r : List ℕ). head_text made ++ r) chains.0 in
+    subst (λ (p : Parts). (version ≡ p.version) × (stream ≡ p.stream) × (times ≡ p.times) × IsFound whole p) (ok_is made parts (Ok made) refl b.2)
+    (refl, refl, refl, record { text = spelled; rows = chains_are version times.last (first_line version) 0 a.0.1 b.0 b.1; keys = chains.1; tag_length = tag.1 })
+
 pub judged_found : (text : List ℕ) (parts : Parts) → judged text ≡ Ok parts → IsSetup text parts
 unfolding judged setup_text
 judged_found text parts h =
-    let g = guard_ok (ltb 4096 (length text)) (0, TooLong) (opening_judged (lines text) >>= λ opening. times_judged opening.1 >>= λ times. chains_judged times.0.last 6 0 times.1 >>= λ rows. Ok (record { stream = opening.0; times = times.0; rows = rows })) parts h in
+    let g = guard_ok (ltb 4096 (length text)) (0, TooLong) (opening_judged (lines text) >>= λ opening. times_judged opening.2 >>= λ times. rest_judged opening.0 opening.1 times.0 times.1) parts h in
     let short : length text ≤ 4096 = grind (arith, nat_tests, g.0) in
-    let a = bind_ok (opening_judged (lines text)) (λ opening. times_judged opening.1 >>= λ times. chains_judged times.0.last 6 0 times.1 >>= λ rows. Ok (record { stream = opening.0; times = times.0; rows = rows })) parts g.1 in
-    let b = bind_ok (times_judged a.0.1) (λ times. chains_judged times.0.last 6 0 times.1 >>= λ rows. Ok (record { stream = a.0.0; times = times.0; rows = rows })) parts a.2 in
-    let c = bind_ok (chains_judged b.0.0.last 6 0 b.0.1) (λ rows. Ok (record { stream = a.0.0; times = b.0.0; rows = rows })) parts b.2 in
-    let made : Parts = record { stream = a.0.0; times = b.0.0; rows = c.0 } in
+    let a = bind_ok (opening_judged (lines text)) (λ opening. times_judged opening.2 >>= λ times. rest_judged opening.0 opening.1 times.0 times.1) parts g.1 in
+    let b = bind_ok (times_judged a.0.2) (λ times. rest_judged a.0.0 a.0.1 times.0 times.1) parts a.2 in
     let opening = opening_found text (lines text) a.0 (sym (joined 10 text)) a.1 in
-    let times = times_found text (opening_text a.0.0) a.0.1 b.0 opening.0 b.1 in
-    let chains = chains_found b.0.0.last 6 0 b.0.1 c.0 c.1 in
-    let spelled : text ≡ times_text (opening_text a.0.0) b.0.0 ++ flat_map chain_line c.0 = times.0 ∙ ap (λ (r : List ℕ). times_text (opening_text a.0.0) b.0.0 ++ r) chains.0 in
-    subst (λ (p : Parts). IsSetup text p) (ok_is made parts (Ok made) refl c.2) (record {
-      limits = setup_is made c.0 opening.1 times.2 times.1 (chains_are b.0.0.last 6 0 b.0.1 c.0 c.1);
-      keys = chains.1;
-      text = spelled;
+    let times = times_found text (opening_text a.0.0 a.0.1) a.0.2 b.0 opening.0 b.1 in
+    let rest = rest_found a.0.0 a.0.1 b.0.0 text b.0.1 parts times.0 b.2 in
+    let stream : parts.stream.0 < 2 ^ 64 = subst (λ (s : StreamId). s.0 < 2 ^ 64) rest.1 opening.1 in
+    let start : parts.times.start < 2 ^ 64 = subst (λ (t : Times). t.start < 2 ^ 64) rest.2 times.2 in
+    let limits : IsSchedule parts.times = subst IsSchedule rest.2 times.1 in
+    record {
+      limits = setup_is parts parts.rows stream start limits rest.3.tag_length rest.3.rows;
+      keys = rest.3.keys;
+      text = rest.3.text;
       short = short;
-    })
+    }

@@ -16,15 +16,19 @@ use Rattle.hex.specs.Hex.{encode_lower, encode_with, lower_digits, IsBytes}
 use Rattle.hex.proofs.HexLemmas.{decode_sized-encode_lower}
 use Rattle.tesla_base.specs.Number.{decimal_of}
 use Rattle.tesla_base.specs.declared.names.StreamId.{StreamId}
+use Rattle.tesla_base.specs.Version.{longest_tag, IsTagLength}
+use Rattle.tesla_base.specs.declared.version.Version.{Version}
+use Rattle.tesla_base.specs.declared.version.Version.TheVariants.{One, Two}
 use Rattle.tesla_base.proofs.Spellings.{number_read}
 use Rattle.tesla_clock.specs.Schedule.{Times, IsSchedule}
 use Rattle.std.specs.Prelude.{IfOk, ◌⊎◌}
 use Rattle.tesla_commit.specs.declared.refusal.SetupRefusal.{SetupRefusal}
 use Rattle.tesla_commit.specs.declared.refusal.SetupRefusal.TheVariants as refusals
-use Rattle.tesla_commit.specs.JudgedLines.{Answers}
+use Rattle.tesla_commit.specs.JudgedLines.{within, Answers}
 use Rattle.tesla_commit.specs.Parts.{Parts, IsSetupOf}
-use Rattle.tesla_commit.specs.Parsing.{between, lines, words, next_line, value_in, chain_words, number_or_bad, number_in, within, is_lower_digit, hex_in, stream_in, start_in, limited_in, chain_in, chains_judged, opening_judged, times_judged, judged}
-use Rattle.tesla_commit.specs.SetupText.{line, chain_values, chain_line, setup_text, HasKey, IsSetup}
+use Rattle.tesla_commit.specs.ChainRows.{first_line, end_line}
+use Rattle.tesla_commit.specs.Parsing.{between, lines, words, next_line, value_in, chain_words, number_or_bad, number_in, is_lower_digit, hex_in, title_in, stream_in, start_in, limited_in, chain_in, chains_judged, opening_judged, times_judged, tag_judged, rest_judged, judged}
+use Rattle.tesla_commit.specs.SetupText.{line, version_text, tag_line, chain_values, chain_line, setup_text, HasKey, IsSetup}
 use Rattle.tesla_commit.specs.declared.chain_row.ChainRow.{ChainRow}
 use Rattle.tesla_commit.specs.declared.refusal.SetupKind.{SetupKind}
 use Rattle.tesla_commit.proofs.RowLaws.{AreRows, IsNext, ok_is, not_line, row_again, rise_again}
@@ -42,10 +46,10 @@ IsPlain text = All (λ b. 10 < b) text
 pub solid_from_test : (word : List ℕ) → list_all (nat_lt 32) word ≡ true → IsSolid word
 solid_from_test word h = All-weaker (λ b. nat_lt 32 b ≡ true) (λ b. 32 < b) (λ b t. grind (arith, nat_tests)) word (AllPass-from_list_all (nat_lt 32) word h)
 
-plain_is : (word : List ℕ) → IsSolid word → IsPlain word
+pub plain_is : (word : List ℕ) → IsSolid word → IsPlain word
 plain_is word h = All-weaker (λ b. 32 < b) (λ b. 10 < b) (λ b t. omega arith) word h
 
-plain_line : (name value : List ℕ) → IsPlain name → IsPlain value → IsPlain (name ++ 32 ∷ value)
+pub plain_line : (name value : List ℕ) → IsPlain name → IsPlain value → IsPlain (name ++ 32 ∷ value)
 plain_line name value h k = All-append (λ b. 10 < b) name (32 ∷ value) h (All-cons (λ b. 10 < b) 32 value (omega arith) k)
 
 -- ---- lines and words
@@ -62,7 +66,7 @@ last_word : (word : List ℕ) → IsSolid word → between 32 word ≡ word ∷ 
 unfolding between
 last_word word h = slice_split_none (λ b. eqb b 32) word (All-weaker (λ b. 32 < b) (λ b. eqb b 32 ≡ false) (λ b t. grind (arith, nat_tests)) word h)
 
-lines_of : (name value rest : List ℕ) → IsPlain (name ++ 32 ∷ value) → lines (line name value ++ rest) ≡ (name ++ 32 ∷ value) ∷ lines rest
+pub lines_of : (name value rest : List ℕ) → IsPlain (name ++ 32 ∷ value) → lines (line name value ++ rest) ≡ (name ++ 32 ∷ value) ∷ lines rest
 lines_of name value rest h = ap lines (append_assoc (name ++ 32 ∷ value) (10 ∷ []) rest) ∙ split_line (name ++ 32 ∷ value) rest h
 
 pub line_again : (number : ℕ) (name value rest : List ℕ) → IsPlain (name ++ 32 ∷ value) → next_line number (lines (line name value ++ rest)) ≡ Ok (name ++ 32 ∷ value, lines rest)
@@ -71,7 +75,7 @@ line_again number name value rest h = next_line_is number (line name value ++ re
 pub same_bytes : (word : List ℕ) → bytes_eq word word ≡ true
 same_bytes word = (bytes_eq-Decides word word).1 refl
 
-value_again : (name value : List ℕ) → IsSolid name → IsSolid value → value_in name (words (name ++ 32 ∷ value)) ≡ Ok value
+pub value_again : (name value : List ℕ) → IsSolid name → IsSolid value → value_in name (words (name ++ 32 ∷ value)) ≡ Ok value
 value_again name value h k = rw (split_word name value h, last_word value k, same_bytes name) refl
 
 chain_again : (delay index key : List ℕ) → IsSolid delay → IsSolid index → IsSolid key → chain_words (words (codes "chain" ++ 32 ∷ (delay ++ 32 ∷ index ++ 32 ∷ key))) ≡ Ok (delay, index, key)
@@ -123,7 +127,7 @@ lower_all (b ∷ bytes) h =
 pub hex_again : (count : ℕ) (bytes : List ℕ) → length bytes ≡ count → IsBytes bytes → hex_in count (encode_lower bytes) ≡ Ok bytes
 hex_again count bytes whole fits = rw (lower_all bytes fits, decode_sized-encode_lower bytes count whole fits) refl
 
-solid_hex : (bytes : List ℕ) → IsBytes bytes → IsSolid (encode_lower bytes)
+pub solid_hex : (bytes : List ℕ) → IsBytes bytes → IsSolid (encode_lower bytes)
 solid_hex bytes fits = All-weaker (λ b. is_lower_digit b ≡ true) (λ b. 32 < b) (λ b t. grind (arith, nat_tests)) (encode_lower bytes) (AllPass-from_list_all is_lower_digit (encode_lower bytes) (lower_all bytes fits))
 
 -- ---- the whole text
@@ -155,16 +159,24 @@ limited_again name least most n solid fits low high = rw (value_again name (deci
 plain_decimal : (name : List ℕ) (n : ℕ) → IsSolid name → n < 2 ^ 64 → IsPlain (name ++ 32 ∷ decimal n)
 plain_decimal name n solid fits = plain_line name (decimal n) (plain_is name solid) (plain_is (decimal n) (solid_decimal n fits))
 
-opening_again : (stream : StreamId) (rest : List ℕ) → stream.0 < 2 ^ 64 → opening_judged (lines (line (codes "tesla") (codes "1") ++ (line (codes "stream") (encode_lower (to_be_bytes w64 stream.0)) ++ rest))) ≡ Ok (stream, lines rest)
+solid_version : (version : Version) → IsSolid (version_text version)
+solid_version One = solid_from_test (codes "1") refl
+solid_version Two = solid_from_test (codes "2") refl
+
+pub title_again : (version : Version) → title_in (codes "tesla" ++ 32 ∷ version_text version) ≡ Ok version
+title_again One = refl
+title_again Two = refl
+
+opening_again : (version : Version) (stream : StreamId) (rest : List ℕ) → stream.0 < 2 ^ 64 → opening_judged (lines (line (codes "tesla") (version_text version) ++ (line (codes "stream") (encode_lower (to_be_bytes w64 stream.0)) ++ rest))) ≡ Ok (version, stream, lines rest)
 unfolding opening_judged
-opening_again stream rest fits =
+opening_again version stream rest fits =
     let bytes = to_be_bytes w64 stream.0 in
     let value = encode_lower bytes in
     let after = line (codes "stream") value ++ rest in
     let title = plain_is (codes "tesla") (solid_from_test (codes "tesla") refl) in
-    let one = line_again 1 (codes "tesla") (codes "1") after (plain_line (codes "tesla") (codes "1") title (plain_is (codes "1") (solid_from_test (codes "1") refl))) in
+    let one = line_again 1 (codes "tesla") (version_text version) after (plain_line (codes "tesla") (version_text version) title (plain_is (version_text version) (solid_version version))) in
     let two = line_again 2 (codes "stream") value rest (plain_line (codes "stream") value (plain_is (codes "stream") (solid_from_test (codes "stream") refl)) (plain_is value (solid_hex bytes (eight_fit stream.0)))) in
-    rw (one, two, stream_again stream fits) refl
+    rw (one, title_again version, two, stream_again stream fits) refl
 
 times_again : (times : Times) (rest : List ℕ) → IsSchedule times → times.start < 2 ^ 64 → times_judged (lines (line (codes "start") (decimal times.start) ++ (line (codes "interval") (decimal times.length) ++ (line (codes "last") (decimal times.last) ++ rest)))) ≡ Ok (times, lines rest)
 unfolding times_judged
@@ -185,6 +197,20 @@ times_again times rest limits fits =
     let five = line_again 5 (codes "last") (decimal times.last) rest (plain_decimal (codes "last") times.last last last_fits) in
     rw (three, start_again times.start fits, four, limited_again (codes "interval") 1000 3600000000 times.length interval span_fits shortest longest, five, limited_again (codes "last") 1 1048576 times.last last last_fits first most) refl
 
+tag_again : (version : Version) (size : ℕ) (rest : List ℕ) → IsTagLength version size → tag_judged version (lines (tag_line version size ++ rest)) ≡ Ok (size, lines rest)
+unfolding tag_judged
+tag_again One size rest limits =
+    let shortest = limits.shortest in
+    let longest = limits.longest in
+    let same : longest_tag One ≡ size = omega arith in
+    ap (λ (n : ℕ). Ok (n, lines rest)) same
+tag_again Two size rest limits =
+    let longest = limits.longest in
+    let fits : size < 2 ^ 64 = omega arith in
+    let tag = solid_from_test (codes "tag") refl in
+    let six = line_again 6 (codes "tag") (decimal size) rest (plain_decimal (codes "tag") size tag fits) in
+    rw (six, limited_again (codes "tag") 10 32 size tag fits limits.shortest longest) refl
+
 pub row_line_again : (last before : ℕ) (row : ChainRow) → last < 2 ^ 64 → IsNext last before row → HasKey row → chain_in last before (codes "chain" ++ 32 ∷ chain_values row) ≡ Ok row
 unfolding chain_in
 row_line_again last before row most next key =
@@ -199,57 +225,62 @@ plain_row : (row : ChainRow) → row.delay < 2 ^ 64 → row.index < 2 ^ 64 → H
 plain_row row delay index key =
     plain_line (codes "chain") (chain_values row) (plain_is (codes "chain") (solid_from_test (codes "chain") refl)) (plain_line (decimal row.delay ++ 32 ∷ decimal row.index) (encode_lower row.key.0) (plain_line (decimal row.delay) (decimal row.index) (plain_is (decimal row.delay) (solid_decimal row.delay delay)) (plain_is (decimal row.index) (solid_decimal row.index index))) (plain_is (encode_lower row.key.0) (solid_hex row.key.0 key.bytes)))
 
-one_chain : (last number before : ℕ) (text : List ℕ) (row : ChainRow) (rows : List ChainRow) (parts : List (List ℕ)) (first : List ℕ) (others : List (List ℕ)) → number ≢ 10 → parts ≡ first ∷ others → chain_in last before text ≡ Ok row → chains_judged last (number + 1) row.delay parts ≡ Ok rows → chains_judged last number before (text ∷ parts) ≡ Ok (row ∷ rows)
+one_chain : (version : Version) (last number before : ℕ) (text : List ℕ) (row : ChainRow) (rows : List ChainRow) (parts : List (List ℕ)) (first : List ℕ) (others : List (List ℕ)) → number ≢ end_line version → parts ≡ first ∷ others → chain_in last before text ≡ Ok row → chains_judged version last (number + 1) row.delay parts ≡ Ok rows → chains_judged version last number before (text ∷ parts) ≡ Ok (row ∷ rows)
 unfolding chains_judged
-one_chain last number before text row rows parts first others ne split one more =
-    let test = not_line number 10 ne in
-    let onward : chains_judged last (number + 1) row.delay (first ∷ others) ≡ Ok rows = ap (chains_judged last (number + 1) row.delay) (sym split) ∙ more in
+one_chain version last number before text row rows parts first others ne split one more =
+    let test = not_line number (end_line version) ne in
+    let onward : chains_judged version last (number + 1) row.delay (first ∷ others) ≡ Ok rows = ap (chains_judged version last (number + 1) row.delay) (sym split) ∙ more in
     rw (split, test, one, onward) refl
 
-no_chain : (last number before : ℕ) → number ≢ 6 → chains_judged last number before ([] ∷ []) ≡ Ok []
+no_chain : (version : Version) (last number before : ℕ) → number ≢ first_line version → chains_judged version last number before ([] ∷ []) ≡ Ok []
 unfolding chains_judged
-no_chain last number before ne =
-    let test = not_line number 6 ne in
+no_chain version last number before ne =
+    let test = not_line number (first_line version) ne in
     rw test refl
 
-chains_again : (last number before : ℕ) (rows : List ChainRow) → last < 2 ^ 64 → AreRows last number before rows → AllByRecursion HasKey rows → chains_judged last number before (lines (flat_map chain_line rows)) ≡ Ok rows
-chains_again last number before [] most are keys =
+chains_again : (version : Version) (last number before : ℕ) (rows : List ChainRow) → last < 2 ^ 64 → AreRows version last number before rows → AllByRecursion HasKey rows → chains_judged version last number before (lines (flat_map chain_line rows)) ≡ Ok rows
+chains_again version last number before [] most are keys =
     let some = are.some in
-    let ne : number ≢ 6 = omega arith in
-    ap (chains_judged last number before) (lines_of_nothing [] refl) ∙ no_chain last number before ne
-chains_again last number before (row ∷ rows) most are keys =
+    let ne : number ≢ first_line version = omega arith in
+    ap (chains_judged version last number before) (lines_of_nothing [] refl) ∙ no_chain version last number before ne
+chains_again version last number before (row ∷ rows) most are keys =
     let few = are.few in
     let some = are.some in
-    let ne : number ≢ 10 = omega arith in
+    let ne : number ≢ end_line version = omega arith in
     let longest = are.each.0.longest in
     let within_last = are.each.0.within in
     let rest = flat_map chain_line rows in
     let f = has_first 10 rest in
     let one = row_line_again last before row most (record { limits = are.each.0; above = are.rise.0 }) keys.0 in
-    let more = chains_again last (number + 1) row.delay rows most (record { some = omega arith; few = omega arith; each = are.each.1; rise = are.rise.1 }) keys.1 in
-    ap (chains_judged last number before) (lines_of (codes "chain") (chain_values row) rest (plain_row row (omega arith) (omega arith) keys.0))
-    ∙ one_chain last number before (codes "chain" ++ 32 ∷ chain_values row) row rows (lines rest) f.0 f.1 ne f.2 one more
+    let more = chains_again version last (number + 1) row.delay rows most (record { some = omega arith; few = omega arith; each = are.each.1; rise = are.rise.1 }) keys.1 in
+    ap (chains_judged version last number before) (lines_of (codes "chain") (chain_values row) rest (plain_row row (omega arith) (omega arith) keys.0))
+    ∙ one_chain version last number before (codes "chain" ++ 32 ∷ chain_values row) row rows (lines rest) f.0 f.1 ne f.2 one more
 
-regrouped : (a b c d e f : List ℕ) → ((((a ++ b) ++ c) ++ d) ++ e) ++ f ≡ a ++ (b ++ (c ++ (d ++ (e ++ f))))
-regrouped a b c d e f = simp append_assoc
+regrouped : (a b c d e f g : List ℕ) → (((((a ++ b) ++ c) ++ d) ++ e) ++ f) ++ g ≡ a ++ (b ++ (c ++ (d ++ (e ++ (f ++ g)))))
+regrouped a b c d e f g = simp append_assoc
 
-whole_again : (text : List ℕ) (parts : Parts) → length text ≤ 4096 → text ≡ line (codes "tesla") (codes "1") ++ (line (codes "stream") (encode_lower (to_be_bytes w64 parts.stream.0)) ++ (line (codes "start") (decimal parts.times.start) ++ (line (codes "interval") (decimal parts.times.length) ++ (line (codes "last") (decimal parts.times.last) ++ flat_map chain_line parts.rows)))) → IsSetupOf parts → AllByRecursion HasKey parts.rows → judged text ≡ Ok parts
-unfolding judged
-whole_again text parts short spelled limits keys =
+rest_again : (parts : Parts) → IsSetupOf parts → AllByRecursion HasKey parts.rows → rest_judged parts.version parts.stream parts.times (lines (tag_line parts.version parts.tag_length ++ flat_map chain_line parts.rows)) ≡ Ok parts
+unfolding rest_judged
+rest_again parts limits keys =
     let most = limits.times.most in
     let some = limits.some in
     let few = limits.few in
-    let rest = flat_map chain_line parts.rows in
+    let tag = tag_again parts.version parts.tag_length (flat_map chain_line parts.rows) limits.tag_length in
+    let chains = chains_again parts.version parts.times.last (first_line parts.version) 0 parts.rows (omega arith) (record { some = omega arith; few = omega arith; each = limits.each; rise = rise_again parts.times.last parts.rows limits.each limits.rise }) keys in
+    rw (tag, chains) refl
+
+whole_again : (text : List ℕ) (parts : Parts) → length text ≤ 4096 → text ≡ line (codes "tesla") (version_text parts.version) ++ (line (codes "stream") (encode_lower (to_be_bytes w64 parts.stream.0)) ++ (line (codes "start") (decimal parts.times.start) ++ (line (codes "interval") (decimal parts.times.length) ++ (line (codes "last") (decimal parts.times.last) ++ (tag_line parts.version parts.tag_length ++ flat_map chain_line parts.rows))))) → IsSetupOf parts → AllByRecursion HasKey parts.rows → judged text ≡ Ok parts
+unfolding judged
+whole_again text parts short spelled limits keys =
+    let rest = tag_line parts.version parts.tag_length ++ flat_map chain_line parts.rows in
     let times_on = line (codes "start") (decimal parts.times.start) ++ (line (codes "interval") (decimal parts.times.length) ++ (line (codes "last") (decimal parts.times.last) ++ rest)) in
     let test : ltb 4096 (length text) ≡ false = grind (arith, nat_tests) in
-    let opening : opening_judged (lines text) ≡ Ok (parts.stream, lines times_on) = ap (λ (t : List ℕ). opening_judged (lines t)) spelled ∙ opening_again parts.stream times_on limits.stream in
-    let times = times_again parts.times rest limits.times limits.start in
-    let chains = chains_again parts.times.last 6 0 parts.rows (omega arith) (record { some = omega arith; few = omega arith; each = limits.each; rise = rise_again parts.times.last parts.rows limits.each limits.rise }) keys in
-    rw (test, opening, times, chains) refl
+    let opening : opening_judged (lines text) ≡ Ok (parts.version, parts.stream, lines times_on) = ap (λ (t : List ℕ). opening_judged (lines t)) spelled ∙ opening_again parts.version parts.stream times_on limits.stream in
+    rw (test, opening, times_again parts.times rest limits.times limits.start) (rest_again parts limits keys)
 
 pub judged_again : (text : List ℕ) (parts : Parts) → IsSetup text parts → judged text ≡ Ok parts
 unfolding setup_text
-judged_again text parts h = whole_again text parts h.short (h.text ∙ regrouped (line (codes "tesla") (codes "1")) (line (codes "stream") (encode_lower (to_be_bytes w64 parts.stream.0))) (line (codes "start") (decimal parts.times.start)) (line (codes "interval") (decimal parts.times.length)) (line (codes "last") (decimal parts.times.last)) (flat_map chain_line parts.rows)) h.limits h.keys
+judged_again text parts h = whole_again text parts h.short (h.text ∙ regrouped (line (codes "tesla") (version_text parts.version)) (line (codes "stream") (encode_lower (to_be_bytes w64 parts.stream.0))) (line (codes "start") (decimal parts.times.start)) (line (codes "interval") (decimal parts.times.length)) (line (codes "last") (decimal parts.times.last)) (tag_line parts.version parts.tag_length) (flat_map chain_line parts.rows)) h.limits h.keys
 
 -- ---- what is answered of a text
 

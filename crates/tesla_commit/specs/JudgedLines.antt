@@ -1,7 +1,8 @@
 -- What is judged line after line, and the answers that tell it.
-use Rattle.std.specs.Prelude.{◌≡◌, ℕ, Result, Ok, Err}
+use Rattle.std.specs.Prelude.{◌≡◌, ℕ, Result, Ok, Err, nat_le, ◌&&◌, if◌then◌else◌}
 use Rattle.tesla_commit.specs.declared.refusal.LineRefusal.{LineRefusal}
 use Rattle.tesla_commit.specs.declared.refusal.SetupKind.{SetupKind}
+use Rattle.tesla_commit.specs.declared.refusal.SetupKind.TheVariants.{LimitPassed}
 use Rattle.tesla_commit.specs.declared.refusal.SetupRefusal.{SetupRefusal}
 use Rattle.tesla_commit.specs.declared.refusal.SetupRefusal.TheVariants as refusals
 
@@ -11,13 +12,17 @@ abbrev pub ◌>>=◌ : {A B E : Type 0} → Result A E → (A → Result B E) �
 (Ok x) >>= f = f x
 (Err e) >>= f = Err e
 
+-- a number within limits
+abbrev pub within : ℕ → ℕ → ℕ → Result ℕ SetupKind
+within least most number = if nat_le least number && nat_le number most then Ok number else Err LimitPassed
+
 -- what is judged on a line, refused at that line
-abbrev pub at : {A : Type 0} → ℕ → Result A SetupKind → Result A (ℕ × SetupKind)
+abbrev pub at : {A E : Type 0} → ℕ → Result A E → Result A (ℕ × E)
 at line (Ok x) = Ok x
 at line (Err kind) = Err (line, kind)
 
 -- a refusal, or a value seen by view, is what is judged of the words of a line
-abbrev pub Says : {X Y : Type 0} → (X → Y) → Result X SetupKind → Result Y SetupKind → Type 0
+abbrev pub Says : {X Y E : Type 0} → (X → Y) → Result X E → Result Y E → Type 0
 Says view (Ok x) judged = judged ≡ Ok (view x)
 Says view (Err kind) judged = judged ≡ Err kind
 

@@ -8,15 +8,18 @@ use Rattle.std.specs.Str.{bytes_eq}
 use Rattle.hex.specs.Hex.{decode_sized}
 use Rattle.hex.specs.declared.error.FromHexError.{FromHexError}
 use Rattle.tesla_base.specs.Number.{decimal_of}
+use Rattle.tesla_base.specs.Version.{shortest_tag, longest_tag}
 use Rattle.tesla_base.specs.declared.number.NumberFault.{NumberFault}
 use Rattle.tesla_base.specs.declared.names.StreamId.{StreamId}
+use Rattle.tesla_base.specs.declared.version.Version.{Version}
+use Rattle.tesla_base.specs.declared.version.Version.TheVariants.{One, Two}
 use Rattle.tesla_clock.specs.Schedule.{Times}
 use Rattle.tesla_commit.specs.Parts.{Parts}
-use Rattle.tesla_commit.specs.JudgedLines.{◌>>=◌, at}
-use Rattle.tesla_commit.specs.ChainRows.{row_judged}
+use Rattle.tesla_commit.specs.JudgedLines.{◌>>=◌, at, within}
+use Rattle.tesla_commit.specs.ChainRows.{row_judged, first_line, end_line}
 use Rattle.tesla_commit.specs.declared.chain_row.ChainRow.{ChainRow}
 use Rattle.tesla_commit.specs.declared.refusal.SetupKind.{SetupKind}
-use Rattle.tesla_commit.specs.declared.refusal.SetupKind.TheVariants.{BadLine, BadNumber, BadHex, NoChain, TooManyChains, LimitPassed, TooLong}
+use Rattle.tesla_commit.specs.declared.refusal.SetupKind.TheVariants.{BadLine, BadNumber, BadHex, NoChain, TooManyChains, TooLong}
 
 -- what stands between such bytes
 unfoldable pub between : ℕ → List ℕ → List (List ℕ)
@@ -57,10 +60,6 @@ number_or_bad (Err fault) = Err BadNumber
 abbrev pub number_in : List ℕ → Result ℕ SetupKind
 number_in word = number_or_bad (decimal_of word)
 
--- a number within limits
-abbrev pub within : ℕ → ℕ → ℕ → Result ℕ SetupKind
-within least most number = if nat_le least number && nat_le number most then Ok number else Err LimitPassed
-
 -- a digit of a hexadecimal number in lower case
 abbrev pub is_lower_digit : ℕ → Bool
 is_lower_digit b = (nat_le 48 b && nat_le b 57) || (nat_le 97 b && nat_le b 102)
@@ -75,8 +74,11 @@ abbrev pub hex_in : ℕ → List ℕ → Result (List ℕ) SetupKind
 hex_in count word = if list_all is_lower_digit word then bytes_or_bad (decode_sized word count) else Err BadHex
 
 -- line 1
-abbrev pub title_in : List ℕ → Result (Unit {0}) SetupKind
-title_in line = if bytes_eq line (codes "tesla 1") then Ok tt else Err BadLine
+abbrev pub title_in : List ℕ → Result Version SetupKind
+title_in line =
+    if bytes_eq line (codes "tesla 1") then Ok One
+    else if bytes_eq line (codes "tesla 2") then Ok Two
+    else Err BadLine
 
 -- line 2
 abbrev pub stream_in : List ℕ → Result StreamId SetupKind
@@ -109,24 +111,24 @@ chain_in last before line = do
   row_judged last before (record { delay = delay; index = index; key = record { 0 = key } })
 
 -- the chains from that line on, to the end of the text
-unfoldable pub chains_judged : ℕ → ℕ → ℕ → List (List ℕ) → Result (List ChainRow) (ℕ × SetupKind)
-chains_judged last number before [] = Err (number, BadLine)
-chains_judged last number before (unended ∷ []) =
-    if length unended == 0 then (if number == 6 then Err (number, NoChain) else Ok [])
-    else if number == 10 then Err (number, TooManyChains)
+unfoldable pub chains_judged : Version → ℕ → ℕ → ℕ → List (List ℕ) → Result (List ChainRow) (ℕ × SetupKind)
+chains_judged version last number before [] = Err (number, BadLine)
+chains_judged version last number before (unended ∷ []) =
+    if length unended == 0 then (if number == first_line version then Err (number, NoChain) else Ok [])
+    else if number == end_line version then Err (number, TooManyChains)
     else Err (number, BadLine)
-chains_judged last number before (line ∷ next ∷ others) =
-    if number == 10 then Err (number, TooManyChains)
-    else at number (chain_in last before line) >>= λ row. chains_judged last (number + 1) row.delay (next ∷ others) >>= λ rows. Ok (row ∷ rows)
+chains_judged version last number before (line ∷ next ∷ others) =
+    if number == end_line version then Err (number, TooManyChains)
+    else at number (chain_in last before line) >>= λ row. chains_judged version last (number + 1) row.delay (next ∷ others) >>= λ rows. Ok (row ∷ rows)
 
 -- lines 1 and 2
-unfoldable pub opening_judged : List (List ℕ) → Result (StreamId × List (List ℕ)) (ℕ × SetupKind)
+unfoldable pub opening_judged : List (List ℕ) → Result (Version × StreamId × List (List ℕ)) (ℕ × SetupKind)
 opening_judged text = do
   one ← next_line 1 text
-  title ← at 1 (title_in one.0)
+  version ← at 1 (title_in one.0)
   two ← next_line 2 one.1
   stream ← at 2 (stream_in two.0)
-  Ok (stream, two.1)
+  Ok (version, stream, two.1)
 
 -- lines 3 to 5
 unfoldable pub times_judged : List (List ℕ) → Result (Times × List (List ℕ)) (ℕ × SetupKind)
@@ -139,8 +141,23 @@ times_judged text = do
   last ← at 5 (limited_in (codes "last") 1 1048576 five.0)
   Ok (record { start = start; length = length; last = last }, five.1)
 
+-- line 6 of version 2, the length of tags
+unfoldable pub tag_judged : Version → List (List ℕ) → Result (ℕ × List (List ℕ)) (ℕ × SetupKind)
+tag_judged One text = Ok (longest_tag One, text)
+tag_judged Two text = do
+  six ← next_line 6 text
+  size ← at 6 (limited_in (codes "tag") (shortest_tag Two) (longest_tag Two) six.0)
+  Ok (size, six.1)
+
+-- the lines after those of the times
+unfoldable pub rest_judged : Version → StreamId → Times → List (List ℕ) → Result Parts (ℕ × SetupKind)
+rest_judged version stream times text = do
+  tag ← tag_judged version text
+  rows ← chains_judged version times.last (first_line version) 0 tag.1
+  Ok (record { version = version; stream = stream; times = times; tag_length = tag.0; rows = rows })
+
 -- the whole text
 unfoldable pub judged : List ℕ → Result Parts (ℕ × SetupKind)
 judged text =
     if nat_lt 4096 (length text) then Err (0, TooLong)
-    else opening_judged (lines text) >>= λ opening. times_judged opening.1 >>= λ times. chains_judged times.0.last 6 0 times.1 >>= λ rows. Ok (record { stream = opening.0; times = times.0; rows = rows })
+    else opening_judged (lines text) >>= λ opening. times_judged opening.2 >>= λ times. rest_judged opening.0 opening.1 times.0 times.1

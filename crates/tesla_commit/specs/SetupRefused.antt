@@ -3,10 +3,14 @@ use Rattle.std.specs.Prelude.{◌≡◌, ◌≢◌, ◌⊎◌, ℕ, zero, suc, �
 use Rattle.std.specs.Int.{w64, to_be_bytes}
 use Rattle.std.specs.List.{AllByRecursion}
 use Rattle.hex.specs.Hex.{encode_lower, IsBytes}
+use Rattle.tesla_base.specs.Version.{most_chains, shortest_tag, longest_tag, IsTagLength}
+use Rattle.tesla_base.specs.declared.version.Version.{Version}
+use Rattle.tesla_base.specs.declared.version.Version.TheVariants.{One, Two}
 use Rattle.tesla_clock.specs.Schedule.{IsSchedule}
+use Rattle.tesla_commit.specs.ChainRows.{first_line}
 use Rattle.tesla_commit.specs.Parts.{Parts, IsRow, DelaysRise}
 use Rattle.tesla_commit.specs.Parsing.{lines, words}
-use Rattle.tesla_commit.specs.SetupText.{chain_values, HasKey}
+use Rattle.tesla_commit.specs.SetupText.{chain_values, version_text, HasKey}
 use Rattle.tesla_commit.specs.declared.chain_row.ChainRow.{ChainRow}
 use Rattle.tesla_commit.specs.declared.refusal.SetupKind.{SetupKind}
 use Rattle.tesla_commit.specs.declared.refusal.SetupKind.TheVariants.{BadLine, BadNumber, BadHex, NoChain, TooManyChains, DelaysNotRising, IndexPastLast, LimitPassed, TooLong}
@@ -23,9 +27,13 @@ IsNoHex count word = (bytes : List ℕ) → length bytes ≡ count → IsBytes b
 abbrev pub IsOutside : ℕ → ℕ → ℕ → Type 0
 IsOutside least most n = (n < least) ⊎ (most < n)
 
+-- line 1
+abbrev pub title : Version → List ℕ
+title version = codes "tesla" ++ 32 ∷ version_text version
+
 -- why line 1 is refused
 abbrev pub WhyTitle : SetupKind → List ℕ → Type 0
-WhyTitle BadLine line = line ≢ codes "tesla 1"
+WhyTitle BadLine line = (version : Version) → line ≢ title version
 WhyTitle _ line = ⊥
 
 -- why line 2 is refused
@@ -69,21 +77,27 @@ StopsHere why kind [] = ⊥
 StopsHere why kind (unended ∷ []) = kind ≡ BadLine
 StopsHere why kind (line ∷ next ∷ others) = why kind line
 
+-- the line of the tags' length, where there is one
+abbrev pub tag_lines : Version → ℕ → List (List ℕ)
+tag_lines One size = []
+tag_lines Two size = (codes "tag" ++ 32 ∷ decimal size) ∷ []
+
 -- the lines of a setup before those of its chains
 abbrev pub head_lines : Parts → List (List ℕ)
 head_lines parts =
-    codes "tesla 1"
+    title parts.version
     ∷ (codes "stream" ++ 32 ∷ encode_lower (to_be_bytes w64 parts.stream.0))
     ∷ (codes "start" ++ 32 ∷ decimal parts.times.start)
     ∷ (codes "interval" ++ 32 ∷ decimal parts.times.length)
     ∷ (codes "last" ++ 32 ∷ decimal parts.times.last)
-    ∷ []
+    ∷ tag_lines parts.version parts.tag_length
 
 -- the limits of what those lines tell
 pub record IsHead (parts : Parts) : Type 0 where
   pub stream : parts.stream.0 < 2 ^ 64
   pub start : parts.times.start < 2 ^ 64
   pub times : IsSchedule parts.times
+  pub tag_length : IsTagLength parts.version parts.tag_length
 
 -- why the line after so many is refused, before the chains
 abbrev pub why_head : ℕ → SetupKind → List ℕ → Type 0
@@ -91,13 +105,14 @@ why_head zero kind line = WhyTitle kind line
 why_head (suc zero) kind line = WhyStream kind line
 why_head (suc (suc zero)) kind line = WhyNumber (codes "start") 0 (2 ^ 64 - 1) kind line
 why_head (suc (suc (suc zero))) kind line = WhyNumber (codes "interval") 1000 3600000000 kind line
-why_head (suc (suc (suc (suc n)))) kind line = WhyNumber (codes "last") 1 1048576 kind line
+why_head (suc (suc (suc (suc zero)))) kind line = WhyNumber (codes "last") 1 1048576 kind line
+why_head (suc (suc (suc (suc (suc n))))) kind line = WhyNumber (codes "tag") (shortest_tag Two) (longest_tag Two) kind line
 
 -- the lines before that one are those of a setup's front, and it is refused
 pub record StopsInHead (text : List (List ℕ)) (before : ℕ) (kind : SetupKind) : Type 0 where
   pub parts : Parts
   pub limits : IsHead parts
-  pub few : before < 5
+  pub few : before + 1 < first_line parts.version
   pub rest : List (List ℕ)
   pub spelled : text ≡ take before (head_lines parts) ++ rest
   pub why : StopsHere (why_head before) kind rest
@@ -112,10 +127,10 @@ last_delay before [] = before
 last_delay before (row ∷ rows) = last_delay row.delay rows
 
 -- why the text is refused at a line of a chain
-abbrev pub StopsAtChain : ℕ → ℕ → ℕ → SetupKind → List (List ℕ) → Type 0
-StopsAtChain count last before NoChain rest = (count ≡ 0) × (rest ≡ [] ∷ [])
-StopsAtChain count last before TooManyChains rest = (count ≡ 4) × (0 < length rest) × (rest ≢ [] ∷ [])
-StopsAtChain count last before kind rest = (count < 4) × (rest ≢ [] ∷ []) × StopsHere (WhyChain last before) kind rest
+abbrev pub StopsAtChain : ℕ → ℕ → ℕ → ℕ → SetupKind → List (List ℕ) → Type 0
+StopsAtChain most count last before NoChain rest = (count ≡ 0) × (rest ≡ [] ∷ [])
+StopsAtChain most count last before TooManyChains rest = (count ≡ most) × (0 < length rest) × (rest ≢ [] ∷ [])
+StopsAtChain most count last before kind rest = (count < most) × (rest ≢ [] ∷ []) × StopsHere (WhyChain last before) kind rest
 
 -- the lines before that one are those of a setup's front with all of these chains, and it is refused
 pub record StopsInChains (text : List (List ℕ)) (before : ℕ) (kind : SetupKind) : Type 0 where
@@ -124,10 +139,10 @@ pub record StopsInChains (text : List (List ℕ)) (before : ℕ) (kind : SetupKi
   pub each : AllByRecursion (IsRow parts.times.last) parts.rows
   pub rise : DelaysRise parts.rows
   pub keys : AllByRecursion HasKey parts.rows
-  pub count : before ≡ 5 + length parts.rows
+  pub count : before + 1 ≡ first_line parts.version + length parts.rows
   pub rest : List (List ℕ)
   pub spelled : text ≡ head_lines parts ++ map chain_text parts.rows ++ rest
-  pub why : StopsAtChain (length parts.rows) parts.times.last (last_delay 0 parts.rows) kind rest
+  pub why : StopsAtChain (most_chains parts.version) (length parts.rows) parts.times.last (last_delay 0 parts.rows) kind rest
 
 -- the text is refused at this line: it is too long, or its lines before that one are those of a setup's front
 abbrev pub IsRefused : List ℕ → ℕ → SetupKind → Type 0

@@ -3,6 +3,8 @@ use Rattle.std.specs.Prelude.{◌≡◌, ℕ, ◌≤◌, List, [], ◌∷◌, �
 use Rattle.std.specs.Int.{w64, to_be_bytes}
 use Rattle.std.specs.List.{flat_map, AllByRecursion}
 use Rattle.hex.specs.Hex.{encode_lower, IsBytes}
+use Rattle.tesla_base.specs.declared.version.Version.{Version}
+use Rattle.tesla_base.specs.declared.version.Version.TheVariants.{One, Two}
 use Rattle.tesla_commit.specs.Parts.{Parts, IsSetupOf}
 use Rattle.tesla_commit.specs.declared.chain_row.ChainRow.{ChainRow}
 
@@ -18,14 +20,25 @@ chain_values row = decimal row.delay ++ 32 ∷ decimal row.index ++ 32 ∷ encod
 abbrev pub chain_line : ChainRow → List ℕ
 chain_line row = line (codes "chain") (chain_values row)
 
+-- the number of a version, as line 1 has it
+abbrev pub version_text : Version → List ℕ
+version_text One = codes "1"
+version_text Two = codes "2"
+
+-- the line of the tags' length, which version 1 doesn't have
+abbrev pub tag_line : Version → ℕ → List ℕ
+tag_line One size = []
+tag_line Two size = line (codes "tag") (decimal size)
+
 -- the text of a setup
 unfoldable pub setup_text : Parts → List ℕ
 setup_text parts =
-    line (codes "tesla") (codes "1")
+    line (codes "tesla") (version_text parts.version)
     ++ line (codes "stream") (encode_lower (to_be_bytes w64 parts.stream.0))
     ++ line (codes "start") (decimal parts.times.start)
     ++ line (codes "interval") (decimal parts.times.length)
     ++ line (codes "last") (decimal parts.times.last)
+    ++ tag_line parts.version parts.tag_length
     ++ flat_map chain_line parts.rows
 
 -- a key of 32 bytes

@@ -2,8 +2,8 @@
 
 ghost use Rattle.std.specs.Prelude.{◌≡◌, ◌==◌, ◌≤◌, ◌∷◌, position, [], MatchOption, IfOk};
 ghost use Rattle.std.specs.List.{list_all};
-ghost use Rattle.tesla_commit.specs.JudgedLines.{at, Says, SaysOfLines};
-ghost use Rattle.tesla_commit.specs.Parsing.{between, lines, words, next_line, value_in, chain_words, number_in, within, is_lower_digit, hex_in};
+ghost use Rattle.tesla_commit.specs.JudgedLines.{at, within, Says, SaysOfLines};
+ghost use Rattle.tesla_commit.specs.Parsing.{between, lines, words, next_line, value_in, chain_words, number_in, is_lower_digit, hex_in};
 
 use crate::SetupKind;
 use crate::refusal::LineRefusal;
@@ -11,7 +11,7 @@ use hex::decode_to_slice;
 use tesla_base::read_decimal;
 
 /// What stands before and after the first such byte of a text.
-fn cut(text: &[u8], byte: u8) -> Option<(&[u8], &[u8])>
+pub fn cut(text: &[u8], byte: u8) -> Option<(&[u8], &[u8])>
     ensures { MatchOption result (between byte text.now ≡ text.now ∷ []) (λ x. between byte text.now ≡ x.0.now ∷ between byte x.1.now) }
 {
     let Some(place) = first_place(text, byte) else {

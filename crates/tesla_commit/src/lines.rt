@@ -6,14 +6,16 @@ ghost use Rattle.tesla_commit.specs.Parsing.{title_in, stream_in, start_in, limi
 use crate::chain_rows::judge_row;
 use crate::line_words::{chain_words, hex_in, number_in, value_in, within};
 use crate::{ChainRow, SetupKind};
-use tesla_base::{Key, StreamId};
+use tesla_base::{Key, StreamId, Version};
 
 /// Line 1.
-pub fn title_in(line: &[u8]) -> Result<(), SetupKind>
+pub fn title_in(line: &[u8]) -> Result<Version, SetupKind>
     ensures { result ≡ title_in line.now }
 {
     if line == b"tesla 1".as_slice() {
-        Ok(())
+        Ok(Version::One)
+    } else if line == b"tesla 2".as_slice() {
+        Ok(Version::Two)
     } else {
         Err(SetupKind::BadLine)
     }

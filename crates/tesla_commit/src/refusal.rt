@@ -19,13 +19,13 @@ pub enum SetupKind {
     BadHex,
     /// There is no chain.
     NoChain,
-    /// There are more than four chains.
+    /// There are more chains than the version allows: four, or eight.
     TooManyChains,
     /// The delay is not above that of the chain before.
     DelaysNotRising,
     /// The index of the committed key is above the last interval.
     IndexPastLast,
-    /// The length of an interval, the last interval or a delay is outside its limits.
+    /// The length of an interval, the last interval, the length of tags or a delay is outside its limits.
     LimitPassed,
     /// The text has more than 4,096 bytes.
     TooLong,
@@ -57,6 +57,9 @@ impl fmt::Display for SetupKind {
     }
 }
 
+/// The line of the length of tags in version 2.
+pub const TAG_LINE: u32 = 6;
+
 /// A refused line, with what is wrong with it.
 #[derive(Clone, Copy, Debug, PartialEq, Eq)]
 pub struct LineRefusal {
@@ -70,7 +73,8 @@ pub struct LineRefusal {
 #[derive(Clone, Copy, Debug, PartialEq, Eq)]
 pub enum SetupRefusal {
     /// The first refused line, counted from 1, or 0 for the whole text. Row `k` of chains has line
-    /// `6 + k`.
+    /// `6 + k` in version 1. In version 2 line 6 is that of the length of tags, and row `k` has line
+    /// `7 + k`.
     At { line: u32, kind: SetupKind },
     /// The allocator had no memory.
     NoMemory,

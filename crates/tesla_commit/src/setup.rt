@@ -2,24 +2,30 @@
 
 ghost use Rattle.std.specs.Prelude.{◌≡◌, ℕ, ◌<◌, ◌≤◌, List, length, slice_get, IfOk};
 ghost use Rattle.std.specs.List.{AllByRecursion};
+ghost use Rattle.tesla_base.specs.Version.{number_of, most_chains, shortest_tag, IsTagLength};
+ghost use Rattle.tesla_base.specs.declared.version.Version.TheVariants.{One, Two};
 ghost use Rattle.tesla_commit.specs.Parts.{Parts, IsRow, IsSetupOf};
 ghost use Rattle.tesla_commit.specs.SetupText.{HasKey};
 ghost use Rattle.tesla_commit.specs.JudgedLines.{Answers};
 ghost use Rattle.tesla_commit.specs.ChainRows.{parts_judged};
 
-use crate::chain_rows::judge_rows;
+use crate::chain_rows::{judge_rows, judge_tag};
 use crate::{ChainRow, SetupRefusal};
 use std::alloc::Global;
 use std::marker::Model;
-use tesla_base::{NoMemory, StreamId};
+use tesla_base::{NoMemory, StreamId, Version};
 use tesla_clock::Schedule;
 
-/// What receivers trust beforehand of a stream (RFC 4082, section 3.3): its number, its intervals, and
-/// one to four key chains with strictly rising disclosure delays.
+/// What receivers trust beforehand of a stream (RFC 4082, section 3.3): the version of its frames, its
+/// number, its intervals, the length of its tags, and its key chains, with strictly rising disclosure
+/// delays. There are one to four of them in version 1, whose tags have 16 bytes, and one to eight in
+/// version 2, whose tags have 10 to 32.
 #[derive(Debug, Drop)]
 pub struct Setup {
+    version: Version,
     stream: StreamId,
     schedule: Schedule,
+    tag_length: u8,
     rows: Vec<ChainRow>,
 }
 
@@ -31,41 +37,111 @@ impl Model for Setup {
 
     ghost Value = { Parts };
 
-    ghost view = { λ s. record { stream = s.stream; times = s.schedule; rows = s.rows.items } };
+    ghost view = { λ s. record { version = s.version; stream = s.stream; times = s.schedule; tag_length = s.tag_length; rows = s.rows.items } };
 
-    ghost invariant = { λ s. IsSetupOf (record { stream = s.stream; times = s.schedule; rows = s.rows.items }) × AllByRecursion HasKey s.rows.items };
+    ghost invariant = { λ s. IsSetupOf (record { version = s.version; stream = s.stream; times = s.schedule; tag_length = s.tag_length; rows = s.rows.items }) × AllByRecursion HasKey s.rows.items };
 }
 
 impl Setup {
-    /// The setup of these parts. It is refused at the first refused line, where row `k` has line
-    /// `6 + k`: `NoChain` at line 6 where there is no row, `TooManyChains` at line 10 where there is a
-    /// fifth, and in a row, in this order, `LimitPassed` where the delay is not 1 to 4,096,
-    /// `DelaysNotRising` where it is not above that of the row before, `IndexPastLast` where the index
-    /// is above the last interval.
+    /// The setup of version 1 with these parts: tags have 16 bytes. It is refused at the first refused
+    /// line, where row `k` has line `6 + k`: `NoChain` at line 6 where there is no row, `TooManyChains`
+    /// at line 10 where there is a fifth, and in a row, in this order, `LimitPassed` where the delay is
+    /// not 1 to 4,096, `DelaysNotRising` where it is not above that of the row before, `IndexPastLast`
+    /// where the index is above the last interval.
     pub fn new(
         alloc: Global,
         stream: StreamId,
         schedule: Schedule,
         rows: &[ChainRow],
     ) -> Result<Setup, SetupRefusal>
-        ensures { Answers (λ setup. setup) result (parts_judged stream schedule rows.now) }
+        ensures { Answers (λ setup. setup) result (parts_judged One stream schedule (shortest_tag One) rows.now) }
     {
-        judge_rows(schedule.last(), rows)?;
+        let version = Version::One;
+        Setup::of_version(
+            alloc,
+            version,
+            stream,
+            schedule,
+            version.shortest_tag(),
+            rows,
+        )
+    }
+
+    /// The setup of version 2 with these parts, whose tags have `tag` bytes. It is refused at the first
+    /// refused line: `LimitPassed` at line 6 where `tag` is not 10 to 32; and then, where row `k` has
+    /// line `7 + k`, `NoChain` at line 7 where there is no row, `TooManyChains` at line 15 where there
+    /// is a ninth, and in a row the kinds that [`Setup::new`] has, in its order.
+    pub fn new2(
+        alloc: Global,
+        stream: StreamId,
+        schedule: Schedule,
+        tag: u8,
+        rows: &[ChainRow],
+    ) -> Result<Setup, SetupRefusal>
+        ensures { Answers (λ setup. setup) result (parts_judged Two stream schedule tag rows.now) }
+    {
+        Setup::of_version(alloc, Version::Two, stream, schedule, tag, rows)
+    }
+
+    /// The setup of these parts in either version.
+    #[tactic(auto, unfolding(crate::specs::ChainRows::parts_judged))]
+    fn of_version(
+        alloc: Global,
+        version: Version,
+        stream: StreamId,
+        schedule: Schedule,
+        tag: u8,
+        rows: &[ChainRow],
+    ) -> Result<Setup, SetupRefusal>
+        ensures { Answers (λ setup. setup) result (parts_judged version stream schedule tag rows.now) }
+    {
+        judge_tag(version, tag)?;
+        judge_rows(version, schedule.last(), rows)?;
         let rows = Vec::from_slice(alloc, rows)?;
-        Ok(Setup::assemble(stream, schedule, rows))
+        Ok(Setup::assemble(version, stream, schedule, tag, rows))
     }
 
     /// The setup of parts within the limits.
-    pub(crate) fn assemble(stream: StreamId, schedule: Schedule, rows: Vec<ChainRow>) -> Setup
-        requires limits { IsSetupOf (record { stream = stream; times = schedule; rows = rows.items }) }
+    pub(crate) fn assemble(
+        version: Version,
+        stream: StreamId,
+        schedule: Schedule,
+        tag_length: u8,
+        rows: Vec<ChainRow>,
+    ) -> Setup
+        requires limits { IsSetupOf (record { version = version; stream = stream; times = schedule; tag_length = tag_length; rows = rows.items }) }
         requires keys { AllByRecursion HasKey rows.items }
-        ensures { result ≡ record { stream = stream; times = schedule; rows = rows.items } }
+        ensures { result ≡ record { version = version; stream = stream; times = schedule; tag_length = tag_length; rows = rows.items } }
     {
         Setup {
+            version,
             stream,
             schedule,
+            tag_length,
             rows,
         }
+    }
+
+    /// The number of the version of the setup and of its stream's frames: 1 or 2.
+    pub fn version(&self) -> u8
+        ensures { result ≡ number_of self.now.version }
+    {
+        self.version.number()
+    }
+
+    /// The version of the setup and of its stream's frames.
+    pub fn format(&self) -> Version
+        ensures { result ≡ self.now.version }
+    {
+        self.version
+    }
+
+    /// How many bytes a tag of the stream has: 16 in version 1, 10 to 32 in version 2.
+    pub fn tag_length(&self) -> u8
+        ensures value { result ≡ self.now.tag_length }
+        ensures limits { IsTagLength self.now.version result }
+    {
+        self.tag_length
     }
 
     /// The number of the stream.
@@ -82,11 +158,12 @@ impl Setup {
         self.schedule
     }
 
-    /// How many chains there are: 1 to 4.
+    /// How many chains there are: 1 to 4 in version 1, 1 to 8 in version 2.
     pub fn count(&self) -> u8
         ensures value { result ≡ length self.now.rows }
         ensures some { 1 ≤ result }
-        ensures few { result ≤ 4 }
+        ensures few { result ≤ 8 }
+        ensures limit { result ≤ most_chains self.now.version }
         ensures limits { IsSetupOf self.now }
         ensures keys { AllByRecursion HasKey self.now.rows }
     {
@@ -107,8 +184,10 @@ impl Setup {
         ensures { IfOk result (λ setup. setup ≡ self.now) }
     {
         Ok(Setup {
+            version: self.version,
             stream: self.stream,
             schedule: self.schedule,
+            tag_length: self.tag_length,
             rows: Vec::from_slice(alloc, self.rows.as_slice())?,
         })
     }

@@ -1,24 +1,32 @@
-//! The base setup, and texts that are refused.
+//! The base setup, a setup of version 2, and texts that are refused.
 
 use super::*;
 use std::alloc::{AllocError, Global};
 use std::test::Fail;
-use tesla_base::{Key, StreamId};
+use tesla_base::{Key, StreamId, Version};
 use tesla_clock::Schedule;
 use tesla_examples::SETUP;
 
-// What is told of a text: a setup, or its refusal.
-fn told(alloc: Global, text: &str) -> Result<String, AllocError> {
-    match read_setup(alloc, text.as_bytes()) {
+// A setup of version 2, with the greatest numbers that there may be.
+const WIDE: &str =
+    "tesla 2\nstream 00000000000000a7\nstart 18446744073709551615\ninterval 3600000000\nlast 1048576\ntag 32\nchain 2 0 d37e38b1539f22b758d1e34d417c1032bee6369ad6cd313ca36c4c745fa2a941\nchain 3 0 9ce5072017e83d06da080924aa2251a73ea445e5986eb68ca2d8fb6a3bf70ced\nchain 4096 1048576 9ce5072017e83d06da080924aa2251a73ea445e5986eb68ca2d8fb6a3bf70ced\n";
+
+// What is told: a setup, or its refusal.
+fn told_of(alloc: Global, judged: Result<Setup, SetupRefusal>) -> Result<String, AllocError> {
+    match judged {
         Ok(_) => String::from_str(alloc, "setup"),
         Err(SetupRefusal::NoMemory) => String::from_str(alloc, "no memory"),
         Err(SetupRefusal::At { line, kind }) => format!(in alloc; "{line} {kind}"),
     }
 }
 
-// What is told of the base setup with one change.
-fn told_with(alloc: Global, old: &str, new: &str) -> Result<String, AllocError> {
-    match SETUP.split_once(old) {
+fn told(alloc: Global, text: &str) -> Result<String, AllocError> {
+    told_of(alloc, read_setup(alloc, text.as_bytes()))
+}
+
+// What is told of a text with one change.
+fn told_with(alloc: Global, whole: &str, old: &str, new: &str) -> Result<String, AllocError> {
+    match whole.split_once(old) {
         None => String::from_str(alloc, "not there"),
         Some((before, after)) => {
             let text = format!(in alloc; "{before}{new}{after}")?;
@@ -35,6 +43,8 @@ fn base_setup(rt: HostRuntime) -> Result<(), Fail> {
     assert_eq!(rt; setup.schedule().length(), 100_000);
     assert_eq!(rt; setup.schedule().last(), 8);
     assert_eq!(rt; setup.count(), 2);
+    assert_eq!(rt; setup.version(), 1);
+    assert_eq!(rt; setup.tag_length(), 16);
     let first = setup.row(0);
     let second = setup.row(1);
     assert_eq!(rt; first.delay, 2);
@@ -64,41 +74,61 @@ fn base_setup(rt: HostRuntime) -> Result<(), Fail> {
 }
 
 #[test]
+fn setup_of_version_2(rt: HostRuntime) -> Result<(), Fail> {
+    let setup = read_setup(rt.alloc(), WIDE.as_bytes())?;
+    assert_eq!(rt; setup.version(), 2);
+    assert_eq!(rt; setup.format(), Version::Two);
+    assert_eq!(rt; setup.tag_length(), 32);
+    assert_eq!(rt; setup.count(), 3);
+    let rows = [setup.row(0), setup.row(1), setup.row(2)];
+    let made = Setup::new2(
+        rt.alloc(),
+        setup.stream(),
+        setup.schedule(),
+        32,
+        rows.as_slice(),
+    )?;
+    let copy = made.copy(rt.alloc()).ok().ok_or("there is memory")?;
+    for written in [&setup, &made, &copy] {
+        let text = write_setup(rt.alloc(), written)
+            .ok()
+            .ok_or("there is memory")?;
+        assert_eq!(rt; text.as_slice(), WIDE.as_bytes());
+    }
+    Ok(())
+}
+
+#[test]
 fn refused_rows(rt: HostRuntime) -> Result<(), Fail> {
+    let alloc = rt.alloc();
     let schedule = Schedule::new(0, 1000, 8).ok_or("within the limits")?;
+    let stream = StreamId(0);
     let row = ChainRow {
         delay: 4096,
         index: 8,
         key: Key([0; 32]),
     };
-    let stream = StreamId(0);
-    let none = Setup::new(rt.alloc(), stream, schedule, [].as_slice());
-    let same = Setup::new(rt.alloc(), stream, schedule, [row, row].as_slice());
-    assert!(rt;
-        matches!(
-            none,
-            Err(SetupRefusal::At {
-                line: 6,
-                kind: SetupKind::NoChain
-            })
-        )
-    );
-    assert!(rt;
-        matches!(
-            same,
-            Err(SetupRefusal::At {
-                line: 7,
-                kind: SetupKind::DelaysNotRising
-            })
-        )
-    );
+    let same = [row, row];
+    let none = Setup::new(alloc, stream, schedule, [].as_slice());
+    assert_eq!(rt; told_of(alloc, none)?.as_str(), "6 NoChain");
+    let two = Setup::new(alloc, stream, schedule, same.as_slice());
+    assert_eq!(rt; told_of(alloc, two)?.as_str(), "7 DelaysNotRising");
+    let none = Setup::new2(alloc, stream, schedule, 10, [].as_slice());
+    assert_eq!(rt; told_of(alloc, none)?.as_str(), "7 NoChain");
+    let two = Setup::new2(alloc, stream, schedule, 10, same.as_slice());
+    assert_eq!(rt; told_of(alloc, two)?.as_str(), "8 DelaysNotRising");
+    for tag in [9, 33] {
+        let wrong = Setup::new2(alloc, stream, schedule, tag, same.as_slice());
+        assert_eq!(rt; told_of(alloc, wrong)?.as_str(), "6 LimitPassed");
+    }
     Ok(())
 }
 
 #[test]
 fn refused_lines_before_the_chains(rt: HostRuntime) -> Result<(), Fail> {
     let changes = [
-        ("tesla 1", "tesla 2", "1 BadLine"),
+        ("tesla 1", "tesla 2", "6 BadLine"),
+        ("tesla 1", "tesla 3", "1 BadLine"),
         ("tesla 1\n", "tesla 1\r\n", "1 BadLine"),
         ("stream 0", "Stream 0", "2 BadLine"),
         ("stream 0", "stream 0 0", "2 BadLine"),
@@ -121,7 +151,7 @@ fn refused_lines_before_the_chains(rt: HostRuntime) -> Result<(), Fail> {
         ("last 8\n", "last 8", "5 BadLine"),
     ];
     for (old, new, wanted) in changes {
-        let given = told_with(rt.alloc(), old, new)?;
+        let given = told_with(rt.alloc(), SETUP, old, new)?;
         assert_eq!(rt; given.as_str(), wanted, "{old} to {new}");
     }
     Ok(())
@@ -150,9 +180,76 @@ fn refused_lines_of_chains(rt: HostRuntime) -> Result<(), Fail> {
         ("ced\n", "ced\n\n", "8 BadLine"),
     ];
     for (old, new, wanted) in changes {
-        let given = told_with(rt.alloc(), old, new)?;
+        let given = told_with(rt.alloc(), SETUP, old, new)?;
         assert_eq!(rt; given.as_str(), wanted, "{old} to {new}");
     }
+    Ok(())
+}
+
+// Each change is of one byte.
+#[test]
+fn refused_lines_of_version_2(rt: HostRuntime) -> Result<(), Fail> {
+    let changes = [
+        ("tesla 2", "tesla 3", "1 BadLine"),
+        ("tesla 2", "tesla 1", "6 BadLine"),
+        ("tesla 2\n", "tesla 2 ", "1 BadLine"),
+        ("stream 0", "strean 0", "2 BadLine"),
+        ("a7\n", "a7 ", "2 BadLine"),
+        ("a7", "g7", "2 BadHex"),
+        ("start 1", "start-1", "3 BadLine"),
+        ("start 1", "start 0", "3 BadNumber"),
+        ("1615", "1616", "3 BadNumber"),
+        ("interval 3", "intervals3", "4 BadLine"),
+        ("interval 3", "interval 0", "4 BadNumber"),
+        ("3600000000", "3600000001", "4 LimitPassed"),
+        ("last 1", "past 1", "5 BadLine"),
+        ("last 1", "last +", "5 BadNumber"),
+        ("last 1048576", "last 1048577", "5 LimitPassed"),
+        ("tag 32", "tap 32", "6 BadLine"),
+        ("tag 32", "tag 3 ", "6 BadLine"),
+        ("tag 32", "tag 02", "6 BadNumber"),
+        ("tag 32", "tag 33", "6 LimitPassed"),
+        ("tag 32", "tag 12", "setup"),
+        ("chain 2 0", "chaim 2 0", "7 BadLine"),
+        ("chain 2 0", "chain 2 x", "7 BadNumber"),
+        ("chain 2 0", "chain 0 0", "7 LimitPassed"),
+        ("0 d", "0 D", "7 BadHex"),
+        ("chain 3", "chain 2", "8 DelaysNotRising"),
+        ("4096", "4097", "9 LimitPassed"),
+        ("4096 1048576", "4096 1048577", "9 IndexPastLast"),
+    ];
+    for (old, new, wanted) in changes {
+        let given = told_with(rt.alloc(), WIDE, old, new)?;
+        assert_eq!(rt; given.as_str(), wanted, "{old} to {new}");
+    }
+    Ok(())
+}
+
+#[test]
+fn refused_texts_of_version_2(rt: HostRuntime) -> Result<(), Fail> {
+    let alloc = rt.alloc();
+    let tags = [
+        ("tag 9", "6 LimitPassed"),
+        ("tag 10", "setup"),
+        ("tag 1", "6 LimitPassed"),
+        ("chain 1 0", "6 BadLine"),
+    ];
+    for (tag, wanted) in tags {
+        let given = told_with(alloc, WIDE, "tag 32", tag)?;
+        assert_eq!(rt; given.as_str(), wanted, "{tag}");
+    }
+    let (front, key) = WIDE.split_once("chain 2 0 ").ok_or("it is there")?;
+    let (key, _) = key.split_once("\n").ok_or("it is there")?;
+    let mut text = String::from_str(alloc, front)?;
+    assert_eq!(rt; told(alloc, text.as_str())?.as_str(), "7 NoChain");
+    for delay in 1..9_u8 {
+        text = format!(in alloc; "{text}chain {delay} 0 {key}\n")?;
+        assert_eq!(rt; told(alloc, text.as_str())?.as_str(), "setup");
+    }
+    let ninth = format!(in alloc; "{text}chain 9 0 {key}\n")?;
+    assert_eq!(rt; told(alloc, ninth.as_str())?.as_str(), "15 TooManyChains");
+    let byte = format!(in alloc; "{text}c")?;
+    assert_eq!(rt; told(alloc, byte.as_str())?.as_str(), "15 TooManyChains");
     Ok(())
 }
 

@@ -4,11 +4,11 @@ ghost use Rattle.std.specs.Prelude.{◌≡◌, ◌++◌, decimal, string_bytes, 
 ghost use Rattle.std.specs.Int.{w64, to_be_bytes};
 ghost use Rattle.std.specs.List.{flat_map};
 ghost use Rattle.hex.specs.Hex.{encode_lower};
-ghost use Rattle.tesla_commit.specs.SetupText.{line, chain_values, chain_line, setup_text, IsSetup};
+ghost use Rattle.tesla_commit.specs.SetupText.{line, version_text, tag_line, chain_values, chain_line, setup_text, IsSetup};
 
 use crate::{ChainRow, Setup};
 use std::alloc::{AllocError, Global};
-use tesla_base::NoMemory;
+use tesla_base::{NoMemory, Version};
 
 /// The digits of a number.
 fn decimal(alloc: Global, number: u64) -> Result<String, AllocError>
@@ -68,9 +68,29 @@ fn put_chain(alloc: Global, out: &mut Vec<u8>, row: ChainRow) -> Result<(), Allo
     put_line(out, b"chain", values.as_slice())
 }
 
-/// The lines before the chains.
+/// The number of a version, as line 1 has it.
+fn version_text(version: Version) -> &'static [u8]
+    ensures { result.now ≡ version_text version }
+{
+    match version {
+        Version::One => b"1",
+        Version::Two => b"2",
+    }
+}
+
+/// Adds the line of the length of tags, which version 1 doesn't have.
+fn put_tag(alloc: Global, out: &mut Vec<u8>, setup: &Setup) -> Result<(), AllocError>
+    ensures { OnOk result (out.new.items ≡ out.old.items ++ tag_line setup.now.version setup.now.tag_length) }
+{
+    match setup.format() {
+        Version::One => Ok(()),
+        Version::Two => put_number(alloc, out, b"tag", u64::from(setup.tag_length())),
+    }
+}
+
+/// The lines before that of the length of tags.
 fn opening(alloc: Global, setup: &Setup) -> Result<Vec<u8>, AllocError>
-    ensures { IfOk result (λ text. text.items ≡ line (codes "tesla") (codes "1")
+    ensures { IfOk result (λ text. text.items ≡ line (codes "tesla") (version_text setup.now.version)
         ++ line (codes "stream") (encode_lower (to_be_bytes w64 setup.now.stream.0))
         ++ line (codes "start") (decimal setup.now.times.start)
         ++ line (codes "interval") (decimal setup.now.times.length)
@@ -79,7 +99,7 @@ fn opening(alloc: Global, setup: &Setup) -> Result<Vec<u8>, AllocError>
     let schedule = setup.schedule();
     let stream = setup.stream().0.to_be_bytes();
     let mut out = Vec::new(alloc);
-    put_line(&mut out, b"tesla", b"1")?;
+    put_line(&mut out, b"tesla", version_text(setup.format()))?;
     put_hex(alloc, &mut out, b"stream", stream.as_slice())?;
     put_number(alloc, &mut out, b"start", schedule.start())?;
     put_number(alloc, &mut out, b"interval", u64::from(schedule.length()))?;
@@ -95,6 +115,7 @@ pub fn write_setup(alloc: Global, setup: &Setup) -> Result<Vec<u8>, NoMemory>
     ensures spelled { IfOk result (λ text. IsSetup text.items setup.now) }
 {
     let mut out = opening(alloc, setup)?;
+    put_tag(alloc, &mut out, setup)?;
     for chain in 0..setup.count() {
         put_chain(alloc, &mut out, setup.row(chain))?;
     }

@@ -1,14 +1,15 @@
 use Rattle.std.proofs.Common.{◌-◌, ◌≡◌, ◌≤◌}
+use Rattle.tesla_commit.specs.ChainRows.{first_line, end_line}
 use Rattle.tesla_commit.specs.Parsing.{lines, chains_judged}
 use Rattle.tesla_commit.proofs.RowLaws.{onto}
 use Rattle.tesla_commit.proofs.parsing.chains.Given as goal
 
 abbrev pub invariant-loop-number : goal.invariant-loop-number
 invariant-loop-number l = record {
-  low : 6 ≤ l.number;
-  high : l.number ≤ 10;
-  so_far : onto l.rows.items (chains_judged l.last l.number l.before (lines l.rest)) ≡ chains_judged l.last 6 0 (lines l.text);
+  low : first_line l.fn.version ≤ l.number;
+  high : l.number ≤ end_line l.fn.version;
+  so_far : onto l.rows.items (chains_judged l.fn.version l.last l.number l.before (lines l.rest)) ≡ chains_judged l.fn.version l.last (first_line l.fn.version) 0 (lines l.text);
 }
 
 abbrev pub decreases-loop-number : goal.decreases-loop-number
-decreases-loop-number l = 10 - l.number
+decreases-loop-number l = l.end - l.number
