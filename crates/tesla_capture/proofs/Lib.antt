@@ -5,5 +5,5 @@ pub mod StaysAhead
 pub mod StepGives
 pub mod OutlineStep
 pub mod RefusalHasCause
-pub mod OutlineIsCapture
+pub mod OutlineIsFile
 pub mod CauseRefuses

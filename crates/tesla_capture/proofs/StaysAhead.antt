@@ -4,8 +4,9 @@ use Rattle.std.proofs.lemmas.List.{drop_at, length-take-le, nil_from_length}
 use Rattle.tesla_desk.specs.declared.source.ReadStep.TheVariants.{Got}
 use Rattle.tesla_desk.specs.Outside.{after_bytes, Brings, Ends}
 use Rattle.tesla_desk.proofs.Told.{after_bytes_twice, after_bytes_some, ended_rest}
-use Rattle.tesla_capture.specs.Capture.{limit}
-use Rattle.tesla_capture.specs.Outline.{record_next}
+use Rattle.tesla_capture.specs.Grammar.{Grammar, limit}
+use Rattle.tesla_capture.specs.Formats.{IsGrammar}
+use Rattle.tesla_capture.specs.Records.{record_next}
 use Rattle.tesla_capture.specs.declared.record.RecordKind.TheVariants.{Truncated, TooLarge}
 use Rattle.tesla_capture.specs.declared.found.Found.TheVariants.{Refused, End}
 use Rattle.tesla_capture.specs.Found.{Awaits, Finds, ReadsOn}
@@ -26,34 +27,35 @@ ended_same : (bytes now : List ℕ) (left after : Option (List ℕ)) (rest : Lis
 ended_same bytes now left after rest same ends e = ap (λ (b : List ℕ). after_bytes b after) same ∙ ap (after_bytes bytes) ends.left ∙ e
 
 -- the file ends after a record
-pub end_finds : (place : ℕ) (bytes now : List ℕ) (left after : Option (List ℕ)) (rest : List ℕ) → length bytes ≡ 0 → now ≡ bytes → Ends left after → after_bytes bytes left ≡ Some rest → Finds End place now rest after
-end_finds place bytes now left after rest empty same ends e =
+pub end_finds : (G : Grammar) (place : ℕ) (bytes now : List ℕ) (left after : Option (List ℕ)) (rest : List ℕ) → length bytes ≡ 0 → now ≡ bytes → Ends left after → after_bytes bytes left ≡ Some rest → Finds G End place now rest after
+end_finds G place bytes now left after rest empty same ends e =
     let none : rest ≡ [] = ended_rest bytes left after rest ends e ∙ nil_from_length bytes empty in
-    (ap (record_next place) none ∙ none_ends place, ended_same bytes now left after rest same ends e ∙ ap (λ (r : List ℕ). Some r) none)
+    (ap (record_next G place) none ∙ none_ends G place, ended_same bytes now left after rest same ends e ∙ ap (λ (r : List ℕ). Some r) none)
 
--- the file ends within a record
-pub cut_finds : (place : ℕ) (bytes now : List ℕ) (left after : Option (List ℕ)) (rest : List ℕ) → Awaits bytes → 0 < length bytes → place + length bytes < limit → now ≡ bytes → Ends left after → after_bytes bytes left ≡ Some rest → Finds (Refused Truncated) place now rest after
-cut_finds place bytes now left after rest awaits some below same ends e =
-    (ap (record_next place) (ended_rest bytes left after rest ends e) ∙ awaits_cut place bytes awaits some below, ended_same bytes now left after rest same ends e)
+module _ (G : Grammar) (is : IsGrammar G) where
+  -- the file ends within a record
+  pub cut_finds : (place : ℕ) (bytes now : List ℕ) (left after : Option (List ℕ)) (rest : List ℕ) → Awaits G bytes → 0 < length bytes → place + length bytes < limit → now ≡ bytes → Ends left after → after_bytes bytes left ≡ Some rest → Finds G (Refused Truncated) place now rest after
+  cut_finds place bytes now left after rest awaits some below same ends e =
+      (ap (record_next G place) (ended_rest bytes left after rest ends e) ∙ awaits_cut G is place bytes awaits some below, ended_same bytes now left after rest same ends e)
 
--- a record goes past the limit
-pub past_finds : (place : ℕ) (bytes : List ℕ) (left : Option (List ℕ)) (rest : List ℕ) → Awaits bytes → place + length bytes ≡ limit → 0 < length bytes → after_bytes bytes left ≡ Some rest → Finds (Refused TooLarge) place bytes rest left
-past_finds place bytes left rest awaits full some e =
-    let told = after_bytes_some bytes left rest e in
-    let before : eqb place limit ≡ false = grind (arith, nat_tests) in
-    (ap (record_next place) told.2 ∙ awaits_past place bytes told.0 awaits full (omega arith), e ∙ ap (λ (b : Bool). Some (drop (cond b 1 0) rest)) (sym before))
+  -- a record goes past the limit
+  pub past_finds : (place : ℕ) (bytes : List ℕ) (left : Option (List ℕ)) (rest : List ℕ) → Awaits G bytes → place + length bytes ≡ limit → 0 < length bytes → after_bytes bytes left ≡ Some rest → Finds G (Refused TooLarge) place bytes rest left
+  past_finds place bytes left rest awaits full some e =
+      let told = after_bytes_some bytes left rest e in
+      let before : eqb place limit ≡ false = grind (arith, nat_tests) in
+      (ap (record_next G place) told.2 ∙ awaits_past G is place bytes told.0 awaits full (omega arith), e ∙ ap (λ (b : Bool). Some (drop (cond b 1 0) rest)) (sym before))
 
--- a byte stands behind the limit, and is dropped
-pub more_finds : (place n : ℕ) (bytes into : List ℕ) (left after : Option (List ℕ)) (rest : List ℕ) → Awaits bytes → place + length bytes ≡ limit → length bytes ≡ 0 → length into ≡ 1 → Brings n left after into → after_bytes bytes left ≡ Some rest → Finds (Refused TooLarge) place bytes rest after
-more_finds place n bytes into left after rest awaits full empty one brings e =
-    let told = after_bytes_some bytes left rest e in
-    let behind = after_bytes_some (take n into) after told.0 (sym brings.left ∙ told.1) in
-    let size : length (take n into) ≡ n = length-take-le n into brings.fits in
-    let single : length (take n into) ≡ 1 = omega (arith, brings.some, brings.fits) in
-    let none : bytes ≡ [] = nil_from_length bytes empty in
-    let at : eqb place limit ≡ true = grind (arith, nat_tests) in
-    let rest_is : rest ≡ take n into ++ behind.0 = told.2 ∙ ap (λ (b : List ℕ). b ++ told.0) none ∙ behind.2 in
-    let dropped : drop 1 rest ≡ behind.0 = ap (drop 1) rest_is ∙ drop_at (take n into) behind.0 1 single in (
-      ap (record_next place) told.2 ∙ awaits_past place bytes told.0 awaits full (omega (arith, ap length behind.2, length-append (take n into) behind.0, size, brings.some)),
-      ap (λ (b : List ℕ). after_bytes b after) none ∙ ap (after_bytes []) behind.1 ∙ ap (λ (r : List ℕ). Some r) (sym dropped) ∙ ap (λ (b : Bool). Some (drop (cond b 1 0) rest)) (sym at),
-    )
+  -- a byte stands behind the limit, and is dropped
+  pub more_finds : (place n : ℕ) (bytes into : List ℕ) (left after : Option (List ℕ)) (rest : List ℕ) → Awaits G bytes → place + length bytes ≡ limit → length bytes ≡ 0 → length into ≡ 1 → Brings n left after into → after_bytes bytes left ≡ Some rest → Finds G (Refused TooLarge) place bytes rest after
+  more_finds place n bytes into left after rest awaits full empty one brings e =
+      let told = after_bytes_some bytes left rest e in
+      let behind = after_bytes_some (take n into) after told.0 (sym brings.left ∙ told.1) in
+      let size : length (take n into) ≡ n = length-take-le n into brings.fits in
+      let single : length (take n into) ≡ 1 = omega (arith, brings.some, brings.fits) in
+      let none : bytes ≡ [] = nil_from_length bytes empty in
+      let at : eqb place limit ≡ true = grind (arith, nat_tests) in
+      let rest_is : rest ≡ take n into ++ behind.0 = told.2 ∙ ap (λ (b : List ℕ). b ++ told.0) none ∙ behind.2 in
+      let dropped : drop 1 rest ≡ behind.0 = ap (drop 1) rest_is ∙ drop_at (take n into) behind.0 1 single in (
+        ap (record_next G place) told.2 ∙ awaits_past G is place bytes told.0 awaits full (omega (arith, ap length behind.2, length-append (take n into) behind.0, size, brings.some)),
+        ap (λ (b : List ℕ). after_bytes b after) none ∙ ap (after_bytes []) behind.1 ∙ ap (λ (r : List ℕ). Some r) (sym dropped) ∙ ap (λ (b : Bool). Some (drop (cond b 1 0) rest)) (sym at),
+      )

@@ -1,8 +1,8 @@
 -- Captures: what came to a receiver and when it was asked for packets, as a file. The format is the project's own.
-use Rattle.std.specs.Prelude.{◌≡◌, ℕ, ◌<◌, ◌≤◌, ◌^◌, List, [], ◌∷◌, ◌++◌, length, codes}
-use Rattle.std.specs.List.{flat_map, AllByRecursion}
+use Rattle.std.specs.Prelude.{ℕ, ◌<◌, ◌≤◌, ◌^◌, false, List, [], ◌∷◌, ◌++◌, length, codes}
 use Rattle.std.specs.Int.{w16, w64, to_be_bytes}
-pub use Rattle.tesla_base.specs.Front.{AreBytes}
+use Rattle.tesla_capture.specs.Grammar.{Grammar, file_text, IsFile}
+pub use Rattle.tesla_capture.specs.Grammar.{AreBytes, limit}
 
 -- a datagram that came when the receiver's clock gave the reading, or a take of the next released packet
 pub data Record : Type 0 where
@@ -19,22 +19,29 @@ record_text (Arrives reading bytes) =
     1 ∷ [] ++ to_be_bytes w64 reading ++ to_be_bytes w16 (length bytes) ++ bytes
 record_text Takes = 2 ∷ []
 
--- the one spelling of a capture
-abbrev pub capture_text : List Record → List ℕ
-capture_text records = head ++ flat_map record_text records
-
 -- the limits of a record's fields
 abbrev pub IsRecord : Record → Type 0
 IsRecord (Arrives reading bytes) =
     (reading < 2 ^ 64) × (length bytes ≤ 2048) × AreBytes bytes
 IsRecord Takes = Unit {0}
 
--- how many bytes a capture has at most
-abbrev pub limit : ℕ
-limit = 2 ^ 40
+-- the grammar of captures
+abbrev pub capture : Grammar
+capture = record {
+  head = head;
+  Record = Record;
+  record_text = record_text;
+  IsRecord = IsRecord;
+  carrying = Arrives;
+  longest = 2048;
+  bare = λ reading. Takes;
+  timed = false;
+}
+
+-- the one spelling of a capture
+abbrev pub capture_text : List Record → List ℕ
+capture_text records = file_text capture records
 
 -- the bytes spell the capture
-pub record IsCapture (bytes : List ℕ) (records : List Record) : Type 0 where
-  pub limits : AllByRecursion IsRecord records
-  pub spelled : bytes ≡ capture_text records
-  pub fits : length bytes ≤ limit
+abbrev pub IsCapture : List ℕ → List Record → Type 0
+IsCapture bytes records = IsFile capture bytes records

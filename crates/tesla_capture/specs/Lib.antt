@@ -1,6 +1,12 @@
+pub mod Grammar
 pub mod Capture
+pub mod Script
+pub mod Formats
+pub mod Records
 pub mod Outline
 pub mod Refused
+pub mod Steps
+pub mod Pieces
 pub mod Reader
 pub mod Found
 pub mod Names

@@ -1,65 +1,31 @@
--- What a reader has ahead, and what one step says of the file that it reads.
-use Rattle.std.specs.Prelude.{◌≡◌, ◌⊎◌, ℕ, ◌+◌, ◌-◌, ◌≤◌, Bool, true, false, List, [], ◌++◌, take, drop, Option, Some}
-use Rattle.tesla_desk.specs.Outside.{after_bytes}
-use Rattle.tesla_capture.specs.Capture.{Record, Arrives, Takes, head}
-use Rattle.tesla_capture.specs.Outline.{AtEnd, Recorded, Refuses, next_at, record_place, dropped_by}
-use Rattle.tesla_capture.specs.declared.record.RecordKind.{RecordKind}
-use Rattle.tesla_capture.specs.declared.record.RecordKind.TheVariants.{BadHead}
+-- The steps of the readers of captures and of scripts, as steps of a reader of records.
+use Rattle.std.specs.Prelude.{ℕ, List, Option}
+use Rattle.tesla_capture.specs.Capture.{Record, capture}
+use Rattle.tesla_capture.specs.Steps as steps
+use Rattle.tesla_capture.specs.declared.record.RecordStep.{RecordStep}
+use Rattle.tesla_capture.specs.declared.record.RecordStep.TheVariants as records
 use Rattle.tesla_capture.specs.declared.record.Step.{Step}
 use Rattle.tesla_capture.specs.declared.record.Step.TheVariants.{Arrival, Take, End, Refused, ReadFault}
-use Rattle.tesla_capture.specs.declared.reader.Reader.{Reader}
+use Rattle.tesla_capture.specs.declared.record.ScriptStep.{ScriptStep}
+use Rattle.tesla_capture.specs.declared.record.ScriptStep.TheVariants as scripts
+pub use Rattle.tesla_capture.specs.Steps.{pending, ahead}
 
--- the bytes that were read and not taken as records yet
-abbrev pub pending : Reader → List ℕ
-pending reader = take (reader.until - reader.from) (drop reader.from reader.piece)
-
--- what isn't taken yet: what a reader has pending, and then what its source has left
-abbrev pub ahead : Reader → Option (List ℕ) → Option (List ℕ)
-ahead reader left = after_bytes (pending reader) left
-
--- the next record was given; now is the place after it, and all that stands there is left
+-- the next record of a capture was given; now is the place after it, and all that stands there is left
 abbrev pub GivesRecord : Record → ℕ → List ℕ → ℕ → Option (List ℕ) → Type 0
-GivesRecord given place rest now left =
-    (after : List ℕ) × (left ≡ Some after) × (next_at place rest ≡ Recorded given now after)
+GivesRecord given place rest now left = steps.GivesRecord capture given place rest now left
 
--- no record was taken on the way to the place now: the rest stands there as it was, or the head before it was taken
-abbrev pub TakesNoRecord : ℕ → List ℕ → ℕ → List ℕ → Type 0
-TakesNoRecord place rest now after = ((now ≡ place) × (after ≡ rest)) ⊎ ((place ≡ 0) × (now ≡ 5) × (rest ≡ head ++ after))
+-- a step of a capture's reader: arrivals are of kind 1, takes of kind 2
+abbrev pub step_of : Step → RecordStep
+step_of (Arrival reading length) = records.Carrying reading length
+step_of Take = records.Bare 0
+step_of End = records.End
+step_of (Refused at kind) = records.Refused at kind
+step_of ReadFault = records.ReadFault
 
--- no record was taken, and all that stands at the place now is left, but for its first bytes where so many were dropped
-abbrev pub LeavesFrom : ℕ → ℕ → List ℕ → ℕ → Option (List ℕ) → Type 0
-LeavesFrom dropped place rest now left = (after : List ℕ) × (left ≡ Some (drop dropped after)) × TakesNoRecord place rest now after
-
--- what a step says of the rest that wasn't taken yet at a place, and what it leaves of it
-abbrev pub Gives : Step → ℕ → List ℕ → ℕ → Option (List ℕ) → List ℕ → Type 0
-Gives (Arrival reading length) place rest now left into = GivesRecord (Arrives reading (take length into)) place rest now left
-Gives Take place rest now left into = GivesRecord Takes place rest now left
-Gives End place rest now left into = (next_at place rest ≡ AtEnd) × (left ≡ Some [])
-Gives (Refused at kind) place rest now left into = (next_at place rest ≡ Refuses at kind) × LeavesFrom (dropped_by at kind) place rest at left
-Gives ReadFault place rest now left into = LeavesFrom 0 place rest now left
-
--- the place of a refusal: the file's for its head, else that of the record
-abbrev pub IsPlaceOf : RecordKind → ℕ → ℕ → Type 0
-IsPlaceOf BadHead place at = at ≡ 0
-IsPlaceOf _ place at = at ≡ record_place place
-
--- how a step moves the place
-abbrev pub Moves : Step → ℕ → ℕ → Type 0
-Moves (Arrival reading length) place now = (now ≡ record_place place + 11 + length) × (length ≤ 2048)
-Moves Take place now = now ≡ record_place place + 1
-Moves End place now = now ≡ record_place place
-Moves (Refused at kind) place now = (now ≡ at) × IsPlaceOf kind place at
-Moves ReadFault place now = (now ≡ place) ⊎ (now ≡ record_place place)
-
--- how many bytes of a datagram a step gives
-abbrev pub length_given : Step → ℕ
-length_given (Arrival reading length) = length
-length_given _ = 0
-
--- a reader goes on after a record alone
-abbrev pub goes_on : Step → Bool
-goes_on (Arrival reading length) = true
-goes_on Take = true
-goes_on End = false
-goes_on (Refused at kind) = false
-goes_on ReadFault = false
+-- a step of a script's reader: messages are of kind 1, disclosures of kind 2
+abbrev pub script_step_of : ScriptStep → RecordStep
+script_step_of (scripts.Message reading length) = records.Carrying reading length
+script_step_of (scripts.Disclose reading) = records.Bare reading
+script_step_of scripts.End = records.End
+script_step_of (scripts.Refused at kind) = records.Refused at kind
+script_step_of scripts.ReadFault = records.ReadFault

@@ -1,12 +1,12 @@
--- Why a file is no capture, and at which place.
-use Rattle.std.specs.Prelude.{◌≡◌, ◌≢◌, ◌⊎◌, ℕ, ◌+◌, ◌-◌, ◌^◌, ◌<◌, ◌≤◌, List, [], ◌∷◌, ◌++◌, length, take}
+-- Why a file isn't in its grammar, and at which place.
+use Rattle.std.specs.Prelude.{◌≡◌, ◌≢◌, ◌⊎◌, ℕ, ◌+◌, ◌-◌, ◌^◌, ◌<◌, ◌≤◌, true, List, [], ◌∷◌, ◌++◌, length, take}
 use Rattle.std.specs.List.{AllByRecursion}
 use Rattle.std.specs.Int.{w16, to_be_bytes}
-use Rattle.tesla_capture.specs.Capture.{Record, IsRecord, head, capture_text, limit}
+use Rattle.tesla_capture.specs.Grammar.{Grammar, file_text, limit}
 use Rattle.tesla_capture.specs.declared.record.RecordKind.{RecordKind}
 use Rattle.tesla_capture.specs.declared.record.RecordKind.TheVariants.{BadHead, BadKind, Truncated, TooLong, TooLarge}
 
--- an arrival tells this length, a number of two bytes, behind its kind and the eight bytes of its reading
+-- a record of kind 1 tells this length, a number of two bytes, behind its kind and the eight bytes of its reading
 pub record TellsLength (bytes : List ℕ) (n : ℕ) : Type 0 where
   pub reading : List ℕ
   pub more : List ℕ
@@ -14,32 +14,43 @@ pub record TellsLength (bytes : List ℕ) (n : ℕ) : Type 0 where
   pub fits : n < 2 ^ 16
   pub spelled : bytes ≡ 1 ∷ reading ++ to_be_bytes w16 n ++ more
 
--- an arrival that isn't whole: its length isn't there yet, or is within the limit and its datagram isn't there yet
-pub record IsCut (bytes : List ℕ) : Type 0 where
+-- a record of kind 1 that isn't whole: its length isn't there yet, or is within the limit and its bytes aren't there yet
+pub record IsCutCarrying (longest : ℕ) (bytes : List ℕ) : Type 0 where
   pub more : List ℕ
-  pub arrival : bytes ≡ 1 ∷ more
-  pub short : (length bytes < 11) ⊎ ((n : ℕ) × TellsLength bytes n × (n ≤ 2048) × (length bytes < 11 + n))
+  pub begins : bytes ≡ 1 ∷ more
+  pub short : (length bytes < 11) ⊎ ((n : ℕ) × TellsLength bytes n × (n ≤ longest) × (length bytes < 11 + n))
+
+-- a record of kind 2 that isn't whole: it is timed, and its reading isn't there yet
+pub record IsCutBare (G : Grammar) (bytes : List ℕ) : Type 0 where
+  pub more : List ℕ
+  pub begins : bytes ≡ 2 ∷ more
+  pub timed : G.timed ≡ true
+  pub short : length bytes < 9
+
+-- a record that isn't whole
+abbrev pub IsCut : Grammar → List ℕ → Type 0
+IsCut G bytes = IsCutCarrying G.longest bytes ⊎ IsCutBare G bytes
 
 -- why the rest of a file from the place of a record on is refused there
-abbrev pub IsWhy : RecordKind → ℕ → List ℕ → Type 0
-IsWhy BadHead place rest = ⊥
-IsWhy BadKind place rest = (b : ℕ) × (more : List ℕ) × (rest ≡ b ∷ more) × (b ≢ 1) × (b ≢ 2) × (place < limit)
-IsWhy TooLong place rest = (n : ℕ) × TellsLength rest n × (2048 < n) × (place + 11 ≤ limit)
-IsWhy Truncated place rest = (place + length rest < limit) × IsCut rest
-IsWhy TooLarge place rest = (limit ≤ place + length rest) × (0 < length rest) × ((place ≡ limit) ⊎ IsCut (take (limit - place) rest))
+abbrev pub IsWhy : Grammar → RecordKind → ℕ → List ℕ → Type 0
+IsWhy G BadHead place rest = ⊥
+IsWhy G BadKind place rest = (b : ℕ) × (more : List ℕ) × (rest ≡ b ∷ more) × (b ≢ 1) × (b ≢ 2) × (place < limit)
+IsWhy G TooLong place rest = (n : ℕ) × TellsLength rest n × (G.longest < n) × (place + 11 ≤ limit)
+IsWhy G Truncated place rest = (place + length rest < limit) × IsCut G rest
+IsWhy G TooLarge place rest = (limit ≤ place + length rest) × (0 < length rest) × ((place ≡ limit) ⊎ IsCut G (take (limit - place) rest))
 
 -- behind whole records comes the rest that is refused
-pub record StopsAfter (bytes : List ℕ) (records : List Record) (place : ℕ) (kind : RecordKind) : Type 0 where
-  pub limits : AllByRecursion IsRecord records
+pub record StopsAfter (G : Grammar) (bytes : List ℕ) (records : List G.Record) (place : ℕ) (kind : RecordKind) : Type 0 where
+  pub limits : AllByRecursion G.IsRecord records
   pub rest : List ℕ
-  pub spelled : bytes ≡ capture_text records ++ rest
-  pub place_is : place ≡ length (capture_text records)
-  pub why : IsWhy kind place rest
+  pub spelled : bytes ≡ file_text G records ++ rest
+  pub place_is : place ≡ length (file_text G records)
+  pub why : IsWhy G kind place rest
 
 -- the file is refused at that place, after these records
-abbrev pub IsRefused : List ℕ → List Record → ℕ → RecordKind → Type 0
-IsRefused bytes records place BadHead = (place ≡ 0) × (records ≡ []) × (take 5 bytes ≢ head)
-IsRefused bytes records place BadKind = StopsAfter bytes records place BadKind
-IsRefused bytes records place TooLong = StopsAfter bytes records place TooLong
-IsRefused bytes records place Truncated = StopsAfter bytes records place Truncated
-IsRefused bytes records place TooLarge = StopsAfter bytes records place TooLarge
+abbrev pub IsRefused : (G : Grammar) → List ℕ → List G.Record → ℕ → RecordKind → Type 0
+IsRefused G bytes records place BadHead = (place ≡ 0) × (records ≡ []) × (take 5 bytes ≢ G.head)
+IsRefused G bytes records place BadKind = StopsAfter G bytes records place BadKind
+IsRefused G bytes records place TooLong = StopsAfter G bytes records place TooLong
+IsRefused G bytes records place Truncated = StopsAfter G bytes records place Truncated
+IsRefused G bytes records place TooLarge = StopsAfter G bytes records place TooLarge

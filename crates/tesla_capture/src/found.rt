@@ -1,24 +1,19 @@
-//! What stands at the front of the bytes of a capture that were read ahead.
+//! What stands at the front of the bytes of a file that were read ahead.
 
-ghost use Rattle.std.specs.Prelude.{◌∷◌};
-ghost use Rattle.tesla_capture.specs.Found.{Tells, TellsHead};
+ghost use Rattle.std.specs.Prelude.{◌≡◌, ◌∷◌};
+ghost use Rattle.tesla_capture.specs.Found.{Tells, TellsHead, bare_size};
 
+use crate::format::Format;
 use crate::record::RecordKind;
 use tesla_base::{take_u16, take_u64};
-
-/// The first bytes of every capture: the magic, and version 1.
-pub const HEAD: [u8; 5] = [b'T', b'C', b'A', b'P', 1];
-
-/// How many bytes a datagram has at most.
-const LONGEST: u16 = 2048;
 
 /// What was found at the place of a record.
 #[derive(Clone, Copy)]
 pub enum Found {
-    /// A whole arrival: its reading, and the length of its datagram, which stands after 11 bytes.
-    Arrival { reading: u64, length: u16 },
-    /// A take.
-    Take,
+    /// A whole record of kind 1: its reading, and how many bytes it carries, which stand after 11 bytes.
+    Carrying { reading: u64, length: u16 },
+    /// A whole record of kind 2: its reading, 0 where it has none.
+    Bare { reading: u64 },
     /// No whole record within the limit.
     Refused(RecordKind),
     /// The end of the file.
@@ -30,7 +25,7 @@ pub enum Found {
 /// What was found at place 0.
 #[derive(Clone, Copy)]
 pub enum HeadFound {
-    /// The head of a capture.
+    /// The head of the format.
     Whole,
     /// Another byte than the head has there, or the end of the file.
     Bad,
@@ -39,25 +34,26 @@ pub enum HeadFound {
 }
 
 /// What is known of the head from the bytes at the front of a file. None: they may be a part of it.
-pub fn head_found(bytes: &[u8]) -> Option<HeadFound>
-    ensures { TellsHead result bytes.now }
+pub fn head_found<F: Format>(bytes: &[u8]) -> Option<HeadFound>
+    ensures { TellsHead F.grammar result bytes.now }
 {
+    let head = F::head();
     if bytes.len() < 5 {
-        if bytes == &HEAD[..bytes.len()] {
+        if bytes == &head[..bytes.len()] {
             None
         } else {
             Some(HeadFound::Bad)
         }
-    } else if &bytes[..5] == HEAD.as_slice() {
+    } else if &bytes[..5] == head.as_slice() {
         Some(HeadFound::Whole)
     } else {
         Some(HeadFound::Bad)
     }
 }
 
-/// An arrival behind its kind.
-fn arrival_found(rest: &[u8]) -> Option<Found>
-    ensures { Tells result (1 ∷ rest.now) }
+/// A record of kind 1 behind its kind.
+fn carrying_found<F: Format>(rest: &[u8]) -> Option<Found>
+    ensures { Tells F.grammar result (1 ∷ rest.now) }
 {
     let Some((reading, rest)) = take_u64(rest) else {
         return None;
@@ -65,26 +61,46 @@ fn arrival_found(rest: &[u8]) -> Option<Found>
     let Some((length, rest)) = take_u16(rest) else {
         return None;
     };
-    if LONGEST < length {
+    if F::longest() < length {
         return Some(Found::Refused(RecordKind::TooLong));
     }
     if rest.len() < length as usize {
         return None;
     }
-    Some(Found::Arrival { reading, length })
+    Some(Found::Carrying { reading, length })
+}
+
+/// How many bytes a record of kind 2 has.
+pub fn size_of_bare<F: Format>() -> usize
+    ensures { result ≡ bare_size F.grammar.timed }
+{
+    if F::timed() { 9 } else { 1 }
+}
+
+/// A record of kind 2 behind its kind.
+fn bare_found<F: Format>(rest: &[u8]) -> Option<Found>
+    ensures { Tells F.grammar result (2 ∷ rest.now) }
+{
+    if !F::timed() {
+        return Some(Found::Bare { reading: 0 });
+    }
+    let Some((reading, _)) = take_u64(rest) else {
+        return None;
+    };
+    Some(Found::Bare { reading })
 }
 
 /// What is known of the record at the front of the bytes. None: there is neither a whole record nor
 /// one that is refused, whatever follows.
-pub fn record_found(bytes: &[u8]) -> Option<Found>
-    ensures { Tells result bytes.now }
+pub fn record_found<F: Format>(bytes: &[u8]) -> Option<Found>
+    ensures { Tells F.grammar result bytes.now }
 {
     if bytes.is_empty() {
         return None;
     }
     match bytes[0] {
-        1 => arrival_found(&bytes[1..]),
-        2 => Some(Found::Take),
+        1 => carrying_found::<F>(&bytes[1..]),
+        2 => bare_found::<F>(&bytes[1..]),
         _ => Some(Found::Refused(RecordKind::BadKind)),
     }
 }

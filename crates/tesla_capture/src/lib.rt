@@ -1,18 +1,22 @@
-//! Captures of a stream and records of released packets, read and written.
+//! Captures of a stream, scripts of a sender and records of released packets, read and written.
 #![tactic(auto)]
 
+mod format;
 mod found;
 mod gathering;
 pub mod laws;
+mod pieces;
 mod reader;
 mod record;
 mod release;
+mod script;
 mod writing;
 
 pub use gathering::Gatherer;
 pub use reader::Reader;
-pub use record::{RecordKind, Step};
+pub use record::{RecordKind, ScriptStep, Step};
 pub use release::Head;
+pub use script::ScriptReader;
 pub use writing::{write_arrival, write_head, write_record, write_take};
 
 #[cfg(test)]

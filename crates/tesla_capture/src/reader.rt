@@ -1,36 +1,33 @@
 //! A capture read from a source, record after record.
 
-ghost use Rattle.std.specs.Prelude.{◌≡◌, ◌<◌, ◌≤◌, ◌+◌, ◌-◌, ◌^◌, [], List, ℕ, Option, true, None, Some, IfSome, length, take, drop};
+ghost use Rattle.std.specs.Prelude.{◌≡◌, ◌≤◌, [], List, ℕ, true, Some, drop};
 ghost use Rattle.tesla_desk.specs.Faults.{HasCause};
-ghost use Rattle.tesla_capture.specs.Capture.{limit};
+ghost use Rattle.tesla_capture.specs.Capture.{capture, limit};
+ghost use Rattle.tesla_capture.specs.Reader.{pending, ahead, step_of};
+ghost use Rattle.tesla_capture.specs.Steps.{Gives, Moves, length_given, goes_on};
 
-use crate::found::{Found, HeadFound, head_found, record_found};
-use crate::record::{RecordKind, Step};
-use tesla_desk::{ReadStep, Source};
-
-/// How many bytes a reader holds at most, and asks for at once.
-const PIECE: usize = 4096;
-
-/// How many bytes a capture has at most.
-const LIMIT: u64 = 1 << 40;
+use crate::format::CaptureFormat;
+use crate::pieces::PieceReader;
+use crate::record::{RecordStep, Step};
+use std::marker::Model;
+use tesla_desk::Source;
 
 /// Reads a capture of at most 2^40 bytes. It holds at most 4,096 bytes that it has read ahead.
 #[derive(Drop)]
 pub struct Reader {
-    piece: [u8; 4096],
-    from: usize,
-    until: usize,
-    place: u64,
-    going: bool,
-    ghost ordered: { from ≤ until },
-    ghost within: { until ≤ 4096 },
-    ghost limited: { place + (until - from) ≤ 2 ^ 40 },
+    records: PieceReader,
+}
+
+impl Model for Reader {
+    ghost use Rattle.tesla_capture.specs.Steps.{Progress};
+    ghost use Rattle.tesla_capture.specs.Pieces.{progress};
+
+    ghost Value = { Progress };
+
+    ghost view = { λ reader. progress reader.records };
 }
 
 impl Reader {
-    ghost use Rattle.tesla_capture.specs.Reader.{pending, ahead, Gives, Moves, length_given, goes_on};
-    ghost use Rattle.tesla_capture.specs.Found.{Finds, IsPending, Awaits, FindsHead, HeadIsPending, ReadsOn};
-
     /// A reader that has read nothing. It takes no memory.
     pub fn new() -> Reader
         ensures pending { pending result ≡ [] }
@@ -38,11 +35,7 @@ impl Reader {
         ensures going { result.going ≡ true }
     {
         Reader {
-            piece: [0; 4096],
-            from: 0,
-            until: 0,
-            place: 0,
-            going: true,
+            records: PieceReader::at(0),
         }
     }
 
@@ -52,11 +45,7 @@ impl Reader {
         requires { place ≤ limit }
     {
         Reader {
-            piece: [0; 4096],
-            from: 0,
-            until: 0,
-            place,
-            going: true,
+            records: PieceReader::at(place),
         }
     }
 
@@ -64,7 +53,7 @@ impl Reader {
     pub fn going(&self) -> bool
         ensures { result ≡ self.now.going }
     {
-        self.going
+        self.records.going()
     }
 
     /// How many bytes were taken as whole records, with the head; 0 before the first step.
@@ -72,7 +61,7 @@ impl Reader {
         ensures value { result ≡ self.now.place }
         ensures limited { result ≤ limit }
     {
-        self.place
+        self.records.place()
     }
 
     /// The next record, whose datagram is put at the front of `into`, or why there is none. The source is
@@ -89,223 +78,19 @@ impl Reader {
     /// where that was taken, as `place` tells. The bytes of `into` behind the datagram stay as they were.
     pub fn next<S: Source>(&mut self, source: &mut S, into: &mut [u8; 2048]) -> Step
         requires going { self.old.going ≡ true }
-        ensures gives { (rest : List ℕ) → ahead self.old (S.left source.old) ≡ Some rest → Gives result self.old.place rest self.new.place (ahead self.new (S.left source.new)) into.new }
-        ensures moves { Moves result self.old.place self.new.place }
-        ensures behind { drop (length_given result) into.new ≡ drop (length_given result) into.old }
+        ensures gives { (rest : List ℕ) → ahead self.old (S.left source.old) ≡ Some rest → Gives capture (step_of result) self.old.place rest self.new.place (ahead self.new (S.left source.new)) into.new }
+        ensures moves { Moves capture (step_of result) self.old.place self.new.place }
+        ensures behind { drop (length_given (step_of result)) into.new ≡ drop (length_given (step_of result)) into.old }
         ensures limited { self.new.place ≤ limit }
-        ensures goes { self.new.going ≡ goes_on result }
+        ensures goes { self.new.going ≡ goes_on (step_of result) }
         ensures cause { HasCause (S.faults source.old) (S.faults source.new) (result ≡ Step.ReadFault) }
     {
-        let step = self.step(source, into);
-        self.going = matches!(step, Step::Arrival { .. } | Step::Take);
-        step
-    }
-
-    /// What `next` answers.
-    fn step<S: Source>(&mut self, source: &mut S, into: &mut [u8; 2048]) -> Step
-        ensures gives { (rest : List ℕ) → ahead self.old (S.left source.old) ≡ Some rest → Gives result self.old.place rest self.new.place (ahead self.new (S.left source.new)) into.new }
-        ensures moves { Moves result self.old.place self.new.place }
-        ensures behind { drop (length_given result) into.new ≡ drop (length_given result) into.old }
-        ensures cause { HasCause (S.faults source.old) (S.faults source.new) (result ≡ Step.ReadFault) }
-    {
-        if self.place != 0 {
-            return self.next_record(source, into);
+        match self.records.next::<CaptureFormat, S>(source, into) {
+            RecordStep::Carrying { reading, length } => Step::Arrival { reading, length },
+            RecordStep::Bare { reading: _ } => Step::Take,
+            RecordStep::End => Step::End,
+            RecordStep::Refused { place, kind } => Step::Refused { place, kind },
+            RecordStep::ReadFault => Step::ReadFault,
         }
-        match self.find_head(source) {
-            HeadFound::Whole => {
-                self.advance(5);
-                self.next_record(source, into)
-            }
-            HeadFound::Bad => Step::Refused {
-                place: 0,
-                kind: RecordKind::BadHead,
-            },
-            HeadFound::Failed => Step::ReadFault,
-        }
-    }
-
-    /// What comes next after the head.
-    fn next_record<S: Source>(&mut self, source: &mut S, into: &mut [u8; 2048]) -> Step
-        requires { 0 < self.old.place }
-        ensures gives { (rest : List ℕ) → ahead self.old (S.left source.old) ≡ Some rest → Gives result self.old.place rest self.new.place (ahead self.new (S.left source.new)) into.new }
-        ensures moves { Moves result self.old.place self.new.place }
-        ensures behind { drop (length_given result) into.new ≡ drop (length_given result) into.old }
-        ensures cause { HasCause (S.faults source.old) (S.faults source.new) (result ≡ Step.ReadFault) }
-    {
-        let found = self.find_record(source);
-        self.take_record(found, into)
-    }
-
-    /// Takes the record that was found, or says why there is none.
-    fn take_record(&mut self, found: Found, into: &mut [u8; 2048]) -> Step
-        requires placed { 0 < self.old.place }
-        requires whole { IsPending found (pending self.old) }
-        ensures gives { (rest : List ℕ) (left : Option (List ℕ)) → Finds found self.old.place (pending self.old) rest left → Gives result self.old.place rest self.new.place (ahead self.new left) into.new }
-        ensures moves { Moves result self.old.place self.new.place }
-        ensures behind { drop (length_given result) into.new ≡ drop (length_given result) into.old }
-        ensures failed { result ≡ Step.ReadFault → found ≡ Found.Failed }
-    {
-        match found {
-            Found::Arrival { reading, length } => {
-                self.take_arrival(length as usize, into);
-                Step::Arrival { reading, length }
-            }
-            Found::Take => {
-                self.advance(1);
-                Step::Take
-            }
-            Found::Refused(kind) => Step::Refused {
-                place: self.place,
-                kind,
-            },
-            Found::End => Step::End,
-            Found::Failed => Step::ReadFault,
-        }
-    }
-
-    /// Takes an arrival of so many bytes, which are put at the front of `into`.
-    fn take_arrival(&mut self, count: usize, into: &mut [u8; 2048])
-        requires whole { 11 + count ≤ length (pending self.old) }
-        requires few { count ≤ 2048 }
-        ensures pending { pending self.new ≡ drop (11 + count) (pending self.old) }
-        ensures datagram { take count into.new ≡ take count (drop 11 (pending self.old)) }
-        ensures behind { drop count into.new ≡ drop count into.old }
-        ensures place { self.new.place ≡ self.old.place + (11 + count) }
-    {
-        into[..count].copy_from_slice(&self.pending()[11..11 + count]);
-        self.advance(11 + count);
-    }
-
-    /// Reads on until it is known whether the head is there.
-    fn find_head<S: Source>(&mut self, source: &mut S) -> HeadFound
-        requires { self.old.place ≡ 0 }
-        ensures place { self.new.place ≡ 0 }
-        ensures whole { HeadIsPending result (pending self.new) }
-        ensures finds { (rest : List ℕ) → ahead self.old (S.left source.old) ≡ Some rest → FindsHead result (pending self.new) rest (S.left source.new) }
-        ensures cause { HasCause (S.faults source.old) (S.faults source.new) (result ≡ HeadFound.Failed) }
-    {
-        loop {
-            if let Some(found) = head_found(self.pending()) {
-                return found;
-            }
-            match self.read_on(source) {
-                ReadStep::Got(_) => {}
-                ReadStep::End => return HeadFound::Bad,
-                ReadStep::Failed => return HeadFound::Failed,
-            }
-        }
-    }
-
-    /// Reads on until it is known what comes next.
-    fn find_record<S: Source>(&mut self, source: &mut S) -> Found
-        ensures place { self.new.place ≡ self.old.place }
-        ensures whole { IsPending result (pending self.new) }
-        ensures finds { (rest : List ℕ) → ahead self.old (S.left source.old) ≡ Some rest → Finds result self.new.place (pending self.new) rest (S.left source.new) }
-        ensures cause { HasCause (S.faults source.old) (S.faults source.new) (result ≡ Found.Failed) }
-    {
-        loop {
-            if let Some(found) = record_found(self.pending()) {
-                return found;
-            }
-            if let Some(found) = self.find_end(source) {
-                return found;
-            }
-        }
-    }
-
-    /// Reads once where neither a whole record nor a refused one is pending. None: there are more bytes.
-    fn find_end<S: Source>(&mut self, source: &mut S) -> Option<Found>
-        requires { Awaits (pending self.old) }
-        ensures place { self.new.place ≡ self.old.place }
-        ensures more { result ≡ None → length (pending self.old) < length (pending self.new) }
-        ensures ahead { result ≡ None → ahead self.new (S.left source.new) ≡ ahead self.old (S.left source.old) }
-        ensures whole { IfSome result (λ found. IsPending found (pending self.new)) }
-        ensures finds { IfSome result (λ found. (rest : List ℕ) → ahead self.old (S.left source.old) ≡ Some rest → Finds found self.new.place (pending self.new) rest (S.left source.new)) }
-        ensures cause { HasCause (S.faults source.old) (S.faults source.new) (result ≡ Some Found.Failed) }
-    {
-        if self.place + self.held() as u64 == LIMIT {
-            return Some(self.find_past(source));
-        }
-        match self.read_on(source) {
-            ReadStep::Got(_) => None,
-            ReadStep::End if self.held() == 0 => Some(Found::End),
-            ReadStep::End => Some(Found::Refused(RecordKind::Truncated)),
-            ReadStep::Failed => Some(Found::Failed),
-        }
-    }
-
-    /// Whether the file goes on where its first 2^40 bytes were read.
-    fn find_past<S: Source>(&self, source: &mut S) -> Found
-        requires awaits { Awaits (pending self.now) }
-        requires full { self.now.place + length (pending self.now) ≡ limit }
-        ensures whole { IsPending result (pending self.now) }
-        ensures finds { (rest : List ℕ) → ahead self.now (S.left source.old) ≡ Some rest → Finds result self.now.place (pending self.now) rest (S.left source.new) }
-        ensures cause { HasCause (S.faults source.old) (S.faults source.new) (result ≡ Found.Failed) }
-    {
-        if 0 < self.held() {
-            return Found::Refused(RecordKind::TooLarge);
-        }
-        match source.read(&mut [0]) {
-            ReadStep::Got(_) => Found::Refused(RecordKind::TooLarge),
-            ReadStep::End => Found::End,
-            ReadStep::Failed => Found::Failed,
-        }
-    }
-
-    /// Reads once behind the pending bytes, as many as there is room for within the limit.
-    fn read_on<S: Source>(&mut self, source: &mut S) -> ReadStep
-        requires few { length (pending self.old) < 4096 }
-        requires below { self.old.place + length (pending self.old) < limit }
-        ensures place { self.new.place ≡ self.old.place }
-        ensures reads { ReadsOn result (pending self.old) (S.left source.old) (pending self.new) (S.left source.new) }
-        ensures cause { HasCause (S.faults source.old) (S.faults source.new) (result ≡ ReadStep.Failed) }
-    {
-        self.move_to_front();
-        let most = LIMIT - self.place;
-        let end = if most < 4096 { most as usize } else { PIECE };
-        let until = self.until;
-        let step = source.read(&mut self.piece[until..end]);
-        if let ReadStep::Got(count) = step {
-            self.until = until + count;
-        }
-        step
-    }
-
-    /// Moves the pending bytes to the front of the piece.
-    fn move_to_front(&mut self)
-        ensures pending { pending self.new ≡ pending self.old }
-        ensures from { self.new.from ≡ 0 }
-        ensures place { self.new.place ≡ self.old.place }
-    {
-        if 0 < self.from {
-            let (from, until) = (self.from, self.until);
-            self.piece.copy_within(from..until, 0);
-            self.from = 0;
-            self.until = until - from;
-        }
-    }
-
-    /// The bytes that were read and not taken yet.
-    fn pending(&self) -> &[u8]
-        ensures { result.now ≡ pending self.now }
-    {
-        &self.piece[self.from..self.until]
-    }
-
-    /// How many bytes are pending.
-    fn held(&self) -> usize
-        ensures { result ≡ length (pending self.now) }
-    {
-        self.until - self.from
-    }
-
-    /// Takes so many of the pending bytes.
-    fn advance(&mut self, count: usize)
-        requires { count ≤ length (pending self.old) }
-        ensures pending { pending self.new ≡ drop count (pending self.old) }
-        ensures place { self.new.place ≡ self.old.place + count }
-    {
-        self.from += count;
-        self.place += count as u64;
     }
 }

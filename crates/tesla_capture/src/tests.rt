@@ -1,6 +1,6 @@
-//! A capture made by hand, read, cut and damaged.
+//! A capture made by hand, read, cut and damaged; beside it scripts, and what is written.
 
-ghost use Rattle.std.specs.Prelude.{Some};
+ghost use Rattle.std.specs.Prelude.{◌<◌, Some};
 
 use super::*;
 use tesla_desk::{ReadStep, Source};
@@ -16,20 +16,23 @@ const CAPTURE: [u8; 30] = [
 /// How many bytes a capture has at most.
 const LIMIT: u64 = 1 << 40;
 
-/// Bytes that are given as they are asked for, and whose reads fail after so many.
+/// Bytes that are given as they are asked for, at most so many at once, and whose reads fail after so many.
 #[derive(Drop)]
 struct Pieces<'a> {
     bytes: &'a [u8],
+    most: usize,
     before_fault: usize,
     calls: u64,
     asked: usize,
     faults: u64,
+    ghost some: { 0 < most },
 }
 
 impl<'a> Pieces<'a> {
     fn new(bytes: &'a [u8]) -> Pieces<'a> {
         Pieces {
             bytes,
+            most: usize::MAX,
             before_fault: usize::MAX,
             calls: 0,
             asked: 0,
@@ -50,7 +53,8 @@ impl<'a> Source for Pieces<'a> {
             self.faults = self.faults.saturating_add(1);
             return ReadStep::Failed;
         }
-        let count = into.len().min(self.bytes.len()).min(self.before_fault);
+        let room = into.len().min(self.most);
+        let count = room.min(self.bytes.len()).min(self.before_fault);
         if count == 0 {
             return ReadStep::End;
         }
@@ -252,4 +256,5 @@ fn the_limit(rt: HostRuntime) {
     }
 }
 
+mod scripts;
 mod written;

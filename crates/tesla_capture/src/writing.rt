@@ -7,7 +7,7 @@ ghost use Rattle.tesla_desk.specs.Outside.{AppendsFront, with_bytes};
 ghost use Rattle.tesla_capture.specs.Capture.{head as capture_head, record_text, Arrives, Takes};
 ghost use Rattle.tesla_capture.specs.Release.{head_text, release_text};
 
-use crate::found::HEAD;
+use crate::format::{CaptureFormat, Format};
 use crate::release::Head;
 use tesla_desk::{Sink, write_all};
 
@@ -56,7 +56,7 @@ pub fn write_head<S: Sink>(sink: &mut S) -> bool
     ensures cause { HasCause (S.faults sink.old) (S.faults sink.new) (result ≡ false) }
     ensures name { S.name sink.new ≡ S.name sink.old }
 {
-    write_all(sink, &HEAD)
+    write_all(sink, &CaptureFormat::head())
 }
 
 /// Writes the record of an arrival of at most 2,048 bytes, with the reading of the receiver's clock in

@@ -28,6 +28,8 @@ const RECORDS: [u8; 38] = [
 fn laws_are_called(_rt: HostRuntime) {
     laws::captures();
     laws::outlines();
+    laws::scripts();
+    laws::script_outlines();
 }
 
 #[test]

@@ -1,7 +1,7 @@
 use Rattle.std.proofs.Common.{ℕ, sym, arith, length-drop}
 use Rattle.std.proofs.lemmas.List.{length-take}
 use Rattle.tesla_base.proofs.Lists.{drop_part}
-use Rattle.tesla_capture.proofs.reader.Reader.advance.Goals as goal
+use Rattle.tesla_capture.proofs.pieces.PieceReader.advance.Goals as goal
 
 pub returns-clause-pending : goal.returns-clause-pending
 returns-clause-pending c =

@@ -1,8 +1,8 @@
 use Rattle.std.proofs.Common.{ℕ, ◌∙◌, ◌≤◌, List, ◌++◌, length, take, ap, arith}
-use Rattle.tesla_capture.specs.Reader.{pending}
+use Rattle.tesla_capture.specs.Pieces.{pending}
 use Rattle.tesla_base.proofs.Lists.{part_put_behind}
 use Rattle.tesla_capture.proofs.StaysAhead.{got_reads}
-use Rattle.tesla_capture.proofs.reader.Reader.read_on.Goals as goal
+use Rattle.tesla_capture.proofs.pieces.PieceReader.read_on.Goals as goal
 
 pub returns-in-Got-clause-reads : goal.returns-in-Got-clause-reads
 returns-in-Got-clause-reads g c =

@@ -1,6 +1,6 @@
 use Rattle.std.proofs.Common.{◌≡◌, ◌≤◌, ◌-◌, length}
-use Rattle.tesla_capture.specs.Reader.{pending, ahead}
-use Rattle.tesla_capture.proofs.reader.Reader.find_record.Given as goal
+use Rattle.tesla_capture.specs.Pieces.{pending, ahead}
+use Rattle.tesla_capture.proofs.pieces.PieceReader.find_record.Given as goal
 
 abbrev pub invariant-loop-found : goal.invariant-loop-found
 invariant-loop-found g l = record {
