@@ -6,6 +6,8 @@
 //! index of each key. A bare frame carries no keys. Of what is altered, the first byte has its last bit turned.
 #![tactic(auto)]
 
+pub mod version_two;
+
 /// The text of the setup.
 pub const SETUP: &str =
     "tesla 1\nstream 00000000000000a7\nstart 1000000\ninterval 100000\nlast 8\nchain 2 0 d37e38b1539f22b758d1e34d417c1032bee6369ad6cd313ca36c4c745fa2a941\nchain 5 0 9ce5072017e83d06da080924aa2251a73ea445e5986eb68ca2d8fb6a3bf70ced\n";

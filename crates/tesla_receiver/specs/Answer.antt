@@ -1,8 +1,10 @@
 -- The one answer of a receiver to each event.
 use Rattle.std.specs.Prelude.{ℕ, ◌+◌, Bool, true, not, ◌&&◌, ◌||◌, List, [], ◌∷◌, ◌++◌, length, Option, Some, None, is_some, unwrap_or, option_map, nat_lt, ◌==◌, if◌then◌else◌, find}
 use Rattle.std.specs.List.{list_any, enumerate_from}
+use Rattle.tesla_base.specs.Version.{number_of}
 use Rattle.tesla_base.specs.declared.names.Key.{Key}
 use Rattle.tesla_base.specs.declared.names.StreamId.{StreamId}
+use Rattle.tesla_base.specs.declared.version.Version.{Version}
 use Rattle.tesla_clock.specs.Schedule.{bound_of}
 use Rattle.tesla_clock.specs.Safe.{chain_set}
 use Rattle.tesla_frame.specs.declared.row.KeyRow.{KeyRow}
@@ -21,6 +23,10 @@ abbrev pub stream_of : Frame → StreamId
 stream_of (Data f) = f.stream
 stream_of (Disclosure f) = f.stream
 
+abbrev pub version_in : Frame → Version
+version_in (Data f) = f.version
+version_in (Disclosure f) = f.version
+
 -- a data frame's row carries a key though its interval is below the chain's delay
 abbrev pub is_early : Config → ℕ → ℕ → Option Key → Bool
 is_early cfg interval chain key = is_some key && nat_lt interval (chain_row cfg chain).delay
@@ -29,12 +35,17 @@ is_early cfg interval chain key = is_some key && nat_lt interval (chain_row cfg 
 abbrev pub is_outside : Config → KeyRow → Bool
 is_outside cfg row = not (nat_lt row.chain.0 (length cfg.setup.rows)) || nat_lt cfg.setup.times.last row.index
 
--- the frame doesn't fit the setup
-abbrev pub is_misfit : Config → Frame → Bool
-is_misfit cfg (Data f) =
+-- the fields of the frame don't fit the setup
+abbrev pub fields_misfit : Config → Frame → Bool
+fields_misfit cfg (Data f) =
     f.name.interval == 0 || nat_lt cfg.setup.times.last f.name.interval || not (length f.rows == length cfg.setup.rows)
+    || not (f.tag_length == cfg.setup.tag_length)
     || list_any (λ (p : ℕ × TagRow). is_early cfg f.name.interval p.0 p.1.key) (enumerate_from 0 f.rows)
-is_misfit cfg (Disclosure f) = list_any (is_outside cfg) f.rows
+fields_misfit cfg (Disclosure f) = list_any (is_outside cfg) f.rows
+
+-- the frame's version isn't the setup's, or its fields don't fit the setup
+abbrev pub is_misfit : Config → Frame → Bool
+is_misfit cfg frame = not (number_of (version_in frame) == number_of cfg.setup.version) || fields_misfit cfg frame
 
 -- by the bound, the sender can't have disclosed the key
 abbrev pub is_undisclosed : Config → ℕ → KeyRow → Bool

@@ -4,7 +4,6 @@ use Rattle.std.specs.List.{list_any, enumerate_from}
 use Rattle.tesla_base.specs.declared.names.Name.{Name}
 use Rattle.tesla_clock.specs.Safe.{has_chain}
 use Rattle.tesla_clock.specs.Safe as clock
-use Rattle.tesla_commit.specs.Parts.{tag_length}
 use Rattle.tesla_frame.specs.declared.row.KeyRow.{KeyRow}
 use Rattle.tesla_frame.specs.Frame.{Frame, Data, Disclosure, DataFrame, TagRow}
 use Rattle.tesla_frame.specs.Reading.{frame_of}
@@ -44,7 +43,7 @@ packet_of arrival = packet_in arrival.verdict (frame_of arrival.bytes)
 -- the tag that the packet has for the chain if it is authentic: the one under the key that this key walks to at the packet's interval
 abbrev pub tag_by : Config → DataFrame → ℕ → KeyRow → List ℕ
 tag_by cfg f chain row =
-    tag_of (tag_length cfg.setup) (walk row.key (row.index - f.name.interval)) cfg.setup.stream (record { 0 = chain }) f.name f.payload
+    tag_of cfg.setup.tag_length (walk row.key (row.index - f.name.interval)) cfg.setup.stream (record { 0 = chain }) f.name f.payload
 
 abbrev pub verifies_row : Config → DataFrame → ℕ → KeyRow → Option TagRow → Bool
 verifies_row cfg f chain row None = false

@@ -1,12 +1,16 @@
 //! The worked examples of two chains, with the answers that another program made.
 
+mod version_two;
+
 use crate::{Report, Verdict};
 use tesla_base::{ChainNo, StreamId};
+use tesla_examples::version_two::{SETUP_WITH_TAGS_OF_10_BYTES, SETUP_WITH_TAGS_OF_32_BYTES};
 use tesla_examples::*;
 
-/// What a receiver holds at most, and how many ingests it has.
+/// What a receiver is opened with.
 #[derive(Clone, Copy)]
-pub struct Limits {
+pub struct Opening {
+    pub setup: &'static str,
     pub capacity: u32,
     pub quota: u32,
     pub ingests: u8,
@@ -32,11 +36,24 @@ pub enum Step {
 /// Events, each with the number of packets that are held after it.
 pub type Rows = &'static [(Step, u32)];
 
-/// One ingest and room for 16 packets.
-const USUAL: Limits = Limits {
+/// Version 1, one ingest, and room for 16 packets.
+const USUAL: Opening = Opening {
+    setup: SETUP,
     capacity: 16,
     quota: 16,
     ingests: 1,
+};
+
+/// Version 2 with tags of 10 bytes.
+const SHORT_TAGS: Opening = Opening {
+    setup: SETUP_WITH_TAGS_OF_10_BYTES,
+    ..USUAL
+};
+
+/// Version 2 with tags of 32 bytes.
+const LONG_TAGS: Opening = Opening {
+    setup: SETUP_WITH_TAGS_OF_32_BYTES,
+    ..USUAL
 };
 
 /// The packet is kept, and both chains are safe.
@@ -62,7 +79,7 @@ const NONE: Report = Report {
 };
 
 /// Each example by its name.
-pub const EXAMPLES: [(&str, Limits, Rows); 32] = [
+pub const EXAMPLES: [(&str, Opening, Rows); 37] = [
     ("last_safe_microsecond", USUAL, LAST_SAFE_MICROSECOND),
     ("first_unsafe_microsecond", USUAL, FIRST_UNSAFE_MICROSECOND),
     ("before_the_start", USUAL, BEFORE_THE_START),
@@ -94,10 +111,10 @@ pub const EXAMPLES: [(&str, Limits, Rows); 32] = [
     ("second_copy_is_right", USUAL, SECOND_COPY_IS_RIGHT),
     (
         "proved_copy_is_gone",
-        Limits {
+        Opening {
             capacity: 2,
             quota: 2,
-            ingests: 1,
+            ..USUAL
         },
         PROVED_COPY_IS_GONE,
     ),
@@ -105,37 +122,37 @@ pub const EXAMPLES: [(&str, Limits, Rows); 32] = [
     ("late_after_all_chains", USUAL, LATE_AFTER_ALL_CHAINS),
     (
         "full_until_all_chains_pass",
-        Limits {
+        Opening {
             capacity: 1,
             quota: 1,
-            ingests: 1,
+            ..USUAL
         },
         FULL_UNTIL_ALL_CHAINS_PASS,
     ),
     (
         "full_packet_brings_a_key",
-        Limits {
+        Opening {
             capacity: 2,
             quota: 2,
-            ingests: 1,
+            ..USUAL
         },
         FULL_PACKET_BRINGS_A_KEY,
     ),
     (
         "forgery_gives_its_place_back",
-        Limits {
+        Opening {
             capacity: 1,
             quota: 1,
-            ingests: 1,
+            ..USUAL
         },
         FORGERY_GIVES_ITS_PLACE_BACK,
     ),
     (
         "forgery_is_gone_with_its_own_chains",
-        Limits {
+        Opening {
             capacity: 1,
             quota: 1,
-            ingests: 1,
+            ..USUAL
         },
         FORGERY_IS_GONE_WITH_ITS_OWN_CHAINS,
     ),
@@ -147,19 +164,19 @@ pub const EXAMPLES: [(&str, Limits, Rows); 32] = [
     ("over_only_at_the_end", USUAL, OVER_ONLY_AT_THE_END),
     (
         "quota_of_two",
-        Limits {
+        Opening {
             capacity: 4,
             quota: 2,
-            ingests: 1,
+            ..USUAL
         },
         QUOTA_OF_TWO,
     ),
     (
         "quota_counts_held_packets",
-        Limits {
+        Opening {
             capacity: 4,
             quota: 2,
-            ingests: 1,
+            ..USUAL
         },
         QUOTA_COUNTS_HELD_PACKETS,
     ),
@@ -167,21 +184,41 @@ pub const EXAMPLES: [(&str, Limits, Rows); 32] = [
     ("misfits", USUAL, MISFITS),
     (
         "repeat_though_full",
-        Limits {
+        Opening {
             capacity: 1,
             quota: 1,
-            ingests: 1,
+            ..USUAL
         },
         REPEAT_THOUGH_FULL,
     ),
     (
         "over_after_both_ends",
-        Limits {
-            capacity: 16,
-            quota: 16,
+        Opening {
             ingests: 2,
+            ..USUAL
         },
         OVER_AFTER_BOTH_ENDS,
+    ),
+    ("short_tags", SHORT_TAGS, version_two::SHORT_TAGS),
+    (
+        "version_1_under_version_2",
+        SHORT_TAGS,
+        version_two::VERSION_1_UNDER_VERSION_2,
+    ),
+    (
+        "first_release_in_version_2",
+        SHORT_TAGS,
+        version_two::FIRST_RELEASE,
+    ),
+    (
+        "slow_chain_rescues_in_version_2",
+        SHORT_TAGS,
+        version_two::SLOW_CHAIN_RESCUES,
+    ),
+    (
+        "long_tag_is_compared_whole",
+        LONG_TAGS,
+        version_two::LONG_TAG_IS_COMPARED_WHOLE,
     ),
 ];
 

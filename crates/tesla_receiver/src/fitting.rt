@@ -4,7 +4,8 @@ ghost use Rattle.std.specs.Prelude.{◌≡◌};
 ghost use Rattle.std.specs.List.{list_any, enumerate_from};
 ghost use Rattle.tesla_frame.specs.Frame.{Data};
 ghost use Rattle.tesla_frame.specs.Shown.{shown};
-ghost use Rattle.tesla_receiver.specs.Answer.{is_early, is_outside, is_misfit, is_undisclosed, is_future, stream_of};
+ghost use Rattle.tesla_base.specs.Version.{number_of};
+ghost use Rattle.tesla_receiver.specs.Answer.{is_early, is_outside, fields_misfit, is_misfit, is_undisclosed, is_future, stream_of, version_in};
 
 use crate::Config;
 use crate::keys::chain_row;
@@ -21,9 +22,25 @@ pub fn stream_of(frame: &FrameView<'_>) -> StreamId
     }
 }
 
-/// Whether the frame doesn't fit the setup.
+/// Whether the frame's version isn't the setup's, or its fields don't fit the setup.
 pub fn is_misfit(config: &Config, frame: &FrameView<'_>) -> bool
     ensures { result ≡ is_misfit config.now (shown frame.now) }
+{
+    version_of(frame) != config.setup.version() || fields_misfit(config, frame)
+}
+
+// The number of a frame's version.
+fn version_of(frame: &FrameView<'_>) -> u8
+    ensures { result ≡ number_of (version_in (shown frame.now)) }
+{
+    match frame {
+        FrameView::Data(data) => data.version(),
+        FrameView::Disclosure(keys) => keys.version(),
+    }
+}
+
+fn fields_misfit(config: &Config, frame: &FrameView<'_>) -> bool
+    ensures { result ≡ fields_misfit config.now (shown frame.now) }
 {
     match frame {
         FrameView::Data(data) => data_misfit(config, data),
@@ -32,12 +49,13 @@ pub fn is_misfit(config: &Config, frame: &FrameView<'_>) -> bool
 }
 
 fn data_misfit(config: &Config, frame: &DataView<'_>) -> bool
-    ensures { result ≡ is_misfit config.now (Data frame.now) }
+    ensures { result ≡ fields_misfit config.now (Data frame.now) }
 {
     let interval = frame.name().interval;
     interval == 0
         || config.setup.schedule().last() < interval
         || frame.count() != config.setup.count()
+        || frame.tag_length() != config.setup.tag_length()
         || any_early_key(config, frame)
 }
 

@@ -2,6 +2,7 @@
 
 ghost use Rattle.std.specs.Prelude.{◌≡◌, ◌<◌, option_to_list, IfOk, find};
 ghost use Rattle.std.specs.List.{list_any};
+ghost use Rattle.tesla_base.specs.Tag.{wide_tag};
 ghost use Rattle.tesla_clock.specs.Safe.{has_chain};
 ghost use Rattle.tesla_receiver.specs.Config.{chains};
 ghost use Rattle.tesla_receiver.specs.Packets.{packet_of, tag_by, verifies, is_proof, proves, release_of, proved_by};
@@ -10,7 +11,7 @@ use crate::appending::push_some;
 use crate::{Arrival, Book, Config, Packet, Release, Verdict};
 use std::alloc::Global;
 use std::sync::ledger::Ledger;
-use tesla_base::{ChainNo, NoMemory, Steps, Tag};
+use tesla_base::{ChainNo, NoMemory, Steps, WideTag};
 use tesla_frame::{DataView, FrameView, KeyRow, read_frame};
 
 /// Whether bit `chain` of a set of chains is set.
@@ -42,14 +43,23 @@ fn made_tag<L: Ledger>(
     chain: u8,
     row: &KeyRow,
     steps: &mut Steps<L>,
-) -> Tag
-    ensures { result.0 ≡ tag_by config.now frame.now chain row.now }
+) -> WideTag
+    ensures { result ≡ wide_tag (tag_by config.now frame.now chain row.now) }
 {
     let name = frame.name();
     let key = tesla_prf::walk_back(&row.key, row.index.saturating_sub(name.interval), steps);
     let mac = tesla_prf::mac_key(&key, steps);
-    let stream = config.setup.stream();
-    tesla_prf::tag(&mac, stream, ChainNo(chain), name, frame.payload(), steps)
+    let setup = &config.setup;
+    let (stream, length) = (setup.stream(), setup.tag_length());
+    tesla_prf::wide_tag(
+        &mac,
+        stream,
+        ChainNo(chain),
+        name,
+        frame.payload(),
+        length,
+        steps,
+    )
 }
 
 /// Whether the packet's tag for the chain verifies under the key that this key walks to at the packet's
@@ -67,7 +77,7 @@ pub fn verifies<L: Ledger>(
         return false;
     }
     let made = made_tag(config, frame, chain, row, steps);
-    tesla_prf::same(&frame.tag(chain), &made)
+    frame.tag(chain) == made
 }
 
 /// Whether one of these keys is of the chain, reaches the packet's interval, and verifies its tag.

@@ -3,7 +3,7 @@
 ghost use Rattle.std.specs.Prelude.{◌≡◌, ◌<◌, ◌≤◌};
 
 use super::*;
-use crate::examples::{EXAMPLES, Limits, Rows, Step};
+use crate::examples::{EXAMPLES, Opening, Rows, Step};
 use std::alloc::Global;
 use std::marker::Brand;
 use std::sync::ledger::{Blank, Ledger};
@@ -11,7 +11,6 @@ use std::test::*;
 use tesla_base::Steps;
 use tesla_capture::Head;
 use tesla_commit::read_setup;
-use tesla_examples::SETUP;
 
 fn takes(receiver: &mut Receiver, want: Take, payload: &str) -> bool
     requires { receiver.old.calls < 100 }
@@ -55,12 +54,12 @@ fn is_met<L: Ledger>(
     }
 }
 
-// A receiver of the examples' setup, whose lag is 30,000 microseconds.
-fn opened(alloc: Global, limits: Limits) -> Result<Receiver, Fail> {
-    let setup = read_setup(alloc, SETUP.as_bytes())?;
-    let capacity = limits.capacity.max(1).min(65_536);
-    let quota = limits.quota.max(1).min(capacity);
-    let ingests = limits.ingests.max(1);
+// A receiver whose lag is 30,000 microseconds.
+fn opened(alloc: Global, opening: Opening) -> Result<Receiver, Fail> {
+    let setup = read_setup(alloc, opening.setup.as_bytes())?;
+    let capacity = opening.capacity.max(1).min(65_536);
+    let quota = opening.quota.max(1).min(capacity);
+    let ingests = opening.ingests.max(1);
     Ok(Receiver::open(alloc, setup, 30_000, capacity, quota, ingests)?)
 }
 
@@ -69,7 +68,7 @@ fn opened(alloc: Global, limits: Limits) -> Result<Receiver, Fail> {
 fn first_unmet<L: Ledger>(
     alloc: Global,
     blank: Blank,
-    limits: Limits,
+    opening: Opening,
     rows: Rows,
 ) -> Result<Option<usize>, Fail>
     requires name { blank.name ≡ L.name }
@@ -77,7 +76,7 @@ fn first_unmet<L: Ledger>(
     requires some { 0 < L.parts }
 {
     let mut steps = Steps::<L>::new(blank);
-    let mut receiver = opened(alloc, limits)?;
+    let mut receiver = opened(alloc, opening)?;
     for (place, (step, held)) in rows.iter().enumerate() {
         if 100 <= receiver.calls() || !is_met(alloc, &mut receiver, step, &mut steps)? {
             return Ok(Some(place));
@@ -91,8 +90,8 @@ fn first_unmet<L: Ledger>(
 
 #[test]
 fn worked_examples(rt: HostRuntime) -> Result<(), Fail> {
-    for (name, limits, rows) in EXAMPLES {
-        let unmet = first_unmet::<Brand>(rt.alloc(), Blank::new(1), limits, rows)?;
+    for (name, opening, rows) in EXAMPLES {
+        let unmet = first_unmet::<Brand>(rt.alloc(), Blank::new(1), opening, rows)?;
         assert_eq!(rt; unmet, None, "{name}");
     }
     Ok(())

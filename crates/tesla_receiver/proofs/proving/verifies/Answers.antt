@@ -1,8 +1,8 @@
-use Rattle.std.proofs.Common.{sym, ◌∙◌, ap, bytes_eq}
+use Rattle.std.proofs.Common.{sym, ◌∙◌}
 use Rattle.tesla_receiver.proofs.Verified.{verifies_tagged}
 use Rattle.tesla_receiver.proofs.proving.verifies.Goals as goal
 
 pub returns : goal.returns
 returns g c =
-    c.same.ensures.value ∙ ap (bytes_eq c.tag.result.0) c.made_tag-made.ensures
-    ∙ sym (verifies_tagged c.args.config.now c.args.frame.now c.args.chain c.args.row.now c.tag.result.0 c.tag.ensures)
+    c.eq.ensures
+    ∙ sym (verifies_tagged c.args.config.now c.args.frame.now c.args.chain c.args.row.now c.tag.result c.made_tag-made.result c.tag.ensures.tag c.made_tag-made.ensures)
