@@ -1,0 +1,4 @@
+pub mod Cost
+pub mod Marks
+pub mod Walker
+pub mod Kept
