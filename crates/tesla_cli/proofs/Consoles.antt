@@ -1,5 +1,5 @@
 -- A console that was opened before, told what came, and closed.
-use Rattle.std.proofs.Common.{◌≡◌, ◌∙◌, ◌≢◌, ◌⊎◌, inl, inr, ◌<◌, ℕ, Bool, true, false, nat_lt, Option, Some, None, IfSome, Result, Err, List, [], take, codes, refl, sym, ap, subst, arith}
+use Rattle.std.proofs.Common.{◌≡◌, ◌∙◌, ◌≢◌, ◌⊎◌, inl, inr, ◌<◌, ℕ, Bool, true, false, nat_lt, Option, Some, None, IfSome, Result, Err, List, [], length, take, codes, refl, sym, ap, subst, arith}
 use Rattle.std.proofs.lemmas.Bool.Decides.{nat_tests}
 use Rattle.tesla_desk.specs.Faults.{Faults, HasCause, HasCauses, CountsOpening, after_sink}
 use Rattle.tesla_desk.specs.Outside.{Page, Holds, Told, OpensSink, with_opening, with_openings, page_of}
@@ -8,10 +8,12 @@ use Rattle.tesla_desk.specs.declared.desk.OpenRefusal.TheVariants as refused
 use Rattle.tesla_desk.proofs.Counts.{causes_both, causes_opening, causes_sink}
 use Rattle.tesla_desk.proofs.Told.{first_written, openings_none, openings_first, asks_tried}
 use Rattle.tesla_front.specs.Fault.{unopened}
+use Rattle.tesla_front.specs.Seeds.{IsNoSeeds, IsSeedsIn}
 use Rattle.tesla_front.specs.Setup.{IsNoSetup, IsSetupIn}
 use Rattle.tesla_front.specs.declared.fault.Fault.TheVariants as faults
 use Rattle.tesla_front.specs.declared.refusal.Stop.{Stop}
-use Rattle.tesla_cli.specs.Form.{Form, Replay, Spells, Does, Performs, files_of}
+use Rattle.tesla_cli.specs.Chain.{WritesSetup, setup_made}
+use Rattle.tesla_cli.specs.Form.{Form, Replay, Chain, Spells, Does, Performs, files_of}
 use Rattle.tesla_cli.specs.Here.{console, IsNoForm, Shows, TellsUsage, IsDoneAs, HasConsole, Runs}
 use Rattle.tesla_cli.specs.Outcome.{IsDone, Tells, outcome_of, outcome_text}
 use Rattle.tesla_cli.specs.Replay.{PlaysCapture, config_of}
@@ -118,6 +120,19 @@ does_moves (Replay asked) words opened before after old new came spelled first l
   plays = subst (λ (p : Page). PlaysCapture (config_of asked plays.setup) p (old asked.out) (new asked.out) came) (first asked.capture spelled.names.capture_is.file)
       (subst (λ (p : Page). PlaysCapture (config_of asked plays.setup) (before asked.capture) p (new asked.out) came) (first asked.out spelled.names.out_is.file)
       (subst (λ (p : Page). PlaysCapture (config_of asked plays.setup) (before asked.capture) (before asked.out) p came) (sym (last asked.out spelled.names.out_is.file)) plays.plays));
+})
+does_moves (Chain asked) words opened before after old new came spelled first last (inl stops) = inl (record {
+  alone = stops.alone;
+  stop = stops.stop;
+  came_is = stops.came_is;
+  why = subst (λ (p : Page). IsNoSeeds (length asked.delays) p stops.stop) (first asked.secret spelled.names.secret_is.file) stops.why;
+})
+does_moves (Chain asked) words opened before after old new came spelled first last (inr makes) = inr (record {
+  seeds = makes.seeds;
+  count = makes.count;
+  found = subst (λ (p : Page). IsSeedsIn (length asked.delays) p makes.seeds) (first asked.secret spelled.names.secret_is.file) makes.found;
+  writes = subst (λ (p : Page). WritesSetup (setup_made asked makes.seeds) p (new asked.out) came) (first asked.out spelled.names.out_is.file)
+      (subst (λ (p : Page). WritesSetup (setup_made asked makes.seeds) (before asked.out) p came) (sym (last asked.out spelled.names.out_is.file)) makes.writes);
 })
 
 -- the console was opened before what was done, told what came, and closed

@@ -3,10 +3,14 @@ pub mod Targets
 pub mod Records
 pub mod Takes
 pub mod SixWords
+pub mod SevenWords
 pub mod Told
 pub mod Forms
 pub mod Openings
 pub mod Played
+pub mod Texts
 pub mod Consoles
 pub mod Histories
 pub mod Complete
+pub mod DelayWords
+pub mod Setups

@@ -8,7 +8,7 @@ use Rattle.tesla_desk.specs.declared.desk.OpenRefusal.{OpenRefusal}
 use Rattle.tesla_desk.specs.declared.desk.OpenRefusal.TheVariants as refused
 use Rattle.tesla_desk.proofs.Told.{opened_holds}
 use Rattle.tesla_front.specs.Fault.{unopened}
-use Rattle.tesla_front.specs.Files.{HoldsWhere}
+use Rattle.tesla_front.specs.Files.{HoldsWhere, HasFailed}
 use Rattle.tesla_front.specs.Setup.{IsNoSetup, IsSetupIn}
 use Rattle.tesla_front.specs.declared.fault.Fault.TheVariants as faults
 use Rattle.tesla_front.specs.declared.refusal.Refusal.TheVariants as refusals
@@ -17,7 +17,7 @@ use Rattle.tesla_front.specs.declared.refusal.Stop.TheVariants as stops
 use Rattle.tesla_receiver.specs.declared.config.Config.{Config}
 use Rattle.tesla_cli.specs.Asked.{Asked}
 use Rattle.tesla_cli.specs.Form.{Replay, Performs}
-use Rattle.tesla_cli.specs.Replay.{config_of, HasFailed, PlaysToEnd, BreaksOff, PlaysCapture}
+use Rattle.tesla_cli.specs.Replay.{config_of, PlaysToEnd, BreaksOff, PlaysCapture}
 use Rattle.tesla_cli.specs.Steps.{EndsFrom, EndsOn, BreaksOn, PlaysSource, PlaysLeft, PlaysOpened, PlaysFiles}
 use Rattle.tesla_cli.specs.declared.outcome.Summary.{Summary}
 use Rattle.tesla_cli.proofs.Openings.{opens_then, opens_front}
@@ -33,14 +33,15 @@ breaks_on : (cfg : Config) (left written : Option (List ℕ)) (count : ℕ) → 
 breaks_on cfg left None count front = tt
 breaks_on cfg left (Some done) count front = λ bytes told. front bytes done told refl
 
-has_failed : (written : Option (List ℕ)) (count : ℕ) → 0 < count → HasFailed (page_of written count)
+-- the page of a sink that had faults tells so
+pub has_failed : (written : Option (List ℕ)) (count : ℕ) → 0 < count → HasFailed (page_of written count)
 has_failed None count some = tt
 has_failed (Some done) count some = grind (arith, nat_tests, some)
 
 left_by : (cfg : Config) (left written : Option (List ℕ)) (count : ℕ) (before : Page) (came : Result Summary Stop) → PlaysSource cfg left written came → HasCause 0 count (came ≡ Err (stops.Failed faults.Write)) → (came ≡ Err (stops.Failed faults.Open) → ⊥) → PlaysLeft cfg left before (page_of written count) came
 left_by cfg left written count before (Ok summary) plays cause other = ends_on cfg left written count (Ok summary) plays
 left_by cfg left written count before (Err (stops.Refused (refusals.Capture place kind))) plays cause other = ends_on cfg left written count (Err (stops.Refused (refusals.Capture place kind))) plays
-left_by cfg left written count before (Err (stops.Refused (refusals.Setup line kind))) plays cause other = absurd plays
+left_by cfg left written count before (Err (stops.Refused _)) plays cause other = absurd plays
 left_by cfg left written count before (Err (stops.Failed faults.Write)) plays cause other = (breaks_on cfg left written count plays, has_failed written count (rose_some 0 count refl (cause.rose refl)))
 left_by cfg left written count before (Err (stops.Failed faults.Read)) plays cause other = breaks_on cfg left written count plays
 left_by cfg left written count before (Err (stops.Failed faults.NoMemory)) plays cause other = inr (breaks_on cfg left written count plays)
@@ -84,7 +85,7 @@ breaks_by cfg left capture out opened breaks = record {
 capture_by : (cfg : Config) (left : Option (List ℕ)) (capture before out : Page) (came : Result Summary Stop) → Opened capture left → PlaysLeft cfg left before out came → PlaysCapture cfg capture before out came
 capture_by cfg left capture before out (Ok summary) opened plays = ends_by cfg left capture out (Ok summary) opened plays
 capture_by cfg left capture before out (Err (stops.Refused (refusals.Capture place kind))) opened plays = ends_by cfg left capture out (Err (stops.Refused (refusals.Capture place kind))) opened plays
-capture_by cfg left capture before out (Err (stops.Refused (refusals.Setup line kind))) opened plays = absurd plays
+capture_by cfg left capture before out (Err (stops.Refused _)) opened plays = absurd plays
 capture_by cfg left capture before out (Err (stops.Failed faults.Write)) opened plays = (breaks_by cfg left capture out opened plays.0, plays.1)
 capture_by cfg left capture before out (Err (stops.Failed faults.Read)) opened plays = breaks_by cfg left capture out opened plays
 capture_by cfg left capture before out (Err (stops.Failed faults.NoMemory)) opened (inl same) = inl same

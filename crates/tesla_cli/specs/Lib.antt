@@ -3,6 +3,10 @@ pub mod Form
 pub mod Outcome
 pub mod Usage
 pub mod Replay
+pub mod Chain
+pub mod ChainSteps
 pub mod Asked
+pub mod ChainAsked
+pub mod Delays
 pub mod Playing
 pub mod Steps

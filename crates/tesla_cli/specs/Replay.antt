@@ -1,10 +1,10 @@
 -- What the command replay does.
-use Rattle.std.specs.Prelude.{◌≡◌, ◌≢◌, ◌⊎◌, ◌≤◌, ℕ, Bool, true, is_none, Option, Some, None, Result, Ok, Err, List}
+use Rattle.std.specs.Prelude.{◌≡◌, ◌≢◌, ◌⊎◌, ◌≤◌, ℕ, Bool, is_none, Option, Some, None, Result, Ok, Err, List}
 use Rattle.tesla_capture.specs.Outline.{outline_of}
 use Rattle.tesla_capture.specs.declared.record.RecordKind.{RecordKind}
 use Rattle.tesla_commit.specs.Parts.{Parts}
-use Rattle.tesla_desk.specs.Outside.{Page, Untold, Absent, Holds}
-use Rattle.tesla_front.specs.Files.{HoldsWhere, IsFront}
+use Rattle.tesla_desk.specs.Outside.{Page, Absent, Holds}
+use Rattle.tesla_front.specs.Files.{HoldsWhere, HasFailed, IsFront}
 use Rattle.tesla_front.specs.Setup.{IsSetupIn, IsNoSetup}
 use Rattle.tesla_front.specs.declared.fault.Fault.TheVariants as faults
 use Rattle.tesla_front.specs.declared.refusal.Refusal.TheVariants as refusals
@@ -48,12 +48,6 @@ out_text cfg bytes = text_by (outline_of bytes).fault cfg (history_of cfg bytes)
 abbrev pub Where : Page → (List ℕ → Type 0) → Type 0
 Where page Fact = (bytes : List ℕ) (failed : Bool) → page ≡ Holds bytes failed → Fact bytes
 
--- the sink that was closed last under the name failed, where that is told
-abbrev pub HasFailed : Page → Type 0
-HasFailed Untold = Unit {0}
-HasFailed Absent = ⊥
-HasFailed (Holds bytes failed) = failed ≡ true
-
 -- the capture was played as far as it goes: it came to its end, and the output holds its text
 pub record PlaysToEnd (cfg : Config) (capture out : Page) (came : Result Summary Stop) : Type 0 where
   pub there : capture ≢ Absent
@@ -69,7 +63,7 @@ pub record BreaksOff (cfg : Config) (capture out : Page) : Type 0 where
 abbrev pub PlaysCapture : Config → Page → Page → Page → Result Summary Stop → Type 0
 PlaysCapture cfg capture before out (Ok summary) = PlaysToEnd cfg capture out (Ok summary)
 PlaysCapture cfg capture before out (Err (Refused (refusals.Capture place kind))) = PlaysToEnd cfg capture out (Err (Refused (refusals.Capture place kind)))
-PlaysCapture cfg capture before out (Err (Refused (refusals.Setup line kind))) = ⊥
+PlaysCapture cfg capture before out (Err (Refused _)) = ⊥
 -- a write that failed was one of the output
 PlaysCapture cfg capture before out (Err (Failed faults.Write)) = BreaksOff cfg capture out × HasFailed out
 PlaysCapture cfg capture before out (Err (Failed faults.Read)) = BreaksOff cfg capture out

@@ -1,7 +1,7 @@
 -- What the inner steps of a replay come to.
 use Rattle.std.specs.Prelude.{◌≡◌, ◌⊎◌, ℕ, Option, Some, Result, Ok, Err, List, [], ◌∷◌}
 use Rattle.tesla_desk.specs.Outside.{Page, Told, OfSource, OfSink}
-use Rattle.tesla_front.specs.Files.{HoldsWhere, IsFront}
+use Rattle.tesla_front.specs.Files.{HoldsWhere, HasFailed, IsFront}
 use Rattle.tesla_front.specs.declared.fault.Fault.{Fault}
 use Rattle.tesla_front.specs.declared.fault.Fault.TheVariants as faults
 use Rattle.tesla_front.specs.declared.refusal.Refusal.TheVariants as refusals
@@ -12,7 +12,7 @@ use Rattle.tesla_receiver.specs.declared.report.Report.{Report}
 use Rattle.tesla_receiver.specs.History.{Event}
 use Rattle.tesla_cli.specs.Form.{Opens}
 use Rattle.tesla_cli.specs.Playing.{Rule}
-use Rattle.tesla_cli.specs.Replay.{HasFailed, PlaysCapture, end_of, out_text}
+use Rattle.tesla_cli.specs.Replay.{PlaysCapture, end_of, out_text}
 use Rattle.tesla_cli.specs.declared.outcome.Summary.{Summary}
 use Rattle.tesla_cli.specs.declared.outcome.Summary.TheVariants.{Played}
 use Rattle.tesla_cli.specs.declared.replay.player.Ending.{Ending}
@@ -33,7 +33,7 @@ pub record EndsFrom (cfg : Config) (left written : Option (List ℕ)) (came : Re
 abbrev pub PlaysSource : Config → Option (List ℕ) → Option (List ℕ) → Result Summary Stop → Type 0
 PlaysSource cfg left written (Ok summary) = EndsFrom cfg left written (Ok summary)
 PlaysSource cfg left written (Err (stops.Refused (refusals.Capture place kind))) = EndsFrom cfg left written (Err (stops.Refused (refusals.Capture place kind)))
-PlaysSource cfg left written (Err (stops.Refused (refusals.Setup line kind))) = ⊥
+PlaysSource cfg left written (Err (stops.Refused _)) = ⊥
 PlaysSource cfg left written (Err (stops.Failed fault)) = (bytes done : List ℕ) → left ≡ Some bytes → written ≡ Some done → IsFront (out_text cfg bytes) done
 
 -- the output of a capture that was played to its end
@@ -49,7 +49,7 @@ BreaksOn cfg left out = HoldsWhere out (λ written. (bytes : List ℕ) → left 
 abbrev pub PlaysLeft : Config → Option (List ℕ) → Page → Page → Result Summary Stop → Type 0
 PlaysLeft cfg left before out (Ok summary) = EndsOn cfg left out (Ok summary)
 PlaysLeft cfg left before out (Err (stops.Refused (refusals.Capture place kind))) = EndsOn cfg left out (Err (stops.Refused (refusals.Capture place kind)))
-PlaysLeft cfg left before out (Err (stops.Refused (refusals.Setup line kind))) = ⊥
+PlaysLeft cfg left before out (Err (stops.Refused _)) = ⊥
 PlaysLeft cfg left before out (Err (stops.Failed faults.Write)) = BreaksOn cfg left out × HasFailed out
 PlaysLeft cfg left before out (Err (stops.Failed faults.Read)) = BreaksOn cfg left out
 PlaysLeft cfg left before out (Err (stops.Failed faults.NoMemory)) = (out ≡ before) ⊎ BreaksOn cfg left out

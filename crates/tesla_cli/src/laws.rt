@@ -1,18 +1,21 @@
 //! Laws about runs of the commands, as contracts of functions that do nothing.
 
-ghost use Rattle.std.specs.Prelude.{◌≡◌, ◌⊎◌, ℕ, List, Bool, None, Ok};
+ghost use Rattle.std.specs.Prelude.{◌≡◌, ◌⊎◌, ℕ, List, Bool, None, Ok, length};
+ghost use Rattle.tesla_base.specs.declared.names.Key.{Key};
 ghost use Rattle.tesla_capture.specs.Outline.{outline_of};
 ghost use Rattle.tesla_commit.specs.Parsing.{judged};
 ghost use Rattle.tesla_commit.specs.Parts.{Parts};
+ghost use Rattle.tesla_commit.specs.SeedsJudged.{seeds_judged};
 ghost use Rattle.tesla_desk.specs.Outside.{Told, Holds};
 ghost use Rattle.tesla_front.specs.declared.fault.Fault.TheVariants as faults;
 ghost use Rattle.tesla_receiver.specs.Report.{report_of};
 ghost use Rattle.tesla_cli.specs.Asked.{Asked, IsReplay};
+ghost use Rattle.tesla_cli.specs.ChainAsked.{ChainAsked, IsChain};
 ghost use Rattle.tesla_cli.specs.Here.{NothingFailed, Runs};
 ghost use Rattle.tesla_cli.specs.Replay.{config_of, history_of};
 ghost use Rattle.tesla_cli.specs.declared.outcome.Outcome.{Outcome};
 ghost use Rattle.tesla_cli.specs.declared.outcome.Outcome.TheVariants.{Done, Failed};
-ghost use Rattle.tesla_cli.specs.declared.outcome.Summary.TheVariants.{Played};
+ghost use Rattle.tesla_cli.specs.declared.outcome.Summary.TheVariants.{Chains, Played};
 
 /// A replay comes to its end. Where the words are its form, the desk tells a setup and a capture, and no count of
 /// faults rose, the outcome is the report of the one history that the capture plays, or want of memory.
@@ -23,4 +26,14 @@ pub fn completeness()
         old.page asked.capture ≡ Holds bytes other → (outline_of bytes).fault ≡ None →
         NothingFailed old.faults new.faults →
         (outcome ≡ Done (Played (report_of (history_of (config_of asked setup) bytes)))) ⊎ (outcome ≡ Failed faults.NoMemory) }
+{}
+
+/// A run of `chain` or `chain2` comes to its end. Where the words are its form, the desk tells the seeds that are
+/// wanted, and no count of faults rose, the outcome is the number of the chains, or want of memory.
+pub fn chain_completeness()
+    ensures { (words : List (List ℕ)) (old new : Told) (outcome : Outcome) (asked : ChainAsked) (text : List ℕ) (failed : Bool) (seeds : List Key) →
+        Runs words old new outcome → IsChain asked words →
+        old.page asked.secret ≡ Holds text failed → seeds_judged (length asked.delays) text ≡ Ok seeds →
+        NothingFailed old.faults new.faults →
+        (outcome ≡ Done (Chains (length asked.delays))) ⊎ (outcome ≡ Failed faults.NoMemory) }
 {}

@@ -1,6 +1,7 @@
 //! The commands.
 #![tactic(auto)]
 
+mod chain;
 mod form;
 mod here;
 pub mod laws;
@@ -8,6 +9,7 @@ mod outcome;
 mod replay;
 mod usage;
 
+pub use chain::{ChainWords, chain_words, run_chain};
 pub use form::{Form, form_in};
 pub use here::run_here;
 pub use outcome::{Outcome, Summary, outcome_of, tell};

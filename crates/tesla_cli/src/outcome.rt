@@ -1,6 +1,7 @@
 //! What a command comes to, and the lines that tell it.
 
-ghost use Rattle.std.specs.Prelude.{◌≡◌, true, false};
+ghost use Rattle.std.specs.Prelude.{◌≡◌, codes, true, false};
+ghost use Rattle.tesla_front.specs.Lines.{count_line};
 ghost use Rattle.tesla_desk.specs.Faults.{HasCause};
 ghost use Rattle.tesla_desk.specs.Outside.{AppendsFront, with_bytes};
 ghost use Rattle.tesla_cli.specs.Outcome.{status_of, report_text, summary_text, outcome_of, usage_line, usage_of, outcome_text, Tells, IsDone};
@@ -15,6 +16,8 @@ use tesla_receiver::Report;
 pub enum Summary {
     /// The counts of what was played.
     Played(Report),
+    /// The number of key chains of a setup that was made.
+    Chains(u8),
 }
 
 /// What a command comes to.
@@ -76,12 +79,22 @@ fn report_lines(report: &Report) -> Lines
     lines
 }
 
+// The line of a number of chains.
+fn chains_line(count: u8) -> Lines
+    ensures { result.bytes ≡ count_line (codes "chains") count }
+{
+    let mut lines = Lines::new();
+    add_count(&mut lines, "chains", u64::from(count));
+    lines
+}
+
 // The lines of a summary.
 fn summary_lines(summary: &Summary) -> Lines
     ensures { result.bytes ≡ summary_text summary.now }
 {
     match summary {
         Summary::Played(report) => report_lines(report),
+        Summary::Chains(count) => chains_line(*count),
     }
 }
 

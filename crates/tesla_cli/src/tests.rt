@@ -1,9 +1,11 @@
 //! Whole replays over a desk in memory: words and files go in; the status, the console and OUT come out.
 
+mod chain_runs;
 mod examples;
 mod faults;
 
 use super::*;
+use chain_runs::CHAIN_RUNS;
 use examples::{EXAMPLES, FIRST_CAPTURE, FIRST_RELEASED, NO_FORMS, Part, Released, Told};
 use faults::{FAULTS, Left, Setting};
 use std::alloc::Global;
@@ -162,7 +164,7 @@ fn pieces(most: usize) -> [Setting; 4] {
 fn worked_examples(rt: HostRuntime) -> Result<(), Fail> {
     for most in [5_000, 1, 2, 7] {
         for it in EXAMPLES {
-            let mut desk = desk_with(rt.alloc(), SETUP, it.capture)?;
+            let mut desk = desk_with(rt.alloc(), it.setup, it.capture)?;
             let came = came_to(rt.alloc(), it.words, &mut desk, &pieces(most))?;
             let want = wanted(rt.alloc(), it.status, &it.told, it.released, Left::Whole)?;
             assert_eq!(rt; came.told.as_str(), want.told.as_str(), "{}", it.name);
@@ -185,12 +187,29 @@ fn failing_desks(rt: HostRuntime) -> Result<(), Fail> {
 }
 
 #[test]
+fn chains(rt: HostRuntime) -> Result<(), Fail> {
+    for it in CHAIN_RUNS {
+        let mut desk = MemoryDesk::new(rt.alloc(), 1_000)?;
+        desk.put_page("secret", it.secret.as_bytes())?;
+        desk.put_page("out", BEFORE)?;
+        let came = came_to(rt.alloc(), it.words, &mut desk, it.settings)?;
+        assert_eq!(rt; came.told.as_str(), it.told, "{}", it.name);
+        assert_eq!(rt; came.out.as_slice(), it.out.as_bytes(), "{}", it.name);
+    }
+    Ok(())
+}
+
+const USAGE: &str = "1 usage: replay SETUP LAG CAPACITY CAPTURE OUT
+usage: chain SETUP-OUT SECRET STREAM START INTERVAL LAST DELAY [DELAY] [DELAY] [DELAY]
+usage: chain2 SETUP-OUT SECRET STREAM START INTERVAL LAST TAG DELAY [DELAY] [DELAY] [DELAY] [DELAY] [DELAY] [DELAY] [DELAY]
+";
+
+#[test]
 fn no_forms(rt: HostRuntime) -> Result<(), Fail> {
     for (name, line) in NO_FORMS {
         let mut desk = desk_with(rt.alloc(), SETUP, &FIRST_CAPTURE)?;
         let came = came_to(rt.alloc(), line, &mut desk, &[])?;
-        let want = "1 usage: replay SETUP LAG CAPACITY CAPTURE OUT\n";
-        assert_eq!(rt; came.told.as_str(), want, "{name}");
+        assert_eq!(rt; came.told.as_str(), USAGE, "{name}");
         assert_eq!(rt; came.out.as_slice(), BEFORE, "{name}");
     }
     Ok(())

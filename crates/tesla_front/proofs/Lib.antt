@@ -1,2 +1,3 @@
 pub mod Slashes
-pub mod SetupFronts
+pub mod SmallTexts
+pub mod Streams

@@ -59,9 +59,9 @@ parts_of (x ∷ xs) ys =
     (ap (λ l. x ∷ l) (parts_of xs ys).0, ap (λ k. drop k (x ∷ (xs ++ 47 ∷ ys))) count ∙ (parts_of xs ys).1)
 
 -- both numbers of a word with a slash
-pub both_spelled : (word : List ℕ) (place : ℕ) (places : Places) → position is_slash word ≡ Some place → ArePlaces word places → IsNumberWithin 65536 (take place word) places.capacity × IsNumberWithin places.capacity (drop (place + 1) word) places.quota
+pub both_spelled : (word : List ℕ) (place : ℕ) (places : Places) → position is_slash word ≡ Some place → ArePlaces word places → IsNumberWithin 1 65536 (take place word) places.capacity × IsNumberWithin 1 places.capacity (drop (place + 1) word) places.quota
 both_spelled word place places at are = by are.spelled where
-  by : ((word ≡ decimal places.capacity) × (places.quota ≡ places.capacity)) ⊎ (word ≡ decimal places.capacity ++ 47 ∷ decimal places.quota) → IsNumberWithin 65536 (take place word) places.capacity × IsNumberWithin places.capacity (drop (place + 1) word) places.quota
+  by : ((word ≡ decimal places.capacity) × (places.quota ≡ places.capacity)) ⊎ (word ≡ decimal places.capacity ++ 47 ∷ decimal places.quota) → IsNumberWithin 1 65536 (take place word) places.capacity × IsNumberWithin 1 places.capacity (drop (place + 1) word) places.quota
   by (inl lone) =
       let none : position is_slash word ≡ None = ap (position is_slash) lone.0 ∙ no_slash (decimal places.capacity) (digits_of places.capacity are.capacity) in
       absurd (none-some place (sym none ∙ at))
@@ -74,9 +74,9 @@ both_spelled word place places at are = by are.spelled where
       )
 
 -- the number of a word without a slash
-pub lone_spelled : (word : List ℕ) (places : Places) → position is_slash word ≡ None → ArePlaces word places → IsNumberWithin 65536 word places.capacity × (places.quota ≡ places.capacity)
+pub lone_spelled : (word : List ℕ) (places : Places) → position is_slash word ≡ None → ArePlaces word places → IsNumberWithin 1 65536 word places.capacity × (places.quota ≡ places.capacity)
 lone_spelled word places none are = by are.spelled where
-  by : ((word ≡ decimal places.capacity) × (places.quota ≡ places.capacity)) ⊎ (word ≡ decimal places.capacity ++ 47 ∷ decimal places.quota) → IsNumberWithin 65536 word places.capacity × (places.quota ≡ places.capacity)
+  by : ((word ≡ decimal places.capacity) × (places.quota ≡ places.capacity)) ⊎ (word ≡ decimal places.capacity ++ 47 ∷ decimal places.quota) → IsNumberWithin 1 65536 word places.capacity × (places.quota ≡ places.capacity)
   by (inl lone) = (record { spelled = lone.0; least = omega (arith, are.some, are.within); limit = are.capacity }, lone.1)
   by (inr both) =
       let here : position is_slash word ≡ Some (length (decimal places.capacity)) = ap (position is_slash) both ∙ first_slash (decimal places.capacity) (decimal places.quota) (digits_of places.capacity are.capacity) in
@@ -88,14 +88,14 @@ same_places number places e d =
     ap (λ (c : ℕ). Some (record { capacity = c; quota = number })) e ∙ ap (λ (q : ℕ). Some (record { capacity = places.capacity; quota = q })) d
 
 -- a word without a slash spells no other places
-pub lone_is : (word : List ℕ) (number : ℕ) (places : Places) → position is_slash word ≡ None → ((n : ℕ) → IsNumberWithin 65536 word n → Some number ≡ Some n) → ArePlaces word places → Some (record { capacity = number; quota = number }) ≡ Some places
+pub lone_is : (word : List ℕ) (number : ℕ) (places : Places) → position is_slash word ≡ None → ((n : ℕ) → IsNumberWithin 1 65536 word n → Some number ≡ Some n) → ArePlaces word places → Some (record { capacity = number; quota = number }) ≡ Some places
 lone_is word number places none only are =
     let lone = lone_spelled word places none are in
     let same : number ≡ places.capacity = some_is number places.capacity (only places.capacity lone.0) in
     same_places number places same (same ∙ sym lone.1)
 
 -- a word without a slash and without a number spells no places
-pub none_is : (word : List ℕ) (places : Places) → position is_slash word ≡ None → ((n : ℕ) → IsNumberWithin 65536 word n → None ≡ Some n) → ArePlaces word places → ⊥
+pub none_is : (word : List ℕ) (places : Places) → position is_slash word ≡ None → ((n : ℕ) → IsNumberWithin 1 65536 word n → None ≡ Some n) → ArePlaces word places → ⊥
 none_is word places none only are = none-some places.capacity (only places.capacity (lone_spelled word places none are).0)
 
 is_number : (m n : ℕ) → eqb m n ≡ true → m ≡ n
@@ -105,7 +105,7 @@ split_at : (xs : List ℕ) (i : ℕ) → i < length xs → xs ≡ take i xs ++ g
 split_at xs i h = sym (take-append-drop i xs) ∙ ap (λ rest. take i xs ++ rest) (drop_more xs i 0 h)
 
 -- two numbers around the first slash spell the places
-pub both_are : (word : List ℕ) (place : ℕ) (places : Places) → position is_slash word ≡ Some place → IsNumberWithin 65536 (take place word) places.capacity → IsNumberWithin places.capacity (take (length word - (place + 1)) (drop (place + 1) word)) places.quota → ArePlaces word places
+pub both_are : (word : List ℕ) (place : ℕ) (places : Places) → position is_slash word ≡ Some place → IsNumberWithin 1 65536 (take place word) places.capacity → IsNumberWithin 1 places.capacity (take (length word - (place + 1)) (drop (place + 1) word)) places.quota → ArePlaces word places
 both_are word place places at front back =
     let found = position-Some is_slash word place 0 at in
     let split = split_at word place found.0 in
@@ -118,6 +118,6 @@ both_are word place places at front back =
     }
 
 -- what is found around the first slash is what the word spells
-pub both_found : (word : List ℕ) (place : ℕ) (found : Option Places) → position is_slash word ≡ Some place → IfSome found (λ places. IsNumberWithin 65536 (take place word) places.capacity × IsNumberWithin places.capacity (take (length word - (place + 1)) (drop (place + 1) word)) places.quota) → IfSome found (ArePlaces word)
+pub both_found : (word : List ℕ) (place : ℕ) (found : Option Places) → position is_slash word ≡ Some place → IfSome found (λ places. IsNumberWithin 1 65536 (take place word) places.capacity × IsNumberWithin 1 places.capacity (take (length word - (place + 1)) (drop (place + 1) word)) places.quota) → IfSome found (ArePlaces word)
 both_found word place None at is = tt
 both_found word place (Some places) at is = both_are word place places at is.0 is.1

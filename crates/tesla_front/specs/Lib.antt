@@ -4,3 +4,4 @@ pub mod Files
 pub mod Lines
 pub mod Words
 pub mod Setup
+pub mod Seeds

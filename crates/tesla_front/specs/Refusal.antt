@@ -2,10 +2,11 @@
 use Rattle.std.specs.Prelude.{◌≡◌, ℕ, Result, Err, List, ◌++◌, codes, decimal}
 use Rattle.tesla_capture.specs.Names as records
 use Rattle.tesla_commit.specs.Names as setups
+use Rattle.tesla_commit.specs.SeedsNames.{seeds_kind_name}
 use Rattle.tesla_desk.specs.Faults.{Faults, HasCauses}
 use Rattle.tesla_front.specs.declared.fault.Fault.TheVariants.{Read, Write, Open}
 use Rattle.tesla_front.specs.declared.refusal.Refusal.{Refusal}
-use Rattle.tesla_front.specs.declared.refusal.Refusal.TheVariants.{Setup, Capture}
+use Rattle.tesla_front.specs.declared.refusal.Refusal.TheVariants.{Setup, Capture, Seeds}
 use Rattle.tesla_front.specs.declared.refusal.Stop.{Stop}
 use Rattle.tesla_front.specs.declared.refusal.Stop.TheVariants.{Failed}
 
@@ -13,6 +14,7 @@ use Rattle.tesla_front.specs.declared.refusal.Stop.TheVariants.{Failed}
 abbrev pub refusal_status : Refusal → ℕ
 refusal_status (Setup line kind) = 2
 refusal_status (Capture place kind) = 3
+refusal_status (Seeds line kind) = 3
 
 -- a refused file, with the line or the place in it, and the name of the kind
 abbrev pub refused_line : List ℕ → ℕ → List ℕ → List ℕ
@@ -22,6 +24,7 @@ refused_line file place kind = codes "refused " ++ file ++ codes " " ++ decimal 
 abbrev pub refusal_line : Refusal → List ℕ
 refusal_line (Setup line kind) = refused_line (codes "setup") line (setups.kind_name kind)
 refusal_line (Capture place kind) = refused_line (codes "capture") place (records.kind_name kind)
+refusal_line (Seeds line kind) = refused_line (codes "seeds") line (seeds_kind_name kind)
 
 -- no count of faults fell, and a fault that is answered has its cause
 abbrev pub StopCauses : {A : Type 0} → Result A Stop → Faults → Faults → Type 0

@@ -7,11 +7,11 @@ pub record IsName (word : List ℕ) : Type 0 where
   pub some : word ≢ []
   pub file : word ≢ codes "-"
 
--- the word spells this number, which is from 1 to the most
-pub record IsNumberWithin (most : ℕ) (word : List ℕ) (number : ℕ) : Type 0 where
+-- the word spells this number, which is within these limits
+pub record IsNumberWithin (low high : ℕ) (word : List ℕ) (number : ℕ) : Type 0 where
   pub spelled : word ≡ decimal number
-  pub least : 1 ≤ number
-  pub limit : number ≤ most
+  pub least : low ≤ number
+  pub limit : number ≤ high
 
 -- a slash
 abbrev pub is_slash : ℕ → Bool

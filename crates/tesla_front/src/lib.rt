@@ -1,4 +1,4 @@
-//! What all commands share: their words and names, files that are opened and read, the setup, faults and
+//! What all commands share: their words and names, files that are opened and read, the setup, seeds, faults and
 //! refusals, and the lines of the console.
 #![tactic(auto)]
 
@@ -6,6 +6,7 @@ mod fault;
 mod files;
 mod lines;
 mod refusal;
+mod seeds;
 mod setup;
 mod words;
 
@@ -13,8 +14,9 @@ pub use fault::Fault;
 pub use files::{read_file, read_up_to};
 pub use lines::{Lines, add_count, refusal_lines};
 pub use refusal::{Refusal, Stop};
+pub use seeds::seeds_under;
 pub use setup::setup_under;
-pub use words::{Places, is_name, places_in};
+pub use words::{Places, is_name, number_in, places_in, stream_in};
 
 #[cfg(test)]
 mod tests;

@@ -54,5 +54,6 @@ pub fn refusal_lines(refusal: &Refusal) -> Lines
     match refusal {
         Refusal::Setup { line, kind } => refused("setup", u64::from(*line), *kind),
         Refusal::Capture { place, kind } => refused("capture", *place, *kind),
+        Refusal::Seeds { line, kind } => refused("seeds", u64::from(*line), *kind),
     }
 }

@@ -5,7 +5,7 @@ ghost use Rattle.tesla_front.specs.Refusal.{refusal_status};
 
 use crate::Fault;
 use tesla_capture::RecordKind;
-use tesla_commit::SetupKind;
+use tesla_commit::{SeedsKind, SetupKind};
 
 /// The input that a command refuses, with the place and the kind of what is wrong there.
 #[derive(Clone, Copy, Debug, PartialEq, Eq)]
@@ -14,16 +14,19 @@ pub enum Refusal {
     Setup { line: u32, kind: SetupKind },
     /// The file of the capture isn't one, by the record at this place, in bytes from its begin.
     Capture { place: u64, kind: RecordKind },
+    /// The file of the seeds doesn't have those that are wanted, by this line, counted from 1, or 0 for the whole
+    /// text.
+    Seeds { line: u32, kind: SeedsKind },
 }
 
 impl Refusal {
-    /// The status that a program ends with: 2 for a setup, 3 for a capture.
+    /// The status that a program ends with: 2 for a setup, 3 for a capture or seeds.
     pub fn status(&self) -> u8
         ensures { result ≡ refusal_status self.now }
     {
         match self {
             Refusal::Setup { .. } => 2,
-            Refusal::Capture { .. } => 3,
+            Refusal::Capture { .. } | Refusal::Seeds { .. } => 3,
         }
     }
 }

@@ -10,8 +10,8 @@ use std::alloc::Global;
 use tesla_commit::{Setup, SetupRefusal, read_setup};
 use tesla_desk::Desk;
 
-/// How many bytes of a setup are asked for: one more than it has at most.
-const MOST: usize = 4097;
+/// How many bytes of a setup or of seeds are asked for: one more than they have at most.
+pub const MOST: usize = 4097;
 
 // The setup that a text spells.
 fn setup_of(alloc: Global, text: &[u8]) -> Result<Setup, Stop>

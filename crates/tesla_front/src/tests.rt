@@ -7,7 +7,7 @@ use std::alloc::Global;
 use std::test::Fail;
 use tesla_base::{NoMemory, StreamId};
 use tesla_capture::RecordKind;
-use tesla_commit::SetupKind;
+use tesla_commit::{SeedsKind, SetupKind};
 use tesla_desk::{Desk, MemoryDesk, OpenRefusal, Source};
 use tesla_examples::SETUP;
 
@@ -68,6 +68,11 @@ fn of_capture(place: u64, kind: RecordKind) -> Refusal {
     Refusal::Capture { place, kind }
 }
 
+// The refusal of seeds at a line.
+fn of_seeds(line: u32, kind: SeedsKind) -> Refusal {
+    Refusal::Seeds { line, kind }
+}
+
 #[test]
 fn refusals(rt: HostRuntime) {
     for (refusal, status, line) in [
@@ -90,6 +95,11 @@ fn refusals(rt: HostRuntime) {
             of_capture(178, RecordKind::Truncated),
             3,
             "refused capture 178 Truncated\n",
+        ),
+        (
+            of_seeds(3, SeedsKind::WrongCount),
+            3,
+            "refused seeds 3 WrongCount\n",
         ),
     ] {
         assert_eq!(rt; refusal.status(), status, "at {line}");
@@ -190,4 +200,44 @@ fn refused_setups(rt: HostRuntime) -> Result<(), Fail> {
         assert_eq!(rt; stop.err().ok_or("a setup")?, Stop::Refused(want));
     }
     Ok(())
+}
+
+#[test]
+fn seeds(rt: HostRuntime) -> Result<(), Fail> {
+    let mut desk = desk_with(
+        rt.alloc(),
+        b"tesla-seeds 1\nseed 1111111111111111111111111111111111111111111111111111111111111111\n",
+    )?;
+    let seeds = seeds_under(rt.alloc(), "file", 1, &mut desk)?;
+    assert_eq!(rt; seeds.count(), 1);
+    let few = seeds_under(rt.alloc(), "file", 2, &mut desk);
+    assert_eq!(rt;
+        few.err().ok_or("two seeds")?,
+        Stop::Refused(of_seeds(3, SeedsKind::WrongCount))
+    );
+    Ok(())
+}
+
+#[test]
+fn numbers_and_streams(rt: HostRuntime) {
+    for (word, want) in [
+        ("10", Some(10)),
+        ("32", Some(32)),
+        ("9", None),
+        ("33", None),
+        ("010", None),
+        ("", None),
+    ] {
+        assert_eq!(rt; number_in(word.as_bytes(), 10, 32), want, "at {word}");
+    }
+    for (word, want) in [
+        ("00000000000000a7", Some(StreamId(0xa7))),
+        ("0123456789abcdef", Some(StreamId(0x0123_4567_89ab_cdef))),
+        ("00000000000000A7", None),
+        ("0000000000000a7", None),
+        ("00000000000000a7a7", None),
+        ("000000000000000g", None),
+    ] {
+        assert_eq!(rt; stream_in(word.as_bytes()), want, "at {word}");
+    }
 }

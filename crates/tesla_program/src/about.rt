@@ -23,7 +23,7 @@ const HEAD: &[u8] = b"Receives streams that are authenticated with TESLA (RFC 40
 const FOOT: &[u8] = b"tesla --help
 tesla --version
 
-Status: 0 done, 1 usage, 2 setup refused, 3 capture refused, 4 read fault,
+Status: 0 done, 1 usage, 2 setup refused, 3 input refused, 4 read fault,
 5 write fault, 6 no memory, 7 open fault.
 ";
 

@@ -6,7 +6,7 @@ use tesla_desk::MemoryDesk;
 
 #[test]
 fn help_version_and_want_of_memory_are_printed(rt: HostRuntime) -> Result<(), Fail> {
-    let mut desk = MemoryDesk::new(rt.alloc(), 600)?;
+    let mut desk = MemoryDesk::new(rt.alloc(), 2_000)?;
     assert_eq!(rt; print_about(&mut desk, About::Help), 0);
     assert_eq!(rt;
         desk.page("-").ok_or("no page")?,
@@ -18,10 +18,21 @@ tesla replay SETUP LAG CAPACITY CAPTURE OUT
     LAG: how many microseconds the sender's clock is ahead at most
     CAPACITY: how many packets are held at most, 1 to 65536; behind a slash,
     how many of one interval
+tesla chain SETUP-OUT SECRET STREAM START INTERVAL LAST DELAY [DELAY] [DELAY] [DELAY]
+    makes the setup of a stream, with a key chain for each delay, from the
+    seeds in SECRET, writes it to SETUP-OUT, and prints how many chains it has.
+    STREAM: the number of the stream, 16 lower-case hexadecimal digits
+    START, INTERVAL: microseconds of the sender's clock at which interval 0
+    begins, and of each interval, 1000 to 3600000000
+    LAST: the last interval, 1 to 1048576
+    DELAY: after how many intervals keys are disclosed, 1 to 4096, rising
+tesla chain2 SETUP-OUT SECRET STREAM START INTERVAL LAST TAG DELAY [DELAY] [DELAY] [DELAY] [DELAY] [DELAY] [DELAY] [DELAY]
+    is chain for version 2.
+    TAG: how many bytes a tag has, 10 to 32
 tesla --help
 tesla --version
 
-Status: 0 done, 1 usage, 2 setup refused, 3 capture refused, 4 read fault,
+Status: 0 done, 1 usage, 2 setup refused, 3 input refused, 4 read fault,
 5 write fault, 6 no memory, 7 open fault.
 "
             .as_slice()

@@ -37,6 +37,7 @@ pub enum Told {
 #[derive(Clone, Copy)]
 pub struct Example {
     pub name: &'static str,
+    pub setup: &'static str,
     pub words: &'static str,
     pub capture: &'static [Part],
     pub status: u8,
@@ -96,11 +97,23 @@ pub const FIRST_RELEASED: [Released; 1] = [Released {
 
 const FIRST_RELEASE: Example = Example {
     name: "first release",
+    setup: SETUP,
     words: USUAL,
     capture: &FIRST_CAPTURE,
     status: 0,
     told: Told::Counts(FIRST_COUNTS),
     released: &FIRST_RELEASED,
+};
+
+/// The same stream in version 2, with tags of 10 bytes.
+const FIRST_RELEASE_OF_VERSION_2: Example = Example {
+    name: "first release of version 2",
+    setup: version_two::SETUP_WITH_TAGS_OF_10_BYTES,
+    capture: &[
+        Part::Comes(1_150_000, version_two::DATA_1_0_HI),
+        Part::Comes(1_350_000, version_two::DATA_3_0_YO),
+    ],
+    ..FIRST_RELEASE
 };
 
 const CUT: Example = Example {
@@ -113,6 +126,7 @@ const CUT: Example = Example {
 
 const EMPTY_CAPTURE: Example = Example {
     name: "empty capture",
+    setup: SETUP,
     words: USUAL,
     capture: &[],
     status: 0,
@@ -132,6 +146,7 @@ const SETUP_AS_CAPTURE: Example = Example {
 /// With the lag the first reading is one microsecond too late for chain 0.
 const FIRST_UNSAFE_MICROSECOND: Example = Example {
     name: "first unsafe microsecond",
+    setup: SETUP,
     words: USUAL,
     capture: &[
         Part::Comes(1_370_000, BARE_2_0_A),
@@ -159,6 +174,7 @@ const FIRST_UNSAFE_MICROSECOND: Example = Example {
 
 const GAP_KEY_RELEASES_IN_ARRIVAL_ORDER: Example = Example {
     name: "gap key releases in arrival order",
+    setup: SETUP,
     words: USUAL,
     capture: &[
         Part::Comes(1_350_000, BARE_3_0_G),
@@ -218,6 +234,7 @@ const GAP_KEY_RELEASES_IN_ARRIVAL_ORDER: Example = Example {
 /// Three packets of interval 1 and one of interval 2, of which four are held at most, and two of an interval.
 const QUOTA_OF_TWO: Example = Example {
     name: "quota of two",
+    setup: SETUP,
     words: "replay setup 30000 4/2 capture out",
     capture: &[
         Part::Comes(1_150_000, BARE_1_0_A),
@@ -249,6 +266,7 @@ const CAPACITY_ALONE: Example = Example {
 
 const ALL_VERDICTS: Example = Example {
     name: "all verdicts",
+    setup: SETUP,
     words: "replay setup 30000 2 capture out",
     capture: &[
         Part::Comes(1_150_000, ""),
@@ -301,8 +319,9 @@ const ALL_VERDICTS: Example = Example {
 };
 
 /// The examples that are played over files and outputs of any piece.
-pub const EXAMPLES: [Example; 9] = [
+pub const EXAMPLES: [Example; 10] = [
     FIRST_RELEASE,
+    FIRST_RELEASE_OF_VERSION_2,
     CUT,
     EMPTY_CAPTURE,
     SETUP_AS_CAPTURE,
@@ -314,7 +333,7 @@ pub const EXAMPLES: [Example; 9] = [
 ];
 
 /// Words that are no form, each with its reason.
-pub const NO_FORMS: [(&str, &str); 17] = [
+pub const NO_FORMS: [(&str, &str); 29] = [
     ("no words", ""),
     ("unknown command", "replays setup 30000 16 capture out"),
     ("one word too few", "replay setup 30000 16 capture"),
@@ -352,5 +371,53 @@ pub const NO_FORMS: [(&str, &str); 17] = [
     (
         "output that is the capture",
         "replay setup 30000 16 capture capture",
+    ),
+    (
+        "no delay",
+        "chain out secret 00000000000000a7 1000000 100000 8",
+    ),
+    (
+        "a fifth delay",
+        "chain out secret 00000000000000a7 1000000 100000 8 1 2 3 4 5",
+    ),
+    (
+        "equal delays",
+        "chain out secret 00000000000000a7 1000000 100000 8 2 2",
+    ),
+    (
+        "delay above its limit",
+        "chain out secret 00000000000000a7 1000000 100000 8 4097",
+    ),
+    (
+        "delay of zero",
+        "chain out secret 00000000000000a7 1000000 100000 8 0",
+    ),
+    (
+        "stream in upper case",
+        "chain out secret 00000000000000A7 1000000 100000 8 2",
+    ),
+    (
+        "stream of 15 digits",
+        "chain out secret 0000000000000a7 1000000 100000 8 2",
+    ),
+    (
+        "interval below its limit",
+        "chain out secret 00000000000000a7 1000000 999 8 2",
+    ),
+    (
+        "last of zero",
+        "chain out secret 00000000000000a7 1000000 100000 0 2",
+    ),
+    (
+        "tag of 9 bytes",
+        "chain2 out secret 00000000000000a7 1000000 100000 8 9 20",
+    ),
+    (
+        "output that is the seeds",
+        "chain secret secret 00000000000000a7 1000000 100000 8 2",
+    ),
+    (
+        "output that is the console",
+        "chain - secret 00000000000000a7 1000000 100000 8 2",
     ),
 ];

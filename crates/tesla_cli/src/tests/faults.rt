@@ -84,6 +84,10 @@ const REFUSED: Fault = Fault {
     ..NOTHING_SET
 };
 
+/// A setup of version 2 whose tags are too short.
+const TAGS_OF_9_BYTES: &str =
+    "tesla 2\nstream 00000000000000a7\nstart 1000000\ninterval 100000\nlast 8\ntag 9\nchain 2 0 d37e38b1539f22b758d1e34d417c1032bee6369ad6cd313ca36c4c745fa2a941\n";
+
 /// The first record ends at byte 75 of the capture, the second at 177, and a take at 178.
 pub const FAULTS: &[Fault] = &[
     Fault {
@@ -229,6 +233,12 @@ pub const FAULTS: &[Fault] = &[
     Fault {
         name: "refused SETUP, and CAPTURE that is missing",
         words: "replay setup 30000 16 nothing out",
+        ..REFUSED
+    },
+    Fault {
+        name: "SETUP with tags of 9 bytes",
+        setup: TAGS_OF_9_BYTES,
+        told: Told::Text("refused setup 6 LimitPassed\n"),
         ..REFUSED
     },
 ];

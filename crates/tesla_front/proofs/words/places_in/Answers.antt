@@ -10,12 +10,12 @@ returns-in-Some-clause-found c = both_found c.args.word.now c.in-Some.place c.bo
 pub returns-in-Some-clause-only : goal.returns-in-Some-clause-only
 returns-in-Some-clause-only c places are =
     let both = both_spelled c.args.word.now c.in-Some.place places (sym c.in-Some.ensures) are in
-    c.both_in.ensures.only places both.0 (subst (λ (back : List ℕ). IsNumberWithin places.capacity back places.quota) (sym (take_rest c.args.word.now (c.in-Some.place + 1))) both.1)
+    c.both_in.ensures.only places both.0 (subst (λ (back : List ℕ). IsNumberWithin 1 places.capacity back places.quota) (sym (take_rest c.args.word.now (c.in-Some.place + 1))) both.1)
 
-pub returns-in-Some-number_in-clause-only : goal.returns-in-Some-number_in-clause-only
-returns-in-Some-number_in-clause-only c places are =
-    lone_is c.args.word.now c.in-Some-number_in.number places (sym c.in-None.ensures) c.in-Some-number_in.ensures.only are
+pub returns-in-Some-count_in-clause-only : goal.returns-in-Some-count_in-clause-only
+returns-in-Some-count_in-clause-only c places are =
+    lone_is c.args.word.now c.in-Some-count_in.number places (sym c.in-None.ensures) c.in-Some-count_in.ensures.only are
 
-pub returns-in-None-number_in-clause-only : goal.returns-in-None-number_in-clause-only
-returns-in-None-number_in-clause-only c places are =
-    absurd (none_is c.args.word.now places (sym c.in-None.ensures) c.in-None-number_in.ensures.only are)
+pub returns-in-None-count_in-clause-only : goal.returns-in-None-count_in-clause-only
+returns-in-None-count_in-clause-only c places are =
+    absurd (none_is c.args.word.now places (sym c.in-None.ensures) c.in-None-count_in.ensures.only are)

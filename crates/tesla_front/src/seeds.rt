@@ -1,0 +1,50 @@
+//! The seeds that a command makes key chains from.
+
+ghost use Rattle.std.specs.Prelude.{◌≡◌, ℕ, List, [], ◌∷◌, length, IfOk, IfErr};
+ghost use Rattle.tesla_desk.specs.Outside.{OfSource, with_opening, AsksFront};
+ghost use Rattle.tesla_front.specs.Refusal.{StopCauses};
+ghost use Rattle.tesla_front.specs.Seeds.{IsSeedsIn, IsSeedsText, IsNoSeeds, IsNoSeedsText};
+
+use crate::setup::MOST;
+use crate::{Fault, Refusal, Stop, read_file};
+use std::alloc::Global;
+use tesla_commit::{Seeds, SeedsRefusal, read_seeds};
+use tesla_desk::Desk;
+
+// The seeds that a text spells.
+fn seeds_of(alloc: Global, text: &[u8], count: u8) -> Result<Seeds, Stop>
+    ensures found { IfOk result (λ seeds. IsSeedsText count text.now seeds) }
+    ensures count { IfOk result (λ seeds. length seeds ≡ count) }
+    ensures refused { IfErr result (IsNoSeedsText count text.now) }
+{
+    match read_seeds(alloc, text, count) {
+        Ok(seeds) => Ok(seeds),
+        Err(SeedsRefusal::At { line, kind }) => Err(Stop::Refused(Refusal::Seeds { line, kind })),
+        Err(SeedsRefusal::NoMemory) => Err(Stop::Failed(Fault::NoMemory)),
+    }
+}
+
+/// The `count` seeds under a name. The file is opened, read and closed, and then judged; of a longer file the first
+/// 4,097 bytes are read, which tell that it is too long.
+///
+/// `Refused` with the first refused line where the file's text spells other seeds or none, and `Failed` as
+/// `read_file` fails. Neither tells anything of a seed.
+pub fn seeds_under<D: Desk>(
+    alloc: Global,
+    name: &str,
+    count: u8,
+    desk: &mut D,
+) -> Result<Seeds, Stop>
+    ensures found { IfOk result (λ seeds. IsSeedsIn count ((D.told desk.old).page name.now) seeds) }
+    ensures count { IfOk result (λ seeds. length seeds ≡ count) }
+    ensures refused { IfErr result (IsNoSeeds count ((D.told desk.old).page name.now)) }
+    ensures opened { IfOk result (λ seeds. (D.told desk.new).openings ≡ with_opening (D.told desk.old).openings (OfSource name.now)) }
+    ensures asked { AsksFront (OfSource name.now ∷ []) (D.told desk.old).openings (D.told desk.new).openings }
+    ensures pages { (n : List ℕ) → (D.told desk.new).page n ≡ (D.told desk.old).page n }
+    ensures causes { StopCauses result (D.told desk.old).faults (D.told desk.new).faults }
+{
+    match read_file(alloc, name, MOST, desk) {
+        Ok(text) => seeds_of(alloc, text.as_slice(), count),
+        Err(fault) => Err(Stop::Failed(fault)),
+    }
+}
