@@ -1,0 +1,8 @@
+pub mod Kept
+pub mod Places
+pub mod Tags
+pub mod Hashes
+pub mod Frames
+pub mod Logs
+pub mod Senders
+pub mod Opened

@@ -1,0 +1,205 @@
+-- Logs of accepted calls.
+use Rattle.std.proofs.Common.{◌≡◌, ℕ, zero, suc, ◌+◌, ◌<◌, ◌≤◌, Bool, true, false, cond, List, [], ◌∷◌, ◌++◌, length, refl, sym, ◌∙◌, ap, subst, inl, inr, append_assoc, arith}
+use Rattle.std.specs.Prelude.{Result, Ok, Err, IsOk, is_ok, nat_lt, eqb, if◌then◌else◌}
+use Rattle.std.proofs.lemmas.Bool.{cases_lt, ltb-false, ltb-true, lt-ltb, ne_eqb, eq-eqb}
+use Rattle.std.proofs.lemmas.List.{append-nil}
+use Rattle.std.proofs.lemmas.List.Sums.{fold-append, sum_by-append}
+use Rattle.tesla_base.specs.declared.names.Name.{Name}
+use Rattle.tesla_clock.specs.Schedule.{Times}
+use Rattle.tesla_sender.specs.declared.refusal.DiscloseRefusal.{DiscloseRefusal}
+use Rattle.tesla_sender.specs.declared.refusal.SendRefusal.{SendRefusal}
+use Rattle.tesla_sender.specs.Made.{Call, Message, Disclose, Stream, any_due, chains_of, disclosed, disclosed_after, framed, interval_at, interval_in, is_message_of, latest_of, made_disclosure, made_message, messages_of, name_after, name_of}
+use Rattle.tesla_sender.specs.Stands.{AreAcceptedAfter, IsAccepted, Stands, State, number_at}
+
+-- ---- what an accepted call tells
+
+abbrev ok_name : Name → Result Name SendRefusal
+ok_name name = Ok name
+
+abbrev ok_interval : ℕ → Result ℕ DiscloseRefusal
+ok_interval interval = Ok interval
+
+-- the one way to a name
+chosen : (a b c d e : Bool) (r s t u v : SendRefusal) (made name : Name) → (if a then Err r else if b then Err s else if c then Err t else if d then Err u else if e then Ok made else Err v) ≡ ok_name name → (a ≡ false) × (b ≡ false) × (c ≡ false) × (d ≡ false) × (e ≡ true) × (made ≡ name)
+chosen true b c d e r s t u v made name is = absurd cc
+chosen false true c d e r s t u v made name is = absurd cc
+chosen false false true d e r s t u v made name is = absurd cc
+chosen false false false true e r s t u v made name is = absurd cc
+chosen false false false false true r s t u v made name is = (refl, refl, refl, refl, refl, cc)
+chosen false false false false false r s t u v made name is = absurd cc
+
+some_from : (n : ℕ) → eqb n 0 ≡ false → 1 ≤ n
+some_from zero e = absurd cc
+some_from (suc n) e = omega arith
+
+pub record IsNamed (times : Times) (before number reading : ℕ) (payload : List ℕ) (name : Name) : Type 0 where
+  pub short : length payload ≤ 1200
+  pub some : 1 ≤ interval_at times reading
+  pub within : interval_at times reading ≤ times.last
+  pub later : before ≤ interval_at times reading
+  pub few : number < 65536
+  pub is : record { interval = interval_at times reading; number = number } ≡ name
+
+-- what is true of a message that has a name
+pub named : (times : Times) (before number reading : ℕ) (payload : List ℕ) (name : Name) → name_after times before number reading payload ≡ Ok name → IsNamed times before number reading payload name
+named times before number reading payload name is =
+    let ways = chosen _ _ _ _ _ _ _ _ _ _ (record { interval = interval_at times reading; number = number }) name is in
+    record {
+      short = ltb-false _ _ ways.0;
+      some = some_from (interval_at times reading) ways.1;
+      within = ltb-false _ _ ways.2;
+      later = ltb-false _ _ ways.3;
+      few = ltb-true _ _ ways.4;
+      is = ways.5;
+    }
+
+-- ---- one call more
+
+latest_more : (times : Times) (log : List Call) (call : Call) → latest_of times (log ++ call ∷ []) ≡ interval_in times call
+latest_more times log call = fold-append (λ (before : ℕ) (call : Call). interval_in times call) 0 log (call ∷ [])
+
+messages_more : (times : Times) (interval : ℕ) (log : List Call) (call : Call) → messages_of times interval (log ++ call ∷ []) ≡ messages_of times interval log + (0 + cond {A = ℕ} (is_message_of times interval call) 1 0)
+messages_more times interval log call = sum_by-append (λ c. cond {A = ℕ} (is_message_of times interval c) 1 0) log (call ∷ [])
+
+accepted_more : (stream : Stream) (before calls : List Call) (call : Call) → AreAcceptedAfter stream before calls → IsAccepted stream (before ++ calls) call → AreAcceptedAfter stream before (calls ++ call ∷ [])
+accepted_more stream before [] call all one = (subst (λ log. IsAccepted stream log call) (append-nil before) one, tt)
+accepted_more stream before (first ∷ calls) call all one =
+    (all.0, accepted_more stream (before ++ first ∷ []) calls call all.1 (subst (λ log. IsAccepted stream log call) (sym (append_assoc before (first ∷ []) calls)) one))
+
+-- no call is accepted in an interval before the last one
+framed_named : (stream : Stream) (payload : List ℕ) (name : Result Name SendRefusal) → IsOk (framed stream payload name) → (n : Name) × (name ≡ Ok n)
+framed_named stream payload (Ok name) ok = (name, refl)
+framed_named stream payload (Err refusal) ok = absurd cc
+
+later_message : (stream : Stream) (log : List Call) (reading : ℕ) (payload : List ℕ) → IsOk (made_message stream log reading payload) → latest_of stream.setup.times log ≤ interval_at stream.setup.times reading
+unfolding made_message
+later_message stream log reading payload ok =
+    let name = framed_named stream payload (name_of stream.setup.times log reading payload) ok in
+    (named stream.setup.times _ _ reading payload name.0 name.1).later
+
+later_step : (stream : Stream) (a due : Bool) (r : DiscloseRefusal) (interval : ℕ) (s : DiscloseRefusal) → IsOk (disclosed stream (if a then Err r else if due then Ok interval else Err s)) → a ≡ false
+later_step stream true due r interval s ok = absurd cc
+later_step stream false due r interval s ok = refl
+
+later_disclosure : (stream : Stream) (log : List Call) (reading : ℕ) → IsOk (made_disclosure stream log reading) → latest_of stream.setup.times log ≤ interval_at stream.setup.times reading
+unfolding made_disclosure
+later_disclosure stream log reading ok = ltb-false _ _ (later_step stream _ _ _ _ _ ok)
+
+later_call : (stream : Stream) (log : List Call) (call : Call) → IsAccepted stream log call → latest_of stream.setup.times log ≤ interval_in stream.setup.times call
+later_call stream log (Message reading payload) ok = later_message stream log reading payload ok
+later_call stream log (Disclose reading) ok = later_disclosure stream log reading ok
+
+-- no message was accepted in an interval after that of the last call
+abbrev NoneLater : Times → List Call → Type 0
+NoneLater times log = (interval : ℕ) → latest_of times log < interval → messages_of times interval log ≡ 0
+
+no_message : (times : Times) (interval : ℕ) (call : Call) → interval_in times call < interval → is_message_of times interval call ≡ false
+no_message times interval (Message reading payload) before = ne_eqb _ _ (λ e. absurd (omega arith))
+no_message times interval (Disclose reading) before = refl
+
+none_later : (stream : Stream) (before calls : List Call) → NoneLater stream.setup.times before → AreAcceptedAfter stream before calls → NoneLater stream.setup.times (before ++ calls)
+none_later stream before [] none all = subst (NoneLater stream.setup.times) (sym (append-nil before)) none
+none_later stream before (call ∷ calls) none all =
+    let times = stream.setup.times in
+    let here : NoneLater times (before ++ call ∷ []) = λ interval after.
+    let last : interval_in times call < interval = omega (arith, latest_more times before call, after) in
+    let no : cond {A = ℕ} (is_message_of times interval call) 1 0 ≡ 0 = ap (λ b. cond {A = ℕ} b 1 0) (no_message times interval call last) in
+    omega (arith, messages_more times interval before call, no, none interval (omega (arith, later_call stream before call all.0, last))) in
+    subst (NoneLater times) (append_assoc before (call ∷ []) calls) (none_later stream (before ++ call ∷ []) calls here all.1)
+
+-- ---- what a sender stands for
+
+-- how many messages of an interval were accepted, the last one or a later one
+number_is : (sender : State) (log : List Call) (interval : ℕ) → Stands sender log → sender.latest ≤ interval → number_at sender.latest sender.used interval ≡ messages_of sender.stream.setup.times interval log
+number_is sender log interval stands later =
+    let times = sender.stream.setup.times in
+    elim (cases_lt sender.latest interval) as (λ _. number_at sender.latest sender.used interval ≡ messages_of times interval log) [
+      | inl after ↦
+          let other : eqb interval sender.latest ≡ false = ne_eqb _ _ (λ e. absurd (omega arith)) in
+          let none = none_later sender.stream [] log (λ i h. refl) stands.accepted interval (omega (arith, stands.latest)) in
+          ap (λ b. if b then sender.used else 0) other ∙ sym none
+      | inr least ↦
+          let same : interval ≡ sender.latest = omega arith in
+          let here : eqb interval sender.latest ≡ true = eq-eqb _ _ same in
+          ap (λ b. if b then sender.used else 0) here ∙ stands.used ∙ ap (λ i. messages_of times i log) (sym same)
+    ]
+
+-- the answer to a message, by what the sender keeps
+pub message_answer : (sender : State) (log : List Call) (reading : ℕ) (payload : List ℕ) → Stands sender log → made_message sender.stream log reading payload ≡ framed sender.stream payload (name_after sender.stream.setup.times sender.latest (number_at sender.latest sender.used (interval_at sender.stream.setup.times reading)) reading payload)
+unfolding made_message
+message_answer sender log reading payload stands =
+    let times = sender.stream.setup.times in
+    let interval = interval_at times reading in
+    let number = messages_of times interval log in
+    let now = number_at sender.latest sender.used interval in
+    let before : name_of times log reading payload ≡ name_after times sender.latest number reading payload = ap (λ b. name_after times b number reading payload) (sym stands.latest) in
+    let same : name_after times sender.latest number reading payload ≡ name_after times sender.latest now reading payload =
+    elim (cases_lt interval sender.latest) as (λ _. name_after times sender.latest number reading payload ≡ name_after times sender.latest now reading payload) [
+      | inl back ↦ (let goes_back : nat_lt interval sender.latest ≡ true = lt-ltb _ _ back in rw goes_back refl)
+      | inr later ↦ ap (λ n. name_after times sender.latest n reading payload) (sym (number_is sender log interval stands later))
+    ] in
+    ap (framed sender.stream payload) (before ∙ same)
+
+-- the answer to a disclosure
+pub disclosure_answer : (sender : State) (log : List Call) (reading : ℕ) → Stands sender log → made_disclosure sender.stream log reading ≡ disclosed sender.stream (disclosed_after sender.stream.setup.times sender.latest (any_due (interval_at sender.stream.setup.times reading) (chains_of sender.stream)) reading)
+unfolding made_disclosure
+disclosure_answer sender log reading stands =
+    let times = sender.stream.setup.times in
+    ap (λ b. disclosed sender.stream (disclosed_after times b (any_due (interval_at times reading) (chains_of sender.stream)) reading)) (sym stands.latest)
+
+-- ---- the log after an accepted call
+
+pub message_stands : (sender : State) (log : List Call) (reading left : ℕ) (payload : List ℕ) (name : Name) → Stands sender log → name_after sender.stream.setup.times sender.latest (number_at sender.latest sender.used (interval_at sender.stream.setup.times reading)) reading payload ≡ Ok name → Stands (record { stream = sender.stream; latest = name.interval; used = name.number + 1; left = left }) (log ++ Message reading payload ∷ [])
+message_stands sender log reading left payload name stands is =
+    let times = sender.stream.setup.times in
+    let interval = interval_at times reading in
+    let of = named times _ _ reading payload name is in
+    let answer = message_answer sender log reading payload stands in
+    let ok : IsOk (made_message sender.stream log reading payload) = ap is_ok (answer ∙ ap (framed sender.stream payload) is) in
+    let at : interval ≡ name.interval = ap (λ (n : Name). n.interval) of.is in
+    let number : number_at sender.latest sender.used interval ≡ name.number = ap (λ (n : Name). n.number) of.is in
+    let here : is_message_of times name.interval (Message reading payload) ≡ true = eq-eqb _ _ at in
+    let one : cond {A = ℕ} (is_message_of times name.interval (Message reading payload)) 1 0 ≡ 1 = ap (λ b. cond {A = ℕ} b 1 0) here in
+    let counted : number_at sender.latest sender.used interval ≡ messages_of times interval log = number_is sender log interval stands of.later in
+    let same : messages_of times interval log ≡ messages_of times name.interval log = ap (λ i. messages_of times i log) at in
+    record {
+      accepted = accepted_more sender.stream [] log (Message reading payload) stands.accepted ok;
+      latest = sym (latest_more times log (Message reading payload) ∙ at);
+      used = omega (arith, messages_more times name.interval log (Message reading payload), one, counted, same, number);
+    }
+
+-- the interval of a disclosure is that of its reading, which is no earlier one
+pub record IsDisclosed (times : Times) (before : ℕ) (due : Bool) (reading interval : ℕ) : Type 0 where
+  pub later : before ≤ interval
+  pub some : due ≡ true
+  pub is : interval_at times reading ≡ interval
+
+due_ways : (a due : Bool) (r s : DiscloseRefusal) (made interval : ℕ) → (if a then Err r else if due then Ok made else Err s) ≡ ok_interval interval → (a ≡ false) × (due ≡ true) × (made ≡ interval)
+due_ways true due r s made interval is = absurd cc
+due_ways false true r s made interval is = (refl, refl, cc)
+due_ways false false r s made interval is = absurd cc
+
+pub disclosed_is : (times : Times) (before : ℕ) (due : Bool) (reading interval : ℕ) → disclosed_after times before due reading ≡ Ok interval → IsDisclosed times before due reading interval
+disclosed_is times before due reading interval is =
+    let ways = due_ways _ due _ _ (interval_at times reading) interval is in
+    record {
+      later = omega (arith, ltb-false _ _ ways.0, ways.2);
+      some = ways.1;
+      is = ways.2;
+    }
+
+pub disclosure_stands : (sender : State) (log : List Call) (reading interval left : ℕ) → Stands sender log → disclosed_after sender.stream.setup.times sender.latest (any_due (interval_at sender.stream.setup.times reading) (chains_of sender.stream)) reading ≡ Ok interval → Stands (record { stream = sender.stream; latest = interval; used = number_at sender.latest sender.used interval; left = left }) (log ++ Disclose reading ∷ [])
+disclosure_stands sender log reading interval left stands is =
+    let times = sender.stream.setup.times in
+    let of = disclosed_is times sender.latest _ reading interval is in
+    let answer = disclosure_answer sender log reading stands in
+    let ok : IsOk (made_disclosure sender.stream log reading) = ap is_ok (answer ∙ ap (disclosed sender.stream) is) in
+    record {
+      accepted = accepted_more sender.stream [] log (Disclose reading) stands.accepted ok;
+      latest = sym (latest_more times log (Disclose reading) ∙ of.is);
+      used = omega (arith, messages_more times interval log (Disclose reading), number_is sender log interval stands of.later);
+    }
+
+-- a sender that was just opened stands for no call
+pub none_stands : (sender : State) → sender.latest ≡ 0 → sender.used ≡ 0 → Stands sender []
+none_stands sender latest used = record { accepted = tt; latest = latest; used = used }

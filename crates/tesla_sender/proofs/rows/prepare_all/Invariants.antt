@@ -1,0 +1,13 @@
+use Rattle.std.proofs.Common.{◌≡◌, ◌+◌, ◌≤◌, length, map}
+use Rattle.std.specs.List.{AllWithin, sum_by}
+use Rattle.tesla_sender.specs.Chains.{chain_in, left_in, IsReady, IsPrepared}
+use Rattle.tesla_sender.proofs.rows.prepare_all.Given as goal
+
+abbrev pub invariant-loop-i : goal.invariant-loop-i
+invariant-loop-i g l = record {
+  count : length l.chains.items ≡ length l.fn.chains.items;
+  same : map chain_in l.chains.items ≡ map chain_in l.fn.chains.items;
+  done : AllWithin (IsPrepared l.interval) l.chains.items 0 l.i;
+  ready : AllWithin (IsReady l.interval) l.chains.items l.i (length l.chains.items);
+  left : l.steps + sum_by left_in l.chains.items ≤ l.fn.steps + sum_by left_in l.fn.chains.items + l.i;
+}

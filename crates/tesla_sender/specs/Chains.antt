@@ -1,0 +1,96 @@
+-- What a contract sees of a chain of a sender.
+use Rattle.std.specs.Prelude.{◌≡◌, ℕ, zero, suc, ◌+◌, ◌^◌, ◌<◌, ◌≤◌, Bool, true, false, ◌⊎◌, List, [], ◌∷◌, ◌++◌, Result, Ok, Err, bytes_eq, min}
+use Rattle.circular_buffer.specs.Buffer.{Buffer, keep_last}
+use Rattle.tesla_base.specs.Tag.{wide_tag}
+use Rattle.tesla_base.specs.declared.names.Key.{Key}
+use Rattle.tesla_base.specs.declared.names.Name.{Name}
+use Rattle.tesla_base.specs.declared.names.WideTag.{WideTag}
+use Rattle.tesla_chain.specs.Walker.{Walking}
+use Rattle.tesla_commit.specs.Parts.{Parts}
+use Rattle.tesla_prf.specs.Keys.{mac_of}
+use Rattle.tesla_sender.specs.Made.{Chain, key_of, row_of}
+use Rattle.tesla_sender.specs.declared.refusal.SenderRefusal.{SenderRefusal}
+use Rattle.tesla_sender.specs.declared.refusal.SenderRefusal.TheVariants.{WrongSeed, NoMemory}
+
+-- how far a chain has come: its keys of index 1 to `reached` were made, the MAC key of interval `tagging` is
+-- prepared, none where that is 0, and the other keys still take at most `left` steps
+pub record Progress : Type 0 where
+  pub chain : Chain
+  pub reached : ℕ
+  pub tagging : ℕ
+  pub left : ℕ
+
+-- the keys of index 1 to n
+unfoldable pub keys_to : ℕ → Key → ℕ → List Key
+keys_to last seed zero = []
+keys_to last seed (suc n) = keys_to last seed n ++ key_of last seed (suc n) ∷ []
+
+-- what is true of each chain: its walker gave the keys of index 1 to `reached`, of which the last `delay + 1`
+-- are kept
+pub record IsUsed (delay last : ℕ) (walker : Walking) (kept : Buffer Key) (reached tagging : ℕ) (prepared : Key) : Type 0 where
+  pub given : walker.given ≡ reached
+  pub whole : walker.last ≡ last
+  pub some : 1 ≤ walker.last
+  pub within : reached ≤ walker.last
+  pub most : walker.last ≤ 2 ^ 20
+  pub capacity : kept.capacity ≡ delay + 1
+  pub keys : kept.items ≡ keep_last (delay + 1) (keys_to walker.last walker.seed reached)
+  pub mac : 0 < tagging → prepared ≡ mac_of (key_of walker.last walker.seed tagging)
+
+-- the seed gives the key of the setup
+abbrev pub is_right : Chain → Bool
+is_right chain = bytes_eq (key_of chain.last chain.seed chain.row.index).0 chain.row.key.0
+
+-- what is told of a chain whose seed doesn't
+abbrev pub wrong_seed : Chain → SenderRefusal
+wrong_seed chain = WrongSeed (record { 0 = chain.number }) (key_of chain.last chain.seed chain.row.index)
+
+-- a chain of which no key was made yet
+pub record IsFresh (of_chain : Chain) (now : Progress) : Type 0 where
+  pub chain : now.chain ≡ of_chain
+  pub reached : now.reached ≡ 0
+  pub right : is_right of_chain ≡ true
+
+-- a chain is refused for want of memory, or since its seed is wrong
+abbrev pub IsRefusedFor : Chain → SenderRefusal → Type 0
+IsRefusedFor chain refusal = (refusal ≡ NoMemory) ⊎ ((is_right chain ≡ false) × (refusal ≡ wrong_seed chain))
+
+-- the most steps that the keys of a chain still take, none where it is not opened
+abbrev pub left_after : {E : Type 0} → Result Progress E → ℕ
+left_after (Ok chain) = chain.left
+left_after (Err refusal) = 0
+
+-- ---- all the chains of a sender
+
+abbrev pub chain_in : Progress → Chain
+chain_in now = now.chain
+
+abbrev pub left_in : Progress → ℕ
+left_in now = now.left
+
+-- a chain that can go on to the interval
+pub record IsReady (interval : ℕ) (now : Progress) : Type 0 where
+  pub later : now.reached ≤ interval
+  pub within : interval ≤ now.chain.last
+
+-- a chain with the keys up to that of the interval
+abbrev pub HasReached : ℕ → Progress → Type 0
+HasReached interval now = now.reached ≡ interval
+
+-- a chain with the MAC key of the interval too
+pub record IsPrepared (interval : ℕ) (now : Progress) : Type 0 where
+  pub reached : now.reached ≡ interval
+  pub tagging : now.tagging ≡ interval
+
+-- a chain with the keys that a disclosure in the interval may carry
+abbrev pub CanDisclose : ℕ → Progress → Type 0
+CanDisclose interval now = now.reached ≡ min interval now.chain.last
+
+-- the tag of a message on a chain
+unfoldable pub tag_made : Parts → Name → List ℕ → Chain → WideTag
+tag_made setup name payload chain = wide_tag (row_of setup name payload chain).tag
+
+-- the chains are numbered from `number` on
+abbrev pub AreNumbered : ℕ → List Chain → Type 0
+AreNumbered number [] = Unit {0}
+AreNumbered number (chain ∷ chains) = (chain.number ≡ number) × AreNumbered (number + 1) chains

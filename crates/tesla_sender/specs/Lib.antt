@@ -1,0 +1,5 @@
+pub mod Made
+pub mod Chains
+pub mod Stands
+pub mod Senders
+pub mod Opening

@@ -1,0 +1,234 @@
+//! One key chain of a sender.
+
+ghost use Rattle.std.specs.Prelude.{◌≡◌, ◌+◌, ◌-◌, ◌^◌, ◌<◌, ◌≤◌, nat_lt, min, option_to_list, IfOk, IfErr};
+ghost use Rattle.tesla_chain.specs.Cost.{W};
+ghost use Rattle.tesla_sender.specs.Made.{key_of, key_due, due_row};
+ghost use Rattle.tesla_sender.specs.Chains.{IsFresh, IsRefusedFor, left_after, tag_made};
+
+use crate::SenderRefusal;
+use circular_buffer::HeapCircularBuffer;
+use std::alloc::Global;
+use std::marker::Model;
+use std::sync::ledger::Ledger;
+use tesla_base::{ChainNo, Key, Name, Steps, WideTag};
+use tesla_chain::{Walker, key_at};
+use tesla_commit::{ChainRow, Setup};
+use tesla_frame::KeyRow;
+use tesla_prf::{PreparedKey, mac_key};
+
+/// A key chain as far as it was used: the walker that gives its keys in order, the last keys that it gave, up
+/// to the one that is disclosed `delay` intervals later, and the MAC key of the last interval with a message.
+#[derive(Drop)]
+pub struct SendingChain {
+    number: ChainNo,
+    row: ChainRow,
+    last: u32,
+    walker: Walker,
+    kept: HeapCircularBuffer<Key>,
+    reached: u32,
+    tagging: u32,
+    mac: PreparedKey,
+}
+
+impl Model for SendingChain {
+    ghost use Rattle.tesla_sender.specs.Chains.{Progress, IsUsed};
+
+    ghost Value = { Progress };
+
+    ghost view = { λ c. record {
+      chain = record { number = c.number.0; row = c.row; seed = c.walker.seed; last = c.last };
+      reached = c.reached;
+      tagging = c.tagging;
+      left = c.walker.left;
+    } };
+
+    ghost invariant = { λ c. IsUsed c.row.delay c.last c.walker c.kept c.reached c.tagging c.mac };
+}
+
+/// The key of an index of the walker's chain, whose key of index `last` is the seed. The commitment is known
+/// already; another key is walked to.
+fn key_made<L: Ledger>(
+    walker: &Walker,
+    seed: &Key,
+    last: u32,
+    index: u32,
+    steps: &mut Steps<L>,
+) -> Key
+    requires seed { walker.now.seed ≡ seed.now }
+    requires last { walker.now.last ≡ last }
+    requires within { index ≤ last }
+    ensures value { result ≡ key_of last seed.now index }
+    ensures cost { steps.new ≤ steps.old + last }
+{
+    if index == 0 {
+        return walker.commitment();
+    }
+    key_at(seed, last, index, steps)
+}
+
+impl SendingChain {
+    /// The chain of this number, row of the setup and seed, whose key of index `last` the seed is. All memory
+    /// is taken here. `WrongSeed` where the seed doesn't give the key of the row.
+    pub fn open<L: Ledger>(
+        alloc: Global,
+        number: ChainNo,
+        row: ChainRow,
+        seed: Key,
+        last: u32,
+        steps: &mut Steps<L>,
+    ) -> Result<SendingChain, SenderRefusal>
+        requires least { 1 ≤ last }
+        requires most { last ≤ 2 ^ 20 }
+        requires within { row.index ≤ last }
+        ensures opened { IfOk result (IsFresh (record { number = number.0; row = row; seed = seed; last = last })) }
+        ensures refused { IfErr result (IsRefusedFor (record { number = number.0; row = row; seed = seed; last = last })) }
+        ensures cost { steps.new + left_after result ≤ steps.old + (W last + last) }
+    {
+        let walker = Walker::open(alloc, seed, last, steps)?;
+        let made = key_made(&walker, &seed, last, row.index, steps);
+        if made.0.as_slice() != row.key.0.as_slice() {
+            return Err(SenderRefusal::WrongSeed {
+                chain: number,
+                made,
+            });
+        }
+        Ok(SendingChain {
+            number,
+            row,
+            last,
+            walker,
+            kept: HeapCircularBuffer::with_capacity(alloc, row.delay as usize + 1)?,
+            reached: 0,
+            tagging: 0,
+            mac: PreparedKey::new(&seed),
+        })
+    }
+
+    /// Makes the next key, the one of the interval after `reached`.
+    fn step<L: Ledger>(&mut self, steps: &mut Steps<L>)
+        requires { self.old.reached < self.old.chain.last }
+        ensures same { self.new.chain ≡ self.old.chain }
+        ensures reached { self.new.reached ≡ self.old.reached + 1 }
+        ensures tagging { self.new.tagging ≡ self.old.tagging }
+        ensures left { steps.new + self.new.left ≤ steps.old + self.old.left }
+    {
+        let Some(key) = self.walker.next(steps) else {
+            unreachable!()
+        };
+        self.kept.push_back(key);
+        self.reached += 1;
+    }
+
+    /// Makes the keys up to that of an interval.
+    pub fn advance<L: Ledger>(&mut self, interval: u32, steps: &mut Steps<L>)
+        requires later { self.old.reached ≤ interval }
+        requires within { interval ≤ self.old.chain.last }
+        ensures same { self.new.chain ≡ self.old.chain }
+        ensures reached { self.new.reached ≡ interval }
+        ensures tagging { self.new.tagging ≡ self.old.tagging }
+        ensures left { steps.new + self.new.left ≤ steps.old + self.old.left }
+    {
+        for _ in self.reached..interval {
+            self.step(steps);
+        }
+    }
+
+    /// The key of an interval that is at most `delay` before the one reached.
+    fn key(&self, index: u32) -> Key
+        requires some { 1 ≤ index }
+        requires within { index ≤ self.now.reached }
+        requires kept { self.now.reached ≤ index + self.now.chain.row.delay }
+        ensures { result ≡ key_of self.now.chain.last self.now.chain.seed index }
+    {
+        match self.kept.nth_back((self.reached - index) as usize) {
+            Some(key) => *key,
+            None => unreachable!(),
+        }
+    }
+
+    /// Makes the MAC key of the interval reached, where it isn't there.
+    fn make_mac<L: Ledger>(&mut self, steps: &mut Steps<L>)
+        requires { 1 ≤ self.old.reached }
+        ensures same { self.new.chain ≡ self.old.chain }
+        ensures reached { self.new.reached ≡ self.old.reached }
+        ensures tagging { self.new.tagging ≡ self.old.reached }
+        ensures left { self.new.left ≡ self.old.left }
+        ensures cost { steps.new ≤ steps.old + 1 }
+    {
+        if self.tagging == self.reached {
+            return;
+        }
+        let key = self.key(self.reached);
+        self.mac = PreparedKey::new(&mac_key(&key, steps));
+        self.tagging = self.reached;
+    }
+
+    /// Makes the keys up to that of an interval, and its MAC key.
+    pub fn prepare<L: Ledger>(&mut self, interval: u32, steps: &mut Steps<L>)
+        requires some { 1 ≤ interval }
+        requires later { self.old.reached ≤ interval }
+        requires within { interval ≤ self.old.chain.last }
+        ensures same { self.new.chain ≡ self.old.chain }
+        ensures reached { self.new.reached ≡ interval }
+        ensures tagging { self.new.tagging ≡ interval }
+        ensures left { steps.new + self.new.left ≤ steps.old + self.old.left + 1 }
+    {
+        self.advance(interval, steps);
+        self.make_mac(steps);
+    }
+
+    /// The key that a message of the interval reached discloses, where there is one.
+    pub fn key_due(&self, interval: u32) -> Option<Key>
+        requires { self.now.reached ≡ interval }
+        ensures { result ≡ key_due interval self.now.chain }
+    {
+        let delay = u32::from(self.row.delay);
+        if delay < interval {
+            Some(self.key(interval - delay))
+        } else {
+            None
+        }
+    }
+
+    /// The tag of a message of the interval whose MAC key is there: one counted step.
+    pub fn tag<L: Ledger>(
+        &self,
+        setup: &Setup,
+        name: Name,
+        payload: &[u8],
+        steps: &mut Steps<L>,
+    ) -> WideTag
+        requires some { 1 ≤ name.interval }
+        requires prepared { self.now.tagging ≡ name.interval }
+        ensures value { result ≡ tag_made setup.now name payload.now self.now.chain }
+        ensures cost { steps.new ≡ steps.old + 1 }
+    {
+        let length = setup.tag_length();
+        self.mac
+            .wide_tag(setup.stream(), self.number, name, payload, length, steps)
+    }
+
+    /// Whether the chain has a key to disclose in the interval.
+    pub fn is_due(&self, interval: u64) -> bool
+        ensures { result ≡ nat_lt self.now.chain.row.delay interval }
+    {
+        u64::from(self.row.delay) < interval
+    }
+
+    /// What a disclosure in the interval carries for the chain: its key of `delay` intervals before, or its
+    /// last one. The keys up to that interval, or the last, were made.
+    pub fn row_due(&self, interval: u64) -> Option<KeyRow>
+        requires { self.now.reached ≡ min interval self.now.chain.last }
+        ensures { option_to_list result ≡ due_row interval self.now.chain }
+    {
+        if !self.is_due(interval) {
+            return None;
+        }
+        let index = (interval - u64::from(self.row.delay)).min(u64::from(self.last)) as u32;
+        Some(KeyRow {
+            chain: self.number,
+            index,
+            key: self.key(index),
+        })
+    }
+}

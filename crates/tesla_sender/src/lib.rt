@@ -1,0 +1,18 @@
+//! The sender of a stream: messages with their tags, and the disclosure of keys (RFC 4082, sections 3.2 to 3.4).
+#![tactic(auto)]
+
+mod chain;
+mod judging;
+mod opening;
+mod refusal;
+mod rows;
+mod sender;
+mod writing;
+
+pub use refusal::{DiscloseRefusal, SendRefusal, SenderRefusal};
+pub use sender::Sender;
+
+#[cfg(test)]
+mod examples;
+#[cfg(test)]
+mod tests;

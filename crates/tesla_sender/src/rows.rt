@@ -1,0 +1,108 @@
+//! What all the chains of a sender do for a message or a disclosure.
+
+ghost use Rattle.std.specs.Prelude.{◌≡◌, ◌+◌, ◌≤◌, ◌++◌, length, map, take, min};
+ghost use Rattle.std.specs.List.{All, flat_map, sum_by};
+ghost use Rattle.tesla_sender.specs.Made.{any_due, due_row, key_due};
+ghost use Rattle.tesla_sender.specs.Chains.{chain_in, left_in, IsReady, HasReached, IsPrepared, CanDisclose, tag_made};
+
+use crate::chain::SendingChain;
+use std::sync::ledger::Ledger;
+use tesla_base::{Key, Name, Steps, WideTag};
+use tesla_commit::Setup;
+use tesla_frame::KeyRow;
+
+/// Makes the keys of each chain up to that of an interval, and its MAC key.
+pub fn prepare_all<L: Ledger>(chains: &mut Vec<SendingChain>, interval: u32, steps: &mut Steps<L>)
+    requires some { 1 ≤ interval }
+    requires ready { All (IsReady interval) chains.old.items }
+    ensures same { map chain_in chains.new.items ≡ map chain_in chains.old.items }
+    ensures prepared { All (IsPrepared interval) chains.new.items }
+    ensures left { steps.new + sum_by left_in chains.new.items ≤ steps.old + sum_by left_in chains.old.items + length chains.old.items }
+{
+    for i in 0..chains.len() {
+        chains[i].prepare(interval, steps);
+    }
+}
+
+/// Makes the keys of each chain up to that of an interval.
+pub fn advance_all<L: Ledger>(chains: &mut Vec<SendingChain>, interval: u32, steps: &mut Steps<L>)
+    requires { All (IsReady interval) chains.old.items }
+    ensures same { map chain_in chains.new.items ≡ map chain_in chains.old.items }
+    ensures reached { All (HasReached interval) chains.new.items }
+    ensures left { steps.new + sum_by left_in chains.new.items ≤ steps.old + sum_by left_in chains.old.items }
+{
+    for i in 0..chains.len() {
+        chains[i].advance(interval, steps);
+    }
+}
+
+/// Puts the tags of a message from a place on, one for each chain: so many counted steps.
+pub fn put_tags<L: Ledger>(
+    chains: &[SendingChain],
+    setup: &Setup,
+    name: Name,
+    payload: &[u8],
+    at: usize,
+    tags: &mut [WideTag],
+    steps: &mut Steps<L>,
+)
+    requires room { at + length chains.now ≤ length tags.old }
+    requires some { 1 ≤ name.interval }
+    requires prepared { All (IsPrepared name.interval) chains.now }
+    ensures tags { take (at + length chains.now) tags.new ≡ take at tags.old ++ map (tag_made setup.now name payload.now) (map chain_in chains.now) }
+    ensures cost { steps.new ≡ steps.old + length chains.now }
+{
+    match chains {
+        [chain, chains @ ..] => {
+            tags[at] = chain.tag(setup, name, payload, steps);
+            put_tags(chains, setup, name, payload, at + 1, tags, steps);
+        }
+        [] => {}
+    }
+}
+
+/// Puts the keys that are due in an interval from a place on, one for each chain where there is one.
+pub fn put_keys(chains: &[SendingChain], interval: u32, at: usize, keys: &mut [Option<Key>])
+    requires room { at + length chains.now ≤ length keys.old }
+    requires prepared { All (IsPrepared interval) chains.now }
+    ensures { take (at + length chains.now) keys.new ≡ take at keys.old ++ map (key_due interval) (map chain_in chains.now) }
+{
+    match chains {
+        [chain, chains @ ..] => {
+            keys[at] = chain.key_due(interval);
+            put_keys(chains, interval, at + 1, keys);
+        }
+        [] => {}
+    }
+}
+
+/// Puts the rows of a disclosure from a place on, one for each chain that has a key to disclose, and gives the
+/// place after them.
+pub fn put_due(chains: &[SendingChain], interval: u64, at: usize, rows: &mut [KeyRow]) -> usize
+    requires room { at + length chains.now ≤ length rows.old }
+    requires made { All (CanDisclose interval) chains.now }
+    ensures next { result ≡ at + length (flat_map (due_row interval) (map chain_in chains.now)) }
+    ensures few { result ≤ at + length chains.now }
+    ensures rows { take result rows.new ≡ take at rows.old ++ flat_map (due_row interval) (map chain_in chains.now) }
+{
+    match chains {
+        [chain, chains @ ..] => match chain.row_due(interval) {
+            Some(row) => {
+                rows[at] = row;
+                put_due(chains, interval, at + 1, rows)
+            }
+            None => put_due(chains, interval, at, rows),
+        },
+        [] => at,
+    }
+}
+
+/// Whether some chain has a key to disclose in the interval.
+pub fn any_due(chains: &[SendingChain], interval: u64) -> bool
+    ensures { result ≡ any_due interval (map chain_in chains.now) }
+{
+    match chains {
+        [chain, chains @ ..] => chain.is_due(interval) || any_due(chains, interval),
+        [] => false,
+    }
+}

@@ -1,0 +1,201 @@
+//! The calls of a sender.
+
+ghost use Rattle.std.specs.Prelude.{◌≡◌, ◌+◌, ◌*◌, ◌^◌, ◌<◌, ◌≤◌, true, List, [], length, None, Some, codes, IfErr, IfOk, OnErr};
+ghost use Rattle.tesla_frame.specs.Frame.{Frame};
+ghost use Rattle.tesla_sender.specs.Made.{Call, Message, Disclose, any_due, chains_of, disclosed_after, disclosure_frame, interval_at, made_disclosure, made_message, message_frame, name_after};
+ghost use Rattle.tesla_chain.specs.Cost.{W};
+ghost use Rattle.tesla_sender.specs.Opening.{IsRefusal, left_of, seeds_refused};
+ghost use Rattle.tesla_sender.specs.Stands.{Answers, IsWritten, Stands, log_after, number_at};
+
+use crate::chain::SendingChain;
+use crate::judging::{judge_disclosure, judge_message, number_at};
+use crate::opening::open_chains;
+use crate::rows::{advance_all, prepare_all};
+use crate::writing::{write_due, write_message};
+use crate::{DiscloseRefusal, SendRefusal, SenderRefusal};
+use std::alloc::Global;
+use std::fmt;
+use std::marker::Model;
+use std::sync::ledger::Ledger;
+use tesla_base::{Name, Steps};
+use tesla_commit::{Seeds, Setup};
+
+/// A sender of one stream (RFC 4082, sections 3.2 to 3.4): it makes the frames of messages and of disclosures.
+///
+/// Contracts see its stream, which is its setup with a seed for each chain, and the logs that it stands for: the
+/// calls that it accepted, in order. It keeps the last `delay + 1` keys of each chain, and nothing of the log but
+/// the interval and the number of the last calls. Its `Debug` text shows no byte of a key.
+#[derive(Drop)]
+pub struct Sender {
+    setup: Setup,
+    chains: Vec<SendingChain>,
+    latest: u64,
+    used: u32,
+}
+
+impl Model for Sender {
+    ghost use Rattle.std.specs.List.{sum_by};
+    ghost use Rattle.tesla_sender.specs.Chains.{left_in};
+    ghost use Rattle.tesla_sender.specs.Stands.{State};
+    ghost use Rattle.tesla_sender.specs.Senders.{IsSender, stream_of};
+
+    ghost Value = { State };
+
+    ghost view = { λ s. record { stream = stream_of s.setup s.chains.items; latest = s.latest; used = s.used; left = sum_by left_in s.chains.items } };
+
+    ghost invariant = { λ s. IsSender s.setup s.chains.items s.latest s.used };
+}
+
+impl Sender {
+    /// A sender of the stream of this setup, with a seed for each chain, which has accepted no call yet. All memory
+    /// is taken here. Each seed has to be the key of the last interval of its chain: `WrongSeed` where the key of
+    /// the setup's index that it gives isn't the setup's key.
+    ///
+    /// Over a sender's whole life, its opening included, it takes at most `C * (W(N) + N + 2 m)` counted steps for
+    /// `C` chains of `N` keys and `m` accepted messages, with `W(N)` as for a walker.
+    pub fn open<L: Ledger>(
+        alloc: Global,
+        setup: Setup,
+        seeds: &Seeds,
+        steps: &mut Steps<L>,
+    ) -> Result<Sender, SenderRefusal>
+        requires { length seeds.now ≡ length setup.rows }
+        ensures stands { IfOk result (λ sender. Stands sender []) }
+        ensures stream { IfOk result (λ sender. sender.stream ≡ record { setup = setup; seeds = seeds.now }) }
+        ensures right { IfOk result (λ _. seeds_refused (chains_of (record { setup = setup; seeds = seeds.now })) ≡ None) }
+        ensures refused { IfErr result (IsRefusal (chains_of (record { setup = setup; seeds = seeds.now }))) }
+        ensures cost { steps.new + left_of result ≤ steps.old + length setup.rows * (W setup.times.last + setup.times.last) }
+    {
+        match open_chains(alloc, &setup, seeds, steps) {
+            Ok(chains) => Ok(Sender {
+                setup,
+                chains,
+                latest: 0,
+                used: 0,
+            }),
+            Err(refusal) => Err(refusal),
+        }
+    }
+
+    /// Writes the frame of an accepted message of that name.
+    fn send<L: Ledger>(
+        &mut self,
+        name: Name,
+        payload: &[u8],
+        into: &mut [u8; 2048],
+        steps: &mut Steps<L>,
+    ) -> usize
+        requires some { 1 ≤ name.interval }
+        requires later { self.old.latest ≤ name.interval }
+        requires within { name.interval ≤ self.old.stream.setup.times.last }
+        requires number { name.number < 2 ^ 16 }
+        requires limit { length payload.now ≤ 1200 }
+        ensures written { IsWritten (message_frame self.old.stream.setup (chains_of self.old.stream) name payload.now) result into.old into.new }
+        ensures after { self.new ≡ record { stream = self.old.stream; latest = name.interval; used = name.number + 1; left = self.new.left } }
+        ensures cost { steps.new + self.new.left ≤ steps.old + self.old.left + 2 * length self.old.stream.setup.rows }
+    {
+        prepare_all(&mut self.chains, name.interval, steps);
+        self.latest = u64::from(name.interval);
+        self.used = u32::from(name.number) + 1;
+        write_message(&self.chains, &self.setup, name, payload, into, steps)
+    }
+
+    /// The name of a message at this reading.
+    fn name_of(&self, reading: u64, payload: &[u8]) -> Result<Name, SendRefusal>
+        ensures { result ≡ name_after self.now.stream.setup.times self.now.latest (number_at self.now.latest self.now.used (interval_at self.now.stream.setup.times reading)) reading payload.now }
+    {
+        judge_message(
+            self.setup.schedule(),
+            self.latest,
+            self.used,
+            reading,
+            payload,
+        )
+    }
+
+    /// Makes the data frame of a message at this reading of the sender's clock, in microseconds, at the front of
+    /// `into`, and gives its length. It has the message's interval, the next number within that, counted from 0,
+    /// the tags of all chains, and of each chain the key that is due (RFC 4082, sections 3.3 and 3.4).
+    ///
+    /// The refusals are those of [`SendRefusal`], in its order. After a refusal nothing has changed. It takes no
+    /// memory.
+    pub fn message<L: Ledger>(
+        &mut self,
+        reading: u64,
+        payload: &[u8],
+        into: &mut [u8; 2048],
+        steps: &mut Steps<L>,
+    ) -> Result<usize, SendRefusal>
+        ensures answer { (log : List Call) → Stands self.old log → Answers result (made_message self.old.stream log reading payload.now) into.old into.new }
+        ensures stands { (log : List Call) → Stands self.old log → Stands self.new (log_after log (Message reading payload.now) result) }
+        ensures stream { self.new.stream ≡ self.old.stream }
+        ensures cost { steps.new + self.new.left ≤ steps.old + self.old.left + 2 * length self.old.stream.setup.rows }
+        ensures refused { OnErr result ((self.new ≡ self.old) × (into.new ≡ into.old) × (steps.new ≡ steps.old)) }
+        ensures room { IfOk result (λ length. length ≤ 2048) }
+    {
+        match self.name_of(reading, payload) {
+            Ok(name) => Ok(self.send(name, payload, into, steps)),
+            Err(refusal) => Err(refusal),
+        }
+    }
+
+    /// Writes the frame of an accepted disclosure in that interval.
+    fn disclose_in<L: Ledger>(
+        &mut self,
+        interval: u64,
+        into: &mut [u8; 2048],
+        steps: &mut Steps<L>,
+    ) -> usize
+        requires later { self.old.latest ≤ interval }
+        requires due { any_due interval (chains_of self.old.stream) ≡ true }
+        ensures written { IsWritten (disclosure_frame self.old.stream.setup (chains_of self.old.stream) interval) result into.old into.new }
+        ensures after { self.new ≡ record { stream = self.old.stream; latest = interval; used = number_at self.old.latest self.old.used interval; left = self.new.left } }
+        ensures cost { steps.new + self.new.left ≤ steps.old + self.old.left }
+    {
+        let last = u64::from(self.setup.schedule().last());
+        advance_all(&mut self.chains, interval.min(last) as u32, steps);
+        self.used = number_at(self.latest, self.used, interval);
+        self.latest = interval;
+        write_due(&self.chains, &self.setup, interval, into)
+    }
+
+    /// The interval of a disclosure at this reading.
+    fn interval_of(&self, reading: u64) -> Result<u64, DiscloseRefusal>
+        ensures { result ≡ disclosed_after self.now.stream.setup.times self.now.latest (any_due (interval_at self.now.stream.setup.times reading) (chains_of self.now.stream)) reading }
+    {
+        judge_disclosure(&self.chains, self.setup.schedule(), self.latest, reading)
+    }
+
+    /// Makes the disclosure frame of this reading of the sender's clock, in microseconds, at the front of `into`,
+    /// and gives its length. In interval `x`, which may be after the last one, it has a row of each chain whose
+    /// delay is below `x`: the key of index `x - delay`, or the last one.
+    ///
+    /// The refusals are those of [`DiscloseRefusal`], in its order. After a refusal nothing has changed. It takes
+    /// no memory.
+    pub fn disclose<L: Ledger>(
+        &mut self,
+        reading: u64,
+        into: &mut [u8; 2048],
+        steps: &mut Steps<L>,
+    ) -> Result<usize, DiscloseRefusal>
+        ensures answer { (log : List Call) → Stands self.old log → Answers result (made_disclosure self.old.stream log reading) into.old into.new }
+        ensures stands { (log : List Call) → Stands self.old log → Stands self.new (log_after log (Disclose reading) result) }
+        ensures stream { self.new.stream ≡ self.old.stream }
+        ensures cost { steps.new + self.new.left ≤ steps.old + self.old.left }
+        ensures refused { OnErr result ((self.new ≡ self.old) × (into.new ≡ into.old) × (steps.new ≡ steps.old)) }
+        ensures room { IfOk result (λ length. length ≤ 2048) }
+    {
+        match self.interval_of(reading) {
+            Ok(interval) => Ok(self.disclose_in(interval, into, steps)),
+            Err(refusal) => Err(refusal),
+        }
+    }
+}
+
+impl fmt::Debug for Sender {
+    ghost debug_output = { λ _. Some (codes "Sender { .. }") };
+
+    fn fmt<W: fmt::Write>(&self, f: &mut fmt::Formatter<W>) -> fmt::Result {
+        f.write_str("Sender { .. }")
+    }
+}
