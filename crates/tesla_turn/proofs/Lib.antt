@@ -1,0 +1,7 @@
+pub mod Calling
+pub mod Exampled
+pub mod Histories
+pub mod Merging
+pub mod Passing
+pub mod Owners
+pub mod StepsKept

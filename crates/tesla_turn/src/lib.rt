@@ -1,0 +1,29 @@
+//! Threads act on one value, each in its turn: what happened is one history, in which each call stands once.
+#![tactic(auto)]
+
+mod chronicle;
+mod close;
+mod crossing;
+pub mod examples;
+pub mod laws;
+mod pass;
+mod perform;
+mod plays;
+mod rule;
+mod seats;
+mod split;
+mod turn;
+mod view;
+mod wait;
+
+pub use chronicle::{Act, Chronicle};
+pub use close::Last;
+pub use crossing::crosses;
+pub use pass::Pass;
+pub use perform::SeatSpent;
+pub use split::NoRoom;
+pub use turn::Turn;
+pub use view::Call;
+
+#[cfg(test)]
+mod tests;

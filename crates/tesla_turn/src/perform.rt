@@ -1,0 +1,47 @@
+//! An act in its turn.
+ghost use Rattle.std.specs.Prelude.{◌≡◌, ◌↔◌, IsErr, IfOk, IfErr, IsTrue, is_err};
+ghost use Rattle.tesla_turn.specs.Held.{Made, Stood, left_of};
+
+use crate::chronicle::{Act, Chronicle};
+use crate::pass::Pass;
+use crate::seats::{hand_on, put_back};
+use crate::turn::Turn;
+use crate::wait::{enter, wake};
+use std::marker::Brand;
+use std::sync::Wait;
+
+/// The pass has made all its calls.
+#[derive(Clone, Copy, Debug, PartialEq, Eq)]
+pub struct SeatSpent;
+
+impl<V: Chronicle + Drop> Turn<V> {
+    /// Waits for the pass's turn, runs the act on the value, and passes the turn on.
+    ///
+    /// The call stands in the history once, behind all that the pass had seen. `SeatSpent` comes exactly
+    /// where the pass has no call left: then nothing was waited for, and nothing has changed.
+    pub fn perform<R: Wait, A: Act<V>>(
+        &self,
+        rt: &R,
+        pass: &mut Pass<V>,
+        act: &mut A,
+    ) -> Result<A::Reply, SeatSpent>
+        requires own { pass.old.turn ≡ self.now }
+        ensures refused { IsErr result ↔ (left_of pass.old ≡ 0) }
+        ensures unchanged { IfErr result (λ _. (pass.new ≡ pass.old) × (act.new ≡ act.old)) }
+        ensures act { IfOk result (λ reply. A.relation act.old act.new reply) }
+        ensures history { IfOk result (λ reply. Made pass.old pass.new (A.entry act.new reply)) }
+        ensures value { IfOk result (λ _. Stood V.config V.stands pass.new) }
+    {
+        if pass.left == 0 {
+            return Err(SeatSpent);
+        }
+        let top = &self.table.shared;
+        let mut value = enter(rt, top, &self.parked, &mut pass.seat);
+        let reply = act.run(&mut value);
+        put_back(top, &mut pass.seat, value);
+        hand_on::<V, A, Brand>(top, &mut pass.seat, act, &reply);
+        pass.left -= 1;
+        wake(top, &self.parked);
+        Ok(reply)
+    }
+}
