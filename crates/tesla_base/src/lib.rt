@@ -16,7 +16,7 @@ pub use field::{u16_at, u32_at, u64_at};
 pub use front::{take_u16, take_u32, take_u64};
 pub use kind::Kind;
 pub use memory::NoMemory;
-pub use names::{ChainNo, Key, Name, StreamId, Tag, WideTag};
+pub use names::{ChainNo, Key, Name, Place, StreamId, Tag, WideTag};
 pub use number::{NumberFault, read_decimal, read_signed};
 pub use steps::Steps;
 pub use text::Text;

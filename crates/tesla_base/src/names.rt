@@ -70,3 +70,7 @@ pub struct Name {
     /// Which of the interval's messages it is, counted from 0.
     pub number: u16,
 }
+
+/// The place of a packet in a receiver's buffer, counted from 0. A packet keeps its place as long as it is held.
+#[derive(Clone, Copy, Debug, PartialEq, Eq)]
+pub struct Place(pub u32);

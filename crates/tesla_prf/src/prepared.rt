@@ -102,6 +102,7 @@ impl PreparedKey {
         requires shortest { 10 ≤ length }
         requires longest { length ≤ 32 }
         ensures value { result ≡ wide_tag (tag_under length self.now stream chain name payload.now) }
+        ensures length { result.length ≡ length }
         ensures cost { steps.new ≡ steps.old + 1 }
     {
         let digest = message_mac(self.begin(), stream, chain, name, payload, steps);

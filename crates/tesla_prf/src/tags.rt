@@ -55,6 +55,7 @@ pub fn wide_tag<L: Ledger>(
     requires shortest { 10 ≤ length }
     requires longest { length ≤ 32 }
     ensures value { result ≡ wide_tag (tag_under length mac.now stream chain name payload.now) }
+    ensures length { result.length ≡ length }
     ensures cost { steps.new ≡ steps.old + 1 }
 {
     let digest = message_mac(Mac::new(&mac.0), stream, chain, name, payload, steps);
