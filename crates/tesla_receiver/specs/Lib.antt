@@ -8,3 +8,6 @@ pub mod Book
 pub mod Report
 pub mod Played
 pub mod Replies
+pub mod Tips
+pub mod State
+pub mod Steps
