@@ -16,3 +16,7 @@ pub mod Gone
 pub mod Held
 pub mod Limits
 pub mod SafeChains
+pub mod Below
+pub mod Numbered
+pub mod Names
+pub mod FromOffers

@@ -1,0 +1,90 @@
+-- Tests and functions that agree on the numbers below n, and elements that pass a test.
+use Rattle.std.proofs.Common.{◌≡◌, ℕ, zero, suc, ◌+◌, ◌<◌, ◌≤◌, Bool, true, false, cond, ◌&&◌, ◌||◌, List, [], ◌∷◌, ◌++◌, length, get_or, map, Option, Some, None, refl, sym, ap, subst, ⊎_elim, ◌∙◌, arith, add-zero}
+use Rattle.std.specs.Prelude.{slice_get, find, filter}
+use Rattle.std.specs.List.{list_any, list_all, enumerate_from, range_with_len}
+use Rattle.std.proofs.lemmas.Bool.{and_parts, cases_Bool, or_cases, or_left, or_right}
+use Rattle.std.proofs.lemmas.Option.{same_Some}
+
+-- ---- numbers below n
+
+pub all_below : (p q : ℕ → Bool) (a n : ℕ) → ((c : ℕ) → c < a + n → p c ≡ q c) → list_all p (range_with_len a n) ≡ list_all q (range_with_len a n)
+all_below p q a zero same = refl
+all_below p q a (suc n) same =
+    ap (λ b. b && list_all p (range_with_len (a + 1) n)) (same a (omega arith)) ∙ ap (λ b. q a && b) (all_below p q (a + 1) n (λ c h. same c (omega arith)))
+
+pub find_below : (p q : ℕ → Bool) (a n : ℕ) → ((c : ℕ) → c < a + n → p c ≡ q c) → find p (range_with_len a n) ≡ find q (range_with_len a n)
+find_below p q a zero same = refl
+find_below p q a (suc n) same =
+    ap (λ b. cond b (Some a) (find p (range_with_len (a + 1) n))) (same a (omega arith))
+    ∙ ap (λ (o : Option ℕ). cond (q a) (Some a) o) (find_below p q (a + 1) n (λ c h. same c (omega arith)))
+
+pub map_below : {A : Type 0} (f g : ℕ → A) (a n : ℕ) → ((c : ℕ) → c < a + n → f c ≡ g c) → map f (range_with_len a n) ≡ map g (range_with_len a n)
+map_below f g a zero same = refl
+map_below f g a (suc n) same =
+    ap (λ y. y ∷ map f (range_with_len (a + 1) n)) (same a (omega arith)) ∙ ap (λ ys. g a ∷ ys) (map_below f g (a + 1) n (λ c h. same c (omega arith)))
+
+-- the number that is found is below n, and passes
+pub record FoundBelow (p : ℕ → Bool) (n c : ℕ) : Type 0 where
+  pub below : c < n
+  pub passes : p c ≡ true
+
+found_from : (p : ℕ → Bool) (a n c : ℕ) → find p (range_with_len a n) ≡ Some c → FoundBelow p (a + n) c
+found_from p a zero c h = absurd (cc)
+found_from p a (suc n) c h =
+    ⊎_elim
+    (λ e. let same : a ≡ c = same_Some a c (sym (ap (λ b. cond b (Some a) (find p (range_with_len (a + 1) n))) e) ∙ h) in
+    record { below = omega arith; passes = ap p (sym same) ∙ e })
+    (λ e. let rest = found_from p (a + 1) n c (sym (ap (λ b. cond b (Some a) (find p (range_with_len (a + 1) n))) e) ∙ h) in
+    record { below = let less = rest.below in omega arith; passes = rest.passes })
+    (cases_Bool (p a))
+
+pub found_below : (p : ℕ → Bool) (n c : ℕ) → find p (range_with_len 0 n) ≡ Some c → FoundBelow p n c
+found_below p n c h =
+    let all = found_from p 0 n c h in
+    record { below = let less = all.below in omega arith; passes = all.passes }
+
+got_from : {A : Type 0} (f : ℕ → A) (a n c : ℕ) (d : A) → c < n → get_or (map f (range_with_len a n)) c d ≡ f (a + c)
+got_from f a zero c d h = absurd (omega arith)
+got_from f a (suc n) zero d h = ap f (sym (add-zero a))
+got_from f a (suc n) (suc c) d h =
+    let count : a + 1 + c ≡ a + suc c = omega arith in
+    got_from f (a + 1) n c d (omega arith) ∙ ap f count
+
+-- what stands at a number
+pub got_below : {A : Type 0} (f : ℕ → A) (n c : ℕ) (d : A) → c < n → get_or (map f (range_with_len 0 n)) c d ≡ f c
+got_below f n c d h =
+    let count : 0 + c ≡ c = omega arith in
+    got_from f 0 n c d h ∙ ap f count
+
+-- a function of each number and of what stands there
+pub map_numbered : {A B : Type 0} (g : ℕ × A → B) (f : ℕ → A) (a n : ℕ) → map g (enumerate_from a (map f (range_with_len a n))) ≡ map (λ c. g (c, f c)) (range_with_len a n)
+map_numbered g f a zero = refl
+map_numbered g f a (suc n) = ap (λ ys. g (a, f a) ∷ ys) (map_numbered g f (a + 1) n)
+
+-- ---- elements that pass
+
+-- tests that agree
+pub any_same : {A : Type 0} (p q : A → Bool) (xs : List A) → ((x : A) → p x ≡ q x) → list_any p xs ≡ list_any q xs
+any_same p q [] same = refl
+any_same p q (x ∷ xs) same = ap (λ b. b || list_any p xs) (same x) ∙ ap (λ b. q x || b) (any_same p q xs same)
+
+-- an element that passes, with its place
+pub record Passes {A : Type 0} (p : A → Bool) (xs : List A) : Type 0 where
+  pub place : ℕ
+  pub element : A
+  pub at : slice_get xs place ≡ Some element
+  pub passes : p element ≡ true
+
+pub passes_somewhere : {A : Type 0} (p : A → Bool) (xs : List A) → list_any p xs ≡ true → Passes p xs
+passes_somewhere p [] h = absurd (cc)
+passes_somewhere p (x ∷ xs) h =
+    ⊎_elim
+    (λ e. record { place = 0; element = x; at = refl; passes = e })
+    (λ e. let later = passes_somewhere p xs e in record { place = suc later.place; element = later.element; at = later.at; passes = later.passes })
+    (or_cases (p x) (list_any p xs) h)
+
+-- each element passes what all do
+pub passes_at : {A : Type 0} (p : A → Bool) (xs : List A) (k : ℕ) (x : A) → list_all p xs ≡ true → slice_get xs k ≡ Some x → p x ≡ true
+passes_at p [] k x h at = absurd (cc)
+passes_at p (y ∷ xs) zero x h at = ap p (sym (same_Some y x at)) ∙ (and_parts (p y) (list_all p xs) h).0
+passes_at p (y ∷ xs) (suc k) x h at = passes_at p xs k x ((and_parts (p y) (list_all p xs) h).1) at
