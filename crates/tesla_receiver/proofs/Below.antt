@@ -1,6 +1,6 @@
 -- Tests and functions that agree on the numbers below n, and elements that pass a test.
 use Rattle.std.proofs.Common.{◌≡◌, ℕ, zero, suc, ◌+◌, ◌<◌, ◌≤◌, Bool, true, false, cond, ◌&&◌, ◌||◌, List, [], ◌∷◌, ◌++◌, length, get_or, map, Option, Some, None, refl, sym, ap, subst, ⊎_elim, ◌∙◌, arith, add-zero}
-use Rattle.std.specs.Prelude.{slice_get, find, filter}
+use Rattle.std.specs.Prelude.{not, slice_get, find}
 use Rattle.std.specs.List.{list_any, list_all, enumerate_from, range_with_len}
 use Rattle.std.proofs.lemmas.Bool.{and_parts, cases_Bool, or_cases, or_left, or_right}
 use Rattle.std.proofs.lemmas.Option.{same_Some}
@@ -60,6 +60,17 @@ got_below f n c d h =
 pub map_numbered : {A B : Type 0} (g : ℕ × A → B) (f : ℕ → A) (a n : ℕ) → map g (enumerate_from a (map f (range_with_len a n))) ≡ map (λ c. g (c, f c)) (range_with_len a n)
 map_numbered g f a zero = refl
 map_numbered g f a (suc n) = ap (λ ys. g (a, f a) ∷ ys) (map_numbered g f (a + 1) n)
+
+-- ---- tests
+
+pub same_test : (a b : Bool) → (a ≡ true → b ≡ true) → (b ≡ true → a ≡ true) → a ≡ b
+same_test true b f g = sym (f refl)
+same_test false true f g = g refl
+same_test false false f g = refl
+
+pub implied : (a b : Bool) → (a ≡ true → b ≡ true) → (not a || b) ≡ true
+implied true b h = h refl
+implied false b h = refl
 
 -- ---- elements that pass
 

@@ -24,11 +24,11 @@ use Rattle.tesla_receiver.proofs.Passing.{none_passes, none_found, any_longer, a
 use Rattle.tesla_receiver.proofs.Places.{firsts_pass, unless_pass}
 
 -- a release isn't of the place
-abbrev is_elsewhere : ℕ → Release → Bool
+abbrev pub is_elsewhere : ℕ → Release → Bool
 is_elsewhere place release = not (is_at place release)
 
 -- a release of the place has the name
-abbrev is_called : ℕ → Name → Release → Bool
+abbrev pub is_called : ℕ → Name → Release → Bool
 is_called place name release = is_elsewhere place release || has_name name release
 
 -- ---- chains
@@ -64,7 +64,7 @@ past_proves cfg xs new packet chain h =
     (⊎_elim (λ e. or_left unsafe (not before) e) (λ e. or_right unsafe (not before) (not_from_false before (le-ltb (newest cfg xs chain) interval (leb-true interval (newest cfg xs chain) e))))
     (or_cases unsafe (nat_le interval (newest cfg xs chain)) h))
 
-past_none : (cfg : Config) (xs : List Arrival) (new : List KeyRow) (packet : Packet) → list_all (is_past cfg xs packet) (chains cfg) ≡ true → find (proves cfg xs new packet) (chains cfg) ≡ None
+pub past_none : (cfg : Config) (xs : List Arrival) (new : List KeyRow) (packet : Packet) → list_all (is_past cfg xs packet) (chains cfg) ≡ true → find (proves cfg xs new packet) (chains cfg) ≡ None
 past_none cfg xs new packet h =
     none_found (proves cfg xs new packet) (chains cfg) (list_all_weaker (is_past cfg xs packet) (λ c. not (proves cfg xs new packet c)) (chains cfg) (past_proves cfg xs new packet) h)
 
@@ -85,7 +85,7 @@ of_past cfg xs new packet place m (Some other) past here =
     (λ e. on_elsewhere place m other.frame (find (proves cfg xs new other) (chains cfg)) e)
     (cases_Bool (m == place))
 
-called_same : (place m : ℕ) (name : Name) (release : Release) → release.name ≡ name → has_name name release ≡ true
+pub called_same : (place m : ℕ) (name : Name) (release : Release) → release.name ≡ name → has_name name release ≡ true
 called_same place m name release e =
     and_from (release.name.interval == name.interval) (release.name.number == name.number)
     (eq-eqb release.name.interval name.interval (ap (λ (n : Name). n.interval) e)) (eq-eqb release.name.number name.number (ap (λ (n : Name). n.number) e))
@@ -119,7 +119,7 @@ brought_at xs place m packet x b at e =
 brought_stays : (xs ys : List Arrival) (place : ℕ) (packet : Packet) → Brought xs place packet → Brought (xs ++ ys) place packet
 brought_stays xs ys place packet b = record { arrival = b.arrival; at = slice_get-append xs ys place (slice_get_within xs place b.arrival b.at) ∙ b.at; kept = b.kept }
 
-candidates_called : (cfg : Config) (xs : List Arrival) (place : ℕ) (packet : Packet) → Brought xs place packet → list_all (is_called place packet.frame.name) (each_after (batch cfg) [] xs) ≡ true
+pub candidates_called : (cfg : Config) (xs : List Arrival) (place : ℕ) (packet : Packet) → Brought xs place packet → list_all (is_called place packet.frame.name) (each_after (batch cfg) [] xs) ≡ true
 candidates_called cfg xs place packet b =
     all_each_after (is_called place packet.frame.name) (batch cfg) [] xs (λ front x rest e.
     all_enumerated (is_called place packet.frame.name) (λ (p : ℕ × Arrival). release_of cfg front (new_keys cfg front x) p.0 (packet_of p.1)) 0 front (λ k y at.
@@ -157,7 +157,7 @@ called_elsewhere place name before (x ∷ xs) stands h =
     ∙ and_from (list_all (is_elsewhere place) (unless_named before x)) (list_all (is_elsewhere place) (each_after unless_named (before ++ x ∷ []) xs)) here later
 
 -- a release of the place is one of the name
-called_any : (place : ℕ) (name : Name) (xs : List Release) → list_all (is_called place name) xs ≡ true → list_any (is_at place) xs ≡ true → list_any (has_name name) xs ≡ true
+pub called_any : (place : ℕ) (name : Name) (xs : List Release) → list_all (is_called place name) xs ≡ true → list_any (is_at place) xs ≡ true → list_any (has_name name) xs ≡ true
 called_any place name [] all h = absurd (cc)
 called_any place name (x ∷ xs) all h =
     let parts = and_parts (is_called place name x) (list_all (is_called place name) xs) all in

@@ -20,3 +20,5 @@ pub mod Below
 pub mod Numbered
 pub mod Names
 pub mod FromOffers
+pub mod Batches
+pub mod Owners
