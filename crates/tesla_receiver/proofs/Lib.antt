@@ -22,3 +22,4 @@ pub mod Names
 pub mod FromOffers
 pub mod Batches
 pub mod Owners
+pub mod HeldAfter

@@ -29,13 +29,13 @@ of_below : (cfg : Config) (before : List Arrival) (new : List KeyRow) (n place :
 of_below cfg before new n place None h = refl
 of_below cfg before new n place (Some packet) h = on_below n place packet (find (proves cfg before new packet) (chains cfg)) h
 
-proved_below : (cfg : Config) (before : List Arrival) (new : List KeyRow) (n m : ℕ) (xs : List Arrival) → m + length xs ≤ n → list_all (is_below n) (flat_map (λ (p : ℕ × Arrival). release_of cfg before new p.0 (packet_of p.1)) (enumerate_from m xs)) ≡ true
+pub proved_below : (cfg : Config) (before : List Arrival) (new : List KeyRow) (n m : ℕ) (xs : List Arrival) → m + length xs ≤ n → list_all (is_below n) (flat_map (λ (p : ℕ × Arrival). release_of cfg before new p.0 (packet_of p.1)) (enumerate_from m xs)) ≡ true
 proved_below cfg before new n m [] h = refl
 proved_below cfg before new n m (x ∷ xs) h =
     list_all_both (is_below n) (release_of cfg before new m (packet_of x)) (flat_map (λ (p : ℕ × Arrival). release_of cfg before new p.0 (packet_of p.1)) (enumerate_from (m + 1) xs))
     (of_below cfg before new n m (packet_of x) (omega arith)) (proved_below cfg before new n (m + 1) xs (omega arith))
 
-candidates_below : (cfg : Config) (before xs : List Arrival) → list_all (is_below (length before + length xs)) (each_after (batch cfg) before xs) ≡ true
+pub candidates_below : (cfg : Config) (before xs : List Arrival) → list_all (is_below (length before + length xs)) (each_after (batch cfg) before xs) ≡ true
 candidates_below cfg before [] = refl
 candidates_below cfg before (x ∷ xs) =
     let here = proved_below cfg before (new_keys cfg before x) (length before + length (x ∷ xs)) 0 before (omega arith) in
