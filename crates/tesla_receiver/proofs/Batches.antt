@@ -92,17 +92,17 @@ seen_item cfg xs given place packet name brought =
     ap (λ (n : Name). is_seen cfg xs n) (sym (same_name name (as_release (holding_of cfg xs given place packet)) parts.1))
     ∙ named_at cfg xs place packet brought (released_proved cfg xs (is_at place) parts.0))
 
-all_if_held : (q : Holding → Bool) (item : Holding) (b : Bool) → q item ≡ true → list_all q (cond b [] (item ∷ [])) ≡ true
+all_if_held : (q : Holding → Bool) (item : Holding) (b : Bool) → (b ≡ false → q item ≡ true) → list_all q (cond b [] (item ∷ [])) ≡ true
 all_if_held q item true h = refl
-all_if_held q item false h = and_from (q item) true h refl
+all_if_held q item false h = and_from (q item) true (h refl) refl
 
-all_held_at : (cfg : Config) (xs : List Arrival) (given : ℕ) (q : Holding → Bool) (place : ℕ) (x : Arrival) (o : Option Packet) → slice_get xs place ≡ Some x → packet_of x ≡ o → ((place : ℕ) (packet : Packet) → Brought xs place packet → q (holding_of cfg xs given place packet) ≡ true) → list_all q (held_at cfg xs given place o) ≡ true
+all_held_at : (cfg : Config) (xs : List Arrival) (given : ℕ) (q : Holding → Bool) (place : ℕ) (x : Arrival) (o : Option Packet) → slice_get xs place ≡ Some x → packet_of x ≡ o → ((place : ℕ) (packet : Packet) → Brought xs place packet → is_gone cfg xs given place packet ≡ false → q (holding_of cfg xs given place packet) ≡ true) → list_all q (held_at cfg xs given place o) ≡ true
 all_held_at cfg xs given q place x None at kept each = refl
 all_held_at cfg xs given q place x (Some packet) at kept each =
     all_if_held q (holding_of cfg xs given place packet) (is_gone cfg xs given place packet) (each place packet (record { arrival = x; at = at; kept = kept }))
 
--- all held packets pass what each that was brought passes
-pub all_held : (cfg : Config) (xs : List Arrival) (given : ℕ) (q : Holding → Bool) → ((place : ℕ) (packet : Packet) → Brought xs place packet → q (holding_of cfg xs given place packet) ≡ true) → list_all q (holdings cfg xs given) ≡ true
+-- all held packets pass what each that was brought and isn't gone passes
+pub all_held : (cfg : Config) (xs : List Arrival) (given : ℕ) (q : Holding → Bool) → ((place : ℕ) (packet : Packet) → Brought xs place packet → is_gone cfg xs given place packet ≡ false → q (holding_of cfg xs given place packet) ≡ true) → list_all q (holdings cfg xs given) ≡ true
 unfolding holdings
 all_held cfg xs given q each =
     all_enumerated q (λ (p : ℕ × Arrival). held_at cfg xs given p.0 (packet_of p.1)) 0 xs (λ k x at.
@@ -112,7 +112,7 @@ all_held cfg xs given q each =
 held_to_named : (cfg : Config) (xs : List Arrival) (given : ℕ) (name : Name) → list_any (is_named_so name) (holdings cfg xs given) ≡ true → is_seen cfg xs name ≡ true
 held_to_named cfg xs given name h =
     let found = passes_somewhere (is_named_so name) (holdings cfg xs given) h in
-    let all = all_held cfg xs given (λ item. not (is_named_so name item) || is_seen cfg xs name) (λ place packet brought. seen_item cfg xs given place packet name brought) in
+    let all = all_held cfg xs given (λ item. not (is_named_so name item) || is_seen cfg xs name) (λ place packet brought stays. seen_item cfg xs given place packet name brought) in
     let here = passes_at (λ item. not (is_named_so name item) || is_seen cfg xs name) (holdings cfg xs given) found.place found.element all found.at in
     ⊎_elim
     (λ e. absurd (both_ways (is_named_so name found.element) (not-true (is_named_so name found.element) e) found.passes))

@@ -1,8 +1,8 @@
 -- Tests and functions that agree on the numbers below n, and elements that pass a test.
 use Rattle.std.proofs.Common.{◌≡◌, ℕ, zero, suc, ◌+◌, ◌<◌, ◌≤◌, Bool, true, false, cond, ◌&&◌, ◌||◌, List, [], ◌∷◌, ◌++◌, length, get_or, map, Option, Some, None, refl, sym, ap, subst, ⊎_elim, ◌∙◌, arith, add-zero}
-use Rattle.std.specs.Prelude.{not, slice_get, find}
+use Rattle.std.specs.Prelude.{not, slice_get, find, filter}
 use Rattle.std.specs.List.{list_any, list_all, enumerate_from, range_with_len}
-use Rattle.std.proofs.lemmas.Bool.{and_parts, cases_Bool, or_cases, or_left, or_right}
+use Rattle.std.proofs.lemmas.Bool.{and_parts, and_from, cases_Bool, or_parts, or_cases, or_left, or_right, not_from_false}
 use Rattle.std.proofs.lemmas.Option.{same_Some}
 
 -- ---- numbers below n
@@ -99,3 +99,24 @@ pub passes_at : {A : Type 0} (p : A → Bool) (xs : List A) (k : ℕ) (x : A) �
 passes_at p [] k x h at = absurd (cc)
 passes_at p (y ∷ xs) zero x h at = ap p (sym (same_Some y x at)) ∙ (and_parts (p y) (list_all p xs) h).0
 passes_at p (y ∷ xs) (suc k) x h at = passes_at p xs k x ((and_parts (p y) (list_all p xs) h).1) at
+
+-- ---- searches where the tests agree on what passes another
+
+pub find_same : {A : Type 0} (t p q : A → Bool) (xs : List A) → list_all t xs ≡ true → ((x : A) → t x ≡ true → p x ≡ q x) → find p xs ≡ find q xs
+find_same t p q [] h same = refl
+find_same t p q (x ∷ xs) h same =
+    let parts = and_parts (t x) (list_all t xs) h in
+    ap (λ b. cond b (Some x) (find p xs)) (same x parts.0) ∙ ap (λ o. cond (q x) (Some x) o) (find_same t p q xs parts.1 same)
+
+pub filter_same : {A : Type 0} (t p q : A → Bool) (xs : List A) → list_all t xs ≡ true → ((x : A) → t x ≡ true → p x ≡ q x) → filter p xs ≡ filter q xs
+filter_same t p q [] h same = refl
+filter_same t p q (x ∷ xs) h same =
+    let parts = and_parts (t x) (list_all t xs) h in
+    ap (λ b. cond b (x ∷ filter p xs) (filter p xs)) (same x parts.0) ∙ ap (λ ys. cond (q x) (x ∷ ys) ys) (filter_same t p q xs parts.1 same)
+
+-- where none passes, all fail
+pub all_fail : {A : Type 0} (p : A → Bool) (xs : List A) → list_any p xs ≡ false → list_all (λ x. not (p x)) xs ≡ true
+all_fail p [] h = refl
+all_fail p (x ∷ xs) h =
+    let parts = or_parts (p x) (list_any p xs) h in
+    and_from (not (p x)) (list_all (λ y. not (p y)) xs) (not_from_false (p x) parts.0) (all_fail p xs parts.1)

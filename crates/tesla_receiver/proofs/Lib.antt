@@ -23,3 +23,6 @@ pub mod FromOffers
 pub mod Batches
 pub mod Owners
 pub mod HeldAfter
+pub mod Legal
+pub mod Counts
+pub mod Keeping
