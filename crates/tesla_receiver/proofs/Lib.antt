@@ -26,3 +26,5 @@ pub mod HeldAfter
 pub mod Legal
 pub mod Counts
 pub mod Keeping
+pub mod Judged
+pub mod Arriving

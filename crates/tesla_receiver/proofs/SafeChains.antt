@@ -20,7 +20,7 @@ table_more f xs n v within below now c h =
       | inr least ↦ (let same : c ≡ n = omega arith in get_or-set_at xs n c v 0 same within ∙ now ∙ ap f (sym same))
     ]
 
-set_same : (p q : ℕ → Bool) (n : ℕ) → ((c : ℕ) → c < n → p c ≡ q c) → chain_set p n ≡ chain_set q n
+pub set_same : (p q : ℕ → Bool) (n : ℕ) → ((c : ℕ) → c < n → p c ≡ q c) → chain_set p n ≡ chain_set q n
 set_same p q zero same = refl
 set_same p q (suc n) same =
     ap (λ s. s + (if p n then 2 ^ n else 0)) (set_same p q n (λ c h. same c (omega arith)))
