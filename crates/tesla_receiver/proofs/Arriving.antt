@@ -11,6 +11,7 @@ use Rattle.tesla_clock.specs.Schedule.{bound_of}
 use Rattle.tesla_frame.specs.Frame.{Frame, Data, Disclosure, DataFrame}
 use Rattle.tesla_frame.specs.Reading.{frame_of}
 use Rattle.tesla_frame.specs.declared.row.KeyRow.{KeyRow}
+use Rattle.tesla_keys.specs.Tip.{Tip}
 use Rattle.tesla_receiver.specs.declared.config.Config.{Config}
 use Rattle.tesla_receiver.specs.declared.history.Arrival.{Arrival}
 use Rattle.tesla_receiver.specs.declared.history.Entry.{Entry}
@@ -24,7 +25,7 @@ use Rattle.tesla_receiver.specs.Answer.{stream_of, is_misfit, is_future, is_bad,
 use Rattle.tesla_receiver.specs.Config.{chains}
 use Rattle.tesla_receiver.specs.Held.{held_of}
 use Rattle.tesla_receiver.specs.History.{Arrives, entry_of, arrival_in, arrivals_in, given_in, has_end}
-use Rattle.tesla_receiver.specs.Keys.{keys_of, takes_keys, newest, new_keys}
+use Rattle.tesla_receiver.specs.Keys.{keys_of, takes_keys, greatest, newest, new_keys}
 use Rattle.tesla_receiver.specs.Packets.{packet_in, packet_of, has_name, released}
 use Rattle.tesla_receiver.specs.Report.{report_on, report_of}
 use Rattle.tesla_receiver.specs.State.{Holding, State, Stands, tag_in, held_at, holdings}
@@ -32,7 +33,9 @@ use Rattle.tesla_receiver.specs.Steps.{new_rows, with_keys, refused, judged_take
 use Rattle.tesla_receiver.specs.Tips.{tip_of}
 use Rattle.tesla_receiver.proofs.Counts.{report_more}
 use Rattle.tesla_receiver.proofs.Events.{arrivals_more}
+use Rattle.tesla_receiver.proofs.Grown.{same_taken}
 use Rattle.tesla_receiver.proofs.HeldAfter.{own_held}
+use Rattle.tesla_receiver.proofs.Newest.{newest_more}
 use Rattle.tesla_receiver.proofs.Judged.{fits_unrefused, refused_same, new_same, HasSafe, safe_some, judged_same}
 use Rattle.tesla_receiver.proofs.Keeping.{Keeps, tips_keyed, waiting_keyed, held_keyed, keeps_keyed, keeps_quiet}
 use Rattle.tesla_receiver.proofs.Legal.{given_fits}
@@ -141,3 +144,69 @@ own_kept cfg xs ys given ingest reading bytes bound Late frame read newer e = re
 own_kept cfg xs ys given ingest reading bytes bound Repeat frame read newer e = refl
 own_kept cfg xs ys given ingest reading bytes bound Full frame read newer e = refl
 own_kept cfg xs ys given ingest reading bytes bound Keys frame read newer e = refl
+
+-- ---- one arrival more
+
+module _ (s : State) (h : List Entry) (st : Stands s h) (ingest reading : ℕ) (bytes : List ℕ) where
+  entered : (v : Verdict) (tips : List Tip) (held : List Holding) (waiting : List Release) → v ≡ verdict_of s.config (arrivals_in h) (given_in h) ingest reading bytes → tips ≡ map (tip_of s.config (arrivals_in h ++ arrival_as ingest reading bytes v ∷ [])) (chains s.config) → held ≡ holdings s.config (arrivals_in h ++ arrival_as ingest reading bytes v ∷ []) (given_in h) → waiting ≡ drop (given_in h) (released s.config (arrivals_in h ++ arrival_as ingest reading bytes v ∷ [])) → Stands (entered_as v (record s { tips = tips; held = held; waiting = waiting })) (h ++ entry_of s.config h (Arrives ingest reading bytes) ∷ [])
+  entered v tips held waiting told tips_are held_are waiting_are =
+      let cfg : Config = s.config in
+      let e : Entry = entry_of cfg h (Arrives ingest reading bytes) in
+      let a : Arrival = arrival_as ingest reading bytes v in
+      let arrivals : arrivals_in h ++ a ∷ [] ≡ arrivals_in (h ++ e ∷ []) = ap (λ w. arrivals_in h ++ arrival_as ingest reading bytes w ∷ []) told ∙ sym (arrivals_more h e) in
+      let given : given_in h ≡ given_in (h ++ e ∷ []) = given_same h e refl in
+      record {
+        legal = entered_legal cfg h (Arrives ingest reading bytes) st.legal;
+        tips = tips_are ∙ ap (λ ys. map (tip_of cfg ys) (chains cfg)) arrivals;
+        held = held_are ∙ ap (λ ys. holdings cfg ys (given_in h)) arrivals ∙ ap (holdings cfg (arrivals_in (h ++ e ∷ []))) given;
+        waiting = waiting_are ∙ ap (λ ys. drop (given_in h) (released cfg ys)) arrivals ∙ ap (λ (g : ℕ). drop g (released cfg (arrivals_in (h ++ e ∷ [])))) given;
+        ended = st.ended ∙ ended_same h e cfg.ingests (λ k. refl);
+        counts = ap (counted v) st.counts ∙ sym (report_more (arrivals_in h) a (given_in h)) ∙ ap (λ ys. report_on ys (given_in h)) arrivals ∙ ap (report_on (arrivals_in (h ++ e ∷ []))) given;
+        calls = ap (λ (n : ℕ). n + 1) st.calls ∙ sym (length-append h (e ∷ []));
+      }
+
+  quiet_entered : (v : Verdict) → v ≡ verdict_of s.config (arrivals_in h) (given_in h) ingest reading bytes → takes_keys v ≡ false → Stands (entered_as v s) (h ++ entry_of s.config h (Arrives ingest reading bytes) ∷ [])
+  quiet_entered v told quiet =
+      let keeps = keeps_quiet s (arrivals_in h) (given_in h) (arrival_as ingest reading bytes v) (keeps_of s h st) (given_fits s.config h st.legal) quiet (quiet_packet v (frame_of bytes) quiet) in
+      entered v s.tips s.held s.waiting told keeps.tips keeps.held keeps.waiting
+
+  -- a frame whose keys are taken
+  taken_entered : (v : Verdict) (frame : Frame) → frame_of bytes ≡ Some frame → refusal s.config (arrivals_in h) (bound_at s reading) frame ≡ None → v ≡ verdict_taken s.config (arrivals_in h ++ late_arrival ingest reading bytes ∷ []) (given_in h) (bound_at s reading) frame → Stands (entered_with (with_keys s (new_rows s frame)) (bound_at s reading) frame v) (h ++ entry_of s.config h (Arrives ingest reading bytes) ∷ [])
+  taken_entered v frame read none e =
+      let cfg : Config = s.config in
+      let xs : List Arrival = arrivals_in h in
+      let given : ℕ = given_in h in
+      let late : Arrival = late_arrival ingest reading bytes in
+      let a : Arrival = arrival_as ingest reading bytes v in
+      let keeps = keeps_of s h st in
+      let few = given_fits cfg h st.legal in
+      let fits = fits_unrefused cfg xs (bound_at s reading) frame none in
+      let takes : takes_keys v ≡ true = ap takes_keys e ∙ takes_taken cfg (xs ++ late ∷ []) given (bound_at s reading) frame in
+      let new : new_rows s frame ≡ new_keys cfg xs a = new_same s xs given a frame keeps read takes fits in
+      let count : s.counts.arrivals ≡ length xs = ap (λ (r : Report). r.arrivals) st.counts in
+      let newer : (c : ℕ) → newest cfg (xs ++ a ∷ []) c ≡ newest cfg (xs ++ late ∷ []) c = λ c. newest_more cfg xs a c ∙ ap (greatest c (newest cfg xs c)) (same_taken cfg a Late takes) ∙ sym (newest_more cfg xs late c) in
+      entered v (with_keys s (new_rows s frame)).tips ((with_keys s (new_rows s frame)).held ++ own s.counts.arrivals v frame) (with_keys s (new_rows s frame)).waiting
+      (e ∙ verdict_taking cfg xs given ingest reading bytes frame (sym read) (sym none))
+      (ap (λ ks. (with_keys s ks).tips) new ∙ tips_keyed s xs given a keeps few)
+      (ap (λ ks. (with_keys s ks).held ++ own s.counts.arrivals v frame) new
+      ∙ ap (λ (n : ℕ). (with_keys s (new_keys cfg xs a)).held ++ own n v frame) count
+      ∙ ap (λ r. (with_keys s (new_keys cfg xs a)).held ++ r) (own_kept cfg xs (xs ++ late ∷ []) given ingest reading bytes (bound_at s reading) v frame read newer e)
+      ∙ held_keyed s xs given a keeps few)
+      (ap (λ ks. (with_keys s ks).waiting) new ∙ waiting_keyed s xs given a keeps few)
+
+  refused_entered : (frame : Frame) (o : Option Verdict) → frame_of bytes ≡ Some frame → refusal s.config (arrivals_in h) (bound_at s reading) frame ≡ o → Stands (entered_frame s (bound_at s reading) (Some frame) o) (h ++ entry_of s.config h (Arrives ingest reading bytes) ∷ [])
+  refused_entered frame (Some v) read e =
+      quiet_entered v (verdict_refused s.config (arrivals_in h) (given_in h) ingest reading bytes frame v (sym read) (sym e))
+      (quiet_refusal (not ((stream_of frame).0 == s.config.setup.stream.0)) (is_misfit s.config frame) (is_future s.config (bound_at s reading) frame) (stream_of frame) (bound_at s reading) (find (is_bad s.config (arrivals_in h)) (keys_of s.config frame)) v e)
+  refused_entered frame None read e =
+      taken_entered (judged_taken (with_keys s (new_rows s frame)) (bound_at s reading) frame) frame read e (taken_same s h st ingest reading bytes (bound_at s reading) frame read e)
+
+  frame_entered : (o : Option Frame) → frame_of bytes ≡ o → Stands (entered_frame s (bound_at s reading) o (refused_of s (bound_at s reading) o)) (h ++ entry_of s.config h (Arrives ingest reading bytes) ∷ [])
+  frame_entered None read = quiet_entered Malformed (verdict_malformed s.config (arrivals_in h) (given_in h) ingest reading bytes (sym read)) refl
+  frame_entered (Some frame) read =
+      refused_entered frame (refused s (bound_at s reading) frame) read (sym (refused_same s h (given_in h) st.legal (keeps_of s h st) (bound_at s reading) frame))
+
+-- what is kept after an arrival stands for the history with it
+pub stands_arrived : (s : State) (h : List Entry) → Stands s h → (ingest reading : ℕ) (bytes : List ℕ) → Stands (after_arrival s reading bytes) (h ++ entry_of s.config h (Arrives ingest reading bytes) ∷ [])
+unfolding after_arrival
+stands_arrived s h st ingest reading bytes = frame_entered s h st ingest reading bytes (frame_of bytes) refl
