@@ -28,3 +28,6 @@ pub mod Counts
 pub mod Keeping
 pub mod Judged
 pub mod Arriving
+pub mod Once
+pub mod Takes
+pub mod Ends

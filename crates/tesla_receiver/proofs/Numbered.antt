@@ -1,6 +1,7 @@
 -- What is gathered along numbered elements.
 use Rattle.std.proofs.Common.{◌≡◌, ℕ, zero, suc, ◌+◌, ◌≤◌, Bool, true, false, cond, ◌||◌, List, [], ◌∷◌, ◌++◌, length, flat_map, count_by, Option, Some, None, refl, sym, ap, subst, ◌∙◌, arith, append_assoc}
 use Rattle.std.specs.Prelude.{slice_get, find}
+use Rattle.std.specs.Option.{option_or}
 use Rattle.std.specs.List.{list_any, list_all, enumerate_from}
 use Rattle.std.proofs.Math.Bool.{or-false}
 use Rattle.std.proofs.lemmas.Bool.{or_left, or_right}
@@ -56,6 +57,31 @@ any_at q f m (y ∷ xs) (suc k) x at none =
     let next : m + 1 + k ≡ m + suc k = omega arith in
     list_any-append q (f (m, y)) (flat_map f (enumerate_from (m + 1) xs)) ∙ ap (λ b. b || list_any q (flat_map f (enumerate_from (m + 1) xs))) (none m y (λ e. omega (arith, e)))
     ∙ any_at q f (m + 1) xs k x at (λ j z other. none j z (λ e. other (omega (arith, e)))) ∙ ap (λ (n : ℕ). list_any q (f (n, x))) next
+
+-- ---- the first that passes
+
+or_none : {A : Type 0} (o : Option A) → option_or o None ≡ o
+or_none None = refl
+or_none (Some x) = refl
+
+find_after : {A B : Type 0} (q : B → Bool) (f : ℕ × A → List B) (m : ℕ) (xs : List A) → ((j : ℕ) (y : A) → m ≤ j → find q (f (j, y)) ≡ None) → find q (flat_map f (enumerate_from m xs)) ≡ None
+find_after q f m [] none = refl
+find_after q f m (x ∷ xs) none =
+    find-append q (f (m, x)) (flat_map f (enumerate_from (m + 1) xs)) ∙ ap (λ o. option_or o (find q (flat_map f (enumerate_from (m + 1) xs)))) (none m x (omega arith))
+    ∙ find_after q f (m + 1) xs (λ j y h. none j y (omega arith))
+
+-- where no other number gives one that passes
+pub find_at : {A B : Type 0} (q : B → Bool) (f : ℕ × A → List B) (m : ℕ) (xs : List A) (k : ℕ) (x : A) → slice_get xs k ≡ Some x → ((j : ℕ) (y : A) → (j ≡ m + k → ⊥) → find q (f (j, y)) ≡ None) → find q (flat_map f (enumerate_from m xs)) ≡ find q (f (m + k, x))
+find_at q f m [] k x at none = absurd (cc)
+find_at q f m (y ∷ xs) zero x at none =
+    let first : m ≡ m + 0 = omega arith in
+    find-append q (f (m, y)) (flat_map f (enumerate_from (m + 1) xs))
+    ∙ ap (option_or (find q (f (m, y)))) (find_after q f (m + 1) xs (λ j z h. none j z (λ e. omega (arith, e, h)))) ∙ or_none (find q (f (m, y)))
+    ∙ ap (λ z. find q (f (m, z))) (same_Some y x at) ∙ ap (λ (n : ℕ). find q (f (n, x))) first
+find_at q f m (y ∷ xs) (suc k) x at none =
+    let next : m + 1 + k ≡ m + suc k = omega arith in
+    find-append q (f (m, y)) (flat_map f (enumerate_from (m + 1) xs)) ∙ ap (λ o. option_or o (find q (flat_map f (enumerate_from (m + 1) xs)))) (none m y (λ e. omega (arith, e)))
+    ∙ find_at q f (m + 1) xs k x at (λ j z other. none j z (λ e. other (omega (arith, e)))) ∙ ap (λ (n : ℕ). find q (f (n, x))) next
 
 -- ---- how many
 

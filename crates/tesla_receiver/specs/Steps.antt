@@ -25,7 +25,29 @@ use Rattle.tesla_receiver.specs.Keys.{each_after, is_of, keys_of, leads_to}
 use Rattle.tesla_receiver.specs.Packets.{has_name, unless_named}
 use Rattle.tesla_receiver.specs.Report.{line_of}
 use Rattle.tesla_receiver.specs.State.{State, Holding, tag_in}
-use Rattle.tesla_receiver.specs.Tips.{raised}
+use Rattle.tesla_receiver.specs.Tips.{first_tip, raised}
+
+-- ---- an opening
+
+abbrev pub no_counts : Report
+no_counts = record {
+  arrivals = 0;
+  malformed = 0;
+  foreign = 0;
+  misfit = 0;
+  future = 0;
+  badkey = 0;
+  late = 0;
+  repeat = 0;
+  full = 0;
+  kept = 0;
+  keys = 0;
+  given = 0;
+}
+
+-- what is kept before any event: the commitments
+abbrev pub opened : Config → State
+opened cfg = record { config = cfg; tips = map (first_tip cfg) (chains cfg); held = []; waiting = []; ended = replicate cfg.ingests false; counts = no_counts; calls = 0 }
 
 -- ---- keys
 

@@ -17,6 +17,7 @@ mod proving;
 mod receiver;
 mod release;
 mod report;
+pub mod state_laws;
 mod taking;
 mod verdict;
 

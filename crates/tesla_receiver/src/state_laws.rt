@@ -1,0 +1,40 @@
+//! What a receiver keeps is enough: its state moves without the history and stands for it, as
+//! contracts of functions that do nothing.
+
+ghost use Rattle.std.specs.Prelude.{◌≡◌, ◌++◌, ◌∷◌, [], ℕ, List};
+ghost use Rattle.tesla_receiver.specs.declared.config.Config.{Config};
+ghost use Rattle.tesla_receiver.specs.declared.history.Entry.{Entry};
+ghost use Rattle.tesla_receiver.specs.Answer.{verdict_of};
+ghost use Rattle.tesla_receiver.specs.History.{Arrives, Takes, Ends, entry_of, reply_to, arrivals_in, given_in};
+ghost use Rattle.tesla_receiver.specs.State.{State, Stands};
+ghost use Rattle.tesla_receiver.specs.Steps.{opened, judged, after_arrival, reply_by, after_take, after_end};
+
+/// The state with the commitments alone stands for the empty history.
+pub fn openings()
+    ensures { (cfg : Config) → Stands (opened cfg) [] }
+{}
+
+/// An arrival, by the state alone.
+pub fn arrivals()
+    // Its verdict is the one by the history.
+    ensures verdict { (s : State) (h : List Entry) → Stands s h → (ingest reading : ℕ) (bytes : List ℕ) →
+        verdict_of s.config (arrivals_in h) (given_in h) ingest reading bytes ≡ judged s reading bytes }
+    // The state after it stands for the history with it.
+    ensures stands { (s : State) (h : List Entry) → Stands s h → (ingest reading : ℕ) (bytes : List ℕ) →
+        Stands (after_arrival s reading bytes) (h ++ entry_of s.config h (Arrives ingest reading bytes) ∷ []) }
+{}
+
+/// A take, by the state alone.
+pub fn takes()
+    // Its answer is the one by the history.
+    ensures reply { (s : State) (h : List Entry) → Stands s h → reply_to s.config h ≡ reply_by s }
+    // The state after it stands for the history with it.
+    ensures stands { (s : State) (h : List Entry) → Stands s h → (releaser : ℕ) →
+        Stands (after_take s) (h ++ entry_of s.config h (Takes releaser) ∷ []) }
+{}
+
+/// An end of an ingest, by the state alone: the state after it stands for the history with it.
+pub fn ends()
+    ensures { (s : State) (h : List Entry) → Stands s h → (ingest : ℕ) →
+        Stands (after_end s ingest) (h ++ entry_of s.config h (Ends ingest) ∷ []) }
+{}
