@@ -31,3 +31,4 @@ pub mod Arriving
 pub mod Once
 pub mod Takes
 pub mod Ends
+pub mod Consistent

@@ -70,7 +70,7 @@ pub released_once : (cfg : Config) (xs : List Arrival) (k : ℕ) (r : Release) �
 unfolding released
 released_once cfg xs k r at = firsts_once [] (candidates cfg xs) k r at
 
-all_called : (cfg : Config) (xs : List Arrival) (place : ℕ) (packet : Packet) → Brought xs place packet → list_all (is_called place packet.frame.name) (released cfg xs) ≡ true
+pub all_called : (cfg : Config) (xs : List Arrival) (place : ℕ) (packet : Packet) → Brought xs place packet → list_all (is_called place packet.frame.name) (released cfg xs) ≡ true
 unfolding released candidates
 all_called cfg xs place packet brought = firsts_pass (is_called place packet.frame.name) [] (each_after (batch cfg) [] xs) (candidates_called cfg xs place packet brought)
 

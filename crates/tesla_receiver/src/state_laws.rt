@@ -5,6 +5,7 @@ ghost use Rattle.std.specs.Prelude.{◌≡◌, ◌++◌, ◌∷◌, [], ℕ, Lis
 ghost use Rattle.tesla_receiver.specs.declared.config.Config.{Config};
 ghost use Rattle.tesla_receiver.specs.declared.history.Entry.{Entry};
 ghost use Rattle.tesla_receiver.specs.Answer.{verdict_of};
+ghost use Rattle.tesla_receiver.specs.Consistent.{IsConsistent};
 ghost use Rattle.tesla_receiver.specs.History.{Arrives, Takes, Ends, entry_of, reply_to, arrivals_in, given_in};
 ghost use Rattle.tesla_receiver.specs.State.{State, Stands};
 ghost use Rattle.tesla_receiver.specs.Steps.{opened, judged, after_arrival, reply_by, after_take, after_end};
@@ -37,4 +38,10 @@ pub fn takes()
 pub fn ends()
     ensures { (s : State) (h : List Entry) → Stands s h → (ingest : ℕ) →
         Stands (after_end s ingest) (h ++ entry_of s.config h (Ends ingest) ∷ []) }
+{}
+
+/// Every state that stands for a history fits its places and quotas, keeps its packets in order and
+/// none that could be let go, and has each packet that waits.
+pub fn consistency()
+    ensures { (s : State) (h : List Entry) → Stands s h → IsConsistent s }
 {}
