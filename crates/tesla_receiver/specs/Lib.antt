@@ -8,3 +8,4 @@ pub mod Book
 pub mod Report
 pub mod Played
 pub mod Replies
+pub mod Tips
