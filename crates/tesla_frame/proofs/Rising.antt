@@ -5,7 +5,7 @@ use Rattle.std.proofs.lemmas.Bool.{and_parts}
 use Rattle.tesla_base.specs.Front.{number_front}
 use Rattle.tesla_base.specs.declared.version.Version.{Version}
 use Rattle.tesla_base.proofs.Fronts.{bind_some, test_some, some_is}
-use Rattle.tesla_frame.specs.Frame.{KeysFrame, Frame, Data, Disclosure, ChainsRise}
+use Rattle.tesla_frame.specs.Frame.{KeysFrame, Data, Disclosure, ChainsRise}
 use Rattle.tesla_frame.specs.Reading.{key_row_at, rows_at, count_at, chains_rise, data_of, keys_of, body_of, version_at, frame_of}
 use Rattle.tesla_frame.proofs.Both.{rises}
 

@@ -1,5 +1,5 @@
 -- What an offered key is answered (RFC 4082, section 3.5, key tests).
-use Rattle.std.specs.Prelude.{ℕ, ◌-◌, ◌==◌, bytes_eq, if◌then◌else◌}
+use Rattle.std.specs.Prelude.{ℕ, ◌-◌, ◌==◌, Bool, true, false, bytes_eq, if◌then◌else◌}
 use Rattle.tesla_base.specs.declared.names.Key.{Key}
 use Rattle.tesla_prf.specs.Keys.{walk}
 use Rattle.tesla_keys.specs.declared.offer.Offer.{Offer}
@@ -19,3 +19,15 @@ abbrev pub IsGood : Offer → Type 0
 IsGood Old = ⊥
 IsGood (Good gap) = Unit {0}
 IsGood (Bad walked) = ⊥
+
+-- the key is above the newest one
+abbrev pub is_new : Offer → Bool
+is_new Old = false
+is_new (Good gap) = true
+is_new (Bad walked) = true
+
+-- the key is above the newest one and doesn't walk to it
+abbrev pub is_refused : Offer → Bool
+is_refused Old = false
+is_refused (Good gap) = false
+is_refused (Bad walked) = true

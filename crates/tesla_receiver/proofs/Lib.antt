@@ -18,3 +18,4 @@ pub mod Limits
 pub mod SafeChains
 pub mod Offers
 pub mod OneKey
+pub mod Tips

@@ -49,7 +49,7 @@ kept_pass p x kept true e h = and_from (p x) (list_all p kept) e h
 kept_pass p x kept false e h = h
 
 -- what a filter keeps passes
-filtered_pass : {A : Type 0} (p : A → Bool) (xs : List A) → list_all p (filter p xs) ≡ true
+pub filtered_pass : {A : Type 0} (p : A → Bool) (xs : List A) → list_all p (filter p xs) ≡ true
 filtered_pass p [] = refl
 filtered_pass p (x ∷ xs) = kept_pass p x (filter p xs) (p x) refl (filtered_pass p xs)
 

@@ -82,9 +82,9 @@ module _ (cfg : Config) (interval chain : ℕ) where
   numbered_few place [] = inl refl
   numbered_few place (row ∷ rows) = subst (λ own. AtMostOne own) (sym (own_both place row rows)) (elim (cases_Bool (place == chain)) [
     | inl e ↦ (let same : place ≡ chain = eqb-true place chain e in
-    let rest : filter (is_of chain) (carried cfg interval place row.key) ++ filter (is_of chain) (carried_from (place + 1) rows) ≡ filter (is_of chain) (carried cfg interval place row.key) =
-    ap (λ own. filter (is_of chain) (carried cfg interval place row.key) ++ own) (numbered_none (place + 1) rows (omega (arith, same))) ∙ append-nil (filter (is_of chain) (carried cfg interval place row.key)) in
-    subst (λ own. AtMostOne own) (sym rest) (carried_few cfg interval chain place row.key))
+        let rest : filter (is_of chain) (carried cfg interval place row.key) ++ filter (is_of chain) (carried_from (place + 1) rows) ≡ filter (is_of chain) (carried cfg interval place row.key) =
+        ap (λ own. filter (is_of chain) (carried cfg interval place row.key) ++ own) (numbered_none (place + 1) rows (omega (arith, same))) ∙ append-nil (filter (is_of chain) (carried cfg interval place row.key)) in
+        subst (λ own. AtMostOne own) (sym rest) (carried_few cfg interval chain place row.key))
     | inr e ↦ subst (λ own. AtMostOne (own ++ filter (is_of chain) (carried_from (place + 1) rows))) (sym (carried_other cfg interval chain place row.key e)) (numbered_few (place + 1) rows)
   ])
 
