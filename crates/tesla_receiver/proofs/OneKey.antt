@@ -113,7 +113,7 @@ swap_step p q row rows false true e f same = rw e same
 swap_step p q row rows false false e f same = same
 
 -- two filters, in either order
-filters_swap : (p q : KeyRow → Bool) (rows : List KeyRow) → filter p (filter q rows) ≡ filter q (filter p rows)
+pub filters_swap : (p q : KeyRow → Bool) (rows : List KeyRow) → filter p (filter q rows) ≡ filter q (filter p rows)
 filters_swap p q [] = refl
 filters_swap p q (row ∷ rows) = swap_step p q row rows (q row) (p row) refl refl (filters_swap p q rows)
 
