@@ -34,7 +34,7 @@ use Rattle.tesla_receiver.specs.Steps.{tip_at, is_newer, fails, new_rows, with_k
 use Rattle.tesla_receiver.specs.Tips.{tip_of}
 use Rattle.tesla_receiver.proofs.Batches.{TipsOf, is_open, is_seen, seen_held}
 use Rattle.tesla_receiver.proofs.Below.{same_test, find_same, filter_same, all_fail, passes_at}
-use Rattle.tesla_receiver.proofs.FromOffers.{bad_by_tip}
+use Rattle.tesla_receiver.proofs.Tips.{bad_offered}
 use Rattle.tesla_receiver.proofs.Keeping.{Keeps, tip_kept, tips_kept}
 use Rattle.tesla_receiver.proofs.Names.{first_named}
 use Rattle.tesla_receiver.proofs.Numbered.{count_gathered, count_all}
@@ -107,7 +107,7 @@ module _ (s : State) (h : List Entry) (given : ℕ) (legal : IsLegal s.config h)
   fails_same : (row : KeyRow) → nat_lt row.chain.0 (length s.config.setup.rows) ≡ true → fails s.tips row ≡ is_bad s.config (arrivals_in h) row
   fails_same row e =
       let within = ltb-true row.chain.0 (length s.config.setup.rows) e in
-      ap (λ (t : Tip). nat_lt t.index row.index && not (leads_to row t.index t.key)) (tip_kept s (arrivals_in h) given k row.chain.0 within) ∙ sym (bad_by_tip s.config h row legal within)
+      ap (λ (t : Tip). nat_lt t.index row.index && not (leads_to row t.index t.key)) (tip_kept s (arrivals_in h) given k row.chain.0 within) ∙ sym (bad_offered s.config h row legal)
 
   pub refused_same : (bound : Option ℕ) (frame : Frame) → refused s bound frame ≡ refusal s.config (arrivals_in h) bound frame
   refused_same bound frame =

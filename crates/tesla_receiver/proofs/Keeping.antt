@@ -26,7 +26,7 @@ use Rattle.tesla_receiver.specs.Steps.{no_tip, tip_at, tips_after, proves_on, re
 use Rattle.tesla_receiver.specs.Tips.{raised, tip_of}
 use Rattle.tesla_receiver.proofs.Batches.{TipsOf, all_held}
 use Rattle.tesla_receiver.proofs.Below.{got_below, map_numbered, passes_at}
-use Rattle.tesla_receiver.proofs.FromOffers.{tip_index, tip_more}
+use Rattle.tesla_receiver.proofs.Tips.{tip_index, tip_more}
 use Rattle.tesla_receiver.proofs.Gone.{Brought}
 use Rattle.tesla_receiver.proofs.HeldAfter.{over_same, passed_same, released_now, released_after, holdings_more}
 use Rattle.tesla_receiver.proofs.Passing.{none_found}

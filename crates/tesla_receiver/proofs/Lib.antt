@@ -19,7 +19,6 @@ pub mod SafeChains
 pub mod Below
 pub mod Numbered
 pub mod Names
-pub mod FromOffers
 pub mod Batches
 pub mod Owners
 pub mod HeldAfter
@@ -32,3 +31,6 @@ pub mod Once
 pub mod Takes
 pub mod Ends
 pub mod Consistent
+pub mod Offers
+pub mod OneKey
+pub mod Tips

@@ -1,13 +1,16 @@
 //! What is so of every history, as contracts of functions that do nothing.
 
-ghost use Rattle.std.specs.Prelude.{◌≡◌, ◌≤◌, ◌++◌, ◌∷◌, [], ℕ, Bool, List, Some, true, take, slice_get};
+ghost use Rattle.std.specs.Prelude.{◌≡◌, ◌<◌, ◌≤◌, ◌↔◌, ◌++◌, ◌∷◌, [], ℕ, Bool, List, Some, true, take, slice_get};
 ghost use Rattle.tesla_capture.specs.Capture.{Record};
+ghost use Rattle.tesla_frame.specs.declared.row.KeyRow.{KeyRow};
+ghost use Rattle.tesla_keys.specs.Offers.{offer_of, IsGood};
 ghost use Rattle.tesla_receiver.specs.declared.config.Config.{Config};
 ghost use Rattle.tesla_receiver.specs.declared.history.Arrival.{Arrival};
 ghost use Rattle.tesla_receiver.specs.declared.history.Entry.{Entry};
 ghost use Rattle.tesla_receiver.specs.declared.release.Release.{Release};
 ghost use Rattle.tesla_receiver.specs.History.{Event, event_of, entry_of, IsLegal, arrivals_in, given_in, held_in, held_of_interval};
-ghost use Rattle.tesla_receiver.specs.Keys.{newest};
+ghost use Rattle.tesla_receiver.specs.Keys.{newest, leads_to, is_good};
+ghost use Rattle.tesla_receiver.specs.Tips.{tip_of};
 ghost use Rattle.tesla_receiver.specs.Packets.{released};
 ghost use Rattle.tesla_receiver.specs.Report.{records_of, released_text};
 ghost use Rattle.tesla_receiver.specs.Played.{after_events, Finishes, played};
@@ -59,4 +62,17 @@ pub fn by_index()
 pub fn held_fits()
     ensures capacity { (cfg : Config) (h : List Entry) → IsLegal cfg h → held_in cfg h ≤ cfg.capacity }
     ensures quota { (cfg : Config) (h : List Entry) → IsLegal cfg h → (interval : ℕ) → held_of_interval cfg h interval ≤ cfg.quota }
+{}
+
+/// A key that is newer than those of its chain that were taken is good exactly where it walks to the newest of
+/// them, or to the commitment's where none was taken. So the answer of a verifier that holds this key decides.
+pub fn offer()
+    // One walk does for the walks to the commitment and to each key taken before.
+    ensures good { (cfg : Config) (h : List Entry) (row : KeyRow) → IsLegal cfg h → newest cfg (arrivals_in h) row.chain.0 < row.index →
+        (let tip = tip_of cfg (arrivals_in h) row.chain.0 in is_good cfg (arrivals_in h) row ≡ leads_to row tip.index tip.key) }
+    // The newest key of a chain is of its newest index.
+    ensures newest { (cfg : Config) (h : List Entry) (chain : ℕ) → (tip_of cfg (arrivals_in h) chain).index ≡ newest cfg (arrivals_in h) chain }
+    // A verifier that holds it answers good exactly to a good key.
+    ensures answer { (cfg : Config) (h : List Entry) (row : KeyRow) → IsLegal cfg h →
+        (IsGood (offer_of (tip_of cfg (arrivals_in h) row.chain.0) row.index row.key) ↔ is_good cfg (arrivals_in h) row ≡ true) }
 {}
