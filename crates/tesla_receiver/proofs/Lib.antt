@@ -32,3 +32,4 @@ pub mod Once
 pub mod Takes
 pub mod Ends
 pub mod Consistent
+pub mod Costs
