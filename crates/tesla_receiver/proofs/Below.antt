@@ -1,5 +1,5 @@
 -- Tests and functions that agree on the numbers below n, and elements that pass a test.
-use Rattle.std.proofs.Common.{◌≡◌, ℕ, zero, suc, ◌+◌, ◌<◌, ◌≤◌, Bool, true, false, cond, ◌&&◌, ◌||◌, List, [], ◌∷◌, ◌++◌, length, get_or, map, Option, Some, None, refl, sym, ap, subst, ⊎_elim, ◌∙◌, arith, add-zero}
+use Rattle.std.proofs.Common.{◌≡◌, ℕ, zero, suc, ◌+◌, ◌<◌, ◌≤◌, Bool, true, false, cond, ◌&&◌, ◌||◌, List, [], ◌∷◌, ◌++◌, length, get_or, map, take, Option, Some, None, refl, sym, ap, subst, ⊎_elim, ◌∙◌, arith, add-zero}
 use Rattle.std.specs.Prelude.{not, slice_get, find, filter}
 use Rattle.std.specs.List.{list_any, list_all, enumerate_from, range_with_len}
 use Rattle.std.proofs.lemmas.Bool.{and_parts, and_from, cases_Bool, or_parts, or_cases, or_left, or_right, not_from_false}
@@ -99,6 +99,13 @@ pub passes_at : {A : Type 0} (p : A → Bool) (xs : List A) (k : ℕ) (x : A) �
 passes_at p [] k x h at = absurd (cc)
 passes_at p (y ∷ xs) zero x h at = ap p (sym (same_Some y x at)) ∙ (and_parts (p y) (list_all p xs) h).0
 passes_at p (y ∷ xs) (suc k) x h at = passes_at p xs k x ((and_parts (p y) (list_all p xs) h).1) at
+
+-- an element that passes in a front
+pub any_taken : {A : Type 0} (p : A → Bool) (n : ℕ) (xs : List A) → list_any p (take n xs) ≡ true → list_any p xs ≡ true
+any_taken p zero xs h = absurd (cc)
+any_taken p (suc n) [] h = absurd (cc)
+any_taken p (suc n) (x ∷ xs) h =
+    ⊎_elim (λ e. or_left (p x) (list_any p xs) e) (λ e. or_right (p x) (list_any p xs) (any_taken p n xs e)) (or_cases (p x) (list_any p (take n xs)) h)
 
 -- ---- searches where the tests agree on what passes another
 

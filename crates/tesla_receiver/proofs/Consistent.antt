@@ -21,7 +21,7 @@ use Rattle.tesla_receiver.specs.State.{Holding, State, Stands, holding_of, held_
 use Rattle.tesla_receiver.specs.Steps.{in_interval, is_let_go, is_released, is_numbered}
 use Rattle.tesla_receiver.specs.Tips.{tip_of}
 use Rattle.tesla_receiver.proofs.Arriving.{keeps_of}
-use Rattle.tesla_receiver.proofs.Below.{Passes, passes_somewhere, passes_at}
+use Rattle.tesla_receiver.proofs.Below.{Passes, passes_somewhere, passes_at, any_taken}
 use Rattle.tesla_receiver.proofs.Gone.{Brought, is_called, called_same, same_name}
 use Rattle.tesla_receiver.proofs.Judged.{held_all, held_interval}
 use Rattle.tesla_receiver.proofs.Keeping.{none_let_go}
@@ -65,13 +65,6 @@ taken_at (x ∷ xs) (suc i) (suc n) less = taken_at xs i n (omega arith)
 
 any_before : {A : Type 0} (p : A → Bool) (xs : List A) (i n : ℕ) (x : A) → i < n → slice_get xs i ≡ Some x → p x ≡ true → list_any p (take n xs) ≡ true
 any_before p xs i n x less at h = list_any_got p (take n xs) i x (taken_at xs i n less ∙ at) h
-
--- an element that passes in a front
-any_taken : {A : Type 0} (p : A → Bool) (n : ℕ) (xs : List A) → list_any p (take n xs) ≡ true → list_any p xs ≡ true
-any_taken p zero xs h = absurd (cc)
-any_taken p (suc n) [] h = absurd (cc)
-any_taken p (suc n) (x ∷ xs) h =
-    ⊎_elim (λ e. or_left (p x) (list_any p xs) e) (λ e. or_right (p x) (list_any p xs) (any_taken p n xs e)) (or_cases (p x) (list_any p (take n xs)) h)
 
 numbers_long : {A : Type 0} (f : ℕ → A) (a n : ℕ) → length (map f (range_with_len a n)) ≡ n
 numbers_long f a zero = refl

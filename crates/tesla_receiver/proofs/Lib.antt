@@ -34,3 +34,4 @@ pub mod Consistent
 pub mod Offers
 pub mod OneKey
 pub mod Tips
+pub mod Costs

@@ -12,3 +12,4 @@ pub mod Tips
 pub mod State
 pub mod Steps
 pub mod Consistent
+pub mod Costs

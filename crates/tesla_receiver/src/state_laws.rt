@@ -6,6 +6,7 @@ ghost use Rattle.tesla_receiver.specs.declared.config.Config.{Config};
 ghost use Rattle.tesla_receiver.specs.declared.history.Entry.{Entry};
 ghost use Rattle.tesla_receiver.specs.Answer.{verdict_of};
 ghost use Rattle.tesla_receiver.specs.Consistent.{IsConsistent};
+ghost use Rattle.tesla_receiver.specs.Costs.{most_evaluations, most_by};
 ghost use Rattle.tesla_receiver.specs.History.{Arrives, Takes, Ends, entry_of, reply_to, arrivals_in, given_in};
 ghost use Rattle.tesla_receiver.specs.State.{State, Stands};
 ghost use Rattle.tesla_receiver.specs.Steps.{opened, judged, after_arrival, reply_by, after_take, after_end};
@@ -44,4 +45,10 @@ pub fn ends()
 /// none that could be let go, and has each packet that waits.
 pub fn consistency()
     ensures { (s : State) (h : List Entry) → Stands s h → IsConsistent s }
+{}
+
+/// The most evaluations of HMAC that an arrival may take: by the state alone they are those by the history.
+pub fn costs()
+    ensures { (s : State) (h : List Entry) → Stands s h → (reading : ℕ) (bytes : List ℕ) →
+        most_by s reading bytes ≡ most_evaluations s.config (arrivals_in h) reading bytes }
 {}

@@ -1,0 +1,152 @@
+-- What an arrival may cost by what a receiver keeps is what it may cost by the history.
+use Rattle.std.proofs.Common.{◌≡◌, ℕ, zero, suc, ◌+◌, ◌-◌, ◌*◌, ◌<◌, Bool, true, false, cond, ◌&&◌, ◌||◌, List, [], ◌∷◌, ◌++◌, length, take, flat_map, count_by, Option, Some, None, refl, sym, ap, subst, ⊎_elim, ◌∙◌, arith, ◌==◌, zero-add}
+use Rattle.std.specs.Prelude.{not, filter, slice_get, nat_lt}
+use Rattle.std.specs.List.{list_any, list_all, enumerate_from, range_with_len, sum_by}
+use Rattle.std.proofs.lemmas.Bool.{and_parts, and_from, and_cases, or_parts, or_left, or_right, or_cases, cases_Bool, not_from_false, both_ways, ltb-true}
+use Rattle.std.proofs.lemmas.List.Sums.{sum_by-cons, sum_by-append}
+use Rattle.tesla_clock.specs.Safe.{has_chain}
+use Rattle.tesla_frame.specs.Frame.{Frame}
+use Rattle.tesla_frame.specs.Reading.{frame_of}
+use Rattle.tesla_frame.specs.declared.row.KeyRow.{KeyRow}
+use Rattle.tesla_receiver.specs.declared.config.Config.{Config}
+use Rattle.tesla_receiver.specs.declared.history.Arrival.{Arrival}
+use Rattle.tesla_receiver.specs.declared.history.Entry.{Entry}
+use Rattle.tesla_receiver.specs.declared.packet.Packet.{Packet}
+use Rattle.tesla_receiver.specs.Answer.{stream_of, is_misfit, is_future}
+use Rattle.tesla_receiver.specs.Config.{chains}
+use Rattle.tesla_receiver.specs.Costs.{is_unread, has_reaching, newer_rows, gaps, is_reached, reached_on, pairs, most_of, most_evaluations, gaps_by, is_reached_by, reached_by, pairs_by, most_on, most_by}
+use Rattle.tesla_receiver.specs.Held.{is_at, has_passed, is_past, is_settled, is_gone}
+use Rattle.tesla_receiver.specs.History.{arrivals_in, given_in}
+use Rattle.tesla_receiver.specs.Keys.{keys_of, newest}
+use Rattle.tesla_receiver.specs.Packets.{packet_of, candidates, released}
+use Rattle.tesla_receiver.specs.State.{Holding, State, Stands, holding_of, held_at, holdings}
+use Rattle.tesla_receiver.specs.Steps.{tip_at, is_newer, new_rows, bound_at}
+use Rattle.tesla_receiver.proofs.Arriving.{keeps_of}
+use Rattle.tesla_receiver.proofs.Below.{filter_same, any_taken}
+use Rattle.tesla_receiver.proofs.Judged.{keys_within}
+use Rattle.tesla_receiver.proofs.Keeping.{Keeps, tips_kept}
+use Rattle.tesla_receiver.proofs.Owners.{released_proved}
+
+-- ---- sums
+
+-- what is summed along what numbered elements give
+sum_gathered : {A B : Type 0} (g : B → ℕ) (f : ℕ × A → List B) (t : ℕ × A → ℕ) (m : ℕ) (xs : List A) → ((n : ℕ) (x : A) → sum_by g (f (n, x)) ≡ t (n, x)) → sum_by g (flat_map f (enumerate_from m xs)) ≡ sum_by t (enumerate_from m xs)
+sum_gathered g f t m [] each = refl
+sum_gathered g f t m (x ∷ xs) each =
+    sum_by-append g (f (m, x)) (flat_map f (enumerate_from (m + 1) xs)) ∙ ap (λ n. n + sum_by g (flat_map f (enumerate_from (m + 1) xs))) (each m x)
+    ∙ ap (λ n. t (m, x) + n) (sum_gathered g f t (m + 1) xs each) ∙ sym (sum_by-cons t (m, x) (enumerate_from (m + 1) xs))
+
+-- the sums of functions that agree on what passes a test
+sum_same : {A : Type 0} (t : A → Bool) (f g : A → ℕ) (xs : List A) → list_all t xs ≡ true → ((x : A) → t x ≡ true → f x ≡ g x) → sum_by f xs ≡ sum_by g xs
+sum_same t f g [] h same = refl
+sum_same t f g (x ∷ xs) h same =
+    let parts = and_parts (t x) (list_all t xs) h in
+    sum_by-cons f x xs ∙ ap (λ n. n + sum_by f xs) (same x parts.0) ∙ ap (λ n. g x + n) (sum_same t f g xs parts.1 same) ∙ sym (sum_by-cons g x xs)
+
+all_if : {A : Type 0} (t : A → Bool) (x : A) (rest : List A) (b : Bool) → t x ≡ true → list_all t rest ≡ true → list_all t (cond b (x ∷ rest) rest) ≡ true
+all_if t x rest true h k = and_from (t x) (list_all t rest) h k
+all_if t x rest false h k = k
+
+-- what all pass, those that pass another test do too
+all_filtered : {A : Type 0} (t p : A → Bool) (xs : List A) → list_all t xs ≡ true → list_all t (filter p xs) ≡ true
+all_filtered t p [] h = refl
+all_filtered t p (x ∷ xs) h =
+    let parts = and_parts (t x) (list_all t xs) h in
+    all_if t x (filter p xs) (p x) parts.0 (all_filtered t p xs parts.1)
+
+count_below : (p q : ℕ → Bool) (a n : ℕ) → ((c : ℕ) → c < a + n → p c ≡ q c) → count_by p (range_with_len a n) ≡ count_by q (range_with_len a n)
+count_below p q a zero same = refl
+count_below p q a (suc n) same =
+    sum_by-cons (λ c. cond (p c) 1 0) a (range_with_len (a + 1) n) ∙ ap (λ b. cond b 1 0 + count_by p (range_with_len (a + 1) n)) (same a (omega arith))
+    ∙ ap (λ m. cond (q a) 1 0 + m) (count_below p q (a + 1) n (λ c h. same c (omega arith))) ∙ sym (sum_by-cons (λ c. cond (q c) 1 0) a (range_with_len (a + 1) n))
+
+-- ---- settled packets
+
+-- a packet that is released is settled, and so is one that is gone
+released_settled : (cfg : Config) (xs : List Arrival) (place : ℕ) (packet : Packet) → list_any (is_at place) (released cfg xs) ≡ true → is_settled cfg xs place packet ≡ true
+released_settled cfg xs place packet h = or_left (list_any (is_at place) (candidates cfg xs)) (list_all (is_past cfg xs packet) (chains cfg)) (released_proved cfg xs (is_at place) h)
+
+gone_settled : (cfg : Config) (xs : List Arrival) (given place : ℕ) (packet : Packet) → is_gone cfg xs given place packet ≡ true → is_settled cfg xs place packet ≡ true
+gone_settled cfg xs given place packet h =
+    ⊎_elim
+    (λ e. (and_parts (is_settled cfg xs place packet) (not (list_any (is_at place) (released cfg xs))) e).0)
+    (λ e. released_settled cfg xs place packet
+    (any_taken (is_at place) given (released cfg xs) ((and_parts (list_any (is_at place) (take given (released cfg xs))) (list_all (has_passed cfg xs packet.frame.name.interval) (chains cfg)) e).0)))
+    (or_cases (is_settled cfg xs place packet && not (list_any (is_at place) (released cfg xs))) (list_any (is_at place) (take given (released cfg xs)) && list_all (has_passed cfg xs packet.frame.name.interval) (chains cfg)) h)
+
+unsettled : (settled out t : Bool) → (settled && not out || t) ≡ false → out ≡ false → settled ≡ false
+unsettled settled out t stays waits =
+    ⊎_elim (λ e. e) (λ e. absurd (both_ways (not out) e (not_from_false out waits))) (and_cases settled (not out) ((or_parts (settled && not out) t stays).0))
+
+-- ---- the pairs
+
+module _ (s : State) (xs : List Arrival) (given : ℕ) (k : Keeps s xs given) (new : List KeyRow) where
+  reached_same : (place : ℕ) (packet : Packet) → count_by (is_reached_by s.tips new (holding_of s.config xs given place packet)) (chains s.config) ≡ count_by (is_reached s.config xs new packet) (chains s.config)
+  reached_same place packet =
+      count_below (is_reached_by s.tips new (holding_of s.config xs given place packet)) (is_reached s.config xs new packet) 0 (length s.config.setup.rows)
+      (λ c h. ap (λ (n : ℕ). has_chain packet.chains c && nat_lt n packet.frame.name.interval && has_reaching new packet.frame.name.interval c) (tips_kept s xs given k c (omega arith)))
+
+  item_reached : (place : ℕ) (packet : Packet) → is_gone s.config xs given place packet ≡ false → reached_by s new (holding_of s.config xs given place packet) ≡ reached_on s.config xs new place (Some packet)
+  item_reached place packet stays =
+      let count : ℕ = count_by (is_reached_by s.tips new (holding_of s.config xs given place packet)) (chains s.config) in
+      let named : ℕ = count_by (is_reached s.config xs new packet) (chains s.config) in
+      ⊎_elim
+      (λ out. ap (λ b. cond b 0 count) out ∙ ap (λ b. cond b 0 named) (sym (released_settled s.config xs place packet out)))
+      (λ waits. ap (λ b. cond b 0 count) waits ∙ reached_same place packet
+      ∙ ap (λ b. cond b 0 named) (sym (unsettled (is_settled s.config xs place packet) (list_any (is_at place) (released s.config xs)) (list_any (is_at place) (take given (released s.config xs)) && list_all (has_passed s.config xs packet.frame.name.interval) (chains s.config)) stays waits)))
+      (cases_Bool (list_any (is_at place) (released s.config xs)))
+
+  one_reached : (place : ℕ) (o : Option Packet) → sum_by (reached_by s new) (held_at s.config xs given place o) ≡ reached_on s.config xs new place o
+  one_reached place None = refl
+  one_reached place (Some packet) =
+      let item : Holding = holding_of s.config xs given place packet in
+      ⊎_elim
+      (λ gone. ap (λ b. sum_by (reached_by s new) (cond b [] (item ∷ []))) gone
+      ∙ ap (λ b. cond b 0 (count_by (is_reached s.config xs new packet) (chains s.config))) (sym (gone_settled s.config xs given place packet gone)))
+      (λ stays. ap (λ b. sum_by (reached_by s new) (cond b [] (item ∷ []))) stays ∙ zero-add (reached_by s new item) ∙ item_reached place packet stays)
+      (cases_Bool (is_gone s.config xs given place packet))
+
+  all_reached : sum_by (reached_by s new) s.held ≡ sum_by (λ (p : ℕ × Arrival). reached_on s.config xs new p.0 (packet_of p.1)) (enumerate_from 0 xs)
+  unfolding holdings
+  all_reached =
+      ap (sum_by (reached_by s new)) k.held
+      ∙ sum_gathered (reached_by s new) (λ (p : ℕ × Arrival). held_at s.config xs given p.0 (packet_of p.1)) (λ (p : ℕ × Arrival). reached_on s.config xs new p.0 (packet_of p.1)) 0 xs (λ n x. one_reached n (packet_of x))
+
+-- ---- a frame whose keys are looked at
+
+module _ (s : State) (xs : List Arrival) (given : ℕ) (k : Keeps s xs given) (frame : Frame) (fits : is_misfit s.config frame ≡ false) where
+  rows_same : new_rows s frame ≡ newer_rows s.config xs frame
+  rows_same =
+      filter_same (λ row. nat_lt row.chain.0 (length s.config.setup.rows)) (is_newer s.tips) (λ row. nat_lt (newest s.config xs row.chain.0) row.index) (keys_of s.config frame) (keys_within s.config frame fits)
+      (λ row e. ap (λ (n : ℕ). nat_lt n row.index) (tips_kept s xs given k row.chain.0 (ltb-true row.chain.0 (length s.config.setup.rows) e)))
+
+  gaps_same : gaps_by s frame ≡ gaps s.config xs frame
+  gaps_same =
+      ap (sum_by (λ (row : KeyRow). row.index - (tip_at s.tips row.chain.0).index)) rows_same
+      ∙ sum_same (λ row. nat_lt row.chain.0 (length s.config.setup.rows)) (λ row. row.index - (tip_at s.tips row.chain.0).index) (λ row. row.index - newest s.config xs row.chain.0) (newer_rows s.config xs frame)
+      (all_filtered (λ row. nat_lt row.chain.0 (length s.config.setup.rows)) (λ row. nat_lt (newest s.config xs row.chain.0) row.index) (keys_of s.config frame) (keys_within s.config frame fits))
+      (λ row e. ap (λ (n : ℕ). row.index - n) (tips_kept s xs given k row.chain.0 (ltb-true row.chain.0 (length s.config.setup.rows) e)))
+
+  pairs_same : pairs_by s frame ≡ pairs s.config xs frame
+  pairs_same = ap (λ new. sum_by (reached_by s new) s.held) rows_same ∙ all_reached s xs given k (newer_rows s.config xs frame)
+
+-- ---- an arrival
+
+read_fits : (a b c : Bool) → (a || b || c) ≡ false → b ≡ false
+read_fits a b c h = (or_parts a b ((or_parts (a || b) c h).0)).1
+
+unless_same : (b : Bool) (m n : ℕ) → (b ≡ false → m ≡ n) → cond b 0 m ≡ cond b 0 n
+unless_same true m n same = refl
+unless_same false m n same = same refl
+
+most_same : (s : State) (xs : List Arrival) (given : ℕ) → Keeps s xs given → (bound : Option ℕ) (o : Option Frame) → most_on s bound o ≡ most_of s.config xs bound o
+most_same s xs given k bound None = refl
+most_same s xs given k bound (Some frame) =
+    unless_same (is_unread s.config bound frame) (2 * gaps_by s frame + 2 * pairs_by s frame) (2 * gaps s.config xs frame + 2 * pairs s.config xs frame)
+    (λ read. let fits = read_fits (not ((stream_of frame).0 == s.config.setup.stream.0)) (is_misfit s.config frame) (is_future s.config bound frame) read in
+    ap (λ (n : ℕ). 2 * n + 2 * pairs_by s frame) (gaps_same s xs given k frame fits) ∙ ap (λ (n : ℕ). 2 * gaps s.config xs frame + 2 * n) (pairs_same s xs given k frame fits))
+
+-- the most evaluations by what a receiver keeps are those by the history
+pub cost_same : (s : State) (h : List Entry) → Stands s h → (reading : ℕ) (bytes : List ℕ) → most_by s reading bytes ≡ most_evaluations s.config (arrivals_in h) reading bytes
+unfolding most_by most_evaluations
+cost_same s h st reading bytes = most_same s (arrivals_in h) (given_in h) (keeps_of s h st) (bound_at s reading) (frame_of bytes)
