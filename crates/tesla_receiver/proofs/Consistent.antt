@@ -294,11 +294,11 @@ consistent s h st =
       ended = ap length st.ended ∙ numbers_long (has_end h) 0 cfg.ingests;
       few = omega (arith, held_few, held_count);
       quota = λ interval. (let own_few : held_of cfg xs given (Some interval) ≤ cfg.quota = quota_kept cfg h st.legal interval in
-      let own_count : count_by (in_interval interval) s.held ≡ held_of cfg xs given (Some interval) = ap (count_by (in_interval interval)) st.held ∙ held_interval cfg xs given interval in
-      omega (arith, own_few, own_count));
+          let own_count : count_by (in_interval interval) s.held ≡ held_of cfg xs given (Some interval) = ap (count_by (in_interval interval)) st.held ∙ held_interval cfg xs given interval in
+          omega (arith, own_few, own_count));
       rise = rise;
       numbered = λ k item at. (let below = slice_get_within xs item.order (from k item at).brought.arrival (from k item at).brought.at in
-      let count : s.counts.arrivals ≡ length xs = ap (λ (c : Report). c.arrivals) st.counts in omega (arith, below, count));
+          let count : s.counts.arrivals ≡ length xs = ap (λ (c : Report). c.arrivals) st.counts in omega (arith, below, count));
       stays = λ k item at. not-true (is_let_go cfg s.tips [] item) (passes_at (λ i. not (is_let_go cfg s.tips [] i)) s.held k item (none_let_go s xs given (keeps_of s h st)) at);
       taken = λ k item at e. (let same = (from k item at).same in ap (λ (i : Holding). i.released) same ∙ any_taken (is_at item.order) given (released cfg xs) (sym (ap (λ (i : Holding). i.taken) same) ∙ e));
       names = λ j k a b at there out_a out_b same. one_place 0 s.held j k a b rise at there (same_order cfg xs given a b (from j a at) (from k b there) out_a out_b same);
