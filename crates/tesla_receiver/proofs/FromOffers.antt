@@ -10,7 +10,7 @@ use Rattle.tesla_receiver.specs.declared.history.Arrival.{Arrival}
 use Rattle.tesla_receiver.specs.declared.history.Entry.{Entry}
 use Rattle.tesla_receiver.specs.Answer.{is_bad}
 use Rattle.tesla_receiver.specs.History.{IsLegal, arrivals_in}
-use Rattle.tesla_receiver.specs.Keys.{each_after, is_of, greatest, newest, new_keys, fresh_keys, leads_to}
+use Rattle.tesla_receiver.specs.Keys.{each_after, is_of, greatest, newest, new_keys, fresh_keys, leads_to, is_good}
 use Rattle.tesla_receiver.specs.Tips.{first_tip, raised, tip_of}
 use Rattle.tesla_receiver.proofs.EachAfter.{each_after_more}
 use Rattle.tesla_receiver.proofs.Newest.{newest_fresh}
@@ -43,6 +43,17 @@ tip_more cfg arrivals arrival chain =
     ap (fold (raised chain) (first_tip cfg chain)) (each_after_more (new_keys cfg) arrivals arrival)
     ∙ fold-append (raised chain) (first_tip cfg chain) (each_after (new_keys cfg) [] arrivals) (new_keys cfg arrivals arrival)
 
--- after a legal history a key that is newer is bad where it doesn't walk to the newest of its chain
+-- after a legal history a key that is newer is good exactly where it walks to the newest of its chain
+pub good_by_tip : (cfg : Config) (h : List Entry) (row : KeyRow) → IsLegal cfg h → row.chain.0 < length cfg.setup.rows → nat_lt (newest cfg (arrivals_in h) row.chain.0) row.index ≡ true → is_good cfg (arrivals_in h) row ≡ leads_to row (tip_of cfg (arrivals_in h) row.chain.0).index (tip_of cfg (arrivals_in h) row.chain.0).key
+good_by_tip cfg h row legal within newer = ?
+
+where_newer : (b good walks : Bool) → (b ≡ true → good ≡ walks) → (b && not good) ≡ (b && not walks)
+where_newer true good walks same = ap not (same refl)
+where_newer false good walks same = refl
+
+-- after a legal history a key is bad where it is newer and doesn't walk to the newest of its chain
 pub bad_by_tip : (cfg : Config) (h : List Entry) (row : KeyRow) → IsLegal cfg h → row.chain.0 < length cfg.setup.rows → is_bad cfg (arrivals_in h) row ≡ (nat_lt (tip_of cfg (arrivals_in h) row.chain.0).index row.index && not (leads_to row (tip_of cfg (arrivals_in h) row.chain.0).index (tip_of cfg (arrivals_in h) row.chain.0).key))
-bad_by_tip cfg h row legal within = ?
+bad_by_tip cfg h row legal within =
+    let tip : Tip = tip_of cfg (arrivals_in h) row.chain.0 in
+    where_newer (nat_lt (newest cfg (arrivals_in h) row.chain.0) row.index) (is_good cfg (arrivals_in h) row) (leads_to row tip.index tip.key) (good_by_tip cfg h row legal within)
+    ∙ ap (λ (n : ℕ). nat_lt n row.index && not (leads_to row tip.index tip.key)) (sym (tip_index cfg (arrivals_in h) row.chain.0))

@@ -33,3 +33,4 @@ pub mod Takes
 pub mod Ends
 pub mod Consistent
 pub mod Costs
+pub mod States
