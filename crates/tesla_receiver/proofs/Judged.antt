@@ -55,7 +55,7 @@ carried_within : (cfg : Config) (n interval chain : ℕ) (key : Option Key) → 
 carried_within cfg n interval chain None h = refl
 carried_within cfg n interval chain (Some key) h = within_if n chain (interval - (chain_row cfg chain).delay) key (nat_lt interval (chain_row cfg chain).delay) h
 
-data_long : (a b c d e : Bool) → (a || b || not c || d || e) ≡ false → c ≡ true
+pub data_long : (a b c d e : Bool) → (a || b || not c || d || e) ≡ false → c ≡ true
 data_long a b true d e h = refl
 data_long true true false d e h = absurd (cc)
 data_long true false false d e h = absurd (cc)

@@ -34,3 +34,4 @@ pub mod Ends
 pub mod Consistent
 pub mod Costs
 pub mod States
+pub mod Bounded

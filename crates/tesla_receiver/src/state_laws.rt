@@ -1,7 +1,8 @@
 //! What a receiver keeps is enough: its state moves without the history and stands for it, as
 //! contracts of functions that do nothing.
 
-ghost use Rattle.std.specs.Prelude.{◌≡◌, ◌++◌, ◌∷◌, [], ℕ, List, length, count_by};
+ghost use Rattle.std.specs.Prelude.{◌≡◌, ◌≤◌, ◌+◌, ◌*◌, ◌++◌, ◌∷◌, [], ℕ, List, length, count_by};
+ghost use Rattle.tesla_base.specs.Front.{AreBytes};
 ghost use Rattle.tesla_receiver.specs.declared.config.Config.{Config};
 ghost use Rattle.tesla_receiver.specs.declared.history.Entry.{Entry};
 ghost use Rattle.tesla_receiver.specs.Answer.{verdict_of};
@@ -62,8 +63,12 @@ pub fn consistency()
     ensures { (s : State) (h : List Entry) → Stands s h → IsConsistent s }
 {}
 
-/// The most evaluations of HMAC that an arrival may take: by the state alone they are those by the history.
+/// The most evaluations of HMAC that an arrival may take.
 pub fn costs()
-    ensures { (s : State) (h : List Entry) → Stands s h → (reading : ℕ) (bytes : List ℕ) →
+    // By the state alone they are those by the history.
+    ensures same { (s : State) (h : List Entry) → Stands s h → (reading : ℕ) (bytes : List ℕ) →
         most_by s reading bytes ≡ most_evaluations s.config (arrivals_in h) reading bytes }
+    // However long the history is, they are within what the setup and the capacity give.
+    ensures bounded { (cfg : Config) (h : List Entry) → IsLegal cfg h → (reading : ℕ) (bytes : List ℕ) → AreBytes bytes →
+        most_evaluations cfg (arrivals_in h) reading bytes ≤ 2 * (length cfg.setup.rows * cfg.setup.times.last) + 2 * (cfg.capacity * length cfg.setup.rows) }
 {}
