@@ -1,9 +1,10 @@
 -- What an arrival may cost doesn't grow with the history.
-use Rattle.std.proofs.Common.{◌≡◌, ℕ, zero, suc, ◌+◌, ◌-◌, ◌*◌, ◌<◌, ◌≤◌, Bool, true, false, cond, ◌&&◌, ◌||◌, List, [], ◌∷◌, ◌++◌, length, length-append, flat_map, count_by, Option, Some, None, refl, sym, ap, subst, ⊎_elim, ◌∙◌, arith, ◌==◌}
-use Rattle.std.specs.Prelude.{not, filter, slice_get, nat_lt, nat_le}
-use Rattle.std.specs.List.{list_any, list_all, enumerate_from, range_with_len, sum_by}
+use Rattle.std.proofs.Common.{◌≡◌, ℕ, ◌+◌, ◌-◌, ◌*◌, ◌≤◌, Bool, true, false, cond, ◌||◌, List, [], ◌∷◌, length, length-append, flat_map, count_by, Option, Some, None, refl, subst, arith, ◌==◌}
+use Rattle.std.specs.Prelude.{not, nat_lt, nat_le}
+use Rattle.std.specs.List.{list_any, list_all, enumerate_from, sum_by}
 use Rattle.std.proofs.Math.Nat.{suc-mul, mul-le-mul_right}
 use Rattle.std.proofs.lemmas.Bool.{and_parts, and_from, or_parts, not-true, ltb-true, ltb-false, leb-true, le-leb, eqb-true}
+use Rattle.std.proofs.lemmas.List.FromFn.{length-range_with_len}
 use Rattle.std.proofs.lemmas.List.Sums.{sum_by-cons, count_by-le-length}
 use Rattle.tesla_base.specs.Version.{number_of}
 use Rattle.tesla_base.specs.declared.names.Key.{Key}
@@ -19,9 +20,9 @@ use Rattle.tesla_receiver.specs.Config.{chains, chain_row}
 use Rattle.tesla_receiver.specs.Costs.{is_unread, most_evaluations, gaps_by, is_reached_by, reached_by, pairs_by, most_on, most_by}
 use Rattle.tesla_receiver.specs.History.{IsLegal, arrivals_in}
 use Rattle.tesla_receiver.specs.Keys.{carried, keys_of}
-use Rattle.tesla_receiver.specs.State.{Holding, State, Stands}
+use Rattle.tesla_receiver.specs.State.{Holding, State}
 use Rattle.tesla_receiver.specs.Steps.{tip_at, is_newer, new_rows, bound_at}
-use Rattle.tesla_receiver.proofs.Below.{all_fail}
+use Rattle.tesla_receiver.proofs.Below.{all_fail, filter_shorter}
 use Rattle.tesla_receiver.proofs.Consistent.{consistent}
 use Rattle.tesla_receiver.proofs.Costs.{all_filtered, cost_same, read_fits}
 use Rattle.tesla_receiver.proofs.Judged.{data_long, keys_within}
@@ -41,18 +42,6 @@ sum_most f most t (x ∷ xs) h small =
 all_true : {A : Type 0} (xs : List A) → list_all (λ (x : A). true) xs ≡ true
 all_true [] = refl
 all_true (x ∷ xs) = all_true xs
-
-kept_long : {A : Type 0} (x : A) (rest : List A) (b : Bool) → length (cond b (x ∷ rest) rest) ≤ suc (length rest)
-kept_long x rest true = omega arith
-kept_long x rest false = omega arith
-
-filter_fewer : {A : Type 0} (p : A → Bool) (xs : List A) → length (filter p xs) ≤ length xs
-filter_fewer p [] = omega arith
-filter_fewer p (x ∷ xs) = let rest = filter_fewer p xs in let step = kept_long x (filter p xs) (p x) in omega (arith, rest, step)
-
-range_long : (a n : ℕ) → length (range_with_len a n) ≡ n
-range_long a zero = refl
-range_long a (suc n) = ap suc (range_long (a + 1) n)
 
 gathered_fewer : {A B : Type 0} (f : ℕ × A → List B) (m : ℕ) (xs : List A) → ((n : ℕ) (x : A) → length (f (n, x)) ≤ 1) → length (flat_map f (enumerate_from m xs)) ≤ length xs
 gathered_fewer f m [] few = omega arith
@@ -138,7 +127,7 @@ module _ (s : State) (bytes : List ℕ) (are : AreBytes bytes) where
       let fields = (or_parts (not (number_of (version_in frame) == number_of s.config.setup.version)) (fields_misfit s.config frame) fits).1 in
       let until = all_filtered (is_until last) (is_newer s.tips) (keys_of s.config frame) (keys_until s.config frame fields) in
       let sum = sum_most (λ row. row.index - (tip_at s.tips row.chain.0).index) last (is_until last) (new_rows s frame) until (λ row e. (let below = leb-true row.index last e in omega (arith, below))) in
-      let fewer = filter_fewer (is_newer s.tips) (keys_of s.config frame) in
+      let fewer = filter_shorter (is_newer s.tips) (keys_of s.config frame) in
       let few = keys_few s.config bytes frame are read fits in
       let long : length (new_rows s frame) ≤ length s.config.setup.rows = omega (arith, fewer, few) in
       let more : length (new_rows s frame) * last ≤ length s.config.setup.rows * last = mul-le-mul_right last long in
@@ -148,7 +137,7 @@ module _ (s : State) (bytes : List ℕ) (are : AreBytes bytes) where
   item_few new item true = omega arith
   item_few new item false =
       let count = count_by-le-length (is_reached_by s.tips new item) (chains s.config) in
-      let long = range_long 0 (length s.config.setup.rows) in
+      let long = length-range_with_len 0 (length s.config.setup.rows) in
       omega (arith, count, long)
 
   pairs_few : (frame : Frame) → length s.held ≤ s.config.capacity → pairs_by s frame ≤ s.config.capacity * length s.config.setup.rows
