@@ -1,6 +1,6 @@
 -- Tests and functions that agree on the numbers below n, and elements that pass a test.
-use Rattle.std.proofs.Common.{◌≡◌, ℕ, zero, suc, ◌+◌, ◌<◌, ◌≤◌, Bool, true, false, cond, ◌&&◌, ◌||◌, List, [], ◌∷◌, length, get_or, map, take, Option, Some, refl, sym, ap, ⊎_elim, ◌∙◌, arith}
-use Rattle.std.specs.Prelude.{not, slice_get, find, filter}
+use Rattle.std.proofs.Common.{◌≡◌, ℕ, zero, suc, ◌+◌, ◌<◌, ◌≤◌, Bool, true, false, cond, ◌&&◌, ◌||◌, List, [], ◌∷◌, length, get_or, map, take, Option, None, Some, refl, sym, ap, ⊎_elim, ◌∙◌, arith}
+use Rattle.std.specs.Prelude.{not, slice_get, find, filter, option_map}
 use Rattle.std.specs.List.{list_any, list_all, enumerate_from, range_with_len}
 use Rattle.std.proofs.lemmas.Bool.{and_parts, and_from, cases_Bool, or_parts, or_cases, or_left, or_right, not_from_false}
 use Rattle.std.proofs.lemmas.List.FromFn.{get_or-map-range_with_len}
@@ -121,6 +121,25 @@ all_fail p [] h = refl
 all_fail p (x ∷ xs) h =
     let parts = or_parts (p x) (list_any p xs) h in
     and_from (not (p x)) (list_all (λ y. not (p y)) xs) (not_from_false (p x) parts.0) (all_fail p xs parts.1)
+
+-- ---- the first
+
+abbrev pub first_in : {A : Type 0} → List A → Option A
+first_in [] = None
+first_in (x ∷ xs) = Some x
+
+first_if : {A : Type 0} (x : A) (rest : List A) (o : Option A) (b : Bool) → o ≡ first_in rest → cond b (Some x) o ≡ first_in (cond b (x ∷ rest) rest)
+first_if x rest o true e = refl
+first_if x rest o false e = e
+
+-- what is found is the first of those that pass
+pub found_first : {A : Type 0} (p : A → Bool) (xs : List A) → find p xs ≡ first_in (filter p xs)
+found_first p [] = refl
+found_first p (x ∷ xs) = first_if x (filter p xs) (find p xs) (p x) (found_first p xs)
+
+pub first_map : {A B : Type 0} (f : A → B) (xs : List A) → first_in (map f xs) ≡ option_map f (first_in xs)
+first_map f [] = refl
+first_map f (x ∷ xs) = refl
 
 -- ---- how many
 

@@ -4,6 +4,7 @@ use Rattle.std.specs.Prelude.{not, find, filter, slice_get}
 use Rattle.std.specs.List.{list_any, enumerate_from}
 use Rattle.std.proofs.lemmas.Bool.{or_left, or_right, or_cases, cases_order, both_ways, cases_Bool, not-true, not_from_false, false_from_ne_true, eq-eqb, eqb-true, ne_eqb}
 use Rattle.std.proofs.lemmas.List.FromFn.{length-map-range_with_len}
+use Rattle.std.proofs.lemmas.Map.Views.{any-filter_same}
 use Rattle.std.proofs.lemmas.Option.{same_Some, slice_get_within}
 use Rattle.tesla_base.specs.declared.names.Name.{Name}
 use Rattle.tesla_base.proofs.Lists.{list_any_got}
@@ -83,15 +84,6 @@ found_filtered p q (y ∷ xs) x h good =
     any_filtered p q y (filter q xs) (q y) refl e (ap q same ∙ good))
     (λ e. any_rest p y (filter q xs) (q y) (found_filtered p q xs x (sym (ap (λ b. cond b (Some y) (find p xs)) e) ∙ h) good))
     (cases_Bool (p y))
-
--- what passes stands among those that pass another test, where that is weaker
-any_kept : {A : Type 0} (p q : A → Bool) (xs : List A) → ((x : A) → p x ≡ true → q x ≡ true) → list_any p xs ≡ true → list_any p (filter q xs) ≡ true
-any_kept p q [] good h = absurd (cc)
-any_kept p q (x ∷ xs) good h =
-    ⊎_elim
-    (λ e. any_filtered p q x (filter q xs) (q x) refl e (good x e))
-    (λ e. any_rest p x (filter q xs) (q x) (any_kept p q xs good e))
-    (or_cases (p x) (list_any p xs) h)
 
 -- ---- the packets in order
 
@@ -248,9 +240,9 @@ all_numbered (r ∷ rs) held stand apart =
     let others : List Holding = filter (λ item. not (is_numbered r.place item)) held in
     let fewer = fails_fewer (is_numbered r.place) held (stand 0 r refl) in
     let rest = all_numbered rs others
-    (λ k q at. any_kept (is_numbered q.place) (λ item. not (is_numbered r.place item)) held
-    (λ item e. not_from_false (is_numbered r.place item) (ne_eqb item.order r.place (λ same. let clash : 0 ≡ suc k = apart 0 (suc k) r q refl at (sym same ∙ eqb-true item.order q.place e) in omega (arith, clash))))
-    (stand (suc k) q at))
+    (λ k q at. any-filter_same (is_numbered q.place) (λ item. not (is_numbered r.place item)) true
+    (λ item e. not_from_false (is_numbered r.place item) (ne_eqb item.order r.place (λ same. let clash : 0 ≡ suc k = apart 0 (suc k) r q refl at (sym same ∙ eqb-true item.order q.place e) in omega (arith, clash)))) held
+    ∙ stand (suc k) q at)
     (λ j k a b at there same. let one : suc j ≡ suc k = apart (suc j) (suc k) a b at there same in omega (arith, one)) in
     omega (arith, fewer, rest)
 

@@ -35,3 +35,5 @@ pub mod Consistent
 pub mod Costs
 pub mod States
 pub mod Bounded
+pub mod Rows
+pub mod TipsByRows

@@ -25,6 +25,7 @@ use Rattle.tesla_receiver.specs.Steps.{is_passed, payload_held, is_numbered, pay
 use Rattle.tesla_receiver.specs.Tips.{tip_of}
 use Rattle.tesla_receiver.proofs.Arriving.{keeps_of}
 use Rattle.tesla_receiver.proofs.Batches.{TipsOf}
+use Rattle.tesla_receiver.proofs.Below.{first_in}
 use Rattle.tesla_receiver.proofs.HeldAfter.{passed_same}
 use Rattle.tesla_receiver.proofs.Keeping.{tips_kept}
 use Rattle.tesla_receiver.proofs.Legal.{arrivals_same, given_take}
@@ -33,10 +34,6 @@ use Rattle.tesla_receiver.proofs.Once.{place_once, next_out, untaken_stays, payl
 use Rattle.tesla_receiver.proofs.Standing.{entered_legal, ended_same}
 
 -- ---- lists
-
-abbrev pub first_in : {A : Type 0} → List A → Option A
-first_in [] = None
-first_in (x ∷ xs) = Some x
 
 pub next_first : {A : Type 0} (xs : List A) (n : ℕ) → slice_get xs n ≡ first_in (drop n xs)
 next_first [] zero = refl
