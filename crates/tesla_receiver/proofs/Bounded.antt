@@ -9,10 +9,9 @@ use Rattle.std.proofs.lemmas.List.Sums.{sum_by-cons, count_by-le-length}
 use Rattle.tesla_base.specs.Version.{number_of}
 use Rattle.tesla_base.specs.declared.names.Key.{Key}
 use Rattle.tesla_base.proofs.Lists.{list_all_weaker}
-use Rattle.tesla_frame.specs.Frame.{Frame, Data, Disclosure, TagRow, AreBytes, ChainsRise}
+use Rattle.tesla_frame.specs.Frame.{Frame, Data, Disclosure, TagRow, ChainsRise}
 use Rattle.tesla_frame.specs.Reading.{frame_of}
 use Rattle.tesla_frame.specs.declared.row.KeyRow.{KeyRow}
-use Rattle.tesla_frame.proofs.Both.{frame_takes}
 use Rattle.tesla_receiver.specs.declared.config.Config.{Config}
 use Rattle.tesla_receiver.specs.declared.history.Entry.{Entry}
 use Rattle.tesla_receiver.specs.Answer.{stream_of, version_in, is_early, is_outside, fields_misfit, is_misfit, is_future}
@@ -25,6 +24,7 @@ use Rattle.tesla_receiver.specs.Steps.{tip_at, is_newer, new_rows, bound_at}
 use Rattle.tesla_receiver.proofs.Below.{all_fail, filter_shorter}
 use Rattle.tesla_receiver.proofs.Consistent.{consistent}
 use Rattle.tesla_receiver.proofs.Costs.{all_filtered, cost_same, read_fits}
+use Rattle.tesla_receiver.proofs.FrameRows.{rows_rise}
 use Rattle.tesla_receiver.proofs.Judged.{data_long, keys_within}
 use Rattle.tesla_receiver.proofs.Passing.{all_enumerated}
 use Rattle.tesla_receiver.proofs.States.{state_of, stands_of}
@@ -74,8 +74,8 @@ rows_few : (n : ℕ) (rows : List KeyRow) → ChainsRise rows → list_all (λ r
 rows_few n [] rise within = omega arith
 rows_few n (first ∷ rows) rise within = let all = rise_few n first rows rise within in omega (arith, all)
 
-keys_few : (cfg : Config) (bytes : List ℕ) (frame : Frame) → AreBytes bytes → frame_of bytes ≡ Some frame → is_misfit cfg frame ≡ false → length (keys_of cfg frame) ≤ length cfg.setup.rows
-keys_few cfg bytes (Data f) are read fits =
+keys_few : (cfg : Config) (bytes : List ℕ) (frame : Frame) → frame_of bytes ≡ Some frame → is_misfit cfg frame ≡ false → length (keys_of cfg frame) ≤ length cfg.setup.rows
+keys_few cfg bytes (Data f) read fits =
     let fields = (or_parts (not (number_of (version_in (Data f)) == number_of cfg.setup.version)) (fields_misfit cfg (Data f)) fits).1 in
     let long : length f.rows ≡ length cfg.setup.rows =
     eqb-true (length f.rows) (length cfg.setup.rows)
@@ -83,7 +83,7 @@ keys_few cfg bytes (Data f) are read fits =
     (list_any (λ (p : ℕ × TagRow). is_early cfg f.name.interval p.0 p.1.key) (enumerate_from 0 f.rows)) fields) in
     let few = gathered_fewer (λ (p : ℕ × TagRow). carried cfg f.name.interval p.0 p.1.key) 0 f.rows (λ n row. carried_few cfg f.name.interval n row.key) in
     omega (arith, few, long)
-keys_few cfg bytes (Disclosure f) are read fits = rows_few (length cfg.setup.rows) f.rows (frame_takes bytes (Disclosure f) are read).limits.rise (keys_within cfg (Disclosure f) fits)
+keys_few cfg bytes (Disclosure f) read fits = rows_few (length cfg.setup.rows) f.rows (rows_rise bytes f read) (keys_within cfg (Disclosure f) fits)
 
 -- ---- how far they are
 
@@ -120,7 +120,7 @@ keys_until cfg (Disclosure f) fields =
 
 -- ---- an arrival
 
-module _ (s : State) (bytes : List ℕ) (are : AreBytes bytes) where
+module _ (s : State) (bytes : List ℕ) where
   gaps_few : (frame : Frame) → frame_of bytes ≡ Some frame → is_misfit s.config frame ≡ false → gaps_by s frame ≤ length s.config.setup.rows * s.config.setup.times.last
   gaps_few frame read fits =
       let last : ℕ = s.config.setup.times.last in
@@ -128,7 +128,7 @@ module _ (s : State) (bytes : List ℕ) (are : AreBytes bytes) where
       let until = all_filtered (is_until last) (is_newer s.tips) (keys_of s.config frame) (keys_until s.config frame fields) in
       let sum = sum_most (λ row. row.index - (tip_at s.tips row.chain.0).index) last (is_until last) (new_rows s frame) until (λ row e. (let below = leb-true row.index last e in omega (arith, below))) in
       let fewer = filter_shorter (is_newer s.tips) (keys_of s.config frame) in
-      let few = keys_few s.config bytes frame are read fits in
+      let few = keys_few s.config bytes frame read fits in
       let long : length (new_rows s frame) ≤ length s.config.setup.rows = omega (arith, fewer, few) in
       let more : length (new_rows s frame) * last ≤ length s.config.setup.rows * last = mul-le-mul_right last long in
       omega (arith, sum, more)
@@ -160,10 +160,10 @@ module _ (s : State) (bytes : List ℕ) (are : AreBytes bytes) where
       omega (arith, gap, pair)))
 
 -- the most evaluations, whatever came before
-pub cost_bounded : (cfg : Config) (h : List Entry) → IsLegal cfg h → (reading : ℕ) (bytes : List ℕ) → AreBytes bytes → most_evaluations cfg (arrivals_in h) reading bytes ≤ 2 * (length cfg.setup.rows * cfg.setup.times.last) + 2 * (cfg.capacity * length cfg.setup.rows)
+pub cost_bounded : (cfg : Config) (h : List Entry) → IsLegal cfg h → (reading : ℕ) (bytes : List ℕ) → most_evaluations cfg (arrivals_in h) reading bytes ≤ 2 * (length cfg.setup.rows * cfg.setup.times.last) + 2 * (cfg.capacity * length cfg.setup.rows)
 unfolding most_by
-cost_bounded cfg h legal reading bytes are =
+cost_bounded cfg h legal reading bytes =
     let s : State = state_of cfg h in
     let st = stands_of cfg h legal in
     subst (λ (n : ℕ). n ≤ 2 * (length cfg.setup.rows * cfg.setup.times.last) + 2 * (cfg.capacity * length cfg.setup.rows)) (cost_same s h st reading bytes)
-    (most_few s bytes are (bound_at s reading) (frame_of bytes) refl (consistent s h st).few)
+    (most_few s bytes (bound_at s reading) (frame_of bytes) refl (consistent s h st).few)

@@ -2,7 +2,6 @@
 //! contracts of functions that do nothing.
 
 ghost use Rattle.std.specs.Prelude.{◌≡◌, ◌≤◌, ◌+◌, ◌*◌, ◌++◌, ◌∷◌, [], ℕ, List, length, count_by};
-ghost use Rattle.tesla_base.specs.Front.{AreBytes};
 ghost use Rattle.tesla_receiver.specs.declared.config.Config.{Config};
 ghost use Rattle.tesla_receiver.specs.declared.history.Entry.{Entry};
 ghost use Rattle.tesla_receiver.specs.Answer.{verdict_of};
@@ -69,6 +68,6 @@ pub fn costs()
     ensures same { (s : State) (h : List Entry) → Stands s h → (reading : ℕ) (bytes : List ℕ) →
         most_by s reading bytes ≡ most_evaluations s.config (arrivals_in h) reading bytes }
     // However long the history is, they are within what the setup and the capacity give.
-    ensures bounded { (cfg : Config) (h : List Entry) → IsLegal cfg h → (reading : ℕ) (bytes : List ℕ) → AreBytes bytes →
+    ensures bounded { (cfg : Config) (h : List Entry) → IsLegal cfg h → (reading : ℕ) (bytes : List ℕ) →
         most_evaluations cfg (arrivals_in h) reading bytes ≤ 2 * (length cfg.setup.rows * cfg.setup.times.last) + 2 * (cfg.capacity * length cfg.setup.rows) }
 {}
