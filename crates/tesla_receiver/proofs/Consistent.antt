@@ -14,7 +14,7 @@ use Rattle.tesla_receiver.specs.declared.history.Entry.{Entry}
 use Rattle.tesla_receiver.specs.declared.packet.Packet.{Packet}
 use Rattle.tesla_receiver.specs.declared.release.Release.{Release}
 use Rattle.tesla_receiver.specs.declared.report.Report.{Report}
-use Rattle.tesla_receiver.specs.Consistent.{RisesFrom, IsWaiting, IsConsistent}
+use Rattle.tesla_receiver.specs.Consistent.{RisesFrom, IsWaiting, IsCounted, IsConsistent}
 use Rattle.tesla_receiver.specs.Held.{is_at, is_gone, held_of}
 use Rattle.tesla_receiver.specs.History.{arrivals_in, given_in, has_end}
 use Rattle.tesla_receiver.specs.Packets.{packet_of, has_name, released}
@@ -23,6 +23,7 @@ use Rattle.tesla_receiver.specs.Steps.{in_interval, is_let_go, is_released, is_n
 use Rattle.tesla_receiver.specs.Tips.{tip_of}
 use Rattle.tesla_receiver.proofs.Arriving.{keeps_of}
 use Rattle.tesla_receiver.proofs.Below.{passes_somewhere, passes_at, any_taken, fails_fewer}
+use Rattle.tesla_receiver.proofs.Counts.{report_sum, entered_few}
 use Rattle.tesla_receiver.proofs.Gone.{Brought, is_called, called_same, same_name}
 use Rattle.tesla_receiver.proofs.Judged.{held_all, held_interval}
 use Rattle.tesla_receiver.proofs.Keeping.{none_let_go}
@@ -264,6 +265,11 @@ consistent s h st =
     record {
       tips = ap length st.tips ∙ length-map-range_with_len (tip_of cfg xs) 0 (length cfg.setup.rows);
       ended = ap length st.ended ∙ length-map-range_with_len (has_end h) 0 cfg.ingests;
+      counted = subst (λ (c : Report). IsCounted c) (sym st.counts) (report_sum xs given);
+      entered = (let all = entered_few h in
+      let count : s.counts.arrivals ≡ length xs = ap (λ (c : Report). c.arrivals) st.counts in
+      let gave : s.counts.given ≡ given = ap (λ (c : Report). c.given) st.counts in
+      let calls = st.calls in omega (arith, all, count, gave, calls));
       few = omega (arith, held_few, held_count);
       quota = λ interval. (let own_few : held_of cfg xs given (Some interval) ≤ cfg.quota = quota_kept cfg h st.legal interval in
           let own_count : count_by (in_interval interval) s.held ≡ held_of cfg xs given (Some interval) = ap (count_by (in_interval interval)) st.held ∙ held_interval cfg xs given interval in
