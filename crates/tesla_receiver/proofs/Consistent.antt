@@ -267,9 +267,9 @@ consistent s h st =
       ended = ap length st.ended ∙ length-map-range_with_len (has_end h) 0 cfg.ingests;
       counted = subst (λ (c : Report). IsCounted c) (sym st.counts) (report_sum xs given);
       entered = (let all = entered_few h in
-      let count : s.counts.arrivals ≡ length xs = ap (λ (c : Report). c.arrivals) st.counts in
-      let gave : s.counts.given ≡ given = ap (λ (c : Report). c.given) st.counts in
-      let calls = st.calls in omega (arith, all, count, gave, calls));
+          let count : s.counts.arrivals ≡ length xs = ap (λ (c : Report). c.arrivals) st.counts in
+          let gave : s.counts.given ≡ given = ap (λ (c : Report). c.given) st.counts in
+          let calls = st.calls in omega (arith, all, count, gave, calls));
       few = omega (arith, held_few, held_count);
       quota = λ interval. (let own_few : held_of cfg xs given (Some interval) ≤ cfg.quota = quota_kept cfg h st.legal interval in
           let own_count : count_by (in_interval interval) s.held ≡ held_of cfg xs given (Some interval) = ap (count_by (in_interval interval)) st.held ∙ held_interval cfg xs given interval in

@@ -38,3 +38,4 @@ pub mod Bounded
 pub mod Rows
 pub mod TipsByRows
 pub mod FrameRows
+pub mod Unreached

@@ -1,13 +1,15 @@
 -- The newest keys, row by row.
-use Rattle.std.proofs.Common.{◌≡◌, ℕ, zero, suc, ◌+◌, ◌<◌, true, false, cond, List, [], ◌∷◌, ◌++◌, length, map, get_or, set, refl, sym, ap, ◌∙◌, arith, ◌==◌}
-use Rattle.std.specs.Prelude.{fold, nat_lt}
+use Rattle.std.proofs.Common.{◌≡◌, ℕ, zero, suc, ◌+◌, ◌<◌, Bool, true, false, cond, ◌&&◌, ◌||◌, List, [], ◌∷◌, ◌++◌, length, map, get_or, set, refl, sym, ap, ⊎_elim, ◌∙◌, arith, ◌==◌}
+use Rattle.std.specs.Prelude.{fold, nat_lt, nat_le}
 use Rattle.std.specs.List.{list_any, enumerate_from}
-use Rattle.std.proofs.lemmas.Bool.{or_parts, and_from, and_left, eq-eqb, ne_eqb}
+use Rattle.std.proofs.Math.Bool.{or-false}
+use Rattle.std.proofs.lemmas.Bool.{or_parts, or_left, or_from, and_from, and_left, cases_Bool, eq-eqb, ne_eqb, ltb-true, ltb-false, leb-true, leb-false, le-leb, lt-leb}
 use Rattle.std.proofs.lemmas.List.Sums.{fold-append}
 use Rattle.tesla_frame.specs.declared.row.KeyRow.{KeyRow}
 use Rattle.tesla_keys.specs.Tip.{Tip}
+use Rattle.tesla_receiver.specs.Costs.{has_reaching}
 use Rattle.tesla_receiver.specs.Keys.{is_of}
-use Rattle.tesla_receiver.specs.Steps.{no_tip, tip_at, tips_after}
+use Rattle.tesla_receiver.specs.Steps.{no_tip, tip_at, tips_after, is_passed}
 use Rattle.tesla_receiver.specs.Tips.{raised}
 
 abbrev after_from : ℕ → List Tip → List KeyRow → List Tip
@@ -71,3 +73,51 @@ long_from m (tip ∷ tips) rows = ap suc (long_from (m + 1) tips rows)
 
 pub tips_long : (tips : List Tip) (rows : List KeyRow) → length (tips_after tips rows) ≡ length tips
 tips_long tips rows = long_from 0 tips rows
+
+-- ---- which intervals are passed
+
+raised_passed : (interval index above : ℕ) (o b : Bool) → nat_lt index above ≡ b → nat_le interval (cond (o && b) above index) ≡ (nat_le interval index || o && nat_le interval above)
+raised_passed interval index above true true e =
+    let less = ltb-true index above e in
+    ⊎_elim
+    (λ h. let below = leb-true interval index h in le-leb interval above (omega (arith, below, less)) ∙ sym (or_left (nat_le interval index) (nat_le interval above) h))
+    (λ h. sym (ap (λ t. t || nat_le interval above) h))
+    (cases_Bool (nat_le interval index))
+raised_passed interval index above true false e =
+    let least = ltb-false index above e in
+    ⊎_elim
+    (λ h. h ∙ sym (or_left (nat_le interval index) (nat_le interval above) h))
+    (λ h. let past = leb-false interval index h in h ∙ sym (or_from (nat_le interval index) (nat_le interval above) h (lt-leb interval above (omega (arith, past, least)))))
+    (cases_Bool (nat_le interval index))
+raised_passed interval index above false b e = sym (or-false (nat_le interval index))
+
+index_if : (tip : Tip) (row : KeyRow) (b : Bool) → (cond b (record { index = row.index; key = row.key }) tip).index ≡ cond b row.index tip.index
+index_if tip row true = refl
+index_if tip row false = refl
+
+or_regroup : (a b c : Bool) → (a || b || c) ≡ (a || (b || c))
+or_regroup true b c = refl
+or_regroup false b c = refl
+
+fold_passed : (interval chain : ℕ) (tip : Tip) (rows : List KeyRow) → nat_le interval (fold (raised chain) tip rows).index ≡ (nat_le interval tip.index || has_reaching rows interval chain)
+fold_passed interval chain tip [] = sym (or-false (nat_le interval tip.index))
+fold_passed interval chain tip (row ∷ rows) =
+    fold_passed interval chain (raised chain tip row) rows
+    ∙ ap (λ (n : ℕ). nat_le interval n || has_reaching rows interval chain) (index_if tip row (is_of chain row && nat_lt tip.index row.index))
+    ∙ ap (λ b. b || has_reaching rows interval chain) (raised_passed interval tip.index row.index (is_of chain row) (nat_lt tip.index row.index) refl)
+    ∙ or_regroup (nat_le interval tip.index) (is_of chain row && nat_le interval row.index) (has_reaching rows interval chain)
+
+passed_from : (interval m k : ℕ) (tips : List Tip) (rows : List KeyRow) → k < length tips → nat_le interval (get_or (after_from m tips rows) k no_tip).index ≡ (nat_le interval (get_or tips k no_tip).index || has_reaching rows interval (m + k))
+passed_from interval m k [] rows less = absurd (omega arith)
+passed_from interval m zero (tip ∷ tips) rows less =
+    let first : m ≡ m + 0 = omega arith in
+    fold_passed interval m tip rows ∙ ap (λ (c : ℕ). nat_le interval tip.index || has_reaching rows interval c) first
+passed_from interval m (suc k) (tip ∷ tips) rows less =
+    let next : m + 1 + k ≡ m + suc k = omega arith in
+    passed_from interval (m + 1) k tips rows (omega (arith, less)) ∙ ap (λ (c : ℕ). nat_le interval (get_or tips k no_tip).index || has_reaching rows interval c) next
+
+-- a chain has passed an interval where it had before, or one of the rows reaches it
+pub passed_after : (tips : List Tip) (rows : List KeyRow) (interval chain : ℕ) → chain < length tips → is_passed (tips_after tips rows) interval chain ≡ (is_passed tips interval chain || has_reaching rows interval chain)
+passed_after tips rows interval chain less =
+    let count : 0 + chain ≡ chain = omega arith in
+    passed_from interval 0 chain tips rows less ∙ ap (λ (c : ℕ). is_passed tips interval chain || has_reaching rows interval c) count
