@@ -1,34 +1,30 @@
 -- A receiver's state stands for one arrival more.
-use Rattle.std.proofs.Common.{◌≡◌, ℕ, ◌+◌, ◌≤◌, Bool, true, false, cond, ◌&&◌, ◌||◌, List, [], ◌∷◌, ◌++◌, length, length-append, map, drop, count_by, Option, Some, None, refl, sym, ap, subst, ⊎_elim, ◌∙◌, ◌==◌}
+use Rattle.std.proofs.Common.{◌≡◌, ℕ, ◌+◌, Bool, true, false, cond, ◌||◌, List, [], ◌∷◌, ◌++◌, length, length-append, map, drop, Option, Some, None, refl, sym, ap, ◌∙◌, ◌==◌}
 use Rattle.std.specs.Prelude.{not, find, nat_lt, unwrap_or, option_map}
-use Rattle.std.specs.List.{list_any, range_with_len}
-use Rattle.std.proofs.lemmas.Bool.{and_parts, cases_Bool}
-use Rattle.std.proofs.lemmas.List.{append-nil}
+use Rattle.std.specs.List.{list_any}
+use Rattle.std.proofs.lemmas.Bool.{and_parts}
 use Rattle.std.proofs.lemmas.Option.{same_Some}
 use Rattle.tesla_base.specs.declared.names.StreamId.{StreamId}
 use Rattle.tesla_clock.specs.Safe.{has_chain}
-use Rattle.tesla_clock.specs.Schedule.{bound_of}
-use Rattle.tesla_frame.specs.Frame.{Frame, Data, Disclosure, DataFrame}
+use Rattle.tesla_frame.specs.Frame.{Frame, Data, Disclosure}
 use Rattle.tesla_frame.specs.Reading.{frame_of}
 use Rattle.tesla_frame.specs.declared.row.KeyRow.{KeyRow}
 use Rattle.tesla_keys.specs.Tip.{Tip}
 use Rattle.tesla_receiver.specs.declared.config.Config.{Config}
 use Rattle.tesla_receiver.specs.declared.history.Arrival.{Arrival}
 use Rattle.tesla_receiver.specs.declared.history.Entry.{Entry}
-use Rattle.tesla_receiver.specs.declared.history.Entry.TheVariants.{Arrived}
-use Rattle.tesla_receiver.specs.declared.packet.Packet.{Packet}
 use Rattle.tesla_receiver.specs.declared.release.Release.{Release}
 use Rattle.tesla_receiver.specs.declared.report.Report.{Report}
 use Rattle.tesla_receiver.specs.declared.verdict.Verdict.{Verdict}
 use Rattle.tesla_receiver.specs.declared.verdict.Verdict.TheVariants.{Malformed, Foreign, Misfit, Future, BadKey, Late, Repeat, Full, Kept, Keys}
-use Rattle.tesla_receiver.specs.Answer.{stream_of, is_misfit, is_future, is_bad, safe_chains, packet_verdict, verdict_taken, refusal, verdict_on, verdict_of, late_arrival}
+use Rattle.tesla_receiver.specs.Answer.{stream_of, is_misfit, is_future, is_bad, safe_chains, verdict_taken, refusal, verdict_on, verdict_of, late_arrival}
 use Rattle.tesla_receiver.specs.Config.{chains}
 use Rattle.tesla_receiver.specs.Held.{held_of}
-use Rattle.tesla_receiver.specs.History.{Arrives, entry_of, arrival_in, arrivals_in, given_in, has_end}
+use Rattle.tesla_receiver.specs.History.{Arrives, entry_of, arrivals_in, given_in}
 use Rattle.tesla_receiver.specs.Keys.{keys_of, takes_keys, greatest, newest, new_keys}
-use Rattle.tesla_receiver.specs.Packets.{packet_in, packet_of, has_name, released}
-use Rattle.tesla_receiver.specs.Report.{report_on, report_of}
-use Rattle.tesla_receiver.specs.State.{Holding, State, Stands, tag_in, held_at, holdings}
+use Rattle.tesla_receiver.specs.Packets.{packet_in, has_name, released}
+use Rattle.tesla_receiver.specs.Report.{report_on}
+use Rattle.tesla_receiver.specs.State.{Holding, State, Stands, held_at, holdings}
 use Rattle.tesla_receiver.specs.Steps.{new_rows, with_keys, refused, judged_taken, judged_frame, own, counted, entered_as, entered_with, entered_frame, refused_of, bound_at, judged, after_arrival}
 use Rattle.tesla_receiver.specs.Tips.{tip_of}
 use Rattle.tesla_receiver.proofs.Counts.{report_more}
@@ -36,7 +32,7 @@ use Rattle.tesla_receiver.proofs.Events.{arrivals_more}
 use Rattle.tesla_receiver.proofs.Grown.{same_taken}
 use Rattle.tesla_receiver.proofs.HeldAfter.{own_held}
 use Rattle.tesla_receiver.proofs.Newest.{newest_more}
-use Rattle.tesla_receiver.proofs.Judged.{fits_unrefused, refused_same, new_same, HasSafe, safe_some, judged_same}
+use Rattle.tesla_receiver.proofs.Judged.{fits_unrefused, refused_same, new_same, safe_some, judged_same}
 use Rattle.tesla_receiver.proofs.Keeping.{Keeps, tips_keyed, waiting_keyed, held_keyed, keeps_keyed, keeps_quiet}
 use Rattle.tesla_receiver.proofs.Legal.{given_fits}
 use Rattle.tesla_receiver.proofs.Standing.{entered_legal, ended_same, given_same}

@@ -1,33 +1,31 @@
 -- What new keys prove and release, by the packets that are held.
-use Rattle.std.proofs.Common.{◌≡◌, ℕ, ◌+◌, ◌<◌, Bool, true, false, cond, ◌&&◌, ◌||◌, List, [], ◌∷◌, ◌++◌, length, map, take, flat_map, Option, Some, None, refl, sym, ap, ⊎_elim, inl, inr, ◌∙◌, arith, ◌==◌}
-use Rattle.std.specs.Prelude.{not, slice_get, nat_lt, nat_le, find, filter, option_map, bytes_eq}
+use Rattle.std.proofs.Common.{◌≡◌, ℕ, ◌+◌, ◌<◌, Bool, true, false, cond, ◌&&◌, ◌||◌, List, [], ◌∷◌, length, map, take, flat_map, Option, Some, None, refl, sym, ap, ⊎_elim, inl, inr, ◌∙◌, arith, ◌==◌}
+use Rattle.std.specs.Prelude.{not, slice_get, nat_lt, nat_le, find, filter, option_map}
 use Rattle.std.specs.List.{list_any, list_all, enumerate_from}
 use Rattle.std.proofs.lemmas.Bool.{and_parts, and_from, and_right, or_from, or_left, or_right, or_cases, cases_Bool, not-true, not_from_true, not_from_false, both_ways, ltb-true, lt-leb, eq-eqb}
 use Rattle.std.proofs.lemmas.List.{append-nil}
-use Rattle.std.proofs.lemmas.List.Folds.{list_any-append}
-use Rattle.std.proofs.lemmas.Option.{slice_get-map, slice_get_within}
+use Rattle.std.proofs.lemmas.Option.{slice_get-map}
 use Rattle.tesla_base.specs.declared.names.Name.{Name}
-use Rattle.tesla_base.proofs.Lists.{slice_get-append, list_all_weaker, list_any_got, not_all_numbers}
+use Rattle.tesla_base.proofs.Lists.{list_all_weaker, list_any_got, not_all_numbers}
 use Rattle.tesla_clock.specs.Safe.{has_chain}
 use Rattle.tesla_frame.specs.declared.row.KeyRow.{KeyRow}
-use Rattle.tesla_frame.specs.Frame.{DataFrame, TagRow}
+use Rattle.tesla_frame.specs.Frame.{TagRow}
 use Rattle.tesla_keys.specs.Tip.{Tip}
 use Rattle.tesla_receiver.specs.declared.config.Config.{Config}
 use Rattle.tesla_receiver.specs.declared.history.Arrival.{Arrival}
 use Rattle.tesla_receiver.specs.declared.packet.Packet.{Packet}
-use Rattle.tesla_receiver.specs.declared.release.Release.{Release}
 use Rattle.tesla_receiver.specs.Config.{chains}
 use Rattle.tesla_receiver.specs.Held.{is_at, has_passed, is_past, is_settled, is_gone}
-use Rattle.tesla_receiver.specs.Keys.{each_after, is_of, newest, new_keys}
-use Rattle.tesla_receiver.specs.Packets.{packet_of, verifies_row, is_proof, proves, release_on, release_of, proved_by, batch, candidates, has_name, unless_named, released}
+use Rattle.tesla_receiver.specs.Keys.{each_after, is_of, newest}
+use Rattle.tesla_receiver.specs.Packets.{packet_of, verifies_row, is_proof, proves, release_on, release_of, proved_by, candidates, has_name, unless_named, released}
 use Rattle.tesla_receiver.specs.State.{Holding, tag_in, holding_of, held_at, holdings}
 use Rattle.tesla_receiver.specs.Steps.{tip_at, matches, is_proof_of, proves_on, released_on, proof_of, batch_of, as_release, is_released, released_of, is_named_so}
-use Rattle.tesla_receiver.proofs.Below.{find_below, FoundBelow, found_below, same_test, implied, any_same, Passes, passes_somewhere, passes_at}
+use Rattle.tesla_receiver.proofs.Below.{find_below, found_below, same_test, implied, any_same, passes_somewhere, passes_at}
 use Rattle.tesla_receiver.proofs.Gone.{Brought, past_none, same_name}
-use Rattle.tesla_receiver.proofs.Owners.{Owned, owned_at, named_at, released_proved}
+use Rattle.tesla_receiver.proofs.Owners.{owned_at, named_at, released_proved}
 use Rattle.tesla_receiver.proofs.Names.{AgreeOn, SameOrSeen, first_named, firsts_gathered}
 use Rattle.tesla_receiver.proofs.Numbered.{any_from, flat_map-flat_map}
-use Rattle.tesla_receiver.proofs.Passing.{all_each_after, all_enumerated}
+use Rattle.tesla_receiver.proofs.Passing.{all_enumerated}
 
 -- ---- the newest keys
 

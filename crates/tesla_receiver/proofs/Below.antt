@@ -1,8 +1,9 @@
 -- Tests and functions that agree on the numbers below n, and elements that pass a test.
-use Rattle.std.proofs.Common.{◌≡◌, ℕ, zero, suc, ◌+◌, ◌<◌, ◌≤◌, Bool, true, false, cond, ◌&&◌, ◌||◌, List, [], ◌∷◌, ◌++◌, length, get_or, map, take, Option, Some, None, refl, sym, ap, subst, ⊎_elim, ◌∙◌, arith, add-zero}
-use Rattle.std.specs.Prelude.{not, slice_get, find, filter}
+use Rattle.std.proofs.Common.{◌≡◌, ℕ, zero, suc, ◌+◌, ◌<◌, ◌≤◌, Bool, true, false, cond, ◌&&◌, ◌||◌, List, [], ◌∷◌, length, get_or, map, take, Option, None, Some, refl, sym, ap, ⊎_elim, ◌∙◌, arith}
+use Rattle.std.specs.Prelude.{not, slice_get, find, filter, option_map}
 use Rattle.std.specs.List.{list_any, list_all, enumerate_from, range_with_len}
 use Rattle.std.proofs.lemmas.Bool.{and_parts, and_from, cases_Bool, or_parts, or_cases, or_left, or_right, not_from_false}
+use Rattle.std.proofs.lemmas.List.FromFn.{get_or-map-range_with_len}
 use Rattle.std.proofs.lemmas.Option.{same_Some}
 
 -- ---- numbers below n
@@ -43,18 +44,11 @@ found_below p n c h =
     let all = found_from p 0 n c h in
     record { below = let less = all.below in omega arith; passes = all.passes }
 
-got_from : {A : Type 0} (f : ℕ → A) (a n c : ℕ) (d : A) → c < n → get_or (map f (range_with_len a n)) c d ≡ f (a + c)
-got_from f a zero c d h = absurd (omega arith)
-got_from f a (suc n) zero d h = ap f (sym (add-zero a))
-got_from f a (suc n) (suc c) d h =
-    let count : a + 1 + c ≡ a + suc c = omega arith in
-    got_from f (a + 1) n c d (omega arith) ∙ ap f count
-
 -- what stands at a number
 pub got_below : {A : Type 0} (f : ℕ → A) (n c : ℕ) (d : A) → c < n → get_or (map f (range_with_len 0 n)) c d ≡ f c
 got_below f n c d h =
     let count : 0 + c ≡ c = omega arith in
-    got_from f 0 n c d h ∙ ap f count
+    get_or-map-range_with_len f 0 n c c d h count
 
 -- a function of each number and of what stands there
 pub map_numbered : {A B : Type 0} (g : ℕ × A → B) (f : ℕ → A) (a n : ℕ) → map g (enumerate_from a (map f (range_with_len a n))) ≡ map (λ c. g (c, f c)) (range_with_len a n)
@@ -127,3 +121,43 @@ all_fail p [] h = refl
 all_fail p (x ∷ xs) h =
     let parts = or_parts (p x) (list_any p xs) h in
     and_from (not (p x)) (list_all (λ y. not (p y)) xs) (not_from_false (p x) parts.0) (all_fail p xs parts.1)
+
+-- ---- the first
+
+abbrev pub first_in : {A : Type 0} → List A → Option A
+first_in [] = None
+first_in (x ∷ xs) = Some x
+
+first_if : {A : Type 0} (x : A) (rest : List A) (o : Option A) (b : Bool) → o ≡ first_in rest → cond b (Some x) o ≡ first_in (cond b (x ∷ rest) rest)
+first_if x rest o true e = refl
+first_if x rest o false e = e
+
+-- what is found is the first of those that pass
+pub found_first : {A : Type 0} (p : A → Bool) (xs : List A) → find p xs ≡ first_in (filter p xs)
+found_first p [] = refl
+found_first p (x ∷ xs) = first_if x (filter p xs) (find p xs) (p x) (found_first p xs)
+
+pub first_map : {A B : Type 0} (f : A → B) (xs : List A) → first_in (map f xs) ≡ option_map f (first_in xs)
+first_map f [] = refl
+first_map f (x ∷ xs) = refl
+
+-- ---- how many
+
+-- one element more at most
+one_longer : {A : Type 0} (x : A) (rest : List A) (b : Bool) → length (cond b (x ∷ rest) rest) ≤ suc (length rest)
+one_longer x rest true = omega arith
+one_longer x rest false = omega arith
+
+pub filter_shorter : {A : Type 0} (p : A → Bool) (xs : List A) → length (filter p xs) ≤ length xs
+filter_shorter p [] = omega arith
+filter_shorter p (x ∷ xs) = let rest = filter_shorter p xs in let step = one_longer x (filter p xs) (p x) in omega (arith, rest, step)
+
+-- where some pass, those that fail are fewer
+pub fails_fewer : {A : Type 0} (p : A → Bool) (xs : List A) → list_any p xs ≡ true → length (filter (λ x. not (p x)) xs) < length xs
+fails_fewer p [] h = absurd (cc)
+fails_fewer p (x ∷ xs) h =
+    ⊎_elim
+    (λ e. let all = filter_shorter (λ y. not (p y)) xs in
+    let now : length (filter (λ y. not (p y)) (x ∷ xs)) ≡ length (filter (λ y. not (p y)) xs) = ap (λ b. length (cond (not b) (x ∷ filter (λ y. not (p y)) xs) (filter (λ y. not (p y)) xs))) e in omega (arith, all, now))
+    (λ e. let rest = fails_fewer p xs e in let step = one_longer x (filter (λ y. not (p y)) xs) (not (p x)) in omega (arith, rest, step))
+    (or_cases (p x) (list_any p xs) h)

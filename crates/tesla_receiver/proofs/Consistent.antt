@@ -1,8 +1,10 @@
 -- Every state that stands for a history is consistent.
-use Rattle.std.proofs.Common.{◌≡◌, ℕ, zero, suc, ◌+◌, ◌<◌, ◌≤◌, Bool, true, false, cond, ◌&&◌, ◌||◌, List, [], ◌∷◌, ◌++◌, length, map, take, drop, flat_map, count_by, Option, Some, None, refl, sym, ap, subst, ⊎_elim, inl, inr, ◌∙◌, arith, ◌==◌}
+use Rattle.std.proofs.Common.{◌≡◌, ℕ, zero, suc, ◌+◌, ◌<◌, ◌≤◌, Bool, true, false, cond, List, [], ◌∷◌, ◌++◌, length, take, drop, flat_map, count_by, Option, Some, None, refl, sym, ap, subst, ⊎_elim, ◌∙◌, arith}
 use Rattle.std.specs.Prelude.{not, find, filter, slice_get}
-use Rattle.std.specs.List.{list_any, list_all, enumerate_from, range_with_len}
+use Rattle.std.specs.List.{list_any, enumerate_from}
 use Rattle.std.proofs.lemmas.Bool.{or_left, or_right, or_cases, cases_order, both_ways, cases_Bool, not-true, not_from_false, false_from_ne_true, eq-eqb, eqb-true, ne_eqb}
+use Rattle.std.proofs.lemmas.List.FromFn.{length-map-range_with_len}
+use Rattle.std.proofs.lemmas.Map.Views.{any-filter_same}
 use Rattle.std.proofs.lemmas.Option.{same_Some, slice_get_within}
 use Rattle.tesla_base.specs.declared.names.Name.{Name}
 use Rattle.tesla_base.proofs.Lists.{list_any_got}
@@ -12,8 +14,7 @@ use Rattle.tesla_receiver.specs.declared.history.Entry.{Entry}
 use Rattle.tesla_receiver.specs.declared.packet.Packet.{Packet}
 use Rattle.tesla_receiver.specs.declared.release.Release.{Release}
 use Rattle.tesla_receiver.specs.declared.report.Report.{Report}
-use Rattle.tesla_receiver.specs.Config.{chains}
-use Rattle.tesla_receiver.specs.Consistent.{RisesFrom, IsWaiting, IsConsistent}
+use Rattle.tesla_receiver.specs.Consistent.{RisesFrom, IsWaiting, IsCounted, IsConsistent}
 use Rattle.tesla_receiver.specs.Held.{is_at, is_gone, held_of}
 use Rattle.tesla_receiver.specs.History.{arrivals_in, given_in, has_end}
 use Rattle.tesla_receiver.specs.Packets.{packet_of, has_name, released}
@@ -21,13 +22,14 @@ use Rattle.tesla_receiver.specs.State.{Holding, State, Stands, holding_of, held_
 use Rattle.tesla_receiver.specs.Steps.{in_interval, is_let_go, is_released, is_numbered}
 use Rattle.tesla_receiver.specs.Tips.{tip_of}
 use Rattle.tesla_receiver.proofs.Arriving.{keeps_of}
-use Rattle.tesla_receiver.proofs.Below.{Passes, passes_somewhere, passes_at, any_taken}
+use Rattle.tesla_receiver.proofs.Below.{passes_somewhere, passes_at, any_taken, fails_fewer}
+use Rattle.tesla_receiver.proofs.Counts.{report_sum, entered_few}
 use Rattle.tesla_receiver.proofs.Gone.{Brought, is_called, called_same, same_name}
 use Rattle.tesla_receiver.proofs.Judged.{held_all, held_interval}
 use Rattle.tesla_receiver.proofs.Keeping.{none_let_go}
 use Rattle.tesla_receiver.proofs.Limits.{capacity_kept, quota_kept}
 use Rattle.tesla_receiver.proofs.Once.{released_once, all_called, place_once, next_out, untaken_stays, found_held}
-use Rattle.tesla_receiver.proofs.Owners.{Owned, owned_at}
+use Rattle.tesla_receiver.proofs.Owners.{owned_at}
 use Rattle.tesla_receiver.proofs.Passing.{any_further}
 
 -- ---- lists
@@ -66,10 +68,6 @@ taken_at (x ∷ xs) (suc i) (suc n) less = taken_at xs i n (omega arith)
 any_before : {A : Type 0} (p : A → Bool) (xs : List A) (i n : ℕ) (x : A) → i < n → slice_get xs i ≡ Some x → p x ≡ true → list_any p (take n xs) ≡ true
 any_before p xs i n x less at h = list_any_got p (take n xs) i x (taken_at xs i n less ∙ at) h
 
-numbers_long : {A : Type 0} (f : ℕ → A) (a n : ℕ) → length (map f (range_with_len a n)) ≡ n
-numbers_long f a zero = refl
-numbers_long f a (suc n) = ap suc (numbers_long f (a + 1) n)
-
 -- what is found stands among those that pass another test, where it does
 any_filtered : {A : Type 0} (p q : A → Bool) (y : A) (rest : List A) (b : Bool) → q y ≡ b → p y ≡ true → b ≡ true → list_any p (cond b (y ∷ rest) rest) ≡ true
 any_filtered p q y rest true e h good = or_left (p y) (list_any p rest) h
@@ -87,31 +85,6 @@ found_filtered p q (y ∷ xs) x h good =
     any_filtered p q y (filter q xs) (q y) refl e (ap q same ∙ good))
     (λ e. any_rest p y (filter q xs) (q y) (found_filtered p q xs x (sym (ap (λ b. cond b (Some y) (find p xs)) e) ∙ h) good))
     (cases_Bool (p y))
-
--- those that fail a test which some pass are fewer
-kept_length : {A : Type 0} (y : A) (rest : List A) (b : Bool) → length (cond b (y ∷ rest) rest) ≤ suc (length rest)
-kept_length y rest true = omega arith
-kept_length y rest false = omega arith
-
-fails_fewer : {A : Type 0} (p : A → Bool) (xs : List A) → length (filter (λ x. not (p x)) xs) ≤ length xs
-fails_fewer p [] = omega arith
-fails_fewer p (x ∷ xs) = let rest = fails_fewer p xs in let step = kept_length x (filter (λ y. not (p y)) xs) (not (p x)) in omega (arith, rest, step)
-
-one_fewer : {A : Type 0} (p : A → Bool) (xs : List A) → list_any p xs ≡ true → length (filter (λ x. not (p x)) xs) < length xs
-one_fewer p [] h = absurd (cc)
-one_fewer p (x ∷ xs) h =
-    ⊎_elim
-    (λ e. let all = fails_fewer p xs in let now : length (filter (λ y. not (p y)) (x ∷ xs)) ≡ length (filter (λ y. not (p y)) xs) = ap (λ b. length (cond (not b) (x ∷ filter (λ y. not (p y)) xs) (filter (λ y. not (p y)) xs))) e in omega (arith, all, now))
-    (λ e. let rest = one_fewer p xs e in let step = kept_length x (filter (λ y. not (p y)) xs) (not (p x)) in omega (arith, rest, step))
-    (or_cases (p x) (list_any p xs) h)
-
-any_kept : {A : Type 0} (p q : A → Bool) (xs : List A) → ((x : A) → p x ≡ true → q x ≡ true) → list_any p xs ≡ true → list_any p (filter q xs) ≡ true
-any_kept p q [] good h = absurd (cc)
-any_kept p q (x ∷ xs) good h =
-    ⊎_elim
-    (λ e. any_filtered p q x (filter q xs) (q x) refl e (good x e))
-    (λ e. any_rest p x (filter q xs) (q x) (any_kept p q xs good e))
-    (or_cases (p x) (list_any p xs) h)
 
 -- ---- the packets in order
 
@@ -266,11 +239,11 @@ all_numbered : (rs : List Release) (held : List Holding) → ((k : ℕ) (r : Rel
 all_numbered [] held stand apart = omega arith
 all_numbered (r ∷ rs) held stand apart =
     let others : List Holding = filter (λ item. not (is_numbered r.place item)) held in
-    let fewer = one_fewer (is_numbered r.place) held (stand 0 r refl) in
+    let fewer = fails_fewer (is_numbered r.place) held (stand 0 r refl) in
     let rest = all_numbered rs others
-    (λ k q at. any_kept (is_numbered q.place) (λ item. not (is_numbered r.place item)) held
-    (λ item e. not_from_false (is_numbered r.place item) (ne_eqb item.order r.place (λ same. let clash : 0 ≡ suc k = apart 0 (suc k) r q refl at (sym same ∙ eqb-true item.order q.place e) in omega (arith, clash))))
-    (stand (suc k) q at))
+    (λ k q at. any-filter_same (is_numbered q.place) (λ item. not (is_numbered r.place item)) true
+    (λ item e. not_from_false (is_numbered r.place item) (ne_eqb item.order r.place (λ same. let clash : 0 ≡ suc k = apart 0 (suc k) r q refl at (sym same ∙ eqb-true item.order q.place e) in omega (arith, clash)))) held
+    ∙ stand (suc k) q at)
     (λ j k a b at there same. let one : suc j ≡ suc k = apart (suc j) (suc k) a b at there same in omega (arith, one)) in
     omega (arith, fewer, rest)
 
@@ -290,15 +263,20 @@ consistent s h st =
     let held_few : held_of cfg xs given None ≤ cfg.capacity = capacity_kept cfg h st.legal in
     let held_count : length s.held ≡ held_of cfg xs given None = ap length st.held ∙ held_all cfg xs given in
     record {
-      tips = ap length st.tips ∙ numbers_long (tip_of cfg xs) 0 (length cfg.setup.rows);
-      ended = ap length st.ended ∙ numbers_long (has_end h) 0 cfg.ingests;
+      tips = ap length st.tips ∙ length-map-range_with_len (tip_of cfg xs) 0 (length cfg.setup.rows);
+      ended = ap length st.ended ∙ length-map-range_with_len (has_end h) 0 cfg.ingests;
+      counted = subst (λ (c : Report). IsCounted c) (sym st.counts) (report_sum xs given);
+      entered = (let all = entered_few h in
+          let count : s.counts.arrivals ≡ length xs = ap (λ (c : Report). c.arrivals) st.counts in
+          let gave : s.counts.given ≡ given = ap (λ (c : Report). c.given) st.counts in
+          let calls = st.calls in omega (arith, all, count, gave, calls));
       few = omega (arith, held_few, held_count);
       quota = λ interval. (let own_few : held_of cfg xs given (Some interval) ≤ cfg.quota = quota_kept cfg h st.legal interval in
-      let own_count : count_by (in_interval interval) s.held ≡ held_of cfg xs given (Some interval) = ap (count_by (in_interval interval)) st.held ∙ held_interval cfg xs given interval in
-      omega (arith, own_few, own_count));
+          let own_count : count_by (in_interval interval) s.held ≡ held_of cfg xs given (Some interval) = ap (count_by (in_interval interval)) st.held ∙ held_interval cfg xs given interval in
+          omega (arith, own_few, own_count));
       rise = rise;
       numbered = λ k item at. (let below = slice_get_within xs item.order (from k item at).brought.arrival (from k item at).brought.at in
-      let count : s.counts.arrivals ≡ length xs = ap (λ (c : Report). c.arrivals) st.counts in omega (arith, below, count));
+          let count : s.counts.arrivals ≡ length xs = ap (λ (c : Report). c.arrivals) st.counts in omega (arith, below, count));
       stays = λ k item at. not-true (is_let_go cfg s.tips [] item) (passes_at (λ i. not (is_let_go cfg s.tips [] i)) s.held k item (none_let_go s xs given (keeps_of s h st)) at);
       taken = λ k item at e. (let same = (from k item at).same in ap (λ (i : Holding). i.released) same ∙ any_taken (is_at item.order) given (released cfg xs) (sym (ap (λ (i : Holding). i.taken) same) ∙ e));
       names = λ j k a b at there out_a out_b same. one_place 0 s.held j k a b rise at there (same_order cfg xs given a b (from j a at) (from k b there) out_a out_b same);

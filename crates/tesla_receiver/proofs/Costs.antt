@@ -1,8 +1,8 @@
 -- What an arrival may cost by what a receiver keeps is what it may cost by the history.
-use Rattle.std.proofs.Common.{◌≡◌, ℕ, zero, suc, ◌+◌, ◌-◌, ◌*◌, ◌<◌, Bool, true, false, cond, ◌&&◌, ◌||◌, List, [], ◌∷◌, ◌++◌, length, take, flat_map, count_by, Option, Some, None, refl, sym, ap, subst, ⊎_elim, ◌∙◌, arith, ◌==◌, zero-add}
-use Rattle.std.specs.Prelude.{not, filter, slice_get, nat_lt}
+use Rattle.std.proofs.Common.{◌≡◌, ℕ, zero, suc, ◌+◌, ◌-◌, ◌*◌, ◌<◌, Bool, true, false, cond, ◌&&◌, ◌||◌, List, [], ◌∷◌, length, take, flat_map, count_by, Option, Some, None, refl, sym, ap, ⊎_elim, ◌∙◌, arith, ◌==◌, zero-add}
+use Rattle.std.specs.Prelude.{not, filter, nat_lt}
 use Rattle.std.specs.List.{list_any, list_all, enumerate_from, range_with_len, sum_by}
-use Rattle.std.proofs.lemmas.Bool.{and_parts, and_from, and_cases, or_parts, or_left, or_right, or_cases, cases_Bool, not_from_false, both_ways, ltb-true}
+use Rattle.std.proofs.lemmas.Bool.{and_parts, and_from, and_cases, or_parts, or_left, or_cases, cases_Bool, not_from_false, both_ways, ltb-true}
 use Rattle.std.proofs.lemmas.List.Sums.{sum_by-cons, sum_by-append}
 use Rattle.tesla_clock.specs.Safe.{has_chain}
 use Rattle.tesla_frame.specs.Frame.{Frame}
@@ -48,7 +48,7 @@ all_if t x rest true h k = and_from (t x) (list_all t rest) h k
 all_if t x rest false h k = k
 
 -- what all pass, those that pass another test do too
-all_filtered : {A : Type 0} (t p : A → Bool) (xs : List A) → list_all t xs ≡ true → list_all t (filter p xs) ≡ true
+pub all_filtered : {A : Type 0} (t p : A → Bool) (xs : List A) → list_all t xs ≡ true → list_all t (filter p xs) ≡ true
 all_filtered t p [] h = refl
 all_filtered t p (x ∷ xs) h =
     let parts = and_parts (t x) (list_all t xs) h in
@@ -132,7 +132,7 @@ module _ (s : State) (xs : List Arrival) (given : ℕ) (k : Keeps s xs given) (f
 
 -- ---- an arrival
 
-read_fits : (a b c : Bool) → (a || b || c) ≡ false → b ≡ false
+pub read_fits : (a b c : Bool) → (a || b || c) ≡ false → b ≡ false
 read_fits a b c h = (or_parts a b ((or_parts (a || b) c h).0)).1
 
 unless_same : (b : Bool) (m n : ℕ) → (b ≡ false → m ≡ n) → cond b 0 m ≡ cond b 0 n

@@ -1,8 +1,14 @@
--- The counts of a history with one arrival more.
-use Rattle.std.proofs.Common.{◌≡◌, ℕ, ◌+◌, Bool, true, false, cond, List, [], ◌∷◌, ◌++◌, length, length-append, refl, ap, ◌∙◌, ◌==◌, add-zero}
-use Rattle.std.proofs.lemmas.List.Sums.{sum_by_push}
+-- The counts of a history: with one arrival more, and together.
+use Rattle.std.proofs.Common.{◌≡◌, ℕ, ◌+◌, ◌≤◌, Bool, true, false, cond, List, [], ◌∷◌, ◌++◌, length, length-append, refl, ◌∙◌, ◌==◌, add-zero, arith}
+use Rattle.std.proofs.lemmas.List.Sums.{sum_by_push, sum_by-cons}
 use Rattle.tesla_receiver.specs.declared.history.Arrival.{Arrival}
-use Rattle.tesla_receiver.specs.declared.report.Report.{Report}
+use Rattle.tesla_receiver.specs.declared.history.Entry.{Entry}
+use Rattle.tesla_receiver.specs.declared.history.Entry.TheVariants.{Arrived, Taken, Ended}
+use Rattle.tesla_receiver.specs.declared.history.Reply.TheVariants.{Given, Empty, Over}
+use Rattle.tesla_receiver.specs.declared.verdict.Verdict.{Verdict}
+use Rattle.tesla_receiver.specs.declared.verdict.Verdict.TheVariants.{Malformed, Foreign, Misfit, Future, BadKey, Late, Repeat, Full, Kept, Keys}
+use Rattle.tesla_receiver.specs.Consistent.{IsCounted}
+use Rattle.tesla_receiver.specs.History.{arrival_in, arrivals_in, gives, given_in}
 use Rattle.tesla_receiver.specs.Report.{line_of, count_of, report_on}
 use Rattle.tesla_receiver.specs.Steps.{one_if, counted}
 
@@ -27,3 +33,45 @@ report_more xs a given =
     let c9 = count_more xs a 9 in
     let c10 = count_more xs a 10 in
     cc
+
+-- ---- the counts together
+
+one_line : (v : Verdict) → cond (line_of v == 1) 1 0 + cond (line_of v == 2) 1 0 + cond (line_of v == 3) 1 0 + cond (line_of v == 4) 1 0 + cond (line_of v == 5) 1 0 + cond (line_of v == 6) 1 0 + cond (line_of v == 7) 1 0 + cond (line_of v == 8) 1 0 + cond (line_of v == 9) 1 0 + cond (line_of v == 10) 1 0 ≡ 1
+one_line Malformed = refl
+one_line (Foreign stream) = refl
+one_line Misfit = refl
+one_line (Future bound) = refl
+one_line (BadKey chain) = refl
+one_line Late = refl
+one_line Repeat = refl
+one_line Full = refl
+one_line (Kept chains) = refl
+one_line Keys = refl
+
+count_cons : (line : ℕ) (a : Arrival) (xs : List Arrival) → count_of line (a ∷ xs) ≡ cond (line_of a.verdict == line) 1 0 + count_of line xs
+count_cons line a xs = sum_by-cons (λ (x : Arrival). cond (line_of x.verdict == line) 1 0) a xs
+
+-- each arrival has one verdict
+lines_sum : (xs : List Arrival) → count_of 1 xs + count_of 2 xs + count_of 3 xs + count_of 4 xs + count_of 5 xs + count_of 6 xs + count_of 7 xs + count_of 8 xs + count_of 9 xs + count_of 10 xs ≡ length xs
+lines_sum [] = refl
+lines_sum (a ∷ xs) =
+    omega (arith, lines_sum xs, one_line a.verdict, count_cons 1 a xs, count_cons 2 a xs, count_cons 3 a xs, count_cons 4 a xs, count_cons 5 a xs, count_cons 6 a xs, count_cons 7 a xs, count_cons 8 a xs, count_cons 9 a xs, count_cons 10 a xs)
+
+-- the counts of the verdicts are as many as the arrivals
+pub report_sum : (xs : List Arrival) (given : ℕ) → IsCounted (report_on xs given)
+report_sum xs given = lines_sum xs
+
+one_entry : (e : Entry) → length (arrival_in e) + cond (gives e) 1 0 ≤ 1
+one_entry (Arrived arrival) = omega arith
+one_entry (Taken releaser (Given head payload)) = omega arith
+one_entry (Taken releaser Empty) = omega arith
+one_entry (Taken releaser Over) = omega arith
+one_entry (Ended ingest) = omega arith
+
+-- no more arrived and was given than events were
+pub entered_few : (h : List Entry) → length (arrivals_in h) + given_in h ≤ length h
+entered_few [] = omega arith
+entered_few (e ∷ h) =
+    let rest = entered_few h in
+    let one = one_entry e in
+    omega (arith, rest, one, length-append (arrival_in e) (arrivals_in h), sum_by-cons (λ (x : Entry). cond (gives x) 1 0) e h)

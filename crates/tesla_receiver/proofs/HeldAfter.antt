@@ -3,7 +3,7 @@ use Rattle.std.proofs.Common.{◌≡◌, ℕ, ◌+◌, ◌<◌, ◌≤◌, Bool,
 use Rattle.std.specs.Prelude.{not, slice_get, nat_lt, nat_le, find}
 use Rattle.std.specs.List.{list_any, list_all, enumerate_from}
 use Rattle.std.proofs.Math.Bool.{or-false}
-use Rattle.std.proofs.lemmas.Bool.{and_left, and_right, and_cases, or_parts, or_from, cases_Bool, not_from_true, not_from_false, not-false, both_ways, ltb-true, lt-leb, ne_eqb}
+use Rattle.std.proofs.lemmas.Bool.{and_left, and_right, and_cases, or_parts, or_from, cases_Bool, not_from_true, not_from_false, both_ways, ltb-true, lt-leb, ne_eqb}
 use Rattle.std.proofs.lemmas.List.{append-nil, take-append-le}
 use Rattle.std.proofs.lemmas.List.Concat.{flat_map-append}
 use Rattle.std.proofs.lemmas.List.Folds.{list_any-append}
@@ -20,8 +20,8 @@ use Rattle.tesla_receiver.specs.Config.{chains}
 use Rattle.tesla_receiver.specs.Held.{is_at, has_passed, is_past, is_settled, is_gone}
 use Rattle.tesla_receiver.specs.Keys.{each_after, newest, new_keys}
 use Rattle.tesla_receiver.specs.Packets.{packet_of, proves, release_on, release_of, proved_by, batch, candidates, unless_named, released}
-use Rattle.tesla_receiver.specs.State.{Holding, tag_in, holding_of, held_at, holdings}
-use Rattle.tesla_receiver.specs.Steps.{tip_at, proves_on, released_on, proof_of, batch_of, released_of, is_passed, is_over, is_let_go, marked, kept_after}
+use Rattle.tesla_receiver.specs.State.{Holding, holding_of, held_at, holdings}
+use Rattle.tesla_receiver.specs.Steps.{proves_on, released_on, proof_of, batch_of, released_of, is_passed, is_over, is_let_go, marked, kept_after}
 use Rattle.tesla_receiver.proofs.Batches.{TipsOf, proof_held, released_by}
 use Rattle.tesla_receiver.proofs.Below.{all_below}
 use Rattle.tesla_receiver.proofs.EachAfter.{each_after-append, each_after_more}

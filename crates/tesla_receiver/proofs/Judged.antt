@@ -1,14 +1,12 @@
 -- The verdict on an arrival by what a receiver keeps is the one by the history.
-use Rattle.std.proofs.Common.{◌≡◌, ℕ, zero, suc, ◌+◌, ◌-◌, ◌^◌, ◌<◌, ◌≤◌, Bool, true, false, cond, ◌&&◌, ◌||◌, List, [], ◌∷◌, ◌++◌, length, count_by, map, flat_map, Option, Some, None, refl, sym, ap, subst, ⊎_elim, ◌∙◌, arith, ◌==◌, add-zero, zero-add}
-use Rattle.std.specs.Prelude.{not, find, filter, nat_lt, slice_get, unwrap_or, option_map}
+use Rattle.std.proofs.Common.{◌≡◌, ℕ, zero, suc, ◌+◌, ◌-◌, ◌^◌, ◌<◌, Bool, true, false, cond, ◌&&◌, ◌||◌, List, [], ◌∷◌, length, count_by, Option, Some, None, refl, sym, ap, ⊎_elim, ◌∙◌, arith, ◌==◌, add-zero, zero-add}
+use Rattle.std.specs.Prelude.{not, find, filter, nat_lt, option_map}
 use Rattle.std.specs.List.{list_any, list_all, enumerate_from}
-use Rattle.std.proofs.Math.Bool.{or-false}
-use Rattle.std.proofs.lemmas.Bool.{and_parts, and_from, and_right, or_parts, cases_Bool, not-true, not-false, not_from_false, true_from_ne_false, eqb-true, lt-ltb, ltb-true, lt-leb}
+use Rattle.std.proofs.lemmas.Bool.{and_parts, and_from, and_right, or_parts, cases_Bool, not_from_false, eqb-true, lt-ltb, ltb-true, lt-leb}
 use Rattle.std.proofs.lemmas.Option.{slice_get_within}
 use Rattle.tesla_base.specs.Version.{number_of}
 use Rattle.tesla_base.specs.declared.names.Key.{Key}
 use Rattle.tesla_base.specs.declared.names.Name.{Name}
-use Rattle.tesla_base.specs.declared.names.StreamId.{StreamId}
 use Rattle.tesla_base.proofs.Lists.{list_all_weaker, not_all_numbers}
 use Rattle.tesla_clock.specs.Safe.{has_chain, chain_set}
 use Rattle.tesla_clock.specs.Safe as clock
@@ -22,18 +20,17 @@ use Rattle.tesla_receiver.specs.declared.history.Arrival.{Arrival}
 use Rattle.tesla_receiver.specs.declared.history.Entry.{Entry}
 use Rattle.tesla_receiver.specs.declared.packet.Packet.{Packet}
 use Rattle.tesla_receiver.specs.declared.verdict.Verdict.{Verdict}
-use Rattle.tesla_receiver.specs.declared.verdict.Verdict.TheVariants.{Malformed, Foreign, Misfit, Future, BadKey, Late, Repeat, Full, Kept, Keys}
-use Rattle.tesla_receiver.specs.Answer.{stream_of, version_in, is_early, is_outside, fields_misfit, is_misfit, is_future, is_bad, safe_chains, packet_verdict, verdict_taken, refusal, verdict_on}
+use Rattle.tesla_receiver.specs.declared.verdict.Verdict.TheVariants.{Foreign, Misfit, Future, BadKey, Late, Repeat, Full, Kept}
+use Rattle.tesla_receiver.specs.Answer.{stream_of, version_in, is_early, is_outside, fields_misfit, is_misfit, is_future, is_bad, safe_chains, packet_verdict, verdict_taken, refusal}
 use Rattle.tesla_receiver.specs.Config.{chains, chain_row}
-use Rattle.tesla_receiver.specs.Held.{is_at, is_asked, has_passed, is_gone, has_place, held_of}
+use Rattle.tesla_receiver.specs.Held.{is_asked, has_passed, is_gone, has_place, held_of}
 use Rattle.tesla_receiver.specs.History.{IsLegal, arrivals_in}
 use Rattle.tesla_receiver.specs.Keys.{carried, keys_of, keys_in, takes_keys, newest, new_keys, leads_to}
 use Rattle.tesla_receiver.specs.Packets.{is_safe, packet_of, candidates, has_name, released}
 use Rattle.tesla_receiver.specs.State.{Holding, State, holding_of, held_at, holdings}
-use Rattle.tesla_receiver.specs.Steps.{tip_at, is_newer, fails, new_rows, with_keys, refused, safe_by, is_named_so, in_interval, judged_packet, judged_taken, judged_frame}
-use Rattle.tesla_receiver.specs.Tips.{tip_of}
-use Rattle.tesla_receiver.proofs.Batches.{TipsOf, is_open, is_seen, seen_held}
-use Rattle.tesla_receiver.proofs.Below.{same_test, find_same, filter_same, all_fail, passes_at}
+use Rattle.tesla_receiver.specs.Steps.{tip_at, is_newer, fails, new_rows, refused, safe_by, is_named_so, in_interval, judged_packet, judged_taken}
+use Rattle.tesla_receiver.proofs.Batches.{is_open, is_seen, seen_held}
+use Rattle.tesla_receiver.proofs.Below.{same_test, find_same, filter_same, all_fail}
 use Rattle.tesla_receiver.proofs.Tips.{bad_offered}
 use Rattle.tesla_receiver.proofs.Keeping.{Keeps, tip_kept, tips_kept}
 use Rattle.tesla_receiver.proofs.Names.{first_named}
@@ -55,7 +52,7 @@ carried_within : (cfg : Config) (n interval chain : ℕ) (key : Option Key) → 
 carried_within cfg n interval chain None h = refl
 carried_within cfg n interval chain (Some key) h = within_if n chain (interval - (chain_row cfg chain).delay) key (nat_lt interval (chain_row cfg chain).delay) h
 
-data_long : (a b c d e : Bool) → (a || b || not c || d || e) ≡ false → c ≡ true
+pub data_long : (a b c d e : Bool) → (a || b || not c || d || e) ≡ false → c ≡ true
 data_long a b true d e h = refl
 data_long true true false d e h = absurd (cc)
 data_long true false false d e h = absurd (cc)

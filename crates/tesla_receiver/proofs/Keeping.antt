@@ -1,35 +1,29 @@
 -- The keys, packets and releases that a receiver keeps, with one arrival more.
-use Rattle.std.proofs.Common.{◌≡◌, ℕ, ◌+◌, ◌<◌, ◌≤◌, Bool, true, false, cond, ◌&&◌, ◌||◌, List, [], ◌∷◌, ◌++◌, length, map, take, drop, flat_map, get_or, Option, Some, None, refl, sym, ap, subst, ⊎_elim, ◌∙◌, arith}
-use Rattle.std.specs.Prelude.{not, find, fold, filter, nat_lt, slice_get}
-use Rattle.std.specs.List.{list_any, list_all, enumerate_from, range_with_len}
+use Rattle.std.proofs.Common.{◌≡◌, ℕ, ◌+◌, ◌<◌, ◌≤◌, Bool, true, false, cond, ◌&&◌, ◌||◌, List, [], ◌∷◌, ◌++◌, length, map, drop, flat_map, get_or, Option, Some, None, refl, sym, ap, ⊎_elim, ◌∙◌}
+use Rattle.std.specs.Prelude.{not, find, fold, filter, nat_lt}
+use Rattle.std.specs.List.{list_any, list_all, enumerate_from}
 use Rattle.std.proofs.Math.Bool.{or-false}
 use Rattle.std.proofs.lemmas.Bool.{and_parts, and_left, and_right, and_cases, or_parts, or_from, not-true, not_from_false}
 use Rattle.std.proofs.lemmas.List.{append-nil, drop-append-le}
 use Rattle.tesla_base.proofs.Lists.{map_same}
 use Rattle.tesla_clock.specs.Safe.{has_chain}
-use Rattle.tesla_frame.specs.Frame.{Frame}
 use Rattle.tesla_frame.specs.Reading.{frame_of}
 use Rattle.tesla_frame.specs.declared.row.KeyRow.{KeyRow}
 use Rattle.tesla_keys.specs.Tip.{Tip}
 use Rattle.tesla_receiver.specs.declared.config.Config.{Config}
 use Rattle.tesla_receiver.specs.declared.history.Arrival.{Arrival}
 use Rattle.tesla_receiver.specs.declared.packet.Packet.{Packet}
-use Rattle.tesla_receiver.specs.declared.release.Release.{Release}
-use Rattle.tesla_receiver.specs.declared.verdict.Verdict.{Verdict}
-use Rattle.tesla_receiver.specs.declared.verdict.Verdict.TheVariants.{Malformed, Foreign, Misfit, Future, BadKey, Late, Repeat, Full, Kept, Keys}
 use Rattle.tesla_receiver.specs.Config.{chains}
-use Rattle.tesla_receiver.specs.Held.{is_at, has_passed, is_past, is_settled, is_gone}
-use Rattle.tesla_receiver.specs.Keys.{each_after, takes_keys, keys_in, newest, new_keys}
+use Rattle.tesla_receiver.specs.Held.{is_at, has_passed, is_past, is_gone}
+use Rattle.tesla_receiver.specs.Keys.{takes_keys, keys_in, newest, new_keys}
 use Rattle.tesla_receiver.specs.Packets.{packet_of, candidates, released}
 use Rattle.tesla_receiver.specs.State.{Holding, State, holding_of, held_at, holdings}
-use Rattle.tesla_receiver.specs.Steps.{no_tip, tip_at, tips_after, proves_on, released_on, proof_of, batch_of, released_of, is_passed, is_over, is_let_go, marked, kept_after, with_keys}
+use Rattle.tesla_receiver.specs.Steps.{no_tip, tip_at, tips_after, proves_on, released_on, batch_of, released_of, is_passed, is_let_go, marked, kept_after, with_keys}
 use Rattle.tesla_receiver.specs.Tips.{raised, tip_of}
 use Rattle.tesla_receiver.proofs.Batches.{TipsOf, all_held}
-use Rattle.tesla_receiver.proofs.Below.{got_below, map_numbered, passes_at}
+use Rattle.tesla_receiver.proofs.Below.{got_below, map_numbered}
 use Rattle.tesla_receiver.proofs.Tips.{tip_index, tip_more}
-use Rattle.tesla_receiver.proofs.Gone.{Brought}
 use Rattle.tesla_receiver.proofs.HeldAfter.{over_same, passed_same, released_now, released_after, holdings_more}
-use Rattle.tesla_receiver.proofs.Passing.{none_found}
 
 -- the keys, packets and releases are those that the arrivals and what was given name
 pub record Keeps (state : State) (xs : List Arrival) (given : ℕ) : Type 0 where

@@ -35,3 +35,9 @@ pub mod Offers
 pub mod OneKey
 pub mod Tips
 pub mod Costs
+pub mod States
+pub mod Bounded
+pub mod Rows
+pub mod TipsByRows
+pub mod FrameRows
+pub mod Unreached

@@ -1,13 +1,11 @@
 -- The first of each name, by which names stand before.
-use Rattle.std.proofs.Common.{◌≡◌, ℕ, ◌+◌, Bool, true, false, cond, ◌||◌, List, [], ◌∷◌, ◌++◌, flat_map, Some, refl, sym, ap, subst, ⊎_elim, ◌⊎◌, ◌∙◌, arith, suc, append_assoc}
+use Rattle.std.proofs.Common.{◌≡◌, ℕ, ◌+◌, Bool, true, false, cond, ◌||◌, List, [], ◌∷◌, ◌++◌, flat_map, Some, refl, sym, ap, subst, ⊎_elim, ◌⊎◌, ◌∙◌, arith, suc}
 use Rattle.std.specs.Prelude.{slice_get}
 use Rattle.std.specs.List.{list_any, list_all, enumerate_from}
 use Rattle.std.proofs.Math.Bool.{or-false}
 use Rattle.std.proofs.lemmas.Bool.{and_parts, cases_Bool, or_cases, or_from, or_left, both_ways}
-use Rattle.std.proofs.lemmas.List.{append-nil}
 use Rattle.std.proofs.lemmas.List.Folds.{list_any-append}
 use Rattle.tesla_base.specs.declared.names.Name.{Name}
-use Rattle.tesla_base.proofs.Lists.{list_all_weaker}
 use Rattle.tesla_receiver.specs.declared.release.Release.{Release}
 use Rattle.tesla_receiver.specs.Keys.{each_after}
 use Rattle.tesla_receiver.specs.Packets.{has_name, unless_named}

@@ -1,12 +1,11 @@
 -- Each packet is released once, and the next to be given is held.
-use Rattle.std.proofs.Common.{◌≡◌, ℕ, zero, suc, ◌+◌, ◌<◌, ◌≤◌, Bool, true, false, cond, ◌&&◌, ◌||◌, List, [], ◌∷◌, ◌++◌, length, length-append, map, take, drop, get_or, flat_map, Option, Some, None, refl, sym, ap, subst, ⊎_elim, ◌∙◌, arith, ◌==◌, add-one}
-use Rattle.std.specs.Prelude.{not, find, slice_get, is_some}
-use Rattle.std.specs.List.{list_any, list_all, enumerate_from, range_with_len}
+use Rattle.std.proofs.Common.{◌≡◌, ℕ, zero, suc, ◌+◌, Bool, true, false, cond, ◌&&◌, List, [], ◌∷◌, ◌++◌, take, Option, Some, None, refl, sym, ap, ◌∙◌, arith}
+use Rattle.std.specs.Prelude.{not, find, slice_get}
+use Rattle.std.specs.List.{list_any, list_all}
 use Rattle.std.proofs.Math.Bool.{or-false}
-use Rattle.std.proofs.lemmas.Bool.{and_parts, and_from, and_left, and_right, or_parts, or_from, or_right, both_ways, cases_Bool, cases_eq, not-true, not_from_true, not_from_false, false_from_ne_true, ne_eqb, eq-eqb}
-use Rattle.std.proofs.lemmas.List.{append-nil}
-use Rattle.std.proofs.lemmas.List.Folds.{list_any-append, list_all-append, list_all-map, list_any_more}
-use Rattle.std.proofs.lemmas.Option.{same_Some, slice_get_within, get_or_from_slice_get}
+use Rattle.std.proofs.lemmas.Bool.{and_from, and_left, and_right, or_parts, or_from, both_ways, not-true, not_from_true, not_from_false, false_from_ne_true, ne_eqb, eq-eqb}
+use Rattle.std.proofs.lemmas.List.Folds.{list_any-append, list_all-append}
+use Rattle.std.proofs.lemmas.Option.{same_Some}
 use Rattle.tesla_base.specs.declared.names.Name.{Name}
 use Rattle.tesla_base.proofs.Lists.{list_all_weaker, list_all-take, list_any_got}
 use Rattle.tesla_frame.specs.Frame.{Frame, Data, Disclosure}
@@ -27,7 +26,7 @@ use Rattle.tesla_receiver.specs.Steps.{payload_held, is_numbered}
 use Rattle.tesla_receiver.proofs.Below.{passes_at}
 use Rattle.tesla_receiver.proofs.Gone.{Brought, is_called, called_any, candidates_called}
 use Rattle.tesla_receiver.proofs.Numbered.{find_at}
-use Rattle.tesla_receiver.proofs.Owners.{Owned, owned_at}
+use Rattle.tesla_receiver.proofs.Owners.{owned_at}
 use Rattle.tesla_receiver.proofs.Places.{firsts_pass}
 
 -- ---- each name is released once

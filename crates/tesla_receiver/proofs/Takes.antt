@@ -1,9 +1,9 @@
 -- A receiver's state stands for one take more.
-use Rattle.std.proofs.Common.{◌≡◌, ℕ, zero, suc, ◌+◌, Bool, true, false, cond, ◌&&◌, ◌||◌, List, [], ◌∷◌, ◌++◌, length, length-append, map, take, drop, get_or, flat_map, Option, Some, None, refl, sym, ap, subst, ⊎_elim, ◌∙◌, arith, ◌==◌, add-one, add-zero}
+use Rattle.std.proofs.Common.{◌≡◌, ℕ, zero, suc, ◌+◌, Bool, true, false, cond, ◌&&◌, ◌||◌, List, [], ◌∷◌, ◌++◌, length-append, map, take, drop, flat_map, Option, Some, None, refl, sym, ap, subst, ⊎_elim, ◌∙◌, ◌==◌, add-one, add-zero}
 use Rattle.std.specs.Prelude.{not, find, slice_get, is_some}
 use Rattle.std.specs.List.{list_any, list_all, enumerate_from, range_with_len}
 use Rattle.std.proofs.Math.Bool.{or-false}
-use Rattle.std.proofs.lemmas.Bool.{and_right, or_right, cases_eq, not_from_true, ne_eqb, eq-eqb}
+use Rattle.std.proofs.lemmas.Bool.{and_right, or_right, cases_eq, ne_eqb, eq-eqb}
 use Rattle.std.proofs.lemmas.List.{append-nil}
 use Rattle.std.proofs.lemmas.List.Folds.{list_all-map, list_any_more}
 use Rattle.std.proofs.lemmas.Option.{slice_get_within, get_or_from_slice_get}
@@ -25,7 +25,7 @@ use Rattle.tesla_receiver.specs.Steps.{is_passed, payload_held, is_numbered, pay
 use Rattle.tesla_receiver.specs.Tips.{tip_of}
 use Rattle.tesla_receiver.proofs.Arriving.{keeps_of}
 use Rattle.tesla_receiver.proofs.Batches.{TipsOf}
-use Rattle.tesla_receiver.proofs.Gone.{Brought}
+use Rattle.tesla_receiver.proofs.Below.{first_in}
 use Rattle.tesla_receiver.proofs.HeldAfter.{passed_same}
 use Rattle.tesla_receiver.proofs.Keeping.{tips_kept}
 use Rattle.tesla_receiver.proofs.Legal.{arrivals_same, given_take}
@@ -34,10 +34,6 @@ use Rattle.tesla_receiver.proofs.Once.{place_once, next_out, untaken_stays, payl
 use Rattle.tesla_receiver.proofs.Standing.{entered_legal, ended_same}
 
 -- ---- lists
-
-abbrev pub first_in : {A : Type 0} → List A → Option A
-first_in [] = None
-first_in (x ∷ xs) = Some x
 
 pub next_first : {A : Type 0} (xs : List A) (n : ℕ) → slice_get xs n ≡ first_in (drop n xs)
 next_first [] zero = refl

@@ -1,6 +1,7 @@
 -- What is so of every state that stands for a history.
 use Rattle.std.specs.Prelude.{◌≡◌, ℕ, ◌+◌, ◌<◌, ◌≤◌, true, false, List, [], ◌∷◌, length, filter, find, Some, slice_get, count_by}
 use Rattle.tesla_receiver.specs.declared.release.Release.{Release}
+use Rattle.tesla_receiver.specs.declared.report.Report.{Report}
 use Rattle.tesla_receiver.specs.State.{Holding, State}
 use Rattle.tesla_receiver.specs.Steps.{is_released, is_let_go, in_interval, is_numbered}
 
@@ -17,10 +18,17 @@ pub record IsWaiting (held : List Holding) (release : Release) : Type 0 where
   pub released : item.released ≡ true
   pub taken : item.taken ≡ false
 
+-- the counts of the verdicts are as many as the arrivals
+abbrev pub IsCounted : Report → Type 0
+IsCounted r = r.malformed + r.foreign + r.misfit + r.future + r.badkey + r.late + r.repeat + r.full + r.kept + r.keys ≡ r.arrivals
+
 pub record IsConsistent (s : State) : Type 0 where
   -- a newest key for each chain, and a flag for each ingest
   pub tips : length s.tips ≡ length s.config.setup.rows
   pub ended : length s.ended ≡ s.config.ingests
+  pub counted : IsCounted s.counts
+  -- no more arrived and was given than events were
+  pub entered : s.counts.arrivals + s.counts.given ≤ s.calls
   -- no more packets than places, nor more of an interval than its quota
   pub few : length s.held ≤ s.config.capacity
   pub quota : (interval : ℕ) → count_by (in_interval interval) s.held ≤ s.config.quota

@@ -1,5 +1,5 @@
 -- What one event makes of what a receiver keeps, and the answer to it. Nothing here looks at a history.
-use Rattle.std.specs.Prelude.{ℕ, ◌+◌, ◌-◌, Bool, true, false, not, ◌&&◌, ◌||◌, List, [], ◌∷◌, ◌++◌, length, map, filter, find, fold, flat_map, get_or, replicate, slice_get, slice_set, option_map, unwrap_or, Option, Some, None, is_some, nat_lt, nat_le, ◌==◌, if◌then◌else◌, bytes_eq, count_by}
+use Rattle.std.specs.Prelude.{ℕ, ◌+◌, ◌-◌, Bool, true, false, not, ◌&&◌, ◌||◌, List, [], ◌∷◌, ◌++◌, length, map, filter, find, fold, flat_map, get_or, replicate, slice_get, slice_set, option_map, unwrap_or, Option, Some, None, nat_lt, nat_le, ◌==◌, if◌then◌else◌, bytes_eq, count_by}
 use Rattle.std.specs.List.{list_any, list_all, enumerate_from}
 use Rattle.tesla_base.specs.declared.names.Name.{Name}
 use Rattle.tesla_clock.specs.Safe.{has_chain, chain_set}
@@ -19,7 +19,7 @@ use Rattle.tesla_receiver.specs.declared.verdict.Verdict.{Verdict}
 use Rattle.tesla_receiver.specs.declared.verdict.Verdict.TheVariants.{Malformed, Foreign, Misfit, Future, BadKey, Late, Repeat, Full, Kept, Keys}
 use Rattle.tesla_receiver.specs.Answer.{stream_of, is_misfit, is_future}
 use Rattle.tesla_receiver.specs.Config.{chains, chain_row}
-use Rattle.tesla_receiver.specs.Held.{is_at, is_asked}
+use Rattle.tesla_receiver.specs.Held.{is_at}
 use Rattle.tesla_receiver.specs.History.{head_of}
 use Rattle.tesla_receiver.specs.Keys.{each_after, is_of, keys_of, leads_to}
 use Rattle.tesla_receiver.specs.Packets.{has_name, unless_named}

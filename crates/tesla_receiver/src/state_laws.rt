@@ -1,19 +1,34 @@
 //! What a receiver keeps is enough: its state moves without the history and stands for it, as
 //! contracts of functions that do nothing.
 
-ghost use Rattle.std.specs.Prelude.{◌≡◌, ◌++◌, ◌∷◌, [], ℕ, List};
+ghost use Rattle.std.specs.Prelude.{◌≡◌, ◌≤◌, ◌+◌, ◌*◌, ◌++◌, ◌∷◌, [], ℕ, List, length, count_by};
 ghost use Rattle.tesla_receiver.specs.declared.config.Config.{Config};
 ghost use Rattle.tesla_receiver.specs.declared.history.Entry.{Entry};
 ghost use Rattle.tesla_receiver.specs.Answer.{verdict_of};
 ghost use Rattle.tesla_receiver.specs.Consistent.{IsConsistent};
 ghost use Rattle.tesla_receiver.specs.Costs.{most_evaluations, most_by};
-ghost use Rattle.tesla_receiver.specs.History.{Arrives, Takes, Ends, entry_of, reply_to, arrivals_in, given_in};
+ghost use Rattle.tesla_receiver.specs.History.{Arrives, Takes, Ends, entry_of, reply_to, IsLegal, arrivals_in, given_in, held_in, held_of_interval};
+ghost use Rattle.tesla_receiver.specs.Played.{waiting_in};
 ghost use Rattle.tesla_receiver.specs.State.{State, Stands};
-ghost use Rattle.tesla_receiver.specs.Steps.{opened, judged, after_arrival, reply_by, after_take, after_end};
+ghost use Rattle.tesla_receiver.specs.Steps.{in_interval, opened, judged, after_arrival, reply_by, after_take, after_end};
 
 /// The state with the commitments alone stands for the empty history.
 pub fn openings()
     ensures { (cfg : Config) → Stands (opened cfg) [] }
+{}
+
+/// A legal history has one state that stands for it.
+pub fn states()
+    ensures some { (cfg : Config) (h : List Entry) → IsLegal cfg h → (s : State) × (s.config ≡ cfg) × Stands s h }
+    ensures one { (s t : State) (h : List Entry) → Stands s h → Stands t h → s.config ≡ t.config → s ≡ t }
+{}
+
+/// The numbers that a state tells are those of the history.
+pub fn numbers()
+    ensures held { (s : State) (h : List Entry) → Stands s h → length s.held ≡ held_in s.config h }
+    ensures interval { (s : State) (h : List Entry) → Stands s h → (interval : ℕ) →
+        count_by (in_interval interval) s.held ≡ held_of_interval s.config h interval }
+    ensures waiting { (s : State) (h : List Entry) → Stands s h → length s.waiting ≡ waiting_in s.config h }
 {}
 
 /// An arrival, by the state alone.
@@ -47,8 +62,12 @@ pub fn consistency()
     ensures { (s : State) (h : List Entry) → Stands s h → IsConsistent s }
 {}
 
-/// The most evaluations of HMAC that an arrival may take: by the state alone they are those by the history.
+/// The most evaluations of HMAC that an arrival may take.
 pub fn costs()
-    ensures { (s : State) (h : List Entry) → Stands s h → (reading : ℕ) (bytes : List ℕ) →
+    // By the state alone they are those by the history.
+    ensures same { (s : State) (h : List Entry) → Stands s h → (reading : ℕ) (bytes : List ℕ) →
         most_by s reading bytes ≡ most_evaluations s.config (arrivals_in h) reading bytes }
+    // However long the history is, they are within what the setup and the capacity give.
+    ensures bounded { (cfg : Config) (h : List Entry) → IsLegal cfg h → (reading : ℕ) (bytes : List ℕ) →
+        most_evaluations cfg (arrivals_in h) reading bytes ≤ 2 * (length cfg.setup.rows * cfg.setup.times.last) + 2 * (cfg.capacity * length cfg.setup.rows) }
 {}

@@ -1,5 +1,9 @@
+use Rattle.tesla_receiver.proofs.Bounded.{cost_bounded}
 use Rattle.tesla_receiver.proofs.Costs.{cost_same}
 use Rattle.tesla_receiver.proofs.state_laws.costs.Goals as goal
 
-pub returns : goal.returns
-returns c = cost_same
+pub returns-clause-same : goal.returns-clause-same
+returns-clause-same c = cost_same
+
+pub returns-clause-bounded : goal.returns-clause-bounded
+returns-clause-bounded c = cost_bounded

@@ -1,0 +1,58 @@
+-- A legal history has one state that stands for it.
+use Rattle.std.proofs.Common.{◌≡◌, ℕ, List, length, length-drop, map, drop, count_by, refl, sym, ap, ◌∙◌}
+use Rattle.std.specs.List.{range_with_len}
+use Rattle.tesla_receiver.specs.declared.config.Config.{Config}
+use Rattle.tesla_receiver.specs.declared.history.Entry.{Entry}
+use Rattle.tesla_receiver.specs.Config.{chains}
+use Rattle.tesla_receiver.specs.History.{IsLegal, arrivals_in, given_in, held_in, held_of_interval, has_end}
+use Rattle.tesla_receiver.specs.Packets.{released}
+use Rattle.tesla_receiver.specs.Played.{waiting_in}
+use Rattle.tesla_receiver.specs.Report.{report_of}
+use Rattle.tesla_receiver.specs.State.{State, Stands, holdings}
+use Rattle.tesla_receiver.specs.Steps.{in_interval}
+use Rattle.tesla_receiver.specs.Tips.{tip_of}
+use Rattle.tesla_receiver.proofs.Judged.{held_all, held_interval}
+
+-- what the definitions name after a history
+abbrev pub state_of : Config → List Entry → State
+state_of cfg h = record {
+  config = cfg;
+  tips = map (tip_of cfg (arrivals_in h)) (chains cfg);
+  held = holdings cfg (arrivals_in h) (given_in h);
+  waiting = drop (given_in h) (released cfg (arrivals_in h));
+  ended = map (has_end h) (range_with_len 0 cfg.ingests);
+  counts = report_of h;
+  calls = length h;
+}
+
+pub stands_of : (cfg : Config) (h : List Entry) → IsLegal cfg h → Stands (state_of cfg h) h
+stands_of cfg h legal = record { legal = legal; tips = refl; held = refl; waiting = refl; ended = refl; counts = refl; calls = refl }
+
+-- some state stands for a legal history
+pub stands_some : (cfg : Config) (h : List Entry) → IsLegal cfg h → (s : State) × (s.config ≡ cfg) × Stands s h
+stands_some cfg h legal = (state_of cfg h, refl, stands_of cfg h legal)
+
+stands_is : (s : State) (h : List Entry) → Stands s h → s ≡ state_of s.config h
+stands_is s h st =
+    let named : State = state_of s.config h in
+    ap (λ v. record s { tips = v }) st.tips
+    ∙ ap (λ v. record s { tips = named.tips; held = v }) st.held
+    ∙ ap (λ v. record s { tips = named.tips; held = named.held; waiting = v }) st.waiting
+    ∙ ap (λ v. record named { ended = v; counts = s.counts; calls = s.calls }) st.ended
+    ∙ ap (λ v. record named { counts = v; calls = s.calls }) st.counts
+    ∙ ap (λ (v : ℕ). record named { calls = v }) st.calls
+
+-- and no other of the configuration
+pub stands_one : (s t : State) (h : List Entry) → Stands s h → Stands t h → s.config ≡ t.config → s ≡ t
+stands_one s t h a b same = stands_is s h a ∙ ap (λ (cfg : Config). state_of cfg h) same ∙ sym (stands_is t h b)
+
+-- ---- numbers
+
+pub held_number : (s : State) (h : List Entry) → Stands s h → length s.held ≡ held_in s.config h
+held_number s h st = ap length st.held ∙ held_all s.config (arrivals_in h) (given_in h)
+
+pub interval_number : (s : State) (h : List Entry) → Stands s h → (interval : ℕ) → count_by (in_interval interval) s.held ≡ held_of_interval s.config h interval
+interval_number s h st interval = ap (count_by (in_interval interval)) st.held ∙ held_interval s.config (arrivals_in h) (given_in h) interval
+
+pub waiting_number : (s : State) (h : List Entry) → Stands s h → length s.waiting ≡ waiting_in s.config h
+waiting_number s h st = ap length st.waiting ∙ length-drop (given_in h) (released s.config (arrivals_in h))
