@@ -24,7 +24,7 @@ use Rattle.tesla_receiver.specs.Steps.{tip_at, is_newer, new_rows, bound_at}
 use Rattle.tesla_receiver.proofs.Below.{all_fail, filter_shorter}
 use Rattle.tesla_receiver.proofs.Consistent.{consistent}
 use Rattle.tesla_receiver.proofs.Costs.{all_filtered, cost_same, read_fits}
-use Rattle.tesla_receiver.proofs.FrameRows.{rows_rise}
+use Rattle.tesla_frame.proofs.Rising.{disclosed_rise}
 use Rattle.tesla_receiver.proofs.Judged.{data_long, keys_within}
 use Rattle.tesla_receiver.proofs.Passing.{all_enumerated}
 use Rattle.tesla_receiver.proofs.States.{state_of, stands_of}
@@ -83,7 +83,7 @@ keys_few cfg bytes (Data f) read fits =
     (list_any (λ (p : ℕ × TagRow). is_early cfg f.name.interval p.0 p.1.key) (enumerate_from 0 f.rows)) fields) in
     let few = gathered_fewer (λ (p : ℕ × TagRow). carried cfg f.name.interval p.0 p.1.key) 0 f.rows (λ n row. carried_few cfg f.name.interval n row.key) in
     omega (arith, few, long)
-keys_few cfg bytes (Disclosure f) read fits = rows_few (length cfg.setup.rows) f.rows (rows_rise bytes f read) (keys_within cfg (Disclosure f) fits)
+keys_few cfg bytes (Disclosure f) read fits = rows_few (length cfg.setup.rows) f.rows (disclosed_rise bytes f read) (keys_within cfg (Disclosure f) fits)
 
 -- ---- how far they are
 

@@ -39,5 +39,4 @@ pub mod States
 pub mod Bounded
 pub mod Rows
 pub mod TipsByRows
-pub mod FrameRows
 pub mod Unreached

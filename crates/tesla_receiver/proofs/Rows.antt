@@ -18,7 +18,7 @@ use Rattle.tesla_receiver.specs.Costs.{is_reached_by}
 use Rattle.tesla_receiver.specs.Keys.{carried, is_of, keys_of}
 use Rattle.tesla_receiver.specs.State.{Holding}
 use Rattle.tesla_receiver.specs.Steps.{tip_at, matches, is_proof_of, proves_on}
-use Rattle.tesla_receiver.proofs.FrameRows.{rows_rise}
+use Rattle.tesla_frame.proofs.Rising.{disclosed_rise}
 use Rattle.tesla_receiver.proofs.Below.{find_below, any_same, first_in, found_first, first_map}
 
 -- the first row's chain is n or above, and each further one's is above the one before
@@ -55,7 +55,7 @@ data_from cfg interval n (row ∷ rows) = key_from cfg interval n row.key (flat_
 -- the keys of a frame stand in the order of their chains, one a chain at most
 pub keys_rise : (cfg : Config) (bytes : List ℕ) (frame : Frame) → frame_of bytes ≡ Some frame → ChainsFrom 0 (keys_of cfg frame)
 keys_rise cfg bytes (Data f) read = data_from cfg f.name.interval 0 f.rows
-keys_rise cfg bytes (Disclosure f) read = rise_all f.rows (rows_rise bytes f read)
+keys_rise cfg bytes (Disclosure f) read = rise_all f.rows (disclosed_rise bytes f read)
 
 filter_if : (n : ℕ) (row : KeyRow) (rest : List KeyRow) (b : Bool) → n ≤ row.chain.0 → ChainsFrom (row.chain.0 + 1) rest → ChainsFrom n (cond b (row ∷ rest) rest)
 filter_if n row rest true less r = (less, r)
