@@ -1,0 +1,2 @@
+pub mod Tip
+pub mod Offers
