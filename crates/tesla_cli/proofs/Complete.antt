@@ -83,8 +83,7 @@ not_refused Why page (stops.Refused refusal) text failed is never why = absurd (
 -- a setup that is told is found
 is_setup : (text : List ℕ) (setup : Parts) → judged text ≡ Ok setup → (refusal : Refusal) → IsNoSetupText text (stops.Refused refusal) → ⊥
 is_setup text setup found (refusals.Setup line kind) why = let no : ◌≡◌ {A = Result Parts (ℕ × SetupKind)} (Ok setup) (Err (line, kind)) = sym found ∙ why in cc
-is_setup text setup found (refusals.Capture place kind) why = why
-is_setup text setup found (refusals.Seeds line kind) why = why
+is_setup text setup found _ why = why
 
 -- it is the one that was told
 one_setup : (page : Page) (text : List ℕ) (failed : Bool) (setup other : Parts) → page ≡ Holds text failed → judged text ≡ Ok setup → IsSetupIn page other → other ≡ setup
@@ -125,9 +124,8 @@ complete words old new outcome asked text bytes failed other setup runs is page 
 
 -- seeds that are told are found
 are_seeds : (count : ℕ) (text : List ℕ) (seeds : List Key) → seeds_judged count text ≡ Ok seeds → (refusal : Refusal) → IsNoSeedsText count text (stops.Refused refusal) → ⊥
-are_seeds count text seeds found (refusals.Setup line kind) why = why
-are_seeds count text seeds found (refusals.Capture place kind) why = why
 are_seeds count text seeds found (refusals.Seeds line kind) why = let no : ◌≡◌ {A = Result (List Key) (ℕ × SeedsKind)} (Ok seeds) (Err (line, kind)) = sym found ∙ why in cc
+are_seeds count text seeds found _ why = why
 
 writing_ends : (setup : Parts) (count : ℕ) (before out : Page) (came : Result Summary Stop) → length setup.rows ≡ count → WritesSetup setup before out came → (came ≡ Ok (Chains count)) ⊎ ((fault : Fault) × (came ≡ Err (stops.Failed fault)))
 writing_ends setup count before out (Ok summary) same writes = inl (ap (λ s. Ok s) (writes.0 ∙ ap Chains same))

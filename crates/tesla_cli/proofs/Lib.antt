@@ -7,6 +7,7 @@ pub mod SevenWords
 pub mod Told
 pub mod Forms
 pub mod Openings
+pub mod Conversions
 pub mod Played
 pub mod Texts
 pub mod Consoles

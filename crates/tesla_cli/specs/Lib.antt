@@ -8,5 +8,7 @@ pub mod ChainSteps
 pub mod Asked
 pub mod ChainAsked
 pub mod Delays
+pub mod Conversion
+pub mod Held
 pub mod Playing
 pub mod Steps

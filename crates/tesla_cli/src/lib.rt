@@ -7,6 +7,7 @@ mod here;
 pub mod laws;
 mod outcome;
 mod replay;
+mod settling;
 mod usage;
 
 pub use chain::{ChainWords, chain_words, run_chain};
