@@ -2,6 +2,10 @@ pub mod Held
 pub mod Targets
 pub mod Records
 pub mod Takes
+pub mod FiveWords
+pub mod Frames
+pub mod Scripts
+pub mod ScriptEnds
 pub mod SixWords
 pub mod SevenWords
 pub mod Told
