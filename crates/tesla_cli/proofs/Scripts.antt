@@ -192,3 +192,11 @@ at_start stream sender bytes place ahead written held count start told same stan
   count_is = none;
   holds = holds;
 }
+
+-- where there may be more, the next record was carried out
+pub at_more : (next : Option ScriptEnding) (stream : Stream) (sender : State) (bytes : List ℕ) (place : ℕ) (ahead written : Option (List ℕ)) (held : List ℕ) (count : ℕ) → next ≡ None → SendsNext (Ok next) stream sender bytes place ahead written held count → IsAt stream sender bytes place ahead written held count
+at_more next stream sender bytes place ahead written held count none sends = subst (λ (n : Option ScriptEnding). SendsNext (Ok n) stream sender bytes place ahead written held count) none sends
+
+-- where there is none, all were sent
+pub at_over : (next : Option ScriptEnding) (ending : ScriptEnding) (stream : Stream) (sender : State) (bytes : List ℕ) (place : ℕ) (ahead written : Option (List ℕ)) (held : List ℕ) (count : ℕ) → next ≡ Some ending → SendsNext (Ok next) stream sender bytes place ahead written held count → SendsAll (Ok ending) stream bytes count written held
+at_over next ending stream sender bytes place ahead written held count some sends = subst (λ (n : Option ScriptEnding). SendsNext (Ok n) stream sender bytes place ahead written held count) some sends

@@ -25,7 +25,7 @@ returns-in-End-clause-sends g c stream bytes is =
 
 pub returns-in-Refused-clause-sends : goal.returns-in-Refused-clause-sends
 returns-in-Refused-clause-sends g c stream bytes is =
-    at_refused stream c.args.self.now.sender bytes _ _ c.in-Refused.kind c.kind.result _ _ _ _ is (c.in-Refused.ensures.gives is.rest is.ahead_is).0 c.kind.ensures c.script_outlines.ensures.refused
+    at_refused stream c.args.self.now.sender bytes _ _ c.in-Refused.kind c.from-kind.result _ _ _ _ is (c.in-Refused.ensures.gives is.rest is.ahead_is).0 c.from-kind.ensures c.script_outlines.ensures.refused
 
 pub returns-in-ReadFault-clause-sends : goal.returns-in-ReadFault-clause-sends
 returns-in-ReadFault-clause-sends g c stream bytes is = at_fault stream c.args.self.now.sender bytes _ _ _ _ _ is

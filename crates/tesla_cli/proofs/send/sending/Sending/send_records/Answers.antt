@@ -1,8 +1,7 @@
-use Rattle.std.proofs.Common.{◌∙◌, Option, Ok, List, ℕ, [], Some, None, arith, refl, sym, ap, subst}
+use Rattle.std.proofs.Common.{◌∙◌, Option, Ok, List, ℕ, [], arith, refl, ap}
 use Rattle.tesla_desk.specs.Outside.{after_bytes}
-use Rattle.tesla_cli.specs.SendSteps.{SendsNext}
 use Rattle.tesla_cli.specs.declared.send.sending.ScriptEnding.{ScriptEnding}
-use Rattle.tesla_cli.proofs.Scripts.{at_start}
+use Rattle.tesla_cli.proofs.Scripts.{at_start, at_more, at_over}
 use Rattle.tesla_cli.proofs.send.sending.Sending.send_records.Goals as goal
 
 pub loop-ending-init : goal.loop-ending-init
@@ -28,12 +27,12 @@ loop-ending-preserved g c =
       writes = omega (arith, c.loop-ending.invariant.writes, c.send_next.ensures.writes.stays);
       name = c.send_next.ensures.name ∙ c.loop-ending.invariant.name;
       at = λ stream bytes told same stands holds.
-          subst (λ (n : Option ScriptEnding). SendsNext (Ok n) stream c.send_next.new.self.sender bytes c.send_next.new.reader.place _ _ _ _) c.in-Ok-None.field-0-is (c.in-Ok-None.ensures.sends stream bytes (c.loop-ending.invariant.at stream bytes told same stands holds));
+          at_more c.in-Ok-None.field-0 stream c.send_next.new.self.sender bytes _ _ _ _ _ c.in-Ok-None.field-0-is (c.in-Ok-None.ensures.sends stream bytes (c.loop-ending.invariant.at stream bytes told same stands holds));
     }
 
 pub returns-in-Ok-Some-clause-sends : goal.returns-in-Ok-Some-clause-sends
 returns-in-Ok-Some-clause-sends g c stream bytes told same stands holds =
-    subst (λ (n : Option ScriptEnding). SendsNext (Ok n) stream c.send_next.new.self.sender bytes c.send_next.new.reader.place _ _ _ _) c.in-Ok-Some.field-0-is (c.in-Ok-Some.ensures.sends stream bytes (c.loop-ending.invariant.at stream bytes told same stands holds))
+    at_over c.in-Ok-Some.field-0 c.in-Ok-Some.ending stream c.send_next.new.self.sender bytes _ _ _ _ _ c.in-Ok-Some.field-0-is (c.in-Ok-Some.ensures.sends stream bytes (c.loop-ending.invariant.at stream bytes told same stands holds))
 
 pub returns-in-Err-clause-sends : goal.returns-in-Err-clause-sends
 returns-in-Err-clause-sends g c stream bytes told same stands holds = c.in-Err.ensures.sends stream bytes (c.loop-ending.invariant.at stream bytes told same stands holds)
