@@ -6,6 +6,7 @@ pub mod FiveWords
 pub mod Frames
 pub mod Scripts
 pub mod ScriptEnds
+pub mod Sent
 pub mod SixWords
 pub mod SevenWords
 pub mod Told

@@ -18,7 +18,7 @@ pub use outcome::{Outcome, Summary, outcome_of, tell};
 pub use replay::{
     Ending, PlayedEvent, Player, ReplayTarget, ReplayWords, Target, replay_words, run_replay,
 };
-pub use send::{SendWords, send_words};
+pub use send::{SendWords, run_send, send_words};
 pub use usage::{FORMS, FormText};
 
 #[cfg(test)]
