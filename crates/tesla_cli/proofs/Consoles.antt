@@ -135,7 +135,6 @@ does_moves (Chain asked) words opened before after old new came spelled first la
   writes = subst (λ (p : Page). WritesSetup (setup_made asked makes.seeds) p (new asked.out) came) (first asked.out spelled.names.out_is.file)
       (subst (λ (p : Page). WritesSetup (setup_made asked makes.seeds) (before asked.out) p came) (sym (last asked.out spelled.names.out_is.file)) makes.writes);
 })
-
 does_moves (Send asked) words opened before after old new came spelled first last (inl stops) = inl (record {
   alone = stops.alone;
   stop = stops.stop;

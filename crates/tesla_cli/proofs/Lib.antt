@@ -18,5 +18,6 @@ pub mod Texts
 pub mod Consoles
 pub mod Histories
 pub mod Complete
+pub mod SendComplete
 pub mod DelayWords
 pub mod Setups

@@ -252,7 +252,11 @@ impl<L: Ledger> Sending<L> {
     }
 
     // Puts the head of the capture, and sends the records of a script.
-    fn send_all<S: Source, O: Sink>(&mut self, source: &mut S, out: &mut O) -> Result<ScriptEnding, Fault>
+    fn send_all<S: Source, O: Sink>(
+        &mut self,
+        source: &mut S,
+        out: &mut O,
+    ) -> Result<ScriptEnding, Fault>
         requires { self.old.frames ≡ 0 }
         ensures sends { (stream : Stream) (bytes : List ℕ) → S.left source.old ≡ Some bytes → self.old.sender.stream ≡ stream → Stands self.old.sender [] → HoldsText (O.written out.old) (gathered self.old.gatherer) [] →
             SendsAll result stream bytes self.new.frames (O.written out.new) (gathered self.new.gatherer) }
