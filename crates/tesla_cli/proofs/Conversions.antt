@@ -1,5 +1,5 @@
 -- The output of a command that makes it from one input, once both are closed.
-use Rattle.std.proofs.Common.{◌≡◌, ◌≢◌, ◌<◌, ℕ, Option, Some, None, Result, List, refl, arith}
+use Rattle.std.proofs.Common.{◌≢◌, ◌<◌, ℕ, Option, Some, None, Result, List, refl, arith}
 use Rattle.std.proofs.lemmas.Bool.Decides.{nat_tests}
 use Rattle.tesla_desk.specs.Outside.{Page, Untold, Absent, Holds, Opened, page_of}
 use Rattle.tesla_desk.proofs.Told.{opened_holds}

@@ -1,20 +1,20 @@
 -- The records of a frame, put behind what is held.
-use Rattle.std.proofs.Common.{◌≡◌, ◌∙◌, ℕ, ◌+◌, Option, Some, None, Result, Ok, Err, List, [], ◌∷◌, ◌++◌, length, take, drop, refl, sym, ap, subst, append_assoc}
+use Rattle.std.proofs.Common.{◌≡◌, ◌∙◌, ℕ, Option, Some, None, Result, Ok, Err, List, [], ◌∷◌, ◌++◌, length, take, drop, refl, sym, ap, subst, append_assoc}
 use Rattle.std.proofs.Math.Seq.{take-append_seam}
 use Rattle.tesla_capture.specs.Gathering.{Gathers}
-use Rattle.tesla_capture.specs.Script.{Record, Sends, Discloses}
+use Rattle.tesla_capture.specs.Script.{Record}
 use Rattle.tesla_desk.specs.Outside.{AppendsFront}
 use Rattle.tesla_desk.proofs.Told.{with_more, front_after, front_longer}
 use Rattle.tesla_frame.specs.Frame.{Frame, frame_text}
 use Rattle.tesla_front.specs.declared.fault.Fault.{Fault}
 use Rattle.tesla_front.specs.declared.script_kind.ScriptKind.{ScriptKind}
 use Rattle.tesla_front.specs.declared.script_kind.ScriptKind.TheVariants.{Backward}
-use Rattle.tesla_sender.specs.Made.{Call, Message, Disclose}
-use Rattle.tesla_sender.specs.Stands.{Answers, IsWritten, Stands, State, log_after}
+use Rattle.tesla_sender.specs.Made.{Call}
+use Rattle.tesla_sender.specs.Stands.{Answers, IsWritten, Stands, State}
 use Rattle.tesla_sender.specs.declared.refusal.SendRefusal.{SendRefusal}
 use Rattle.tesla_sender.specs.declared.refusal.DiscloseRefusal.{DiscloseRefusal}
 use Rattle.tesla_sender.specs.declared.refusal.DiscloseRefusal.TheVariants as undisclosed
-use Rattle.tesla_cli.specs.Script.{Answer, Makes, MakesNone, Refuses, call_of, reading_of, disclosure_answer, message_answer, message_kind}
+use Rattle.tesla_cli.specs.Script.{Answer, Makes, call_of, reading_of, disclosure_answer, message_answer, message_kind}
 use Rattle.tesla_cli.specs.SendSteps.{CarriesOut, PutsFrame, Unmoved, frame_records}
 
 -- one piece was put behind what is held, and then another

@@ -1,17 +1,15 @@
 -- What sending a script comes to.
-use Rattle.std.proofs.Common.{◌≡◌, ◌∙◌, ℕ, Option, Some, None, Result, Ok, Err, List, [], ◌++◌, length, refl, sym, ap, subst, append-nil}
+use Rattle.std.proofs.Common.{◌≡◌, ◌∙◌, ℕ, Option, Some, None, Result, Ok, Err, List, [], length, sym, ap, subst, append-nil}
 use Rattle.tesla_front.specs.Files.{IsFront}
 use Rattle.tesla_front.specs.declared.fault.Fault.{Fault}
-use Rattle.tesla_front.specs.declared.refusal.Refusal.TheVariants as refusals
 use Rattle.tesla_front.specs.declared.refusal.Stop.{Stop}
-use Rattle.tesla_front.specs.declared.refusal.Stop.TheVariants as stops
 use Rattle.tesla_front.specs.declared.script_kind.ScriptKind.{ScriptKind}
 use Rattle.tesla_sender.specs.Made.{Stream}
 use Rattle.tesla_cli.specs.Held.{HoldsText, HoldsFront, Settles, kept}
 use Rattle.tesla_cli.specs.Script.{Sent, sending}
 use Rattle.tesla_cli.specs.Send.{came_by, came_of, text_of}
 use Rattle.tesla_cli.specs.SendSteps.{SendsAll, SendsSource, came_with, ending_of}
-use Rattle.tesla_cli.specs.Steps.{EndsFrom, BreaksFrom}
+use Rattle.tesla_cli.specs.Steps.{EndsFrom}
 use Rattle.tesla_cli.specs.declared.outcome.Summary.{Summary}
 use Rattle.tesla_cli.specs.declared.outcome.Summary.TheVariants.{Frames}
 use Rattle.tesla_cli.specs.declared.send.sending.ScriptEnding.{ScriptEnding}

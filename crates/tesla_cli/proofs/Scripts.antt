@@ -8,19 +8,16 @@ use Rattle.tesla_capture.specs.Records.{Outline, AtEnd, Recorded, Refuses, next_
 use Rattle.tesla_capture.specs.Script.{Record, Sends, Discloses, record_text, script}
 use Rattle.tesla_capture.specs.Steps.{GivesRecord}
 use Rattle.tesla_capture.specs.declared.record.RecordKind.{RecordKind}
-use Rattle.tesla_desk.specs.Outside.{AppendsFront}
 use Rattle.tesla_frame.specs.Frame.{frame_text}
-use Rattle.tesla_front.specs.Files.{IsFront}
 use Rattle.tesla_front.specs.ScriptKind.{script_kind_of}
 use Rattle.tesla_front.specs.declared.fault.Fault.{Fault}
-use Rattle.tesla_front.specs.declared.fault.Fault.TheVariants as faults
 use Rattle.tesla_front.specs.declared.script_kind.ScriptKind.{ScriptKind}
 use Rattle.tesla_sender.specs.Made.{Call, Stream}
 use Rattle.tesla_sender.specs.Stands.{State, Stands}
 use Rattle.tesla_cli.specs.Held.{HoldsText, HoldsFront, kept}
-use Rattle.tesla_cli.specs.Script.{Answer, Makes, MakesNone, Refuses, Sent, Sending, answer_to, call_of, reading_of, sending, sending_by, sending_in, sending_of, end_of_file, sent_text, capture_of}
+use Rattle.tesla_cli.specs.Script.{Answer, Makes, MakesNone, Refuses, Sent, Sending, answer_to, call_of, reading_of, sending, sending_by, sending_in, sent_text, capture_of}
 use Rattle.tesla_cli.specs.Send.{text_of}
-use Rattle.tesla_cli.specs.SendSteps.{CarriesOut, PutsFrame, Unmoved, IsAt, SendsAll, SendsNext, ending_at, ending_of, frame_records, with_sent}
+use Rattle.tesla_cli.specs.SendSteps.{CarriesOut, IsAt, SendsAll, SendsNext, ending_at, ending_of, frame_records, with_sent}
 use Rattle.tesla_cli.specs.declared.send.sending.ScriptEnding.{ScriptEnding}
 use Rattle.tesla_cli.specs.declared.send.sending.ScriptEnding.TheVariants as endings
 use Rattle.tesla_cli.proofs.Held.{holds_more, holds_front, holds_written}

@@ -20,8 +20,8 @@ use Rattle.tesla_sender.specs.Made.{Chain, Stream, chains_of}
 use Rattle.tesla_sender.specs.Opening.{first_wrong}
 use Rattle.tesla_sender.specs.declared.refusal.SenderRefusal.{SenderRefusal}
 use Rattle.tesla_sender.specs.declared.refusal.SenderRefusal.TheVariants as unopened_for
-use Rattle.tesla_cli.specs.Form.{Send, Performs, Opens}
-use Rattle.tesla_cli.specs.Send.{SendsScript, SendsWith, SendsUnder, StopsAtSeeds, NoSenderOf, IsNoSender, came_of, text_of, wrong_line}
+use Rattle.tesla_cli.specs.Form.{Send, Performs}
+use Rattle.tesla_cli.specs.Send.{SendsScript, SendsWith, StopsAtSeeds, NoSenderOf, IsNoSender, came_of, text_of, wrong_line}
 use Rattle.tesla_cli.specs.SendAsked.{SendAsked}
 use Rattle.tesla_cli.specs.SendSteps.{SendsSource, SendsLeft, SendsOpened, SendsFiles, SendsSeeded, SendsSetup}
 use Rattle.tesla_cli.specs.declared.outcome.Summary.{Summary}

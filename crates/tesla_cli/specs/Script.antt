@@ -3,7 +3,7 @@ use Rattle.std.specs.Prelude.{ℕ, ◌+◌, List, [], ◌∷◌, ◌++◌, lengt
 use Rattle.std.specs.List.{flat_map}
 use Rattle.tesla_capture.specs.Capture as captures
 use Rattle.tesla_capture.specs.Records.{Outline, outline_of}
-use Rattle.tesla_capture.specs.Script.{Record, Sends, Discloses, head, record_text, script}
+use Rattle.tesla_capture.specs.Script.{Record, Sends, Discloses, record_text, script}
 use Rattle.tesla_capture.specs.declared.record.RecordKind.{RecordKind}
 use Rattle.tesla_frame.specs.Frame.{Frame, frame_text}
 use Rattle.tesla_front.specs.ScriptKind.{script_kind_of}

@@ -15,7 +15,7 @@ use Rattle.tesla_front.specs.declared.script_kind.ScriptKind.{ScriptKind}
 use Rattle.tesla_sender.specs.Made.{Chain, Stream, chains_of}
 use Rattle.tesla_sender.specs.Opening.{first_wrong}
 use Rattle.tesla_cli.specs.Conversion.{ComesToEnd, BreaksOff}
-use Rattle.tesla_cli.specs.Script.{Sent, Sending, sending, sent_text}
+use Rattle.tesla_cli.specs.Script.{Sent, sending, sent_text}
 use Rattle.tesla_cli.specs.SendAsked.{SendAsked}
 use Rattle.tesla_cli.specs.declared.outcome.Summary.{Summary}
 use Rattle.tesla_cli.specs.declared.outcome.Summary.TheVariants.{Frames}

@@ -21,7 +21,7 @@ use Rattle.tesla_sender.specs.Made.{Call, Stream}
 use Rattle.tesla_sender.specs.Stands.{State, Stands}
 use Rattle.tesla_cli.specs.Form.{Opens}
 use Rattle.tesla_cli.specs.Held.{HoldsText, HoldsFront, kept}
-use Rattle.tesla_cli.specs.Script.{Answer, Makes, MakesNone, Refuses, Sent, Sending, answer_to, call_of, reading_of, sending, sending_in, sent_text}
+use Rattle.tesla_cli.specs.Script.{Answer, Makes, MakesNone, Refuses, Sent, Sending, call_of, reading_of, sending, sending_in, sent_text}
 use Rattle.tesla_cli.specs.Send.{SendsScript, SendsWith, IsNoSender, NoSenderOf, came_of, text_of, wrong_line}
 use Rattle.tesla_cli.specs.SendAsked.{SendAsked}
 use Rattle.tesla_cli.specs.Steps.{EndsFrom, BreaksFrom, EndsOn, BreaksOn}

@@ -1,5 +1,5 @@
 use Rattle.std.proofs.lemmas.Result.{err_from_is_err_and}
-use Rattle.tesla_cli.proofs.Sent.{seeded_none, seeded_files}
+use Rattle.tesla_cli.proofs.Sent.{seeded_none}
 use Rattle.tesla_cli.proofs.send.send_counted.Goals as goal
 
 pub returns-in_err-sender-clause-sends : goal.returns-in_err-sender-clause-sends

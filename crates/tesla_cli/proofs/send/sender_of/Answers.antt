@@ -1,4 +1,4 @@
-use Rattle.tesla_cli.proofs.Sent.{seed_is_wrong, seeds_are_right}
+use Rattle.tesla_cli.proofs.Sent.{seeds_are_right}
 use Rattle.tesla_cli.proofs.send.sender_of.Goals as goal
 
 pub returns-in-Ok-clause-right : goal.returns-in-Ok-clause-right
