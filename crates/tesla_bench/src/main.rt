@@ -1,14 +1,25 @@
-//! Work to be timed from outside: `frames VERSION BYTES CHAINS TIMES` reads a data frame so many times, and prints a
-//! sum of what was read. With other words, or none, nothing is done.
+//! Work to be timed from outside. Without words, or with others than these, nothing is done.
+//!
+//! `frames VERSION BYTES CHAINS TIMES` reads a data frame so many times. `compressions COUNT` hashes so many blocks, and
+//! `evaluations COUNT` evaluates HMAC so many times. `walk LAST KEYS` opens a walker of a chain of that many keys, and
+//! asks it for the first of them. Each prints a number that depends on the work.
 #![tactic(auto)]
 
+ghost use Rattle.std.specs.Prelude.{◌≡◌, ◌<◌};
+
 mod frames;
+mod hashing;
+mod walking;
 
 use frames::{Datagram, read_often};
-use std::alloc::AllocError;
+use hashing::{compress_often, evaluate_often};
+use std::alloc::{AllocError, Global};
+use std::marker::Brand;
 use std::rt::Env;
+use std::sync::ledger::{Blank, Ledger};
 use std::{env, io};
-use tesla_base::read_decimal;
+use tesla_base::{Steps, read_decimal};
+use walking::walk_part;
 
 /// The number that a word spells, 0 where it spells none.
 fn number(word: &String) -> u64 {
@@ -24,13 +35,40 @@ fn words<R: Env + AllocGlobal>(rt: &R) -> io::Result<Vec<String>> {
     Ok(words)
 }
 
+/// Does the work that the words name, and gives the number to be printed; `None` where they name none. It has a ledger
+/// for its evaluations of HMAC.
+fn counted<L: Ledger>(alloc: Global, words: &[String], blank: Blank) -> Option<u64>
+    requires name { blank.name ≡ L.name }
+    requires parts { blank.parts ≡ L.parts }
+    requires some { 0 < L.parts }
+{
+    let mut steps = Steps::<L>::new(blank);
+    match words {
+        [what, version, bytes, chains, times] if what.as_str() == "frames" => {
+            let datagram = Datagram::new(number(version), number(bytes), number(chains));
+            Some(read_often(&datagram, number(times)))
+        }
+        [what, last, keys] if what.as_str() == "walk" => {
+            Some(walk_part(alloc, number(last), number(keys), &mut steps))
+        }
+        [what, count] if what.as_str() == "compressions" => Some(compress_often(number(count))),
+        [what, count] if what.as_str() == "evaluations" => {
+            Some(evaluate_often(number(count), &mut steps))
+        }
+        _ => None,
+    }
+}
+
+/// Does the work that the words name.
+fn worked(alloc: Global, words: &[String]) -> Option<u64> {
+    let blank = Blank::new(1);
+    counted::<Brand>(alloc, words, blank)
+}
+
 fn main(rt: HostRuntime) -> io::Result<()> {
     let words = words(&rt)?;
-    if let [what, version, bytes, chains, times] = words.as_slice() {
-        if what.as_str() == "frames" {
-            let datagram = Datagram::new(number(version), number(bytes), number(chains));
-            println!(rt; "{}", read_often(&datagram, number(times)))?;
-        }
+    if let Some(told) = worked(rt.alloc(), words.as_slice()) {
+        println!(rt; "{told}")?;
     }
     Ok(())
 }

@@ -1,18 +1,20 @@
-//! Records of released packets, gathered before they are written.
+//! Records of captures and of released packets, gathered before they are written.
 
 ghost use Rattle.std.specs.Prelude.{◌≡◌, ◌≤◌, ◌+◌, [], ◌++◌, length, true, false};
 ghost use Rattle.tesla_desk.specs.Faults.{HasCause};
 ghost use Rattle.tesla_desk.specs.Outside.{AppendsFront, with_bytes};
+ghost use Rattle.tesla_capture.specs.Capture.{head as capture_head, record_text, Arrives, Takes};
 ghost use Rattle.tesla_capture.specs.Release.{release_text};
 
+use crate::format::{CaptureFormat, Format};
 use crate::release::Head;
-use crate::writing::head_bytes;
+use crate::writing::{arrival_bytes, head_bytes};
 use tesla_desk::{Sink, write_all};
 
 /// How many bytes are gathered at most.
 const PIECE: usize = 8192;
 
-/// Whole records of released packets that aren't written yet, at most 8,192 bytes of them.
+/// Whole records that aren't written yet, at most 8,192 bytes of them.
 #[derive(Drop)]
 pub struct Gatherer {
     piece: [u8; 8192],
@@ -49,11 +51,54 @@ impl Gatherer {
         ensures cause { HasCause (S.faults sink.old) (S.faults sink.new) (result ≡ false) }
         ensures name { S.name sink.new ≡ S.name sink.old }
     {
-        if !self.make_room(sink, 17 + payload.len()) {
-            return false;
-        }
-        self.append_record(head, payload);
-        true
+        self.put_both(sink, &head_bytes(head), payload)
+    }
+
+    /// Puts the head of a capture behind the records gathered, as `put` does. It takes no memory.
+    ///
+    /// True: the head was put. False: a front of the records gathered was written, and the sink's count of
+    /// faults rose.
+    pub fn put_head<S: Sink>(&mut self, sink: &mut S) -> bool
+        ensures all { result ≡ true → Gathers (S.written sink.old) (S.written sink.new) (gathered self.new) (gathered self.old ++ capture_head) }
+        ensures front { result ≡ false → AppendsFront (S.written sink.old) (S.written sink.new) (gathered self.old) }
+        ensures kept { result ≡ false → gathered self.new ≡ gathered self.old }
+        ensures waits { length (gathered self.old) + 5 ≤ 8192 → sink.new ≡ sink.old }
+        ensures cause { HasCause (S.faults sink.old) (S.faults sink.new) (result ≡ false) }
+        ensures name { S.name sink.new ≡ S.name sink.old }
+    {
+        self.put_one(sink, &CaptureFormat::head())
+    }
+
+    /// Puts the record of an arrival of at most 2,048 bytes, with the reading of the receiver's clock in
+    /// microseconds, behind the records gathered, as `put` does. It takes no memory.
+    ///
+    /// True: the record was put. False: a front of the records gathered was written, and the sink's count of
+    /// faults rose.
+    pub fn put_arrival<S: Sink>(&mut self, sink: &mut S, reading: u64, bytes: &[u8]) -> bool
+        requires { length bytes.now ≤ 2048 }
+        ensures all { result ≡ true → Gathers (S.written sink.old) (S.written sink.new) (gathered self.new) (gathered self.old ++ record_text (Arrives reading bytes.now)) }
+        ensures front { result ≡ false → AppendsFront (S.written sink.old) (S.written sink.new) (gathered self.old) }
+        ensures kept { result ≡ false → gathered self.new ≡ gathered self.old }
+        ensures waits { length (gathered self.old) + 11 + length bytes.now ≤ 8192 → sink.new ≡ sink.old }
+        ensures cause { HasCause (S.faults sink.old) (S.faults sink.new) (result ≡ false) }
+        ensures name { S.name sink.new ≡ S.name sink.old }
+    {
+        self.put_both(sink, &arrival_bytes(reading, bytes.len() as u16), bytes)
+    }
+
+    /// Puts the record of a take behind the records gathered, as `put` does. It takes no memory.
+    ///
+    /// True: the record was put. False: a front of the records gathered was written, and the sink's count of
+    /// faults rose.
+    pub fn put_take<S: Sink>(&mut self, sink: &mut S) -> bool
+        ensures all { result ≡ true → Gathers (S.written sink.old) (S.written sink.new) (gathered self.new) (gathered self.old ++ record_text Takes) }
+        ensures front { result ≡ false → AppendsFront (S.written sink.old) (S.written sink.new) (gathered self.old) }
+        ensures kept { result ≡ false → gathered self.new ≡ gathered self.old }
+        ensures waits { length (gathered self.old) + 1 ≤ 8192 → sink.new ≡ sink.old }
+        ensures cause { HasCause (S.faults sink.old) (S.faults sink.new) (result ≡ false) }
+        ensures name { S.name sink.new ≡ S.name sink.old }
+    {
+        self.put_one(sink, &[2])
     }
 
     /// Writes the records gathered; where there is none, the sink is left as it was. It takes no memory.
@@ -89,13 +134,48 @@ impl Gatherer {
         self.length = until;
     }
 
-    /// Puts the record of a released packet, for which there is room, behind those gathered.
-    fn append_record(&mut self, head: &Head, payload: &[u8])
-        requires room { length (gathered self.old) + 17 + length payload.now ≤ 8192 }
-        ensures { gathered self.new ≡ gathered self.old ++ release_text head.now payload.now }
+    /// Puts bytes behind those gathered, which are written before where there is no room.
+    fn put_one<S: Sink>(&mut self, sink: &mut S, bytes: &[u8]) -> bool
+        requires { length bytes.now ≤ 8192 }
+        ensures all { result ≡ true → Gathers (S.written sink.old) (S.written sink.new) (gathered self.new) (gathered self.old ++ bytes.now) }
+        ensures front { result ≡ false → AppendsFront (S.written sink.old) (S.written sink.new) (gathered self.old) }
+        ensures kept { result ≡ false → gathered self.new ≡ gathered self.old }
+        ensures waits { length (gathered self.old) + length bytes.now ≤ 8192 → sink.new ≡ sink.old }
+        ensures cause { HasCause (S.faults sink.old) (S.faults sink.new) (result ≡ false) }
+        ensures name { S.name sink.new ≡ S.name sink.old }
     {
-        self.append(&head_bytes(head));
-        self.append(payload);
+        if !self.make_room(sink, bytes.len()) {
+            return false;
+        }
+        self.append(bytes);
+        true
+    }
+
+    /// Puts one piece and then the other behind the bytes gathered, which are written before where there is no
+    /// room for both.
+    fn put_both<S: Sink>(&mut self, sink: &mut S, front: &[u8], back: &[u8]) -> bool
+        requires { length front.now + length back.now ≤ 8192 }
+        ensures all { result ≡ true → Gathers (S.written sink.old) (S.written sink.new) (gathered self.new) (gathered self.old ++ (front.now ++ back.now)) }
+        ensures front { result ≡ false → AppendsFront (S.written sink.old) (S.written sink.new) (gathered self.old) }
+        ensures kept { result ≡ false → gathered self.new ≡ gathered self.old }
+        ensures waits { length (gathered self.old) + length front.now + length back.now ≤ 8192 → sink.new ≡ sink.old }
+        ensures cause { HasCause (S.faults sink.old) (S.faults sink.new) (result ≡ false) }
+        ensures name { S.name sink.new ≡ S.name sink.old }
+    {
+        if !self.make_room(sink, front.len() + back.len()) {
+            return false;
+        }
+        self.append_both(front, back);
+        true
+    }
+
+    /// Puts two pieces, for which there is room, behind the bytes gathered.
+    fn append_both(&mut self, front: &[u8], back: &[u8])
+        requires room { length (gathered self.old) + length front.now + length back.now ≤ 8192 }
+        ensures { gathered self.new ≡ gathered self.old ++ (front.now ++ back.now) }
+    {
+        self.append(front);
+        self.append(back);
     }
 
     /// Writes the records gathered where so many bytes more don't fit.

@@ -38,7 +38,7 @@ pub(crate) fn head_bytes(head: &Head) -> [u8; 17]
 }
 
 /// The fields of an arrival before its bytes.
-fn arrival_bytes(reading: u64, length: u16) -> [u8; 11]
+pub(crate) fn arrival_bytes(reading: u64, length: u16) -> [u8; 11]
     ensures { result ≡ 1 ∷ [] ++ to_be_bytes w64 reading ++ to_be_bytes w16 length }
 {
     let mut bytes = [1; 11];

@@ -67,27 +67,26 @@ unopened_told old new outcome causes none (inl e) = memory_alone old new outcome
 unopened_told old new outcome causes none (inr e) = e
 
 -- a form that comes to this summary, or to a fault, tells it where nothing failed, or want of memory
-by_form : (form : Form) (words : List (List ℕ)) (old new : Told) (outcome : Outcome) (summary : Summary) → Caused old.faults new.faults outcome → HasNoConsole old new outcome ⊎ HasConsole words old new outcome → Spells form words → NothingFailed old.faults new.faults → ((opened : ℕ) (came : Result Summary Stop) → Does form opened old.page new.page came → (came ≡ Ok summary) ⊎ ((fault : Fault) × (came ≡ Err (stops.Failed fault)))) → (outcome ≡ Done summary) ⊎ (outcome ≡ Failed faults.NoMemory)
+pub by_form : (form : Form) (words : List (List ℕ)) (old new : Told) (outcome : Outcome) (summary : Summary) → Caused old.faults new.faults outcome → HasNoConsole old new outcome ⊎ HasConsole words old new outcome → Spells form words → NothingFailed old.faults new.faults → ((opened : ℕ) (came : Result Summary Stop) → Does form opened old.page new.page came → (came ≡ Ok summary) ⊎ ((fault : Fault) × (came ≡ Err (stops.Failed fault)))) → (outcome ≡ Done summary) ⊎ (outcome ≡ Failed faults.NoMemory)
 by_form form words old new outcome summary causes (inl closed) is none ends = inr (unopened_told old.faults new.faults outcome causes none closed.fault)
 by_form form words old new outcome summary causes (inr ran) is none ends =
     let done = ran.form form is in
     ends_told old.faults new.faults done.came outcome summary causes none (ends done.opened done.came done.does) (shown_as (outcome_of done.came) outcome _ done.shows)
 
 -- what a page that is told is not refused for came of a fault
-not_refused : (Why : List ℕ → Stop → Type 0) (page : Page) (stop : Stop) (text : List ℕ) (failed : Bool) → page ≡ Holds text failed → ((refusal : Refusal) → Why text (stops.Refused refusal) → ⊥) → IsRefusedIn page Why stop → (fault : Fault) × (stop ≡ stops.Failed fault)
+pub not_refused : (Why : List ℕ → Stop → Type 0) (page : Page) (stop : Stop) (text : List ℕ) (failed : Bool) → page ≡ Holds text failed → ((refusal : Refusal) → Why text (stops.Refused refusal) → ⊥) → IsRefusedIn page Why stop → (fault : Fault) × (stop ≡ stops.Failed fault)
 not_refused Why page (stops.Failed fault) text failed is never why = (fault, refl)
 not_refused Why page (stops.Refused refusal) text failed is never why = absurd (never refusal (subst (λ (p : Page). HoldsWhere p (λ t. Why t (stops.Refused refusal))) is why))
 
 -- ---- a replay
 
 -- a setup that is told is found
-is_setup : (text : List ℕ) (setup : Parts) → judged text ≡ Ok setup → (refusal : Refusal) → IsNoSetupText text (stops.Refused refusal) → ⊥
+pub is_setup : (text : List ℕ) (setup : Parts) → judged text ≡ Ok setup → (refusal : Refusal) → IsNoSetupText text (stops.Refused refusal) → ⊥
 is_setup text setup found (refusals.Setup line kind) why = let no : ◌≡◌ {A = Result Parts (ℕ × SetupKind)} (Ok setup) (Err (line, kind)) = sym found ∙ why in cc
-is_setup text setup found (refusals.Capture place kind) why = why
-is_setup text setup found (refusals.Seeds line kind) why = why
+is_setup text setup found _ why = why
 
 -- it is the one that was told
-one_setup : (page : Page) (text : List ℕ) (failed : Bool) (setup other : Parts) → page ≡ Holds text failed → judged text ≡ Ok setup → IsSetupIn page other → other ≡ setup
+pub one_setup : (page : Page) (text : List ℕ) (failed : Bool) (setup other : Parts) → page ≡ Holds text failed → judged text ≡ Ok setup → IsSetupIn page other → other ≡ setup
 one_setup Untold text failed setup other page found in_page = absurd cc
 one_setup Absent text failed setup other page found in_page = absurd cc
 one_setup (Holds held lost) text failed setup other page found in_page = let same : held ≡ text = cc in let both : Ok other ≡ Ok setup = sym in_page ∙ ap judged same ∙ found in cc
@@ -124,10 +123,9 @@ complete words old new outcome asked text bytes failed other setup runs is page 
 -- ---- chain and chain2
 
 -- seeds that are told are found
-are_seeds : (count : ℕ) (text : List ℕ) (seeds : List Key) → seeds_judged count text ≡ Ok seeds → (refusal : Refusal) → IsNoSeedsText count text (stops.Refused refusal) → ⊥
-are_seeds count text seeds found (refusals.Setup line kind) why = why
-are_seeds count text seeds found (refusals.Capture place kind) why = why
+pub are_seeds : (count : ℕ) (text : List ℕ) (seeds : List Key) → seeds_judged count text ≡ Ok seeds → (refusal : Refusal) → IsNoSeedsText count text (stops.Refused refusal) → ⊥
 are_seeds count text seeds found (refusals.Seeds line kind) why = let no : ◌≡◌ {A = Result (List Key) (ℕ × SeedsKind)} (Ok seeds) (Err (line, kind)) = sym found ∙ why in cc
+are_seeds count text seeds found _ why = why
 
 writing_ends : (setup : Parts) (count : ℕ) (before out : Page) (came : Result Summary Stop) → length setup.rows ≡ count → WritesSetup setup before out came → (came ≡ Ok (Chains count)) ⊎ ((fault : Fault) × (came ≡ Err (stops.Failed fault)))
 writing_ends setup count before out (Ok summary) same writes = inl (ap (λ s. Ok s) (writes.0 ∙ ap Chains same))

@@ -13,7 +13,7 @@ use Rattle.tesla_front.specs.Setup.{IsNoSetup, IsSetupIn}
 use Rattle.tesla_front.specs.declared.fault.Fault.TheVariants as faults
 use Rattle.tesla_front.specs.declared.refusal.Stop.{Stop}
 use Rattle.tesla_cli.specs.Chain.{WritesSetup, setup_made}
-use Rattle.tesla_cli.specs.Form.{Form, Replay, Chain, Spells, Does, Performs, files_of}
+use Rattle.tesla_cli.specs.Form.{Form, Replay, Chain, Send, Spells, Does, Performs, files_of}
 use Rattle.tesla_cli.specs.Here.{console, IsNoForm, Shows, TellsUsage, IsDoneAs, HasConsole, Runs}
 use Rattle.tesla_cli.specs.Outcome.{IsDone, Tells, outcome_of, outcome_text}
 use Rattle.tesla_cli.specs.Replay.{PlaysCapture, config_of}
@@ -21,6 +21,7 @@ use Rattle.tesla_cli.specs.declared.outcome.Outcome.{Outcome}
 use Rattle.tesla_cli.specs.declared.outcome.Outcome.TheVariants.{Usage, Failed}
 use Rattle.tesla_cli.specs.declared.outcome.Summary.{Summary}
 use Rattle.tesla_cli.proofs.Openings.{page_all}
+use Rattle.tesla_cli.proofs.Sent.{under_moves}
 
 -- ---- what the console shows
 
@@ -133,6 +134,17 @@ does_moves (Chain asked) words opened before after old new came spelled first la
   found = subst (λ (p : Page). IsSeedsIn (length asked.delays) p makes.seeds) (first asked.secret spelled.names.secret_is.file) makes.found;
   writes = subst (λ (p : Page). WritesSetup (setup_made asked makes.seeds) p (new asked.out) came) (first asked.out spelled.names.out_is.file)
       (subst (λ (p : Page). WritesSetup (setup_made asked makes.seeds) (before asked.out) p came) (sym (last asked.out spelled.names.out_is.file)) makes.writes);
+})
+does_moves (Send asked) words opened before after old new came spelled first last (inl stops) = inl (record {
+  alone = stops.alone;
+  stop = stops.stop;
+  came_is = stops.came_is;
+  why = subst (λ (p : Page). IsNoSetup p stops.stop) (first asked.setup spelled.names.setup_is.file) stops.why;
+})
+does_moves (Send asked) words opened before after old new came spelled first last (inr sends) = inr (record {
+  setup = sends.setup;
+  found = subst (λ (p : Page). IsSetupIn p sends.setup) (first asked.setup spelled.names.setup_is.file) sends.found;
+  does = under_moves asked sends.setup opened before after old new came (first asked.secret spelled.names.secret_is.file) (first asked.script spelled.names.script_is.file) (first asked.out spelled.names.out_is.file) (sym (last asked.out spelled.names.out_is.file)) sends.does;
 })
 
 -- the console was opened before what was done, told what came, and closed

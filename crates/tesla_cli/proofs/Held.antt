@@ -8,7 +8,8 @@ use Rattle.tesla_front.specs.declared.fault.Fault.{Fault}
 use Rattle.tesla_front.specs.declared.fault.Fault.TheVariants as faults
 use Rattle.tesla_receiver.specs.History.{Event}
 use Rattle.tesla_receiver.proofs.EachAfter.{each_after_more}
-use Rattle.tesla_cli.specs.Playing.{Rule, events_text, HoldsText, HoldsFront, Halts, Adds}
+use Rattle.tesla_cli.specs.Held.{HoldsText, HoldsFront}
+use Rattle.tesla_cli.specs.Playing.{Rule, events_text, Halts, Adds}
 
 -- what was told to be written, once something was appended
 told_before : (before now : Option (List ℕ)) (bytes done : List ℕ) → now ≡ with_bytes before bytes → now ≡ Some done → (front : List ℕ) × (before ≡ Some front) × (done ≡ front ++ bytes)

@@ -1,14 +1,11 @@
 -- What the output of a capture is once it is closed, and what the capture came to.
-use Rattle.std.proofs.Common.{◌≡◌, ◌≢◌, inl, inr, ◌<◌, ℕ, suc, Option, Some, None, Result, Ok, Err, List, [], ◌∷◌, refl, sym, subst, arith}
-use Rattle.std.proofs.lemmas.Bool.Decides.{nat_tests}
+use Rattle.std.proofs.Common.{◌≡◌, inl, inr, ℕ, suc, Option, Result, Ok, Err, List, [], ◌∷◌, refl, sym, subst}
 use Rattle.tesla_commit.specs.Parts.{Parts}
 use Rattle.tesla_desk.specs.Faults.{HasCause}
-use Rattle.tesla_desk.specs.Outside.{Page, Untold, Absent, Holds, Told, Opened, OfSource, OfSink, with_opening, AsksFront, page_of}
+use Rattle.tesla_desk.specs.Outside.{Page, Told, Opened, OfSource, OfSink, with_opening, AsksFront, page_of}
 use Rattle.tesla_desk.specs.declared.desk.OpenRefusal.{OpenRefusal}
 use Rattle.tesla_desk.specs.declared.desk.OpenRefusal.TheVariants as refused
-use Rattle.tesla_desk.proofs.Told.{opened_holds}
 use Rattle.tesla_front.specs.Fault.{unopened}
-use Rattle.tesla_front.specs.Files.{HoldsWhere, HasFailed}
 use Rattle.tesla_front.specs.Setup.{IsNoSetup, IsSetupIn}
 use Rattle.tesla_front.specs.declared.fault.Fault.TheVariants as faults
 use Rattle.tesla_front.specs.declared.refusal.Refusal.TheVariants as refusals
@@ -17,34 +14,22 @@ use Rattle.tesla_front.specs.declared.refusal.Stop.TheVariants as stops
 use Rattle.tesla_receiver.specs.declared.config.Config.{Config}
 use Rattle.tesla_cli.specs.Asked.{Asked}
 use Rattle.tesla_cli.specs.Form.{Replay, Performs}
-use Rattle.tesla_cli.specs.Replay.{config_of, PlaysToEnd, BreaksOff, PlaysCapture}
-use Rattle.tesla_cli.specs.Steps.{EndsFrom, EndsOn, BreaksOn, PlaysSource, PlaysLeft, PlaysOpened, PlaysFiles}
+use Rattle.tesla_cli.specs.Replay.{config_of, end_of, out_text, PlaysCapture}
+use Rattle.tesla_cli.specs.Steps.{PlaysSource, PlaysLeft, PlaysOpened, PlaysFiles}
 use Rattle.tesla_cli.specs.declared.outcome.Summary.{Summary}
+use Rattle.tesla_cli.proofs.Conversions.{ends_on, breaks_on, has_failed, ends_by, breaks_by}
 use Rattle.tesla_cli.proofs.Openings.{opens_then, opens_front}
 use Rattle.tesla_cli.proofs.Told.{rose_some}
 
 -- ---- the output, once it is closed
 
-ends_on : (cfg : Config) (left written : Option (List ℕ)) (count : ℕ) (came : Result Summary Stop) → EndsFrom cfg left written came → EndsOn cfg left (page_of written count) came
-ends_on cfg left None count came ends = record { end = ends.end; text = tt }
-ends_on cfg left (Some done) count came ends = record { end = ends.end; text = λ bytes told. ends.text bytes done told refl }
-
-breaks_on : (cfg : Config) (left written : Option (List ℕ)) (count : ℕ) → PlaysSource cfg left written (Err (stops.Failed faults.Read)) → BreaksOn cfg left (page_of written count)
-breaks_on cfg left None count front = tt
-breaks_on cfg left (Some done) count front = λ bytes told. front bytes done told refl
-
--- the page of a sink that had faults tells so
-pub has_failed : (written : Option (List ℕ)) (count : ℕ) → 0 < count → HasFailed (page_of written count)
-has_failed None count some = tt
-has_failed (Some done) count some = grind (arith, nat_tests, some)
-
 left_by : (cfg : Config) (left written : Option (List ℕ)) (count : ℕ) (before : Page) (came : Result Summary Stop) → PlaysSource cfg left written came → HasCause 0 count (came ≡ Err (stops.Failed faults.Write)) → (came ≡ Err (stops.Failed faults.Open) → ⊥) → PlaysLeft cfg left before (page_of written count) came
-left_by cfg left written count before (Ok summary) plays cause other = ends_on cfg left written count (Ok summary) plays
-left_by cfg left written count before (Err (stops.Refused (refusals.Capture place kind))) plays cause other = ends_on cfg left written count (Err (stops.Refused (refusals.Capture place kind))) plays
+left_by cfg left written count before (Ok summary) plays cause other = ends_on (end_of cfg) (out_text cfg) left written count (Ok summary) plays
+left_by cfg left written count before (Err (stops.Refused (refusals.Capture place kind))) plays cause other = ends_on (end_of cfg) (out_text cfg) left written count (Err (stops.Refused (refusals.Capture place kind))) plays
 left_by cfg left written count before (Err (stops.Refused _)) plays cause other = absurd plays
-left_by cfg left written count before (Err (stops.Failed faults.Write)) plays cause other = (breaks_on cfg left written count plays, has_failed written count (rose_some 0 count refl (cause.rose refl)))
-left_by cfg left written count before (Err (stops.Failed faults.Read)) plays cause other = breaks_on cfg left written count plays
-left_by cfg left written count before (Err (stops.Failed faults.NoMemory)) plays cause other = inr (breaks_on cfg left written count plays)
+left_by cfg left written count before (Err (stops.Failed faults.Write)) plays cause other = (breaks_on (out_text cfg) left written count plays, has_failed written count (rose_some 0 count refl (cause.rose refl)))
+left_by cfg left written count before (Err (stops.Failed faults.Read)) plays cause other = breaks_on (out_text cfg) left written count plays
+left_by cfg left written count before (Err (stops.Failed faults.NoMemory)) plays cause other = inr (breaks_on (out_text cfg) left written count plays)
 left_by cfg left written count before (Err (stops.Failed faults.Open)) plays cause other = absurd (other refl)
 
 -- what was played from a source is on the page of the closed sink
@@ -59,37 +44,14 @@ left_unopened cfg left before page refused.NoMemory same = inl same
 
 -- ---- the capture
 
-not_absent : (page : Page) (left : Option (List ℕ)) → Opened page left → page ≢ Absent
-not_absent Untold left opened e = absurd cc
-not_absent Absent left opened e = opened
-not_absent (Holds bytes failed) left opened e = absurd cc
-
-where_map : (page : Page) (Fact Other : List ℕ → Type 0) → ((bytes : List ℕ) → Fact bytes → Other bytes) → HoldsWhere page Fact → HoldsWhere page Other
-where_map Untold Fact Other to fact = tt
-where_map Absent Fact Other to fact = fact
-where_map (Holds bytes failed) Fact Other to fact = to bytes fact
-
-ends_by : (cfg : Config) (left : Option (List ℕ)) (capture out : Page) (came : Result Summary Stop) → Opened capture left → EndsOn cfg left out came → PlaysToEnd cfg capture out came
-ends_by cfg left capture out came opened ends = record {
-  there = not_absent capture left opened;
-  end = λ bytes failed page. ends.end bytes (opened_holds capture left bytes failed page opened);
-  text = where_map out _ _ (λ written text bytes failed page. text bytes (opened_holds capture left bytes failed page opened)) ends.text;
-}
-
-breaks_by : (cfg : Config) (left : Option (List ℕ)) (capture out : Page) → Opened capture left → BreaksOn cfg left out → BreaksOff cfg capture out
-breaks_by cfg left capture out opened breaks = record {
-  there = not_absent capture left opened;
-  front = where_map out _ _ (λ written front bytes failed page. front bytes (opened_holds capture left bytes failed page opened)) breaks;
-}
-
 capture_by : (cfg : Config) (left : Option (List ℕ)) (capture before out : Page) (came : Result Summary Stop) → Opened capture left → PlaysLeft cfg left before out came → PlaysCapture cfg capture before out came
-capture_by cfg left capture before out (Ok summary) opened plays = ends_by cfg left capture out (Ok summary) opened plays
-capture_by cfg left capture before out (Err (stops.Refused (refusals.Capture place kind))) opened plays = ends_by cfg left capture out (Err (stops.Refused (refusals.Capture place kind))) opened plays
+capture_by cfg left capture before out (Ok summary) opened plays = ends_by (end_of cfg) (out_text cfg) left capture out (Ok summary) opened plays
+capture_by cfg left capture before out (Err (stops.Refused (refusals.Capture place kind))) opened plays = ends_by (end_of cfg) (out_text cfg) left capture out (Err (stops.Refused (refusals.Capture place kind))) opened plays
 capture_by cfg left capture before out (Err (stops.Refused _)) opened plays = absurd plays
-capture_by cfg left capture before out (Err (stops.Failed faults.Write)) opened plays = (breaks_by cfg left capture out opened plays.0, plays.1)
-capture_by cfg left capture before out (Err (stops.Failed faults.Read)) opened plays = breaks_by cfg left capture out opened plays
+capture_by cfg left capture before out (Err (stops.Failed faults.Write)) opened plays = (breaks_by (out_text cfg) left capture out opened plays.0, plays.1)
+capture_by cfg left capture before out (Err (stops.Failed faults.Read)) opened plays = breaks_by (out_text cfg) left capture out opened plays
 capture_by cfg left capture before out (Err (stops.Failed faults.NoMemory)) opened (inl same) = inl same
-capture_by cfg left capture before out (Err (stops.Failed faults.NoMemory)) opened (inr breaks) = inr (breaks_by cfg left capture out opened breaks)
+capture_by cfg left capture before out (Err (stops.Failed faults.NoMemory)) opened (inr breaks) = inr (breaks_by (out_text cfg) left capture out opened breaks)
 capture_by cfg left capture before out (Err (stops.Failed faults.Open)) opened plays = plays
 
 -- the capture was opened, and then played

@@ -13,7 +13,8 @@ use Rattle.tesla_receiver.specs.Played.{event_in}
 use Rattle.tesla_receiver.proofs.EachAfter.{each_after-append}
 use Rattle.tesla_cli.specs.declared.replay.player.Ending.{Ending}
 use Rattle.tesla_cli.specs.declared.replay.player.Ending.TheVariants.{End}
-use Rattle.tesla_cli.specs.Playing.{Rule, events_text, events_in, ending_of, HoldsText, HoldsFront, kept, Adds, IsAt, PlaysNext, PlaysRecords, PlaysAll, Plays, Settles, events_by, events_of, with_end, more_after, with_records}
+use Rattle.tesla_cli.specs.Held.{HoldsText, HoldsFront, kept, Settles}
+use Rattle.tesla_cli.specs.Playing.{Rule, events_text, events_in, ending_of, Adds, IsAt, PlaysNext, PlaysRecords, PlaysAll, Plays, events_by, events_of, with_end, more_after, with_records}
 use Rattle.tesla_cli.proofs.Held.{holds_front, front_more, holds_flushed, front_written, whole_front}
 
 -- what is written of some events begins what is written of more

@@ -3,7 +3,8 @@ use Rattle.std.proofs.Common.{◌≡◌, ◌∙◌, ◌+◌, ◌-◌, ◌≤◌,
 use Rattle.tesla_front.specs.declared.fault.Fault.{Fault}
 use Rattle.tesla_receiver.specs.History.{Event, Takes, Ends}
 use Rattle.tesla_receiver.specs.Keys.{each_after}
-use Rattle.tesla_cli.specs.Playing.{Rule, events_text, HoldsText, HoldsFront, kept, with_end}
+use Rattle.tesla_cli.specs.Held.{HoldsText, HoldsFront, kept}
+use Rattle.tesla_cli.specs.Playing.{Rule, events_text, with_end}
 use Rattle.tesla_cli.proofs.Records.{text-append}
 
 -- so many takes, and one

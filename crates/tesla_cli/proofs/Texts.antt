@@ -1,7 +1,7 @@
 -- A text that is written to an output as a whole, once the output is closed.
 use Rattle.std.proofs.Common.{◌≡◌, inl, inr, ℕ, Option, Some, None, Result, Ok, Err, IfSome, List, [], ◌∷◌, ◌++◌, length, take, suc, refl, sym, ap, subst}
 use Rattle.tesla_desk.specs.Faults.{Rose}
-use Rattle.tesla_desk.specs.Outside.{Page, Untold, Absent, Holds, Told, OfSource, OfSink, AppendsFront, AsksFront, with_bytes, with_opening, page_of}
+use Rattle.tesla_desk.specs.Outside.{Page, Told, OfSource, OfSink, AppendsFront, AsksFront, with_bytes, with_opening, page_of}
 use Rattle.tesla_desk.specs.declared.desk.OpenRefusal.{OpenRefusal}
 use Rattle.tesla_desk.specs.declared.desk.OpenRefusal.TheVariants as refused
 use Rattle.tesla_front.specs.Fault.{unopened}
@@ -16,18 +16,13 @@ use Rattle.tesla_cli.specs.ChainSteps.{PutsText, WritesMade}
 use Rattle.tesla_cli.specs.Form.{Chain, Performs}
 use Rattle.tesla_cli.specs.declared.outcome.Summary.{Summary}
 use Rattle.tesla_cli.proofs.Openings.{opens_then, opens_front}
-use Rattle.tesla_cli.proofs.Played.{has_failed}
+use Rattle.tesla_cli.proofs.Conversions.{has_failed, where_map}
 use Rattle.tesla_cli.proofs.Told.{rose_some}
 
 -- what was written to an empty sink is all that its page holds
 held_all : (before written : Option (List ℕ)) (count : ℕ) (text : List ℕ) → IfSome before (λ bytes. bytes ≡ []) → written ≡ with_bytes before text → HoldsWhere (page_of written count) (λ bytes. bytes ≡ text)
 held_all None written count text empty is = subst (λ (w : Option (List ℕ)). HoldsWhere (page_of w count) (λ bytes. bytes ≡ text)) (sym is) tt
 held_all (Some front) written count text empty is = subst (λ (w : Option (List ℕ)). HoldsWhere (page_of w count) (λ bytes. bytes ≡ text)) (sym is) (ap (λ (f : List ℕ). f ++ text) empty)
-
-held_map : (page : Page) (Fact Other : List ℕ → Type 0) → ((bytes : List ℕ) → Fact bytes → Other bytes) → HoldsWhere page Fact → HoldsWhere page Other
-held_map Untold Fact Other to fact = tt
-held_map Absent Fact Other to fact = fact
-held_map (Holds bytes failed) Fact Other to fact = to bytes fact
 
 -- the text was written
 pub text_whole : (text : List ℕ) (before written : Option (List ℕ)) (count : ℕ) (old page : Page) → IfSome before (λ bytes. bytes ≡ []) → written ≡ with_bytes before text → page ≡ page_of written count → PutsText text old page (Ok tt)
@@ -37,7 +32,7 @@ text_whole text before written count old page empty is own = subst (λ (p : Page
 pub text_front : (text : List ℕ) (before written : Option (List ℕ)) (first count : ℕ) (old page : Page) → IfSome before (λ bytes. bytes ≡ []) → AppendsFront before written text → first ≡ 0 → Rose first count → page ≡ page_of written count → PutsText text old page (Err faults.Write)
 text_front text before written first count old page empty front fresh rose own =
     subst (λ (p : Page). HoldsWhere p (IsFront text) × HasFailed p) (sym own) (
-      held_map (page_of written count) (λ bytes. bytes ≡ take front.0 text) (IsFront text) (λ bytes is. (front.0, is)) (held_all before written count (take front.0 text) empty front.1.written),
+      where_map (page_of written count) (λ bytes. bytes ≡ take front.0 text) (IsFront text) (λ bytes is. (front.0, is)) (held_all before written count (take front.0 text) empty front.1.written),
       has_failed written count (rose_some first count fresh rose),
     )
 

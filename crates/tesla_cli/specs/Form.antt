@@ -6,6 +6,8 @@ use Rattle.tesla_cli.specs.Asked.{Asked, IsReplay, asked_of, files_asked}
 use Rattle.tesla_cli.specs.Chain.{DoesChain}
 use Rattle.tesla_cli.specs.ChainAsked.{ChainAsked, IsChain, chain_asked, files_of_chain}
 use Rattle.tesla_cli.specs.Replay.{DoesReplay}
+use Rattle.tesla_cli.specs.Send.{DoesSend}
+use Rattle.tesla_cli.specs.SendAsked.{SendAsked, IsSend, send_asked, files_of_send}
 use Rattle.tesla_cli.specs.declared.form.Form.{Form as Words}
 use Rattle.tesla_cli.specs.declared.form.Form.TheVariants as read
 use Rattle.tesla_cli.specs.declared.outcome.Summary.{Summary}
@@ -15,26 +17,31 @@ pub data Form : Type 0 where
   Replay : Asked → Form
   -- chain and chain2: the version is among what the words ask for
   Chain : ChainAsked → Form
+  Send : SendAsked → Form
 
 -- the form of the words that were read
 abbrev pub form_of : Words → Form
 form_of (read.Replay words) = Replay (asked_of words)
 form_of (read.Chain words) = Chain (chain_asked words)
+form_of (read.Send words) = Send (send_asked words)
 
 -- the words spell the form
 abbrev pub Spells : Form → List (List ℕ) → Type 0
 Spells (Replay asked) = IsReplay asked
 Spells (Chain asked) = IsChain asked
+Spells (Send asked) = IsSend asked
 
 -- the files of a form in the order in which they are opened; its outputs are the sinks among them
 abbrev pub files_of : Form → List Opening
 files_of (Replay asked) = files_asked asked
 files_of (Chain asked) = files_of_chain asked
+files_of (Send asked) = files_of_send asked
 
 -- what the form does: so many of its files were asked to be opened, and these are the pages before and after, and what it came to
 abbrev pub Does : Form → ℕ → (List ℕ → Page) → (List ℕ → Page) → Result Summary Stop → Type 0
 Does (Replay asked) = DoesReplay asked
 Does (Chain asked) = DoesChain asked
+Does (Send asked) = DoesSend asked
 
 -- the opening is one of these
 abbrev pub IsAmong : Opening → List Opening → Type 0

@@ -5,8 +5,14 @@ pub mod Usage
 pub mod Replay
 pub mod Chain
 pub mod ChainSteps
+pub mod Script
+pub mod Send
+pub mod SendSteps
+pub mod SendAsked
 pub mod Asked
 pub mod ChainAsked
 pub mod Delays
+pub mod Conversion
+pub mod Held
 pub mod Playing
 pub mod Steps

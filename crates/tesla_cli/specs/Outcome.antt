@@ -14,7 +14,7 @@ use Rattle.tesla_cli.specs.declared.usage.FormText.{FormText}
 use Rattle.tesla_cli.specs.declared.outcome.Outcome.{Outcome}
 use Rattle.tesla_cli.specs.declared.outcome.Outcome.TheVariants.{Done, Usage, Refused, Failed}
 use Rattle.tesla_cli.specs.declared.outcome.Summary.{Summary}
-use Rattle.tesla_cli.specs.declared.outcome.Summary.TheVariants.{Played, Chains}
+use Rattle.tesla_cli.specs.declared.outcome.Summary.TheVariants.{Played, Chains, Frames}
 
 -- what the end of a command is as an outcome
 abbrev pub outcome_of : Result Summary Stop → Outcome
@@ -41,6 +41,7 @@ report_text report =
 abbrev pub summary_text : Summary → List ℕ
 summary_text (Played report) = report_text report
 summary_text (Chains count) = count_line (codes "chains") count
+summary_text (Frames count) = count_line (codes "frames") count
 
 -- the line that tells a form
 abbrev pub usage_line : List ℕ → List ℕ

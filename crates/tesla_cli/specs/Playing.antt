@@ -4,8 +4,7 @@ use Rattle.tesla_capture.specs.Capture.{Record, limit}
 use Rattle.tesla_capture.specs.declared.reader.Reader.{Reader}
 use Rattle.tesla_capture.specs.Outline.{Outline, outline_of, outline_at}
 use Rattle.tesla_capture.specs.declared.record.RecordKind.{RecordKind}
-use Rattle.tesla_desk.specs.Outside.{AppendsFront, with_bytes}
-use Rattle.tesla_front.specs.Files.{IsFront}
+use Rattle.tesla_desk.specs.Outside.{AppendsFront}
 use Rattle.tesla_front.specs.declared.fault.Fault.{Fault}
 use Rattle.tesla_front.specs.declared.fault.Fault.TheVariants as faults
 use Rattle.tesla_receiver.specs.History.{Event, Arrives, Takes, Ends, entry_of}
@@ -14,6 +13,7 @@ use Rattle.tesla_receiver.specs.Played.{after_events, event_in, waiting_in}
 use Rattle.tesla_receiver.specs.Report.{record_in, report_of}
 use Rattle.tesla_receiver.specs.declared.report.Report.{Report}
 use Rattle.tesla_receiver.specs.declared.config.Config.{Config}
+use Rattle.tesla_cli.specs.Held.{HoldsText, HoldsFront, kept}
 use Rattle.tesla_cli.specs.declared.replay.player.Ending.{Ending}
 use Rattle.tesla_cli.specs.declared.replay.player.Ending.TheVariants.{End, Refused}
 use Rattle.tesla_cli.specs.declared.replay.target.PlayedEvent.{PlayedEvent}
@@ -56,27 +56,12 @@ abbrev pub ending_of : Option (ℕ × RecordKind) → Ending
 ending_of None = End
 ending_of (Some fault) = Refused fault.0 fault.1
 
--- what was written, where it is told, and then what is held are this text
-abbrev pub HoldsText : Option (List ℕ) → List ℕ → List ℕ → Type 0
-HoldsText written held text = (done : List ℕ) → written ≡ Some done → done ++ held ≡ text
-
--- what was written, where it is told, and then what is held are a front of this text
-abbrev pub HoldsFront : Option (List ℕ) → List ℕ → List ℕ → Type 0
-HoldsFront written held text = (done : List ℕ) → written ≡ Some done → IsFront text (done ++ held)
-
 -- playing stopped: of what was held a front was written, or nothing has changed
 abbrev pub Halts : Fault → Option (List ℕ) → Option (List ℕ) → List ℕ → List ℕ → Type 0
 Halts faults.Write before now held rest = AppendsFront before now held
 Halts faults.NoMemory before now held rest = (now ≡ before) × (rest ≡ held)
 Halts faults.Read before now held rest = ⊥
 Halts faults.Open before now held rest = ⊥
-
--- what is held still after a fault: what a failed write leaves behind isn't written any more
-abbrev pub kept : Fault → List ℕ → List ℕ
-kept faults.Write held = []
-kept faults.Read held = held
-kept faults.NoMemory held = held
-kept faults.Open held = held
 
 -- a capture was played to a target: it has had all events of the file, and what is written of them is written; or a front of that is
 abbrev pub Plays : Rule → (List Event → Type 0) → List ℕ → Result Ending Fault → Option (List ℕ) → Type 0
@@ -145,9 +130,3 @@ pub record GoesUp (old new : Reader) : Type 0 where
 abbrev pub PlaysTo : Result (Unit {0}) Fault → Rule → (List Event → Type 0) → List Event → Option (List ℕ) → List ℕ → Type 0
 PlaysTo (Ok x) rule Has events written held = Has events × HoldsText written held (events_text rule events)
 PlaysTo (Err fault) rule Has events written held = HoldsFront written (kept fault held) (events_text rule events)
-
--- what is held was written at last: a fault of before stays, whatever becomes of that, and else a failed write is one
-abbrev pub Settles : Result Ending Fault → Result Ending Fault → Option (List ℕ) → Option (List ℕ) → List ℕ → Type 0
-Settles (Ok ending) (Ok other) before now held = (other ≡ ending) × (now ≡ with_bytes before held)
-Settles (Ok ending) (Err fault) before now held = (fault ≡ faults.Write) × AppendsFront before now held
-Settles (Err fault) settled before now held = (settled ≡ Err fault) × AppendsFront before now (kept fault held)

@@ -1,10 +1,10 @@
 -- What the command replay does.
-use Rattle.std.specs.Prelude.{◌≡◌, ◌≢◌, ◌⊎◌, ◌≤◌, ℕ, Bool, is_none, Option, Some, None, Result, Ok, Err, List}
+use Rattle.std.specs.Prelude.{◌≡◌, ◌⊎◌, ◌≤◌, ℕ, is_none, Option, Some, None, Result, Ok, Err, List}
 use Rattle.tesla_capture.specs.Outline.{outline_of}
 use Rattle.tesla_capture.specs.declared.record.RecordKind.{RecordKind}
 use Rattle.tesla_commit.specs.Parts.{Parts}
-use Rattle.tesla_desk.specs.Outside.{Page, Absent, Holds}
-use Rattle.tesla_front.specs.Files.{HoldsWhere, HasFailed, IsFront}
+use Rattle.tesla_desk.specs.Outside.{Page}
+use Rattle.tesla_front.specs.Files.{HasFailed}
 use Rattle.tesla_front.specs.Setup.{IsSetupIn, IsNoSetup}
 use Rattle.tesla_front.specs.declared.fault.Fault.TheVariants as faults
 use Rattle.tesla_front.specs.declared.refusal.Refusal.TheVariants as refusals
@@ -16,6 +16,7 @@ use Rattle.tesla_receiver.specs.History.{arrivals_in}
 use Rattle.tesla_receiver.specs.Played.{played}
 use Rattle.tesla_receiver.specs.Report.{report_of, records_of, released_text}
 use Rattle.tesla_cli.specs.Asked.{Asked}
+use Rattle.tesla_cli.specs.Conversion.{ComesToEnd, BreaksOff}
 use Rattle.tesla_cli.specs.declared.outcome.Summary.{Summary}
 use Rattle.tesla_cli.specs.declared.outcome.Summary.TheVariants.{Played}
 
@@ -44,31 +45,16 @@ text_by (Some fault) cfg history = records_of 0 history
 abbrev pub out_text : Config → List ℕ → List ℕ
 out_text cfg bytes = text_by (outline_of bytes).fault cfg (history_of cfg bytes)
 
--- the fact holds of the bytes of a page, where they are told
-abbrev pub Where : Page → (List ℕ → Type 0) → Type 0
-Where page Fact = (bytes : List ℕ) (failed : Bool) → page ≡ Holds bytes failed → Fact bytes
-
--- the capture was played as far as it goes: it came to its end, and the output holds its text
-pub record PlaysToEnd (cfg : Config) (capture out : Page) (came : Result Summary Stop) : Type 0 where
-  pub there : capture ≢ Absent
-  pub end : Where capture (λ bytes. came ≡ end_of cfg bytes)
-  pub text : HoldsWhere out (λ written. Where capture (λ bytes. written ≡ out_text cfg bytes))
-
--- playing the capture was broken off: the output holds a front of its text
-pub record BreaksOff (cfg : Config) (capture out : Page) : Type 0 where
-  pub there : capture ≢ Absent
-  pub front : HoldsWhere out (λ written. Where capture (λ bytes. IsFront (out_text cfg bytes) written))
-
 -- what a capture that is played comes to, and what the output is before and afterwards
 abbrev pub PlaysCapture : Config → Page → Page → Page → Result Summary Stop → Type 0
-PlaysCapture cfg capture before out (Ok summary) = PlaysToEnd cfg capture out (Ok summary)
-PlaysCapture cfg capture before out (Err (Refused (refusals.Capture place kind))) = PlaysToEnd cfg capture out (Err (Refused (refusals.Capture place kind)))
+PlaysCapture cfg capture before out (Ok summary) = ComesToEnd (end_of cfg) (out_text cfg) capture out (Ok summary)
+PlaysCapture cfg capture before out (Err (Refused (refusals.Capture place kind))) = ComesToEnd (end_of cfg) (out_text cfg) capture out (Err (Refused (refusals.Capture place kind)))
 PlaysCapture cfg capture before out (Err (Refused _)) = ⊥
 -- a write that failed was one of the output
-PlaysCapture cfg capture before out (Err (Failed faults.Write)) = BreaksOff cfg capture out × HasFailed out
-PlaysCapture cfg capture before out (Err (Failed faults.Read)) = BreaksOff cfg capture out
+PlaysCapture cfg capture before out (Err (Failed faults.Write)) = BreaksOff (out_text cfg) capture out × HasFailed out
+PlaysCapture cfg capture before out (Err (Failed faults.Read)) = BreaksOff (out_text cfg) capture out
 -- memory can be wanting before the output is opened
-PlaysCapture cfg capture before out (Err (Failed faults.NoMemory)) = (out ≡ before) ⊎ BreaksOff cfg capture out
+PlaysCapture cfg capture before out (Err (Failed faults.NoMemory)) = (out ≡ before) ⊎ BreaksOff (out_text cfg) capture out
 -- the capture or the output wasn't opened
 PlaysCapture cfg capture before out (Err (Failed faults.Open)) = out ≡ before
 

@@ -1,4 +1,4 @@
--- What the inner steps of a replay come to.
+-- What the inner steps of a command that makes an output from one input come to, and those of a replay.
 use Rattle.std.specs.Prelude.{◌≡◌, ◌⊎◌, ℕ, Option, Some, Result, Ok, Err, List, [], ◌∷◌}
 use Rattle.tesla_desk.specs.Outside.{Page, Told, OfSource, OfSink}
 use Rattle.tesla_front.specs.Files.{HoldsWhere, HasFailed, IsFront}
@@ -24,35 +24,39 @@ Sums rule Has (Ok End) came = (report : Report) × (came ≡ Ok (Played report))
 Sums rule Has (Ok (Refused place kind)) came = came ≡ Err (stops.Refused (refusals.Capture place kind))
 Sums rule Has (Err fault) came = came ≡ Err (stops.Failed fault)
 
--- all that a source had left was played, where it is told
-pub record EndsFrom (cfg : Config) (left written : Option (List ℕ)) (came : Result Summary Stop) : Type 0 where
-  pub end : (bytes : List ℕ) → left ≡ Some bytes → came ≡ end_of cfg bytes
-  pub text : (bytes done : List ℕ) → left ≡ Some bytes → written ≡ Some done → done ≡ out_text cfg bytes
+-- all that a source had left was taken, where it is told
+pub record EndsFrom (comes : List ℕ → Result Summary Stop) (makes : List ℕ → List ℕ) (left written : Option (List ℕ)) (came : Result Summary Stop) : Type 0 where
+  pub end : (bytes : List ℕ) → left ≡ Some bytes → came ≡ comes bytes
+  pub text : (bytes done : List ℕ) → left ≡ Some bytes → written ≡ Some done → done ≡ makes bytes
+
+-- it was broken off
+abbrev pub BreaksFrom : (List ℕ → List ℕ) → Option (List ℕ) → Option (List ℕ) → Type 0
+BreaksFrom makes left written = (bytes done : List ℕ) → left ≡ Some bytes → written ≡ Some done → IsFront (makes bytes) done
+
+-- the output of an input that was taken to its end
+pub record EndsOn (comes : List ℕ → Result Summary Stop) (makes : List ℕ → List ℕ) (left : Option (List ℕ)) (out : Page) (came : Result Summary Stop) : Type 0 where
+  pub end : (bytes : List ℕ) → left ≡ Some bytes → came ≡ comes bytes
+  pub text : HoldsWhere out (λ written. (bytes : List ℕ) → left ≡ Some bytes → written ≡ makes bytes)
+
+-- the output of an input that was broken off
+abbrev pub BreaksOn : (List ℕ → List ℕ) → Option (List ℕ) → Page → Type 0
+BreaksOn makes left out = HoldsWhere out (λ written. (bytes : List ℕ) → left ≡ Some bytes → IsFront (makes bytes) written)
 
 -- what playing from a source to a sink came to
 abbrev pub PlaysSource : Config → Option (List ℕ) → Option (List ℕ) → Result Summary Stop → Type 0
-PlaysSource cfg left written (Ok summary) = EndsFrom cfg left written (Ok summary)
-PlaysSource cfg left written (Err (stops.Refused (refusals.Capture place kind))) = EndsFrom cfg left written (Err (stops.Refused (refusals.Capture place kind)))
+PlaysSource cfg left written (Ok summary) = EndsFrom (end_of cfg) (out_text cfg) left written (Ok summary)
+PlaysSource cfg left written (Err (stops.Refused (refusals.Capture place kind))) = EndsFrom (end_of cfg) (out_text cfg) left written (Err (stops.Refused (refusals.Capture place kind)))
 PlaysSource cfg left written (Err (stops.Refused _)) = ⊥
-PlaysSource cfg left written (Err (stops.Failed fault)) = (bytes done : List ℕ) → left ≡ Some bytes → written ≡ Some done → IsFront (out_text cfg bytes) done
-
--- the output of a capture that was played to its end
-pub record EndsOn (cfg : Config) (left : Option (List ℕ)) (out : Page) (came : Result Summary Stop) : Type 0 where
-  pub end : (bytes : List ℕ) → left ≡ Some bytes → came ≡ end_of cfg bytes
-  pub text : HoldsWhere out (λ written. (bytes : List ℕ) → left ≡ Some bytes → written ≡ out_text cfg bytes)
-
--- the output of a capture that was broken off
-abbrev pub BreaksOn : Config → Option (List ℕ) → Page → Type 0
-BreaksOn cfg left out = HoldsWhere out (λ written. (bytes : List ℕ) → left ≡ Some bytes → IsFront (out_text cfg bytes) written)
+PlaysSource cfg left written (Err (stops.Failed fault)) = BreaksFrom (out_text cfg) left written
 
 -- what playing an opened capture came to, with the page of the output before and afterwards
 abbrev pub PlaysLeft : Config → Option (List ℕ) → Page → Page → Result Summary Stop → Type 0
-PlaysLeft cfg left before out (Ok summary) = EndsOn cfg left out (Ok summary)
-PlaysLeft cfg left before out (Err (stops.Refused (refusals.Capture place kind))) = EndsOn cfg left out (Err (stops.Refused (refusals.Capture place kind)))
+PlaysLeft cfg left before out (Ok summary) = EndsOn (end_of cfg) (out_text cfg) left out (Ok summary)
+PlaysLeft cfg left before out (Err (stops.Refused (refusals.Capture place kind))) = EndsOn (end_of cfg) (out_text cfg) left out (Err (stops.Refused (refusals.Capture place kind)))
 PlaysLeft cfg left before out (Err (stops.Refused _)) = ⊥
-PlaysLeft cfg left before out (Err (stops.Failed faults.Write)) = BreaksOn cfg left out × HasFailed out
-PlaysLeft cfg left before out (Err (stops.Failed faults.Read)) = BreaksOn cfg left out
-PlaysLeft cfg left before out (Err (stops.Failed faults.NoMemory)) = (out ≡ before) ⊎ BreaksOn cfg left out
+PlaysLeft cfg left before out (Err (stops.Failed faults.Write)) = BreaksOn (out_text cfg) left out × HasFailed out
+PlaysLeft cfg left before out (Err (stops.Failed faults.Read)) = BreaksOn (out_text cfg) left out
+PlaysLeft cfg left before out (Err (stops.Failed faults.NoMemory)) = (out ≡ before) ⊎ BreaksOn (out_text cfg) left out
 PlaysLeft cfg left before out (Err (stops.Failed faults.Open)) = out ≡ before
 
 -- an opened capture was played, after the output was opened

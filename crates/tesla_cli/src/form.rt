@@ -3,7 +3,7 @@
 ghost use Rattle.std.specs.Prelude.{◌≡◌, Some, IfSome, map, string_bytes, option_map};
 ghost use Rattle.tesla_cli.specs.Form.{Form as TheForm, Spells, form_of};
 
-use crate::{ChainWords, ReplayWords, chain_words, replay_words};
+use crate::{ChainWords, ReplayWords, SendWords, chain_words, replay_words, send_words};
 
 /// The words of a command, as they were read.
 #[derive(Debug, Drop)]
@@ -12,6 +12,8 @@ pub enum Form<'a> {
     Replay(ReplayWords<'a>),
     /// `chain SETUP-OUT SECRET STREAM START INTERVAL LAST DELAY..`, or `chain2` with a word TAG before the delays
     Chain(ChainWords<'a>),
+    /// `send SETUP SECRET SCRIPT CAPTURE`
+    Send(SendWords<'a>),
 }
 
 /// The form that these words spell. `None` exactly where they spell none.
@@ -24,6 +26,9 @@ pub fn form_in(words: &[String]) -> Option<Form<'_>>
     }
     if let Some(asked) = chain_words(words) {
         return Some(Form::Chain(asked));
+    }
+    if let Some(asked) = send_words(words) {
+        return Some(Form::Send(asked));
     }
     None
 }

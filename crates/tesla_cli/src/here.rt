@@ -7,7 +7,7 @@ ghost use Rattle.tesla_cli.specs.Here.{IsNoForm, Runs};
 ghost use Rattle.tesla_cli.specs.Outcome.{outcome_of, status_of};
 ghost use Rattle.tesla_front.specs.declared.refusal.Stop.{Stop};
 
-use crate::{Form, Outcome, Summary, form_in, outcome_of, run_chain, run_replay, tell};
+use crate::{Form, Outcome, Summary, form_in, outcome_of, run_chain, run_replay, run_send, tell};
 use std::alloc::Global;
 use tesla_desk::{CONSOLE, Desk};
 use tesla_front::Fault;
@@ -22,6 +22,7 @@ fn run_words<D: Desk>(alloc: Global, words: &[String], desk: &mut D) -> Outcome
     match form_in(words) {
         Some(Form::Replay(asked)) => outcome_of(run_replay(alloc, &asked, desk)),
         Some(Form::Chain(asked)) => outcome_of(run_chain(alloc, &asked, desk)),
+        Some(Form::Send(asked)) => outcome_of(run_send(alloc, &asked, desk)),
         None => Outcome::Usage,
     }
 }
@@ -47,9 +48,9 @@ fn run<D: Desk>(alloc: Global, words: &[String], desk: &mut D) -> Outcome
 /// as it comes. What the command came to is told on the console.
 ///
 /// 0: it came to its end, and its summary was told. 1: the words are no form of a command. 2: SETUP isn't a setup.
-/// 3: CAPTURE isn't a capture, and what stands before the refused place was played and written; or SECRET doesn't
-/// have the seeds that are wanted. 4: a read failed. 5: a write failed. 6: there was no memory. 7: something wasn't
-/// opened.
+/// 3: CAPTURE isn't a capture, or SCRIPT isn't a script or has a record that the sender refuses, and what stands
+/// before the refused place was played or sent, and written; or SECRET doesn't have the seeds that are wanted. 4: a
+/// read failed. 5: a write failed. 6: there was no memory. 7: something wasn't opened.
 pub fn run_here<D: Desk>(alloc: Global, words: &[String], desk: &mut D) -> u8
     ensures { (outcome : Outcome) × (result ≡ status_of outcome) × Runs (map string_bytes words.now) (D.told desk.old) (D.told desk.new) outcome }
 {

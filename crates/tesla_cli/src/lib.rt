@@ -7,6 +7,8 @@ mod here;
 pub mod laws;
 mod outcome;
 mod replay;
+mod send;
+mod settling;
 mod usage;
 
 pub use chain::{ChainWords, chain_words, run_chain};
@@ -16,6 +18,7 @@ pub use outcome::{Outcome, Summary, outcome_of, tell};
 pub use replay::{
     Ending, PlayedEvent, Player, ReplayTarget, ReplayWords, Target, replay_words, run_replay,
 };
+pub use send::{SendWords, run_send, send_words};
 pub use usage::{FORMS, FormText};
 
 #[cfg(test)]

@@ -18,6 +18,8 @@ pub enum Summary {
     Played(Report),
     /// The number of key chains of a setup that was made.
     Chains(u8),
+    /// The number of frames that were made of a script, and written.
+    Frames(u64),
 }
 
 /// What a command comes to.
@@ -88,6 +90,15 @@ fn chains_line(count: u8) -> Lines
     lines
 }
 
+// The line of a number of frames.
+fn frames_line(count: u64) -> Lines
+    ensures { result.bytes ≡ count_line (codes "frames") count }
+{
+    let mut lines = Lines::new();
+    add_count(&mut lines, "frames", count);
+    lines
+}
+
 // The lines of a summary.
 fn summary_lines(summary: &Summary) -> Lines
     ensures { result.bytes ≡ summary_text summary.now }
@@ -95,6 +106,7 @@ fn summary_lines(summary: &Summary) -> Lines
     match summary {
         Summary::Played(report) => report_lines(report),
         Summary::Chains(count) => chains_line(*count),
+        Summary::Frames(count) => frames_line(*count),
     }
 }
 

@@ -3,11 +3,13 @@
 mod chain_runs;
 mod examples;
 mod faults;
+mod send_runs;
 
 use super::*;
 use chain_runs::CHAIN_RUNS;
-use examples::{EXAMPLES, FIRST_CAPTURE, FIRST_RELEASED, NO_FORMS, Part, Released, Told};
+use examples::{EXAMPLES, FIRST_CAPTURE, FIRST_RELEASED, NO_FORMS, Part, Released, Told, USUAL};
 use faults::{FAULTS, Left, Setting};
+use send_runs::{END_OF_STREAM, SEND_RUNS, SendRun};
 use std::alloc::Global;
 use std::test::Fail;
 use tesla_desk::{CONSOLE, MemoryDesk};
@@ -199,9 +201,45 @@ fn chains(rt: HostRuntime) -> Result<(), Fail> {
     Ok(())
 }
 
+// A desk with the setup, and the seeds and the script of a run, and an output that holds something.
+fn sending_desk(alloc: Global, run: &SendRun) -> Result<MemoryDesk, Fail> {
+    let mut desk = desk_with(alloc, SETUP, &[])?;
+    desk.put_page("secret", run.secret.as_bytes())?;
+    let script = hex::decode(alloc, run.script.as_bytes())?;
+    desk.put_page("script", script.as_slice())?;
+    Ok(desk)
+}
+
+#[test]
+fn sendings(rt: HostRuntime) -> Result<(), Fail> {
+    for it in SEND_RUNS {
+        let mut desk = sending_desk(rt.alloc(), &it)?;
+        let words = "send setup secret script out";
+        let came = came_to(rt.alloc(), words, &mut desk, it.settings)?;
+        let out = hex::decode(rt.alloc(), it.out.as_bytes())?;
+        assert_eq!(rt; came.told.as_str(), it.told, "{}", it.name);
+        assert_eq!(rt; came.out.as_slice(), out.as_slice(), "{}", it.name);
+    }
+    Ok(())
+}
+
+/// What was sent is replayed: the message is released by the last keys.
+#[test]
+fn a_capture_that_was_sent_is_replayed(rt: HostRuntime) -> Result<(), Fail> {
+    let mut desk = sending_desk(rt.alloc(), &END_OF_STREAM)?;
+    let words = "send setup secret script capture";
+    let sent = came_to(rt.alloc(), words, &mut desk, &[])?;
+    assert_eq!(rt; sent.told.as_str(), END_OF_STREAM.told);
+    let came = came_to(rt.alloc(), USUAL, &mut desk, &[])?;
+    let released = hex::decode(rt.alloc(), b"000000000000000000000008000000000165")?;
+    assert_eq!(rt; came.out.as_slice(), released.as_slice());
+    Ok(())
+}
+
 const USAGE: &str = "1 usage: replay SETUP LAG CAPACITY CAPTURE OUT
 usage: chain SETUP-OUT SECRET STREAM START INTERVAL LAST DELAY [DELAY] [DELAY] [DELAY]
 usage: chain2 SETUP-OUT SECRET STREAM START INTERVAL LAST TAG DELAY [DELAY] [DELAY] [DELAY] [DELAY] [DELAY] [DELAY] [DELAY]
+usage: send SETUP SECRET SCRIPT CAPTURE
 ";
 
 #[test]

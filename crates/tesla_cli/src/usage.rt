@@ -10,7 +10,7 @@ pub struct FormText {
 }
 
 /// The forms of the commands, in the order in which they are told.
-pub const FORMS: [FormText; 3] = [
+pub const FORMS: [FormText; 4] = [
     FormText {
         words: "replay SETUP LAG CAPACITY CAPTURE OUT",
         about: "    plays the recorded datagrams of CAPTURE to a receiver that trusts SETUP,
@@ -35,6 +35,13 @@ pub const FORMS: [FormText; 3] = [
         words: "chain2 SETUP-OUT SECRET STREAM START INTERVAL LAST TAG DELAY [DELAY] [DELAY] [DELAY] [DELAY] [DELAY] [DELAY] [DELAY]",
         about: "    is chain for version 2.
     TAG: how many bytes a tag has, 10 to 32
+",
+    },
+    FormText {
+        words: "send SETUP SECRET SCRIPT CAPTURE",
+        about: "    makes the frames of the messages and disclosures in SCRIPT, as the sender
+    of SETUP with the seeds in SECRET, writes them to CAPTURE, with a take
+    behind each, and prints how many there are.
 ",
     },
 ];

@@ -75,8 +75,7 @@ setup_told most above text setup is = sym (judged_where most text (nat_lt most (
 
 pub no_setup_told : (most : ℕ) → 4096 < most → IsToldBy most IsNoSetupText
 no_setup_told most above text (Refused (refusals.Setup line kind)) is = sym (judged_where most text (nat_lt most (length text)) refl above) ∙ is
-no_setup_told most above text (Refused (refusals.Capture place kind)) is = is
-no_setup_told most above text (Refused (refusals.Seeds line kind)) is = is
+no_setup_told most above text (Refused _) is = is
 no_setup_told most above text (Failed fault) is = is
 
 pub setup_memory : WantsMemory IsNoSetupText
@@ -99,9 +98,8 @@ pub seeds_told : (count most : ℕ) → 4096 < most → IsToldBy most (IsSeedsTe
 seeds_told count most above text seeds is = sym (seeds_where count most text (nat_lt most (length text)) refl above) ∙ is
 
 pub no_seeds_told : (count most : ℕ) → 4096 < most → IsToldBy most (IsNoSeedsText count)
-no_seeds_told count most above text (Refused (refusals.Setup line kind)) is = is
-no_seeds_told count most above text (Refused (refusals.Capture place kind)) is = is
 no_seeds_told count most above text (Refused (refusals.Seeds line kind)) is = sym (seeds_where count most text (nat_lt most (length text)) refl above) ∙ is
+no_seeds_told count most above text (Refused _) is = is
 no_seeds_told count most above text (Failed fault) is = is
 
 pub seeds_memory : (count : ℕ) → WantsMemory (IsNoSeedsText count)

@@ -1,5 +1,6 @@
 pub mod Fault
 pub mod Refusal
+pub mod ScriptKind
 pub mod Files
 pub mod Lines
 pub mod Words

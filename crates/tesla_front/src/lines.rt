@@ -28,11 +28,11 @@ pub fn add_count(lines: &mut Lines, name: &str, number: u64)
     lines.push_str("\n");
 }
 
-// The line of a refused file, whose name has at most 9 bytes, with a kind whose name has at most 20.
-fn refused<K: Kind>(file: &str, place: u64, kind: K) -> Lines
+// The line of a refused file, whose name has at most 9 bytes, with the name of a kind, which has at most 20.
+fn refused(file: &str, place: u64, kind: &str) -> Lines
     requires file { length file.now ≤ 9 }
-    requires kind { length (K.printed kind) ≤ 20 }
-    ensures { result.bytes ≡ refused_line file.now place (K.printed kind) }
+    requires kind { length kind.now ≤ 20 }
+    ensures { result.bytes ≡ refused_line file.now place kind.now }
 {
     let mut lines = Lines::new();
     let mut digits = Buffer::new();
@@ -41,7 +41,7 @@ fn refused<K: Kind>(file: &str, place: u64, kind: K) -> Lines
     lines.push_str(" ");
     lines.push_str(digits.format(place));
     lines.push_str(" ");
-    lines.push_str(kind.name());
+    lines.push_str(kind);
     lines.push_str("\n");
     lines
 }
@@ -52,8 +52,10 @@ pub fn refusal_lines(refusal: &Refusal) -> Lines
     ensures { result.bytes ≡ refusal_line refusal.now }
 {
     match refusal {
-        Refusal::Setup { line, kind } => refused("setup", u64::from(*line), *kind),
-        Refusal::Capture { place, kind } => refused("capture", *place, *kind),
-        Refusal::Seeds { line, kind } => refused("seeds", u64::from(*line), *kind),
+        Refusal::Setup { line, kind } => refused("setup", u64::from(*line), kind.name()),
+        Refusal::Capture { place, kind } => refused("capture", *place, kind.name()),
+        Refusal::Seeds { line, kind } => refused("seeds", u64::from(*line), kind.name()),
+        Refusal::WrongSeed { line } => refused("seeds", u64::from(*line), "WrongSeed"),
+        Refusal::Script { place, kind } => refused("script", *place, kind.name()),
     }
 }

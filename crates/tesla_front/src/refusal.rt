@@ -3,7 +3,7 @@
 ghost use Rattle.std.specs.Prelude.{◌≡◌};
 ghost use Rattle.tesla_front.specs.Refusal.{refusal_status};
 
-use crate::Fault;
+use crate::{Fault, ScriptKind};
 use tesla_capture::RecordKind;
 use tesla_commit::{SeedsKind, SetupKind};
 
@@ -17,16 +17,23 @@ pub enum Refusal {
     /// The file of the seeds doesn't have those that are wanted, by this line, counted from 1, or 0 for the whole
     /// text.
     Seeds { line: u32, kind: SeedsKind },
+    /// The seed in this line of its file, counted from 1, doesn't give the key of the setup.
+    WrongSeed { line: u32 },
+    /// The file of the script isn't one, or the sender refuses its record, at this place, in bytes from its begin.
+    Script { place: u64, kind: ScriptKind },
 }
 
 impl Refusal {
-    /// The status that a program ends with: 2 for a setup, 3 for a capture or seeds.
+    /// The status that a program ends with: 2 for a setup, 3 for any other input.
     pub fn status(&self) -> u8
         ensures { result ≡ refusal_status self.now }
     {
         match self {
             Refusal::Setup { .. } => 2,
-            Refusal::Capture { .. } | Refusal::Seeds { .. } => 3,
+            Refusal::Capture { .. }
+            | Refusal::Seeds { .. }
+            | Refusal::WrongSeed { .. }
+            | Refusal::Script { .. } => 3,
         }
     }
 }

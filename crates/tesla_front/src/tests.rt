@@ -73,6 +73,11 @@ fn of_seeds(line: u32, kind: SeedsKind) -> Refusal {
     Refusal::Seeds { line, kind }
 }
 
+// The refusal of a script at a place.
+fn of_script(place: u64, kind: ScriptKind) -> Refusal {
+    Refusal::Script { place, kind }
+}
+
 #[test]
 fn refusals(rt: HostRuntime) {
     for (refusal, status, line) in [
@@ -100,6 +105,21 @@ fn refusals(rt: HostRuntime) {
             of_seeds(3, SeedsKind::WrongCount),
             3,
             "refused seeds 3 WrongCount\n",
+        ),
+        (
+            Refusal::WrongSeed { line: 3 },
+            3,
+            "refused seeds 3 WrongSeed\n",
+        ),
+        (
+            of_script(17, ScriptKind::Backward),
+            3,
+            "refused script 17 Backward\n",
+        ),
+        (
+            of_script(0, ScriptKind::from(RecordKind::BadHead)),
+            3,
+            "refused script 0 BadHead\n",
         ),
     ] {
         assert_eq!(rt; refusal.status(), status, "at {line}");

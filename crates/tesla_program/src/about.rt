@@ -16,7 +16,7 @@ pub enum About {
     Version,
 }
 
-const HEAD: &[u8] = b"Receives streams that are authenticated with TESLA (RFC 4082).
+const HEAD: &[u8] = b"Sends and receives streams that are authenticated with TESLA (RFC 4082).
 
 ";
 

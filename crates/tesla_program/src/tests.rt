@@ -10,7 +10,7 @@ fn help_version_and_want_of_memory_are_printed(rt: HostRuntime) -> Result<(), Fa
     assert_eq!(rt; print_about(&mut desk, About::Help), 0);
     assert_eq!(rt;
         desk.page("-").ok_or("no page")?,
-        b"Receives streams that are authenticated with TESLA (RFC 4082).
+        b"Sends and receives streams that are authenticated with TESLA (RFC 4082).
 
 tesla replay SETUP LAG CAPACITY CAPTURE OUT
     plays the recorded datagrams of CAPTURE to a receiver that trusts SETUP,
@@ -29,6 +29,10 @@ tesla chain SETUP-OUT SECRET STREAM START INTERVAL LAST DELAY [DELAY] [DELAY] [D
 tesla chain2 SETUP-OUT SECRET STREAM START INTERVAL LAST TAG DELAY [DELAY] [DELAY] [DELAY] [DELAY] [DELAY] [DELAY] [DELAY]
     is chain for version 2.
     TAG: how many bytes a tag has, 10 to 32
+tesla send SETUP SECRET SCRIPT CAPTURE
+    makes the frames of the messages and disclosures in SCRIPT, as the sender
+    of SETUP with the seeds in SECRET, writes them to CAPTURE, with a take
+    behind each, and prints how many there are.
 tesla --help
 tesla --version
 

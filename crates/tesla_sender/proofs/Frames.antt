@@ -2,9 +2,8 @@
 use Rattle.std.proofs.Common.{◌≡◌, ℕ, ◌+◌, ◌-◌, ◌≤◌, ◌||◌, Bool, true, false, List, [], ◌∷◌, ◌++◌, length, map, take, Option, refl, sym, ◌∙◌, ap, subst, zero-add, arith}
 use Rattle.std.specs.Prelude.{nat_lt, if◌then◌else◌, min}
 use Rattle.std.specs.List.{AllByRecursion}
-use Rattle.std.proofs.lemmas.List.{length-take}
 use Rattle.tesla_base.specs.Tag.{tag_bytes}
-use Rattle.tesla_base.specs.Version.{number_of, version_named, IsTagLength}
+use Rattle.tesla_base.specs.Version.{number_of, version_named}
 use Rattle.tesla_base.specs.declared.names.Key.{Key}
 use Rattle.tesla_base.specs.declared.names.Name.{Name}
 use Rattle.tesla_base.specs.declared.names.StreamId.{StreamId}
@@ -12,13 +11,12 @@ use Rattle.tesla_base.specs.declared.names.WideTag.{WideTag}
 use Rattle.tesla_base.specs.declared.version.Version.{Version}
 use Rattle.tesla_base.specs.declared.version.Version.TheVariants.{One, Two}
 use Rattle.tesla_base.proofs.Tags.{bytes_of_wide}
-use Rattle.tesla_commit.specs.Parts.{Parts, IsSetupOf}
+use Rattle.tesla_commit.specs.Parts.{Parts}
 use Rattle.tesla_frame.specs.Frame.{ChainsRise, Frame, Data, TagRow}
 use Rattle.tesla_frame.specs.Written.{HasLength, data_frame, first_length, keys_frame, rows_of}
 use Rattle.tesla_frame.specs.declared.row.KeyRow.{KeyRow}
 use Rattle.tesla_sender.specs.Made.{Chain, any_due, disclosure_frame, due_row, due_rows, key_due, key_of, message_frame, row_of}
 use Rattle.tesla_sender.specs.Chains.{AreNumbered, tag_made}
-use Rattle.tesla_sender.proofs.Hashes.{hmac_length}
 
 -- ---- the values that are written
 
@@ -33,35 +31,18 @@ version_back Two = refl
 
 -- ---- messages
 
-made_length : (setup : Parts) (name : Name) (payload : List ℕ) (chain : Chain) → setup.tag_length ≤ 32 → (tag_made setup name payload chain).length ≡ setup.tag_length
-unfolding tag_made
-made_length setup name payload chain few = omega (arith, hmac_length, length-take {A = ℕ})
-
 made_bytes : (setup : Parts) (name : Name) (payload : List ℕ) (chain : Chain) → tag_bytes (tag_made setup name payload chain) ≡ (row_of setup name payload chain).tag
 unfolding tag_made
 made_bytes setup name payload chain = bytes_of_wide (row_of setup name payload chain).tag
 
-tags_each : (setup : Parts) (name : Name) (payload : List ℕ) (chains : List Chain) → setup.tag_length ≤ 32 → AllByRecursion (HasLength setup.tag_length) (map (tag_made setup name payload) chains)
-tags_each setup name payload [] few = tt
-tags_each setup name payload (chain ∷ chains) few = (made_length setup name payload chain few, tags_each setup name payload chains few)
-
-pub tags_first : (setup : Parts) (name : Name) (payload : List ℕ) (chains : List Chain) → setup.tag_length ≤ 32 → 1 ≤ length chains → first_length (map (tag_made setup name payload) chains) ≡ setup.tag_length
-tags_first setup name payload [] few some = absurd (omega arith)
-tags_first setup name payload (chain ∷ chains) few some = made_length setup name payload chain few
+-- the length of the first tag is that of each
+pub tags_first : (size : ℕ) (tags : List WideTag) → 1 ≤ length tags → AllByRecursion (HasLength size) tags → first_length tags ≡ size
+tags_first size [] some each = absurd (omega arith)
+tags_first size (tag ∷ tags) some each = each.0
 
 -- the same by the length of the first one
-pub tags_each_first : (setup : Parts) (name : Name) (payload : List ℕ) (chains : List Chain) → setup.tag_length ≤ 32 → 1 ≤ length chains → AllByRecursion (HasLength (first_length (map (tag_made setup name payload) chains))) (map (tag_made setup name payload) chains)
-tags_each_first setup name payload chains few some =
-    let tags = map (tag_made setup name payload) chains in
-    subst (λ n. AllByRecursion (HasLength n) tags) (sym (tags_first setup name payload chains few some)) (tags_each setup name payload chains few)
-
-most_bytes : (version : Version) (size : ℕ) → IsTagLength version size → size ≤ 32
-most_bytes One size is = omega (arith, is.longest)
-most_bytes Two size is = omega (arith, is.longest)
-
--- no setup has longer tags
-pub tags_few : (setup : Parts) → IsSetupOf setup → setup.tag_length ≤ 32
-tags_few setup is = most_bytes setup.version setup.tag_length is.tag_length
+pub tags_each_first : (size : ℕ) (tags : List WideTag) → 1 ≤ length tags → AllByRecursion (HasLength size) tags → AllByRecursion (HasLength (first_length tags)) tags
+tags_each_first size tags some each = subst (λ n. AllByRecursion (HasLength n) tags) (sym (tags_first size tags some each)) each
 
 rows_made : (setup : Parts) (name : Name) (payload : List ℕ) (chains : List Chain) → rows_of (map (tag_made setup name payload) chains) (map (key_due name.interval) chains) ≡ map (row_of setup name payload) chains
 rows_made setup name payload [] = refl
@@ -75,15 +56,15 @@ abbrev message_with : Parts → Name → List ℕ → ℕ → List TagRow → Fr
 message_with setup name payload size rows = Data (record { version = setup.version; stream = setup.stream; name = name; payload = payload; tag_length = size; rows = rows })
 
 -- the frame of a message, from its tags and keys
-pub message_is : (setup : Parts) (name : Name) (payload : List ℕ) (chains : List Chain) (version : Version) (stream : StreamId) (tags : List WideTag) (keys : List (Option Key)) → setup.tag_length ≤ 32 → 1 ≤ length chains → version ≡ setup.version → stream ≡ setup.stream → tags ≡ map (tag_made setup name payload) chains → keys ≡ map (key_due name.interval) chains → data_frame version stream name payload tags keys ≡ message_frame setup chains name payload
+pub message_is : (setup : Parts) (name : Name) (payload : List ℕ) (chains : List Chain) (version : Version) (stream : StreamId) (tags : List WideTag) (keys : List (Option Key)) → first_length (map (tag_made setup name payload) chains) ≡ setup.tag_length → version ≡ setup.version → stream ≡ setup.stream → tags ≡ map (tag_made setup name payload) chains → keys ≡ map (key_due name.interval) chains → data_frame version stream name payload tags keys ≡ message_frame setup chains name payload
 unfolding message_frame
-message_is setup name payload chains version stream tags keys few some same_version same_stream made due =
+message_is setup name payload chains version stream tags keys size same_version same_stream made due =
     let each = map (tag_made setup name payload) chains in
     ap (λ v. data_frame v stream name payload tags keys) same_version
     ∙ ap (λ s. data_frame setup.version s name payload tags keys) same_stream
     ∙ ap (λ ts. data_frame setup.version setup.stream name payload ts keys) made
     ∙ ap (λ ks. data_frame setup.version setup.stream name payload each ks) due
-    ∙ ap (λ n. message_with setup name payload n (rows_of each (map (key_due name.interval) chains))) (tags_first setup name payload chains few some)
+    ∙ ap (λ n. message_with setup name payload n (rows_of each (map (key_due name.interval) chains))) size
     ∙ ap (λ rows. message_with setup name payload setup.tag_length rows) (rows_made setup name payload chains)
 
 -- ---- disclosures

@@ -1,7 +1,6 @@
 pub mod Kept
 pub mod Places
 pub mod Tags
-pub mod Hashes
 pub mod Frames
 pub mod Logs
 pub mod Senders

@@ -201,6 +201,7 @@ impl SendingChain {
         requires some { 1 ≤ name.interval }
         requires prepared { self.now.tagging ≡ name.interval }
         ensures value { result ≡ tag_made setup.now name payload.now self.now.chain }
+        ensures length { result.length ≡ setup.now.tag_length }
         ensures cost { steps.new ≡ steps.old + 1 }
     {
         let length = setup.tag_length();

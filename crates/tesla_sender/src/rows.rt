@@ -1,7 +1,8 @@
 //! What all the chains of a sender do for a message or a disclosure.
 
 ghost use Rattle.std.specs.Prelude.{◌≡◌, ◌+◌, ◌≤◌, ◌++◌, length, map, take, min};
-ghost use Rattle.std.specs.List.{All, flat_map, sum_by};
+ghost use Rattle.std.specs.List.{All, AllByRecursion, flat_map, sum_by};
+ghost use Rattle.tesla_frame.specs.Written.{HasLength};
 ghost use Rattle.tesla_sender.specs.Made.{any_due, due_row, key_due};
 ghost use Rattle.tesla_sender.specs.Chains.{chain_in, left_in, IsReady, HasReached, IsPrepared, CanDisclose, tag_made};
 
@@ -50,6 +51,7 @@ pub fn put_tags<L: Ledger>(
     requires some { 1 ≤ name.interval }
     requires prepared { All (IsPrepared name.interval) chains.now }
     ensures tags { take (at + length chains.now) tags.new ≡ take at tags.old ++ map (tag_made setup.now name payload.now) (map chain_in chains.now) }
+    ensures lengths { AllByRecursion (HasLength setup.now.tag_length) (map (tag_made setup.now name payload.now) (map chain_in chains.now)) }
     ensures cost { steps.new ≡ steps.old + length chains.now }
 {
     match chains {

@@ -48,13 +48,13 @@ fn printed_kinds(rt: HostRuntime) -> Result<(), Fail> {
     Ok(())
 }
 
-/// The bytes that were written, at most 80.
+/// The bytes that were written, at most 100.
 #[derive(Drop)]
 struct Page {
-    bytes: [u8; 80],
+    bytes: [u8; 100],
     length: usize,
     faults: u64,
-    ghost within: { length ≤ 80 },
+    ghost within: { length ≤ 100 },
 }
 
 impl Sink for Page {
@@ -65,7 +65,7 @@ impl Sink for Page {
     ghost name = { λ it. [] };
 
     fn write(&mut self, piece: &[u8]) -> WriteStep {
-        if 80 - self.length < piece.len() {
+        if 100 - self.length < piece.len() {
             self.faults = self.faults.saturating_add(1);
             return WriteStep::Failed;
         }
@@ -90,16 +90,27 @@ fn write_records<S: Sink>(sink: &mut S) -> bool {
     write_record(sink, &HEAD, b"hi") && gatherer.put(sink, &HEAD, b"hi") && gatherer.flush(sink)
 }
 
-/// A capture, and then records of released packets, each with the bytes of its format.
+/// Gathers the capture, and writes it.
+fn gather_capture<S: Sink>(sink: &mut S) -> bool {
+    let mut gatherer = Gatherer::new();
+    gatherer.put_head(sink)
+        && gatherer.put_arrival(sink, 5, b"hi")
+        && gatherer.put_take(sink)
+        && gatherer.put_arrival(sink, 1 << 63, b"")
+        && gatherer.flush(sink)
+}
+
+/// A capture, then records of released packets, and the capture once more, each with the bytes of its format.
 #[test]
 fn capture_and_records(rt: HostRuntime) {
     let mut page = Page {
-        bytes: [0; 80],
+        bytes: [0; 100],
         length: 0,
         faults: 0,
     };
-    assert!(rt; write_capture(&mut page) && write_records(&mut page));
+    assert!(rt; write_capture(&mut page) && write_records(&mut page) && gather_capture(&mut page));
     assert_eq!(rt; &page.bytes[..30], CAPTURE.as_slice());
     assert_eq!(rt; &page.bytes[30..68], RECORDS.as_slice());
-    assert_eq!(rt; page.length, 68);
+    assert_eq!(rt; &page.bytes[68..98], CAPTURE.as_slice());
+    assert_eq!(rt; page.length, 98);
 }

@@ -1,14 +1,16 @@
 //! A capture that is played from its front to its end.
 
-ghost use Rattle.std.specs.Prelude.{◌≡◌, ◌+◌, ◌^◌, ◌<◌, ◌≤◌, ◌++◌, [], ℕ, List, Some, None, Ok, Err, true, ◌≢◌, IfSome, replicate, take};
+ghost use Rattle.std.specs.Prelude.{◌≡◌, ◌+◌, ◌^◌, ◌<◌, ◌≤◌, ◌++◌, [], ℕ, List, Some, None, Ok, Err, true, IfSome, replicate, take};
 ghost use Rattle.tesla_capture.specs.Capture.{limit};
 ghost use Rattle.tesla_capture.specs.Gathering.{gathered};
 ghost use Rattle.tesla_capture.specs.Reader.{ahead};
 ghost use Rattle.tesla_desk.specs.Faults.{HasCause};
 ghost use Rattle.tesla_receiver.specs.History.{Event, Arrives, Takes};
-ghost use Rattle.tesla_cli.specs.Playing.{Adds, HoldsText, HoldsFront, IsAt, GoesUp, PlaysNext, PlaysRecords, PlaysTo, PlaysAll, Plays, Settles, event_of, events_in, more_after, events_text, with_end};
+ghost use Rattle.tesla_cli.specs.Held.{HoldsText, HoldsFront};
+ghost use Rattle.tesla_cli.specs.Playing.{Adds, IsAt, GoesUp, PlaysNext, PlaysRecords, PlaysTo, PlaysAll, Plays, event_of, events_in, more_after, events_text, with_end};
 
 use crate::replay::{PlayedEvent, Target};
+use crate::settling::settle;
 use std::sync::ledger::Ledger;
 use tesla_base::Steps;
 use tesla_capture::{Gatherer, Reader, RecordKind, Step, laws};
@@ -187,34 +189,6 @@ impl<L: Ledger, T: Target> Player<L, T> {
         }
     }
 
-    // Writes what is gathered at last. A fault of before stays, whatever becomes of that; after a failed write
-    // nothing more is written.
-    fn settle<O: Sink>(
-        &mut self,
-        ended: Result<Ending, Fault>,
-        out: &mut O,
-    ) -> Result<Ending, Fault>
-        ensures settles { Settles ended result (O.written out.old) (O.written out.new) (gathered self.old.gatherer) }
-        ensures target { self.new.target ≡ self.old.target }
-        ensures cause { HasCause (O.faults out.old) (O.faults out.new) ((result ≡ Err Fault.Write) × (ended ≢ Err Fault.Write)) }
-        ensures name { O.name out.new ≡ O.name out.old }
-    {
-        match ended {
-            Ok(ending) => {
-                if self.gatherer.flush(out) {
-                    Ok(ending)
-                } else {
-                    Err(Fault::Write)
-                }
-            }
-            Err(Fault::Write) => Err(Fault::Write),
-            Err(fault) => {
-                let _ = self.gatherer.flush(out);
-                Err(fault)
-            }
-        }
-    }
-
     /// Plays a capture from its front: each record before its first refused place, and where there is none the end
     /// and a take for each packet that waits and one more. It gives the target back, and how the records ended.
     ///
@@ -240,7 +214,7 @@ impl<L: Ledger, T: Target> Player<L, T> {
         ensures name { O.name out.new ≡ O.name out.old }
     {
         let played = self.play_all(source, out);
-        let ended = self.settle(played, out);
+        let ended = settle(&mut self.gatherer, played, out);
         let Player {
             target,
             steps: _,

@@ -17,7 +17,7 @@ pub struct ChainRun {
 }
 
 /// The seeds of the two chains of the setups.
-const SEEDS: &str =
+pub const SEEDS: &str =
     "tesla-seeds 1\nseed 1111111111111111111111111111111111111111111111111111111111111111\nseed 2222222222222222222222222222222222222222222222222222222222222222\n";
 
 const ONE_SEED: &str =

@@ -9,7 +9,7 @@ use Rattle.tesla_frame.specs.Written.{HasLength, first_length}
 use Rattle.tesla_sender.specs.Made.{key_due}
 use Rattle.tesla_sender.specs.Chains.{chain_in, tag_made}
 use Rattle.tesla_sender.specs.Stands.{IsWritten}
-use Rattle.tesla_sender.proofs.Frames.{put_first, version_back, tags_few, tags_first, tags_each_first, message_is}
+use Rattle.tesla_sender.proofs.Frames.{put_first, version_back, tags_first, tags_each_first, message_is}
 use Rattle.tesla_sender.proofs.writing.write_message.Goals as goal
 
 pub write_data-requires-clause-size : goal.write_data-requires-clause-size
@@ -21,8 +21,8 @@ write_data-requires-clause-size g c =
     let count : c.from-count.result ≡ length a.chains.now = omega arith in
     let tags : take c.from-count.result c.put_tags.new.tags ≡ map (tag_made setup a.name a.payload.now) chains = put_first (length a.chains.now) c.from-count.result [] c.put_tags.new.tags _ count c.put_tags.ensures.tags in
     let version : version_named c.version.result ≡ setup.version = ap version_named c.version.ensures ∙ version_back setup.version in
-    let some : 1 ≤ length chains = omega (arith, length-map a.chains.now chain_in, count, c.from-count.ensures, c.count.ensures.some) in
-    let size : first_length (take c.from-count.result c.put_tags.new.tags) ≡ setup.tag_length = ap first_length tags ∙ tags_first setup a.name a.payload.now chains (tags_few setup limits) some in
+    let some : 1 ≤ length (map (tag_made setup a.name a.payload.now) chains) = omega (arith, length-map chains (tag_made setup a.name a.payload.now), length-map a.chains.now chain_in, count, c.from-count.ensures, c.count.ensures.some) in
+    let size : first_length (take c.from-count.result c.put_tags.new.tags) ≡ setup.tag_length = ap first_length tags ∙ tags_first setup.tag_length (map (tag_made setup a.name a.payload.now) chains) some c.put_tags.ensures.lengths in
     let P : Version → Type 0 = λ v. IsTagLength v (first_length (take c.from-count.result c.put_tags.new.tags)) in
     subst P (sym version) (subst (IsTagLength setup.version) (sym size) limits.tag_length)
 
@@ -34,10 +34,9 @@ write_data-requires-clause-each g c =
     let limits = c.count.ensures.limits in
     let count : c.from-count.result ≡ length a.chains.now = omega arith in
     let tags : take c.from-count.result c.put_tags.new.tags ≡ map (tag_made setup a.name a.payload.now) chains = put_first (length a.chains.now) c.from-count.result [] c.put_tags.new.tags _ count c.put_tags.ensures.tags in
-    let some : 1 ≤ length chains = omega (arith, length-map a.chains.now chain_in, count, c.from-count.ensures, c.count.ensures.some) in
-    let size = tags_first setup a.name a.payload.now chains (tags_few setup limits) some in
+    let some : 1 ≤ length (map (tag_made setup a.name a.payload.now) chains) = omega (arith, length-map chains (tag_made setup a.name a.payload.now), length-map a.chains.now chain_in, count, c.from-count.ensures, c.count.ensures.some) in
     let P : List WideTag → Type 0 = λ ts. AllByRecursion (HasLength (first_length ts)) ts in
-    subst P (sym tags) (tags_each_first setup a.name a.payload.now chains (tags_few setup limits) some)
+    subst P (sym tags) (tags_each_first setup.tag_length (map (tag_made setup a.name a.payload.now) chains) some c.put_tags.ensures.lengths)
 
 pub returns-clause-written : goal.returns-clause-written
 returns-clause-written g c =
@@ -49,7 +48,7 @@ returns-clause-written g c =
     let tags : take c.from-count.result c.put_tags.new.tags ≡ map (tag_made setup a.name a.payload.now) chains = put_first (length a.chains.now) c.from-count.result [] c.put_tags.new.tags _ count c.put_tags.ensures.tags in
     let keys : take c.from-count.result c.put_keys.new.keys ≡ map (key_due a.name.interval) chains = put_first (length a.chains.now) c.from-count.result [] c.put_keys.new.keys _ count c.put_keys.ensures in
     let version : version_named c.version.result ≡ setup.version = ap version_named c.version.ensures ∙ version_back setup.version in
-    let some : 1 ≤ length chains = omega (arith, length-map a.chains.now chain_in, count, c.from-count.ensures, c.count.ensures.some) in
-    let frame = message_is setup a.name a.payload.now chains (version_named c.version.result) c.stream.result (take c.from-count.result c.put_tags.new.tags) (take c.from-count.result c.put_keys.new.keys) (tags_few setup limits) some version c.stream.ensures tags keys in
+    let some : 1 ≤ length (map (tag_made setup a.name a.payload.now) chains) = omega (arith, length-map chains (tag_made setup a.name a.payload.now), length-map a.chains.now chain_in, count, c.from-count.ensures, c.count.ensures.some) in
+    let frame = message_is setup a.name a.payload.now chains (version_named c.version.result) c.stream.result (take c.from-count.result c.put_tags.new.tags) (take c.from-count.result c.put_keys.new.keys) (tags_first setup.tag_length (map (tag_made setup a.name a.payload.now) chains) some c.put_tags.ensures.lengths) version c.stream.ensures tags keys in
     let P : Frame → Type 0 = λ f. IsWritten f c.write_data.result a.into.now c.write_data.new.into in
     subst P frame (record { length = c.write_data.ensures.length; text = c.write_data.ensures.text })

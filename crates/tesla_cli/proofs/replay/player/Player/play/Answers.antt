@@ -1,11 +1,8 @@
-use Rattle.std.proofs.Common.{subst, sym}
-use Rattle.tesla_cli.specs.Playing.{Plays}
 use Rattle.tesla_cli.proofs.Held.{holds_none}
 use Rattle.tesla_cli.proofs.Records.{settled_plays}
 use Rattle.tesla_cli.proofs.replay.player.Player.play.Goals as goal
 
 pub returns-clause-plays : goal.returns-clause-plays
 returns-clause-plays g c bytes told =
-    subst (λ (t : g.row.T.Denot). Plays (g.T.Target.rule c.args.self.target) (g.T.Target.has t) bytes c.settle-ended.result (g.O.Sink.written c.settle-ended.new.out)) (sym c.settle-ended.ensures.target)
-    (settled_plays c.play_all-played.result c.settle-ended.result (g.T.Target.rule c.args.self.target) (g.T.Target.has c.play_all-played.new.self.target) bytes _ _ _ c.settle-ended.ensures.settles
-    (c.play_all-played.ensures.plays bytes told c.requires.has (holds_none _ _ c.requires.empty c.requires.none)))
+    settled_plays c.play_all-played.result c.settle-ended.result (g.T.Target.rule c.args.self.target) (g.T.Target.has c.play_all-played.new.self.target) bytes _ _ _ c.settle-ended.ensures.settles
+    (c.play_all-played.ensures.plays bytes told c.requires.has (holds_none _ _ c.requires.empty c.requires.none))

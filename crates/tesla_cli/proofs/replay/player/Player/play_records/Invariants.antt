@@ -2,7 +2,8 @@ use Rattle.std.proofs.Common.{◌≡◌, ◌-◌, ◌≤◌, ℕ, List, [], Some
 use Rattle.tesla_capture.specs.Capture.{limit}
 use Rattle.tesla_capture.specs.Gathering.{gathered}
 use Rattle.tesla_capture.specs.Reader.{ahead}
-use Rattle.tesla_cli.specs.Playing.{HoldsText, IsAt}
+use Rattle.tesla_cli.specs.Held.{HoldsText}
+use Rattle.tesla_cli.specs.Playing.{IsAt}
 use Rattle.tesla_cli.proofs.replay.player.Player.play_records.Given as goal
 
 abbrev pub invariant-loop-ending : goal.invariant-loop-ending

@@ -1,7 +1,8 @@
 use Rattle.std.proofs.Common.{◌≡◌, ◌+◌, ◌≤◌, List, ◌++◌, replicate}
 use Rattle.tesla_capture.specs.Gathering.{gathered}
 use Rattle.tesla_receiver.specs.History.{Event, Takes}
-use Rattle.tesla_cli.specs.Playing.{HoldsText, events_text}
+use Rattle.tesla_cli.specs.Held.{HoldsText}
+use Rattle.tesla_cli.specs.Playing.{events_text}
 use Rattle.tesla_cli.proofs.replay.player.Player.take_times.Given as goal
 
 abbrev pub invariant-loop : goal.invariant-loop

@@ -1,0 +1,27 @@
+//! Hashing again and again.
+
+use sha2::{Digest, Sha256};
+use std::sync::ledger::Ledger;
+use tesla_base::{Key, Steps};
+use tesla_prf::walk_back;
+
+/// How many blocks are hashed as one text.
+const BLOCKS: u64 = 1024;
+
+/// Hashes so many blocks of 64 bytes by SHA-256, up to 1,023 more so that the last text is whole, as long texts of
+/// which each has one compression beside those of its blocks. It gives a sum over the digests.
+pub fn compress_often(blocks: u64) -> u64 {
+    let text = [0x5a; 65_536];
+    let mut sum = 0u64;
+    for _ in 0..blocks.div_ceil(BLOCKS) {
+        let digest = Sha256::digest(&text[..]);
+        sum = sum.wrapping_add(u64::from(digest[31]));
+    }
+    sum
+}
+
+/// Walks back from a key so many times: one evaluation of HMAC each. It gives the last byte of the key that is reached.
+pub fn evaluate_often<L: Ledger>(times: u64, steps: &mut Steps<L>) -> u64 {
+    let times = times.min(u64::from(u32::MAX)) as u32;
+    u64::from(walk_back(&Key([0x11; 32]), times, steps).0[31])
+}

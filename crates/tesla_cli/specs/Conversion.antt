@@ -1,0 +1,21 @@
+-- A command that makes an output from one input: what it comes to and what it writes, told as functions of the input's bytes.
+use Rattle.std.specs.Prelude.{◌≡◌, ◌≢◌, ℕ, Bool, Result, List}
+use Rattle.tesla_desk.specs.Outside.{Page, Absent, Holds}
+use Rattle.tesla_front.specs.Files.{HoldsWhere, IsFront}
+use Rattle.tesla_front.specs.declared.refusal.Stop.{Stop}
+use Rattle.tesla_cli.specs.declared.outcome.Summary.{Summary}
+
+-- the fact holds of the bytes of a page, where they are told
+abbrev pub Where : Page → (List ℕ → Type 0) → Type 0
+Where page Fact = (bytes : List ℕ) (failed : Bool) → page ≡ Holds bytes failed → Fact bytes
+
+-- the input was taken as far as it goes: the command came to its end, and the output holds its text
+pub record ComesToEnd (comes : List ℕ → Result Summary Stop) (makes : List ℕ → List ℕ) (input out : Page) (came : Result Summary Stop) : Type 0 where
+  pub there : input ≢ Absent
+  pub end : Where input (λ bytes. came ≡ comes bytes)
+  pub text : HoldsWhere out (λ written. Where input (λ bytes. written ≡ makes bytes))
+
+-- the command was broken off: the output holds a front of its text
+pub record BreaksOff (makes : List ℕ → List ℕ) (input out : Page) : Type 0 where
+  pub there : input ≢ Absent
+  pub front : HoldsWhere out (λ written. Where input (λ bytes. IsFront (makes bytes) written))
