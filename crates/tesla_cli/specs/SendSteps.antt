@@ -10,7 +10,6 @@ use Rattle.tesla_commit.specs.Parts.{Parts}
 use Rattle.tesla_desk.specs.Outside.{Page, Told, OfSource, OfSink, AppendsFront}
 use Rattle.tesla_frame.specs.Frame.{frame_text}
 use Rattle.tesla_front.specs.Files.{HasFailed}
-use Rattle.tesla_front.specs.Seeds.{IsNoSeeds}
 use Rattle.tesla_front.specs.declared.fault.Fault.{Fault}
 use Rattle.tesla_front.specs.declared.fault.Fault.TheVariants as faults
 use Rattle.tesla_front.specs.declared.refusal.Refusal.TheVariants as refusals
