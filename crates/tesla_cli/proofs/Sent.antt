@@ -1,5 +1,5 @@
 -- What the output of a script is once it is closed, and what the script came to.
-use Rattle.std.proofs.Common.{◌≡◌, ◌∙◌, ◌⊎◌, inl, inr, ℕ, suc, ◌+◌, ◌≤◌, Option, Some, None, Result, Ok, Err, List, [], ◌∷◌, length, refl, sym, ap, subst, arith}
+use Rattle.std.proofs.Common.{◌≡◌, ◌∙◌, ◌⊎◌, inl, inr, ℕ, suc, ◌+◌, Option, Some, None, Result, Ok, Err, List, [], ◌∷◌, length, refl, sym, ap, subst, arith}
 use Rattle.std.specs.Option.{option_map}
 use Rattle.tesla_base.specs.declared.names.ChainNo.{ChainNo}
 use Rattle.tesla_base.specs.declared.names.Key.{Key}
@@ -130,13 +130,13 @@ seeded_files stream other script out before now came right same sends = record {
 pub setup_unseeded : (asked : SendAsked) (setup : Parts) (before now : Told) (stop : Stop) → AsksFront (OfSource asked.secret ∷ []) before.openings now.openings → ((name : List ℕ) → now.page name ≡ before.page name) → IsNoSeeds (length setup.rows) (before.page asked.secret) stop → SendsSetup asked setup before now (Err stop)
 setup_unseeded asked setup before now stop front pages why =
     let it = opens_front (OfSource asked.secret) (OfSource asked.script ∷ OfSink asked.out ∷ []) before now front pages in
-    record { opened = it.0; opens = it.2; does = inl (it.1, (stop, refl, inl why)) }
+    record { opened = it.0; opens = it.2; does = inl (record { few = omega (arith, it.1); stop = stop; came_is = refl; why = inl why }) }
 
 seeded_by : (asked : SendAsked) (setup : Parts) (seeds : List Key) (opened : ℕ) (before mid now : Told) (came : Result Summary Stop) → length seeds ≡ length setup.rows → IsSeedsIn (length setup.rows) (before.page asked.secret) seeds → ((name : List ℕ) → mid.page name ≡ before.page name)
     → ((opened ≡ 0) × ((stop : Stop) × (came ≡ Err stop) × IsNoSender (record { setup = setup; seeds = seeds }) stop)) ⊎ ((wrong_line (record { setup = setup; seeds = seeds }) ≡ None) × SendsScript (record { setup = setup; seeds = seeds }) (mid.page asked.script) (mid.page asked.out) (now.page asked.out) came)
-    → ((suc opened ≤ 1) × ((stop : Stop) × (came ≡ Err stop) × (IsNoSeeds (length setup.rows) (before.page asked.secret) stop ⊎ NoSenderOf setup (before.page asked.secret) stop))) ⊎ SendsWith asked setup before.page now.page came
+    → StopsAtSeeds asked setup (suc (suc opened)) before.page came ⊎ SendsWith asked setup before.page now.page came
 seeded_by asked setup seeds opened before mid now came count found pages (inl it) =
-    inl (omega (arith, it.0), (it.1.0, it.1.1, inr (record { seeds = seeds; are = record { count = count; found = found }; why = it.1.2 })))
+    inl (record { few = omega (arith, it.0); stop = it.1.0; came_is = it.1.1; why = inr (record { seeds = seeds; are = record { count = count; found = found }; why = it.1.2 }) })
 seeded_by asked setup seeds opened before mid now came count found pages (inr it) = inr (record {
   seeds = seeds;
   are = record { count = count; found = found };
@@ -177,12 +177,6 @@ under_moves asked setup opened before after old new came secret script out done 
       (subst (λ (p : Page). SendsScript (record { setup = setup; seeds = sends.seeds }) (before asked.script) (before asked.out) p came) done sends.sends);
 })
 
-under_by : (asked : SendAsked) (setup : Parts) (opened : ℕ) (before now : List ℕ → Page) (came : Result Summary Stop)
-    → ((opened ≤ 1) × ((stop : Stop) × (came ≡ Err stop) × (IsNoSeeds (length setup.rows) (before asked.secret) stop ⊎ NoSenderOf setup (before asked.secret) stop))) ⊎ SendsWith asked setup before now came
-    → StopsAtSeeds asked setup (suc opened) before came ⊎ SendsWith asked setup before now came
-under_by asked setup opened before now came (inl it) = inl (record { few = omega (arith, it.0); stop = it.1.0; came_is = it.1.1; why = it.1.2 })
-under_by asked setup opened before now came (inr sends) = inr sends
-
 -- the setup was read, and what follows done under it
 pub performs_send : (asked : SendAsked) (setup : Parts) (before mid now : Told) (came : Result Summary Stop) → mid.openings ≡ with_opening before.openings (OfSource asked.setup) → ((name : List ℕ) → mid.page name ≡ before.page name) → IsSetupIn (before.page asked.setup) setup → SendsSetup asked setup mid now came → Performs (Send asked) before now came
 performs_send asked setup before mid now came opened pages found sends = record {
@@ -191,6 +185,6 @@ performs_send asked setup before mid now came opened pages found sends = record 
   does = inr (record {
     setup = setup;
     found = found;
-    does = under_moves asked setup (suc sends.opened) mid.page now.page before.page now.page came (pages asked.secret) (pages asked.script) (pages asked.out) refl (under_by asked setup sends.opened mid.page now.page came sends.does);
+    does = under_moves asked setup (suc sends.opened) mid.page now.page before.page now.page came (pages asked.secret) (pages asked.script) (pages asked.out) refl sends.does;
   });
 }

@@ -1,11 +1,11 @@
 -- What the command replay does.
-use Rattle.std.specs.Prelude.{◌≡◌, ◌⊎◌, ◌≤◌, ℕ, is_none, Option, Some, None, Result, Ok, Err, List}
+use Rattle.std.specs.Prelude.{◌≡◌, ◌⊎◌, ℕ, is_none, Option, Some, None, Result, Ok, Err, List}
 use Rattle.tesla_capture.specs.Outline.{outline_of}
 use Rattle.tesla_capture.specs.declared.record.RecordKind.{RecordKind}
 use Rattle.tesla_commit.specs.Parts.{Parts}
 use Rattle.tesla_desk.specs.Outside.{Page}
 use Rattle.tesla_front.specs.Files.{HasFailed}
-use Rattle.tesla_front.specs.Setup.{IsSetupIn, IsNoSetup}
+use Rattle.tesla_front.specs.Setup.{IsSetupIn}
 use Rattle.tesla_front.specs.declared.fault.Fault.TheVariants as faults
 use Rattle.tesla_front.specs.declared.refusal.Refusal.TheVariants as refusals
 use Rattle.tesla_front.specs.declared.refusal.Stop.{Stop}
@@ -16,7 +16,7 @@ use Rattle.tesla_receiver.specs.History.{arrivals_in}
 use Rattle.tesla_receiver.specs.Played.{played}
 use Rattle.tesla_receiver.specs.Report.{report_of, records_of, released_text}
 use Rattle.tesla_cli.specs.Asked.{Asked}
-use Rattle.tesla_cli.specs.Conversion.{ComesToEnd, BreaksOff}
+use Rattle.tesla_cli.specs.Conversion.{ComesToEnd, BreaksOff, StopsAtSetup}
 use Rattle.tesla_cli.specs.declared.outcome.Summary.{Summary}
 use Rattle.tesla_cli.specs.declared.outcome.Summary.TheVariants.{Played}
 
@@ -58,13 +58,6 @@ PlaysCapture cfg capture before out (Err (Failed faults.NoMemory)) = (out ≡ be
 -- the capture or the output wasn't opened
 PlaysCapture cfg capture before out (Err (Failed faults.Open)) = out ≡ before
 
--- there is no setup, and no other file was asked for
-pub record StopsAtSetup (asked : Asked) (opened : ℕ) (before : List ℕ → Page) (came : Result Summary Stop) : Type 0 where
-  pub alone : opened ≤ 1
-  pub stop : Stop
-  pub came_is : came ≡ Err stop
-  pub why : IsNoSetup (before asked.setup) stop
-
 -- under the setup the capture was played
 pub record PlaysUnder (asked : Asked) (before after : List ℕ → Page) (came : Result Summary Stop) : Type 0 where
   pub setup : Parts
@@ -73,4 +66,4 @@ pub record PlaysUnder (asked : Asked) (before after : List ℕ → Page) (came :
 
 -- a replay of which so many files were asked to be opened, with the pages before and after it, and what it came to
 abbrev pub DoesReplay : Asked → ℕ → (List ℕ → Page) → (List ℕ → Page) → Result Summary Stop → Type 0
-DoesReplay asked opened before after came = StopsAtSetup asked opened before came ⊎ PlaysUnder asked before after came
+DoesReplay asked opened before after came = StopsAtSetup asked.setup opened before came ⊎ PlaysUnder asked before after came

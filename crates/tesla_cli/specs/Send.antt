@@ -6,7 +6,7 @@ use Rattle.tesla_commit.specs.Parts.{Parts}
 use Rattle.tesla_desk.specs.Outside.{Page}
 use Rattle.tesla_front.specs.Files.{HasFailed}
 use Rattle.tesla_front.specs.Seeds.{IsSeedsIn, IsNoSeeds}
-use Rattle.tesla_front.specs.Setup.{IsSetupIn, IsNoSetup}
+use Rattle.tesla_front.specs.Setup.{IsSetupIn}
 use Rattle.tesla_front.specs.declared.fault.Fault.TheVariants as faults
 use Rattle.tesla_front.specs.declared.refusal.Refusal.TheVariants as refusals
 use Rattle.tesla_front.specs.declared.refusal.Stop.{Stop}
@@ -14,7 +14,7 @@ use Rattle.tesla_front.specs.declared.refusal.Stop.TheVariants.{Refused, Failed}
 use Rattle.tesla_front.specs.declared.script_kind.ScriptKind.{ScriptKind}
 use Rattle.tesla_sender.specs.Made.{Chain, Stream, chains_of}
 use Rattle.tesla_sender.specs.Opening.{first_wrong}
-use Rattle.tesla_cli.specs.Conversion.{ComesToEnd, BreaksOff}
+use Rattle.tesla_cli.specs.Conversion.{ComesToEnd, BreaksOff, StopsAtSetup}
 use Rattle.tesla_cli.specs.Script.{Sent, sending, sent_text}
 use Rattle.tesla_cli.specs.SendAsked.{SendAsked}
 use Rattle.tesla_cli.specs.declared.outcome.Summary.{Summary}
@@ -72,13 +72,6 @@ pub record NoSenderOf (setup : Parts) (secret : Page) (stop : Stop) : Type 0 whe
 
 -- ---- the command
 
--- there is no setup, and no other file was asked for
-pub record StopsAtSendSetup (asked : SendAsked) (opened : ℕ) (before : List ℕ → Page) (came : Result Summary Stop) : Type 0 where
-  pub alone : opened ≤ 1
-  pub stop : Stop
-  pub came_is : came ≡ Err stop
-  pub why : IsNoSetup (before asked.setup) stop
-
 -- under the setup there are no seeds, or no sender is opened with them, and no file behind them was asked for
 pub record StopsAtSeeds (asked : SendAsked) (setup : Parts) (opened : ℕ) (before : List ℕ → Page) (came : Result Summary Stop) : Type 0 where
   pub few : opened ≤ 2
@@ -101,4 +94,4 @@ pub record SendsUnder (asked : SendAsked) (opened : ℕ) (before after : List �
 
 -- a run of the command, of which so many files were asked to be opened, with the pages before and after it, and what it came to
 abbrev pub DoesSend : SendAsked → ℕ → (List ℕ → Page) → (List ℕ → Page) → Result Summary Stop → Type 0
-DoesSend asked opened before after came = StopsAtSendSetup asked opened before came ⊎ SendsUnder asked opened before after came
+DoesSend asked opened before after came = StopsAtSetup asked.setup opened before came ⊎ SendsUnder asked opened before after came

@@ -1,5 +1,5 @@
 -- What the inner steps of the command send come to.
-use Rattle.std.specs.Prelude.{◌≡◌, ◌⊎◌, ◌+◌, ◌<◌, ◌≤◌, true, ℕ, Option, Some, None, Result, Ok, Err, List, [], ◌∷◌, ◌++◌, length}
+use Rattle.std.specs.Prelude.{◌≡◌, ◌⊎◌, ◌+◌, ◌<◌, ◌≤◌, true, ℕ, suc, Option, Some, None, Result, Ok, Err, List, [], ◌∷◌, ◌++◌, length}
 use Rattle.tesla_capture.specs.Capture as captures
 use Rattle.tesla_capture.specs.Gathering.{Gathers}
 use Rattle.tesla_capture.specs.Grammar.{limit}
@@ -10,7 +10,6 @@ use Rattle.tesla_commit.specs.Parts.{Parts}
 use Rattle.tesla_desk.specs.Outside.{Page, Told, OfSource, OfSink, AppendsFront}
 use Rattle.tesla_frame.specs.Frame.{frame_text}
 use Rattle.tesla_front.specs.Files.{HasFailed}
-use Rattle.tesla_front.specs.Seeds.{IsNoSeeds}
 use Rattle.tesla_front.specs.declared.fault.Fault.{Fault}
 use Rattle.tesla_front.specs.declared.fault.Fault.TheVariants as faults
 use Rattle.tesla_front.specs.declared.refusal.Refusal.TheVariants as refusals
@@ -22,7 +21,7 @@ use Rattle.tesla_sender.specs.Stands.{State, Stands}
 use Rattle.tesla_cli.specs.Form.{Opens}
 use Rattle.tesla_cli.specs.Held.{HoldsText, HoldsFront, kept}
 use Rattle.tesla_cli.specs.Script.{Answer, Makes, MakesNone, Refuses, Sent, Sending, call_of, reading_of, sending, sending_in, sent_text}
-use Rattle.tesla_cli.specs.Send.{SendsScript, SendsWith, IsNoSender, NoSenderOf, came_of, text_of, wrong_line}
+use Rattle.tesla_cli.specs.Send.{SendsScript, SendsWith, StopsAtSeeds, IsNoSender, came_of, text_of, wrong_line}
 use Rattle.tesla_cli.specs.SendAsked.{SendAsked}
 use Rattle.tesla_cli.specs.Steps.{EndsFrom, BreaksFrom, EndsOn, BreaksOn}
 use Rattle.tesla_cli.specs.declared.outcome.Summary.{Summary}
@@ -142,8 +141,8 @@ pub record SendsSeeded (stream : Stream) (name out : List ℕ) (old new : Told) 
   pub opens : Opens (OfSource name ∷ OfSink out ∷ []) opened old new
   pub does : ((opened ≡ 0) × ((stop : Stop) × (came ≡ Err stop) × IsNoSender stream stop)) ⊎ ((wrong_line stream ≡ None) × SendsScript stream (old.page name) (old.page out) (new.page out) came)
 
--- under a setup that was found
+-- under a setup that was found and was opened before
 pub record SendsSetup (asked : SendAsked) (setup : Parts) (old new : Told) (came : Result Summary Stop) : Type 0 where
   pub opened : ℕ
   pub opens : Opens (OfSource asked.secret ∷ OfSource asked.script ∷ OfSink asked.out ∷ []) opened old new
-  pub does : ((opened ≤ 1) × ((stop : Stop) × (came ≡ Err stop) × (IsNoSeeds (length setup.rows) (old.page asked.secret) stop ⊎ NoSenderOf setup (old.page asked.secret) stop))) ⊎ SendsWith asked setup old.page new.page came
+  pub does : StopsAtSeeds asked setup (suc opened) old.page came ⊎ SendsWith asked setup old.page new.page came
