@@ -1,0 +1,7 @@
+//! Lists of numbers that are linked in memory of a fixed size: each change takes the same time, however long the
+//! lists are.
+#![tactic(auto)]
+
+mod links;
+
+pub use links::Links;
