@@ -1,10 +1,12 @@
 -- Whether a number stands in a list, and lists in which none stands twice.
-use Rattle.std.proofs.Common.{◌≡◌, ℕ, zero, suc, ◌+◌, ◌<◌, ◌≤◌, Bool, true, false, not, cond, ◌||◌, List, [], ◌∷◌, ◌++◌, length, get_or, refl, sym, ap, subst, ◌∙◌, arith, eqb, ◌⊎◌, inl, inr, ⊎_elim}
-use Rattle.std.specs.List.{filter, list_any}
-use Rattle.std.proofs.lemmas.Bool.{cases_Bool, cond-false, cond-true, eq-eqb, eqb-false, eqb-true, false≢true, ne_eqb, not_from_false, not_from_true, or_cases, or_from, or_left, or_parts, or_right}
+use Rattle.std.proofs.Common.{◌≡◌, ℕ, zero, suc, ◌+◌, ◌<◌, ◌≤◌, Bool, true, false, not, cond, ◌||◌, List, [], ◌∷◌, ◌++◌, length, get_or, map, replicate, Some, None, refl, sym, ap, subst, ◌∙◌, arith, eqb, ◌⊎◌, inl, inr, ⊎_elim}
+use Rattle.std.specs.List.{filter, list_any, range_with_len}
+use Rattle.std.specs.Prelude.{slice_get}
+use Rattle.std.proofs.Math.ListN.{set}
+use Rattle.std.proofs.lemmas.Bool.{cases_Bool, cases_eq, cond-false, cond-true, eq-eqb, eqb-false, eqb-true, false≢true, ne_eqb, not_from_false, not_from_true, or_cases, or_from, or_left, or_parts, or_right}
 use Rattle.std.proofs.lemmas.List.Folds.{list_any-append}
 use Rattle.std.proofs.lemmas.List.{length-append}
-use Rattle.tesla_links.specs.Lists.{Distinct, is_in, without}
+use Rattle.tesla_links.specs.Lists.{Distinct, is_in, next_in, without}
 
 -- a number that isn't in a list with a first number is not the first, nor in the rest
 pub apart : (x place : ℕ) (xs : List ℕ) → is_in place (x ∷ xs) ≡ false → (x ≡ place → ⊥) × (is_in place xs ≡ false)
@@ -138,3 +140,93 @@ distinct_short (suc n) xs d below =
         let fewer = distinct_short n xs d (λ x here. let small : x < suc n = below x here in let other : n ≡ x → ⊥ = differs x n xs here none in omega arith) in
         omega (arith, fewer))
       (cases_Bool (is_in n xs))
+
+-- ---- without a number
+
+-- the number isn't left in a list
+pub without_same : (p : ℕ) (xs : List ℕ) → is_in p (without p xs) ≡ false
+without_same p [] = refl
+without_same p (x ∷ xs) =
+    ⊎_elim
+      (λ (e : eqb x p ≡ true). ap (is_in p) (cond-false (not (eqb x p)) (x ∷ without p xs) (without p xs) (not_from_true (eqb x p) e)) ∙ without_same p xs)
+      (λ (e : eqb x p ≡ false). ap (is_in p) (cond-true (not (eqb x p)) (x ∷ without p xs) (without p xs) (not_from_false (eqb x p) e)) ∙ or_from (eqb x p) (is_in p (without p xs)) e (without_same p xs))
+      (cases_Bool (eqb x p))
+
+-- the others are
+pub without_other : (p q : ℕ) (xs : List ℕ) → (q ≡ p → ⊥) → is_in q (without p xs) ≡ is_in q xs
+without_other p q [] ne = refl
+without_other p q (x ∷ xs) ne =
+    ⊎_elim
+      (λ (e : eqb x p ≡ true).
+        ap (is_in q) (cond-false (not (eqb x p)) (x ∷ without p xs) (without p xs) (not_from_true (eqb x p) e)) ∙ without_other p q xs ne
+        ∙ sym (ap (λ b. b || is_in q xs) (ne_eqb x q (λ s. ne (sym s ∙ eqb-true x p e)))))
+      (λ (e : eqb x p ≡ false).
+        ap (is_in q) (cond-true (not (eqb x p)) (x ∷ without p xs) (without p xs) (not_from_false (eqb x p) e)) ∙ ap (λ b. eqb x q || b) (without_other p q xs ne))
+      (cases_Bool (eqb x p))
+
+-- it is left in no list
+pub nowhere_without : (p : ℕ) (lists : List (List ℕ)) → list_any (is_in p) (map (without p) lists) ≡ false
+nowhere_without p [] = refl
+nowhere_without p (xs ∷ lists) = or_from (is_in p (without p xs)) (list_any (is_in p) (map (without p) lists)) (without_same p xs) (nowhere_without p lists)
+
+-- a list in which a number stands is among the lists
+pub somewhere : (p : ℕ) (lists : List (List ℕ)) (k : ℕ) → is_in p (get_or lists k []) ≡ true → list_any (is_in p) lists ≡ true
+somewhere p [] k i = i
+somewhere p (xs ∷ lists) zero i = or_left (is_in p xs) (list_any (is_in p) lists) i
+somewhere p (xs ∷ lists) (suc k) i = or_right (is_in p xs) (list_any (is_in p) lists) (somewhere p lists k i)
+
+-- a number that stands in no list and not in another list
+pub nowhere_set : (p : ℕ) (lists : List (List ℕ)) (k : ℕ) (xs : List ℕ) → list_any (is_in p) lists ≡ false → is_in p xs ≡ false → list_any (is_in p) (set lists k xs) ≡ false
+nowhere_set p [] k xs none h = refl
+nowhere_set p (ys ∷ lists) zero xs none h = or_from (is_in p xs) (list_any (is_in p) lists) h (or_parts (is_in p ys) (list_any (is_in p) lists) none).1
+nowhere_set p (ys ∷ lists) (suc k) xs none h =
+    let parts = or_parts (is_in p ys) (list_any (is_in p) lists) none in
+    or_from (is_in p ys) (list_any (is_in p) (set lists k xs)) parts.0 (nowhere_set p lists k xs parts.1 h)
+
+-- no number stands in empty lists
+pub nowhere_empty : (p n : ℕ) → list_any (is_in p) (replicate n []) ≡ false
+nowhere_empty p zero = refl
+nowhere_empty p (suc n) = nowhere_empty p n
+
+-- ---- the numbers below n
+
+-- a number of a range lies in it
+pub range_in : (a n x : ℕ) → is_in x (range_with_len a n) ≡ true → (a ≤ x) × (x < a + n)
+range_in a zero x i = absurd (false≢true i)
+range_in a (suc n) x i =
+    ⊎_elim (λ (e : a ≡ x). (omega arith, omega arith))
+    (λ (more : is_in x (range_with_len (a + 1) n) ≡ true). let r = range_in (a + 1) n x more in (omega (arith, r.0), omega (arith, r.1)))
+    (in_cases a x (range_with_len (a + 1) n) i)
+
+-- and a number that lies in it is one
+pub range_has : (a n x : ℕ) → a ≤ x → x < a + n → is_in x (range_with_len a n) ≡ true
+range_has a zero x low high = absurd (omega arith)
+range_has a (suc n) x low high =
+    ⊎_elim (λ (e : a ≡ x). or_left (eqb a x) (is_in x (range_with_len (a + 1) n)) (eq-eqb a x e))
+    (λ (ne : a ≡ x → ⊥). in_there a x (range_with_len (a + 1) n) (range_has (a + 1) n x (omega arith) (omega arith)))
+    (cases_eq a x)
+
+pub range_past : (n x : ℕ) → n ≤ x → is_in x (range_with_len 0 n) ≡ false
+range_past n x past =
+    ⊎_elim (λ (i : is_in x (range_with_len 0 n) ≡ true). absurd (omega (arith, (range_in 0 n x i).1)))
+    (λ (none : is_in x (range_with_len 0 n) ≡ false). none)
+    (cases_Bool (is_in x (range_with_len 0 n)))
+
+-- the number at a place of a list is in it
+pub in_got : (xs : List ℕ) (i p : ℕ) → slice_get xs i ≡ Some p → is_in p xs ≡ true
+in_got [] i p h = absurd (cc)
+in_got (x ∷ xs) zero p h = let e : x ≡ p = cc in or_left (eqb x p) (is_in p xs) (eq-eqb x p e)
+in_got (x ∷ xs) (suc i) p h = in_there x p xs (in_got xs i p h)
+
+-- ---- from one number of a list to the next
+
+-- what stands behind the number at a place stands at the next place
+pub next_at : (xs : List ℕ) (i p : ℕ) → Distinct xs → slice_get xs i ≡ Some p → next_in p xs ≡ slice_get xs (i + 1)
+next_at [] i p d h = absurd (cc)
+next_at (x ∷ xs) zero p d h =
+    let e : x ≡ p = cc in
+    cond-true (eqb x p) (slice_get xs 0) (next_in p xs) (eq-eqb x p e)
+next_at (x ∷ xs) (suc i) p d h =
+    let there : is_in p xs ≡ true = in_got xs i p h in
+    cond-false (eqb x p) (slice_get xs 0) (next_in p xs) (ne_eqb x p (differs p x xs there d.0)) ∙ next_at xs i p d.1 h
+    ∙ (let later : suc (i + 1) ≡ suc i + 1 = omega arith in ap (slice_get (x ∷ xs)) later)

@@ -1,2 +1,4 @@
 pub mod Lists
 pub mod Rings
+pub mod Slots
+pub mod Tables

@@ -1,5 +1,5 @@
 -- What a contract sees of linked lists of numbers.
-use Rattle.std.specs.Prelude.{◌≡◌, ℕ, ◌==◌, Bool, false, not, cond, List, [], ◌∷◌, Option, None, Some, get_or, slice_get}
+use Rattle.std.specs.Prelude.{◌≡◌, ℕ, ◌==◌, Bool, false, not, cond, List, [], ◌∷◌, ◌++◌, Option, None, Some, get_or, map, slice_get, slice_set}
 use Rattle.std.specs.List.{filter, list_any}
 
 -- the numbers below `places` may stand in the lists
@@ -28,3 +28,7 @@ next_in place (x ∷ xs) = cond (x == place) (slice_get xs 0) (next_in place xs)
 abbrev pub Distinct : List ℕ → Type 0
 Distinct [] = Unit {0}
 Distinct (x ∷ xs) = (is_in x xs ≡ false) × Distinct xs
+
+-- the lists after a number was taken out of all of them and put at the end of one
+abbrev pub moved : ℕ → ℕ → List (List ℕ) → List (List ℕ)
+moved place list lists = slice_set (map (without place) lists) list (without place (get_or lists list []) ++ place ∷ [])

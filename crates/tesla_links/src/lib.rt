@@ -2,6 +2,8 @@
 //! lists are.
 #![tactic(auto)]
 
+mod key_table;
 mod links;
 
+pub use key_table::KeyTable;
 pub use links::Links;

@@ -2,7 +2,7 @@
 
 ghost use Rattle.std.specs.Prelude.{◌≡◌, ◌+◌, ◌-◌, ◌^◌, ◌<◌, ◌≤◌, [], ◌∷◌, ◌++◌, false, true, length, map, replicate, slice_get, slice_set, IfOk};
 ghost use Rattle.std.specs.List.{list_any, range_with_len};
-ghost use Rattle.tesla_links.specs.Lists.{Distinct, is_in, list_of, next_in, without};
+ghost use Rattle.tesla_links.specs.Lists.{Distinct, is_in, list_of, moved, next_in, without};
 
 use std::alloc::{AllocError, Global};
 use std::marker::Model;
@@ -83,6 +83,7 @@ impl Links {
         requires somewhere { list_any (is_in place) self.old.lists ≡ true }
         ensures places { self.new.places ≡ self.old.places }
         ensures lists { self.new.lists ≡ map (without place) self.old.lists }
+        ensures within { place < self.old.places }
     {
         let after = self.after[place as usize];
         let before = self.before[place as usize];
@@ -90,6 +91,17 @@ impl Links {
         self.after[before as usize] = after;
         self.before[after as usize] = before;
         self.counts[list as usize] -= 1;
+    }
+
+    /// Takes a number out of the list in which it stands, and puts it at the end of a list.
+    pub fn transfer(&mut self, list: u32, place: u32)
+        requires list { list < length self.old.lists }
+        requires somewhere { list_any (is_in place) self.old.lists ≡ true }
+        ensures places { self.new.places ≡ self.old.places }
+        ensures lists { self.new.lists ≡ moved place list self.old.lists }
+    {
+        self.remove(place);
+        self.append(list, place);
     }
 
     /// The first number of a list; `None` exactly where the list is empty.

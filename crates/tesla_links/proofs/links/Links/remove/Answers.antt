@@ -80,3 +80,10 @@ returns-clause-lists c =
     let l = get_or_read i.owners.items c.args.place c.index-list.result.now (omega (arith, seen.0.owned, here.within)) c.index-list.ensures 0 in
     let n = get_or_read i.counts.items c.index-list.result.now c.index_mut-3.result.now (omega (arith, l, seen.0.counted, here.list)) c.index_mut-3.ensures.value 0 in
     lists_of_is i.places _ _ _ _ _ (remove_keeps i.places i.after.items i.before.items i.owners.items i.counts.items c.args.self.now.lists c.args.place c.index-after.result.now c.index-before.result.now c.index-list.result.now c.index_mut-3.result.now a b l n seen.0 here)
+
+pub returns-clause-within : goal.returns-clause-within
+returns-clause-within c =
+    let i = c.self.inside in
+    let seen = at_view i.places i.after.items i.before.items i.owners.items i.counts.items c.args.self.now c.self.view_is c.self.invariant in
+    let here = placed i.places i.after.items i.before.items i.owners.items i.counts.items c.args.self.now.lists c.args.place seen.0 c.requires.somewhere in
+    omega (arith, here.within, seen.1)
