@@ -160,7 +160,7 @@ empty [] h = refl
 empty (x ∷ xs) h = absurd (none-some x (sym h))
 
 -- copies of one element, also past the end
-replicate_same : {X : Type 0} (n p : ℕ) (x : X) → get_or (replicate n x) p x ≡ x
+pub replicate_same : {X : Type 0} (n p : ℕ) (x : X) → get_or (replicate n x) p x ≡ x
 replicate_same zero p x = refl
 replicate_same (suc n) zero x = refl
 replicate_same (suc n) (suc p) x = replicate_same n p x

@@ -111,7 +111,7 @@ pub in_rest : (place : ℕ) (xs ys : List ℕ) → is_in place ys ≡ true → i
 in_rest place xs ys h = list_any-append (λ x. eqb x place) xs ys ∙ or_right (is_in place xs) (is_in place ys) h
 
 -- what is in two lists joined is in one of them
-in_joined : (place : ℕ) (xs ys : List ℕ) → is_in place (xs ++ ys) ≡ true → (is_in place xs ≡ true) ⊎ (is_in place ys ≡ true)
+pub in_joined : (place : ℕ) (xs ys : List ℕ) → is_in place (xs ++ ys) ≡ true → (is_in place xs ≡ true) ⊎ (is_in place ys ≡ true)
 in_joined place xs ys h = or_cases (is_in place xs) (is_in place ys) (sym (list_any-append (λ x. eqb x place) xs ys) ∙ h)
 
 -- what is in a list without one of its distinct numbers is in the list, and isn't that number

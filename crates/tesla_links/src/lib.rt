@@ -2,8 +2,10 @@
 //! lists are.
 #![tactic(auto)]
 
+mod index;
 mod key_table;
 mod links;
 
+pub use index::Index;
 pub use key_table::KeyTable;
 pub use links::Links;
