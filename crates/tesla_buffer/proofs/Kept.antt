@@ -357,3 +357,9 @@ module _ (capacity : ℕ) (slots : List Item) (index : Entries) (seen : Holding)
 
   pub seen_live : (p : ℕ) → is_live p seen.held ≡ is_in p (places_of index.entries)
   seen_live p = ap (is_live p) (sym seen_held) ∙ live_is slots p index.entries
+
+-- a place at which no packet is held has no name
+pub unnamed_vacant : (capacity : ℕ) (slots : List Item) (free : List ℕ) (index : Entries) (released : List (Option ℕ)) (p : ℕ) → IsKept capacity slots free index released → is_in p (places_of index.entries) ≡ false
+    → get_or released p None ≡ None
+unnamed_vacant capacity slots free index released p h none =
+    h.named p ∙ cond-false (is_in p (places_of index.entries) && (item_at slots p).released) (Some (key_of_name (item_at slots p).name)) None (and_left (is_in p (places_of index.entries)) (item_at slots p).released none)
