@@ -3,9 +3,10 @@ use Rattle.std.proofs.Common.{◌≡◌, ℕ, zero, suc, ◌+◌, ◌*◌, ◌^�
 use Rattle.std.specs.List.{filter, find, list_any}
 use Rattle.std.proofs.lemmas.Bool.{and_from, and_parts, cases_Bool, cases_eq, cond-false, cond-true, eq-eqb, eqb-true, false≢true, ne_eqb, or_cases, or_left, or_right}
 use Rattle.std.proofs.lemmas.List.{length-append}
+use Rattle.std.proofs.lemmas.Option.{none-some, same_Some}
 use Rattle.tesla_base.specs.declared.names.Place.{Place}
 use Rattle.tesla_buffer.specs.Held.{Held, changed, first_place, is_at, is_live, is_of, next_place}
-use Rattle.tesla_buffer.specs.Kept.{Keyed, held_at, item_at, places_of}
+use Rattle.tesla_buffer.specs.Stored.{Keyed, held_at, item_at, places_of}
 use Rattle.tesla_buffer.specs.declared.item.Item.{Item}
 use Rattle.tesla_links.specs.Entries.{Entry}
 use Rattle.tesla_links.specs.Entries.{first_place as first_entry, is_at as entry_at, is_under, next_place as next_entry}
@@ -151,3 +152,36 @@ held_changed slots slots' p change (e ∷ es) here others =
         ∙ ap put (sym (cond-false (eqb e.place p) new (held_at slots e) (ne_eqb e.place p ne))))
       (cases_eq e.place p)
     ∙ ap (λ hs. cond (eqb e.place p) new (held_at slots e) ∷ hs) rest
+
+-- ---- places that are told are those of packets
+
+-- the first place of those that pass a test
+pub first_live : (f : Held → Bool) (hs : List Held) (p : Place) → Some p ≡ first_place (filter f hs) → is_live p.0 hs ≡ true
+first_live f [] p e = absurd (none-some p (sym e))
+first_live f (h ∷ hs) p e =
+    ⊎_elim
+      (λ (t : f h ≡ true).
+        let same : p ≡ record { 0 = h.place } = same_Some p (record { 0 = h.place }) (e ∙ ap first_place (cond-true (f h) (h ∷ filter f hs) (filter f hs) t)) in
+        or_left (eqb h.place p.0) (is_live p.0 hs) (eq-eqb h.place p.0 (sym (ap (λ (q : Place). q.0) same))))
+      (λ (t : f h ≡ false).
+        or_right (eqb h.place p.0) (is_live p.0 hs) (first_live f hs p (e ∙ ap first_place (cond-false (f h) (h ∷ filter f hs) (filter f hs) t))))
+      (cases_Bool (f h))
+
+-- the next place
+pub next_live : (at : ℕ) (hs : List Held) (p : Place) → Some p ≡ next_place at hs → is_live p.0 hs ≡ true
+next_live at [] p e = absurd (none-some p (sym e))
+next_live at (h ∷ hs) p e =
+    or_right (eqb h.place p.0) (is_live p.0 hs)
+      (⊎_elim
+        (λ (t : is_at at h ≡ true). first_live (is_of h.item.name.interval) hs p (e ∙ cond-true (is_at at h) (first_place (filter (is_of h.item.name.interval) hs)) (next_place at hs) t))
+        (λ (t : is_at at h ≡ false). next_live at hs p (e ∙ cond-false (is_at at h) (first_place (filter (is_of h.item.name.interval) hs)) (next_place at hs) t))
+        (cases_Bool (is_at at h)))
+
+-- the place of a packet that passes a test
+pub test_live : (f : Held → Bool) (p : ℕ) (hs : List Held) → list_any (λ h. is_at p h && f h) hs ≡ true → is_live p hs ≡ true
+test_live f p [] e = e
+test_live f p (h ∷ hs) e =
+    ⊎_elim
+      (λ (t : (is_at p h && f h) ≡ true). or_left (is_at p h) (is_live p hs) (and_parts (is_at p h) (f h) t).0)
+      (λ (t : list_any (λ x. is_at p x && f x) hs ≡ true). or_right (is_at p h) (is_live p hs) (test_live f p hs t))
+      (or_cases (is_at p h && f h) (list_any (λ x. is_at p x && f x) hs) e)

@@ -1,6 +1,6 @@
 //! The buffer of a receiver.
 
-ghost use Rattle.std.specs.Prelude.{◌≡◌, ◌<◌, ◌≤◌, [], ◌∷◌, ◌++◌, ◌&&◌, false, true, not, length, map, IfOk, MatchOption};
+ghost use Rattle.std.specs.Prelude.{◌≡◌, ◌<◌, ◌≤◌, [], ◌∷◌, ◌++◌, ◌&&◌, false, true, not, length, map, IfOk, IfSome, MatchOption};
 ghost use Rattle.std.specs.List.{filter, find, list_any};
 ghost use Rattle.tesla_links.specs.Lists.{Distinct, is_in};
 ghost use Rattle.tesla_buffer.specs.Held.{Held, IsMadeOf, changed, first_place, is_at, is_live, is_of, is_released_as, next_place, settled};
@@ -30,13 +30,13 @@ impl Model for Buffer {
     ghost use Rattle.std.specs.Prelude.{◌≤◌, map};
     ghost use Rattle.std.specs.Vec.{vec_capacity};
     ghost use Rattle.tesla_buffer.specs.Held.{Holding};
-    ghost use Rattle.tesla_buffer.specs.Kept.{IsKept, held_at};
+    ghost use Rattle.tesla_buffer.specs.Stored.{IsStored, held_at};
 
     ghost Value = { Holding };
 
     ghost view = { λ b. record { capacity = b.capacity; held = map (held_at b.slots.items) b.index.entries } };
 
-    ghost invariant = { λ b. IsKept b.capacity b.slots.items b.free.items b.index b.released × (b.capacity ≤ vec_capacity b.slots) × (b.capacity ≤ vec_capacity b.free) };
+    ghost invariant = { λ b. IsStored b.capacity b.slots.items b.free.items b.index b.released × (b.capacity ≤ vec_capacity b.slots) × (b.capacity ≤ vec_capacity b.free) };
 }
 
 impl Buffer {
@@ -131,7 +131,8 @@ impl Buffer {
 
     /// The place of the first packet of an interval; `None` exactly where none is held.
     pub fn first_of(&self, interval: u32) -> Option<Place>
-        ensures { result ≡ first_place (filter (is_of interval) self.now.held) }
+        ensures place { result ≡ first_place (filter (is_of interval) self.now.held) }
+        ensures live { IfSome result (λ p. is_live p.0 self.now.held ≡ true) }
     {
         let Some(place) = self.index.first(u64::from(interval)) else {
             return None;
@@ -143,7 +144,8 @@ impl Buffer {
     /// last.
     pub fn next_of(&self, place: Place) -> Option<Place>
         requires { is_live place.0 self.now.held ≡ true }
-        ensures { result ≡ next_place place.0 self.now.held }
+        ensures place { result ≡ next_place place.0 self.now.held }
+        ensures live { IfSome result (λ p. is_live p.0 self.now.held ≡ true) }
     {
         let Some(next) = self.index.next(place.0) else {
             return None;
@@ -154,7 +156,8 @@ impl Buffer {
     /// The place of a packet of this name that was released; `None` exactly where none is held. Where there are
     /// several, it is any of them.
     pub fn released_named(&self, name: Name) -> Option<Place>
-        ensures { MatchOption result (list_any (is_released_as name) self.now.held ≡ false) (λ p. list_any (λ h. is_at p.0 h && is_released_as name h) self.now.held ≡ true) }
+        ensures place { MatchOption result (list_any (is_released_as name) self.now.held ≡ false) (λ p. list_any (λ h. is_at p.0 h && is_released_as name h) self.now.held ≡ true) }
+        ensures live { IfSome result (λ p. is_live p.0 self.now.held ≡ true) }
     {
         let Some(place) = self.released.find(key_of_name(name)) else {
             return None;
@@ -180,12 +183,11 @@ impl Buffer {
         ensures held { self.new.held ≡ settled place Fate.Taken self.old.held }
         ensures capacity { self.new.capacity ≡ self.old.capacity }
     {
-        let item = &mut self.slots[place as usize];
-        item.taken = true;
+        self.slots[place as usize].taken = true;
     }
 
     /// Holds the packet at a place no longer.
-    fn let_go(&mut self, place: u32)
+    fn remove(&mut self, place: u32)
         requires { is_live place self.old.held ≡ true }
         ensures held { self.new.held ≡ settled place Fate.Gone self.old.held }
         ensures capacity { self.new.capacity ≡ self.old.capacity }
@@ -207,7 +209,7 @@ impl Buffer {
         match fate {
             Fate::Released => self.mark_released(place.0),
             Fate::Taken => self.mark_taken(place.0),
-            Fate::Gone => self.let_go(place.0),
+            Fate::Gone => self.remove(place.0),
         }
     }
 }

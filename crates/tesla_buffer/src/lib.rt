@@ -7,3 +7,6 @@ mod parts;
 
 pub use buffer::Buffer;
 pub use item::{Fate, Item};
+
+#[cfg(test)]
+mod tests;

@@ -3,7 +3,7 @@
 ghost use Rattle.std.specs.Prelude.{◌≡◌, ◌+◌, ◌*◌, ◌^◌, ◌<◌, ◌≤◌, ◌⊎◌, [], ◌∷◌, ◌++◌, false, length, vec_len};
 ghost use Rattle.std.specs.Vec.{vec_capacity};
 ghost use Rattle.tesla_buffer.specs.Held.{IsMadeOf};
-ghost use Rattle.tesla_buffer.specs.Kept.{key_of_name};
+ghost use Rattle.tesla_buffer.specs.Stored.{key_of_name};
 
 use crate::Item;
 use tesla_base::{Name, WideTag};

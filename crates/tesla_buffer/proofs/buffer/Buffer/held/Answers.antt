@@ -1,6 +1,6 @@
 use Rattle.std.proofs.Common.{◌≡◌, ℕ, ◌+◌, ◌<◌, ◌≤◌, List, [], ◌∷◌, ◌++◌, length, get_or, map, true, false, not, cond, arith, ◌∙◌, sym, ap, subst, refl, Some, None, Option}
 use Rattle.tesla_buffer.specs.Held.{Held}
-use Rattle.tesla_buffer.proofs.Kept.{seen_held}
+use Rattle.tesla_buffer.proofs.Stored.{seen_held}
 use Rattle.tesla_buffer.proofs.Places.{same_places}
 use Rattle.tesla_links.specs.Lists.{Distinct}
 use Rattle.tesla_buffer.proofs.buffer.Buffer.held.Goals as goal

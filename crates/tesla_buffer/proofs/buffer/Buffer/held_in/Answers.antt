@@ -2,8 +2,8 @@ use Rattle.std.proofs.Common.{◌≡◌, ℕ, ◌+◌, ◌<◌, ◌≤◌, List,
 use Rattle.std.specs.List.{filter}
 use Rattle.std.proofs.lemmas.List.{length-map}
 use Rattle.tesla_buffer.specs.Held.{is_of}
-use Rattle.tesla_buffer.specs.Kept.{held_at}
-use Rattle.tesla_buffer.proofs.Kept.{seen_held}
+use Rattle.tesla_buffer.specs.Stored.{held_at}
+use Rattle.tesla_buffer.proofs.Stored.{seen_held}
 use Rattle.tesla_buffer.proofs.Places.{of_interval}
 use Rattle.tesla_links.specs.Entries.{is_under}
 use Rattle.tesla_buffer.proofs.buffer.Buffer.held_in.Goals as goal

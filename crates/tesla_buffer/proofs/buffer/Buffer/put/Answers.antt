@@ -3,10 +3,10 @@ use Rattle.std.proofs.Math.ListN.{set}
 use Rattle.std.proofs.lemmas.Bool.{cond-false, cond-true, false≢true}
 use Rattle.std.proofs.lemmas.List.{get_or-set_other, get_or-set_same, length-set}
 use Rattle.tesla_buffer.specs.Held.{Held, is_live}
-use Rattle.tesla_buffer.specs.Kept.{held_at, item_at, key_of_name, no_item, places_of}
+use Rattle.tesla_buffer.specs.Stored.{held_at, item_at, key_of_name, no_item, places_of}
 use Rattle.tesla_buffer.specs.declared.item.Item.{Item}
 use Rattle.tesla_buffer.specs.declared.parts.TheConstants.{EMPTY}
-use Rattle.tesla_buffer.proofs.Kept.{chosen, held_put, kept_put, seen_capacity, seen_held, seen_length, seen_live, unnamed_vacant}
+use Rattle.tesla_buffer.proofs.Stored.{chosen, held_put, stored_put, seen_capacity, seen_held, seen_length, seen_live, unnamed_vacant}
 use Rattle.tesla_buffer.proofs.Places.{entry_is}
 use Rattle.tesla_links.specs.Entries.{Entry}
 use Rattle.tesla_links.specs.Lists.{is_in}
@@ -48,7 +48,7 @@ invariant_of-self c =
     let here = get_or-set_same slots p it no_item v.inside in
     let others = λ (q : ℕ) (ne : q ≡ p → ⊥). get_or-set_other slots p q it no_item ne in
     let key = c.key_of_name.result in
-    (kept_put i.capacity i.slots.items slots now i.free.items free i.index c.append.new.self i.released c.enter.new.self p it h v (length-set slots p it) here others (c.append.ensures.entries ∙ ap (λ k. i.index.entries ++ record { key = k; place = p } ∷ []) c.from.ensures)
+    (stored_put i.capacity i.slots.items slots now i.free.items free i.index c.append.new.self i.released c.enter.new.self p it h v (length-set slots p it) here others (c.append.ensures.entries ∙ ap (λ k. i.index.entries ++ record { key = k; place = p } ∷ []) c.from.ensures)
       c.append.ensures.capacity (λ _. c.key_of_name.ensures.number) (ap length c.enter.ensures ∙ length-set i.released p (Some key))
       (ap (λ ks. get_or ks p None) c.enter.ensures ∙ get_or-set_same i.released p (Some key) None (omega (arith, v.inside, v.most, h.names)) ∙ ap Some c.key_of_name.ensures.value
         ∙ sym (cond-true it.released (Some (key_of_name it.name)) None c.if-item.true))
@@ -68,7 +68,7 @@ invariant_of-self-else-item c =
     let now = set slots p it in
     let here = get_or-set_same slots p it no_item v.inside in
     let others = λ (q : ℕ) (ne : q ≡ p → ⊥). get_or-set_other slots p q it no_item ne in
-    (kept_put i.capacity i.slots.items slots now i.free.items free i.index c.append.new.self i.released i.released p it h v (length-set slots p it) here others (c.append.ensures.entries ∙ ap (λ k. i.index.entries ++ record { key = k; place = p } ∷ []) c.from.ensures)
+    (stored_put i.capacity i.slots.items slots now i.free.items free i.index c.append.new.self i.released i.released p it h v (length-set slots p it) here others (c.append.ensures.entries ∙ ap (λ k. i.index.entries ++ record { key = k; place = p } ∷ []) c.from.ensures)
       c.append.ensures.capacity (λ e. absurd (false≢true (sym c.if-item.false ∙ e))) refl
       (unnamed_vacant i.capacity i.slots.items i.free.items i.index i.released p h v.absent ∙ sym (cond-false it.released (Some (key_of_name it.name)) None c.if-item.false))
       (λ q ne. refl),

@@ -12,7 +12,7 @@ use Rattle.std.proofs.lemmas.Option.{cond_some, get_or_from_slice_get}
 use Rattle.tesla_base.specs.declared.names.Name.{Name}
 use Rattle.tesla_base.specs.declared.names.Place.{Place}
 use Rattle.tesla_buffer.specs.Held.{Held, Holding, changed, is_at, is_live, is_released_as}
-use Rattle.tesla_buffer.specs.Kept.{IsKept, IsNumbered, Keyed, held_at, item_at, key_of_name, no_item, places_of, released_key}
+use Rattle.tesla_buffer.specs.Stored.{IsStored, IsNumbered, Keyed, held_at, item_at, key_of_name, no_item, places_of, released_key}
 use Rattle.tesla_buffer.specs.declared.item.Item.{Item}
 use Rattle.tesla_links.specs.Entries.{Entries, Entry}
 use Rattle.tesla_links.specs.Entries.{is_at as entry_at}
@@ -46,7 +46,7 @@ either : (empty : Item) (n : ℕ) → empty.released ≡ false → IsNumbered (g
 either empty zero none = λ e. absurd (false≢true (sym none ∙ e))
 either empty (suc n) none = λ e. absurd (false≢true e)
 
-module _ (capacity : ℕ) (slots slots' : List Item) (free free' : List ℕ) (index : Entries) (released : List (Option ℕ)) (p : ℕ) (empty : Item) (h : IsKept capacity slots free index released) where
+module _ (capacity : ℕ) (slots slots' : List Item) (free free' : List ℕ) (index : Entries) (released : List (Option ℕ)) (p : ℕ) (empty : Item) (h : IsStored capacity slots free index released) where
   reused : free ≡ free' ++ p ∷ [] → slots' ≡ slots → IsVacant capacity slots slots' free' index.entries p
   reused ef es =
       let distinct : Distinct (free' ++ p ∷ []) = subst (λ xs. Distinct xs) ef h.distinct_free in
@@ -105,7 +105,7 @@ module _ (capacity : ℕ) (slots slots' : List Item) (free free' : List ℕ) (in
 -- ---- a packet comes
 
 module _ (capacity : ℕ) (slots slots' slots'' : List Item) (free free' : List ℕ) (index index' : Entries) (released released' : List (Option ℕ)) (p : ℕ) (it : Item)
-    (h : IsKept capacity slots free index released) (v : IsVacant capacity slots slots' free' index.entries p)
+    (h : IsStored capacity slots free index released) (v : IsVacant capacity slots slots' free' index.entries p)
     (size : length slots'' ≡ length slots') (here : item_at slots'' p ≡ it) (others : (q : ℕ) → (q ≡ p → ⊥) → item_at slots'' q ≡ item_at slots' q)
     (entries : index'.entries ≡ index.entries ++ record { key = it.name.interval; place = p } ∷ []) where
   came : places_of index'.entries ≡ places_of index.entries ++ p ∷ []
@@ -140,10 +140,10 @@ module _ (capacity : ℕ) (slots slots' slots'' : List Item) (free free' : List 
           ∙ sym (cond-false (is_in q (places_of index.entries) && (item_at slots q).released) (Some (key_of_name (item_at slots q).name)) None (and_left (is_in q (places_of index.entries)) (item_at slots q).released n)))
         (cases_Bool (is_in q (places_of index.entries)))
 
-  pub kept_put : index'.capacity ≡ index.capacity → IsNumbered it → length released' ≡ length released
+  pub stored_put : index'.capacity ≡ index.capacity → IsNumbered it → length released' ≡ length released
       → get_or released' p None ≡ cond it.released (Some (key_of_name it.name)) None → ((q : ℕ) → (q ≡ p → ⊥) → get_or released' q None ≡ get_or released q None)
-      → IsKept capacity slots'' free' index' released'
-  kept_put room small names named unnamed =
+      → IsStored capacity slots'' free' index' released'
+  stored_put room small names named unnamed =
       let Below : ℕ → Type 0 = λ q. q < length slots'' in
       let Named : ℕ → Type 0 = λ q. get_or released' q None ≡ released_key slots'' index'.entries q in
       let added = length-append index.entries (record { key = it.name.interval; place = p } ∷ []) in
@@ -187,12 +187,12 @@ module _ (capacity : ℕ) (slots slots' slots'' : List Item) (free free' : List 
 -- ---- a packet is marked
 
 module _ (capacity : ℕ) (slots slots' : List Item) (free : List ℕ) (index : Entries) (released released' : List (Option ℕ)) (p : ℕ) (it : Item)
-    (h : IsKept capacity slots free index released) (live : is_in p (places_of index.entries) ≡ true)
+    (h : IsStored capacity slots free index released) (live : is_in p (places_of index.entries) ≡ true)
     (size : length slots' ≡ length slots) (here : item_at slots' p ≡ it) (others : (q : ℕ) → (q ≡ p → ⊥) → item_at slots' q ≡ item_at slots q)
     (name : it.name ≡ (item_at slots p).name) where
-  pub kept_marked : IsNumbered it → length released' ≡ length released → get_or released' p None ≡ cond it.released (Some (key_of_name it.name)) None → ((q : ℕ) → (q ≡ p → ⊥) → get_or released' q None ≡ get_or released q None)
-      → IsKept capacity slots' free index released'
-  kept_marked small names named unnamed =
+  pub stored_marked : IsNumbered it → length released' ≡ length released → get_or released' p None ≡ cond it.released (Some (key_of_name it.name)) None → ((q : ℕ) → (q ≡ p → ⊥) → get_or released' q None ≡ get_or released q None)
+      → IsStored capacity slots' free index released'
+  stored_marked small names named unnamed =
       let same_name : (q : ℕ) → (item_at slots' q).name ≡ (item_at slots q).name = λ q.
           ⊎_elim (λ (s : q ≡ p). ap (λ j. (item_at slots' j).name) s ∙ ap (λ (x : Item). x.name) here ∙ name ∙ ap (λ j. (item_at slots j).name) (sym s))
           (λ (ne : q ≡ p → ⊥). ap (λ (x : Item). x.name) (others q ne))
@@ -224,7 +224,7 @@ module _ (capacity : ℕ) (slots slots' : List Item) (free : List ℕ) (index : 
       }
 
 -- what the table of names says of a packet that is held
-pub named_live : (capacity : ℕ) (slots : List Item) (free : List ℕ) (index : Entries) (released : List (Option ℕ)) (p : ℕ) → IsKept capacity slots free index released → is_in p (places_of index.entries) ≡ true
+pub named_live : (capacity : ℕ) (slots : List Item) (free : List ℕ) (index : Entries) (released : List (Option ℕ)) (p : ℕ) → IsStored capacity slots free index released → is_in p (places_of index.entries) ≡ true
     → get_or released p None ≡ cond (item_at slots p).released (Some (key_of_name (item_at slots p).name)) None
 named_live capacity slots free index released p h live =
     h.named p ∙ ap (λ b. cond (b && (item_at slots p).released) (Some (key_of_name (item_at slots p).name)) None) live
@@ -232,7 +232,7 @@ named_live capacity slots free index released p h live =
 -- ---- a packet goes
 
 module _ (capacity : ℕ) (slots : List Item) (free free' : List ℕ) (index index' : Entries) (released released' : List (Option ℕ)) (p : ℕ)
-    (h : IsKept capacity slots free index released) (live : is_in p (places_of index.entries) ≡ true)
+    (h : IsStored capacity slots free index released) (live : is_in p (places_of index.entries) ≡ true)
     (entries : index'.entries ≡ filter (λ e. not (entry_at p e)) index.entries) where
   gone : places_of index'.entries ≡ without p (places_of index.entries)
   gone = ap places_of entries ∙ places_without p index.entries
@@ -243,8 +243,8 @@ module _ (capacity : ℕ) (slots : List Item) (free free' : List ℕ) (index ind
   gone_here : is_in p (places_of index'.entries) ≡ false
   gone_here = ap (is_in p) gone ∙ without_same p (places_of index.entries)
 
-  pub kept_gone : index'.capacity ≡ index.capacity → free' ≡ free ++ p ∷ [] → released' ≡ set released p None → IsKept capacity slots free' index' released'
-  kept_gone room ef er =
+  pub stored_gone : index'.capacity ≡ index.capacity → free' ≡ free ++ p ∷ [] → released' ≡ set released p None → IsStored capacity slots free' index' released'
+  stored_gone room ef er =
       let fewer : length index'.entries + 1 ≡ length index.entries =
           omega (arith, length-map index'.entries (λ (e : Entry). e.place), length-map index.entries (λ (e : Entry). e.place), ap length gone, length-without p (places_of index.entries) h.distinct live) in
       let busy : is_in p free ≡ false = false_from_ne_true (is_in p free) (λ i. true≢false (sym live ∙ (h.vacant p i).1)) in
@@ -293,7 +293,7 @@ module _ (capacity : ℕ) (slots : List Item) (free free' : List ℕ) (index ind
 same_name : (m n : Name) → m.number < 2 ^ 16 → n.number < 2 ^ 16 → key_of_name m ≡ key_of_name n → (m.interval ≡ n.interval) × (m.number ≡ n.number)
 same_name m n a b e = (omega arith, omega arith)
 
-module _ (capacity : ℕ) (slots : List Item) (free : List ℕ) (index : Entries) (released : List (Option ℕ)) (name : Name) (h : IsKept capacity slots free index released) (small : name.number < 2 ^ 16) where
+module _ (capacity : ℕ) (slots : List Item) (free : List ℕ) (index : Entries) (released : List (Option ℕ)) (name : Name) (h : IsStored capacity slots free index released) (small : name.number < 2 ^ 16) where
   pub found_named : (p : ℕ) → slice_get released p ≡ Some (Some (key_of_name name)) → list_any (λ x. is_at p x && is_released_as name x) (map (held_at slots) index.entries) ≡ true
   found_named p e =
       let item = item_at slots p in
@@ -321,9 +321,9 @@ module _ (capacity : ℕ) (slots : List Item) (free : List ℕ) (index : Entries
 
 -- ---- at the opening
 
-pub kept_open : (capacity : ℕ) (slots : List Item) (free : List ℕ) (index : Entries) (released : List (Option ℕ)) → 1 ≤ capacity → capacity ≤ 65536
-    → slots ≡ [] → free ≡ [] → ◌≡◌ {A = Entries} index (record { capacity = capacity; entries = [] }) → released ≡ replicate capacity None → IsKept capacity slots free index released
-kept_open capacity slots free index released some most es ef ei er =
+pub stored_open : (capacity : ℕ) (slots : List Item) (free : List ℕ) (index : Entries) (released : List (Option ℕ)) → 1 ≤ capacity → capacity ≤ 65536
+    → slots ≡ [] → free ≡ [] → ◌≡◌ {A = Entries} index (record { capacity = capacity; entries = [] }) → released ≡ replicate capacity None → IsStored capacity slots free index released
+stored_open capacity slots free index released some most es ef ei er =
     let entries : index.entries ≡ [] = ap (λ (v : Entries). v.entries) ei in
     let none : places_of index.entries ≡ [] = ap places_of entries in
     record {
@@ -359,7 +359,7 @@ module _ (capacity : ℕ) (slots : List Item) (index : Entries) (seen : Holding)
   seen_live p = ap (is_live p) (sym seen_held) ∙ live_is slots p index.entries
 
 -- a place at which no packet is held has no name
-pub unnamed_vacant : (capacity : ℕ) (slots : List Item) (free : List ℕ) (index : Entries) (released : List (Option ℕ)) (p : ℕ) → IsKept capacity slots free index released → is_in p (places_of index.entries) ≡ false
+pub unnamed_vacant : (capacity : ℕ) (slots : List Item) (free : List ℕ) (index : Entries) (released : List (Option ℕ)) (p : ℕ) → IsStored capacity slots free index released → is_in p (places_of index.entries) ≡ false
     → get_or released p None ≡ None
 unnamed_vacant capacity slots free index released p h none =
     h.named p ∙ cond-false (is_in p (places_of index.entries) && (item_at slots p).released) (Some (key_of_name (item_at slots p).name)) None (and_left (is_in p (places_of index.entries)) (item_at slots p).released none)

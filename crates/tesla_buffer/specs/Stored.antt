@@ -1,4 +1,4 @@
--- How packets are kept: each at its place in a table of slots, an index of the places by interval, and a table of
+-- How packets are stored: each at its place in a table of slots, an index of the places by interval, and a table of
 -- the names of those that were released.
 use Rattle.std.specs.Prelude.{◌≡◌, ℕ, ◌+◌, ◌*◌, ◌^◌, ◌<◌, ◌≤◌, Bool, true, false, ◌&&◌, cond, List, [], ◌∷◌, length, map, get_or, Option, None, Some}
 use Rattle.tesla_base.specs.declared.names.Name.{Name}
@@ -42,7 +42,7 @@ abbrev pub IsNumbered : Item → Type 0
 IsNumbered item = item.released ≡ true → item.name.number < 2 ^ 16
 
 -- the slots that were used are those of packets that are held and the free ones
-pub record IsKept (capacity : ℕ) (slots : List Item) (free : List ℕ) (index : Entries) (released : List (Option ℕ)) : Type 0 where
+pub record IsStored (capacity : ℕ) (slots : List Item) (free : List ℕ) (index : Entries) (released : List (Option ℕ)) : Type 0 where
   pub some : 1 ≤ capacity
   pub most : capacity ≤ 65536
   pub room : index.capacity ≡ capacity
