@@ -1,1 +1,2 @@
 pub mod Tip
+pub mod Offers

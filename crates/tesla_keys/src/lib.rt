@@ -1,2 +1,11 @@
-//! The newest key of a chain, and the test of a key that is offered.
+//! The newest key of a key chain, and the judging of keys that are offered to it.
 #![tactic(auto)]
+
+mod offer;
+mod verifier;
+
+pub use offer::Offer;
+pub use verifier::Verifier;
+
+#[cfg(test)]
+mod tests;
