@@ -16,3 +16,5 @@ pub mod Gone
 pub mod Held
 pub mod Limits
 pub mod SafeChains
+pub mod Marked
+pub mod Stored

@@ -11,3 +11,4 @@ pub mod Replies
 pub mod Tips
 pub mod State
 pub mod Steps
+pub mod Stored

@@ -8,6 +8,7 @@ mod counting;
 mod fitting;
 mod growing;
 mod history;
+mod incremental;
 mod holding;
 mod judging;
 mod keys;

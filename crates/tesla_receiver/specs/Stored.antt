@@ -1,0 +1,110 @@
+-- What contracts see of the packets that have a place, and of those that wait to be taken.
+use Rattle.std.specs.Prelude.{◌≡◌, ℕ, ◌≤◌, Bool, true, false, not, ◌&&◌, ◌||◌, List, [], ◌∷◌, length, map, take, filter, find, Option, Some, None, ◌==◌, if◌then◌else◌}
+use Rattle.std.specs.List.{list_any, list_all}
+use Rattle.tesla_base.specs.Tag.{tag_bytes}
+use Rattle.tesla_buffer.specs.declared.item.Item.{Item}
+use Rattle.tesla_buffer.specs.Places.{Held}
+use Rattle.tesla_release.specs.declared.queue.Waiting.{Waiting}
+use Rattle.tesla_receiver.specs.declared.incremental.proved.Proved.{Proved}
+use Rattle.tesla_receiver.specs.declared.release.Release.{Release}
+use Rattle.tesla_receiver.specs.State.{Holding}
+
+-- a held packet with its place
+pub record Placed : Type 0 where
+  pub place : ℕ
+  pub holding : Holding
+
+pub record Stored : Type 0 where
+  pub capacity : ℕ
+  -- how many tags each packet has
+  pub chains : ℕ
+  -- in order of arrival
+  pub held : List Placed
+  -- the released packets that weren't given yet, in order
+  pub waiting : List Release
+  -- how many were given
+  pub given : ℕ
+
+-- what an item brought: the first bytes of its room of a payload, and its first tags
+abbrev pub holding_in : ℕ → Item → Holding
+holding_in chains item = record {
+  order = item.order;
+  name = item.name;
+  chains = item.chains;
+  payload = take item.length item.payload;
+  tags = map tag_bytes (take chains item.tags);
+  released = item.released;
+  taken = item.taken;
+}
+
+abbrev pub placed_in : ℕ → Held → Placed
+placed_in chains held = record { place = held.place; holding = holding_in chains held.item }
+
+abbrev pub place_of : Placed → ℕ
+place_of x = x.place
+
+abbrev pub holding_at : Placed → Holding
+holding_at x = x.holding
+
+abbrev pub stands_at : ℕ → Placed → Bool
+stands_at place x = x.place == place
+
+-- the packet in a place, as its release on a chain
+abbrev pub release_by : ℕ → Option Placed → Release
+release_by chain None = record { place = 0; name = record { interval = 0; number = 0 }; chain = record { 0 = chain } }
+release_by chain (Some x) = record { place = x.holding.order; name = x.holding.name; chain = record { 0 = chain } }
+
+abbrev pub release_in : List Placed → Waiting → Release
+release_in held entry = release_by entry.chain (find (stands_at entry.place.0) held)
+
+-- the packet was released and not taken
+abbrev pub waits : Placed → Bool
+waits x = x.holding.released && not x.holding.taken
+
+abbrev pub waits_at : ℕ → Placed → Bool
+waits_at place x = stands_at place x && waits x
+
+-- the packet stands there and doesn't wait to be taken
+abbrev pub rests_at : ℕ → Placed → Bool
+rests_at place x = stands_at place x && not (waits x)
+
+-- only what was released was taken
+abbrev pub is_sound : Placed → Bool
+is_sound x = x.holding.released || not x.holding.taken
+
+-- the packet stands there, isn't released, and is the one of the release
+abbrev pub is_proved_by : Proved → Placed → Bool
+is_proved_by proved x =
+    stands_at proved.place.0 x
+    && (not x.holding.released && (x.holding.order == proved.release.place && (x.holding.name.interval == proved.release.name.interval && x.holding.name.number == proved.release.name.number)))
+
+abbrev pub with_released : ℕ → Placed → Placed
+with_released place x = if x.place == place then record x { holding = record x.holding { released = true } } else x
+
+abbrev pub with_taken : ℕ → Placed → Placed
+with_taken place x = if x.place == place then record x { holding = record x.holding { taken = true } } else x
+
+-- what is held without the packet in a place
+abbrev pub without : ℕ → List Placed → List Placed
+without place held = filter (λ x. not (stands_at place x)) held
+
+abbrev pub is_in : ℕ → List ℕ → Bool
+is_in n xs = list_any (λ x. x == n) xs
+
+-- no number stands twice in a list
+abbrev pub Distinct : List ℕ → Type 0
+Distinct [] = Unit {0}
+Distinct (x ∷ xs) = (is_in x xs ≡ false) × Distinct xs
+
+abbrev pub place_in : Waiting → ℕ
+place_in entry = entry.place.0
+
+-- the places differ, and each entry that waits is of a packet that was released and not taken, each once
+pub record IsStored (capacity room : ℕ) (held : List Placed) (waiting : List Waiting) : Type 0 where
+  pub few : capacity ≤ 65536
+  pub fits : length held ≤ capacity
+  pub same : room ≡ capacity
+  pub distinct : Distinct (map place_of held)
+  pub sound : list_all is_sound held ≡ true
+  pub once : Distinct (map place_in waiting)
+  pub live : list_all (λ entry. list_any (waits_at entry.place.0) held) waiting ≡ true

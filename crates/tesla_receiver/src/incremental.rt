@@ -1,0 +1,7 @@
+//! The receiver that keeps only what later events need.
+
+mod proved;
+mod store;
+
+pub use proved::Proved;
+pub use store::Store;

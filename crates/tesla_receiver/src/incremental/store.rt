@@ -1,0 +1,105 @@
+//! The packets that are held, each in its place, and those that wait to be taken.
+
+ghost use Rattle.std.specs.Prelude.{◌≡◌, ◌+◌, ◌<◌, ◌≤◌, ◌∷◌, ◌++◌, [], true, false, IfOk, length, map, filter, find, slice_get, option_map, is_some, count_by, Some};
+ghost use Rattle.std.specs.List.{list_any};
+ghost use Rattle.tesla_base.specs.Tag.{tag_bytes};
+ghost use Rattle.tesla_receiver.specs.Stored.{stands_at, rests_at, is_proved_by, with_released, without, place_of, holding_in};
+ghost use Rattle.tesla_receiver.specs.Steps.{in_interval, is_named_so};
+
+use super::Proved;
+use std::alloc::Global;
+use std::marker::Model;
+use tesla_base::{Name, NoMemory, Place, WideTag};
+use tesla_buffer::{Buffer, Fate, Item};
+use tesla_release::{Queue, Waiting};
+
+/// The packets that are held, each in its place, and those that were released and wait to be taken. All memory is
+/// taken when it is opened.
+#[derive(Drop)]
+pub struct Store {
+    buffer: Buffer,
+    queue: Queue,
+    chains: u8,
+}
+
+impl Model for Store {
+    ghost use Rattle.std.specs.Prelude.{map};
+    ghost use Rattle.tesla_receiver.specs.Stored.{Stored, IsStored, placed_in, release_in};
+
+    ghost Value = { Stored };
+
+    ghost view = { λ s. record {
+        capacity = s.buffer.capacity;
+        chains = s.chains;
+        held = map (placed_in s.chains) s.buffer.held;
+        waiting = map (release_in (map (placed_in s.chains) s.buffer.held)) s.queue.waiting;
+        given = s.queue.given;
+    } };
+
+    ghost invariant = { λ s. IsStored s.buffer.capacity s.queue.capacity (map (placed_in s.chains) s.buffer.held) s.queue.waiting };
+}
+
+impl Store {
+    /// An empty store of this capacity, for packets with so many tags. All memory is taken here.
+    pub fn open(alloc: Global, capacity: u32, chains: u8) -> Result<Store, NoMemory>
+        requires some { 1 ≤ capacity }
+        requires most { capacity ≤ 65536 }
+        ensures { IfOk result (λ s. s ≡ record { capacity = capacity; chains = chains; held = []; waiting = []; given = 0 }) }
+    {
+        Ok(Store {
+            buffer: Buffer::open(alloc, capacity)?,
+            queue: Queue::open(alloc, capacity)?,
+            chains,
+        })
+    }
+
+    /// How many packets are held.
+    pub fn held(&self) -> u32
+        ensures value { result ≡ length self.now.held }
+        ensures most { result ≤ self.now.capacity }
+    {
+        self.buffer.held()
+    }
+
+    /// How many packets of an interval are held.
+    pub fn held_in(&self, interval: u32) -> u32
+        ensures { result ≡ length (filter (λ x. in_interval interval x.holding) self.now.held) }
+    {
+        self.buffer.held_in(interval)
+    }
+
+    /// Whether a packet of this name is held that was released.
+    pub fn is_released(&self, name: Name) -> bool
+        ensures { result ≡ list_any (λ x. is_named_so name x.holding) self.now.held }
+    {
+        self.buffer.released_named(name).is_some()
+    }
+
+    /// Releases a packet that new keys prove. It waits behind the others.
+    pub fn release(&mut self, proved: &Proved)
+        requires { list_any (is_proved_by proved.now) self.old.held ≡ true }
+        ensures capacity { self.new.capacity ≡ self.old.capacity }
+        ensures chains { self.new.chains ≡ self.old.chains }
+        ensures held { self.new.held ≡ map (with_released proved.now.place.0) self.old.held }
+        ensures waiting { self.new.waiting ≡ self.old.waiting ++ proved.now.release ∷ [] }
+        ensures given { self.new.given ≡ self.old.given }
+    {
+        self.buffer.settle(proved.place, Fate::Released);
+        self.queue.push(Waiting {
+            place: proved.place,
+            chain: proved.release.chain.0,
+        });
+    }
+
+    /// Lets a packet go that doesn't wait to be taken: its place is free.
+    pub fn discard(&mut self, place: Place)
+        requires { list_any (rests_at place.0) self.old.held ≡ true }
+        ensures capacity { self.new.capacity ≡ self.old.capacity }
+        ensures chains { self.new.chains ≡ self.old.chains }
+        ensures held { self.new.held ≡ without place.0 self.old.held }
+        ensures waiting { self.new.waiting ≡ self.old.waiting }
+        ensures given { self.new.given ≡ self.old.given }
+    {
+        self.buffer.settle(place, Fate::Gone);
+    }
+}
