@@ -135,7 +135,7 @@ past_elsewhere cfg xs ys place packet b past =
     of_past cfg (xs ++ front) (new_keys cfg (xs ++ front) x) packet place (0 + k) (packet_of y) (all_past_stay cfg xs front packet past)
     (λ same. brought_at (xs ++ front) place k packet y (brought_stays xs front place packet b) at (sym count ∙ same))))
 
-same_name : (name : Name) (release : Release) → has_name name release ≡ true → release.name ≡ name
+pub same_name : (name : Name) (release : Release) → has_name name release ≡ true → release.name ≡ name
 same_name name release h =
     let parts = and_parts (release.name.interval == name.interval) (release.name.number == name.number) h in
     ap (λ (i : ℕ). record { interval = i; number = release.name.number }) (eqb-true release.name.interval name.interval parts.0)

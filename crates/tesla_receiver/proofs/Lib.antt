@@ -18,3 +18,4 @@ pub mod Limits
 pub mod SafeChains
 pub mod Marked
 pub mod Stored
+pub mod Releasing

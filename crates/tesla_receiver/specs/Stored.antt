@@ -1,13 +1,16 @@
 -- What contracts see of the packets that have a place, and of those that wait to be taken.
 use Rattle.std.specs.Prelude.{◌≡◌, ℕ, ◌≤◌, Bool, true, false, not, ◌&&◌, ◌||◌, List, [], ◌∷◌, length, map, take, filter, find, Option, Some, None, ◌==◌, if◌then◌else◌}
 use Rattle.std.specs.List.{list_any, list_all}
+use Rattle.tesla_base.specs.declared.names.Name.{Name}
 use Rattle.tesla_base.specs.Tag.{tag_bytes}
 use Rattle.tesla_buffer.specs.declared.item.Item.{Item}
 use Rattle.tesla_buffer.specs.Places.{Held}
 use Rattle.tesla_release.specs.declared.queue.Waiting.{Waiting}
 use Rattle.tesla_receiver.specs.declared.incremental.proved.Proved.{Proved}
 use Rattle.tesla_receiver.specs.declared.release.Release.{Release}
+use Rattle.tesla_receiver.specs.Held.{is_at}
 use Rattle.tesla_receiver.specs.State.{Holding}
+use Rattle.tesla_receiver.specs.Steps.{is_named_so, marked}
 
 -- a held packet with its place
 pub record Placed : Type 0 where
@@ -108,3 +111,26 @@ pub record IsStored (capacity room : ℕ) (held : List Placed) (waiting : List W
   pub sound : list_all is_sound held ≡ true
   pub once : Distinct (map place_in waiting)
   pub live : list_all (λ entry. list_any (waits_at entry.place.0) held) waiting ≡ true
+
+abbrev pub release_of : Proved → Release
+release_of proved = proved.release
+
+-- a packet of the name is held that was released
+abbrev pub is_named : List Placed → Name → Bool
+is_named held name = list_any (λ (x : Placed). is_named_so name x.holding) held
+
+-- a packet after those of a batch were proved, of which some are released now: the others of the batch are let go
+abbrev pub after_batch : List Release → List Release → Placed → List Placed
+after_batch batch now x =
+    if list_any (is_at x.holding.order) batch && not (list_any (is_at x.holding.order) now) then []
+    else record x { holding = marked now x.holding } ∷ []
+
+-- what stands in a place of each of these
+abbrev pub AreProved : List Placed → List Proved → Type 0
+AreProved held batch = list_all (λ (proved : Proved). list_any (is_proved_by proved) held) batch ≡ true
+
+abbrev pub place_proved : Proved → ℕ
+place_proved proved = proved.place.0
+
+abbrev pub order_of : Placed → ℕ
+order_of x = x.holding.order
