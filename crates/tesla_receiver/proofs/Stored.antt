@@ -5,12 +5,13 @@ use Rattle.std.specs.List.{list_any, list_all, filter}
 use Rattle.std.proofs.lemmas.Bool.{cases_Bool, and_parts, and_from, and_left, or_cases, or_left, or_right, or_from, both_ways, eqb-true, ne_eqb, eq-eqb, not-true, not_from_true, not_from_false, false_from_ne_true, not-false}
 use Rattle.std.proofs.lemmas.List.Folds.{list_any-append, list_all-append}
 use Rattle.tesla_base.proofs.Lists.{list_all_weaker, list_all_both}
-use Rattle.tesla_buffer.specs.Places.{Held}
-use Rattle.tesla_buffer.specs.Places as buffer
+use Rattle.tesla_buffer.specs.Held.{Held, changed}
+use Rattle.tesla_buffer.specs.Held as buffer
+use Rattle.tesla_links.specs.Lists.{is_in, Distinct}
 use Rattle.tesla_release.specs.declared.queue.Waiting.{Waiting}
 use Rattle.tesla_receiver.specs.declared.incremental.proved.Proved.{Proved}
 use Rattle.tesla_receiver.specs.declared.release.Release.{Release}
-use Rattle.tesla_receiver.specs.Stored.{Placed, placed_in, place_of, stands_at, release_by, release_in, waits, waits_at, rests_at, is_sound, is_proved_by, with_released, with_taken, without, is_in, Distinct, place_in, IsStored}
+use Rattle.tesla_receiver.specs.Stored.{Placed, placed_in, place_of, stands_at, release_by, release_in, waits, waits_at, rests_at, is_sound, is_proved_by, with_released, with_taken, without, place_in, IsStored}
 use Rattle.tesla_receiver.proofs.Marked.{any_mapped, all_mapped, map_mapped, filter_mapped, find_mapped, any_filtered, find_filtered, all_filtered, any_with_all, any_weaker}
 
 -- ---- places that differ
@@ -152,13 +153,13 @@ any_shown chains p held = sym (any_mapped (stands_at p) (buffer.is_at p) (placed
 pub without_shown : (chains p : ℕ) (held : List Held) → map (placed_in chains) (filter (λ x. not (buffer.is_at p x)) held) ≡ without p (map (placed_in chains) held)
 without_shown chains p held = sym (filter_mapped (λ x. not (stands_at p x)) (placed_in chains) held)
 
-marked_shown : (chains : ℕ) (b : Bool) (x : Held) → placed_in chains (cond b (record x { item = record x.item { released = true } }) x) ≡ cond b (record (placed_in chains x) { holding = record (placed_in chains x).holding { released = true } }) (placed_in chains x)
+marked_shown : (chains : ℕ) (b : Bool) (x : Held) → placed_in chains (cond b (record { place = x.place; item = record x.item { released = true } }) x) ≡ cond b (record (placed_in chains x) { holding = record (placed_in chains x).holding { released = true } }) (placed_in chains x)
 marked_shown chains true x = refl
 marked_shown chains false x = refl
 
-pub released_shown : (chains p : ℕ) (held : List Held) → map (placed_in chains) (map (buffer.with_released p) held) ≡ map (with_released p) (map (placed_in chains) held)
+pub released_shown : (chains p : ℕ) (held : List Held) → map (placed_in chains) (changed p (λ item. record item { released = true }) held) ≡ map (with_released p) (map (placed_in chains) held)
 released_shown chains p held =
-    map_mapped (placed_in chains) (buffer.with_released p) (λ x. with_released p (placed_in chains x)) (λ x. marked_shown chains (x.place == p) x) held
+    map_mapped (placed_in chains) (λ (h : Held). cond (buffer.is_at p h) (record { place = h.place; item = record h.item { released = true } }) h) (λ x. with_released p (placed_in chains x)) (λ x. marked_shown chains (x.place == p) x) held
     ∙ sym (map_mapped (with_released p) (placed_in chains) (λ x. with_released p (placed_in chains x)) (λ x. refl) held)
 
 -- ---- the invariant, through each change

@@ -4,7 +4,8 @@ use Rattle.std.specs.List.{list_any, list_all}
 use Rattle.tesla_base.specs.declared.names.Name.{Name}
 use Rattle.tesla_base.specs.Tag.{tag_bytes}
 use Rattle.tesla_buffer.specs.declared.item.Item.{Item}
-use Rattle.tesla_buffer.specs.Places.{Held}
+use Rattle.tesla_buffer.specs.Held.{Held}
+use Rattle.tesla_links.specs.Lists.{is_in, Distinct}
 use Rattle.tesla_release.specs.declared.queue.Waiting.{Waiting}
 use Rattle.tesla_receiver.specs.declared.incremental.proved.Proved.{Proved}
 use Rattle.tesla_receiver.specs.declared.release.Release.{Release}
@@ -91,14 +92,6 @@ with_taken place x = if x.place == place then record x { holding = record x.hold
 abbrev pub without : ℕ → List Placed → List Placed
 without place held = filter (λ x. not (stands_at place x)) held
 
-abbrev pub is_in : ℕ → List ℕ → Bool
-is_in n xs = list_any (λ x. x == n) xs
-
--- no number stands twice in a list
-abbrev pub Distinct : List ℕ → Type 0
-Distinct [] = Unit {0}
-Distinct (x ∷ xs) = (is_in x xs ≡ false) × Distinct xs
-
 abbrev pub place_in : Waiting → ℕ
 place_in entry = entry.place.0
 
@@ -134,3 +127,16 @@ place_proved proved = proved.place.0
 
 abbrev pub order_of : Placed → ℕ
 order_of x = x.holding.order
+
+-- a proved packet is let go where one of its name is released, and else released
+abbrev pub settled_if : Bool → List Placed → Proved → List Placed
+settled_if true held proved = without proved.place.0 held
+settled_if false held proved = map (with_released proved.place.0) held
+
+abbrev pub released_if : Bool → Proved → List Proved
+released_if true proved = []
+released_if false proved = proved ∷ []
+
+-- what is held once this one is settled
+abbrev pub held_then : List Placed → Proved → List Placed
+held_then held proved = settled_if (is_named held proved.release.name) held proved

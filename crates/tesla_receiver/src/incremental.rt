@@ -1,6 +1,7 @@
 //! The receiver that keeps only what later events need.
 
 mod proved;
+mod releasing;
 mod store;
 
 pub use proved::Proved;

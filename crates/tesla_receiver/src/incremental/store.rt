@@ -2,7 +2,7 @@
 
 ghost use Rattle.std.specs.Prelude.{◌≡◌, ◌+◌, ◌<◌, ◌≤◌, ◌∷◌, ◌++◌, [], true, false, IfOk, length, map, filter, find, slice_get, option_map, is_some, count_by, Some};
 ghost use Rattle.std.specs.List.{list_any};
-ghost use Rattle.tesla_base.specs.Tag.{tag_bytes};
+ghost use Rattle.tesla_links.specs.Lists.{Distinct};
 ghost use Rattle.tesla_receiver.specs.Stored.{stands_at, rests_at, is_proved_by, with_released, without, place_of, holding_in};
 ghost use Rattle.tesla_receiver.specs.Steps.{in_interval, is_named_so};
 
@@ -57,6 +57,7 @@ impl Store {
     pub fn held(&self) -> u32
         ensures value { result ≡ length self.now.held }
         ensures most { result ≤ self.now.capacity }
+        ensures apart { Distinct (map place_of self.now.held) }
     {
         self.buffer.held()
     }

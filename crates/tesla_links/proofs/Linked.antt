@@ -1,0 +1,368 @@
+-- All lists in their rings, after a number was appended to one, and after one was removed.
+use Rattle.std.proofs.Common.{◌≡◌, ℕ, ◌+◌, ◌-◌, ◌^◌, ◌<◌, ◌≤◌, true, false, List, [], ◌∷◌, ◌++◌, length, get_or, map, replicate, refl, sym, ap, subst, ◌∙◌, arith, ◌⊎◌, ⊎_elim}
+use Rattle.std.specs.List.{list_any, range_with_len}
+use Rattle.std.proofs.Math.ListN.{set}
+use Rattle.std.proofs.lemmas.Bool.{cases_Bool, cases_eq, false≢true}
+use Rattle.std.proofs.lemmas.List.{get_or-map, get_or-replicate, get_or-set_other, get_or-set_same, length-append, length-map, length-replicate, length-set, map-id}
+use Rattle.std.proofs.lemmas.List.FromFn.{get_or-range_with_len, length-range_with_len, map-range_with_len_more}
+use Rattle.tesla_links.specs.Lists.{Distinct, Lists, is_in, without}
+use Rattle.tesla_links.specs.Rings.{Chain, IsLinked, IsRing, Owned, lists_of}
+use Rattle.tesla_links.proofs.Members.{apart, apart_both, apart_from, differs, distinct_push, distinct_short, distinct_split, in_cases, in_front, in_here, in_no_list, in_rest, in_there, list_with, split_at, without_none, without_split}
+use Rattle.tesla_links.proofs.Rings.{chain_append, chain_cut, chain_kept, chain_split, first_in, last_in, lists_of_is}
+
+-- ---- owners
+
+-- a number of a list is below `places` and belongs to it
+pub owned_in : (places : ℕ) (owners : List ℕ) (k : ℕ) (xs : List ℕ) (n : ℕ) → Owned places owners k xs → is_in n xs ≡ true → (n < places) × (get_or owners n 0 ≡ k)
+owned_in places owners k [] n o i = absurd (false≢true i)
+owned_in places owners k (x ∷ xs) n o i =
+    ⊎_elim (λ (e : x ≡ n). let within : n < places = subst (λ m. m < places) e o.0 in (within, ap (λ m. get_or owners m 0) (sym e) ∙ o.1))
+    (λ (more : is_in n xs ≡ true). owned_in places owners k xs n o.2 more)
+    (in_cases x n xs i)
+
+-- a number that doesn't belong to a list isn't in it
+pub owned_apart : (places : ℕ) (owners : List ℕ) (k : ℕ) (xs : List ℕ) (n : ℕ) → Owned places owners k xs → (n < places → get_or owners n 0 ≡ k → ⊥) → is_in n xs ≡ false
+owned_apart places owners k xs n o other =
+    ⊎_elim (λ (i : is_in n xs ≡ true). let own = owned_in places owners k xs n o i in absurd (other own.0 own.1))
+    (λ (i : is_in n xs ≡ false). i)
+    (cases_Bool (is_in n xs))
+
+-- another number gets an owner
+pub owned_set : (places : ℕ) (owners : List ℕ) (k : ℕ) (xs : List ℕ) (p v : ℕ) → Owned places owners k xs → is_in p xs ≡ false → Owned places (set owners p v) k xs
+owned_set places owners k [] p v o none = tt
+owned_set places owners k (x ∷ xs) p v o none =
+    let parts = apart x p xs none in
+    (o.0, get_or-set_other owners p x v 0 parts.0 ∙ o.1, owned_set places owners k xs p v o.2 parts.1)
+
+-- one number more
+owned_push : (places : ℕ) (owners : List ℕ) (k : ℕ) (xs : List ℕ) (p : ℕ) → Owned places owners k xs → p < places → get_or owners p 0 ≡ k → Owned places owners k (xs ++ p ∷ [])
+owned_push places owners k [] p o within own = (within, own, tt)
+owned_push places owners k (x ∷ xs) p o within own = (o.0, o.1, owned_push places owners k xs p o.2 within own)
+
+-- one number less
+owned_cut : (places : ℕ) (owners : List ℕ) (k : ℕ) (front : List ℕ) (p : ℕ) (rest : List ℕ) → Owned places owners k (front ++ p ∷ rest) → Owned places owners k (front ++ rest)
+owned_cut places owners k [] p rest o = o.2
+owned_cut places owners k (x ∷ front) p rest o = (o.0, o.1, owned_cut places owners k front p rest o.2)
+
+-- ---- a ring
+
+-- the head of a ring isn't in its list
+pub head_apart : (places : ℕ) (owners : List ℕ) (k : ℕ) (xs : List ℕ) (j : ℕ) → Owned places owners k xs → is_in (places + j) xs ≡ false
+head_apart places owners k xs j o = owned_apart places owners k xs (places + j) o (λ below _. absurd (omega arith))
+
+-- the nodes of a ring are nodes of the tables
+pub node_within : (places : ℕ) (owners : List ℕ) (k : ℕ) (xs : List ℕ) (n lists : ℕ) → Owned places owners k xs → k < lists → is_in n ((places + k) ∷ xs) ≡ true → n < places + lists
+node_within places owners k xs n lists o below i =
+    ⊎_elim (λ (e : places + k ≡ n). omega arith)
+    (λ (more : is_in n xs ≡ true). omega (arith, (owned_in places owners k xs n o more).0))
+    (in_cases (places + k) n xs i)
+
+-- another ring's head is no node of a ring
+other_head : (places : ℕ) (owners : List ℕ) (k j : ℕ) (xs : List ℕ) (n : ℕ) → Owned places owners k xs → (j ≡ k → ⊥) → is_in n ((places + k) ∷ xs) ≡ true → places + j ≡ n → ⊥
+other_head places owners k j xs n o ne i =
+    let apart_head : places + k ≡ places + j → ⊥ = λ e. ne (omega arith) in
+    differs n (places + j) ((places + k) ∷ xs) i (apart_from (places + k) (places + j) xs apart_head (head_apart places owners k xs j o))
+
+-- another list's number is no node of a ring
+other_node : (places : ℕ) (owners : List ℕ) (k j : ℕ) (xs ys : List ℕ) (n m : ℕ) → Owned places owners k xs → Owned places owners j ys → (j ≡ k → ⊥) → is_in n ((places + k) ∷ xs) ≡ true → is_in m ys ≡ true → m ≡ n → ⊥
+other_node places owners k j xs ys n m o q ne i l =
+    let own = owned_in places owners j ys m q l in
+    let within : m < places = own.0 in
+    let no_head : places + k ≡ m → ⊥ = λ e. absurd (omega arith) in
+    differs n m ((places + k) ∷ xs) i (apart_from (places + k) m xs no_head (owned_apart places owners k xs m o (λ _ same. ne (sym own.1 ∙ same))))
+
+-- a ring of an equal list
+ring_is : (places : ℕ) (after before owners : List ℕ) (k n m : ℕ) (xs ys : List ℕ) → IsRing places after before owners k n xs → m ≡ n → ys ≡ xs → IsRing places after before owners k m ys
+ring_is places after before owners k n m xs ys r e f =
+    subst (λ zs. IsRing places after before owners k m zs) (sym f) (subst (λ c. IsRing places after before owners k c xs) (sym e) r)
+
+-- ---- a number is appended
+
+module _ (places : ℕ) (after before owners counts : List ℕ) (lists : List (List ℕ)) (k p : ℕ) where
+  abbrev last : ℕ
+  last = get_or before (places + k) 0
+
+  abbrev after_append : List ℕ
+  after_append = set (set after last p) p (places + k)
+
+  abbrev before_append : List ℕ
+  before_append = set (set before p last) (places + k) p
+
+  -- the node before a head is a node of the tables
+  pub last_within : IsLinked places after before owners counts lists → k < length lists → get_or before (places + k) 0 < places + length lists
+  last_within h below =
+      let ring = h.each k below in
+      node_within places owners k (get_or lists k []) last (length lists) ring.owned below (last_in after before (places + k) (get_or lists k []) (places + k) ring.chain)
+
+  kept_after : (n : ℕ) → (n ≡ last → ⊥) → (n ≡ p → ⊥) → get_or after_append n 0 ≡ get_or after n 0
+  kept_after n a b = get_or-set_other (set after last p) p n (places + k) 0 b ∙ get_or-set_other after last n p 0 a
+
+  kept_before : (n : ℕ) → (n ≡ places + k → ⊥) → (n ≡ p → ⊥) → get_or before_append n 0 ≡ get_or before n 0
+  kept_before n a b = get_or-set_other (set before p last) (places + k) n p 0 a ∙ get_or-set_other before p n last 0 b
+
+  ring_appended : IsLinked places after before owners counts lists → k < length lists → p < places → list_any (is_in p) lists ≡ false
+      → IsRing places after_append before_append (set owners p k) k (get_or counts k 0 + 1) (get_or lists k [] ++ p ∷ [])
+  ring_appended h below within none =
+      let xs = get_or lists k [] in
+      let ring = h.each k below in
+      let absent : is_in p xs ≡ false = in_no_list p lists k none in
+      let headless : is_in (places + k) xs ≡ false = head_apart places owners k xs k ring.owned in
+      let p_head : p ≡ places + k → ⊥ = λ e. absurd (omega arith) in
+      let p_apart : is_in p ((places + k) ∷ xs) ≡ false = apart_from (places + k) p xs (λ e. p_head (sym e)) absent in
+      let is_last = last_in after before (places + k) xs (places + k) ring.chain in
+      let p_last : p ≡ last → ⊥ = differs last p ((places + k) ∷ xs) is_last p_apart in
+      let last_below : last < places + length lists = last_within h below in
+      record {
+        chain = chain_append after before after_append before_append p (places + k) xs (places + k) ring.chain (headless, ring.distinct) headless p_apart
+          (get_or-set_other (set after last p) p last (places + k) 0 (λ e. p_last (sym e)) ∙ get_or-set_same after last p 0 (omega (arith, h.after_each)))
+          (get_or-set_same (set after last p) p (places + k) 0 (omega (arith, h.after_each, length-set after last p)))
+          (get_or-set_other (set before p last) (places + k) p p 0 p_head ∙ get_or-set_same before p last 0 (omega (arith, h.before_each)))
+          (get_or-set_same (set before p last) (places + k) p 0 (omega (arith, h.before_each, length-set before p last)))
+          kept_after
+          kept_before;
+        owned = owned_push places (set owners p k) k xs p (owned_set places owners k xs p k ring.owned absent) within (get_or-set_same owners p k 0 (omega (arith, h.owned)));
+        distinct = distinct_push xs p ring.distinct absent;
+        counted = ap (λ n. n + 1) ring.counted ∙ sym (length-append xs (p ∷ []));
+      }
+
+  ring_beside : IsLinked places after before owners counts lists → k < length lists → p < places → list_any (is_in p) lists ≡ false
+      → (j : ℕ) → j < length lists → (j ≡ k → ⊥) → IsRing places after_append before_append (set owners p k) j (get_or counts j 0) (get_or lists j [])
+  ring_beside h below within none j inside ne =
+      let xs = get_or lists k [] in
+      let ys = get_or lists j [] in
+      let ring = h.each k below in
+      let other = h.each j inside in
+      let absent : is_in p ys ≡ false = in_no_list p lists j none in
+      let is_last = last_in after before (places + k) xs (places + k) ring.chain in
+      let head_p : places + j ≡ p → ⊥ = λ e. absurd (omega arith) in
+      let heads : places + j ≡ places + k → ⊥ = λ e. ne (omega arith) in
+      record {
+        chain = chain_kept after before after_append before_append (places + j) ys (places + j) other.chain
+          (kept_after (places + j) (other_head places owners k j xs last ring.owned ne is_last) head_p)
+          (λ n i. kept_after n (other_node places owners k j xs ys last n ring.owned other.owned ne is_last i) (λ e. differs n p ys i absent (sym e)))
+          (λ n i. kept_before n (λ e. differs n (places + k) ys i (head_apart places owners j ys k other.owned) (sym e)) (λ e. differs n p ys i absent (sym e)))
+          (kept_before (places + j) heads head_p);
+        owned = owned_set places owners j ys p k other.owned absent;
+        distinct = other.distinct;
+        counted = other.counted;
+      }
+
+  appended : IsLinked places after before owners counts lists → k < length lists → p < places → list_any (is_in p) lists ≡ false
+      → IsLinked places after_append before_append (set owners p k) (set counts k (get_or counts k 0 + 1)) (set lists k (get_or lists k [] ++ p ∷ []))
+  appended h below within none =
+      let counts' = set counts k (get_or counts k 0 + 1) in
+      let lists' = set lists k (get_or lists k [] ++ p ∷ []) in
+      let Ring : ℕ → Type 0 = λ j. IsRing places after_append before_append (set owners p k) j (get_or counts' j 0) (get_or lists' j []) in
+      let same : length lists' ≡ length lists = length-set lists k (get_or lists k [] ++ p ∷ []) in
+      record {
+        small = h.small;
+        few = omega (arith, h.few);
+        after_each = omega (arith, length-set (set after last p) p (places + k), length-set after last p, h.after_each);
+        before_each = omega (arith, length-set (set before p last) (places + k) p, length-set before p last, h.before_each);
+        owned = length-set owners p k ∙ h.owned;
+        counted = omega (arith, length-set counts k (get_or counts k 0 + 1), h.counted);
+        each = λ j inside.
+          ⊎_elim
+            (λ (e : j ≡ k). subst Ring (sym e) (ring_is places after_append before_append (set owners p k) k _ _ _ _ (ring_appended h below within none)
+              (get_or-set_same counts k (get_or counts k 0 + 1) 0 (omega (arith, h.counted)))
+              (get_or-set_same lists k (get_or lists k [] ++ p ∷ []) [] below)))
+            (λ (ne : j ≡ k → ⊥). ring_is places after_append before_append (set owners p k) j _ _ _ _ (ring_beside h below within none j (omega arith) ne)
+              (get_or-set_other counts k j (get_or counts k 0 + 1) 0 ne)
+              (get_or-set_other lists k j (get_or lists k [] ++ p ∷ []) [] ne))
+            (cases_eq j k);
+      }
+
+  -- with the node and the count as they were read
+  pub append_keeps : (l n : ℕ) → l ≡ get_or before (places + k) 0 → n ≡ get_or counts k 0 → IsLinked places after before owners counts lists → k < length lists → p < places → list_any (is_in p) lists ≡ false
+      → IsLinked places (set (set after l p) p (places + k)) (set (set before p l) (places + k) p) (set owners p k) (set counts k (n + 1)) (set lists k (get_or lists k [] ++ p ∷ []))
+  append_keeps l n el en h below within none =
+      let Keeps : ℕ → ℕ → Type 0 = λ u v. IsLinked places (set (set after u p) p (places + k)) (set (set before p u) (places + k) p) (set owners p k) (set counts k (v + 1)) (set lists k (get_or lists k [] ++ p ∷ [])) in
+      subst (λ u. Keeps u n) (sym el) (subst (λ v. Keeps (get_or before (places + k) 0) v) (sym en) (appended h below within none))
+
+  -- a list is no longer than there are places
+  pub count_within : IsLinked places after before owners counts lists → k < length lists → get_or counts k 0 ≤ places
+  count_within h below =
+      let ring = h.each k below in
+      omega (arith, ring.counted, distinct_short places (get_or lists k []) ring.distinct (λ x i. (owned_in places owners k (get_or lists k []) x ring.owned i).0))
+
+-- ---- a number is removed
+
+-- where a number stands that stands in some list
+pub record Placed (places : ℕ) (after before owners counts : List ℕ) (lists : List (List ℕ)) (p : ℕ) : Type 0 where
+  pub within : p < places
+  pub list : get_or owners p 0 < length lists
+  pub member : is_in p (get_or lists (get_or owners p 0) []) ≡ true
+  pub some : 1 ≤ get_or counts (get_or owners p 0) 0
+  pub is_before : is_in (get_or before p 0) ((places + get_or owners p 0) ∷ get_or lists (get_or owners p 0) []) ≡ true
+  pub is_after : is_in (get_or after p 0) ((places + get_or owners p 0) ∷ get_or lists (get_or owners p 0) []) ≡ true
+  pub before_within : get_or before p 0 < places + length lists
+  pub after_within : get_or after p 0 < places + length lists
+  pub apart : (j : ℕ) → j < length lists → (j ≡ get_or owners p 0 → ⊥) → is_in p (get_or lists j []) ≡ false
+
+-- the nodes beside a node of a chain
+beside : (after before : List ℕ) (from : ℕ) (xs : List ℕ) (p : ℕ) → Chain after before from xs from → is_in p xs ≡ true → (is_in (get_or before p 0) (from ∷ xs) ≡ true) × (is_in (get_or after p 0) (from ∷ xs) ≡ true) × (1 ≤ length xs)
+beside after before from xs p c i =
+    let s = split_at p xs i in
+    let halves = chain_split after before from s.0 p s.1 from (subst (λ ys. Chain after before from ys from) s.2 c) in
+    let In : ℕ → List ℕ → Type 0 = λ n ys. is_in n (from ∷ ys) ≡ true in
+    let b : is_in (get_or before p 0) (from ∷ (s.0 ++ p ∷ s.1)) ≡ true = in_front (get_or before p 0) (from ∷ s.0) (p ∷ s.1) (last_in after before from s.0 p halves.0) in
+    let n = get_or after p 0 in
+    let a : is_in n (from ∷ (s.0 ++ p ∷ s.1)) ≡ true =
+        ⊎_elim (λ (e : from ≡ n). subst (λ m. is_in m (from ∷ (s.0 ++ p ∷ s.1)) ≡ true) e (in_here from (s.0 ++ p ∷ s.1)))
+        (λ (more : is_in n s.1 ≡ true). in_there from n (s.0 ++ p ∷ s.1) (in_rest n s.0 (p ∷ s.1) (in_there p n s.1 more)))
+        (in_cases from n s.1 (first_in after before p s.1 from halves.1)) in
+    (subst (In (get_or before p 0)) (sym s.2) b, subst (In n) (sym s.2) a, omega (arith, ap length s.2, length-append s.0 (p ∷ s.1)))
+
+pub placed : (places : ℕ) (after before owners counts : List ℕ) (lists : List (List ℕ)) (p : ℕ) → IsLinked places after before owners counts lists → list_any (is_in p) lists ≡ true → Placed places after before owners counts lists p
+placed places after before owners counts lists p h i =
+    let found = list_with p lists i in
+    let here = h.each found.0 found.1 in
+    let own = owned_in places owners found.0 (get_or lists found.0 []) p here.owned found.2 in
+    let k = get_or owners p 0 in
+    let below : k < length lists = omega (arith, own.1, found.1) in
+    let member : is_in p (get_or lists k []) ≡ true = subst (λ j. is_in p (get_or lists j []) ≡ true) (sym own.1) found.2 in
+    let ring = h.each k below in
+    let sides = beside after before (places + k) (get_or lists k []) p ring.chain member in
+    record {
+      within = own.0;
+      list = below;
+      member = member;
+      some = omega (arith, sides.2, ring.counted);
+      is_before = sides.0;
+      is_after = sides.1;
+      before_within = node_within places owners k (get_or lists k []) (get_or before p 0) (length lists) ring.owned below sides.0;
+      after_within = node_within places owners k (get_or lists k []) (get_or after p 0) (length lists) ring.owned below sides.1;
+      apart = λ j inside ne. owned_apart places owners j (get_or lists j []) p (h.each j inside).owned (λ _ same. ne (sym same));
+    }
+
+module _ (places : ℕ) (after before owners counts : List ℕ) (lists : List (List ℕ)) (p : ℕ) where
+  abbrev after_cut : List ℕ
+  after_cut = set after (get_or before p 0) (get_or after p 0)
+
+  abbrev before_cut : List ℕ
+  before_cut = set before (get_or after p 0) (get_or before p 0)
+
+  ring_cut : IsLinked places after before owners counts lists → Placed places after before owners counts lists p
+      → IsRing places after_cut before_cut owners (get_or owners p 0) (get_or counts (get_or owners p 0) 0 - 1) (without p (get_or lists (get_or owners p 0) []))
+  ring_cut h here =
+      let k = get_or owners p 0 in
+      let xs = get_or lists k [] in
+      let ring = h.each k here.list in
+      let s = split_at p xs here.member in
+      let front = s.0 in
+      let rest = s.1 in
+      let whole : Chain after before (places + k) (front ++ p ∷ rest) (places + k) = subst (λ ys. Chain after before (places + k) ys (places + k)) s.2 ring.chain in
+      let owned : Owned places owners k (front ++ p ∷ rest) = subst (λ ys. Owned places owners k ys) s.2 ring.owned in
+      let distinct : Distinct (front ++ p ∷ rest) = subst (λ ys. Distinct ys) s.2 ring.distinct in
+      let halves = chain_split after before (places + k) front p rest (places + k) whole in
+      let headless : is_in (places + k) (front ++ p ∷ rest) ≡ false = head_apart places owners k (front ++ p ∷ rest) k owned in
+      let left : without p xs ≡ front ++ rest = ap (without p) s.2 ∙ without_split p front rest distinct in
+      let size : get_or counts k 0 ≡ length (front ++ p ∷ rest) = ring.counted ∙ ap length s.2 in
+      ring_is places after_cut before_cut owners k (get_or counts k 0 - 1) (get_or counts k 0 - 1) (front ++ rest) (without p xs)
+        (record {
+          chain = chain_cut after before after_cut before_cut (places + k) front p rest (places + k) halves.0 halves.1 (headless, distinct) headless
+            (get_or-set_same after (get_or before p 0) (get_or after p 0) 0 (omega (arith, h.after_each, here.before_within)))
+            (get_or-set_same before (get_or after p 0) (get_or before p 0) 0 (omega (arith, h.before_each, here.after_within)))
+            (λ n ne. get_or-set_other after (get_or before p 0) n (get_or after p 0) 0 ne)
+            (λ n ne. get_or-set_other before (get_or after p 0) n (get_or before p 0) 0 ne);
+          owned = owned_cut places owners k front p rest owned;
+          distinct = (distinct_split p front rest distinct).2;
+          counted = omega (arith, size, length-append front (p ∷ rest), length-append front rest);
+        })
+        refl left
+
+  ring_aside : IsLinked places after before owners counts lists → Placed places after before owners counts lists p
+      → (j : ℕ) → j < length lists → (j ≡ get_or owners p 0 → ⊥) → IsRing places after_cut before_cut owners j (get_or counts j 0) (without p (get_or lists j []))
+  ring_aside h here j inside ne =
+      let k = get_or owners p 0 in
+      let xs = get_or lists k [] in
+      let ys = get_or lists j [] in
+      let ring = h.each k here.list in
+      let other = h.each j inside in
+      ring_is places after_cut before_cut owners j (get_or counts j 0) (get_or counts j 0) ys (without p ys)
+        (record {
+          chain = chain_kept after before after_cut before_cut (places + j) ys (places + j) other.chain
+            (get_or-set_other after (get_or before p 0) (places + j) (get_or after p 0) 0 (other_head places owners k j xs (get_or before p 0) ring.owned ne here.is_before))
+            (λ n i. get_or-set_other after (get_or before p 0) n (get_or after p 0) 0 (other_node places owners k j xs ys (get_or before p 0) n ring.owned other.owned ne here.is_before i))
+            (λ n i. get_or-set_other before (get_or after p 0) n (get_or before p 0) 0 (other_node places owners k j xs ys (get_or after p 0) n ring.owned other.owned ne here.is_after i))
+            (get_or-set_other before (get_or after p 0) (places + j) (get_or before p 0) 0 (other_head places owners k j xs (get_or after p 0) ring.owned ne here.is_after));
+          owned = other.owned;
+          distinct = other.distinct;
+          counted = other.counted;
+        })
+        refl (without_none p ys (here.apart j inside ne))
+
+  removed : IsLinked places after before owners counts lists → Placed places after before owners counts lists p
+      → IsLinked places after_cut before_cut owners (set counts (get_or owners p 0) (get_or counts (get_or owners p 0) 0 - 1)) (map (without p) lists)
+  removed h here =
+      let k = get_or owners p 0 in
+      let fewer = get_or counts k 0 - 1 in
+      let Ring : ℕ → Type 0 = λ j. IsRing places after_cut before_cut owners j (get_or (set counts k fewer) j 0) (get_or (map (without p) lists) j []) in
+      let same : length (map (without p) lists) ≡ length lists = length-map lists (without p) in
+      record {
+        small = h.small;
+        few = omega (arith, h.few);
+        after_each = omega (arith, length-set after (get_or before p 0) (get_or after p 0), h.after_each);
+        before_each = omega (arith, length-set before (get_or after p 0) (get_or before p 0), h.before_each);
+        owned = h.owned;
+        counted = omega (arith, length-set counts k fewer, h.counted);
+        each = λ j inside.
+          ⊎_elim
+            (λ (e : j ≡ k). subst Ring (sym e) (ring_is places after_cut before_cut owners k _ _ _ _ (ring_cut h here)
+              (get_or-set_same counts k fewer 0 (omega (arith, h.counted, here.list)))
+              (get_or-map (without p) lists k [] [] here.list)))
+            (λ (ne : j ≡ k → ⊥). ring_is places after_cut before_cut owners j _ _ _ _ (ring_aside h here j (omega arith) ne)
+              (get_or-set_other counts k j fewer 0 ne)
+              (get_or-map (without p) lists j [] [] (omega arith)))
+            (cases_eq j k);
+      }
+
+  -- with the nodes, the list and the count as they were read
+  pub remove_keeps : (a b k n : ℕ) → a ≡ get_or after p 0 → b ≡ get_or before p 0 → k ≡ get_or owners p 0 → n ≡ get_or counts k 0 → IsLinked places after before owners counts lists → Placed places after before owners counts lists p
+      → IsLinked places (set after b a) (set before a b) owners (set counts k (n - 1)) (map (without p) lists)
+  remove_keeps a b k n ea eb ek en h here =
+      let Nodes : ℕ → ℕ → ℕ → ℕ → Type 0 = λ u v w m. IsLinked places (set after v u) (set before u v) owners (set counts w (m - 1)) (map (without p) lists) in
+      let count : n ≡ get_or counts (get_or owners p 0) 0 = en ∙ ap (λ w. get_or counts w 0) ek in
+      subst (λ u. Nodes u b k n) (sym ea) (subst (λ v. Nodes (get_or after p 0) v k n) (sym eb) (subst (λ w. Nodes (get_or after p 0) (get_or before p 0) w n) (sym ek)
+        (subst (λ m. Nodes (get_or after p 0) (get_or before p 0) (get_or owners p 0) m) (sym count) (removed h here))))
+
+-- ---- at the opening
+
+-- one number more
+pub range_more : (n : ℕ) → range_with_len 0 n ++ n ∷ [] ≡ range_with_len 0 (n + 1)
+range_more n =
+    let id = λ (k : ℕ). k in
+    ap (λ xs. xs ++ n ∷ []) (sym (map-id (range_with_len 0 n))) ∙ sym (map-range_with_len_more id 0 n n (omega arith)) ∙ map-id (range_with_len 0 (n + 1))
+
+-- empty lists, each node beside itself
+pub opened : (places n : ℕ) (after before owners counts : List ℕ) → places ≤ 2 ^ 20 → n ≤ 2 ^ 20
+    → after ≡ range_with_len 0 (places + n) → before ≡ range_with_len 0 (places + n) → owners ≡ replicate places 0 → counts ≡ replicate n 0
+    → IsLinked places after before owners counts (replicate n [])
+opened places n after before owners counts small few ea eb eo ec =
+    let size : length (replicate n []) ≡ n = length-replicate n [] in
+    record {
+      small = small;
+      few = omega arith;
+      after_each = omega (arith, ap length ea, length-range_with_len 0 (places + n));
+      before_each = omega (arith, ap length eb, length-range_with_len 0 (places + n));
+      owned = ap length eo ∙ length-replicate places 0;
+      counted = ap length ec ∙ length-replicate n 0 ∙ sym size;
+      each = λ k below.
+        let alone : get_or (range_with_len 0 (places + n)) (places + k) 0 ≡ places + k = get_or-range_with_len 0 (places + n) (places + k) 0 (omega arith) ∙ omega arith in
+        ring_is places after before owners k 0 (get_or counts k 0) [] (get_or (replicate n []) k [])
+          (record { chain = (ap (λ xs. get_or xs (places + k) 0) ea ∙ alone, ap (λ xs. get_or xs (places + k) 0) eb ∙ alone); owned = tt; distinct = tt; counted = refl })
+          (ap (λ xs. get_or xs k 0) ec ∙ get_or-replicate n k 0 0 (omega arith))
+          (get_or-replicate n k [] [] (omega arith));
+    }
+
+-- ---- the view
+
+-- the lists that the fields have are those that a caller sees
+pub at_view : (places : ℕ) (after before owners counts : List ℕ) (seen : Lists) → ◌≡◌ {A = Lists} (record { places = places; lists = lists_of places after counts }) seen → IsLinked places after before owners counts (lists_of places after counts)
+    → IsLinked places after before owners counts seen.lists × (places ≡ seen.places)
+at_view places after before owners counts seen e h =
+    (subst (λ (v : Lists). IsLinked places after before owners counts v.lists) e h, ap (λ (v : Lists). v.places) e)
+
+-- lists in their rings are those that the fields have
+pub in_view : (places : ℕ) (after before owners counts : List ℕ) (lists : List (List ℕ)) → IsLinked places after before owners counts lists → IsLinked places after before owners counts (lists_of places after counts)
+in_view places after before owners counts lists h = subst (λ ls. IsLinked places after before owners counts ls) (sym (lists_of_is places after before owners counts lists h)) h

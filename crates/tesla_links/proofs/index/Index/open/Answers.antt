@@ -1,0 +1,17 @@
+use Rattle.std.proofs.Common.{◌≡◌, ℕ, ◌+◌, ◌<◌, List, [], ◌∷◌, ◌++◌, length, get_or, map, true, false, not, arith, ◌∙◌, sym, ap, subst, refl, Some, None, Option}
+use Rattle.tesla_links.specs.Entries.{Entries, Entry}
+use Rattle.tesla_links.specs.Indexed.{entries_of, entry_of}
+use Rattle.tesla_links.specs.Lists.{Lists, list_of}
+use Rattle.tesla_links.proofs.Grouped.{entries_are, indexed_open}
+use Rattle.tesla_links.proofs.index.Index.open.Goals as goal
+
+pub invariant_of-result : goal.invariant_of-result
+invariant_of-result c = indexed_open c.args.capacity c.in_ok-open.field-0 c.in_ok-open-2.field-0 c.in_ok-vec.field-0.items c.in_ok-open-3.field-0 c.requires.some c.requires.most c.in_ok-open.ensures c.in_ok-open-2.ensures (c.in_ok-vec.ensures.items_if_clones_equal (λ y h. h)) c.in_ok-open-3.ensures
+
+pub returns : goal.returns
+returns c =
+    let order = c.in_ok-open.field-0 in
+    let keys = c.in_ok-open-3.field-0 in
+    let groups = c.in_ok-vec.field-0.items in
+    let none : entries_of order keys groups ≡ [] = entries_are order keys groups ∙ ap (λ (v : Lists). map (entry_of keys groups) (list_of v 0)) c.in_ok-open.ensures in
+    ap (λ es. record { capacity = c.args.capacity; entries = es }) none

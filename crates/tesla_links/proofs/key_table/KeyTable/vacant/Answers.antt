@@ -1,0 +1,14 @@
+use Rattle.std.proofs.Common.{◌≡◌, ℕ, ◌+◌, ◌<◌, length, arith, ◌∙◌, sym, ap, refl, Some, None, Option}
+use Rattle.std.specs.List.{list_any}
+use Rattle.std.specs.Option.{MatchOption}
+use Rattle.std.specs.Prelude.{slice_get}
+use Rattle.tesla_links.specs.Lists.{list_of}
+use Rattle.tesla_links.specs.Slots.{is_vacant}
+use Rattle.tesla_links.proofs.Keyed.{at_view, first_vacant}
+use Rattle.tesla_links.proofs.key_table.KeyTable.vacant.Goals as goal
+
+pub returns : goal.returns
+returns c =
+    let i = c.self.inside in
+    let h = at_view i.capacity i.chains i.keys.items c.args.self.now c.self.view_is c.self.invariant in
+    first_vacant i.capacity i.chains i.keys.items c.args.self.now h c.first.result c.first.ensures.value

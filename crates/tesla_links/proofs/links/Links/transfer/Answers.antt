@@ -1,0 +1,8 @@
+use Rattle.std.proofs.Common.{◌≡◌, ap, ◌∙◌, false}
+use Rattle.std.specs.List.{list_any}
+use Rattle.tesla_links.specs.Lists.{is_in}
+use Rattle.tesla_links.proofs.Members.{nowhere_without}
+use Rattle.tesla_links.proofs.links.Links.transfer.Goals as goal
+
+pub append-requires-clause-nowhere : goal.append-requires-clause-nowhere
+append-requires-clause-nowhere c = ap (list_any (is_in c.args.place)) c.remove.ensures.lists ∙ nowhere_without c.args.place c.args.self.now.lists

@@ -1,0 +1,36 @@
+-- How an index is kept: the places in the order in which they came, and for each key in use a group, which is the
+-- list of the places under it.
+use Rattle.std.specs.Prelude.{◌≡◌, ℕ, ◌==◌, ◌<◌, ◌≤◌, true, List, length, map, get_or, Option, None, Some}
+use Rattle.std.specs.List.{filter}
+use Rattle.std.specs.Option.{unwrap_or}
+use Rattle.tesla_links.specs.Entries.{Entry}
+use Rattle.tesla_links.specs.Lists.{Distinct, Lists, is_in, list_of}
+
+-- the group of a place
+abbrev pub group_of : List ℕ → ℕ → ℕ
+group_of groups place = get_or groups place 0
+
+-- the entry of a place, whose key is that of its group
+abbrev pub entry_of : List (Option ℕ) → List ℕ → ℕ → Entry
+entry_of keys groups place = record { key = unwrap_or (get_or keys (group_of groups place) None) 0; place = place }
+
+-- the entries, read off the places
+unfoldable pub entries_of : Lists → List (Option ℕ) → List ℕ → List Entry
+entries_of order keys groups = map (entry_of keys groups) (list_of order 0)
+
+-- each group in use has the places under its key, and no two have one key
+pub record IsIndexed (capacity : ℕ) (order members : Lists) (groups : List ℕ) (keys : List (Option ℕ)) : Type 0 where
+  pub some : 1 ≤ capacity
+  pub most : capacity ≤ 65536
+  pub places : order.places ≡ capacity
+  pub one : length order.lists ≡ 1
+  pub member_places : members.places ≡ capacity
+  pub member_lists : length members.lists ≡ capacity
+  pub grouped : length groups ≡ capacity
+  pub keyed : length keys ≡ capacity
+  pub distinct : Distinct (list_of order 0)
+  pub within : (p : ℕ) → is_in p (list_of order 0) ≡ true → (p < capacity) × (group_of groups p < capacity)
+  pub member : (g : ℕ) → g < capacity → list_of members g ≡ filter (λ p. group_of groups p == g) (list_of order 0)
+  pub live : (p : ℕ) → is_in p (list_of order 0) ≡ true → (key : ℕ) × (get_or keys (group_of groups p) None ≡ Some key)
+  pub used : (g key : ℕ) → get_or keys g None ≡ Some key → (p : ℕ) × (is_in p (list_of order 0) ≡ true) × (group_of groups p ≡ g)
+  pub unique : (g h key : ℕ) → get_or keys g None ≡ Some key → get_or keys h None ≡ Some key → g ≡ h

@@ -1,0 +1,133 @@
+//! Places that are listed in order, and by their keys.
+
+ghost use Rattle.std.specs.Prelude.{◌≡◌, ◌+◌, ◌<◌, ◌≤◌, ◌⊎◌, [], ◌∷◌, ◌++◌, false, true, not, length, replicate, slice_get, slice_set, IfOk};
+ghost use Rattle.std.specs.List.{filter, list_any};
+ghost use Rattle.tesla_links.specs.Entries.{first_place, is_at, is_under, next_place};
+ghost use Rattle.tesla_links.specs.Slots.{has_key, is_vacant};
+
+use crate::{KeyTable, Links};
+use std::alloc::Global;
+use std::marker::Model;
+use tesla_base::NoMemory;
+
+/// Entries of a key and a place, in the order in which they came. A place has one entry at most; a key may have
+/// many. The entries of a key are found by it, and each leads to the next.
+///
+/// The places of a key in use are a group, found by a hash table of as many places as there may be entries. So no
+/// call goes over entries, be they of the same key or of others.
+#[derive(Drop)]
+pub struct Index {
+    capacity: u32,
+    order: Links,
+    members: Links,
+    groups: Vec<u32>,
+    keys: KeyTable,
+}
+
+impl Model for Index {
+    ghost use Rattle.tesla_links.specs.Entries.{Entries};
+    ghost use Rattle.tesla_links.specs.Indexed.{IsIndexed, entries_of};
+
+    ghost Value = { Entries };
+
+    ghost view = { λ t. record { capacity = t.capacity; entries = entries_of t.order t.keys t.groups.items } };
+
+    ghost invariant = { λ t. IsIndexed t.capacity t.order t.members t.groups.items t.keys };
+}
+
+/// The group of a key, which is a vacant one where the key has none yet.
+fn enter_group(keys: &mut KeyTable, key: u64) -> u32
+    requires { list_any is_vacant keys.old ≡ true }
+    ensures keys { keys.new ≡ slice_set keys.old result (Some key) }
+    ensures group { (slice_get keys.old result ≡ Some (Some key)) ⊎ ((slice_get keys.old result ≡ Some None) × (list_any (has_key key) keys.old ≡ false)) }
+{
+    if let Some(group) = keys.find(key) {
+        return group;
+    }
+    let Some(group) = keys.vacant() else {
+        unreachable!()
+    };
+    keys.enter(group, key);
+    group
+}
+
+impl Index {
+    /// An index without entries, for so many. All memory is taken here.
+    pub fn open(alloc: Global, capacity: u32) -> Result<Index, NoMemory>
+        requires some { 1 ≤ capacity }
+        requires most { capacity ≤ 65536 }
+        ensures { IfOk result (λ t. t ≡ record { capacity = capacity; entries = [] }) }
+    {
+        Ok(Index {
+            capacity,
+            order: Links::open(alloc, 1, capacity)?,
+            members: Links::open(alloc, capacity, capacity)?,
+            groups: vec![in alloc; 0; capacity as usize]?,
+            keys: KeyTable::open(alloc, capacity)?,
+        })
+    }
+
+    /// Puts an entry behind the others.
+    pub fn append(&mut self, key: u64, place: u32)
+        requires room { length self.old.entries < self.old.capacity }
+        requires place { place < self.old.capacity }
+        requires absent { list_any (is_at place) self.old.entries ≡ false }
+        ensures capacity { self.new.capacity ≡ self.old.capacity }
+        ensures entries { self.new.entries ≡ self.old.entries ++ record { key = key; place = place } ∷ [] }
+    {
+        let group = enter_group(&mut self.keys, key);
+        self.groups[place as usize] = group;
+        self.members.append(group, place);
+        self.order.append(0, place);
+    }
+
+    /// Removes the entry of a place; the others stay in order.
+    pub fn remove(&mut self, place: u32)
+        requires { list_any (is_at place) self.old.entries ≡ true }
+        ensures capacity { self.new.capacity ≡ self.old.capacity }
+        ensures entries { self.new.entries ≡ filter (λ e. not (is_at place e)) self.old.entries }
+    {
+        let group = self.groups[place as usize];
+        self.members.remove(place);
+        self.order.remove(place);
+        if self.members.count(group) == 0 {
+            self.keys.clear(group);
+        }
+    }
+
+    /// The place of the first entry with a key; `None` exactly where there is none.
+    pub fn first(&self, key: u64) -> Option<u32>
+        ensures { result ≡ first_place (filter (is_under key) self.now.entries) }
+    {
+        let Some(group) = self.keys.find(key) else {
+            return None;
+        };
+        self.members.first(group)
+    }
+
+    /// The place of the next entry with the same key as that of a place; `None` exactly where there is none.
+    pub fn next(&self, place: u32) -> Option<u32>
+        requires { list_any (is_at place) self.now.entries ≡ true }
+        ensures { result ≡ next_place place self.now.entries }
+    {
+        let group = self.groups[place as usize];
+        self.members.next(group, place)
+    }
+
+    /// How many entries have a key.
+    pub fn count(&self, key: u64) -> u32
+        ensures { result ≡ length (filter (is_under key) self.now.entries) }
+    {
+        match self.keys.find(key) {
+            Some(group) => self.members.count(group),
+            None => 0,
+        }
+    }
+
+    /// How many entries there are.
+    pub fn len(&self) -> u32
+        ensures { result ≡ length self.now.entries }
+    {
+        self.order.count(0)
+    }
+}
