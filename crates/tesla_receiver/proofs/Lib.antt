@@ -16,3 +16,4 @@ pub mod Gone
 pub mod Held
 pub mod Limits
 pub mod SafeChains
+pub mod Reached

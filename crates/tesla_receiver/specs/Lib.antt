@@ -11,3 +11,5 @@ pub mod Replies
 pub mod Tips
 pub mod State
 pub mod Steps
+pub mod Walking
+pub mod ItemShown

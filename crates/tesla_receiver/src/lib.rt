@@ -10,6 +10,7 @@ mod growing;
 mod history;
 mod holding;
 mod judging;
+pub(crate) mod keeping;
 mod keys;
 pub mod laws;
 mod packet;
