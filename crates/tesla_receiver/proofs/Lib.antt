@@ -17,3 +17,4 @@ pub mod Held
 pub mod Limits
 pub mod SafeChains
 pub mod Reached
+pub mod Tried

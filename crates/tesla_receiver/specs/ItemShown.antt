@@ -21,7 +21,8 @@ holding_in count item = record {
 abbrev pub IsFilled : WideTag → Type 0
 IsFilled tag = tag ≡ wide_tag (tag_bytes tag)
 
--- the payload has its room, and so have the tags of so many chains
+-- the payload has its room, and so have the tags of so many chains, at most 8
 pub record IsItem (count : ℕ) (item : Item) : Type 0 where
+  pub few : count ≤ 8
   pub payload : item.length ≤ 1200
   pub tags : All IsFilled (take count item.tags)

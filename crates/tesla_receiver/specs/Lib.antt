@@ -13,3 +13,4 @@ pub mod State
 pub mod Steps
 pub mod Walking
 pub mod ItemShown
+pub mod Offered
