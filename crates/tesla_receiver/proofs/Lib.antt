@@ -18,3 +18,5 @@ pub mod Limits
 pub mod SafeChains
 pub mod Reached
 pub mod Tried
+pub mod Offering
+pub mod Raising

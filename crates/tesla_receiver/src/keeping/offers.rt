@@ -68,3 +68,16 @@ pub fn offer_rows<L: Ledger>(
     }
     None
 }
+
+/// Takes the keys of walks: each is the newest of its chain from then on.
+pub fn raise(tips: &mut [Verifier], walks: &[Walk])
+    requires chains { All (IsOfChains (length tips.old)) (rows_of walks.now) }
+    requires rise { ChainsRise (rows_of walks.now) }
+    requires good { AreGood tips.old (rows_of walks.now) }
+    ensures { tips.new ≡ tips_after tips.old (rows_of walks.now) }
+{
+    for walking in walks {
+        let row = walking.row();
+        tips[usize::from(row.chain.0)].take(row.index, row.key);
+    }
+}
