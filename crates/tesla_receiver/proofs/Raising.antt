@@ -1,7 +1,7 @@
 -- Keys that are taken one after another, of chains that rise.
 use Rattle.std.proofs.Common.{◌≡◌, ℕ, zero, suc, ◌+◌, ◌-◌, ◌<◌, ◌≤◌, ◌==◌, Bool, true, false, cond, ◌&&◌, List, [], ◌∷◌, ◌++◌, length, get_or, map, take, refl, sym, ap, subst, ◌∙◌, inl, inr, arith, add-zero}
 use Rattle.std.specs.Prelude.{fold, nat_lt, bytes_eq}
-use Rattle.std.specs.List.{enumerate_from}
+use Rattle.std.specs.List.{All, enumerate_from}
 use Rattle.std.proofs.Math.ListN.{set}
 use Rattle.std.proofs.lemmas.Bool.{eqb-false, eq-eqb, ne_eqb, cases_Bool}
 use Rattle.std.proofs.lemmas.Bool.Decides.{nat_tests}
@@ -91,7 +91,18 @@ after_more n (tip ∷ tips) rows row (suc k) h at newer =
     ap (λ (t : Tip). t ∷ after_from (n + 1) tips (rows ++ row ∷ [])) (one_more n tip rows row ∙ other)
     ∙ ap (λ ts. fold (raised n) tip rows ∷ ts) (after_more (n + 1) tips rows row k (omega arith) (omega (arith, at)) newer_there)
 
+-- no key raises none
+pub after_none : (n : ℕ) (tips : List Tip) → tips ≡ after_from n tips []
+after_none n [] = refl
+after_none n (tip ∷ tips) = ap (λ ts. tip ∷ ts) (after_none (n + 1) tips)
+
 -- ---- the key of a walk
+
+-- what holds of all keys of walks holds of the key of one
+pub row_has : (P : KeyRow → Type 0) (walks : List Walking) (i : ℕ) (d : Walking) (row : KeyRow) → All P (rows_of walks) → i < length walks → row ≡ (get_or walks i d).row → P row
+row_has P walks i d row all inside is =
+    let place : i < length (rows_of walks) = omega (arith, length-map walks row_of, inside) in
+    subst P (get_or-map row_of walks i d d.row inside ∙ sym is) (all i d.row place)
 
 not_old : (none same : Bool) (gap : ℕ) (walked : Key) → IsGood (cond none Old (cond same (Good gap) (Bad walked))) → none ≡ false
 not_old true same gap walked h = absurd h
@@ -110,13 +121,13 @@ module _ (tips now : List Tip) (walks : List Walking) (i : ℕ) (d : Walking) (r
   place = omega (arith, length-map walks row_of, inside)
 
   at : get_or (rows_of walks) i d.row ≡ row
-  at = get_or-map row_of walks i d ∙ sym is
+  at = get_or-map row_of walks i d d.row inside ∙ sym is
 
   own_tip : fold (raised row.chain.0) (tip_at tips row.chain.0) (take i (rows_of walks)) ≡ tip_at tips row.chain.0
   own_tip = untouched row.chain.0 (tip_at tips row.chain.0) (rows_of walks) i d.row rise place (ap (λ (r : KeyRow). r.chain.0) at)
 
   good_at : IsGood (offer_of (tip_at tips row.chain.0) row.index row.key)
-  good_at = subst (λ (r : KeyRow). IsGood (offer_of (tip_at tips r.chain.0) r.index r.key)) at (good i d.row place)
+  good_at = row_has (λ (r : KeyRow). IsGood (offer_of (tip_at tips r.chain.0) r.index r.key)) walks i d row good inside is
 
   -- the newest key of its chain is still the one before
   pub tip_before : (e : Tip) → get_or now row.chain.0 e ≡ tip_at tips row.chain.0
