@@ -19,3 +19,7 @@ pub mod SafeChains
 pub mod Marked
 pub mod Stored
 pub mod Releasing
+pub mod Reached
+pub mod Tried
+pub mod Offering
+pub mod Raising

@@ -12,3 +12,6 @@ pub mod Tips
 pub mod State
 pub mod Steps
 pub mod Stored
+pub mod Walking
+pub mod ItemShown
+pub mod Offered

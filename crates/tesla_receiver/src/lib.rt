@@ -11,6 +11,7 @@ mod history;
 mod incremental;
 mod holding;
 mod judging;
+pub(crate) mod keeping;
 mod keys;
 pub mod laws;
 mod packet;

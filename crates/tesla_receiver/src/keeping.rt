@@ -1,0 +1,5 @@
+//! The parts of a receiver that keeps no arrivals, and take no memory.
+
+pub mod offers;
+pub mod proving;
+pub mod walk;
