@@ -1,17 +1,25 @@
 -- Packets in their places, through a mark or a removal.
-use Rattle.std.proofs.Common.{◌≡◌, ℕ, ◌+◌, ◌<◌, ◌≤◌, Bool, true, false, cond, ◌&&◌, ◌||◌, List, [], ◌∷◌, ◌++◌, length, map, Option, Some, None, refl, sym, ap, subst, ⊎_elim, ◌∙◌, arith, ◌==◌}
+use Rattle.std.proofs.Common.{◌≡◌, ℕ, ◌+◌, ◌<◌, ◌≤◌, Bool, true, false, cond, ◌&&◌, ◌||◌, List, [], ◌∷◌, ◌++◌, length, map, take, Option, Some, None, refl, sym, ap, subst, ⊎_elim, ◌∙◌, arith, ◌==◌}
 use Rattle.std.specs.Prelude.{not, find, option_map}
 use Rattle.std.specs.List.{list_any, list_all, filter}
 use Rattle.std.proofs.lemmas.Bool.{cases_Bool, and_parts, and_from, and_left, or_cases, or_left, or_right, or_from, both_ways, eqb-true, ne_eqb, eq-eqb, not-true, not_from_true, not_from_false, false_from_ne_true, not-false}
 use Rattle.std.proofs.lemmas.List.Folds.{list_any-append, list_all-append}
+use Rattle.std.specs.Prelude.{All}
+use Rattle.std.proofs.lemmas.List.Elements.{All-filter, All-map, All-weaker, All-head, All-tail, All-push}
 use Rattle.tesla_base.proofs.Lists.{list_all_weaker, list_all_both}
-use Rattle.tesla_buffer.specs.Held.{Held, changed}
+use Rattle.tesla_base.specs.declared.names.Name.{Name}
+use Rattle.tesla_base.specs.declared.names.WideTag.{WideTag}
+use Rattle.tesla_base.specs.Tag.{tag_bytes}
+use Rattle.tesla_buffer.specs.declared.item.Item.{Item}
+use Rattle.tesla_buffer.specs.Held.{Held, changed, IsMadeOf}
 use Rattle.tesla_buffer.specs.Held as buffer
 use Rattle.tesla_links.specs.Lists.{is_in, Distinct}
 use Rattle.tesla_release.specs.declared.queue.Waiting.{Waiting}
 use Rattle.tesla_receiver.specs.declared.incremental.proved.Proved.{Proved}
 use Rattle.tesla_receiver.specs.declared.release.Release.{Release}
-use Rattle.tesla_receiver.specs.Stored.{Placed, placed_in, place_of, stands_at, release_by, release_in, waits, waits_at, rests_at, is_sound, is_proved_by, with_released, with_taken, without, place_in, IsStored}
+use Rattle.tesla_receiver.specs.ItemShown.{holding_in, IsItem, IsFilled}
+use Rattle.tesla_receiver.specs.State.{Holding}
+use Rattle.tesla_receiver.specs.Stored.{Placed, placed_in, place_of, stands_at, release_by, release_in, waits, waits_at, rests_at, is_sound, is_proved_by, with_released, with_taken, without, place_in, IsStored, IsStore, IsItemOf, is_of, first_place, next_place}
 use Rattle.tesla_receiver.proofs.Marked.{any_mapped, all_mapped, map_mapped, filter_mapped, find_mapped, any_filtered, find_filtered, all_filtered, any_with_all, any_weaker}
 
 -- ---- places that differ
@@ -345,3 +353,127 @@ released_waiting proved w held waiting is d h =
 pub length-shown : (chains : ℕ) (held : List Held) → length (map (placed_in chains) held) ≡ length held
 length-shown chains [] = refl
 length-shown chains (x ∷ xs) = let rest = length-shown chains xs in omega arith
+
+-- ---- with the items
+
+pub without_store : (capacity room chains p : ℕ) (held : List Held) (waiting : List Waiting) → IsStore capacity room chains held waiting → list_any (rests_at p) (map (placed_in chains) held) ≡ true → IsStore capacity room chains (filter (λ x. not (buffer.is_at p x)) held) waiting
+without_store capacity room chains p held waiting s h = record {
+  stored = subst (λ (xs : List Placed). IsStored capacity room xs waiting) (sym (without_shown chains p held)) (without_stored capacity room p (map (placed_in chains) held) waiting s.stored h);
+  items = All-filter (λ x. not (buffer.is_at p x)) (IsItemOf chains) held s.items;
+}
+
+item_marked : (chains : ℕ) (b : Bool) (x : Held) → IsItemOf chains x → IsItemOf chains (cond b (record { place = x.place; item = record x.item { released = true } }) x)
+item_marked chains true x h = record { few = h.few; payload = h.payload; tags = h.tags }
+item_marked chains false x h = h
+
+pub released_store : (capacity room chains : ℕ) (proved : Proved) (w : Waiting) (held : List Held) (waiting : List Waiting) → w.place.0 ≡ proved.place.0 → IsStore capacity room chains held waiting → list_any (is_proved_by proved) (map (placed_in chains) held) ≡ true → IsStore capacity room chains (changed proved.place.0 (λ item. record item { released = true }) held) (waiting ++ w ∷ [])
+released_store capacity room chains proved w held waiting here s h = record {
+  stored = subst (λ (xs : List Placed). IsStored capacity room xs (waiting ++ w ∷ [])) (sym (released_shown chains proved.place.0 held)) (released_stored capacity room proved w (map (placed_in chains) held) waiting here s.stored h);
+  items = All-map (IsItemOf chains) (λ (x : Held). cond (buffer.is_at proved.place.0 x) (record { place = x.place; item = record x.item { released = true } }) x) held
+      (All-weaker (IsItemOf chains) (λ x. IsItemOf chains (cond (buffer.is_at proved.place.0 x) (record { place = x.place; item = record x.item { released = true } }) x)) (λ x k. item_marked chains (buffer.is_at proved.place.0 x) x k) held s.items);
+}
+
+-- ---- what is found
+
+pub found_shown : (chains p : ℕ) (held : List Held) → find (stands_at p) (map (placed_in chains) held) ≡ option_map (placed_in chains) (find (buffer.is_at p) held)
+found_shown chains p held = find_mapped (stands_at p) (placed_in chains) held
+
+some_same : {A : Type 0} (x y : A) → Some x ≡ Some y → x ≡ y
+some_same x y h = cc
+
+pub found_passes : {A : Type 0} (P : A → Type 0) (f : A → Bool) (xs : List A) (x : A) → All P xs → find f xs ≡ Some x → P x
+found_passes P f [] x all h = absurd (cc)
+found_passes P f (y ∷ ys) x all h =
+    ⊎_elim
+    (λ e. subst P (some_same y x (sym (ap (λ t. cond t (Some y) (find f ys)) e) ∙ h)) (All-head P y ys all))
+    (λ e. found_passes P f ys x (All-tail P y ys all) (sym (ap (λ t. cond t (Some y) (find f ys)) e) ∙ h))
+    (cases_Bool (f y))
+
+pub firsts_shown : (chains : ℕ) (held : List Held) → first_place (map (placed_in chains) held) ≡ buffer.first_place held
+firsts_shown chains [] = refl
+firsts_shown chains (x ∷ xs) = refl
+
+pub first_shown : (chains interval : ℕ) (held : List Held) → first_place (filter (is_of interval) (map (placed_in chains) held)) ≡ buffer.first_place (filter (buffer.is_of interval) held)
+first_shown chains interval held = ap first_place (filter_mapped (is_of interval) (placed_in chains) held) ∙ firsts_shown chains (filter (buffer.is_of interval) held)
+
+pub next_shown : (chains p : ℕ) (held : List Held) → next_place p (map (placed_in chains) held) ≡ buffer.next_place p held
+next_shown chains p [] = refl
+next_shown chains p (x ∷ xs) =
+    ap (λ o. cond (x.place == p) o (next_place p (map (placed_in chains) xs))) (first_shown chains x.item.name.interval xs)
+    ∙ ap (λ o. cond (x.place == p) (buffer.first_place (filter (buffer.is_of x.item.name.interval) xs)) o) (next_shown chains p xs)
+
+-- ---- one more
+
+find_before : {A : Type 0} (f : A → Bool) (xs ys : List A) → list_any f xs ≡ true → find f (xs ++ ys) ≡ find f xs
+find_before f [] ys h = absurd (cc)
+find_before f (x ∷ xs) ys h =
+    ⊎_elim
+    (λ e. ap (λ t. cond t (Some x) (find f (xs ++ ys))) e ∙ sym (ap (λ t. cond t (Some x) (find f xs)) e))
+    (λ e. ap (λ o. cond (f x) (Some x) o) (find_before f xs ys (sym (ap (λ t. t || list_any f xs) e) ∙ h)))
+    (cases_Bool (f x))
+
+pub releases_pushed : (held : List Placed) (x : Placed) (waiting : List Waiting) → list_all (λ entry. list_any (waits_at entry.place.0) held) waiting ≡ true → map (release_in (held ++ x ∷ [])) waiting ≡ map (release_in held) waiting
+releases_pushed held x [] h = refl
+releases_pushed held x (w ∷ ws) h =
+    let parts = and_parts (list_any (waits_at w.place.0) held) (list_all (λ entry. list_any (waits_at entry.place.0) held) ws) h in
+    ap (λ o. release_by w.chain o ∷ map (release_in (held ++ x ∷ [])) ws)
+    (find_before (stands_at w.place.0) held (x ∷ []) (any_weaker (waits_at w.place.0) (stands_at w.place.0) (λ y e. (and_parts (stands_at w.place.0 y) (waits y) e).0) held parts.0))
+    ∙ ap (λ rs. release_in held w ∷ rs) (releases_pushed held x ws parts.1)
+
+map-pushed : {A B : Type 0} (f : A → B) (xs : List A) (x : A) → map f (xs ++ x ∷ []) ≡ map f xs ++ f x ∷ []
+map-pushed f [] x = refl
+map-pushed f (y ∷ ys) x = ap (λ zs. f y ∷ zs) (map-pushed f ys x)
+
+length-pushed : {A : Type 0} (xs : List A) (x : A) → length (xs ++ x ∷ []) ≡ length xs + 1
+length-pushed [] x = omega arith
+length-pushed (y ∷ ys) x = let rest = length-pushed ys x in omega arith
+
+live_pushed : (held : List Placed) (x : Placed) (waiting : List Waiting) → list_all (λ entry. list_any (waits_at entry.place.0) held) waiting ≡ true → list_all (λ entry. list_any (waits_at entry.place.0) (held ++ x ∷ [])) waiting ≡ true
+live_pushed held x waiting h =
+    list_all_weaker (λ entry. list_any (waits_at entry.place.0) held) (λ entry. list_any (waits_at entry.place.0) (held ++ x ∷ [])) waiting
+    (λ entry e. list_any-append (waits_at entry.place.0) held (x ∷ []) ∙ or_left (list_any (waits_at entry.place.0) held) (list_any (waits_at entry.place.0) (x ∷ [])) e) h
+
+pushed_stored : (capacity room : ℕ) (held : List Placed) (x : Placed) (waiting : List Waiting) → IsStored capacity room held waiting → length held < capacity → list_any (stands_at x.place) held ≡ false → is_sound x ≡ true → IsStored capacity room (held ++ x ∷ []) waiting
+pushed_stored capacity room held x waiting s fits vacant sound = record {
+  few = s.few;
+  fits = (let more = length-pushed held x in omega arith);
+  same = s.same;
+  distinct = subst Distinct (sym (map-pushed place_of held x)) (distinct_pushed x.place (map place_of held) s.distinct (any_mapped (λ n. n == x.place) (stands_at x.place) place_of (λ y. refl) held ∙ vacant));
+  sound = list_all_both is_sound held (x ∷ []) s.sound (and_from (is_sound x) true sound refl);
+  once = s.once;
+  live = live_pushed held x waiting s.live;
+}
+
+made_item : (chains order safe : ℕ) (named : Name) (bytes : List ℕ) (given : List WideTag) (item : Item) → IsMadeOf order named safe bytes given item → length bytes ≤ 1200 → length given ≤ 8 → length given ≡ chains → All IsFilled given → IsItem chains item
+made_item chains order safe named bytes given item made size few count filled = record {
+  few = omega arith;
+  payload = (let long = made.size in omega arith);
+  tags = subst (λ (ts : List WideTag). All IsFilled ts) (sym (ap (λ (n : ℕ). take n item.tags) (sym count) ∙ made.tags)) filled;
+}
+
+abbrev holding_of_parts : ℕ → Name → ℕ → List ℕ → List (List ℕ) → Bool → Bool → Holding
+holding_of_parts order named safe bytes given released taken = record { order = order; name = named; chains = safe; payload = bytes; tags = given; released = released; taken = taken }
+
+-- an item as it is shown, by the parts that it was made of
+pub shown_made : (chains order safe : ℕ) (named : Name) (bytes : List ℕ) (given : List WideTag) (item : Item) → IsMadeOf order named safe bytes given item → length given ≡ chains → holding_in chains item ≡ record { order = order; name = named; chains = safe; payload = bytes; tags = map tag_bytes given; released = false; taken = false }
+shown_made chains order safe named bytes given item made count =
+    ap (λ (k : ℕ). holding_of_parts k item.name item.chains (take item.length item.payload) (map tag_bytes (take chains item.tags)) item.released item.taken) made.order
+    ∙ ap (λ (k : Name). holding_of_parts order k item.chains (take item.length item.payload) (map tag_bytes (take chains item.tags)) item.released item.taken) made.name
+    ∙ ap (λ (k : ℕ). holding_of_parts order named k (take item.length item.payload) (map tag_bytes (take chains item.tags)) item.released item.taken) made.chains
+    ∙ ap (λ (k : List ℕ). holding_of_parts order named safe k (map tag_bytes (take chains item.tags)) item.released item.taken) (ap (λ (n : ℕ). take n item.payload) made.size ∙ made.payload)
+    ∙ ap (λ (k : List WideTag). holding_of_parts order named safe bytes (map tag_bytes k) item.released item.taken) (ap (λ (n : ℕ). take n item.tags) (sym count) ∙ made.tags)
+    ∙ ap (λ (k : Bool). holding_of_parts order named safe bytes (map tag_bytes given) k item.taken) made.released
+    ∙ ap (λ (k : Bool). holding_of_parts order named safe bytes (map tag_bytes given) false k) made.taken
+
+pub pushed_shown : (chains : ℕ) (held : List Held) (x : Held) → map (placed_in chains) (held ++ x ∷ []) ≡ map (placed_in chains) held ++ placed_in chains x ∷ []
+pushed_shown chains held x = map-pushed (placed_in chains) held x
+
+pub pushed_store : (capacity room chains p : ℕ) (item : Item) (held : List Held) (waiting : List Waiting) (order : ℕ) (named : Name) (safe : ℕ) (bytes : List ℕ) (given : List WideTag) → IsStore capacity room chains held waiting → length held < capacity → list_any (buffer.is_at p) held ≡ false → IsMadeOf order named safe bytes given item → length bytes ≤ 1200 → length given ≤ 8 → length given ≡ chains → All IsFilled given → IsStore capacity room chains (held ++ record { place = p; item = item } ∷ []) waiting
+pushed_store capacity room chains p item held waiting order named safe bytes given s fits vacant made size few count filled =
+    let long = length-shown chains held in
+    record {
+      stored = subst (λ (xs : List Placed). IsStored capacity room xs waiting) (sym (pushed_shown chains held (record { place = p; item = item })))
+      (pushed_stored capacity room (map (placed_in chains) held) (placed_in chains (record { place = p; item = item })) waiting s.stored (omega arith) (sym (any_shown chains p held) ∙ vacant)
+      (ap (λ t. t || not item.taken) made.released ∙ ap not made.taken));
+      items = All-push (IsItemOf chains) held (record { place = p; item = item }) s.items (made_item chains order safe named bytes given item made size few count filled);
+    }

@@ -1,17 +1,17 @@
 -- What contracts see of the packets that have a place, and of those that wait to be taken.
-use Rattle.std.specs.Prelude.{◌≡◌, ℕ, ◌≤◌, Bool, true, false, not, ◌&&◌, ◌||◌, List, [], ◌∷◌, length, map, take, filter, find, Option, Some, None, ◌==◌, if◌then◌else◌}
+use Rattle.std.specs.Prelude.{◌≡◌, ℕ, ◌≤◌, Bool, true, false, not, ◌&&◌, ◌||◌, List, [], ◌∷◌, length, map, take, filter, find, Option, Some, None, cond, All, ◌==◌, if◌then◌else◌}
 use Rattle.std.specs.List.{list_any, list_all}
 use Rattle.tesla_base.specs.declared.names.Name.{Name}
-use Rattle.tesla_base.specs.Tag.{tag_bytes}
-use Rattle.tesla_buffer.specs.declared.item.Item.{Item}
+use Rattle.tesla_base.specs.declared.names.Place.{Place}
 use Rattle.tesla_buffer.specs.Held.{Held}
 use Rattle.tesla_links.specs.Lists.{is_in, Distinct}
 use Rattle.tesla_release.specs.declared.queue.Waiting.{Waiting}
 use Rattle.tesla_receiver.specs.declared.incremental.proved.Proved.{Proved}
 use Rattle.tesla_receiver.specs.declared.release.Release.{Release}
 use Rattle.tesla_receiver.specs.Held.{is_at}
+use Rattle.tesla_receiver.specs.ItemShown.{holding_in, IsItem}
 use Rattle.tesla_receiver.specs.State.{Holding}
-use Rattle.tesla_receiver.specs.Steps.{is_named_so, marked}
+use Rattle.tesla_receiver.specs.Steps.{is_named_so, marked, in_interval}
 
 -- a held packet with its place
 pub record Placed : Type 0 where
@@ -28,18 +28,6 @@ pub record Stored : Type 0 where
   pub waiting : List Release
   -- how many were given
   pub given : ℕ
-
--- what an item brought: the first bytes of its room of a payload, and its first tags
-abbrev pub holding_in : ℕ → Item → Holding
-holding_in chains item = record {
-  order = item.order;
-  name = item.name;
-  chains = item.chains;
-  payload = take item.length item.payload;
-  tags = map tag_bytes (take chains item.tags);
-  released = item.released;
-  taken = item.taken;
-}
 
 abbrev pub placed_in : ℕ → Held → Placed
 placed_in chains held = record { place = held.place; holding = holding_in chains held.item }
@@ -140,3 +128,25 @@ released_if false proved = proved ∷ []
 -- what is held once this one is settled
 abbrev pub held_then : List Placed → Proved → List Placed
 held_then held proved = settled_if (is_named held proved.release.name) held proved
+
+-- the place of the first packet
+abbrev pub first_place : List Placed → Option Place
+first_place [] = None
+first_place (x ∷ xs) = Some (record { 0 = x.place })
+
+abbrev pub is_of : ℕ → Placed → Bool
+is_of interval x = in_interval interval x.holding
+
+-- the place of the next packet of the same interval behind the one in a place
+abbrev pub next_place : ℕ → List Placed → Option Place
+next_place place [] = None
+next_place place (x ∷ xs) = cond (stands_at place x) (first_place (filter (is_of x.holding.name.interval) xs)) (next_place place xs)
+
+-- the item in a place has room for its payload, and zeros behind its tags
+abbrev pub IsItemOf : ℕ → Held → Type 0
+IsItemOf chains held = IsItem chains held.item
+
+-- what a store holds: places, and items
+pub record IsStore (capacity room chains : ℕ) (held : List Held) (waiting : List Waiting) : Type 0 where
+  pub stored : IsStored capacity room (map (placed_in chains) held) waiting
+  pub items : All (IsItemOf chains) held

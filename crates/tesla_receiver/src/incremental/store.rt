@@ -1,9 +1,11 @@
 //! The packets that are held, each in its place, and those that wait to be taken.
 
-ghost use Rattle.std.specs.Prelude.{◌≡◌, ◌+◌, ◌<◌, ◌≤◌, ◌∷◌, ◌++◌, [], true, false, IfOk, length, map, filter, find, slice_get, option_map, is_some, count_by, Some};
+ghost use Rattle.std.specs.Prelude.{◌≡◌, ◌+◌, ◌<◌, ◌≤◌, ◌∷◌, ◌++◌, [], true, false, IfOk, length, map, filter, find, slice_get, option_map, is_some, Some, All, ℕ};
 ghost use Rattle.std.specs.List.{list_any};
+ghost use Rattle.tesla_base.specs.Tag.{tag_bytes};
 ghost use Rattle.tesla_links.specs.Lists.{Distinct};
-ghost use Rattle.tesla_receiver.specs.Stored.{stands_at, rests_at, is_proved_by, with_released, without, place_of, holding_in};
+ghost use Rattle.tesla_receiver.specs.Stored.{stands_at, rests_at, is_proved_by, with_released, without, place_of, is_of, first_place, next_place};
+ghost use Rattle.tesla_receiver.specs.ItemShown.{holding_in, IsItem, IsFilled};
 ghost use Rattle.tesla_receiver.specs.Steps.{in_interval, is_named_so};
 
 use super::Proved;
@@ -24,7 +26,7 @@ pub struct Store {
 
 impl Model for Store {
     ghost use Rattle.std.specs.Prelude.{map};
-    ghost use Rattle.tesla_receiver.specs.Stored.{Stored, IsStored, placed_in, release_in};
+    ghost use Rattle.tesla_receiver.specs.Stored.{Stored, IsStore, placed_in, release_in};
 
     ghost Value = { Stored };
 
@@ -36,7 +38,7 @@ impl Model for Store {
         given = s.queue.given;
     } };
 
-    ghost invariant = { λ s. IsStored s.buffer.capacity s.queue.capacity (map (placed_in s.chains) s.buffer.held) s.queue.waiting };
+    ghost invariant = { λ s. IsStore s.buffer.capacity s.queue.capacity s.chains s.buffer.held s.queue.waiting };
 }
 
 impl Store {
@@ -74,6 +76,47 @@ impl Store {
         ensures { result ≡ list_any (λ x. is_named_so name x.holding) self.now.held }
     {
         self.buffer.released_named(name).is_some()
+    }
+
+    /// The packet in a place.
+    pub fn item(&self, place: Place) -> &Item
+        requires { list_any (stands_at place.0) self.now.held ≡ true }
+        ensures item { find (stands_at place.0) self.now.held ≡ Some (record { place = place.0; holding = holding_in self.now.chains result.now }) }
+        ensures room { IsItem self.now.chains result.now }
+    {
+        self.buffer.item(place)
+    }
+
+    /// The place of the first packet of an interval; `None` exactly where none is held.
+    pub fn first_of(&self, interval: u32) -> Option<Place>
+        ensures { result ≡ first_place (filter (is_of interval) self.now.held) }
+    {
+        self.buffer.first_of(interval)
+    }
+
+    /// The place of the next packet of the same interval as the one in a place; `None` exactly where that is the
+    /// last.
+    pub fn next_of(&self, place: Place) -> Option<Place>
+        requires { list_any (stands_at place.0) self.now.held ≡ true }
+        ensures { result ≡ next_place place.0 self.now.held }
+    {
+        self.buffer.next_of(place)
+    }
+
+    /// Holds a packet of these parts, behind the others: it isn't released.
+    pub fn put(&mut self, order: u64, name: Name, chains: u8, payload: &[u8], tags: &[WideTag])
+        requires room { length self.old.held < self.old.capacity }
+        requires payload { length payload.now ≤ 1200 }
+        requires few { length tags.now ≤ 8 }
+        requires tags { length tags.now ≡ self.old.chains }
+        requires filled { All IsFilled tags.now }
+        ensures capacity { self.new.capacity ≡ self.old.capacity }
+        ensures chains { self.new.chains ≡ self.old.chains }
+        ensures held { (place : ℕ) × (self.new.held ≡ self.old.held ++ record { place = place; holding = record { order = order; name = name; chains = chains; payload = payload.now; tags = map tag_bytes tags.now; released = false; taken = false } } ∷ []) }
+        ensures waiting { self.new.waiting ≡ self.old.waiting }
+        ensures given { self.new.given ≡ self.old.given }
+    {
+        let _place = self.buffer.put_parts(order, name, chains, payload, tags);
     }
 
     /// Releases a packet that new keys prove. It waits behind the others.
