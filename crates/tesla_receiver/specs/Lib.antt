@@ -14,3 +14,5 @@ pub mod Steps
 pub mod Walking
 pub mod ItemShown
 pub mod Offered
+pub mod Gathering
+pub mod Proved
