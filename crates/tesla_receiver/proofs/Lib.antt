@@ -23,3 +23,5 @@ pub mod Reached
 pub mod Tried
 pub mod Offering
 pub mod Raising
+pub mod Sorting
+pub mod Gathering

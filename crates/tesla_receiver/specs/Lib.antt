@@ -15,3 +15,5 @@ pub mod Stored
 pub mod Walking
 pub mod ItemShown
 pub mod Offered
+pub mod Gathering
+pub mod Proved

@@ -1,5 +1,6 @@
 //! The parts of a receiver that keeps no arrivals, and take no memory.
 
 pub mod offers;
+pub mod ordering;
 pub mod proving;
 pub mod walk;
