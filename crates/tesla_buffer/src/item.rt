@@ -1,32 +1,35 @@
-//! What is held in a place.
+//! What a buffer holds of a packet.
 
 use tesla_base::{Name, WideTag};
 
-/// A packet that waits for its key, or was released and keeps its place.
-#[derive(Clone, Copy, Debug)]
+/// A packet that is held until it is gone, with what the receiver must know of it.
+#[derive(Clone, Copy, PartialEq, Eq)]
 pub struct Item {
-    /// Its place among all arrivals, counted from 0.
+    /// The number of the packet's arrival, by which packets that are proved together are ordered.
     pub order: u64,
-    /// Its name.
+    /// The name of the message.
     pub name: Name,
-    /// The chains that were safe on arrival, with bit c set for chain c.
+    /// The key chains on which the packet was safe as it arrived, a bit for each.
     pub chains: u8,
-    /// How many bytes its payload has, at most 1,200.
+    /// How many bytes the message has.
     pub length: u16,
-    /// The room of the payload, whose bytes stand first.
+    /// The room of the message; its bytes stand first.
     pub payload: [u8; 1200],
-    /// A tag for each chain of the stream, in order.
+    /// The room of the tags; those of the packet stand first, in the order of the chains.
     pub tags: [WideTag; 8],
-    /// Whether it was released.
+    /// Whether the packet was released.
     pub released: bool,
-    /// Whether it was taken.
+    /// Whether the packet was taken.
     pub taken: bool,
 }
 
-/// What becomes of a held packet.
+/// What becomes of a packet that is held.
 #[derive(Clone, Copy, Debug, PartialEq, Eq)]
 pub enum Fate {
+    /// It is released, and stays at its place.
     Released,
+    /// It is taken, and stays at its place.
     Taken,
+    /// It is no longer held, and its place is vacant.
     Gone,
 }

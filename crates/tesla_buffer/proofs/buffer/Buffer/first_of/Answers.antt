@@ -1,0 +1,25 @@
+use Rattle.std.proofs.Common.{◌≡◌, ℕ, ◌+◌, ◌<◌, ◌≤◌, List, [], ◌∷◌, ◌++◌, length, get_or, map, true, false, not, cond, arith, ◌∙◌, sym, ap, subst, refl, Some, None, Option}
+use Rattle.std.specs.List.{filter}
+use Rattle.tesla_buffer.specs.Held.{first_place, is_of}
+use Rattle.tesla_buffer.proofs.Kept.{seen_held}
+use Rattle.tesla_buffer.proofs.Places.{first_is, of_interval, to_place}
+use Rattle.tesla_links.specs.Entries.{first_place as first_entry, is_under}
+use Rattle.tesla_buffer.proofs.buffer.Buffer.first_of.Goals as goal
+
+pub returns-in_default : goal.returns-in_default
+returns-in_default c =
+    let i = c.self.inside in
+    let h = c.self.invariant.0 in
+    let all = ap (λ hs. first_place (filter (is_of c.args.interval) hs)) (sym (seen_held i.capacity i.slots.items i.index c.args.self.now c.self.view_is)) ∙ ap first_place (of_interval i.slots.items c.args.interval i.index.entries h.keyed)
+        ∙ first_is i.slots.items (filter (is_under c.args.interval) i.index.entries) in
+    let told = c.first.ensures ∙ ap (λ k. first_entry (filter (is_under k) i.index.entries)) c.from.ensures in
+    ap to_place (sym c.in_default.is ∙ told) ∙ sym all
+
+pub returns : goal.returns
+returns c =
+    let i = c.self.inside in
+    let h = c.self.invariant.0 in
+    let all = ap (λ hs. first_place (filter (is_of c.args.interval) hs)) (sym (seen_held i.capacity i.slots.items i.index c.args.self.now c.self.view_is)) ∙ ap first_place (of_interval i.slots.items c.args.interval i.index.entries h.keyed)
+        ∙ first_is i.slots.items (filter (is_under c.args.interval) i.index.entries) in
+    let told = c.first.ensures ∙ ap (λ k. first_entry (filter (is_under k) i.index.entries)) c.from.ensures in
+    ap to_place (sym c.in-Some.is ∙ told) ∙ sym all

@@ -1,0 +1,12 @@
+use Rattle.std.proofs.Common.{◌≡◌, ℕ, ◌+◌, ◌<◌, ◌≤◌, List, [], ◌∷◌, ◌++◌, length, get_or, map, true, false, not, cond, arith, ◌∙◌, sym, ap, subst, refl, Some, None, Option}
+use Rattle.tesla_buffer.specs.Held.{Held}
+use Rattle.tesla_buffer.proofs.Kept.{seen_held}
+use Rattle.tesla_buffer.proofs.Places.{same_places}
+use Rattle.tesla_links.specs.Lists.{Distinct}
+use Rattle.tesla_buffer.proofs.buffer.Buffer.held.Goals as goal
+
+pub returns-clause-distinct : goal.returns-clause-distinct
+returns-clause-distinct c =
+    let i = c.self.inside in
+    let h = c.self.invariant.0 in
+    subst (λ ps. Distinct ps) (sym (ap (map (λ (x : Held). x.place)) (sym (seen_held i.capacity i.slots.items i.index c.args.self.now c.self.view_is)) ∙ same_places i.slots.items i.index.entries)) h.distinct

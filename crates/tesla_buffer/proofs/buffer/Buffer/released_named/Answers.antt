@@ -1,0 +1,23 @@
+use Rattle.std.proofs.Common.{◌≡◌, ℕ, ◌+◌, ◌<◌, ◌≤◌, List, [], ◌∷◌, ◌++◌, length, get_or, map, true, false, not, cond, arith, ◌∙◌, sym, ap, subst, refl, Some, None, Option}
+use Rattle.std.specs.List.{list_any}
+use Rattle.std.proofs.lemmas.Option.{MatchOption-at_none}
+use Rattle.tesla_buffer.specs.Held.{is_at, is_released_as}
+use Rattle.std.specs.Prelude.{◌&&◌, slice_get}
+use Rattle.tesla_buffer.specs.Kept.{key_of_name}
+use Rattle.tesla_buffer.proofs.Kept.{found_named, none_named, seen_held}
+use Rattle.tesla_links.specs.Slots.{has_key}
+use Rattle.tesla_buffer.proofs.buffer.Buffer.released_named.Goals as goal
+
+pub returns-in_default : goal.returns-in_default
+returns-in_default c =
+    let i = c.self.inside in
+    let h = c.self.invariant.0 in
+    ap (list_any (is_released_as c.args.name)) (sym (seen_held i.capacity i.slots.items i.index c.args.self.now c.self.view_is))
+    ∙ none_named i.capacity i.slots.items i.free.items i.index i.released c.args.name h c.key_of_name.ensures.number (ap (λ k. list_any (has_key k) i.released) (sym c.key_of_name.ensures.value) ∙ MatchOption-at_none _ _ c.in_default.is c.find.ensures)
+
+pub returns : goal.returns
+returns c =
+    let i = c.self.inside in
+    let h = c.self.invariant.0 in
+    ap (list_any (λ x. is_at c.in-Some.place x && is_released_as c.args.name x)) (sym (seen_held i.capacity i.slots.items i.index c.args.self.now c.self.view_is))
+    ∙ found_named i.capacity i.slots.items i.free.items i.index i.released c.args.name h c.key_of_name.ensures.number c.in-Some.place (c.in-Some.ensures ∙ ap (λ k. Some (Some k)) c.key_of_name.ensures.value)

@@ -1,0 +1,66 @@
+-- What a contract sees of a buffer: the packets that are held, in the order in which they came.
+use Rattle.std.specs.Prelude.{◌≡◌, ℕ, ◌==◌, Bool, true, false, not, ◌&&◌, cond, List, [], ◌∷◌, length, map, take, Option, None, Some}
+use Rattle.std.specs.List.{filter, list_any}
+use Rattle.tesla_base.specs.declared.names.Name.{Name}
+use Rattle.tesla_base.specs.declared.names.Place.{Place}
+use Rattle.tesla_base.specs.declared.names.WideTag.{WideTag}
+use Rattle.tesla_buffer.specs.declared.item.Fate.{Fate}
+use Rattle.tesla_buffer.specs.declared.item.Fate.TheVariants.{Released, Taken, Gone}
+use Rattle.tesla_buffer.specs.declared.item.Item.{Item}
+
+-- a packet and its place
+pub record Held : Type 0 where
+  pub place : ℕ
+  pub item : Item
+
+-- the packets that are held, in the order in which they came, and how many can be
+pub record Holding : Type 0 where
+  pub capacity : ℕ
+  pub held : List Held
+
+-- whether a packet is at a place
+abbrev pub is_at : ℕ → Held → Bool
+is_at place h = h.place == place
+
+-- whether a packet is at a place of those held
+abbrev pub is_live : ℕ → List Held → Bool
+is_live place held = list_any (is_at place) held
+
+-- whether a packet is of an interval
+abbrev pub is_of : ℕ → Held → Bool
+is_of interval h = h.item.name.interval == interval
+
+-- whether a packet was released under a name
+abbrev pub is_released_as : Name → Held → Bool
+is_released_as name h = h.item.released && ((h.item.name.interval == name.interval) && (h.item.name.number == name.number))
+
+-- the place of the first packet
+abbrev pub first_place : List Held → Option Place
+first_place [] = None
+first_place (h ∷ hs) = Some (record { 0 = h.place })
+
+-- the place of the next packet of the same interval behind the one at a place
+abbrev pub next_place : ℕ → List Held → Option Place
+next_place place [] = None
+next_place place (h ∷ hs) = cond (is_at place h) (first_place (filter (is_of h.item.name.interval) hs)) (next_place place hs)
+
+-- the packet at a place is changed
+abbrev pub changed : ℕ → (Item → Item) → List Held → List Held
+changed place change held = map (λ h. cond (is_at place h) (record { place = h.place; item = change h.item }) h) held
+
+-- the packets after what became of the one at a place
+abbrev pub settled : ℕ → Fate → List Held → List Held
+settled place Released held = changed place (λ item. record item { released = true }) held
+settled place Taken held = changed place (λ item. record item { taken = true }) held
+settled place Gone held = filter (λ h. not (is_at place h)) held
+
+-- an item is that of these parts: the bytes of the payload and the tags stand first
+pub record IsMadeOf (arrival : ℕ) (named : Name) (safe : ℕ) (bytes : List ℕ) (given : List WideTag) (item : Item) : Type 0 where
+  pub order : item.order ≡ arrival
+  pub name : item.name ≡ named
+  pub chains : item.chains ≡ safe
+  pub size : item.length ≡ length bytes
+  pub payload : take (length bytes) item.payload ≡ bytes
+  pub tags : take (length given) item.tags ≡ given
+  pub released : item.released ≡ false
+  pub taken : item.taken ≡ false

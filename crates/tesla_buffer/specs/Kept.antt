@@ -1,0 +1,58 @@
+-- How packets are kept: each at its place in a table of slots, an index of the places by interval, and a table of
+-- the names of those that were released.
+use Rattle.std.specs.Prelude.{◌≡◌, ℕ, ◌+◌, ◌*◌, ◌^◌, ◌<◌, ◌≤◌, Bool, true, false, ◌&&◌, cond, List, [], ◌∷◌, length, map, get_or, Option, None, Some}
+use Rattle.tesla_base.specs.declared.names.Name.{Name}
+use Rattle.tesla_buffer.specs.Held.{Held}
+use Rattle.tesla_buffer.specs.declared.item.Item.{Item}
+use Rattle.tesla_links.specs.Entries.{Entries, Entry}
+use Rattle.tesla_links.specs.Lists.{Distinct, is_in}
+
+-- an item that stands for none
+abbrev pub no_item : Item
+no_item = record { order = 0; name = record { interval = 0; number = 0 }; chains = 0; length = 0; payload = []; tags = []; released = false; taken = false }
+
+-- the item of a slot
+abbrev pub item_at : List Item → ℕ → Item
+item_at slots place = get_or slots place no_item
+
+-- the packet of an entry
+abbrev pub held_at : List Item → Entry → Held
+held_at slots e = record { place = e.place; item = item_at slots e.place }
+
+-- the places of entries
+abbrev pub places_of : List Entry → List ℕ
+places_of entries = map (λ e. e.place) entries
+
+-- the number that stands for a name
+abbrev pub key_of_name : Name → ℕ
+key_of_name name = name.interval * 2 ^ 32 + name.number
+
+-- each entry has the interval of its packet as its key
+abbrev pub Keyed : List Item → List Entry → Type 0
+Keyed slots [] = Unit {0}
+Keyed slots (e ∷ es) = (e.key ≡ (item_at slots e.place).name.interval) × Keyed slots es
+
+-- the name under which a place stands in the table of released packets: that of its packet, where it is held and
+-- was released
+abbrev pub released_key : List Item → List Entry → ℕ → Option ℕ
+released_key slots entries place = cond (is_in place (places_of entries) && (item_at slots place).released) (Some (key_of_name (item_at slots place).name)) None
+
+-- an item that was released has a number that fits into 16 bits
+abbrev pub IsNumbered : Item → Type 0
+IsNumbered item = item.released ≡ true → item.name.number < 2 ^ 16
+
+-- the slots that were used are those of packets that are held and the free ones
+pub record IsKept (capacity : ℕ) (slots : List Item) (free : List ℕ) (index : Entries) (released : List (Option ℕ)) : Type 0 where
+  pub some : 1 ≤ capacity
+  pub most : capacity ≤ 65536
+  pub room : index.capacity ≡ capacity
+  pub slots_within : length slots ≤ capacity
+  pub counted : length index.entries + length free ≡ length slots
+  pub live : (p : ℕ) → is_in p (places_of index.entries) ≡ true → p < length slots
+  pub vacant : (p : ℕ) → is_in p free ≡ true → (p < length slots) × (is_in p (places_of index.entries) ≡ false)
+  pub distinct : Distinct (places_of index.entries)
+  pub distinct_free : Distinct free
+  pub keyed : Keyed slots index.entries
+  pub small : (p : ℕ) → IsNumbered (item_at slots p)
+  pub names : length released ≡ capacity
+  pub named : (p : ℕ) → get_or released p None ≡ released_key slots index.entries p

@@ -1,0 +1,213 @@
+//! The buffer of a receiver.
+
+ghost use Rattle.std.specs.Prelude.{◌≡◌, ◌<◌, ◌≤◌, [], ◌∷◌, ◌++◌, ◌&&◌, false, true, not, length, map, IfOk, MatchOption};
+ghost use Rattle.std.specs.List.{filter, find, list_any};
+ghost use Rattle.tesla_links.specs.Lists.{Distinct, is_in};
+ghost use Rattle.tesla_buffer.specs.Held.{Held, IsMadeOf, changed, first_place, is_at, is_live, is_of, is_released_as, next_place, settled};
+
+use crate::parts::{key_of_name, vacant_slot, write_parts};
+use crate::{Fate, Item};
+use std::alloc::Global;
+use std::marker::Model;
+use tesla_base::{Name, NoMemory, Place, WideTag};
+use tesla_links::{Index, KeyTable};
+
+/// Packets that are held, each at a place that it keeps until it is gone, in the order in which they came.
+///
+/// The packets of an interval are found by it, and a released packet by its name. No call goes over packets,
+/// whatever is held. A place that was never used is never touched, and the place that became vacant last is the
+/// first to be used again.
+#[derive(Drop)]
+pub struct Buffer {
+    capacity: u32,
+    slots: Vec<Item>,
+    free: Vec<u32>,
+    index: Index,
+    released: KeyTable,
+}
+
+impl Model for Buffer {
+    ghost use Rattle.std.specs.Prelude.{◌≤◌, map};
+    ghost use Rattle.std.specs.Vec.{vec_capacity};
+    ghost use Rattle.tesla_buffer.specs.Held.{Holding};
+    ghost use Rattle.tesla_buffer.specs.Kept.{IsKept, held_at};
+
+    ghost Value = { Holding };
+
+    ghost view = { λ b. record { capacity = b.capacity; held = map (held_at b.slots.items) b.index.entries } };
+
+    ghost invariant = { λ b. IsKept b.capacity b.slots.items b.free.items b.index b.released × (b.capacity ≤ vec_capacity b.slots) × (b.capacity ≤ vec_capacity b.free) };
+}
+
+impl Buffer {
+    /// A buffer that can hold so many packets and holds none. All memory is taken here.
+    pub fn open(alloc: Global, capacity: u32) -> Result<Buffer, NoMemory>
+        requires some { 1 ≤ capacity }
+        requires most { capacity ≤ 65536 }
+        ensures { IfOk result (λ b. b ≡ record { capacity = capacity; held = [] }) }
+    {
+        Ok(Buffer {
+            capacity,
+            slots: Vec::with_capacity(alloc, capacity as usize)?,
+            free: Vec::with_capacity(alloc, capacity as usize)?,
+            index: Index::open(alloc, capacity)?,
+            released: KeyTable::open(alloc, capacity)?,
+        })
+    }
+
+    /// Holds a packet, behind the others, at a vacant place. It takes no memory.
+    pub fn put(&mut self, item: &Item) -> Place
+        requires { length self.old.held < self.old.capacity }
+        ensures held { self.new.held ≡ self.old.held ++ record { place = result.0; item = item.now } ∷ [] }
+        ensures vacant { is_live result.0 self.old.held ≡ false }
+        ensures within { result.0 < self.old.capacity }
+        ensures capacity { self.new.capacity ≡ self.old.capacity }
+    {
+        let place = vacant_slot(&mut self.slots, &mut self.free);
+        self.slots[place as usize] = *item;
+        self.index.append(u64::from(item.name.interval), place);
+        if item.released {
+            self.released.enter(place, key_of_name(item.name));
+        }
+        Place(place)
+    }
+
+    /// Holds the packet of these parts, behind the others, at a vacant place: not released and not taken. The
+    /// payload has at most 1,200 bytes, and there are at most 8 tags. Only what is there is copied; the bytes
+    /// behind the payload and the tags behind those given are left as they were. It takes no memory.
+    pub fn put_parts(
+        &mut self,
+        order: u64,
+        name: Name,
+        chains: u8,
+        payload: &[u8],
+        tags: &[WideTag],
+    ) -> Place
+        requires room { length self.old.held < self.old.capacity }
+        requires payload { length payload.now ≤ 1200 }
+        requires tags { length tags.now ≤ 8 }
+        ensures held { (item : Item) × IsMadeOf order name chains payload.now tags.now item × (self.new.held ≡ self.old.held ++ record { place = result.0; item = item } ∷ []) }
+        ensures vacant { is_live result.0 self.old.held ≡ false }
+        ensures within { result.0 < self.old.capacity }
+        ensures capacity { self.new.capacity ≡ self.old.capacity }
+    {
+        let place = vacant_slot(&mut self.slots, &mut self.free);
+        write_parts(&mut self.slots[place as usize], order, name, chains, payload, tags);
+        self.index.append(u64::from(name.interval), place);
+        Place(place)
+    }
+
+    /// How many packets are held. Their places differ and are below the capacity.
+    pub fn held(&self) -> u32
+        ensures held { result ≡ length self.now.held }
+        ensures within { result ≤ self.now.capacity }
+        ensures distinct { Distinct (map (λ h. h.place) self.now.held) }
+    {
+        self.index.len()
+    }
+
+    /// How many packets can be held.
+    pub fn capacity(&self) -> u32
+        ensures { result ≡ self.now.capacity }
+    {
+        self.capacity
+    }
+
+    /// How many packets of an interval are held.
+    pub fn held_in(&self, interval: u32) -> u32
+        ensures { result ≡ length (filter (is_of interval) self.now.held) }
+    {
+        self.index.count(u64::from(interval))
+    }
+
+    /// The packet at a place.
+    pub fn item(&self, place: Place) -> &Item
+        requires { is_live place.0 self.now.held ≡ true }
+        ensures item { find (is_at place.0) self.now.held ≡ Some (record { place = place.0; item = result.now }) }
+        ensures within { place.0 < self.now.capacity }
+    {
+        &self.slots[place.0 as usize]
+    }
+
+    /// The place of the first packet of an interval; `None` exactly where none is held.
+    pub fn first_of(&self, interval: u32) -> Option<Place>
+        ensures { result ≡ first_place (filter (is_of interval) self.now.held) }
+    {
+        let Some(place) = self.index.first(u64::from(interval)) else {
+            return None;
+        };
+        Some(Place(place))
+    }
+
+    /// The place of the next packet of the same interval as the one at a place; `None` exactly where that is the
+    /// last.
+    pub fn next_of(&self, place: Place) -> Option<Place>
+        requires { is_live place.0 self.now.held ≡ true }
+        ensures { result ≡ next_place place.0 self.now.held }
+    {
+        let Some(next) = self.index.next(place.0) else {
+            return None;
+        };
+        Some(Place(next))
+    }
+
+    /// The place of a packet of this name that was released; `None` exactly where none is held. Where there are
+    /// several, it is any of them.
+    pub fn released_named(&self, name: Name) -> Option<Place>
+        ensures { MatchOption result (list_any (is_released_as name) self.now.held ≡ false) (λ p. list_any (λ h. is_at p.0 h && is_released_as name h) self.now.held ≡ true) }
+    {
+        let Some(place) = self.released.find(key_of_name(name)) else {
+            return None;
+        };
+        Some(Place(place))
+    }
+
+    /// Marks the packet at a place as released.
+    fn mark_released(&mut self, place: u32)
+        requires { is_live place self.old.held ≡ true }
+        ensures held { self.new.held ≡ settled place Fate.Released self.old.held }
+        ensures capacity { self.new.capacity ≡ self.old.capacity }
+    {
+        let item = &mut self.slots[place as usize];
+        item.released = true;
+        let name = item.name;
+        self.released.enter(place, key_of_name(name));
+    }
+
+    /// Marks the packet at a place as taken.
+    fn mark_taken(&mut self, place: u32)
+        requires { is_live place self.old.held ≡ true }
+        ensures held { self.new.held ≡ settled place Fate.Taken self.old.held }
+        ensures capacity { self.new.capacity ≡ self.old.capacity }
+    {
+        let item = &mut self.slots[place as usize];
+        item.taken = true;
+    }
+
+    /// Holds the packet at a place no longer.
+    fn let_go(&mut self, place: u32)
+        requires { is_live place self.old.held ≡ true }
+        ensures held { self.new.held ≡ settled place Fate.Gone self.old.held }
+        ensures capacity { self.new.capacity ≡ self.old.capacity }
+    {
+        self.index.remove(place);
+        self.released.clear(place);
+        if self.free.push(place).is_err() {
+            unreachable!()
+        }
+    }
+
+    /// Settles what becomes of the packet at a place: it is marked as released or as taken, or is held no longer.
+    /// All others stay as they are, in order. It takes no memory.
+    pub fn settle(&mut self, place: Place, fate: Fate)
+        requires { is_live place.0 self.old.held ≡ true }
+        ensures held { self.new.held ≡ settled place.0 fate self.old.held }
+        ensures capacity { self.new.capacity ≡ self.old.capacity }
+    {
+        match fate {
+            Fate::Released => self.mark_released(place.0),
+            Fate::Taken => self.mark_taken(place.0),
+            Fate::Gone => self.let_go(place.0),
+        }
+    }
+}

@@ -1,0 +1,85 @@
+//! The parts of a buffer: its slots, and what stands in one.
+
+ghost use Rattle.std.specs.Prelude.{◌≡◌, ◌+◌, ◌*◌, ◌^◌, ◌<◌, ◌≤◌, ◌⊎◌, [], ◌∷◌, ◌++◌, false, length, vec_len};
+ghost use Rattle.std.specs.Vec.{vec_capacity};
+ghost use Rattle.tesla_buffer.specs.Held.{IsMadeOf};
+ghost use Rattle.tesla_buffer.specs.Kept.{key_of_name};
+
+use crate::Item;
+use tesla_base::{Name, WideTag};
+
+/// An item of which nothing is said.
+const EMPTY: Item = Item {
+    order: 0,
+    name: Name {
+        interval: 0,
+        number: 0,
+    },
+    chains: 0,
+    length: 0,
+    payload: [0; 1200],
+    tags: [WideTag {
+        bytes: [0; 32],
+        length: 0,
+    }; 8],
+    released: false,
+    taken: false,
+};
+
+/// The number that stands for a name.
+pub fn key_of_name(name: Name) -> u64
+    ensures value { result ≡ key_of_name name }
+    ensures number { name.number < 2 ^ 16 }
+{
+    u64::from(name.interval) * 0x1_0000_0000 + u64::from(name.number)
+}
+
+/// One more slot, where there is room for it.
+fn grow(slots: &mut Vec<Item>)
+    requires { vec_len slots.old < vec_capacity slots.old }
+    ensures slots { slots.new.items ≡ slots.old.items ++ EMPTY ∷ [] }
+    ensures capacity { vec_capacity slots.old ≤ vec_capacity slots.new }
+{
+    if slots.push(EMPTY).is_err() {
+        unreachable!()
+    }
+}
+
+/// A slot that isn't in use: the free one that was given back last, or else a new one.
+pub fn vacant_slot(slots: &mut Vec<Item>, free: &mut Vec<u32>) -> u32
+    requires room { free.old.items ≡ [] → vec_len slots.old < vec_capacity slots.old }
+    requires few { vec_len slots.old < 2 ^ 32 }
+    ensures slot { ((free.old.items ≡ free.new.items ++ result ∷ []) × (slots.new.items ≡ slots.old.items)) ⊎ ((free.old.items ≡ []) × (free.new.items ≡ []) × (result ≡ length slots.old.items) × (slots.new.items ≡ slots.old.items ++ EMPTY ∷ [])) }
+    ensures slots_capacity { vec_capacity slots.old ≤ vec_capacity slots.new }
+    ensures free_capacity { vec_capacity free.new ≡ vec_capacity free.old }
+{
+    if let Some(place) = free.pop() {
+        return place;
+    }
+    let place = slots.len() as u32;
+    grow(slots);
+    place
+}
+
+/// Writes the item of these parts over another. Only the bytes and the tags that are there are copied.
+pub fn write_parts(
+    item: &mut Item,
+    order: u64,
+    name: Name,
+    chains: u8,
+    payload: &[u8],
+    tags: &[WideTag],
+)
+    requires payload { length payload.now ≤ 1200 }
+    requires tags { length tags.now ≤ 8 }
+    ensures { IsMadeOf order name chains payload.now tags.now item.new }
+{
+    item.order = order;
+    item.name = name;
+    item.chains = chains;
+    item.length = payload.len() as u16;
+    item.payload[..payload.len()].copy_from_slice(payload);
+    item.tags[..tags.len()].copy_from_slice(tags);
+    item.released = false;
+    item.taken = false;
+}
