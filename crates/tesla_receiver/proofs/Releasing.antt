@@ -11,7 +11,7 @@ use Rattle.std.specs.Prelude.{if◌then◌else◌}
 use Rattle.tesla_base.specs.declared.names.Name.{Name}
 use Rattle.tesla_base.proofs.Lists.{list_all_weaker}
 use Rattle.tesla_links.specs.Lists.{is_in, Distinct}
-use Rattle.tesla_receiver.specs.declared.incremental.proved.Proved.{Proved}
+use Rattle.tesla_receiver.specs.declared.keeping.ordering.Proved.{Proved}
 use Rattle.tesla_receiver.specs.declared.release.Release.{Release}
 use Rattle.tesla_receiver.specs.Held.{is_at}
 use Rattle.tesla_receiver.specs.Keys.{each_after}

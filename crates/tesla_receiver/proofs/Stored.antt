@@ -15,7 +15,7 @@ use Rattle.tesla_buffer.specs.Held.{Held, changed, IsMadeOf}
 use Rattle.tesla_buffer.specs.Held as buffer
 use Rattle.tesla_links.specs.Lists.{is_in, Distinct}
 use Rattle.tesla_release.specs.declared.queue.Waiting.{Waiting}
-use Rattle.tesla_receiver.specs.declared.incremental.proved.Proved.{Proved}
+use Rattle.tesla_receiver.specs.declared.keeping.ordering.Proved.{Proved}
 use Rattle.tesla_receiver.specs.declared.release.Release.{Release}
 use Rattle.tesla_receiver.specs.ItemShown.{holding_in, IsItem, IsFilled}
 use Rattle.tesla_receiver.specs.State.{Holding}

@@ -1,17 +1,22 @@
 -- What contracts see of the packets that have a place, and of those that wait to be taken.
-use Rattle.std.specs.Prelude.{◌≡◌, ℕ, ◌≤◌, Bool, true, false, not, ◌&&◌, ◌||◌, List, [], ◌∷◌, length, map, take, filter, find, Option, Some, None, cond, All, ◌==◌, if◌then◌else◌}
+use Rattle.std.specs.Prelude.{◌≡◌, ℕ, ◌≤◌, Bool, true, false, not, ◌&&◌, ◌||◌, List, [], ◌∷◌, length, map, take, filter, find, Option, Some, None, cond, All, nat_lt, nat_le, drop, flat_map, min, ◌+◌, ◌-◌, ◌^◌, ◌==◌, if◌then◌else◌}
 use Rattle.std.specs.List.{list_any, list_all}
 use Rattle.tesla_base.specs.declared.names.Name.{Name}
 use Rattle.tesla_base.specs.declared.names.Place.{Place}
 use Rattle.tesla_buffer.specs.Held.{Held}
 use Rattle.tesla_links.specs.Lists.{is_in, Distinct}
 use Rattle.tesla_release.specs.declared.queue.Waiting.{Waiting}
-use Rattle.tesla_receiver.specs.declared.incremental.proved.Proved.{Proved}
+use Rattle.tesla_receiver.specs.declared.keeping.ordering.Proved.{Proved}
 use Rattle.tesla_receiver.specs.declared.release.Release.{Release}
+use Rattle.tesla_capture.specs.declared.release.Head.{Head}
+use Rattle.tesla_keys.specs.Tip.{Tip}
+use Rattle.tesla_receiver.specs.declared.config.Config.{Config}
+use Rattle.tesla_receiver.specs.Config.{chains}
 use Rattle.tesla_receiver.specs.Held.{is_at}
+use Rattle.tesla_receiver.specs.History.{head_of}
 use Rattle.tesla_receiver.specs.ItemShown.{holding_in, IsItem}
 use Rattle.tesla_receiver.specs.State.{Holding}
-use Rattle.tesla_receiver.specs.Steps.{is_named_so, marked, in_interval}
+use Rattle.tesla_receiver.specs.Steps.{is_named_so, is_let_go, is_passed, marked, in_interval}
 
 -- a held packet with its place
 pub record Placed : Type 0 where
@@ -150,3 +155,30 @@ IsItemOf chains held = IsItem chains held.item
 pub record IsStore (capacity room chains : ℕ) (held : List Held) (waiting : List Waiting) : Type 0 where
   pub stored : IsStored capacity room (map (placed_in chains) held) waiting
   pub items : All (IsItemOf chains) held
+
+-- the packet isn't needed any more: no key can prove it and it isn't released, or it was taken and all chains have passed it
+abbrev pub is_idle : Config → List Tip → Placed → Bool
+is_idle cfg tips x = is_let_go cfg tips [] x.holding
+
+-- the packet's interval is above the one and not above the other
+abbrev pub in_span : ℕ → ℕ → Placed → Bool
+in_span low high x = nat_lt low x.holding.name.interval && nat_le x.holding.name.interval high
+
+-- a packet after the one of that number was taken
+abbrev pub after_take : Config → List Tip → ℕ → Placed → List Placed
+after_take cfg tips order x =
+    if x.holding.order == order
+    then (if list_all (is_passed tips x.holding.name.interval) (chains cfg) then [] else record x { holding = record x.holding { taken = true } } ∷ [])
+    else x ∷ []
+
+-- a take gave this head of the packet that waited first, whose payload is at the front of the bytes now
+pub record IsGiven (cfg : Config) (tips : List Tip) (position : ℕ) (old new : Stored) (head : Head) (before after : List ℕ) : Type 0 where
+  pub packet : Placed
+  pub found : find (λ x. x.holding.order == packet.holding.order) old.held ≡ Some packet
+  pub chain : ℕ
+  pub first : old.waiting ≡ release_by chain (Some packet) ∷ new.waiting
+  pub head_is : head ≡ head_of position (release_by chain (Some packet)) packet.holding.payload
+  pub payload : take head.length after ≡ packet.holding.payload
+  pub behind : (head.length ≤ 1200) × (drop head.length after ≡ drop head.length before)
+  pub held : new.held ≡ flat_map (after_take cfg tips packet.holding.order) old.held
+  pub given : new.given ≡ min (old.given + 1) (2 ^ 64 - 1)

@@ -1,8 +1,9 @@
 //! The receiver that keeps only what later events need.
 
-mod proved;
+mod passing;
 mod releasing;
 mod store;
+mod taking;
 
-pub use proved::Proved;
+
 pub use store::Store;

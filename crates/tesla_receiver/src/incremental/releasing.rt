@@ -6,7 +6,8 @@ ghost use Rattle.tesla_links.specs.Lists.{Distinct};
 ghost use Rattle.tesla_receiver.specs.Steps.{released_of};
 ghost use Rattle.tesla_receiver.specs.Stored.{is_proved_by, held_then, released_if, is_named, release_of, AreProved, place_of, order_of, holding_at, place_proved, after_batch};
 
-use super::{Proved, Store};
+use super::Store;
+use crate::keeping::ordering::Proved;
 
 impl Store {
     // Releases a packet that new keys prove, or lets it go where one of its name was released.

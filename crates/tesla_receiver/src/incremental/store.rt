@@ -8,7 +8,7 @@ ghost use Rattle.tesla_receiver.specs.Stored.{stands_at, rests_at, is_proved_by,
 ghost use Rattle.tesla_receiver.specs.ItemShown.{holding_in, IsItem, IsFilled};
 ghost use Rattle.tesla_receiver.specs.Steps.{in_interval, is_named_so};
 
-use super::Proved;
+use crate::keeping::ordering::Proved;
 use std::alloc::Global;
 use std::marker::Model;
 use tesla_base::{Name, NoMemory, Place, WideTag};
@@ -19,8 +19,8 @@ use tesla_release::{Queue, Waiting};
 /// taken when it is opened.
 #[derive(Drop)]
 pub struct Store {
-    buffer: Buffer,
-    queue: Queue,
+    pub(super) buffer: Buffer,
+    pub(super) queue: Queue,
     chains: u8,
 }
 

@@ -1,7 +1,7 @@
 use Rattle.std.proofs.Common.{◌≡◌, ap, ◌∙◌}
 use Rattle.std.proofs.lemmas.List.{get_or_default}
 use Rattle.tesla_receiver.specs.Stored.{Stored, release_of}
-use Rattle.tesla_receiver.specs.declared.incremental.proved.Proved.{Proved}
+use Rattle.tesla_receiver.specs.declared.keeping.ordering.Proved.{Proved}
 use Rattle.std.proofs.Common.{get_or, ◌++◌, map, arith, refl, List}
 use Rattle.tesla_receiver.proofs.Releasing.{Settling, next_proved, settling_none, settling_more, settling_all, held_all_is, waiting_all}
 use Rattle.tesla_receiver.proofs.incremental.store.Store.release_all.Goals as goal
