@@ -26,3 +26,4 @@ pub mod Raising
 pub mod Sorting
 pub mod Gathering
 pub mod Sweeping
+pub mod Taken

@@ -75,7 +75,7 @@ other_place : (p q : ℕ) → (q == p) ≡ false → (x : Placed) → not (stand
 other_place p q other x h =
     ne_eqb x.place q (λ e. both_ways (q == p) other (eq-eqb q p (sym e ∙ eqb-true x.place p (not-false (x.place == p) h))))
 
-shorter : (p : ℕ) (held : List Placed) → length (without p held) ≤ length held
+pub shorter : (p : ℕ) (held : List Placed) → length (without p held) ≤ length held
 shorter p [] = omega arith
 shorter p (x ∷ xs) =
     let rest = shorter p xs in
@@ -172,7 +172,7 @@ released_shown chains p held =
 
 -- ---- the invariant, through each change
 
-live_kept : (p : ℕ) (held : List Placed) (waiting : List Waiting) → is_in p (map place_in waiting) ≡ false → list_all (λ entry. list_any (waits_at entry.place.0) held) waiting ≡ true → list_all (λ entry. list_any (waits_at entry.place.0) (without p held)) waiting ≡ true
+pub live_kept : (p : ℕ) (held : List Placed) (waiting : List Waiting) → is_in p (map place_in waiting) ≡ false → list_all (λ entry. list_any (waits_at entry.place.0) held) waiting ≡ true → list_all (λ entry. list_any (waits_at entry.place.0) (without p held)) waiting ≡ true
 live_kept p held [] none h = refl
 live_kept p held (w ∷ ws) none h =
     let first : (w.place.0 == p) ≡ false = false_from_ne_true (w.place.0 == p) (λ e. both_ways (is_in p (map place_in (w ∷ ws))) none (or_left (w.place.0 == p) (is_in p (map place_in ws)) e)) in
@@ -263,7 +263,7 @@ map-append_places : (waiting : List Waiting) (w : Waiting) → map place_in (wai
 map-append_places [] w = refl
 map-append_places (x ∷ xs) w = ap (λ ys. x.place.0 ∷ ys) (map-append_places xs w)
 
-length-marked : (m : Placed → Placed) (held : List Placed) → length (map m held) ≡ length held
+pub length-marked : (m : Placed → Placed) (held : List Placed) → length (map m held) ≡ length held
 length-marked m [] = refl
 length-marked m (x ∷ xs) = let rest = length-marked m xs in omega arith
 

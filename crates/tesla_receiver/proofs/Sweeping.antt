@@ -54,14 +54,14 @@ more_past : (x y : Placed) (b : Bool) (s t : List Placed) → (x.place == y.plac
 more_past x y true s t none h = ap (λ r. x ∷ r) h ∙ sym (ap (λ u. cond (not u) (x ∷ without y.place s) (without y.place s)) none)
 more_past x y false s t none h = ap (λ r. x ∷ r) h
 
-none_without : (p : ℕ) (held : List Placed) → is_in p (map place_of held) ≡ false → without p held ≡ held
+pub none_without : (p : ℕ) (held : List Placed) → is_in p (map place_of held) ≡ false → without p held ≡ held
 none_without p [] h = refl
 none_without p (x ∷ xs) h =
     let first : (x.place == p) ≡ false = false_from_ne_true (x.place == p) (λ e. both_ways (is_in p (map place_of (x ∷ xs))) h (or_left (x.place == p) (is_in p (map place_of xs)) e)) in
     let rest : is_in p (map place_of xs) ≡ false = sym (ap (λ t. t || is_in p (map place_of xs)) first) ∙ h in
     ap (λ t. cond (not t) (x ∷ without p xs) (without p xs)) first ∙ ap (λ r. x ∷ r) (none_without p xs rest)
 
-head_other : (n x : ℕ) (xs : List ℕ) → is_in x xs ≡ false → is_in n xs ≡ true → (x == n) ≡ false
+pub head_other : (n x : ℕ) (xs : List ℕ) → is_in x xs ≡ false → is_in n xs ≡ true → (x == n) ≡ false
 head_other n x xs none there = false_from_ne_true (x == n) (λ e. both_ways (is_in x xs) none (ap (λ (k : ℕ). is_in k xs) (eqb-true x n e) ∙ there))
 
 -- the first of the interval stands at the head

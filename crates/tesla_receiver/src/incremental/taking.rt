@@ -1,11 +1,11 @@
 //! The next released packet is taken.
 
-ghost use Rattle.std.specs.Prelude.{◌≡◌, ℕ, ◌+◌, ◌<◌, ◌≤◌, [], ◌∷◌, List, length, map, take, drop, flat_map, MatchOption};
+ghost use Rattle.std.specs.Prelude.{◌≡◌, ◌≤◌, [], length, map, take, drop, MatchOption, if◌then◌else◌};
+ghost use Rattle.std.specs.List.{list_all};
 ghost use Rattle.tesla_links.specs.Lists.{Distinct};
-ghost use Rattle.tesla_release.specs.Released.{given_after};
-ghost use Rattle.tesla_receiver.specs.declared.release.Release.{Release};
-ghost use Rattle.tesla_receiver.specs.History.{head_of};
-ghost use Rattle.tesla_receiver.specs.Stored.{Placed, place_of, order_of, IsGiven};
+ghost use Rattle.tesla_receiver.specs.Config.{chains};
+ghost use Rattle.tesla_receiver.specs.Steps.{is_passed};
+ghost use Rattle.tesla_receiver.specs.Stored.{order_of, IsGiven};
 
 use super::Store;
 use super::passing::all_passed;
@@ -33,6 +33,18 @@ fn give(item: &Item, chain: u8, position: u64, into: &mut [u8; 1200]) -> Head
     }
 }
 
+// What becomes of a packet of the interval that is taken: it is let go where all chains have passed it.
+fn fate_of(config: &Config, tips: &[Verifier], interval: u32) -> Fate
+    requires { length tips.now ≡ length config.now.setup.rows }
+    ensures { result ≡ (if list_all (is_passed tips.now interval) (chains config.now) then Fate.Gone else Fate.Taken) }
+{
+    if all_passed(config, tips, interval) {
+        Fate::Gone
+    } else {
+        Fate::Taken
+    }
+}
+
 impl Store {
     /// Gives the packet that waits first, the one with so many given before it, and marks it as taken; it is let go
     /// where all chains have passed it. Its payload is then at the front of the buffer; the rest of the buffer stays
@@ -57,11 +69,7 @@ impl Store {
         };
         let item = self.buffer.item(waiting.place);
         let head = give(item, waiting.chain, position, into);
-        let fate = if all_passed(config, tips, item.name.interval) {
-            Fate::Gone
-        } else {
-            Fate::Taken
-        };
+        let fate = fate_of(config, tips, item.name.interval);
         self.buffer.settle(waiting.place, fate);
         Some(head)
     }
