@@ -22,3 +22,4 @@ pub mod Offering
 pub mod Raising
 pub mod Sorting
 pub mod Gathering
+pub mod CarriedRise

@@ -3,4 +3,5 @@
 pub mod offers;
 pub mod ordering;
 pub mod proving;
+pub mod rows;
 pub mod walk;
