@@ -12,7 +12,7 @@ use Rattle.tesla_receiver.specs.Config.{chain_row}
 use Rattle.tesla_receiver.specs.Keys.{carried}
 
 -- the keys of rows that are numbered from n on
-abbrev keys_from : Config → ℕ → ℕ → List TagRow → List KeyRow
+abbrev pub keys_from : Config → ℕ → ℕ → List TagRow → List KeyRow
 keys_from cfg interval n rows = flat_map (λ (p : ℕ × TagRow). carried cfg interval p.0 p.1.key) (enumerate_from n rows)
 
 none_or_one : (early : Bool) (row : KeyRow) → (cond early [] (row ∷ []) ≡ []) ⊎ (cond early [] (row ∷ []) ≡ row ∷ [])
@@ -20,14 +20,14 @@ none_or_one true row = inl refl
 none_or_one false row = inr refl
 
 -- a row carries no key, or one of its chain
-carries : (cfg : Config) (interval chain : ℕ) (key : Option Key) → (carried cfg interval chain key ≡ []) ⊎ ((row : KeyRow) × (carried cfg interval chain key ≡ row ∷ []) × (row.chain.0 ≡ chain))
+pub carries : (cfg : Config) (interval chain : ℕ) (key : Option Key) → (carried cfg interval chain key ≡ []) ⊎ ((row : KeyRow) × (carried cfg interval chain key ≡ row ∷ []) × (row.chain.0 ≡ chain))
 carries cfg interval chain None = inl refl
 carries cfg interval chain (Some key) =
     let row : KeyRow = record { chain = record { 0 = chain }; index = interval - (chain_row cfg chain).delay; key = key } in
     elim (none_or_one (nat_lt interval (chain_row cfg chain).delay) row) [ inl e ↦ inl e | inr e ↦ inr (row, e, refl) ]
 
 -- a row before those whose chains are greater
-rise_cons : (row : KeyRow) (rows : List KeyRow) → All (λ r. row.chain.0 < r.chain.0) rows → ChainsRise rows → ChainsRise (row ∷ rows)
+pub rise_cons : (row : KeyRow) (rows : List KeyRow) → All (λ r. row.chain.0 < r.chain.0) rows → ChainsRise rows → ChainsRise (row ∷ rows)
 rise_cons row [] above rise = tt
 rise_cons row (next ∷ rows) above rise = (above 0 row (omega arith), rise)
 

@@ -23,3 +23,5 @@ pub mod Raising
 pub mod Sorting
 pub mod Gathering
 pub mod CarriedRise
+pub mod Beginning
+pub mod SafeTips

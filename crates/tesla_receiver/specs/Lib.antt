@@ -16,3 +16,5 @@ pub mod ItemShown
 pub mod Offered
 pub mod Gathering
 pub mod Proved
+pub mod Unfit
+pub mod Counting
