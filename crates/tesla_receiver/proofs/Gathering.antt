@@ -5,7 +5,8 @@ use Rattle.std.specs.List.{All, list_any, range_with_len}
 use Rattle.std.specs.List.Sorted.{IsPermutation}
 use Rattle.std.proofs.lemmas.Bool.{cases_Bool, eqb-true, ne_eqb}
 use Rattle.std.proofs.lemmas.Bool.Decides.{nat_tests}
-use Rattle.std.proofs.lemmas.List.{get_or-map, length-map, take_more}
+use Rattle.std.proofs.lemmas.List.{append-nil, get_or-map, length-map, take_all, take_more}
+use Rattle.std.proofs.lemmas.List.Concat.{flat_map-append}
 use Rattle.std.proofs.lemmas.List.Sums.{fold-append}
 use Rattle.std.proofs.lemmas.List.Elements.{All-append, All-cons, All-head, All-nil, All-tail}
 use Rattle.std.proofs.lemmas.List.Sorted.{IsPermutation-append_comm, IsPermutation-append_left, IsPermutation-append_right, IsPermutation-refl, IsPermutation-sym, IsPermutation-trans}
@@ -109,6 +110,30 @@ module _ {A : Type 0} (f : Holding → List A) (held : List Holding) (low : ℕ)
   pub gathers_all : (count : ℕ) → ((item : Holding) → is_between low (low + count) item ≡ false → f item ≡ []) → IsPermutation (flat_map f held) (gathered f held low count)
   gathers_all count skip =
       subst (λ (l : List A). IsPermutation l (gathered f held low count)) (only_those f (is_between low (low + count)) skip held) (gathers count)
+
+-- ---- one interval after another
+
+pub length-down_to : (low count : ℕ) → length (down_to low count) ≡ count
+length-down_to low zero = refl
+length-down_to low (suc count) = omega (arith, length-down_to low count)
+
+-- the interval at a place
+pub down_to_at : (low count k d : ℕ) → k < count → get_or (down_to low count) k d ≡ low + count - k
+down_to_at low zero k d h = absurd (omega arith)
+down_to_at low (suc count) zero d h = omega arith
+down_to_at low (suc count) (suc k) d h = down_to_at low count k d (omega arith) ∙ omega arith
+
+-- what is gathered so far, with the interval at place k
+pub gathered_more : {A : Type 0} (f : Holding → List A) (held : List Holding) (low count k : ℕ) → k < count → flat_map (in_turn f held) (take (k + 1) (down_to low count)) ≡ flat_map (in_turn f held) (take k (down_to low count)) ++ in_turn f held (low + count - k)
+gathered_more {A = A} f held low count k h =
+    let inside : k < length (down_to low count) = omega (arith, length-down_to low count) in
+    ap (flat_map (in_turn f held)) (take_more (down_to low count) k 0 inside ∙ ap (λ i. take k (down_to low count) ++ i ∷ []) (down_to_at low count k 0 h))
+    ∙ flat_map-append (in_turn f held) (take k (down_to low count)) ((low + count - k) ∷ [])
+    ∙ ap (λ (l : List A). flat_map (in_turn f held) (take k (down_to low count)) ++ l) (append-nil (in_turn f held (low + count - k)))
+
+-- all is gathered where no interval is left
+pub gathered_whole : {A : Type 0} (f : Holding → List A) (held : List Holding) (low count k : ℕ) → count ≤ k → flat_map (in_turn f held) (take k (down_to low count)) ≡ gathered f held low count
+gathered_whole f held low count k h = ap (flat_map (in_turn f held)) (take_all k (down_to low count) (omega (arith, length-down_to low count)))
 
 -- ---- in order of arrival
 
