@@ -31,7 +31,7 @@ below_number cfg interval n (row ∷ rows) =
     elim (carries cfg interval n row.key) [
       | inl none ↦ subst (λ ks. All (IsOfChains (n + length (row ∷ rows))) (ks ++ keys)) (sym none) rest
       | inr (one, is, chain) ↦
-        subst (λ ks. All (IsOfChains (n + length (row ∷ rows))) (ks ++ keys)) (sym is) (All-cons (IsOfChains (n + length (row ∷ rows))) one keys (omega (arith, chain)) rest)
+          subst (λ ks. All (IsOfChains (n + length (row ∷ rows))) (ks ++ keys)) (sym is) (All-cons (IsOfChains (n + length (row ∷ rows))) one keys (omega (arith, chain)) rest)
     ]
 
 is_known : (chain count : ℕ) (late : Bool) → (not (nat_lt chain count) || late) ≡ false → chain < count
@@ -96,12 +96,12 @@ left_fresh tips (row ∷ rows) =
     let sum = sum_by-cons (gap_of tips) row rows in
     elim (cases_Bool (is_newer tips row)) [
       | inl newer ↦
-        ap (λ b. left tips (map fresh (cond b (row ∷ filter (is_newer tips) rows) (filter (is_newer tips) rows)))) newer
-        ∙ sum_by-cons (left_of tips) (fresh row) (map fresh (filter (is_newer tips) rows)) ∙ ap (λ n. gap_of tips row + n) rest ∙ sym sum
+          ap (λ b. left tips (map fresh (cond b (row ∷ filter (is_newer tips) rows) (filter (is_newer tips) rows)))) newer
+          ∙ sum_by-cons (left_of tips) (fresh row) (map fresh (filter (is_newer tips) rows)) ∙ ap (λ n. gap_of tips row + n) rest ∙ sym sum
       | inr older ↦
-        let none : gap_of tips row ≡ 0 = old_gap tips row older in
-        let all : gaps tips rows ≡ gaps tips (row ∷ rows) = omega (arith, sum, none) in
-        ap (λ b. left tips (map fresh (cond b (row ∷ filter (is_newer tips) rows) (filter (is_newer tips) rows)))) older ∙ rest ∙ all
+          let none : gap_of tips row ≡ 0 = old_gap tips row older in
+          let all : gaps tips rows ≡ gaps tips (row ∷ rows) = omega (arith, sum, none) in
+          ap (λ b. left tips (map fresh (cond b (row ∷ filter (is_newer tips) rows) (filter (is_newer tips) rows)))) older ∙ rest ∙ all
     ]
 
 -- the walks of the newer keys, before any of them is taken

@@ -39,7 +39,7 @@ from_number cfg interval n (row ∷ rows) =
     elim (carries cfg interval n row.key) [
       | inl none ↦ subst (λ ks. All (λ (r : KeyRow). n ≤ r.chain.0) (ks ++ keys_from cfg interval (n + 1) rows)) (sym none) rest
       | inr (one, is, chain) ↦
-        subst (λ ks. All (λ (r : KeyRow). n ≤ r.chain.0) (ks ++ keys_from cfg interval (n + 1) rows)) (sym is) (All-cons (λ (r : KeyRow). n ≤ r.chain.0) one (keys_from cfg interval (n + 1) rows) (omega (arith, chain)) rest)
+          subst (λ ks. All (λ (r : KeyRow). n ≤ r.chain.0) (ks ++ keys_from cfg interval (n + 1) rows)) (sym is) (All-cons (λ (r : KeyRow). n ≤ r.chain.0) one (keys_from cfg interval (n + 1) rows) (omega (arith, chain)) rest)
     ]
 
 pub carried_rise : (cfg : Config) (interval n : ℕ) (rows : List TagRow) → ChainsRise (keys_from cfg interval n rows)
@@ -49,8 +49,8 @@ carried_rise cfg interval n (row ∷ rows) =
     elim (carries cfg interval n row.key) [
       | inl none ↦ subst (λ ks. ChainsRise (ks ++ keys_from cfg interval (n + 1) rows)) (sym none) rest
       | inr (one, is, chain) ↦
-        let later = from_number cfg interval (n + 1) rows in
-        subst (λ ks. ChainsRise (ks ++ keys_from cfg interval (n + 1) rows)) (sym is) (rise_cons one (keys_from cfg interval (n + 1) rows) (λ k d inside. omega (arith, chain, later k d inside)) rest)
+          let later = from_number cfg interval (n + 1) rows in
+          subst (λ ks. ChainsRise (ks ++ keys_from cfg interval (n + 1) rows)) (sym is) (rise_cons one (keys_from cfg interval (n + 1) rows) (λ k d inside. omega (arith, chain, later k d inside)) rest)
     ]
 
 pub carried_few : (cfg : Config) (interval n : ℕ) (rows : List TagRow) → length (keys_from cfg interval n rows) ≤ length rows

@@ -45,7 +45,7 @@ module _ {X A : Type 0} (f : X → List A) where
   ]
 
   part_step : (rx px qx : Bool) → (px ≡ true → (rx ≡ true) × (qx ≡ false)) → (qx ≡ true → rx ≡ true) → (rx ≡ true → px ≡ false → qx ≡ true) → (x : X) (rs ps qs : List X)
-    → IsPermutation (flat_map f rs) (flat_map f ps ++ flat_map f qs) → IsPermutation (flat_map f (cond rx (x ∷ rs) rs)) (flat_map f (cond px (x ∷ ps) ps) ++ flat_map f (cond qx (x ∷ qs) qs))
+      → IsPermutation (flat_map f rs) (flat_map f ps ++ flat_map f qs) → IsPermutation (flat_map f (cond rx (x ∷ rs) rs)) (flat_map f (cond px (x ∷ ps) ps) ++ flat_map f (cond qx (x ∷ qs) qs))
   part_step true true true one both other x rs ps qs h = let e : true ≡ false = (one refl).1 in absurd (cc)
   part_step true true false one both other x rs ps qs h =
       permuted (f x ++ flat_map f rs) (f x ++ (flat_map f ps ++ flat_map f qs)) ((f x ++ flat_map f ps) ++ flat_map f qs) (sym (append_assoc (f x) (flat_map f ps) (flat_map f qs)))
@@ -61,7 +61,7 @@ module _ {X A : Type 0} (f : X → List A) where
 
   -- each element that passes r passes just one of p and q
   pub two_parts : (r p q : X → Bool) → ((x : X) → p x ≡ true → (r x ≡ true) × (q x ≡ false)) → ((x : X) → q x ≡ true → r x ≡ true) → ((x : X) → r x ≡ true → p x ≡ false → q x ≡ true) → (xs : List X)
-    → IsPermutation (flat_map f (filter r xs)) (flat_map f (filter p xs) ++ flat_map f (filter q xs))
+      → IsPermutation (flat_map f (filter r xs)) (flat_map f (filter p xs) ++ flat_map f (filter q xs))
   two_parts r p q one both other [] = IsPermutation-refl []
   two_parts r p q one both other (x ∷ xs) =
       part_step (r x) (p x) (q x) (one x) (both x) (other x) x (filter r xs) (filter p xs) (filter q xs) (two_parts r p q one both other xs)
@@ -150,7 +150,7 @@ module _ {X A : Type 0} (number : X → ℕ) (other : A → ℕ) (f : X → List
       elim (own x) [
         | inl none ↦ subst (λ ys. All (λ y. m < other y) (ys ++ flat_map f xs)) (sym none) rest
         | inr (y, one, same) ↦
-          subst (λ ys. All (λ z. m < other z) (ys ++ flat_map f xs)) (sym one) (All-cons (λ z. m < other z) y (flat_map f xs) (omega (arith, here, same)) rest)
+            subst (λ ys. All (λ z. m < other z) (ys ++ flat_map f xs)) (sym one) (All-cons (λ z. m < other z) y (flat_map f xs) (omega (arith, here, same)) rest)
       ]
 
   -- what f gives along a list whose numbers rise has numbers that rise
@@ -162,7 +162,7 @@ module _ {X A : Type 0} (number : X → ℕ) (other : A → ℕ) (f : X → List
       elim (own x) [
         | inl none ↦ subst (λ ys. RiseBy other (ys ++ flat_map f xs)) (sym none) rest
         | inr (y, one, same) ↦
-          subst (λ ys. RiseBy other (ys ++ flat_map f xs)) (sym one) ((λ k d inside. subst (λ n. n < other (get_or (flat_map f xs) k d)) (sym same) (above k d inside)), rest)
+            subst (λ ys. RiseBy other (ys ++ flat_map f xs)) (sym one) ((λ k d inside. subst (λ n. n < other (get_or (flat_map f xs) k d)) (sym same) (above k d inside)), rest)
       ]
 
 -- ---- what new keys prove
@@ -192,11 +192,11 @@ module _ (cfg : Config) (tips : List Tip) (item : Holding) (chain low high : ℕ
   row_proves_not row above below =
       elim (cases_Bool (is_of chain row)) [
         | inl own ↦
-          let same : row.chain.0 ≡ chain = eqb-true row.chain.0 chain own in
-          let low_tip : low ≤ (tip_at tips chain).index = subst (λ n. low ≤ (tip_at tips n).index) same above in
-          let far : nat_le item.name.interval row.index ≡ false = far_below low high (tip_at tips chain).index item.name.interval row.index low_tip below outside newer in
-          let tag = matches cfg item chain row (slice_get item.tags chain) in
-          ap (λ b. b && nat_le item.name.interval row.index && tag) own ∙ ap (λ b. b && tag) far
+            let same : row.chain.0 ≡ chain = eqb-true row.chain.0 chain own in
+            let low_tip : low ≤ (tip_at tips chain).index = subst (λ n. low ≤ (tip_at tips n).index) same above in
+            let far : nat_le item.name.interval row.index ≡ false = far_below low high (tip_at tips chain).index item.name.interval row.index low_tip below outside newer in
+            let tag = matches cfg item chain row (slice_get item.tags chain) in
+            ap (λ b. b && nat_le item.name.interval row.index && tag) own ∙ ap (λ b. b && tag) far
         | inr other ↦ skips_proof cfg item chain row other
       ]
 

@@ -25,7 +25,7 @@ module _ (cfg : Config) (tips : List Tip) (bound interval n : ℕ) (delays newes
 
   -- the set of the first entries of the lists is that of the setup's delays and of the newest keys
   pub safe_by_lists : n ≡ length cfg.setup.rows → n ≤ length delays → ((c : ℕ) → c < n → get_or delays c 0 ≡ (chain_row cfg c).delay) → ((c : ℕ) → c < n → get_or newest c 0 ≡ (tip_at tips c).index)
-    → (s : State) (told : Option ℕ) → s.config ≡ cfg → s.tips ≡ tips → told ≡ Some bound → safe_set bound interval (take n delays) (take n newest) ≡ safe_by s told interval
+      → (s : State) (told : Option ℕ) → s.config ≡ cfg → s.tips ≡ tips → told ≡ Some bound → safe_set bound interval (take n delays) (take n newest) ≡ safe_by s told interval
   safe_by_lists count within delay index s told is_config is_tips is_told =
       ap (chain_set listed) (length-take-le n delays within)
       ∙ same_set listed here n

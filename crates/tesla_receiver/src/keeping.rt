@@ -6,4 +6,6 @@ pub mod offers;
 pub mod ordering;
 pub mod proving;
 pub mod rows;
+#[cfg(test)]
+mod tests;
 pub mod walk;

@@ -38,9 +38,14 @@ fn made_tag<L: Ledger>(
     let setup = &config.setup;
     let payload = &item.payload[..usize::from(item.length)];
     let (stream, length) = (setup.stream(), setup.tag_length());
-    walking
-        .mac()
-        .wide_tag(stream, walking.row().chain, item.name, payload, length, steps)
+    walking.mac().wide_tag(
+        stream,
+        walking.row().chain,
+        item.name,
+        payload,
+        length,
+        steps,
+    )
 }
 
 /// Whether an item's tag for the walk's chain verifies under the key that the walk comes to at the item's
@@ -65,18 +70,13 @@ fn verifies<L: Ledger>(
 }
 
 /// Whether the walk's key reaches an item's interval, and verifies its tag.
-fn proves<L: Ledger>(
-    config: &Config,
-    walking: &mut Walk,
-    item: &Item,
-    steps: &mut Steps<L>,
-) -> bool
+fn proves<L: Ledger>(config: &Config, walking: &mut Walk, item: &Item, steps: &mut Steps<L>) -> bool
     requires chain { walking.old.row.chain.0 < length config.now.setup.rows }
     requires above { IsAbove item.now.name.interval walking.old }
     requires item { IsItem (length config.now.setup.rows) item.now }
     ensures value { let shown = holding_in (length config.now.setup.rows) item.now in
         result ≡ (nat_le item.now.name.interval walking.old.row.index
-            && matches config.now shown walking.old.row.chain.0 walking.old.row (slice_get shown.tags walking.old.row.chain.0)) }
+        && matches config.now shown walking.old.row.chain.0 walking.old.row (slice_get shown.tags walking.old.row.chain.0)) }
     ensures row { walking.new.row ≡ walking.old.row }
     ensures above { IsAbove item.now.name.interval walking.new }
     ensures cost { (tips : List Tip) → (tip_at tips walking.old.row.chain.0).index < item.now.name.interval →
@@ -196,7 +196,7 @@ pub fn prove<L: Ledger>(
     ensures above { All (IsAbove item.now.name.interval) walks.new }
     ensures cost { let shown = holding_in (length config.now.setup.rows) item.now in
         steps.new + left tips.now walks.new ≤ steps.old + left tips.now walks.old
-            + 2 * (if item.now.released then 0 else tried config.now tips.now (rows_of walks.old) shown) }
+        + 2 * (if item.now.released then 0 else tried config.now tips.now (rows_of walks.old) shown) }
 {
     if item.released {
         return None;
