@@ -5,7 +5,8 @@ use Rattle.std.specs.List.{All, list_any, range_with_len}
 use Rattle.std.specs.List.Sorted.{IsPermutation}
 use Rattle.std.proofs.lemmas.Bool.{cases_Bool, eqb-true, ne_eqb}
 use Rattle.std.proofs.lemmas.Bool.Decides.{nat_tests}
-use Rattle.std.proofs.lemmas.List.{get_or-map, length-map, take_more}
+use Rattle.std.proofs.lemmas.List.{append-nil, get_or-map, length-map, take_all, take_more}
+use Rattle.std.proofs.lemmas.List.Concat.{flat_map-append}
 use Rattle.std.proofs.lemmas.List.Sums.{fold-append}
 use Rattle.std.proofs.lemmas.List.Elements.{All-append, All-cons, All-head, All-nil, All-tail}
 use Rattle.std.proofs.lemmas.List.Sorted.{IsPermutation-append_comm, IsPermutation-append_left, IsPermutation-append_right, IsPermutation-refl, IsPermutation-sym, IsPermutation-trans}
@@ -44,7 +45,7 @@ module _ {X A : Type 0} (f : X → List A) where
   ]
 
   part_step : (rx px qx : Bool) → (px ≡ true → (rx ≡ true) × (qx ≡ false)) → (qx ≡ true → rx ≡ true) → (rx ≡ true → px ≡ false → qx ≡ true) → (x : X) (rs ps qs : List X)
-    → IsPermutation (flat_map f rs) (flat_map f ps ++ flat_map f qs) → IsPermutation (flat_map f (cond rx (x ∷ rs) rs)) (flat_map f (cond px (x ∷ ps) ps) ++ flat_map f (cond qx (x ∷ qs) qs))
+      → IsPermutation (flat_map f rs) (flat_map f ps ++ flat_map f qs) → IsPermutation (flat_map f (cond rx (x ∷ rs) rs)) (flat_map f (cond px (x ∷ ps) ps) ++ flat_map f (cond qx (x ∷ qs) qs))
   part_step true true true one both other x rs ps qs h = let e : true ≡ false = (one refl).1 in absurd (cc)
   part_step true true false one both other x rs ps qs h =
       permuted (f x ++ flat_map f rs) (f x ++ (flat_map f ps ++ flat_map f qs)) ((f x ++ flat_map f ps) ++ flat_map f qs) (sym (append_assoc (f x) (flat_map f ps) (flat_map f qs)))
@@ -60,7 +61,7 @@ module _ {X A : Type 0} (f : X → List A) where
 
   -- each element that passes r passes just one of p and q
   pub two_parts : (r p q : X → Bool) → ((x : X) → p x ≡ true → (r x ≡ true) × (q x ≡ false)) → ((x : X) → q x ≡ true → r x ≡ true) → ((x : X) → r x ≡ true → p x ≡ false → q x ≡ true) → (xs : List X)
-    → IsPermutation (flat_map f (filter r xs)) (flat_map f (filter p xs) ++ flat_map f (filter q xs))
+      → IsPermutation (flat_map f (filter r xs)) (flat_map f (filter p xs) ++ flat_map f (filter q xs))
   two_parts r p q one both other [] = IsPermutation-refl []
   two_parts r p q one both other (x ∷ xs) =
       part_step (r x) (p x) (q x) (one x) (both x) (other x) x (filter r xs) (filter p xs) (filter q xs) (two_parts r p q one both other xs)
@@ -110,6 +111,30 @@ module _ {A : Type 0} (f : Holding → List A) (held : List Holding) (low : ℕ)
   gathers_all count skip =
       subst (λ (l : List A). IsPermutation l (gathered f held low count)) (only_those f (is_between low (low + count)) skip held) (gathers count)
 
+-- ---- one interval after another
+
+pub length-down_to : (low count : ℕ) → length (down_to low count) ≡ count
+length-down_to low zero = refl
+length-down_to low (suc count) = omega (arith, length-down_to low count)
+
+-- the interval at a place
+pub down_to_at : (low count k d : ℕ) → k < count → get_or (down_to low count) k d ≡ low + count - k
+down_to_at low zero k d h = absurd (omega arith)
+down_to_at low (suc count) zero d h = omega arith
+down_to_at low (suc count) (suc k) d h = down_to_at low count k d (omega arith) ∙ omega arith
+
+-- what is gathered so far, with the interval at place k
+pub gathered_more : {A : Type 0} (f : Holding → List A) (held : List Holding) (low count k : ℕ) → k < count → flat_map (in_turn f held) (take (k + 1) (down_to low count)) ≡ flat_map (in_turn f held) (take k (down_to low count)) ++ in_turn f held (low + count - k)
+gathered_more {A = A} f held low count k h =
+    let inside : k < length (down_to low count) = omega (arith, length-down_to low count) in
+    ap (flat_map (in_turn f held)) (take_more (down_to low count) k 0 inside ∙ ap (λ i. take k (down_to low count) ++ i ∷ []) (down_to_at low count k 0 h))
+    ∙ flat_map-append (in_turn f held) (take k (down_to low count)) ((low + count - k) ∷ [])
+    ∙ ap (λ (l : List A). flat_map (in_turn f held) (take k (down_to low count)) ++ l) (append-nil (in_turn f held (low + count - k)))
+
+-- all is gathered where no interval is left
+pub gathered_whole : {A : Type 0} (f : Holding → List A) (held : List Holding) (low count k : ℕ) → count ≤ k → flat_map (in_turn f held) (take k (down_to low count)) ≡ gathered f held low count
+gathered_whole f held low count k h = ap (flat_map (in_turn f held)) (take_all k (down_to low count) (omega (arith, length-down_to low count)))
+
 -- ---- in order of arrival
 
 -- for an element f gives nothing, or one that carries its number
@@ -125,7 +150,7 @@ module _ {X A : Type 0} (number : X → ℕ) (other : A → ℕ) (f : X → List
       elim (own x) [
         | inl none ↦ subst (λ ys. All (λ y. m < other y) (ys ++ flat_map f xs)) (sym none) rest
         | inr (y, one, same) ↦
-          subst (λ ys. All (λ z. m < other z) (ys ++ flat_map f xs)) (sym one) (All-cons (λ z. m < other z) y (flat_map f xs) (omega (arith, here, same)) rest)
+            subst (λ ys. All (λ z. m < other z) (ys ++ flat_map f xs)) (sym one) (All-cons (λ z. m < other z) y (flat_map f xs) (omega (arith, here, same)) rest)
       ]
 
   -- what f gives along a list whose numbers rise has numbers that rise
@@ -137,7 +162,7 @@ module _ {X A : Type 0} (number : X → ℕ) (other : A → ℕ) (f : X → List
       elim (own x) [
         | inl none ↦ subst (λ ys. RiseBy other (ys ++ flat_map f xs)) (sym none) rest
         | inr (y, one, same) ↦
-          subst (λ ys. RiseBy other (ys ++ flat_map f xs)) (sym one) ((λ k d inside. subst (λ n. n < other (get_or (flat_map f xs) k d)) (sym same) (above k d inside)), rest)
+            subst (λ ys. RiseBy other (ys ++ flat_map f xs)) (sym one) ((λ k d inside. subst (λ n. n < other (get_or (flat_map f xs) k d)) (sym same) (above k d inside)), rest)
       ]
 
 -- ---- what new keys prove
@@ -167,11 +192,11 @@ module _ (cfg : Config) (tips : List Tip) (item : Holding) (chain low high : ℕ
   row_proves_not row above below =
       elim (cases_Bool (is_of chain row)) [
         | inl own ↦
-          let same : row.chain.0 ≡ chain = eqb-true row.chain.0 chain own in
-          let low_tip : low ≤ (tip_at tips chain).index = subst (λ n. low ≤ (tip_at tips n).index) same above in
-          let far : nat_le item.name.interval row.index ≡ false = far_below low high (tip_at tips chain).index item.name.interval row.index low_tip below outside newer in
-          let tag = matches cfg item chain row (slice_get item.tags chain) in
-          ap (λ b. b && nat_le item.name.interval row.index && tag) own ∙ ap (λ b. b && tag) far
+            let same : row.chain.0 ≡ chain = eqb-true row.chain.0 chain own in
+            let low_tip : low ≤ (tip_at tips chain).index = subst (λ n. low ≤ (tip_at tips n).index) same above in
+            let far : nat_le item.name.interval row.index ≡ false = far_below low high (tip_at tips chain).index item.name.interval row.index low_tip below outside newer in
+            let tag = matches cfg item chain row (slice_get item.tags chain) in
+            ap (λ b. b && nat_le item.name.interval row.index && tag) own ∙ ap (λ b. b && tag) far
         | inr other ↦ skips_proof cfg item chain row other
       ]
 

@@ -27,3 +27,6 @@ pub mod Sorting
 pub mod Gathering
 pub mod Sweeping
 pub mod Taken
+pub mod CarriedRise
+pub mod Beginning
+pub mod SafeTips

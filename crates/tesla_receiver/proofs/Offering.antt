@@ -53,12 +53,12 @@ all_good tips (row ∷ rows) none =
     let rest : AreGood tips (filter (is_newer tips) rows) = all_good tips rows parts.1 in
     elim (cases_Bool (is_newer tips row)) [
       | inl newer ↦
-        let leads = passes_where (is_newer tips row) (leads_to row (tip_at tips row.chain.0).index (tip_at tips row.chain.0).key) newer parts.0 in
-        let here : IsGood (offer_of (tip_at tips row.chain.0) row.index row.key) = good_where (tip_at tips row.chain.0) row newer leads in
-        subst (λ b. AreGood tips (cond b (row ∷ filter (is_newer tips) rows) (filter (is_newer tips) rows))) (sym newer)
-        (All-cons (λ r. IsGood (offer_of (tip_at tips r.chain.0) r.index r.key)) row (filter (is_newer tips) rows) here rest)
+          let leads = passes_where (is_newer tips row) (leads_to row (tip_at tips row.chain.0).index (tip_at tips row.chain.0).key) newer parts.0 in
+          let here : IsGood (offer_of (tip_at tips row.chain.0) row.index row.key) = good_where (tip_at tips row.chain.0) row newer leads in
+          subst (λ b. AreGood tips (cond b (row ∷ filter (is_newer tips) rows) (filter (is_newer tips) rows))) (sym newer)
+          (All-cons (λ r. IsGood (offer_of (tip_at tips r.chain.0) r.index r.key)) row (filter (is_newer tips) rows) here rest)
       | inr older ↦
-        subst (λ b. AreGood tips (cond b (row ∷ filter (is_newer tips) rows) (filter (is_newer tips) rows))) (sym older) rest
+          subst (λ b. AreGood tips (cond b (row ∷ filter (is_newer tips) rows) (filter (is_newer tips) rows))) (sym older) rest
     ]
 
 -- ---- one key more
@@ -75,7 +75,7 @@ one_of false row = refl
 
 -- the walks of the newer keys, with one key more
 pub walks_more : (tips : List Tip) (rows : List KeyRow) (i : ℕ) (d : KeyRow) (before after : List Walking) → i < length rows → before ≡ map fresh (filter (is_newer tips) (take i rows))
-  → after ≡ before ++ cond (is_newer tips (get_or rows i d)) (fresh (get_or rows i d) ∷ []) [] → after ≡ map fresh (filter (is_newer tips) (take (i + 1) rows))
+    → after ≡ before ++ cond (is_newer tips (get_or rows i d)) (fresh (get_or rows i d) ∷ []) [] → after ≡ map fresh (filter (is_newer tips) (take (i + 1) rows))
 walks_more tips rows i d before after h so_far grown =
     let row = get_or rows i d in
     let front = filter (is_newer tips) (take i rows) in

@@ -33,14 +33,14 @@ own_chain chain tip row e newer =
     ap (λ b. cond (b && nat_lt tip.index row.index) (record { index = row.index; key = row.key }) tip) e
     ∙ ap (λ b. cond b (record { index = row.index; key = row.key }) tip) newer
 
-rises_above : (row : KeyRow) (rows : List KeyRow) → ChainsRise (row ∷ rows) → (k : ℕ) (d : KeyRow) → k < length rows → row.chain.0 < (get_or rows k d).chain.0
+pub rises_above : (row : KeyRow) (rows : List KeyRow) → ChainsRise (row ∷ rows) → (k : ℕ) (d : KeyRow) → k < length rows → row.chain.0 < (get_or rows k d).chain.0
 rises_above row [] h k d inside = absurd (omega arith)
 rises_above row (next ∷ rows) h zero d inside = h.0
 rises_above row (next ∷ rows) h (suc k) d inside =
     let rest : next.chain.0 < (get_or rows k d).chain.0 = rises_above next rows h.1 k d (omega arith) in
     omega (arith, h.0, rest)
 
-rises_on : (row : KeyRow) (rows : List KeyRow) → ChainsRise (row ∷ rows) → ChainsRise rows
+pub rises_on : (row : KeyRow) (rows : List KeyRow) → ChainsRise (row ∷ rows) → ChainsRise rows
 rises_on row [] h = tt
 rises_on row (next ∷ rows) h = h.1
 

@@ -116,8 +116,8 @@ tag_at (tag ∷ tags) (suc chain) d h = tag_at tags chain d (omega arith)
 
 -- two tags in their rooms are equal exactly where their bytes are
 pub tags_equal : (cfg : Config) (count : ℕ) (item : Item) (chain : ℕ) (row : KeyRow) (d made : WideTag) (text : List ℕ) (answer : Bool) → IsItem count item → chain < count → count ≤ length item.tags → made ≡ wide_tag text
-  → text ≡ tag_of cfg.setup.tag_length (walk row.key (row.index - item.name.interval)) cfg.setup.stream (record { 0 = chain }) item.name (take item.length item.payload)
-  → answer ≡ (bytes_eq (get_or item.tags chain d).bytes made.bytes && ((get_or item.tags chain d).length == made.length)) → answer ≡ matches cfg (holding_in count item) chain row (slice_get (map tag_bytes (take count item.tags)) chain)
+    → text ≡ tag_of cfg.setup.tag_length (walk row.key (row.index - item.name.interval)) cfg.setup.stream (record { 0 = chain }) item.name (take item.length item.payload)
+    → answer ≡ (bytes_eq (get_or item.tags chain d).bytes made.bytes && ((get_or item.tags chain d).length == made.length)) → answer ≡ matches cfg (holding_in count item) chain row (slice_get (map tag_bytes (take count item.tags)) chain)
 tags_equal cfg count item chain row d made text answer fits below room is_made is_text given =
     let stored = get_or item.tags chain d in
     let size : length (take count item.tags) ≡ count = length-take-le count item.tags room in

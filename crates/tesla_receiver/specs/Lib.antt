@@ -17,3 +17,5 @@ pub mod ItemShown
 pub mod Offered
 pub mod Gathering
 pub mod Proved
+pub mod Unfit
+pub mod Counting

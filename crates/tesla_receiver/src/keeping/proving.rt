@@ -1,6 +1,6 @@
 //! Which held packets new keys prove.
 
-ghost use Rattle.std.specs.Prelude.{◌≡◌, ℕ, ◌+◌, ◌*◌, ◌-◌, ◌<◌, ◌≤◌, ◌&&◌, List, All, length, take, true, find, position, nat_le, slice_get, if◌then◌else◌};
+ghost use Rattle.std.specs.Prelude.{◌≡◌, ℕ, ◌+◌, ◌*◌, ◌-◌, ◌<◌, ◌≤◌, ◌&&◌, List, All, IfSome, length, map, option_to_list, take, true, find, position, nat_le, slice_get, if◌then◌else◌};
 ghost use Rattle.std.specs.List.{list_any};
 ghost use Rattle.tesla_base.specs.Tag.{wide_tag};
 ghost use Rattle.tesla_frame.specs.Frame.{ChainsRise};
@@ -9,14 +9,16 @@ ghost use Rattle.tesla_prf.specs.Keys.{walk, tag_of};
 ghost use Rattle.tesla_receiver.specs.Config.{chains};
 ghost use Rattle.tesla_receiver.specs.ItemShown.{holding_in, IsItem};
 ghost use Rattle.tesla_receiver.specs.Keys.{is_of};
-ghost use Rattle.tesla_receiver.specs.Steps.{tip_at, matches, is_proof_of, proves_on};
+ghost use Rattle.tesla_receiver.specs.Steps.{tip_at, matches, is_proof_of, proves_on, proof_of};
+ghost use Rattle.tesla_receiver.specs.Proved.{release_in};
 ghost use Rattle.tesla_receiver.specs.Walking.{rows_of, IsAbove, left_of, left, reaches, is_tried, tried};
 
-use crate::Config;
+use crate::keeping::ordering::Proved;
 use crate::keeping::walk::Walk;
 use crate::proving::has_chain;
+use crate::{Config, Release};
 use std::sync::ledger::Ledger;
-use tesla_base::{Steps, WideTag};
+use tesla_base::{ChainNo, Place, Steps, WideTag};
 use tesla_buffer::Item;
 use tesla_keys::Verifier;
 
@@ -36,9 +38,14 @@ fn made_tag<L: Ledger>(
     let setup = &config.setup;
     let payload = &item.payload[..usize::from(item.length)];
     let (stream, length) = (setup.stream(), setup.tag_length());
-    walking
-        .mac()
-        .wide_tag(stream, walking.row().chain, item.name, payload, length, steps)
+    walking.mac().wide_tag(
+        stream,
+        walking.row().chain,
+        item.name,
+        payload,
+        length,
+        steps,
+    )
 }
 
 /// Whether an item's tag for the walk's chain verifies under the key that the walk comes to at the item's
@@ -63,18 +70,13 @@ fn verifies<L: Ledger>(
 }
 
 /// Whether the walk's key reaches an item's interval, and verifies its tag.
-fn proves<L: Ledger>(
-    config: &Config,
-    walking: &mut Walk,
-    item: &Item,
-    steps: &mut Steps<L>,
-) -> bool
+fn proves<L: Ledger>(config: &Config, walking: &mut Walk, item: &Item, steps: &mut Steps<L>) -> bool
     requires chain { walking.old.row.chain.0 < length config.now.setup.rows }
     requires above { IsAbove item.now.name.interval walking.old }
     requires item { IsItem (length config.now.setup.rows) item.now }
     ensures value { let shown = holding_in (length config.now.setup.rows) item.now in
         result ≡ (nat_le item.now.name.interval walking.old.row.index
-            && matches config.now shown walking.old.row.chain.0 walking.old.row (slice_get shown.tags walking.old.row.chain.0)) }
+        && matches config.now shown walking.old.row.chain.0 walking.old.row (slice_get shown.tags walking.old.row.chain.0)) }
     ensures row { walking.new.row ≡ walking.old.row }
     ensures above { IsAbove item.now.name.interval walking.new }
     ensures cost { (tips : List Tip) → (tip_at tips walking.old.row.chain.0).index < item.now.name.interval →
@@ -171,4 +173,41 @@ pub fn proving_chain<L: Ledger>(
         }
     }
     None
+}
+
+/// What new keys prove of the item at a place of the buffer, told the least chain that proves it. An item that is
+/// released isn't tried, and takes no step; else the counted steps are those of `proving_chain`.
+pub fn prove<L: Ledger>(
+    config: &Config,
+    tips: &[Verifier],
+    walks: &mut [Walk],
+    item: &Item,
+    place: Place,
+    steps: &mut Steps<L>,
+) -> Option<Proved>
+    requires tips { length tips.now ≡ length config.now.setup.rows }
+    requires rise { ChainsRise (rows_of walks.old) }
+    requires above { All (IsAbove item.now.name.interval) walks.old }
+    requires item { IsItem (length config.now.setup.rows) item.now }
+    ensures value { let shown = holding_in (length config.now.setup.rows) item.now in
+        map release_in (option_to_list result) ≡ proof_of config.now tips.now (rows_of walks.old) shown }
+    ensures place { IfSome result (λ proved. proved.place ≡ place) }
+    ensures rows { rows_of walks.new ≡ rows_of walks.old }
+    ensures above { All (IsAbove item.now.name.interval) walks.new }
+    ensures cost { let shown = holding_in (length config.now.setup.rows) item.now in
+        steps.new + left tips.now walks.new ≤ steps.old + left tips.now walks.old
+        + 2 * (if item.now.released then 0 else tried config.now tips.now (rows_of walks.old) shown) }
+{
+    if item.released {
+        return None;
+    }
+    let Some(chain) = proving_chain(config, tips, walks, item, steps) else {
+        return None;
+    };
+    let release = Release {
+        place: item.order as usize,
+        name: item.name,
+        chain: ChainNo(chain),
+    };
+    Some(Proved { release, place })
 }

@@ -115,9 +115,7 @@ impl Walk {
         requires { self.now.made ≡ true }
         ensures { result.now ≡ mac_of (walk self.now.row.key (self.now.row.index - self.now.reached)) }
     {
-        let Some(mac) = &self.mac else {
-            unreachable!()
-        };
+        let Some(mac) = &self.mac else { unreachable!() };
         mac
     }
 }
