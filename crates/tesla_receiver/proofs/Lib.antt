@@ -30,3 +30,4 @@ pub mod Taken
 pub mod CarriedRise
 pub mod Beginning
 pub mod SafeTips
+pub mod Trying

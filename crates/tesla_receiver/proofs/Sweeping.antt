@@ -40,6 +40,7 @@ nothing (suc n) y rest h = cc
 -- the packet that comes next: it is found, the one behind it, and what stays once it was looked at
 pub record Next (i : ℕ) (over : Placed → Bool) (n : ℕ) (held : List Placed) (y : Placed) (rest : List Placed) : Type 0 where
   pub there : is_in y.place (map place_of held) ≡ true
+  pub of : is_of i y ≡ true
   pub found : find (stands_at y.place) (swept i over n held) ≡ Some y
   pub next : next_place y.place (swept i over n held) ≡ first_place rest
   pub more : swept i over (suc n) held ≡ cond (over y) (without y.place (swept i over n held)) (swept i over n held)
@@ -71,6 +72,7 @@ next_head i over x xs none e =
     let here : (x.place == x.place) ≡ true = eq-eqb x.place x.place refl in
     record {
       there = or_left (x.place == x.place) (is_in x.place (map place_of xs)) here;
+      of = e;
       found = ap (λ t. cond t (Some x) (find (stands_at x.place) xs)) here;
       next = ap (λ t. cond t (first_place (filter (is_of x.holding.name.interval) xs)) (next_place x.place xs)) here
       ∙ ap (λ (k : ℕ). first_place (filter (is_of k) xs)) (eqb-true x.holding.name.interval i e);
@@ -86,6 +88,7 @@ next_looked i over m x xs y rest true o none e r =
     let then : swept i over (suc (suc m)) (x ∷ xs) ≡ swept i over (suc m) xs = ap (λ t. cond t (cond (over x) (swept i over (suc m) xs) (x ∷ swept i over (suc m) xs)) (x ∷ swept i over (suc (suc m)) xs)) e ∙ ap (λ t. cond t (swept i over (suc m) xs) (x ∷ swept i over (suc m) xs)) o in
     record {
       there = or_right (x.place == y.place) (is_in y.place (map place_of xs)) r.there;
+      of = r.of;
       found = ap (find (stands_at y.place)) now ∙ r.found;
       next = ap (next_place y.place) now ∙ r.next;
       more = then ∙ r.more ∙ ap (λ s. cond (over y) (without y.place s) s) (sym now);
@@ -96,6 +99,7 @@ next_looked i over m x xs y rest false o none e r =
     let then : swept i over (suc (suc m)) (x ∷ xs) ≡ x ∷ swept i over (suc m) xs = ap (λ t. cond t (cond (over x) (swept i over (suc m) xs) (x ∷ swept i over (suc m) xs)) (x ∷ swept i over (suc (suc m)) xs)) e ∙ ap (λ t. cond t (swept i over (suc m) xs) (x ∷ swept i over (suc m) xs)) o in
     record {
       there = or_right (x.place == y.place) (is_in y.place (map place_of xs)) r.there;
+      of = r.of;
       found = ap (find (stands_at y.place)) now ∙ found_past x y (swept i over m xs) other r.found;
       next = ap (next_place y.place) now ∙ next_past x y (swept i over m xs) rest other r.next;
       more = then ∙ more_past x y (over y) (swept i over m xs) (swept i over (suc m) xs) other r.more ∙ ap (λ s. cond (over y) (without y.place s) s) (sym now);
@@ -113,6 +117,7 @@ next_other i over n x xs y rest none e r =
     let now : swept i over n (x ∷ xs) ≡ x ∷ swept i over n xs = swept_other i over n x xs e in
     record {
       there = or_right (x.place == y.place) (is_in y.place (map place_of xs)) r.there;
+      of = r.of;
       found = ap (find (stands_at y.place)) now ∙ found_past x y (swept i over n xs) other r.found;
       next = ap (next_place y.place) now ∙ next_past x y (swept i over n xs) rest other r.next;
       more = swept_other i over (suc n) x xs e ∙ more_past x y (over y) (swept i over n xs) (swept i over (suc n) xs) other r.more ∙ ap (λ s. cond (over y) (without y.place s) s) (sym now);
@@ -306,3 +311,42 @@ spanned_more old new then low over n h s capacity chains waiting given held = re
       ∙ filter_filter (λ x. not (is_of (n + 1) x && over x)) (λ x. not (in_span low n x && over x)) (λ x. not (in_span low (n + 1) x && over x))
       (λ x. both_tests (in_span low n x) (is_of (n + 1) x) (over x) ∙ ap (λ t. not (t && over x)) (sym (span_from low n x.holding.name.interval h))) old.held;
 }
+
+-- ---- a walk that lets nothing go
+
+pub never : Placed → Bool
+never x = false
+
+pub swept_never : (i n : ℕ) (held : List Placed) → swept i never n held ≡ held
+unfolding swept never
+swept_never i zero held = refl
+swept_never i (suc n) [] = refl
+swept_never i (suc n) (x ∷ xs) =
+    ⊎_elim
+    (λ e. ap (λ t. cond t (x ∷ swept i never n xs) (x ∷ swept i never (suc n) xs)) e ∙ ap (λ r. x ∷ r) (swept_never i n xs))
+    (λ e. ap (λ t. cond t (x ∷ swept i never n xs) (x ∷ swept i never (suc n) xs)) e ∙ ap (λ r. x ∷ r) (swept_never i (suc n) xs))
+    (cases_Bool (is_of i x))
+
+-- the packet that comes next, where nothing is let go
+pub record Comes (i n : ℕ) (held : List Placed) (place : Place) : Type 0 where
+  pub packet : Placed
+  pub behind : List Placed
+  pub is : drop n (filter (is_of i) held) ≡ packet ∷ behind
+  pub of : is_of i packet ≡ true
+  pub found : find (stands_at place.0) held ≡ Some packet
+  pub next : next_place place.0 held ≡ first_place (drop (n + 1) (filter (is_of i) held))
+
+pub comes : (i n : ℕ) (held : List Placed) (place : Place) → Distinct (map place_of held) → Some place ≡ first_place (drop n (filter (is_of i) held)) → Comes i n held place
+comes i n held place d h =
+    let f = first_some (drop n (filter (is_of i) held)) place (sym h) in
+    let r = next_is i never n held f.first f.rest d f.is in
+    let count : suc n ≡ n + 1 = omega arith in
+    record {
+      packet = f.first;
+      behind = f.rest;
+      is = f.is;
+      of = r.of;
+      found = ap (λ (p : ℕ). find (stands_at p) held) f.place_is ∙ ap (find (stands_at f.first.place)) (sym (swept_never i n held)) ∙ r.found;
+      next = ap (λ (p : ℕ). next_place p held) f.place_is ∙ ap (next_place f.first.place) (sym (swept_never i n held)) ∙ r.next
+      ∙ ap first_place (sym (drop_next n (filter (is_of i) held) f.first f.rest f.is)) ∙ ap (λ (k : ℕ). first_place (drop k (filter (is_of i) held))) count;
+    }

@@ -4,6 +4,7 @@ mod passing;
 mod releasing;
 mod store;
 mod taking;
+mod trying;
 
 
 pub use store::Store;
