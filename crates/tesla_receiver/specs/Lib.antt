@@ -13,3 +13,11 @@ pub mod State
 pub mod Steps
 pub mod Consistent
 pub mod Costs
+pub mod Stored
+pub mod Walking
+pub mod ItemShown
+pub mod Offered
+pub mod Gathering
+pub mod Proved
+pub mod Unfit
+pub mod Counting

@@ -1,0 +1,150 @@
+-- Packets are tried one after another.
+use Rattle.std.proofs.Common.{◌≡◌, ℕ, ◌+◌, ◌-◌, ◌<◌, ◌≤◌, suc, zero, Bool, true, false, cond, ◌&&◌, ◌||◌, List, [], ◌∷◌, ◌++◌, length, map, drop, take, flat_map, Option, Some, None, refl, sym, ap, subst, ⊎_elim, ◌∙◌, arith, ◌==◌, append_assoc}
+use Rattle.std.specs.Prelude.{not, find, nat_lt, nat_le, All, option_to_list, IfSome}
+use Rattle.std.specs.List.{list_any, list_all, filter}
+use Rattle.std.proofs.lemmas.Bool.{cases_Bool, and_parts, and_from, or_left, eq-eqb, eqb-true}
+use Rattle.std.proofs.lemmas.List.{append-nil, length-map}
+use Rattle.std.proofs.lemmas.List.Concat.{flat_map-append}
+use Rattle.tesla_base.specs.declared.names.Name.{Name}
+use Rattle.tesla_base.specs.declared.names.Place.{Place}
+use Rattle.tesla_base.proofs.Lists.{list_all_both}
+use Rattle.tesla_frame.specs.declared.row.KeyRow.{KeyRow}
+use Rattle.tesla_keys.specs.Tip.{Tip}
+use Rattle.tesla_links.specs.Lists.{Distinct}
+use Rattle.tesla_receiver.specs.declared.config.Config.{Config}
+use Rattle.tesla_receiver.specs.declared.keeping.ordering.Proved.{Proved}
+use Rattle.tesla_receiver.specs.declared.release.Release.{Release}
+use Rattle.tesla_receiver.specs.Config.{chains}
+use Rattle.tesla_receiver.specs.Gathering.{in_turn}
+use Rattle.tesla_receiver.specs.Proved.{release_in}
+use Rattle.tesla_receiver.specs.State.{Holding}
+use Rattle.tesla_receiver.specs.Steps.{proof_of, proves_on, released_on, in_interval}
+use Rattle.tesla_receiver.specs.Stored.{Placed, place_of, holding_at, stands_at, is_of, is_proved_by, first_place, next_place, AreProved}
+use Rattle.tesla_receiver.specs.Walking.{Walking, rows_of, IsAbove}
+use Rattle.tesla_receiver.proofs.Marked.{filter_mapped}
+use Rattle.tesla_receiver.proofs.Sweeping.{Comes, comes, found_stands}
+
+-- ---- what is proved of a packet
+
+-- the release is of the packet, which isn't released
+pub record IsOf (item : Holding) (r : Release) : Type 0 where
+  pub unreleased : item.released ≡ false
+  pub order : item.order ≡ r.place
+  pub name : item.name ≡ r.name
+
+on_chain : (item : Holding) (r : Release) (o : Option ℕ) → item.released ≡ false → r ∷ [] ≡ released_on item o → IsOf item r
+on_chain item r None u h = absurd (cc)
+on_chain item r (Some chain) u h =
+    let same : r ≡ record { place = item.order; name = item.name; chain = record { 0 = chain } } = cc in
+    record { unreleased = u; order = sym (ap (λ (k : Release). k.place) same); name = sym (ap (λ (k : Release). k.name) same) }
+
+of_proof : (cfg : Config) (tips : List Tip) (new : List KeyRow) (item : Holding) (r : Release) (b : Bool) → item.released ≡ b → r ∷ [] ≡ cond b [] (released_on item (find (proves_on cfg tips new item) (chains cfg))) → IsOf item r
+of_proof cfg tips new item r true e h = absurd (cc)
+of_proof cfg tips new item r false e h = on_chain item r (find (proves_on cfg tips new item) (chains cfg)) e h
+
+is_ours : (x : Placed) (p : Proved) → IsOf x.holding p.release →
+    (not x.holding.released && (x.holding.order == p.release.place && (x.holding.name.interval == p.release.name.interval && x.holding.name.number == p.release.name.number))) ≡ true
+is_ours x p h =
+    and_from (not x.holding.released) (x.holding.order == p.release.place && (x.holding.name.interval == p.release.name.interval && x.holding.name.number == p.release.name.number)) (ap not h.unreleased)
+    (and_from (x.holding.order == p.release.place) (x.holding.name.interval == p.release.name.interval && x.holding.name.number == p.release.name.number) (eq-eqb x.holding.order p.release.place h.order)
+    (and_from (x.holding.name.interval == p.release.name.interval) (x.holding.name.number == p.release.name.number)
+    (eq-eqb x.holding.name.interval p.release.name.interval (ap (λ (n : Name). n.interval) h.name)) (eq-eqb x.holding.name.number p.release.name.number (ap (λ (n : Name). n.number) h.name))))
+
+pub one_proved : (cfg : Config) (tips : List Tip) (new : List KeyRow) (held : List Placed) (place : Place) (x : Placed) (o : Option Proved) → find (stands_at place.0) held ≡ Some x → map release_in (option_to_list o) ≡ proof_of cfg tips new x.holding → IfSome o (λ p. p.place ≡ place) → AreProved held (option_to_list o)
+one_proved cfg tips new held place x None found is here = refl
+one_proved cfg tips new held place x (Some p) found is here =
+    let of : IsOf x.holding p.release = of_proof cfg tips new x.holding p.release x.holding.released refl is in
+    let at : find (stands_at p.place.0) held ≡ Some x = ap (λ (k : Place). find (stands_at k.0) held) here ∙ found in
+    and_from (list_any (is_proved_by p) held) true
+    (found_stands p.place.0 (λ y. not y.holding.released && (y.holding.order == p.release.place && (y.holding.name.interval == p.release.name.interval && y.holding.name.number == p.release.name.number))) x held at (is_ours x p of)) refl
+
+pub map-released : (xs ys : List Proved) → map release_in (xs ++ ys) ≡ map release_in xs ++ map release_in ys
+map-released [] ys = refl
+map-released (x ∷ xs) ys = ap (λ rs. x.release ∷ rs) (map-released xs ys)
+
+-- ---- a walk through an interval
+
+-- so many packets of the interval were tried; this is the place of the next
+pub record Trying (cfg : Config) (tips : List Tip) (begun walks : List Walking) (held : List Placed) (i n : ℕ) (at : Option Place) (before batch : List Proved) : Type 0 where
+  pub next : at ≡ first_place (drop n (filter (is_of i) held))
+  pub rows : rows_of walks ≡ rows_of begun
+  pub above : All (IsAbove i) walks
+  pub releases : map release_in batch ≡ map release_in before ++ flat_map (λ (x : Placed). proof_of cfg tips (rows_of begun) x.holding) (take n (filter (is_of i) held))
+  pub proved : AreProved held before → AreProved held batch
+  pub long : length batch ≤ length before + n
+  pub within : n ≤ length (filter (is_of i) held)
+
+pub trying_none : (cfg : Config) (tips : List Tip) (walks : List Walking) (held : List Placed) (i : ℕ) (at : Option Place) (batch : List Proved) → at ≡ first_place (filter (is_of i) held) → All (IsAbove i) walks → Trying cfg tips walks walks held i 0 at batch batch
+trying_none cfg tips walks held i at batch h above = record {
+  next = h; rows = refl; above = above; releases = sym (append-nil (map release_in batch)); proved = λ k. k; long = omega arith; within = omega arith;
+}
+
+take_next : {A : Type 0} (n : ℕ) (xs : List A) (y : A) (rest : List A) → drop n xs ≡ y ∷ rest → (take (suc n) xs ≡ take n xs ++ y ∷ []) × (n < length xs)
+take_next zero [] y rest h = absurd (cc)
+take_next (suc n) [] y rest h = absurd (cc)
+take_next zero (x ∷ xs) y rest h = let same : x ≡ y = cc in (ap (λ z. z ∷ []) same, omega arith)
+take_next (suc n) (x ∷ xs) y rest h = let r = take_next n xs y rest h in (ap (λ ys. x ∷ ys) r.0, omega (arith, r.1))
+
+pub tried_place : (cfg : Config) (tips : List Tip) (begun walks : List Walking) (held : List Placed) (i n : ℕ) (place : Place) (before batch : List Proved) → Distinct (map place_of held) → Trying cfg tips begun walks held i n (Some place) before batch → Comes i n held place
+tried_place cfg tips begun walks held i n place before batch d s = comes i n held place d s.next
+
+-- the packet there is of the interval
+pub above_there : (cfg : Config) (tips : List Tip) (begun walks : List Walking) (held : List Placed) (i n : ℕ) (place : Place) (before batch : List Proved) → Distinct (map place_of held) → Trying cfg tips begun walks held i n (Some place) before batch → (x : Placed) → find (stands_at place.0) held ≡ Some x → All (IsAbove x.holding.name.interval) walks
+above_there cfg tips begun walks held i n place before batch d s x h =
+    let c = comes i n held place d s.next in
+    let found : Some c.packet ≡ Some x = sym c.found ∙ h in
+    let same : c.packet ≡ x = cc in
+    subst (λ (k : ℕ). All (IsAbove k) walks) (sym (ap (λ (y : Placed). y.holding.name.interval) (sym same) ∙ eqb-true c.packet.holding.name.interval i c.of)) s.above
+
+pub room_there : (cfg : Config) (tips : List Tip) (begun walks : List Walking) (held : List Placed) (i n room : ℕ) (place : Place) (before batch : List Proved) → Distinct (map place_of held) → Trying cfg tips begun walks held i n (Some place) before batch → length before + length (filter (is_of i) held) ≤ room → length batch < room
+room_there cfg tips begun walks held i n room place before batch d s h =
+    let c = comes i n held place d s.next in
+    let more = (take_next n (filter (is_of i) held) c.packet c.behind c.is).1 in
+    let long = s.long in
+    omega arith
+
+pub trying_more : (cfg : Config) (tips : List Tip) (begun walks later : List Walking) (held : List Placed) (i n : ℕ) (place : Place) (next : Option Place) (before batch more : List Proved) → Distinct (map place_of held) → Trying cfg tips begun walks held i n (Some place) before batch → next ≡ next_place place.0 held → rows_of later ≡ rows_of walks → ((x : Placed) → find (stands_at place.0) held ≡ Some x → All (IsAbove x.holding.name.interval) later) → ((x : Placed) → find (stands_at place.0) held ≡ Some x → map release_in more ≡ map release_in batch ++ proof_of cfg tips (rows_of walks) x.holding) → (AreProved held batch → AreProved held more) → length more ≤ length batch + 1 → Trying cfg tips begun later held i (n + 1) next before more
+trying_more cfg tips begun walks later held i n place next before batch more d s e rows above releases proved long =
+    let c = comes i n held place d s.next in
+    let taken = take_next n (filter (is_of i) held) c.packet c.behind c.is in
+    let count : suc n ≡ n + 1 = omega arith in
+    let f : Placed → List Release = λ (x : Placed). proof_of cfg tips (rows_of begun) x.holding in
+    record {
+      next = e ∙ c.next;
+      rows = rows ∙ s.rows;
+      above = subst (λ (k : ℕ). All (IsAbove k) later) (eqb-true c.packet.holding.name.interval i c.of) (above c.packet c.found);
+      releases = releases c.packet c.found
+      ∙ ap (λ rs. rs ++ proof_of cfg tips (rows_of walks) c.packet.holding) s.releases
+      ∙ ap (λ w. (map release_in before ++ flat_map f (take n (filter (is_of i) held))) ++ proof_of cfg tips w c.packet.holding) s.rows
+      ∙ append_assoc (map release_in before) (flat_map f (take n (filter (is_of i) held))) (f c.packet)
+      ∙ ap (λ rs. map release_in before ++ rs) (ap (λ r. flat_map f (take n (filter (is_of i) held)) ++ r) (sym (append-nil (f c.packet))) ∙ sym (flat_map-append f (take n (filter (is_of i) held)) (c.packet ∷ []))
+      ∙ ap (flat_map f) (sym taken.0) ∙ ap (λ (k : ℕ). flat_map f (take k (filter (is_of i) held))) count);
+      proved = λ k. proved (s.proved k);
+      long = (let so_far = s.long in omega arith);
+      within = (let within = taken.1 in omega arith);
+    }
+
+take_all : {A : Type 0} (n : ℕ) (xs : List A) → drop n xs ≡ [] → take n xs ≡ xs
+take_all zero [] h = refl
+take_all (suc n) [] h = refl
+take_all zero (x ∷ xs) h = absurd (cc)
+take_all (suc n) (x ∷ xs) h = ap (λ ys. x ∷ ys) (take_all n xs h)
+
+no_first : (xs : List Placed) → first_place xs ≡ None → xs ≡ []
+no_first [] h = refl
+no_first (x ∷ xs) h = absurd (cc)
+
+flat_mapped : (f : Holding → List Release) (xs : List Placed) → flat_map f (map holding_at xs) ≡ flat_map (λ (x : Placed). f x.holding) xs
+flat_mapped f [] = refl
+flat_mapped f (x ∷ xs) = ap (λ rs. f x.holding ++ rs) (flat_mapped f xs)
+
+turn_is : (f : Holding → List Release) (held : List Placed) (i : ℕ) → flat_map (λ (x : Placed). f x.holding) (filter (is_of i) held) ≡ in_turn f (map holding_at held) i
+turn_is f held i = sym (ap (flat_map f) (filter_mapped (in_interval i) holding_at held) ∙ flat_mapped f (filter (is_of i) held))
+
+pub tried_all : (cfg : Config) (tips : List Tip) (begun walks : List Walking) (held : List Placed) (i n : ℕ) (at : Option Place) (before batch : List Proved) → Trying cfg tips begun walks held i n at before batch → drop n (filter (is_of i) held) ≡ [] → map release_in batch ≡ map release_in before ++ in_turn (proof_of cfg tips (rows_of begun)) (map holding_at held) i
+tried_all cfg tips begun walks held i n at before batch s h =
+    s.releases ∙ ap (λ xs. map release_in before ++ flat_map (λ (x : Placed). proof_of cfg tips (rows_of begun) x.holding) xs) (take_all n (filter (is_of i) held) h)
+    ∙ ap (λ rs. map release_in before ++ rs) (turn_is (proof_of cfg tips (rows_of begun)) held i)
+
+pub none_left : (cfg : Config) (tips : List Tip) (begun walks : List Walking) (held : List Placed) (i n : ℕ) (at : Option Place) (before batch : List Proved) → Trying cfg tips begun walks held i n at before batch → at ≡ None → drop n (filter (is_of i) held) ≡ []
+none_left cfg tips begun walks held i n at before batch s h = no_first (drop n (filter (is_of i) held)) (sym s.next ∙ h)

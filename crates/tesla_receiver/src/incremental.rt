@@ -1,0 +1,10 @@
+//! The receiver that keeps only what later events need.
+
+mod passing;
+mod releasing;
+mod store;
+mod taking;
+mod trying;
+
+
+pub use store::Store;

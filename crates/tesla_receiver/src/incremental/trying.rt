@@ -1,0 +1,99 @@
+//! The held packets are tried under new keys, interval by interval from the newest down.
+
+ghost use Rattle.std.specs.Prelude.{◌≡◌, ℕ, ◌+◌, ◌<◌, ◌≤◌, ◌++◌, All, true, length, map, filter, find, Some, option_to_list, vec_capacity};
+ghost use Rattle.std.specs.List.{list_any};
+ghost use Rattle.std.specs.List.Sorted.{IsPermutation};
+ghost use Rattle.tesla_frame.specs.Frame.{ChainsRise};
+ghost use Rattle.tesla_links.specs.Lists.{Distinct};
+ghost use Rattle.tesla_receiver.specs.Gathering.{in_turn, gathered};
+ghost use Rattle.tesla_receiver.specs.Proved.{release_in};
+ghost use Rattle.tesla_receiver.specs.Steps.{proof_of};
+ghost use Rattle.tesla_receiver.specs.Stored.{Placed, place_of, holding_at, stands_at, is_of, AreProved};
+ghost use Rattle.tesla_receiver.specs.Walking.{rows_of, IsAbove};
+
+use super::Store;
+use crate::Config;
+use crate::keeping::ordering::Proved;
+use crate::keeping::proving::prove;
+use crate::keeping::walk::Walk;
+use std::sync::ledger::Ledger;
+use tesla_base::{Place, Steps};
+use tesla_keys::Verifier;
+
+// Appends what was proved, if it was.
+fn append(batch: &mut Vec<Proved>, proved: Option<Proved>)
+    requires { length batch.old.items < vec_capacity batch.old }
+    ensures items { batch.new.items ≡ batch.old.items ++ option_to_list proved }
+    ensures long { length batch.new.items ≤ length batch.old.items + 1 }
+    ensures capacity { vec_capacity batch.old ≤ vec_capacity batch.new }
+{
+    let Some(proved) = proved else {
+        return;
+    };
+    let Ok(()) = batch.push(proved) else {
+        unreachable!()
+    };
+}
+
+impl Store {
+    // Tries the packet in a place; what new keys prove of it goes to the batch.
+    fn try_at<L: Ledger>(
+        &self,
+        config: &Config,
+        tips: &[Verifier],
+        walks: &mut [Walk],
+        place: Place,
+        batch: &mut Vec<Proved>,
+        steps: &mut Steps<L>,
+    )
+        requires tips { length tips.now ≡ length config.now.setup.rows }
+        requires chains { self.now.chains ≡ length config.now.setup.rows }
+        requires rise { ChainsRise (rows_of walks.old) }
+        requires live { list_any (stands_at place.0) self.now.held ≡ true }
+        requires above { (x : Placed) → find (stands_at place.0) self.now.held ≡ Some x → All (IsAbove x.holding.name.interval) walks.old }
+        requires room { length batch.old.items < vec_capacity batch.old }
+        ensures releases { (x : Placed) → find (stands_at place.0) self.now.held ≡ Some x →
+            map release_in batch.new.items ≡ map release_in batch.old.items ++ proof_of config.now tips.now (rows_of walks.old) x.holding }
+        ensures proved { AreProved self.now.held batch.old.items → AreProved self.now.held batch.new.items }
+        ensures long { length batch.new.items ≤ length batch.old.items + 1 }
+        ensures capacity { vec_capacity batch.old ≤ vec_capacity batch.new }
+        ensures rows { rows_of walks.new ≡ rows_of walks.old }
+        ensures above { (x : Placed) → find (stands_at place.0) self.now.held ≡ Some x → All (IsAbove x.holding.name.interval) walks.new }
+    {
+        let proved = prove(config, tips, walks, self.item(place), place, steps);
+        append(batch, proved);
+    }
+
+    // Tries the packets of an interval, in order of arrival.
+    fn try_interval<L: Ledger>(
+        &self,
+        config: &Config,
+        tips: &[Verifier],
+        walks: &mut [Walk],
+        interval: u32,
+        batch: &mut Vec<Proved>,
+        steps: &mut Steps<L>,
+    )
+        requires tips { length tips.now ≡ length config.now.setup.rows }
+        requires chains { self.now.chains ≡ length config.now.setup.rows }
+        requires apart { Distinct (map place_of self.now.held) }
+        requires rise { ChainsRise (rows_of walks.old) }
+        requires above { All (IsAbove interval) walks.old }
+        requires room { length batch.old.items + length (filter (is_of interval) self.now.held) ≤ vec_capacity batch.old }
+        ensures releases { map release_in batch.new.items ≡ map release_in batch.old.items ++ in_turn (proof_of config.now tips.now (rows_of walks.old)) (map holding_at self.now.held) interval }
+        ensures proved { AreProved self.now.held batch.old.items → AreProved self.now.held batch.new.items }
+        ensures long { length batch.new.items ≤ length batch.old.items + length (filter (is_of interval) self.now.held) }
+        ensures capacity { vec_capacity batch.old ≤ vec_capacity batch.new }
+        ensures rows { rows_of walks.new ≡ rows_of walks.old }
+        ensures above { All (IsAbove interval) walks.new }
+    {
+        let mut next = self.first_of(interval);
+        for _looked in 0..self.held_in(interval) {
+            let Some(place) = next else {
+                return;
+            };
+            next = self.next_of(place);
+            self.try_at(config, tips, walks, place, batch, steps);
+        }
+    }
+}

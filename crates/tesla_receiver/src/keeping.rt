@@ -1,0 +1,11 @@
+//! The parts of a receiver that keeps no arrivals, and take no memory.
+
+pub mod counts;
+pub mod judging;
+pub mod offers;
+pub mod ordering;
+pub mod proving;
+pub mod rows;
+#[cfg(test)]
+mod tests;
+pub mod walk;
