@@ -33,7 +33,7 @@ use Rattle.tesla_receiver.proofs.Grown.{same_taken}
 use Rattle.tesla_receiver.proofs.HeldAfter.{own_held}
 use Rattle.tesla_receiver.proofs.Newest.{newest_more}
 use Rattle.tesla_receiver.proofs.Judged.{fits_unrefused, refused_same, new_same, safe_some, judged_same}
-use Rattle.tesla_receiver.proofs.Keeping.{Keeps, tips_keyed, waiting_keyed, held_keyed, keeps_keyed, keeps_quiet}
+use Rattle.tesla_receiver.proofs.KeptState.{Keeps, tips_keyed, waiting_keyed, held_keyed, keeps_keyed, keeps_quiet}
 use Rattle.tesla_receiver.proofs.Legal.{given_fits}
 use Rattle.tesla_receiver.proofs.Standing.{entered_legal, ended_same, given_same}
 use Rattle.tesla_receiver.proofs.Verdicts.{verdict_malformed, verdict_refused, verdict_taking}

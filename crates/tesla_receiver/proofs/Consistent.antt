@@ -26,7 +26,7 @@ use Rattle.tesla_receiver.proofs.Below.{passes_somewhere, passes_at, any_taken, 
 use Rattle.tesla_receiver.proofs.Counts.{report_sum, entered_few}
 use Rattle.tesla_receiver.proofs.Gone.{Brought, is_called, called_same, same_name}
 use Rattle.tesla_receiver.proofs.Judged.{held_all, held_interval}
-use Rattle.tesla_receiver.proofs.Keeping.{none_let_go}
+use Rattle.tesla_receiver.proofs.KeptState.{none_let_go}
 use Rattle.tesla_receiver.proofs.Limits.{capacity_kept, quota_kept}
 use Rattle.tesla_receiver.proofs.Once.{released_once, all_called, place_once, next_out, untaken_stays, found_held}
 use Rattle.tesla_receiver.proofs.Owners.{owned_at}

@@ -24,7 +24,7 @@ use Rattle.tesla_receiver.specs.Steps.{tip_at, is_newer, new_rows, bound_at}
 use Rattle.tesla_receiver.proofs.Arriving.{keeps_of}
 use Rattle.tesla_receiver.proofs.Below.{filter_same, any_taken}
 use Rattle.tesla_receiver.proofs.Judged.{keys_within}
-use Rattle.tesla_receiver.proofs.Keeping.{Keeps, tips_kept}
+use Rattle.tesla_receiver.proofs.KeptState.{Keeps, tips_kept}
 use Rattle.tesla_receiver.proofs.Owners.{released_proved}
 
 -- ---- sums

@@ -32,7 +32,7 @@ use Rattle.tesla_receiver.specs.Steps.{tip_at, is_newer, fails, new_rows, refuse
 use Rattle.tesla_receiver.proofs.Batches.{is_open, is_seen, seen_held}
 use Rattle.tesla_receiver.proofs.Below.{same_test, find_same, filter_same, all_fail}
 use Rattle.tesla_receiver.proofs.Tips.{bad_offered}
-use Rattle.tesla_receiver.proofs.Keeping.{Keeps, tip_kept, tips_kept}
+use Rattle.tesla_receiver.proofs.KeptState.{Keeps, tip_kept, tips_kept}
 use Rattle.tesla_receiver.proofs.Names.{first_named}
 use Rattle.tesla_receiver.proofs.Numbered.{count_gathered, count_all}
 use Rattle.tesla_receiver.proofs.Owners.{released_proved}

@@ -24,7 +24,7 @@ pub mod Owners
 pub mod HeldAfter
 pub mod Legal
 pub mod Counts
-pub mod Keeping
+pub mod KeptState
 pub mod Judged
 pub mod Arriving
 pub mod Once

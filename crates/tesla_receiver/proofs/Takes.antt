@@ -27,7 +27,7 @@ use Rattle.tesla_receiver.proofs.Arriving.{keeps_of}
 use Rattle.tesla_receiver.proofs.Batches.{TipsOf}
 use Rattle.tesla_receiver.proofs.Below.{first_in}
 use Rattle.tesla_receiver.proofs.HeldAfter.{passed_same}
-use Rattle.tesla_receiver.proofs.Keeping.{tips_kept}
+use Rattle.tesla_receiver.proofs.KeptState.{tips_kept}
 use Rattle.tesla_receiver.proofs.Legal.{arrivals_same, given_take}
 use Rattle.tesla_receiver.proofs.Numbered.{gathered_same, flat_map-flat_map}
 use Rattle.tesla_receiver.proofs.Once.{place_once, next_out, untaken_stays, payload_next}

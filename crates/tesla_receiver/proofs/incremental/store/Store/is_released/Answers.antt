@@ -16,6 +16,6 @@ told name held (Some p) h = sym (any_weaker (λ x. is_at p.0 x && is_released_as
 
 pub returns : goal.returns
 returns c =
-    c.is_some.ensures ∙ told c.args.name c.self.inside.buffer.held c.released_named.result c.released_named.ensures
+    c.is_some.ensures ∙ told c.args.name c.self.inside.buffer.held c.released_named.result c.released_named.ensures.place
     ∙ sym (any_mapped (λ (x : Placed). is_named_so c.args.name x.holding) (is_released_as c.args.name) (placed_in c.self.inside.chains) (λ x. refl) c.self.inside.buffer.held)
     ∙ ap (λ (s : Stored). list_any (λ (x : Placed). is_named_so c.args.name x.holding) s.held) c.self.view_is

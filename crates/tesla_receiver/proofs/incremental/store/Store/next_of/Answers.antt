@@ -8,4 +8,4 @@ pub next_of-requires : goal.next_of-requires
 next_of-requires c = any_shown c.self.inside.chains c.args.place.0 c.self.inside.buffer.held ∙ ap (λ (s : Stored). list_any (stands_at c.args.place.0) s.held) c.self.view_is ∙ c.requires
 
 pub returns : goal.returns
-returns c = c.next_of.ensures ∙ sym (next_shown c.self.inside.chains c.args.place.0 c.self.inside.buffer.held) ∙ ap (λ (s : Stored). next_place c.args.place.0 s.held) c.self.view_is
+returns c = c.next_of.ensures.place ∙ sym (next_shown c.self.inside.chains c.args.place.0 c.self.inside.buffer.held) ∙ ap (λ (s : Stored). next_place c.args.place.0 s.held) c.self.view_is
