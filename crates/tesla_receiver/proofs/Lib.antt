@@ -31,3 +31,5 @@ pub mod CarriedRise
 pub mod Beginning
 pub mod SafeTips
 pub mod Trying
+pub mod Batch
+pub mod KeysTaken

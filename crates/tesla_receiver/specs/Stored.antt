@@ -40,6 +40,9 @@ placed_in chains held = record { place = held.place; holding = holding_in chains
 abbrev pub place_of : Placed → ℕ
 place_of x = x.place
 
+abbrev pub place_here : Placed → ℕ
+place_here x = x.place
+
 abbrev pub holding_at : Placed → Holding
 holding_at x = x.holding
 
