@@ -83,8 +83,8 @@ fn verifier_of(config: &Config, chain: u8) -> Verifier {
 fn outcome<L: Ledger>(
     alloc: Global,
     blank: Blank,
-    held: &str,
-    keys: &str,
+    held: &[u8],
+    keys: &[u8],
 ) -> Result<(Option<Verdict>, Option<ChainNo>, (u32, u32), u32, u32), Fail>
     requires name { blank.name ≡ L.name }
     requires parts { blank.parts ≡ L.parts }
@@ -98,8 +98,8 @@ fn outcome<L: Ledger>(
         quota: 1,
         ingests: 1,
     };
-    let held = hex::decode(alloc, held.as_bytes())?;
-    let keys = hex::decode(alloc, keys.as_bytes())?;
+    let held = hex::decode(alloc, held)?;
+    let keys = hex::decode(alloc, keys)?;
     let packet = read_frame(held.as_slice()).ok_or("a frame")?;
     let frame = read_frame(keys.as_slice()).ok_or("a frame")?;
     let FrameView::Data(data) = packet else {
@@ -140,7 +140,7 @@ fn keys_of_frames(rt: HostRuntime) -> Result<(), Fail> {
         (BARE_2_0_A, KEYS_0_1_ALTERED, Some(bad), None, (0, 0), 0, 0),
     ];
     for (held, keys, refusal, chain, spanned, first, second) in table {
-        let given = outcome::<Brand>(rt.alloc(), Blank::new(1), held, keys)?;
+        let given = outcome::<Brand>(rt.alloc(), Blank::new(1), held.as_bytes(), keys.as_bytes())?;
         assert!(rt; given == (refusal, chain, spanned, first, second));
     }
     Ok(())
