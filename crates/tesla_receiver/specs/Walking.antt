@@ -1,5 +1,5 @@
 -- Walks back from new keys, as contracts see them, and what they cost in evaluations of HMAC.
-use Rattle.std.specs.Prelude.{◌≡◌, ◌≤◌, ℕ, ◌-◌, Bool, true, false, ◌&&◌, List, length, map, min, Option, IfSome, nat_lt, nat_le, count_by, if◌then◌else◌}
+use Rattle.std.specs.Prelude.{◌≡◌, ◌≤◌, ℕ, ◌-◌, Bool, false, ◌&&◌, List, map, min, Option, IfSome, nat_lt, nat_le, count_by, if◌then◌else◌}
 use Rattle.std.specs.List.{list_any, sum_by}
 use Rattle.tesla_base.specs.declared.names.Key.{Key}
 use Rattle.tesla_clock.specs.Safe.{has_chain}
