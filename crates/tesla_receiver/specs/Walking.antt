@@ -63,3 +63,11 @@ is_tried tips new item chain =
 -- on how many chains the packet is tried
 abbrev pub tried : Config → List Tip → List KeyRow → Holding → ℕ
 tried cfg tips new item = count_by (is_tried tips new item) (chains cfg)
+
+-- the same, where a packet that is released isn't tried
+abbrev pub tries : Config → List Tip → List KeyRow → Holding → ℕ
+tries cfg tips new item = if item.released then 0 else tried cfg tips new item
+
+-- the pairs of a packet and a chain on which it is tried
+abbrev pub pairs : Config → List Tip → List KeyRow → List Holding → ℕ
+pairs cfg tips new held = sum_by (tries cfg tips new) held
