@@ -25,3 +25,4 @@ pub mod Gathering
 pub mod CarriedRise
 pub mod Beginning
 pub mod SafeTips
+pub mod TagsShown

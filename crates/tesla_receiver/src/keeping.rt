@@ -6,6 +6,7 @@ pub mod offers;
 pub mod ordering;
 pub mod proving;
 pub mod rows;
+pub mod tags;
 #[cfg(test)]
 mod tests;
 pub mod walk;

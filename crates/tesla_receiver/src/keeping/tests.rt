@@ -8,13 +8,14 @@ use crate::keeping::judging::{refused, safe_by};
 use crate::keeping::offers::raise;
 use crate::keeping::ordering::{Proved, sort, span};
 use crate::keeping::proving::prove;
+use crate::keeping::tags::tags_of;
 use crate::keys::chain_row;
 use crate::{Config, Release, Report, Verdict};
 use std::alloc::Global;
 use std::marker::Brand;
 use std::sync::ledger::{Blank, Ledger};
 use std::test::*;
-use tesla_base::{ChainNo, Name, Place, Steps, WideTag};
+use tesla_base::{ChainNo, Name, Place, Steps};
 use tesla_buffer::Item;
 use tesla_commit::read_setup;
 use tesla_examples::{
@@ -32,19 +33,13 @@ fn held_as(frame: &DataView<'_>) -> Item
     let text = frame.payload();
     let mut payload = [0; 1200];
     payload[..text.len()].copy_from_slice(text);
-    let mut tags = [WideTag {
-        bytes: [0; 32],
-        length: 0,
-    }; 8];
-    tags[0] = frame.tag(0);
-    tags[1] = frame.tag(1);
     Item {
         order: 7,
         name: frame.name(),
         chains: 3,
         length: text.len() as u16,
         payload,
-        tags,
+        tags: tags_of(frame),
         released: false,
         taken: false,
     }
