@@ -26,3 +26,4 @@ pub mod CarriedRise
 pub mod Beginning
 pub mod SafeTips
 pub mod TagsShown
+pub mod FirstTips

@@ -9,4 +9,5 @@ pub mod rows;
 pub mod tags;
 #[cfg(test)]
 mod tests;
+pub mod tips;
 pub mod walk;

@@ -9,7 +9,7 @@ use crate::keeping::offers::raise;
 use crate::keeping::ordering::{Proved, sort, span};
 use crate::keeping::proving::prove;
 use crate::keeping::tags::tags_of;
-use crate::keys::chain_row;
+use crate::keeping::tips::first_tips;
 use crate::{Config, Release, Report, Verdict};
 use std::alloc::Global;
 use std::marker::Brand;
@@ -69,11 +69,6 @@ fn taken<L: Ledger>(
     Ok((None, proved, spanned))
 }
 
-fn verifier_of(config: &Config, chain: u8) -> Verifier {
-    let row = chain_row(config, chain);
-    Verifier::new(row.index, row.key)
-}
-
 /// What comes of the keys of the second frame while the packet of the first is held, and the newest indexes after.
 fn outcome<L: Ledger>(
     alloc: Global,
@@ -104,8 +99,15 @@ fn outcome<L: Ledger>(
         return Err("two chains".into());
     }
     let item = held_as(&data);
-    let mut tips = [verifier_of(&config, 0), verifier_of(&config, 1)];
-    let (refusal, proved, spanned) = taken(alloc, &config, &mut tips, &item, &frame, &mut steps)?;
+    let mut tips = first_tips(alloc, &config)?;
+    let (refusal, proved, spanned) = taken(
+        alloc,
+        &config,
+        tips.as_mut_slice(),
+        &item,
+        &frame,
+        &mut steps,
+    )?;
     let chain = proved.map(|one| one.release.chain);
     Ok((
         refusal,
@@ -193,11 +195,8 @@ fn safe_at(alloc: Global, bound: Option<u64>) -> Result<u8, Fail> {
         quota: 1,
         ingests: 1,
     };
-    if config.setup.count() != 2 {
-        return Err("two chains".into());
-    }
-    let tips = [verifier_of(&config, 0), verifier_of(&config, 1)];
-    Ok(safe_by(&config, &tips, bound, 2))
+    let tips = first_tips(alloc, &config)?;
+    Ok(safe_by(&config, tips.as_slice(), bound, 2))
 }
 
 #[test]
