@@ -1,4 +1,4 @@
-use Rattle.std.proofs.Common.{◌≡◌, ◌≤◌, length, arith}
+use Rattle.std.proofs.Common.{◌≤◌, length, arith}
 use Rattle.tesla_receiver.proofs.TagsShown.{bytes_shown}
 use Rattle.tesla_receiver.proofs.keeping.tags.tags_of.Goals as goal
 
