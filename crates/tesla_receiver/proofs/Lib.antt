@@ -33,3 +33,5 @@ pub mod SafeTips
 pub mod Trying
 pub mod Batch
 pub mod KeysTaken
+pub mod TagsShown
+pub mod FirstTips
