@@ -1,15 +1,15 @@
 -- What is gathered interval by interval has the elements of what is gathered in order of arrival.
 use Rattle.std.proofs.Common.{◌≡◌, ℕ, zero, suc, ◌+◌, ◌-◌, ◌<◌, ◌≤◌, Bool, true, false, cond, ◌&&◌, ◌||◌, List, [], ◌∷◌, ◌++◌, length, get_or, filter, flat_map, take, Option, Some, None, refl, sym, ap, subst, ◌∙◌, ◌⊎◌, inl, inr, arith, append_assoc}
 use Rattle.std.specs.Prelude.{◌==◌, ◌^◌, fold, nat_le, nat_lt, find, slice_get}
-use Rattle.std.specs.List.{All, list_any, range_with_len}
+use Rattle.std.specs.List.{All, list_any, sum_by}
 use Rattle.std.specs.List.Sorted.{IsPermutation}
-use Rattle.std.proofs.lemmas.Bool.{cases_Bool, eqb-true, ne_eqb}
+use Rattle.std.proofs.lemmas.Bool.{cases_Bool, eqb-true}
 use Rattle.std.proofs.lemmas.Bool.Decides.{nat_tests}
 use Rattle.std.proofs.lemmas.List.{append-nil, get_or-map, length-map, take_all, take_more}
 use Rattle.std.proofs.lemmas.List.Concat.{flat_map-append}
-use Rattle.std.proofs.lemmas.List.Sums.{fold-append}
-use Rattle.std.proofs.lemmas.List.Elements.{All-append, All-cons, All-head, All-nil, All-tail}
-use Rattle.std.proofs.lemmas.List.Sorted.{IsPermutation-append_comm, IsPermutation-append_left, IsPermutation-append_right, IsPermutation-refl, IsPermutation-sym, IsPermutation-trans}
+use Rattle.std.proofs.lemmas.List.Sums.{fold-append, sum_by-cons}
+use Rattle.std.proofs.lemmas.List.Elements.{All-cons, All-head, All-nil, All-tail}
+use Rattle.std.proofs.lemmas.List.Sorted.{IsPermutation-append_comm, IsPermutation-append_left, IsPermutation-append_right, IsPermutation-refl, IsPermutation-trans, sum_by-IsPermutation}
 use Rattle.tesla_frame.specs.declared.row.KeyRow.{KeyRow}
 use Rattle.tesla_keys.specs.Tip.{Tip}
 use Rattle.tesla_receiver.specs.declared.config.Config.{Config}
@@ -275,3 +275,27 @@ batch_gathers cfg tips new held low count spans =
 -- the places of the batch rise
 pub batch_rises : (cfg : Config) (tips : List Tip) (new : List KeyRow) (held : List Holding) → RiseBy order_of held → RiseBy place_of (batch_of cfg tips new held)
 batch_rises cfg tips new held rise = gives_rising order_of place_of (proof_of cfg tips new) (gives_own cfg tips new) held rise
+
+-- ---- what is gathered is tried once
+
+flat_map_one : {A : Type 0} (xs : List A) → flat_map (λ x. x ∷ []) xs ≡ xs
+flat_map_one [] = refl
+flat_map_one (x ∷ xs) = ap (λ ys. x ∷ ys) (flat_map_one xs)
+
+sum_filter : {A : Type 0} (number : A → ℕ) (p : A → Bool) (xs : List A) → sum_by number (filter p xs) ≤ sum_by number xs
+sum_filter number p [] = omega arith
+sum_filter number p (x ∷ xs) =
+    let rest : sum_by number (filter p xs) ≤ sum_by number xs = sum_filter number p xs in
+    let whole = sum_by-cons number x xs in
+    let kept = sum_by-cons number x (filter p xs) in
+    elim (p x) as (λ b. sum_by number (cond b (x ∷ filter p xs) (filter p xs)) ≤ sum_by number (x ∷ xs)) [ true ↦ omega (arith, rest, whole, kept) | false ↦ omega (arith, rest, whole) ]
+
+-- the packets of the intervals, from the last interval down, count for no more than all that are held
+pub gathered_sum : (number : Holding → ℕ) (held : List Holding) (low count : ℕ) → sum_by number (gathered (λ item. item ∷ []) held low count) ≤ sum_by number held
+gathered_sum number held low count =
+    let one : Holding → List Holding = λ item. item ∷ [] in
+    let those = filter (is_between low (low + count)) held in
+    let same : sum_by number (gathered one held low count) ≡ sum_by number (flat_map one those) =
+    sum_by-IsPermutation number (flat_map one those) (gathered one held low count) (gathers one held low count) in
+    let plain : sum_by number (flat_map one those) ≡ sum_by number those = ap (sum_by number) (flat_map_one those) in
+    omega (arith, same, plain, sum_filter number (is_between low (low + count)) held)

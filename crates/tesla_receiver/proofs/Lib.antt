@@ -55,3 +55,7 @@ pub mod CarriedRise
 pub mod Beginning
 pub mod SafeTips
 pub mod Trying
+pub mod Batch
+pub mod KeysTaken
+pub mod TagsShown
+pub mod FirstTips

@@ -264,7 +264,7 @@ marked_there p ps out x true e none unheard =
 marked_there p ps out x false e none unheard =
     sym (ap (λ t. cond ((t || any_there x ps) && not (t || any_there x out)) [] (cond (t || any_there x out) (released_now x) x ∷ [])) e)
 
-eq_turn : (a b : ℕ) → (a == b) ≡ (b == a)
+pub eq_turn : (a b : ℕ) → (a == b) ≡ (b == a)
 eq_turn a b = ⊎_elim (λ e. e ∙ sym (eq-eqb b a (sym (eqb-true a b e)))) (λ e. e ∙ sym (ne_eqb b a (λ k. both_ways (a == b) e (eq-eqb a b (sym k))))) (cases_Bool (a == b))
 
 kept_if : (t : Bool) (p : Proved) (ps out : List Proved) (held : List Placed) → is_in p.place.0 (map place_proved ps) ≡ false → is_in p.place.0 (map place_proved out) ≡ false → flat_map (settled_by ps out) (settled_if t held p) ≡ flat_map (settled_by (p ∷ ps) (released_if t p ++ out)) held

@@ -1,6 +1,6 @@
 -- A walk along the packets of an interval, some of which are let go on the way.
 use Rattle.std.proofs.Common.{◌≡◌, ℕ, ◌+◌, ◌<◌, ◌≤◌, suc, zero, Bool, true, false, cond, ◌&&◌, ◌||◌, List, [], ◌∷◌, ◌++◌, length, map, drop, Option, Some, None, refl, sym, ap, subst, ⊎_elim, ◌∙◌, arith, ◌==◌}
-use Rattle.std.specs.Prelude.{not, find, nat_lt, nat_le}
+use Rattle.std.specs.Prelude.{not, find, nat_lt, nat_le, max}
 use Rattle.std.specs.List.{list_any, list_all, filter}
 use Rattle.std.proofs.Math.ListN.{drop_of_length-le}
 use Rattle.std.proofs.lemmas.Bool.{cases_Bool, and_parts, and_from, or_cases, or_left, or_right, both_ways, eqb-true, eq-eqb, ne_eqb, false_from_ne_true, not-false}
@@ -350,3 +350,14 @@ comes i n held place d h =
       next = ap (λ (p : ℕ). next_place p held) f.place_is ∙ ap (next_place f.first.place) (sym (swept_never i n held)) ∙ r.next
       ∙ ap first_place (sym (drop_next n (filter (is_of i) held) f.first f.rest f.is)) ∙ ap (λ (k : ℕ). first_place (drop k (filter (is_of i) held))) count;
     }
+
+ends_same : (low high n i : ℕ) → low ≤ n → high ≤ n → n ≤ max low high → (nat_lt low i && nat_le i n) ≡ (nat_lt low i && nat_le i high)
+ends_same low high n i a b c = grind (arith, nat_tests)
+
+filter_same : {A : Type 0} (p q : A → Bool) → ((x : A) → p x ≡ q x) → (xs : List A) → filter p xs ≡ filter q xs
+filter_same p q same [] = refl
+filter_same p q same (x ∷ xs) = ap (λ t. cond t (x ∷ filter p xs) (filter p xs)) (same x) ∙ ap (λ ys. cond (q x) (x ∷ ys) ys) (filter_same p q same xs)
+
+pub span_ends : (low high n : ℕ) (over : Placed → Bool) (old new : Stored) → Spanned old new low over n → low ≤ n → high ≤ n → n ≤ max low high → new.held ≡ filter (λ x. not (in_span low high x && over x)) old.held
+span_ends low high n over old new s a b c =
+    s.held ∙ filter_same (λ x. not (in_span low n x && over x)) (λ x. not (in_span low high x && over x)) (λ x. ap (λ t. not (t && over x)) (ends_same low high n x.holding.name.interval a b c)) old.held

@@ -3,7 +3,9 @@ use Rattle.std.proofs.Common.{◌≡◌, ℕ, ◌+◌, ◌-◌, ◌<◌, ◌≤�
 use Rattle.std.specs.Prelude.{not, find, nat_lt, nat_le, All, option_to_list, IfSome}
 use Rattle.std.specs.List.{list_any, list_all, filter}
 use Rattle.std.proofs.lemmas.Bool.{cases_Bool, and_parts, and_from, or_left, eq-eqb, eqb-true}
-use Rattle.std.proofs.lemmas.List.{append-nil, length-map}
+use Rattle.std.proofs.lemmas.Bool.Decides.{nat_tests}
+use Rattle.std.proofs.lemmas.List.{append-nil}
+use Rattle.std.proofs.lemmas.List.Elements.{All-weaker}
 use Rattle.std.proofs.lemmas.List.Concat.{flat_map-append}
 use Rattle.tesla_base.specs.declared.names.Name.{Name}
 use Rattle.tesla_base.specs.declared.names.Place.{Place}
@@ -15,12 +17,13 @@ use Rattle.tesla_receiver.specs.declared.config.Config.{Config}
 use Rattle.tesla_receiver.specs.declared.keeping.ordering.Proved.{Proved}
 use Rattle.tesla_receiver.specs.declared.release.Release.{Release}
 use Rattle.tesla_receiver.specs.Config.{chains}
-use Rattle.tesla_receiver.specs.Gathering.{in_turn}
+use Rattle.tesla_receiver.specs.Gathering.{in_turn, gathered, down_to}
 use Rattle.tesla_receiver.specs.Proved.{release_in}
 use Rattle.tesla_receiver.specs.State.{Holding}
 use Rattle.tesla_receiver.specs.Steps.{proof_of, proves_on, released_on, in_interval}
-use Rattle.tesla_receiver.specs.Stored.{Placed, place_of, holding_at, stands_at, is_of, is_proved_by, first_place, next_place, AreProved}
+use Rattle.tesla_receiver.specs.Stored.{Placed, place_of, holding_at, stands_at, is_of, in_span, is_proved_by, first_place, next_place, AreProved}
 use Rattle.tesla_receiver.specs.Walking.{Walking, rows_of, IsAbove}
+use Rattle.tesla_receiver.proofs.Gathering.{gathered_more, gathered_whole}
 use Rattle.tesla_receiver.proofs.Marked.{filter_mapped}
 use Rattle.tesla_receiver.proofs.Sweeping.{Comes, comes, found_stands}
 
@@ -148,3 +151,104 @@ tried_all cfg tips begun walks held i n at before batch s h =
 
 pub none_left : (cfg : Config) (tips : List Tip) (begun walks : List Walking) (held : List Placed) (i n : ℕ) (at : Option Place) (before batch : List Proved) → Trying cfg tips begun walks held i n at before batch → at ≡ None → drop n (filter (is_of i) held) ≡ []
 none_left cfg tips begun walks held i n at before batch s h = no_first (drop n (filter (is_of i) held)) (sym s.next ∙ h)
+
+-- ---- a walk down the intervals
+
+in_or_out : (a b : Bool) (n m k : ℕ) → n ≡ m + k → (a && b) ≡ false → (cond (a || b) (n + 1) n) ≡ cond a (m + 1) m + cond b (k + 1) k
+in_or_out true true n m k h e = absurd (cc)
+in_or_out true false n m k h e = omega arith
+in_or_out false true n m k h e = omega arith
+in_or_out false false n m k h e = h
+
+length_cond : {A : Type 0} (b : Bool) (x : A) (xs : List A) → length (cond b (x ∷ xs) xs) ≡ cond b (length xs + 1) (length xs)
+length_cond true x xs = omega arith
+length_cond false x xs = refl
+
+span_down : (b high i : ℕ) → b < high → (nat_lt b i && nat_le i high) ≡ ((nat_lt (b + 1) i && nat_le i high) || (i == (b + 1)))
+span_down b high i h = grind (arith, nat_tests)
+
+span_apart : (b high i : ℕ) → ((nat_lt (b + 1) i && nat_le i high) && (i == (b + 1))) ≡ false
+span_apart b high i = grind (arith, nat_tests)
+
+pub span_count : (b high : ℕ) (held : List Placed) → b < high → length (filter (in_span b high) held) ≡ length (filter (in_span (b + 1) high) held) + length (filter (is_of (b + 1)) held)
+span_count b high [] h = omega arith
+span_count b high (x ∷ xs) h =
+    length_cond (in_span b high x) x (filter (in_span b high) xs)
+    ∙ ap (λ t. cond t (length (filter (in_span b high) xs) + 1) (length (filter (in_span b high) xs))) (span_down b high x.holding.name.interval h)
+    ∙ in_or_out (in_span (b + 1) high x) (is_of (b + 1) x) (length (filter (in_span b high) xs)) (length (filter (in_span (b + 1) high) xs)) (length (filter (is_of (b + 1)) xs)) (span_count b high xs h) (span_apart b high x.holding.name.interval)
+    ∙ ap (λ (n : ℕ). n + cond (is_of (b + 1) x) (length (filter (is_of (b + 1)) xs) + 1) (length (filter (is_of (b + 1)) xs))) (sym (length_cond (in_span (b + 1) high x) x (filter (in_span (b + 1) high) xs)))
+    ∙ ap (λ (n : ℕ). length (filter (in_span (b + 1) high) (x ∷ xs)) + n) (sym (length_cond (is_of (b + 1) x) x (filter (is_of (b + 1)) xs)))
+
+pub fewer : {A : Type 0} (p : A → Bool) (xs : List A) → length (filter p xs) ≤ length xs
+fewer p [] = omega arith
+fewer p (x ∷ xs) =
+    let rest = fewer p xs in
+    ⊎_elim
+    (λ e. subst (λ t. length (cond t (x ∷ filter p xs) (filter p xs)) ≤ length (x ∷ xs)) (sym e) (omega arith))
+    (λ e. subst (λ t. length (cond t (x ∷ filter p xs) (filter p xs)) ≤ length (x ∷ xs)) (sym e) (omega arith))
+    (cases_Bool (p x))
+
+-- the intervals above this one were tried
+pub record Spanning (cfg : Config) (tips : List Tip) (begun walks : List Walking) (held : List Placed) (low high b : ℕ) (batch : List Proved) : Type 0 where
+  pub rows : rows_of walks ≡ rows_of begun
+  pub above : All (IsAbove b) walks
+  pub releases : map release_in batch ≡ flat_map (in_turn (proof_of cfg tips (rows_of begun)) (map holding_at held)) (take (high - b) (down_to low (high - low)))
+  pub proved : AreProved held batch
+  pub long : length batch ≤ length (filter (in_span b high) held)
+  pub within : b ≤ high
+
+pub spanning_none : (cfg : Config) (tips : List Tip) (walks : List Walking) (held : List Placed) (low high : ℕ) (batch : List Proved) → batch ≡ [] → All (IsAbove high) walks → Spanning cfg tips walks walks held low high high batch
+spanning_none cfg tips walks held low high batch empty above =
+    let none : high - high ≡ 0 = omega arith in
+    record {
+      rows = refl;
+      above = above;
+      releases = ap (map release_in) empty ∙ ap (λ (n : ℕ). flat_map (in_turn (proof_of cfg tips (rows_of walks)) (map holding_at held)) (take n (down_to low (high - low)))) (sym none);
+      proved = ap (λ qs. list_all (λ (p : Proved). list_any (is_proved_by p) held) qs) empty;
+      long = (let nothing : length batch ≡ 0 = ap length empty in omega arith);
+      within = omega arith;
+    }
+
+below_too : (i j : ℕ) → i ≤ j → (w : Walking) → IsAbove j w → IsAbove i w
+below_too i j h w a = omega arith
+
+pub lower_too : (i j : ℕ) → i ≤ j → (walks : List Walking) → All (IsAbove j) walks → All (IsAbove i) walks
+lower_too i j h walks all = All-weaker (IsAbove j) (IsAbove i) (below_too i j h) walks all
+
+pub spanning_room : (cfg : Config) (tips : List Tip) (begun walks : List Walking) (held : List Placed) (low high b room : ℕ) (batch : List Proved) → Spanning cfg tips begun walks held low high (b + 1) batch → length held ≤ room → length batch + length (filter (is_of (b + 1)) held) ≤ room
+spanning_room cfg tips begun walks held low high b room batch s h =
+    let within = s.within in
+    let long = s.long in
+    let parts = span_count b high held (omega arith) in
+    let few = fewer (in_span b high) held in
+    omega arith
+
+pub spanning_more : (cfg : Config) (tips : List Tip) (begun walks later : List Walking) (held : List Placed) (low high b : ℕ) (batch more : List Proved) → low ≤ b → Spanning cfg tips begun walks held low high (b + 1) batch → rows_of later ≡ rows_of walks → All (IsAbove (b + 1)) later → map release_in more ≡ map release_in batch ++ in_turn (proof_of cfg tips (rows_of walks)) (map holding_at held) (b + 1) → (AreProved held batch → AreProved held more) → length more ≤ length batch + length (filter (is_of (b + 1)) held) → Spanning cfg tips begun later held low high b more
+spanning_more cfg tips begun walks later held low high b batch more least s rows above releases proved long =
+    let within = s.within in
+    let f : Holding → List Release = proof_of cfg tips (rows_of begun) in
+    let hs : List Holding = map holding_at held in
+    let k : ℕ = high - (b + 1) in
+    let inside : k < high - low = omega arith in
+    let count : k + 1 ≡ high - b = omega arith in
+    let there : low + (high - low) - k ≡ b + 1 = omega arith in
+    let parts = span_count b high held (omega arith) in
+    let so_far = s.long in
+    record {
+      rows = rows ∙ s.rows;
+      above = lower_too b (b + 1) (omega arith) later above;
+      releases = releases
+      ∙ ap (λ w. map release_in batch ++ in_turn (proof_of cfg tips w) hs (b + 1)) s.rows
+      ∙ ap (λ rs. rs ++ in_turn f hs (b + 1)) s.releases
+      ∙ ap (λ (i : ℕ). flat_map (in_turn f hs) (take k (down_to low (high - low))) ++ in_turn f hs i) (sym there)
+      ∙ sym (gathered_more f hs low (high - low) k inside)
+      ∙ ap (λ (n : ℕ). flat_map (in_turn f hs) (take n (down_to low (high - low)))) count;
+      proved = proved s.proved;
+      long = omega arith;
+      within = omega arith;
+    }
+
+pub spanned_releases : (cfg : Config) (tips : List Tip) (begun walks : List Walking) (held : List Placed) (low high b : ℕ) (batch : List Proved) → Spanning cfg tips begun walks held low high b batch → b ≤ low → map release_in batch ≡ gathered (proof_of cfg tips (rows_of begun)) (map holding_at held) low (high - low)
+spanned_releases cfg tips begun walks held low high b batch s h =
+    let within = s.within in
+    s.releases ∙ gathered_whole (proof_of cfg tips (rows_of begun)) (map holding_at held) low (high - low) (high - b) (omega arith)

@@ -40,6 +40,9 @@ placed_in chains held = record { place = held.place; holding = holding_in chains
 abbrev pub place_of : Placed → ℕ
 place_of x = x.place
 
+abbrev pub place_here : Placed → ℕ
+place_here x = x.place
+
 abbrev pub holding_at : Placed → Holding
 holding_at x = x.holding
 
@@ -182,3 +185,7 @@ pub record IsGiven (cfg : Config) (tips : List Tip) (position : ℕ) (old new : 
   pub behind : (head.length ≤ 1200) × (drop head.length after ≡ drop head.length before)
   pub held : new.held ≡ flat_map (after_take cfg tips packet.holding.order) old.held
   pub given : new.given ≡ min (old.given + 1) (2 ^ 64 - 1)
+
+-- each packet is needed
+abbrev pub AreNeeded : Config → List Tip → List Placed → Type 0
+AreNeeded cfg tips held = list_all (λ x. not (is_idle cfg tips x)) held ≡ true

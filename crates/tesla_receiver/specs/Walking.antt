@@ -1,5 +1,5 @@
 -- Walks back from new keys, as contracts see them, and what they cost in evaluations of HMAC.
-use Rattle.std.specs.Prelude.{◌≡◌, ◌≤◌, ℕ, ◌-◌, Bool, true, false, ◌&&◌, List, length, map, min, Option, IfSome, nat_lt, nat_le, count_by, if◌then◌else◌}
+use Rattle.std.specs.Prelude.{◌≡◌, ◌≤◌, ℕ, ◌-◌, Bool, false, ◌&&◌, List, map, min, Option, IfSome, nat_lt, nat_le, count_by, if◌then◌else◌}
 use Rattle.std.specs.List.{list_any, sum_by}
 use Rattle.tesla_base.specs.declared.names.Key.{Key}
 use Rattle.tesla_clock.specs.Safe.{has_chain}
@@ -63,3 +63,11 @@ is_tried tips new item chain =
 -- on how many chains the packet is tried
 abbrev pub tried : Config → List Tip → List KeyRow → Holding → ℕ
 tried cfg tips new item = count_by (is_tried tips new item) (chains cfg)
+
+-- the same, where a packet that is released isn't tried
+abbrev pub tries : Config → List Tip → List KeyRow → Holding → ℕ
+tries cfg tips new item = if item.released then 0 else tried cfg tips new item
+
+-- the pairs of a packet and a chain on which it is tried
+abbrev pub pairs : Config → List Tip → List KeyRow → List Holding → ℕ
+pairs cfg tips new held = sum_by (tries cfg tips new) held

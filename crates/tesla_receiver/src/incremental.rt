@@ -1,5 +1,6 @@
 //! The receiver that keeps only what later events need.
 
+mod keys;
 mod passing;
 mod releasing;
 mod store;

@@ -6,6 +6,8 @@ pub mod offers;
 pub mod ordering;
 pub mod proving;
 pub mod rows;
+pub mod tags;
 #[cfg(test)]
 mod tests;
+pub mod tips;
 pub mod walk;

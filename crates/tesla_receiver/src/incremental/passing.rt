@@ -1,6 +1,6 @@
 //! The packets that newest keys have passed are let go.
 
-ghost use Rattle.std.specs.Prelude.{◌≡◌, ℕ, ◌&&◌, ◌<◌, ◌≤◌, [], true, not, length, map, filter, find, Some, if◌then◌else◌};
+ghost use Rattle.std.specs.Prelude.{◌≡◌, ℕ, ◌&&◌, ◌<◌, [], true, not, length, map, filter, find, Some, if◌then◌else◌};
 ghost use Rattle.std.specs.List.{list_all, list_any};
 ghost use Rattle.tesla_links.specs.Lists.{Distinct};
 ghost use Rattle.tesla_receiver.specs.Config.{chains};
@@ -112,7 +112,7 @@ impl Store {
         requires apart { Distinct (map place_of self.old.held) }
         ensures capacity { self.new.capacity ≡ self.old.capacity }
         ensures chains { self.new.chains ≡ self.old.chains }
-        ensures held { low ≤ high → self.new.held ≡ filter (λ x. not (in_span low high x && is_idle config.now tips.now x)) self.old.held }
+        ensures held { self.new.held ≡ filter (λ x. not (in_span low high x && is_idle config.now tips.now x)) self.old.held }
         ensures waiting { self.new.waiting ≡ self.old.waiting }
         ensures given { self.new.given ≡ self.old.given }
     {

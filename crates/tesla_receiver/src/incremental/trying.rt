@@ -1,19 +1,20 @@
 //! The held packets are tried under new keys, interval by interval from the newest down.
 
-ghost use Rattle.std.specs.Prelude.{◌≡◌, ℕ, ◌+◌, ◌<◌, ◌≤◌, ◌++◌, All, true, length, map, filter, find, Some, option_to_list, vec_capacity};
+ghost use Rattle.std.specs.Prelude.{◌≡◌, ℕ, List, ◌+◌, ◌-◌, ◌<◌, ◌≤◌, ◌++◌, [], All, true, length, map, filter, find, Some, option_to_list, vec_capacity};
 ghost use Rattle.std.specs.List.{list_any};
 ghost use Rattle.std.specs.List.Sorted.{IsPermutation};
 ghost use Rattle.tesla_frame.specs.Frame.{ChainsRise};
 ghost use Rattle.tesla_links.specs.Lists.{Distinct};
-ghost use Rattle.tesla_receiver.specs.Gathering.{in_turn, gathered};
+ghost use Rattle.tesla_receiver.specs.Gathering.{RiseBy, Spans, order_of, place_of, in_turn, gathered};
+ghost use Rattle.tesla_receiver.specs.declared.release.Release.{Release};
 ghost use Rattle.tesla_receiver.specs.Proved.{release_in};
-ghost use Rattle.tesla_receiver.specs.Steps.{proof_of};
-ghost use Rattle.tesla_receiver.specs.Stored.{Placed, place_of, holding_at, stands_at, is_of, AreProved};
+ghost use Rattle.tesla_receiver.specs.Steps.{proof_of, batch_of};
+ghost use Rattle.tesla_receiver.specs.Stored.{Placed, place_proved, place_here, holding_at, stands_at, is_of, AreProved};
 ghost use Rattle.tesla_receiver.specs.Walking.{rows_of, IsAbove};
 
 use super::Store;
 use crate::Config;
-use crate::keeping::ordering::Proved;
+use crate::keeping::ordering::{Proved, sort};
 use crate::keeping::proving::prove;
 use crate::keeping::walk::Walk;
 use std::sync::ledger::Ledger;
@@ -33,6 +34,15 @@ fn append(batch: &mut Vec<Proved>, proved: Option<Proved>)
     let Ok(()) = batch.push(proved) else {
         unreachable!()
     };
+}
+
+// Puts a batch into order of arrival.
+fn order(batch: &mut Vec<Proved>)
+    ensures order { (releases : List Release) → RiseBy place_of releases → IsPermutation releases (map release_in batch.old.items) → map release_in batch.new.items ≡ releases }
+    ensures same { IsPermutation batch.old.items batch.new.items }
+    ensures capacity { vec_capacity batch.old ≤ vec_capacity batch.new }
+{
+    sort(batch);
 }
 
 impl Store {
@@ -76,7 +86,7 @@ impl Store {
     )
         requires tips { length tips.now ≡ length config.now.setup.rows }
         requires chains { self.now.chains ≡ length config.now.setup.rows }
-        requires apart { Distinct (map place_of self.now.held) }
+        requires apart { Distinct (map place_here self.now.held) }
         requires rise { ChainsRise (rows_of walks.old) }
         requires above { All (IsAbove interval) walks.old }
         requires room { length batch.old.items + length (filter (is_of interval) self.now.held) ≤ vec_capacity batch.old }
@@ -95,5 +105,64 @@ impl Store {
             next = self.next_of(place);
             self.try_at(config, tips, walks, place, batch, steps);
         }
+    }
+
+    // Tries the packets of the intervals above `low`, up to `high`, from the highest interval down.
+    fn try_span<L: Ledger>(
+        &self,
+        config: &Config,
+        tips: &[Verifier],
+        walks: &mut [Walk],
+        low: u32,
+        high: u32,
+        batch: &mut Vec<Proved>,
+        steps: &mut Steps<L>,
+    )
+        requires tips { length tips.now ≡ length config.now.setup.rows }
+        requires chains { self.now.chains ≡ length config.now.setup.rows }
+        requires apart { Distinct (map place_here self.now.held) }
+        requires rise { ChainsRise (rows_of walks.old) }
+        requires above { All (IsAbove high) walks.old }
+        requires empty { batch.old.items ≡ [] }
+        requires room { length self.now.held ≤ vec_capacity batch.old }
+        ensures releases { map release_in batch.new.items ≡ gathered (proof_of config.now tips.now (rows_of walks.old)) (map holding_at self.now.held) low (high - low) }
+        ensures proved { AreProved self.now.held batch.new.items }
+        ensures capacity { vec_capacity batch.old ≤ vec_capacity batch.new }
+        ensures rows { rows_of walks.new ≡ rows_of walks.old }
+    {
+        for below in (low..high).rev() {
+            self.try_interval(config, tips, walks, below + 1, batch, steps);
+        }
+    }
+
+    /// What new keys prove of the packets that are held, in order of arrival. The intervals above `low`, up to
+    /// `high`, are those that the keys may prove.
+    pub fn prove_held<L: Ledger>(
+        &self,
+        config: &Config,
+        tips: &[Verifier],
+        walks: &mut [Walk],
+        low: u32,
+        high: u32,
+        batch: &mut Vec<Proved>,
+        steps: &mut Steps<L>,
+    )
+        requires tips { length tips.now ≡ length config.now.setup.rows }
+        requires chains { self.now.chains ≡ length config.now.setup.rows }
+        requires apart { Distinct (map place_here self.now.held) }
+        requires orders { RiseBy order_of (map holding_at self.now.held) }
+        requires rise { ChainsRise (rows_of walks.old) }
+        requires above { All (IsAbove high) walks.old }
+        requires spans { Spans tips.now (rows_of walks.old) low high }
+        requires empty { batch.old.items ≡ [] }
+        requires room { length self.now.held ≤ vec_capacity batch.old }
+        ensures releases { map release_in batch.new.items ≡ batch_of config.now tips.now (rows_of walks.old) (map holding_at self.now.held) }
+        ensures proved { AreProved self.now.held batch.new.items }
+        ensures places { Distinct (map place_proved batch.new.items) }
+        ensures capacity { vec_capacity batch.old ≤ vec_capacity batch.new }
+        ensures rows { rows_of walks.new ≡ rows_of walks.old }
+    {
+        self.try_span(config, tips, walks, low, high, batch, steps);
+        order(batch);
     }
 }

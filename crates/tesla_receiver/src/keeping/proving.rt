@@ -11,7 +11,7 @@ ghost use Rattle.tesla_receiver.specs.ItemShown.{holding_in, IsItem};
 ghost use Rattle.tesla_receiver.specs.Keys.{is_of};
 ghost use Rattle.tesla_receiver.specs.Steps.{tip_at, matches, is_proof_of, proves_on, proof_of};
 ghost use Rattle.tesla_receiver.specs.Proved.{release_in};
-ghost use Rattle.tesla_receiver.specs.Walking.{rows_of, IsAbove, left_of, left, reaches, is_tried, tried};
+ghost use Rattle.tesla_receiver.specs.Walking.{rows_of, IsAbove, left_of, left, reaches, is_tried, tried, tries};
 
 use crate::keeping::ordering::Proved;
 use crate::keeping::walk::Walk;
@@ -196,7 +196,7 @@ pub fn prove<L: Ledger>(
     ensures above { All (IsAbove item.now.name.interval) walks.new }
     ensures cost { let shown = holding_in (length config.now.setup.rows) item.now in
         steps.new + left tips.now walks.new ≤ steps.old + left tips.now walks.old
-        + 2 * (if item.now.released then 0 else tried config.now tips.now (rows_of walks.old) shown) }
+        + 2 * tries config.now tips.now (rows_of walks.old) shown }
 {
     if item.released {
         return None;

@@ -8,13 +8,14 @@ use crate::keeping::judging::{refused, safe_by};
 use crate::keeping::offers::raise;
 use crate::keeping::ordering::{Proved, sort, span};
 use crate::keeping::proving::prove;
-use crate::keys::chain_row;
+use crate::keeping::tags::tags_of;
+use crate::keeping::tips::first_tips;
 use crate::{Config, Release, Report, Verdict};
 use std::alloc::Global;
 use std::marker::Brand;
 use std::sync::ledger::{Blank, Ledger};
 use std::test::*;
-use tesla_base::{ChainNo, Name, Place, Steps, WideTag};
+use tesla_base::{ChainNo, Name, Place, Steps};
 use tesla_buffer::Item;
 use tesla_commit::read_setup;
 use tesla_examples::{
@@ -32,19 +33,13 @@ fn held_as(frame: &DataView<'_>) -> Item
     let text = frame.payload();
     let mut payload = [0; 1200];
     payload[..text.len()].copy_from_slice(text);
-    let mut tags = [WideTag {
-        bytes: [0; 32],
-        length: 0,
-    }; 8];
-    tags[0] = frame.tag(0);
-    tags[1] = frame.tag(1);
     Item {
         order: 7,
         name: frame.name(),
         chains: 3,
         length: text.len() as u16,
         payload,
-        tags,
+        tags: tags_of(frame),
         released: false,
         taken: false,
     }
@@ -74,17 +69,12 @@ fn taken<L: Ledger>(
     Ok((None, proved, spanned))
 }
 
-fn verifier_of(config: &Config, chain: u8) -> Verifier {
-    let row = chain_row(config, chain);
-    Verifier::new(row.index, row.key)
-}
-
 /// What comes of the keys of the second frame while the packet of the first is held, and the newest indexes after.
 fn outcome<L: Ledger>(
     alloc: Global,
     blank: Blank,
-    held: &str,
-    keys: &str,
+    held: &[u8],
+    keys: &[u8],
 ) -> Result<(Option<Verdict>, Option<ChainNo>, (u32, u32), u32, u32), Fail>
     requires name { blank.name ≡ L.name }
     requires parts { blank.parts ≡ L.parts }
@@ -98,8 +88,8 @@ fn outcome<L: Ledger>(
         quota: 1,
         ingests: 1,
     };
-    let held = hex::decode(alloc, held.as_bytes())?;
-    let keys = hex::decode(alloc, keys.as_bytes())?;
+    let held = hex::decode(alloc, held)?;
+    let keys = hex::decode(alloc, keys)?;
     let packet = read_frame(held.as_slice()).ok_or("a frame")?;
     let frame = read_frame(keys.as_slice()).ok_or("a frame")?;
     let FrameView::Data(data) = packet else {
@@ -109,8 +99,15 @@ fn outcome<L: Ledger>(
         return Err("two chains".into());
     }
     let item = held_as(&data);
-    let mut tips = [verifier_of(&config, 0), verifier_of(&config, 1)];
-    let (refusal, proved, spanned) = taken(alloc, &config, &mut tips, &item, &frame, &mut steps)?;
+    let mut tips = first_tips(alloc, &config)?;
+    let (refusal, proved, spanned) = taken(
+        alloc,
+        &config,
+        tips.as_mut_slice(),
+        &item,
+        &frame,
+        &mut steps,
+    )?;
     let chain = proved.map(|one| one.release.chain);
     Ok((
         refusal,
@@ -140,7 +137,7 @@ fn keys_of_frames(rt: HostRuntime) -> Result<(), Fail> {
         (BARE_2_0_A, KEYS_0_1_ALTERED, Some(bad), None, (0, 0), 0, 0),
     ];
     for (held, keys, refusal, chain, spanned, first, second) in table {
-        let given = outcome::<Brand>(rt.alloc(), Blank::new(1), held, keys)?;
+        let given = outcome::<Brand>(rt.alloc(), Blank::new(1), held.as_bytes(), keys.as_bytes())?;
         assert!(rt; given == (refusal, chain, spanned, first, second));
     }
     Ok(())
@@ -198,11 +195,8 @@ fn safe_at(alloc: Global, bound: Option<u64>) -> Result<u8, Fail> {
         quota: 1,
         ingests: 1,
     };
-    if config.setup.count() != 2 {
-        return Err("two chains".into());
-    }
-    let tips = [verifier_of(&config, 0), verifier_of(&config, 1)];
-    Ok(safe_by(&config, &tips, bound, 2))
+    let tips = first_tips(alloc, &config)?;
+    Ok(safe_by(&config, tips.as_slice(), bound, 2))
 }
 
 #[test]

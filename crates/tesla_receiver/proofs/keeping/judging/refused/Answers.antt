@@ -1,6 +1,5 @@
-use Rattle.std.proofs.Common.{◌≡◌, ◌∙◌, length, subst, sym, ap, filter, false}
+use Rattle.std.proofs.Common.{◌≡◌, ◌∙◌, length, subst, sym, false}
 use Rattle.std.specs.List.{All}
-use Rattle.tesla_frame.specs.declared.row.KeyRow.{KeyRow}
 use Rattle.tesla_frame.specs.Frame.{ChainsRise}
 use Rattle.tesla_frame.specs.Shown.{shown}
 use Rattle.tesla_receiver.specs.Answer.{is_misfit}

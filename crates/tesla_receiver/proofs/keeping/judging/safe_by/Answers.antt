@@ -1,4 +1,4 @@
-use Rattle.std.proofs.Common.{◌≡◌, ◌<◌, ◌≤◌, length, sym, ap, ◌∙◌, arith, take}
+use Rattle.std.proofs.Common.{◌≤◌, ap, ◌∙◌, arith, take}
 use Rattle.tesla_clock.specs.Safe.{safe_set}
 use Rattle.tesla_receiver.proofs.SafeTips.{safe_by_lists}
 use Rattle.tesla_receiver.proofs.keeping.judging.safe_by.Goals as goal

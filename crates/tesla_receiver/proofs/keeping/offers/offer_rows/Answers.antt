@@ -1,14 +1,13 @@
-use Rattle.std.proofs.Common.{◌≡◌, ◌+◌, ◌-◌, ◌<◌, ◌≤◌, true, false, not, cond, [], ◌∷◌, ◌++◌, length, get_or, refl, ap, sym, subst, ◌∙◌, arith, Some, None}
+use Rattle.std.proofs.Common.{◌≡◌, ◌+◌, ◌-◌, true, false, not, cond, [], ◌∷◌, ◌++◌, get_or, ap, sym, ◌∙◌, arith}
 use Rattle.std.specs.Prelude.{find, option_map}
 use Rattle.std.proofs.lemmas.List.{take_all}
 use Rattle.tesla_base.proofs.Lists.{find_here, find_none_more}
-use Rattle.tesla_base.specs.declared.names.ChainNo.{ChainNo}
 use Rattle.tesla_frame.specs.declared.row.KeyRow.{KeyRow}
 use Rattle.tesla_keys.specs.Tip.{Tip}
 use Rattle.tesla_receiver.specs.Offered.{gap_of, is_above}
-use Rattle.tesla_receiver.specs.Steps.{fails, tip_at, no_tip}
+use Rattle.tesla_receiver.specs.Steps.{fails, tip_at}
 use Rattle.tesla_receiver.specs.Walking.{fresh}
-use Rattle.tesla_receiver.proofs.Offering.{all_good, any_default, fails_by, fits_more, gaps_front, gaps_more, tip_found, walks_more}
+use Rattle.tesla_receiver.proofs.Offering.{all_good, fails_by, fits_more, gaps_front, gaps_more, tip_found, walks_more}
 use Rattle.tesla_receiver.proofs.keeping.offers.offer_rows.Goals as goal
 
 abbrev none : KeyRow

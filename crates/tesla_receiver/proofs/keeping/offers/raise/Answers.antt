@@ -1,8 +1,6 @@
-use Rattle.std.proofs.Common.{◌≡◌, ◌<◌, List, ap, sym, subst, ◌∙◌, length, get_or, arith}
+use Rattle.std.proofs.Common.{ap, sym, subst, ◌∙◌, length, get_or, arith}
 use Rattle.std.proofs.Math.ListN.{set}
-use Rattle.tesla_frame.specs.declared.row.KeyRow.{KeyRow}
 use Rattle.tesla_keys.specs.Offers.{offer_of, IsGood}
-use Rattle.tesla_keys.specs.Tip.{Tip}
 use Rattle.tesla_receiver.specs.Offered.{IsOfChains}
 use Rattle.tesla_receiver.specs.Walking.{row_of}
 use Rattle.tesla_receiver.proofs.Raising.{after_none, row_has, may_take, taken_more}

@@ -1,9 +1,8 @@
-use Rattle.std.proofs.Common.{◌≡◌, get_or, map, rules}
+use Rattle.std.proofs.Common.{map, rules}
 use Rattle.std.proofs.lemmas.List.Sorted.{IsNonDecreasingBy-from_sort_by_key, IsPermutation-map, IsPermutation-trans}
 use Rattle.tesla_receiver.specs.Gathering.{place_of}
 use Rattle.tesla_receiver.specs.Proved.{release_in}
 use Rattle.tesla_receiver.proofs.Sorting.{only_order, up_by}
-use Rattle.tesla_receiver.proofs.Gathering.{gathers_all}
 use Rattle.tesla_receiver.proofs.keeping.ordering.sort.Goals as goal
 
 pub returns-clause-order : goal.returns-clause-order

@@ -1,6 +1,5 @@
-use Rattle.std.proofs.Common.{◌≡◌, ◌-◌, ◌^◌, ◌<◌, ap, sym, subst, ◌∙◌, length, arith, min, max, rules, take}
+use Rattle.std.proofs.Common.{◌≡◌, ◌-◌, ◌^◌, ap, sym, subst, ◌∙◌, length, arith, min, max, rules, take}
 use Rattle.std.proofs.lemmas.List.{take_all, length-map}
-use Rattle.std.specs.Prelude.{fold}
 use Rattle.tesla_keys.specs.Tip.{Tip}
 use Rattle.tesla_receiver.specs.Gathering.{Spans, higher, highest, lower, lowest}
 use Rattle.tesla_receiver.specs.Offered.{IsOfChains}

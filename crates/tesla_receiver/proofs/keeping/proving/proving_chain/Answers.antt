@@ -1,5 +1,4 @@
-use Rattle.std.proofs.Common.{◌≡◌, ℕ, ◌+◌, ◌<◌, Bool, true, false, cond, List, ap, sym, ◌∙◌, length, take, arith}
-use Rattle.std.specs.Prelude.{count_by}
+use Rattle.std.proofs.Common.{◌≡◌, ℕ, ◌+◌, Bool, true, false, cond, List, ap, sym, ◌∙◌, length, arith}
 use Rattle.std.specs.List.{range_with_len}
 use Rattle.tesla_base.proofs.Lists.{find_number, find_no_number_more, find_no_number}
 use Rattle.tesla_frame.specs.declared.row.KeyRow.{KeyRow}

@@ -1,4 +1,4 @@
-use Rattle.std.proofs.Common.{◌≡◌, ◌<◌, ◌≤◌, ◌-◌, ◌==◌, ◌&&◌, [], length, get_or, take, refl, ap, sym, ◌∙◌, arith, bytes_eq}
+use Rattle.std.proofs.Common.{◌≡◌, ◌≤◌, ◌-◌, ◌==◌, ◌&&◌, [], length, get_or, take, ap, ◌∙◌, arith, bytes_eq}
 use Rattle.tesla_base.specs.declared.names.WideTag.{WideTag}
 use Rattle.tesla_frame.specs.declared.row.KeyRow.{KeyRow}
 use Rattle.tesla_prf.specs.Keys.{walk, tag_of}

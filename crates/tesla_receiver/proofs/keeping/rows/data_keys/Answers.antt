@@ -1,4 +1,4 @@
-use Rattle.std.proofs.Common.{◌≡◌, sym, subst, arith, take}
+use Rattle.std.proofs.Common.{sym, subst, arith, take}
 use Rattle.tesla_frame.specs.Frame.{ChainsRise}
 use Rattle.tesla_receiver.proofs.Carried.{carried_more}
 use Rattle.tesla_receiver.proofs.CarriedRise.{carried_rise, few_so_far}

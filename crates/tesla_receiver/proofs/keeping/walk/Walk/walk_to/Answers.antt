@@ -1,4 +1,4 @@
-use Rattle.std.proofs.Common.{◌≡◌, ◌≤◌, arith, subst, sym, ap, ◌∙◌}
+use Rattle.std.proofs.Common.{◌≤◌, subst, sym, ◌∙◌}
 use Rattle.tesla_receiver.specs.Walking.{Walking}
 use Rattle.tesla_receiver.proofs.Reached.{goes_on}
 use Rattle.tesla_receiver.proofs.keeping.walk.Walk.walk_to.Goals as goal
