@@ -141,6 +141,7 @@ impl Target for ReplayTarget {
         laws::events();
         match event {
             PlayedEvent::Arrival { reading, datagram } => {
+                // The receiver counts the verdict.
                 let _ = self.receiver.arrive(0, reading, datagram, steps);
                 Ok(())
             }
