@@ -1,11 +1,11 @@
 -- The output of a command that makes it from one input, once both are closed.
-use Rattle.std.proofs.Common.{◌≢◌, ◌<◌, ℕ, Option, Some, None, Result, List, refl, arith}
+use Rattle.std.proofs.Common.{◌≡◌, ◌≢◌, ◌<◌, ℕ, Option, Some, None, IfSome, Result, List, [], refl, arith}
 use Rattle.std.proofs.lemmas.Bool.Decides.{nat_tests}
 use Rattle.tesla_desk.specs.Outside.{Page, Untold, Absent, Holds, Opened, page_of}
 use Rattle.tesla_desk.proofs.Told.{opened_holds}
 use Rattle.tesla_front.specs.Files.{HoldsWhere, HasFailed}
 use Rattle.tesla_front.specs.declared.refusal.Stop.{Stop}
-use Rattle.tesla_cli.specs.Conversion.{ComesToEnd, BreaksOff}
+use Rattle.tesla_cli.specs.Conversion.{ComesToEnd, BreaksOff, HoldsNothing}
 use Rattle.tesla_cli.specs.Steps.{EndsFrom, BreaksFrom, EndsOn, BreaksOn}
 use Rattle.tesla_cli.specs.declared.outcome.Summary.{Summary}
 
@@ -24,6 +24,11 @@ ends_on comes makes left (Some done) count came ends = record { end = ends.end; 
 pub breaks_on : (makes : List ℕ → List ℕ) (left written : Option (List ℕ)) (count : ℕ) → BreaksFrom makes left written → BreaksOn makes left (page_of written count)
 breaks_on makes left None count front = tt
 breaks_on makes left (Some done) count front = λ bytes told. front bytes done told refl
+
+-- the page of a sink to which nothing was written holds nothing
+pub empty_on : (written : Option (List ℕ)) (count : ℕ) → IfSome written (λ bytes. bytes ≡ []) → HoldsWhere (page_of written count) (λ done. done ≡ [])
+empty_on None count none = tt
+empty_on (Some done) count none = none
 
 -- the page of a sink that had faults tells so
 pub has_failed : (written : Option (List ℕ)) (count : ℕ) → 0 < count → HasFailed (page_of written count)
@@ -49,3 +54,6 @@ breaks_by makes left input out opened breaks = record {
   there = not_absent input left opened;
   front = where_map out _ _ (λ written front bytes failed page. front bytes (opened_holds input left bytes failed page opened)) breaks;
 }
+
+pub nothing_by : (left : Option (List ℕ)) (input out : Page) → Opened input left → HoldsWhere out (λ written. written ≡ []) → HoldsNothing input out
+nothing_by left input out opened nothing = record { there = not_absent input left opened; nothing = nothing }

@@ -88,13 +88,12 @@ front_written before now held text front appends done told =
     subst (λ (b : List ℕ). IsFront text b) (sym (append-nil done ∙ it.2)) (front_part (it.0 ++ take appends.0 held) (drop appends.0 held) text (whole.0, append_assoc it.0 (take appends.0 held) (drop appends.0 held) ∙ ap (λ h. it.0 ++ h) (take-append-drop appends.0 held) ∙ whole.1))
 
 -- how an event that was played, or was not, stands to what is held
-pub adds_by : (result : Result (Unit {0}) Fault) (event : Event) (rule : Rule) (Had Has : List Event → Type 0) (before now : Option (List ℕ)) (held rest : List ℕ) → OnOk result ((es : List Event) → Had es → Has (es ++ event ∷ [])) → OnOk result ((es : List Event) → Had es → Gathers before now rest (held ++ rule.adds es event)) → IfErr result (λ fault. Halts fault before now held rest) → Adds result event rule Had Has before held now rest
+pub adds_by : (result : Result (Unit {0}) Fault) (event : Event) (rule : Rule) (Had Has : List Event → Type 0) (before now : Option (List ℕ)) (held rest : List ℕ) → OnOk result ((es : List Event) → Had es → Has (es ++ event ∷ [])) → OnOk result ((es : List Event) → Had es → Gathers before now rest (held ++ rule.adds es event)) → IfErr result (λ fault. Halts fault before now held) → Adds result event rule Had Has before held now rest
 adds_by (Ok x) event rule Had Has before now held rest has writes halts = λ events had holds. (
   has events had,
   subst (λ (t : List ℕ). HoldsText now rest t) (sym (each_after_more rule.adds events event)) (holds_more before now held rest (events_text rule events) (rule.adds events event) holds (writes events had)),
 )
 adds_by (Err faults.Write) event rule Had Has before now held rest has writes halts = λ text more holds. holds_written before now held text more holds halts
-adds_by (Err faults.NoMemory) event rule Had Has before now held rest has writes halts = λ text more holds.
-    subst (λ (w : Option (List ℕ)). HoldsFront w rest (text ++ more)) (sym halts.0) (subst (λ (h : List ℕ). HoldsFront before h (text ++ more)) (sym halts.1) (holds_front before held text more holds))
+adds_by (Err faults.NoMemory) event rule Had Has before now held rest has writes halts = absurd halts
 adds_by (Err faults.Read) event rule Had Has before now held rest has writes halts = absurd halts
 adds_by (Err faults.Open) event rule Had Has before now held rest has writes halts = absurd halts

@@ -5,6 +5,7 @@ use Rattle.tesla_capture.specs.Outline.{outline_of}
 use Rattle.tesla_capture.specs.declared.record.RecordKind.{RecordKind}
 use Rattle.tesla_front.specs.Files.{IsFront}
 use Rattle.tesla_front.specs.declared.fault.Fault.{Fault}
+use Rattle.tesla_front.specs.declared.fault.Fault.TheVariants as faults
 use Rattle.tesla_front.specs.declared.refusal.Refusal.TheVariants.{Capture}
 use Rattle.tesla_front.specs.declared.refusal.Stop.{Stop}
 use Rattle.tesla_front.specs.declared.refusal.Stop.TheVariants as stops
@@ -86,28 +87,29 @@ whole_text cfg bytes done e = sym (append-nil done) ∙ e ∙ out_is cfg bytes
 
 -- what playing a file to a target came to, told by the rule of a configuration
 source_by : (cfg : Config) (Has : List Event → Type 0) (left written : Option (List ℕ)) (ended : Result Ending Fault) (came : Result Summary Stop)
-    → ((bytes : List ℕ) → left ≡ Some bytes → Plays (rule_of cfg) Has bytes ended written) → Sums (rule_of cfg) Has ended came → PlaysSource cfg left written came
-source_by cfg Has left written (Ok End) came plays sums =
+    → (ended ≡ Err faults.NoMemory → ⊥) → ((bytes : List ℕ) → left ≡ Some bytes → Plays (rule_of cfg) Has bytes ended written) → Sums (rule_of cfg) Has ended came → PlaysSource cfg left written came
+source_by cfg Has left written (Ok End) came memory plays sums =
     subst (λ (r : Result Summary Stop). PlaysSource cfg left written r) (sym sums.1) (record {
       end = λ bytes told.
           ap (λ (r : Report). Ok (Played r)) (sums.2 (events_of (rule_of cfg) bytes) (plays bytes told).1 ∙ ap report_of (history_is cfg bytes))
           ∙ end_at (outline_of bytes).fault (history_of cfg bytes) (plays bytes told).0;
       text = λ bytes done told told_written. whole_text cfg bytes done ((plays bytes told).2 done told_written);
     })
-source_by cfg Has left written (Ok (Refused place kind)) came plays sums =
+source_by cfg Has left written (Ok (Refused place kind)) came memory plays sums =
     subst (λ (r : Result Summary Stop). PlaysSource cfg left written r) (sym sums) (record {
       end = λ bytes told. refused_at place kind (outline_of bytes).fault (history_of cfg bytes) (plays bytes told).0;
       text = λ bytes done told told_written. whole_text cfg bytes done ((plays bytes told).2 done told_written);
     })
-source_by cfg Has left written (Err fault) came plays sums =
+source_by cfg Has left written (Err faults.NoMemory) came memory plays sums = absurd (memory refl)
+source_by cfg Has left written (Err fault) came memory plays sums =
     subst (λ (r : Result Summary Stop). PlaysSource cfg left written r) (sym sums) (λ bytes done told told_written.
     subst (λ (t : List ℕ). IsFront t done) (out_is cfg bytes)
     (subst (λ (b : List ℕ). IsFront (events_text (rule_of cfg) (events_of (rule_of cfg) bytes)) b) (append-nil done) (plays bytes told done told_written)))
 
 -- the same, told by the rules of the target before and after it
 pub plays_source : (cfg : Config) (before after : Rule) (Has : List Event → Type 0) (left written : Option (List ℕ)) (ended : Result Ending Fault) (came : Result Summary Stop) → before ≡ rule_of cfg → after ≡ before
-    → ((bytes : List ℕ) → left ≡ Some bytes → Plays before Has bytes ended written) → Sums after Has ended came → PlaysSource cfg left written came
-plays_source cfg before after Has left written ended came start same plays sums =
-    source_by cfg Has left written ended came
+    → (ended ≡ Err faults.NoMemory → ⊥) → ((bytes : List ℕ) → left ≡ Some bytes → Plays before Has bytes ended written) → Sums after Has ended came → PlaysSource cfg left written came
+plays_source cfg before after Has left written ended came start same memory plays sums =
+    source_by cfg Has left written ended came memory
     (λ bytes told. subst (λ (r : Rule). Plays r Has bytes ended written) start (plays bytes told))
     (subst (λ (r : Rule). Sums r Has ended came) (same ∙ start) sums)

@@ -17,7 +17,7 @@ use Rattle.tesla_cli.specs.Form.{Replay, Performs}
 use Rattle.tesla_cli.specs.Replay.{config_of, end_of, out_text, PlaysCapture}
 use Rattle.tesla_cli.specs.Steps.{PlaysSource, PlaysLeft, PlaysOpened, PlaysFiles}
 use Rattle.tesla_cli.specs.declared.outcome.Summary.{Summary}
-use Rattle.tesla_cli.proofs.Conversions.{ends_on, breaks_on, has_failed, ends_by, breaks_by}
+use Rattle.tesla_cli.proofs.Conversions.{ends_on, breaks_on, empty_on, has_failed, ends_by, breaks_by, nothing_by}
 use Rattle.tesla_cli.proofs.Openings.{opens_then, opens_front}
 use Rattle.tesla_cli.proofs.Told.{rose_some}
 
@@ -29,7 +29,7 @@ left_by cfg left written count before (Err (stops.Refused (refusals.Capture plac
 left_by cfg left written count before (Err (stops.Refused _)) plays cause other = absurd plays
 left_by cfg left written count before (Err (stops.Failed faults.Write)) plays cause other = (breaks_on (out_text cfg) left written count plays, has_failed written count (rose_some 0 count refl (cause.rose refl)))
 left_by cfg left written count before (Err (stops.Failed faults.Read)) plays cause other = breaks_on (out_text cfg) left written count plays
-left_by cfg left written count before (Err (stops.Failed faults.NoMemory)) plays cause other = inr (breaks_on (out_text cfg) left written count plays)
+left_by cfg left written count before (Err (stops.Failed faults.NoMemory)) plays cause other = inr (empty_on written count plays)
 left_by cfg left written count before (Err (stops.Failed faults.Open)) plays cause other = absurd (other refl)
 
 -- what was played from a source is on the page of the closed sink
@@ -51,7 +51,7 @@ capture_by cfg left capture before out (Err (stops.Refused _)) opened plays = ab
 capture_by cfg left capture before out (Err (stops.Failed faults.Write)) opened plays = (breaks_by (out_text cfg) left capture out opened plays.0, plays.1)
 capture_by cfg left capture before out (Err (stops.Failed faults.Read)) opened plays = breaks_by (out_text cfg) left capture out opened plays
 capture_by cfg left capture before out (Err (stops.Failed faults.NoMemory)) opened (inl same) = inl same
-capture_by cfg left capture before out (Err (stops.Failed faults.NoMemory)) opened (inr breaks) = inr (breaks_by (out_text cfg) left capture out opened breaks)
+capture_by cfg left capture before out (Err (stops.Failed faults.NoMemory)) opened (inr nothing) = inr (nothing_by left capture out opened nothing)
 capture_by cfg left capture before out (Err (stops.Failed faults.Open)) opened plays = plays
 
 -- the capture was opened, and then played

@@ -1,5 +1,5 @@
 -- A command that makes an output from one input, under a setup: what it comes to and what it writes, told as functions of the input's bytes.
-use Rattle.std.specs.Prelude.{◌≡◌, ◌≢◌, ◌≤◌, ℕ, Bool, Result, Err, List}
+use Rattle.std.specs.Prelude.{◌≡◌, ◌≢◌, ◌≤◌, ℕ, Bool, Result, Err, List, []}
 use Rattle.tesla_desk.specs.Outside.{Page, Absent, Holds}
 use Rattle.tesla_front.specs.Files.{HoldsWhere, IsFront}
 use Rattle.tesla_front.specs.Setup.{IsNoSetup}
@@ -15,6 +15,11 @@ pub record ComesToEnd (comes : List ℕ → Result Summary Stop) (makes : List �
   pub there : input ≢ Absent
   pub end : Where input (λ bytes. came ≡ comes bytes)
   pub text : HoldsWhere out (λ written. Where input (λ bytes. written ≡ makes bytes))
+
+-- the command stopped before any of the input was taken: the output was opened, and holds nothing
+pub record HoldsNothing (input out : Page) : Type 0 where
+  pub there : input ≢ Absent
+  pub nothing : HoldsWhere out (λ written. written ≡ [])
 
 -- the command was broken off: the output holds a front of its text
 pub record BreaksOff (makes : List ℕ → List ℕ) (input out : Page) : Type 0 where

@@ -56,12 +56,12 @@ abbrev pub ending_of : Option (ℕ × RecordKind) → Ending
 ending_of None = End
 ending_of (Some fault) = Refused fault.0 fault.1
 
--- playing stopped: of what was held a front was written, or nothing has changed
-abbrev pub Halts : Fault → Option (List ℕ) → Option (List ℕ) → List ℕ → List ℕ → Type 0
-Halts faults.Write before now held rest = AppendsFront before now held
-Halts faults.NoMemory before now held rest = (now ≡ before) × (rest ≡ held)
-Halts faults.Read before now held rest = ⊥
-Halts faults.Open before now held rest = ⊥
+-- playing stopped at a failed write, and of what was held a front was written: no other fault comes
+abbrev pub Halts : Fault → Option (List ℕ) → Option (List ℕ) → List ℕ → Type 0
+Halts faults.Write before now held = AppendsFront before now held
+Halts faults.NoMemory before now held = ⊥
+Halts faults.Read before now held = ⊥
+Halts faults.Open before now held = ⊥
 
 -- a capture was played to a target: it has had all events of the file, and what is written of them is written; or a front of that is
 abbrev pub Plays : Rule → (List Event → Type 0) → List ℕ → Result Ending Fault → Option (List ℕ) → Type 0

@@ -16,7 +16,7 @@ use Rattle.tesla_receiver.specs.History.{arrivals_in}
 use Rattle.tesla_receiver.specs.Played.{played}
 use Rattle.tesla_receiver.specs.Report.{report_of, records_of, released_text}
 use Rattle.tesla_cli.specs.Asked.{Asked}
-use Rattle.tesla_cli.specs.Conversion.{ComesToEnd, BreaksOff, StopsAtSetup}
+use Rattle.tesla_cli.specs.Conversion.{ComesToEnd, BreaksOff, HoldsNothing, StopsAtSetup}
 use Rattle.tesla_cli.specs.declared.outcome.Summary.{Summary}
 use Rattle.tesla_cli.specs.declared.outcome.Summary.TheVariants.{Played}
 
@@ -53,8 +53,8 @@ PlaysCapture cfg capture before out (Err (Refused _)) = ⊥
 -- a write that failed was one of the output
 PlaysCapture cfg capture before out (Err (Failed faults.Write)) = BreaksOff (out_text cfg) capture out × HasFailed out
 PlaysCapture cfg capture before out (Err (Failed faults.Read)) = BreaksOff (out_text cfg) capture out
--- memory can be wanting before the output is opened
-PlaysCapture cfg capture before out (Err (Failed faults.NoMemory)) = (out ≡ before) ⊎ BreaksOff (out_text cfg) capture out
+-- memory is wanting only before the first record is played: before the output is opened, or after that, and then it holds nothing
+PlaysCapture cfg capture before out (Err (Failed faults.NoMemory)) = (out ≡ before) ⊎ HoldsNothing capture out
 -- the capture or the output wasn't opened
 PlaysCapture cfg capture before out (Err (Failed faults.Open)) = out ≡ before
 

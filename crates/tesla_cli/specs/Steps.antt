@@ -1,5 +1,5 @@
 -- What the inner steps of a command that makes an output from one input come to, and those of a replay.
-use Rattle.std.specs.Prelude.{◌≡◌, ◌⊎◌, ℕ, Option, Some, Result, Ok, Err, List, [], ◌∷◌}
+use Rattle.std.specs.Prelude.{◌≡◌, ◌⊎◌, ℕ, Option, Some, IfSome, Result, Ok, Err, List, [], ◌∷◌}
 use Rattle.tesla_desk.specs.Outside.{Page, Told, OfSource, OfSink}
 use Rattle.tesla_front.specs.Files.{HoldsWhere, HasFailed, IsFront}
 use Rattle.tesla_front.specs.declared.fault.Fault.{Fault}
@@ -42,11 +42,12 @@ pub record EndsOn (comes : List ℕ → Result Summary Stop) (makes : List ℕ �
 abbrev pub BreaksOn : (List ℕ → List ℕ) → Option (List ℕ) → Page → Type 0
 BreaksOn makes left out = HoldsWhere out (λ written. (bytes : List ℕ) → left ≡ Some bytes → IsFront (makes bytes) written)
 
--- what playing from a source to a sink came to
+-- what playing from a source to a sink came to: memory is wanting only before the first record, when nothing is written yet
 abbrev pub PlaysSource : Config → Option (List ℕ) → Option (List ℕ) → Result Summary Stop → Type 0
 PlaysSource cfg left written (Ok summary) = EndsFrom (end_of cfg) (out_text cfg) left written (Ok summary)
 PlaysSource cfg left written (Err (stops.Refused (refusals.Capture place kind))) = EndsFrom (end_of cfg) (out_text cfg) left written (Err (stops.Refused (refusals.Capture place kind)))
 PlaysSource cfg left written (Err (stops.Refused _)) = ⊥
+PlaysSource cfg left written (Err (stops.Failed faults.NoMemory)) = IfSome written (λ bytes. bytes ≡ [])
 PlaysSource cfg left written (Err (stops.Failed fault)) = BreaksFrom (out_text cfg) left written
 
 -- what playing an opened capture came to, with the page of the output before and afterwards
@@ -56,7 +57,8 @@ PlaysLeft cfg left before out (Err (stops.Refused (refusals.Capture place kind))
 PlaysLeft cfg left before out (Err (stops.Refused _)) = ⊥
 PlaysLeft cfg left before out (Err (stops.Failed faults.Write)) = BreaksOn (out_text cfg) left out × HasFailed out
 PlaysLeft cfg left before out (Err (stops.Failed faults.Read)) = BreaksOn (out_text cfg) left out
-PlaysLeft cfg left before out (Err (stops.Failed faults.NoMemory)) = (out ≡ before) ⊎ BreaksOn (out_text cfg) left out
+-- memory is wanting before the output is opened, or before the first record is played
+PlaysLeft cfg left before out (Err (stops.Failed faults.NoMemory)) = (out ≡ before) ⊎ HoldsWhere out (λ written. written ≡ [])
 PlaysLeft cfg left before out (Err (stops.Failed faults.Open)) = out ≡ before
 
 -- an opened capture was played, after the output was opened

@@ -8,8 +8,9 @@ ghost use Rattle.tesla_cli.specs.Form.{Performs, Replay};
 ghost use Rattle.tesla_cli.specs.Playing.{rule_of};
 ghost use Rattle.tesla_cli.specs.Replay.{config_of};
 ghost use Rattle.tesla_cli.specs.Steps.{PlaysFiles, PlaysOpened, PlaysSource, Sums};
-ghost use Rattle.tesla_receiver.specs.History.{Event, Stands};
+ghost use Rattle.tesla_receiver.specs.History.{Event};
 ghost use Rattle.tesla_receiver.specs.Played.{after_events};
+ghost use Rattle.tesla_receiver.specs.State.{Stands};
 
 mod asked;
 mod player;
@@ -124,7 +125,7 @@ fn play_counted<L: Ledger, S: Source, O: Sink>(
     ensures plays { PlaysSource receiver.config (S.left source.old) (O.written out.new) result }
     ensures reads { HasCause (S.faults source.old) (S.faults source.new) (result ≡ Err (Stop.Failed Fault.Read)) }
     ensures writes { HasCause (O.faults out.old) (O.faults out.new) (result ≡ Err (Stop.Failed Fault.Write)) }
-    ensures other { (result ≡ Err (Stop.Failed Fault.Open)) → ⊥ }
+    ensures other { (result ≡ Err (Stop.Failed Fault.Open) → ⊥) × (result ≡ Err (Stop.Failed Fault.NoMemory) → ⊥) }
     ensures name { O.name out.new ≡ O.name out.old }
 {
     let steps = Steps::<L>::new(blank);

@@ -73,7 +73,7 @@ impl<L: Ledger, T: Target> Player<L, T> {
         ensures rule { T.rule self.new.target ≡ T.rule self.old.target }
         ensures calls { T.calls self.new.target ≤ T.calls self.old.target + 1 }
         ensures cause { HasCause (O.faults out.old) (O.faults out.new) (result ≡ Err Fault.Write) }
-        ensures other { (result ≡ Err Fault.Read → ⊥) × (result ≡ Err Fault.Open → ⊥) }
+        ensures other { (result ≡ Err Fault.Read → ⊥) × (result ≡ Err Fault.Open → ⊥) × (result ≡ Err Fault.NoMemory → ⊥) }
         ensures name { O.name out.new ≡ O.name out.old }
     {
         let datagram = &self.datagram[..length];
@@ -89,7 +89,7 @@ impl<L: Ledger, T: Target> Player<L, T> {
         ensures rule { T.rule self.new.target ≡ T.rule self.old.target }
         ensures calls { T.calls self.new.target ≤ T.calls self.old.target + 1 }
         ensures cause { HasCause (O.faults out.old) (O.faults out.new) (result ≡ Err Fault.Write) }
-        ensures other { (result ≡ Err Fault.Read → ⊥) × (result ≡ Err Fault.Open → ⊥) }
+        ensures other { (result ≡ Err Fault.Read → ⊥) × (result ≡ Err Fault.Open → ⊥) × (result ≡ Err Fault.NoMemory → ⊥) }
         ensures name { O.name out.new ≡ O.name out.old }
     {
         self.target
@@ -112,7 +112,7 @@ impl<L: Ledger, T: Target> Player<L, T> {
         ensures rises { result ≡ Ok None → GoesUp reader.old reader.new }
         ensures reads { HasCause (S.faults source.old) (S.faults source.new) (result ≡ Err Fault.Read) }
         ensures writes { HasCause (O.faults out.old) (O.faults out.new) (result ≡ Err Fault.Write) }
-        ensures other { result ≡ Err Fault.Open → ⊥ }
+        ensures other { (result ≡ Err Fault.Open → ⊥) × (result ≡ Err Fault.NoMemory → ⊥) }
         ensures name { O.name out.new ≡ O.name out.old }
     {
         laws::outlines();
@@ -140,7 +140,7 @@ impl<L: Ledger, T: Target> Player<L, T> {
         ensures calls { T.calls self.new.target ≤ limit + 1 }
         ensures reads { HasCause (S.faults source.old) (S.faults source.new) (result ≡ Err Fault.Read) }
         ensures writes { HasCause (O.faults out.old) (O.faults out.new) (result ≡ Err Fault.Write) }
-        ensures other { result ≡ Err Fault.Open → ⊥ }
+        ensures other { (result ≡ Err Fault.Open → ⊥) × (result ≡ Err Fault.NoMemory → ⊥) }
         ensures name { O.name out.new ≡ O.name out.old }
     {
         let mut reader = Reader::new();
@@ -160,7 +160,7 @@ impl<L: Ledger, T: Target> Player<L, T> {
             PlaysTo result (T.rule self.old.target) (T.has self.new.target) (events ++ replicate times (Takes 0)) (O.written out.new) (gathered self.new.gatherer) }
         ensures rule { T.rule self.new.target ≡ T.rule self.old.target }
         ensures cause { HasCause (O.faults out.old) (O.faults out.new) (result ≡ Err Fault.Write) }
-        ensures other { (result ≡ Err Fault.Read → ⊥) × (result ≡ Err Fault.Open → ⊥) }
+        ensures other { (result ≡ Err Fault.Read → ⊥) × (result ≡ Err Fault.Open → ⊥) × (result ≡ Err Fault.NoMemory → ⊥) }
         ensures name { O.name out.new ≡ O.name out.old }
     {
         for _ in 0..times {
@@ -179,7 +179,7 @@ impl<L: Ledger, T: Target> Player<L, T> {
             PlaysTo result (T.rule self.old.target) (T.has self.new.target) (with_end (T.rule self.old.target) events) (O.written out.new) (gathered self.new.gatherer) }
         ensures rule { T.rule self.new.target ≡ T.rule self.old.target }
         ensures cause { HasCause (O.faults out.old) (O.faults out.new) (result ≡ Err Fault.Write) }
-        ensures other { (result ≡ Err Fault.Read → ⊥) × (result ≡ Err Fault.Open → ⊥) }
+        ensures other { (result ≡ Err Fault.Read → ⊥) × (result ≡ Err Fault.Open → ⊥) × (result ≡ Err Fault.NoMemory → ⊥) }
         ensures name { O.name out.new ≡ O.name out.old }
     {
         let waiting = self.target.waiting();
@@ -193,10 +193,9 @@ impl<L: Ledger, T: Target> Player<L, T> {
     /// and a take for each packet that waits and one more. It gives the target back, and how the records ended.
     ///
     /// What the target has to tell is gathered, and written where the next piece doesn't fit and at last. After a
-    /// failed read and for want of memory that is tried too, and the fault stays.
+    /// failed read that is tried too, and the fault stays.
     ///
-    /// `Read`: the source's count of faults rose. `Write`: the sink's did. `NoMemory`: the target had none. `Open`
-    /// doesn't come.
+    /// `Read`: the source's count of faults rose. `Write`: the sink's did. No other fault comes.
     pub fn play<S: Source, O: Sink>(
         mut self,
         source: &mut S,
@@ -210,7 +209,7 @@ impl<L: Ledger, T: Target> Player<L, T> {
         ensures rule { T.rule result.0 ≡ T.rule self.target }
         ensures reads { HasCause (S.faults source.old) (S.faults source.new) (result.1 ≡ Err Fault.Read) }
         ensures writes { HasCause (O.faults out.old) (O.faults out.new) (result.1 ≡ Err Fault.Write) }
-        ensures other { result.1 ≡ Err Fault.Open → ⊥ }
+        ensures other { (result.1 ≡ Err Fault.Open → ⊥) × (result.1 ≡ Err Fault.NoMemory → ⊥) }
         ensures name { O.name out.new ≡ O.name out.old }
     {
         let played = self.play_all(source, out);
@@ -232,7 +231,7 @@ impl<L: Ledger, T: Target> Player<L, T> {
         ensures rule { T.rule self.new.target ≡ T.rule self.old.target }
         ensures reads { HasCause (S.faults source.old) (S.faults source.new) (result ≡ Err Fault.Read) }
         ensures writes { HasCause (O.faults out.old) (O.faults out.new) (result ≡ Err Fault.Write) }
-        ensures other { result ≡ Err Fault.Open → ⊥ }
+        ensures other { (result ≡ Err Fault.Open → ⊥) × (result ≡ Err Fault.NoMemory → ⊥) }
         ensures name { O.name out.new ≡ O.name out.old }
     {
         match self.play_records(source, out) {

@@ -4,7 +4,8 @@ ghost use Rattle.std.specs.Prelude.{◌≡◌, ◌+◌, ◌^◌, ◌<◌, ◌≤
 ghost use Rattle.tesla_capture.specs.Gathering.{gathered, Gathers};
 ghost use Rattle.tesla_desk.specs.Faults.{HasCause};
 ghost use Rattle.tesla_desk.specs.Outside.{AppendsFront};
-ghost use Rattle.tesla_receiver.specs.History.{Event, Takes, entry_of, reply_to, Stands};
+ghost use Rattle.tesla_receiver.specs.History.{Event, Takes, entry_of, reply_to};
+ghost use Rattle.tesla_receiver.specs.State.{Stands};
 ghost use Rattle.tesla_receiver.specs.Played.{after_events};
 ghost use Rattle.tesla_cli.specs.Playing.{Rule, Halts, event_of};
 ghost use Rattle.tesla_receiver.specs.Report.{text_given};
@@ -42,8 +43,8 @@ pub trait Target {
 
     /// Plays an event. What is written of it is put behind what is gathered.
     ///
-    /// `Write`: a front of what was gathered was written, and the sink's count of faults rose. `NoMemory`: nothing has
-    /// changed. No other fault comes.
+    /// `Write`: a front of what was gathered was written, and the sink's count of faults rose. No other fault comes: no
+    /// memory is taken.
     fn play<L: Ledger, O: Sink>(
         &mut self,
         event: PlayedEvent<'_>,
@@ -56,7 +57,7 @@ pub trait Target {
         ensures has { OnOk result ((es : List Event) → has self.old es → has self.new (es ++ event_of event.entry ∷ [])) }
         ensures writes { OnOk result ((es : List Event) → has self.old es →
             Gathers (O.written out.old) (O.written out.new) (gathered gatherer.new) (gathered gatherer.old ++ (rule self.old).adds es (event_of event.entry))) }
-        ensures halts { IfErr result (λ fault. Halts fault (O.written out.old) (O.written out.new) (gathered gatherer.old) (gathered gatherer.new)) }
+        ensures halts { IfErr result (λ fault. Halts fault (O.written out.old) (O.written out.new) (gathered gatherer.old)) }
         ensures calls { calls self.new ≤ calls self.old + 1 }
         ensures cause { HasCause (O.faults out.old) (O.faults out.new) (result ≡ Err Fault.Write) }
         ensures name { O.name out.new ≡ O.name out.old };
@@ -119,7 +120,7 @@ fn take_once<O: Sink>(
 }
 
 impl Target for ReplayTarget {
-    ghost use Rattle.tesla_receiver.specs.History.{Stands};
+    ghost use Rattle.tesla_receiver.specs.State.{Stands};
     ghost use Rattle.tesla_receiver.specs.Played.{after_events};
     ghost use Rattle.std.specs.Prelude.{[]};
     ghost use Rattle.tesla_cli.specs.Playing.{rule_of};
@@ -140,10 +141,9 @@ impl Target for ReplayTarget {
         laws::events();
         match event {
             PlayedEvent::Arrival { reading, datagram } => {
-                match self.receiver.arrive(0, reading, datagram, steps) {
-                    Ok(_) => Ok(()),
-                    Err(_) => Err(Fault::NoMemory),
-                }
+                // The receiver counts the verdict.
+                let _ = self.receiver.arrive(0, reading, datagram, steps);
+                Ok(())
             }
             PlayedEvent::Take => {
                 if take_once(&mut self.receiver, &mut self.payload, gatherer, out) {
