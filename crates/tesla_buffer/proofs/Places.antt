@@ -1,7 +1,7 @@
 -- The packets of entries: what is found among them, and what changes of the slots leave.
-use Rattle.std.proofs.Common.{◌≡◌, ℕ, zero, suc, ◌+◌, ◌*◌, ◌^◌, ◌<◌, ◌≤◌, Bool, true, false, not, cond, ◌||◌, ◌&&◌, List, [], ◌∷◌, ◌++◌, length, get_or, map, Some, None, Option, refl, sym, ap, subst, ◌∙◌, arith, eqb, ◌⊎◌, inl, inr, ⊎_elim}
+use Rattle.std.proofs.Common.{◌≡◌, ℕ, ◌+◌, Bool, true, false, not, cond, ◌||◌, ◌&&◌, List, [], ◌∷◌, ◌++◌, length, map, Some, None, Option, refl, sym, ap, subst, ◌∙◌, arith, eqb, ⊎_elim}
 use Rattle.std.specs.List.{filter, find, list_any}
-use Rattle.std.proofs.lemmas.Bool.{and_from, and_parts, cases_Bool, cases_eq, cond-false, cond-true, eq-eqb, eqb-true, false≢true, ne_eqb, or_cases, or_left, or_right}
+use Rattle.std.proofs.lemmas.Bool.{and_from, and_parts, cases_Bool, cases_eq, cond-false, cond-true, eq-eqb, false≢true, ne_eqb, or_cases, or_left, or_right}
 use Rattle.std.proofs.lemmas.List.{length-append}
 use Rattle.std.proofs.lemmas.Option.{none-some, same_Some}
 use Rattle.tesla_base.specs.declared.names.Place.{Place}
@@ -50,19 +50,19 @@ pub find_live : (slots : List Item) (p : ℕ) (es : List Entry) → is_in p (pla
 find_live slots p [] i = absurd (false≢true i)
 find_live slots p (e ∷ es) i =
     ⊎_elim
-      (λ (s : e.place ≡ p). cond-true (eqb e.place p) (Some (held_at slots e)) (find (is_at p) (map (held_at slots) es)) (eq-eqb e.place p s) ∙ ap (λ q. Some (record { place = q; item = item_at slots q })) s)
-      (λ (ne : e.place ≡ p → ⊥). cond-false (eqb e.place p) (Some (held_at slots e)) (find (is_at p) (map (held_at slots) es)) (ne_eqb e.place p ne)
-        ∙ find_live slots p es (⊎_elim (λ (s : e.place ≡ p). absurd (ne s)) (λ (more : is_in p (places_of es) ≡ true). more) (in_cases e.place p (places_of es) i)))
-      (cases_eq e.place p)
+    (λ (s : e.place ≡ p). cond-true (eqb e.place p) (Some (held_at slots e)) (find (is_at p) (map (held_at slots) es)) (eq-eqb e.place p s) ∙ ap (λ q. Some (record { place = q; item = item_at slots q })) s)
+    (λ (ne : e.place ≡ p → ⊥). cond-false (eqb e.place p) (Some (held_at slots e)) (find (is_at p) (map (held_at slots) es)) (ne_eqb e.place p ne)
+    ∙ find_live slots p es (⊎_elim (λ (s : e.place ≡ p). absurd (ne s)) (λ (more : is_in p (places_of es) ≡ true). more) (in_cases e.place p (places_of es) i)))
+    (cases_eq e.place p)
 
 -- a packet that passes a test is at a place of those held
 pub any_held : (slots : List Item) (f : Held → Bool) (es : List Entry) → list_any f (map (held_at slots) es) ≡ true → (p : ℕ) × (is_in p (places_of es) ≡ true) × (f (record { place = p; item = item_at slots p }) ≡ true)
 any_held slots f [] h = absurd (false≢true h)
 any_held slots f (e ∷ es) h =
     ⊎_elim
-      (λ (here : f (held_at slots e) ≡ true). (e.place, in_here e.place (places_of es), here))
-      (λ (more : list_any f (map (held_at slots) es) ≡ true). let m = any_held slots f es more in (m.0, in_there e.place m.0 (places_of es) m.1, m.2))
-      (or_cases (f (held_at slots e)) (list_any f (map (held_at slots) es)) h)
+    (λ (here : f (held_at slots e) ≡ true). (e.place, in_here e.place (places_of es), here))
+    (λ (more : list_any f (map (held_at slots) es) ≡ true). let m = any_held slots f es more in (m.0, in_there e.place m.0 (places_of es) m.1, m.2))
+    (or_cases (f (held_at slots e)) (list_any f (map (held_at slots) es)) h)
 
 -- and the other way round
 pub held_there : (slots : List Item) (f : Held → Bool) (p : ℕ) (es : List Entry) → is_in p (places_of es) ≡ true → f (record { place = p; item = item_at slots p }) ≡ true
@@ -71,11 +71,11 @@ held_there slots f p [] i t = i
 held_there slots f p (e ∷ es) i t =
     let g = λ (h : Held). is_at p h && f h in
     ⊎_elim
-      (λ (s : e.place ≡ p).
-        or_left (g (held_at slots e)) (list_any g (map (held_at slots) es))
-          (and_from (eqb e.place p) (f (held_at slots e)) (eq-eqb e.place p s) (ap (λ q. f (record { place = q; item = item_at slots q })) s ∙ t)))
-      (λ (more : is_in p (places_of es) ≡ true). or_right (g (held_at slots e)) (list_any g (map (held_at slots) es)) (held_there slots f p es more t))
-      (in_cases e.place p (places_of es) i)
+    (λ (s : e.place ≡ p).
+    or_left (g (held_at slots e)) (list_any g (map (held_at slots) es))
+    (and_from (eqb e.place p) (f (held_at slots e)) (eq-eqb e.place p s) (ap (λ q. f (record { place = q; item = item_at slots q })) s ∙ t)))
+    (λ (more : is_in p (places_of es) ≡ true). or_right (g (held_at slots e)) (list_any g (map (held_at slots) es)) (held_there slots f p es more t))
+    (in_cases e.place p (places_of es) i)
 
 -- ---- the packets of an interval
 
@@ -103,7 +103,7 @@ next_is slots p [] k = refl
 next_is slots p (e ∷ es) k =
     let hs = map (held_at slots) es in
     let here : first_place (filter (is_of (item_at slots e.place).name.interval) hs) ≡ to_place (first_entry (filter (is_under e.key) es)) =
-        ap (λ n. first_place (filter (is_of n) hs)) (sym k.0) ∙ ap first_place (of_interval slots e.key es k.1) ∙ first_is slots (filter (is_under e.key) es) in
+    ap (λ n. first_place (filter (is_of n) hs)) (sym k.0) ∙ ap first_place (of_interval slots e.key es k.1) ∙ first_is slots (filter (is_under e.key) es) in
     ap (λ o. cond (eqb e.place p) o (next_place p hs)) here
     ∙ ap (λ o. cond (eqb e.place p) (to_place (first_entry (filter (is_under e.key) es))) o) (next_is slots p es k.1)
     ∙ (elim (eqb e.place p) as (λ b. cond b (to_place (first_entry (filter (is_under e.key) es))) (to_place (next_entry p es)) ≡ to_place (cond b (first_entry (filter (is_under e.key) es)) (next_entry p es))) [ true ↦ refl | false ↦ refl ])
@@ -144,13 +144,13 @@ held_changed slots slots' p change (e ∷ es) here others =
     let put = λ (x : Held). x ∷ map (held_at slots') es in
     let new : Held = record { place = e.place; item = change (item_at slots e.place) } in
     ⊎_elim
-      (λ (s : e.place ≡ p).
-        ap (λ x. put (record { place = e.place; item = x })) (ap (item_at slots') s ∙ here ∙ ap (λ q. change (item_at slots q)) (sym s))
-        ∙ ap put (sym (cond-true (eqb e.place p) new (held_at slots e) (eq-eqb e.place p s))))
-      (λ (ne : e.place ≡ p → ⊥).
-        ap (λ x. put (record { place = e.place; item = x })) (others e.place ne)
-        ∙ ap put (sym (cond-false (eqb e.place p) new (held_at slots e) (ne_eqb e.place p ne))))
-      (cases_eq e.place p)
+    (λ (s : e.place ≡ p).
+    ap (λ x. put (record { place = e.place; item = x })) (ap (item_at slots') s ∙ here ∙ ap (λ q. change (item_at slots q)) (sym s))
+    ∙ ap put (sym (cond-true (eqb e.place p) new (held_at slots e) (eq-eqb e.place p s))))
+    (λ (ne : e.place ≡ p → ⊥).
+    ap (λ x. put (record { place = e.place; item = x })) (others e.place ne)
+    ∙ ap put (sym (cond-false (eqb e.place p) new (held_at slots e) (ne_eqb e.place p ne))))
+    (cases_eq e.place p)
     ∙ ap (λ hs. cond (eqb e.place p) new (held_at slots e) ∷ hs) rest
 
 -- ---- places that are told are those of packets
@@ -160,28 +160,28 @@ pub first_live : (f : Held → Bool) (hs : List Held) (p : Place) → Some p ≡
 first_live f [] p e = absurd (none-some p (sym e))
 first_live f (h ∷ hs) p e =
     ⊎_elim
-      (λ (t : f h ≡ true).
-        let same : p ≡ record { 0 = h.place } = same_Some p (record { 0 = h.place }) (e ∙ ap first_place (cond-true (f h) (h ∷ filter f hs) (filter f hs) t)) in
-        or_left (eqb h.place p.0) (is_live p.0 hs) (eq-eqb h.place p.0 (sym (ap (λ (q : Place). q.0) same))))
-      (λ (t : f h ≡ false).
-        or_right (eqb h.place p.0) (is_live p.0 hs) (first_live f hs p (e ∙ ap first_place (cond-false (f h) (h ∷ filter f hs) (filter f hs) t))))
-      (cases_Bool (f h))
+    (λ (t : f h ≡ true).
+    let same : p ≡ record { 0 = h.place } = same_Some p (record { 0 = h.place }) (e ∙ ap first_place (cond-true (f h) (h ∷ filter f hs) (filter f hs) t)) in
+    or_left (eqb h.place p.0) (is_live p.0 hs) (eq-eqb h.place p.0 (sym (ap (λ (q : Place). q.0) same))))
+    (λ (t : f h ≡ false).
+    or_right (eqb h.place p.0) (is_live p.0 hs) (first_live f hs p (e ∙ ap first_place (cond-false (f h) (h ∷ filter f hs) (filter f hs) t))))
+    (cases_Bool (f h))
 
 -- the next place
 pub next_live : (at : ℕ) (hs : List Held) (p : Place) → Some p ≡ next_place at hs → is_live p.0 hs ≡ true
 next_live at [] p e = absurd (none-some p (sym e))
 next_live at (h ∷ hs) p e =
     or_right (eqb h.place p.0) (is_live p.0 hs)
-      (⊎_elim
-        (λ (t : is_at at h ≡ true). first_live (is_of h.item.name.interval) hs p (e ∙ cond-true (is_at at h) (first_place (filter (is_of h.item.name.interval) hs)) (next_place at hs) t))
-        (λ (t : is_at at h ≡ false). next_live at hs p (e ∙ cond-false (is_at at h) (first_place (filter (is_of h.item.name.interval) hs)) (next_place at hs) t))
-        (cases_Bool (is_at at h)))
+    (⊎_elim
+    (λ (t : is_at at h ≡ true). first_live (is_of h.item.name.interval) hs p (e ∙ cond-true (is_at at h) (first_place (filter (is_of h.item.name.interval) hs)) (next_place at hs) t))
+    (λ (t : is_at at h ≡ false). next_live at hs p (e ∙ cond-false (is_at at h) (first_place (filter (is_of h.item.name.interval) hs)) (next_place at hs) t))
+    (cases_Bool (is_at at h)))
 
 -- the place of a packet that passes a test
 pub test_live : (f : Held → Bool) (p : ℕ) (hs : List Held) → list_any (λ h. is_at p h && f h) hs ≡ true → is_live p hs ≡ true
 test_live f p [] e = e
 test_live f p (h ∷ hs) e =
     ⊎_elim
-      (λ (t : (is_at p h && f h) ≡ true). or_left (is_at p h) (is_live p hs) (and_parts (is_at p h) (f h) t).0)
-      (λ (t : list_any (λ x. is_at p x && f x) hs ≡ true). or_right (is_at p h) (is_live p hs) (test_live f p hs t))
-      (or_cases (is_at p h && f h) (list_any (λ x. is_at p x && f x) hs) e)
+    (λ (t : (is_at p h && f h) ≡ true). or_left (is_at p h) (is_live p hs) (and_parts (is_at p h) (f h) t).0)
+    (λ (t : list_any (λ x. is_at p x && f x) hs ≡ true). or_right (is_at p h) (is_live p hs) (test_live f p hs t))
+    (or_cases (is_at p h && f h) (list_any (λ x. is_at p x && f x) hs) e)

@@ -1,17 +1,15 @@
 -- A buffer's parts: what a packet that comes, one that is marked and one that goes leave of them.
-use Rattle.std.proofs.Common.{◌≡◌, ℕ, zero, suc, ◌+◌, ◌-◌, ◌*◌, ◌^◌, ◌<◌, ◌≤◌, Bool, true, false, not, cond, ◌||◌, ◌&&◌, List, [], ◌∷◌, ◌++◌, length, get_or, map, replicate, Some, None, Option, refl, sym, ap, subst, ◌∙◌, arith, eqb, ◌⊎◌, inl, inr, ⊎_elim}
-use Rattle.std.specs.List.{filter, find, list_any}
-use Rattle.std.specs.Option.{MatchOption}
+use Rattle.std.proofs.Common.{◌≡◌, ℕ, zero, suc, ◌+◌, ◌-◌, ◌^◌, ◌<◌, ◌≤◌, true, false, not, cond, ◌||◌, ◌&&◌, List, [], ◌∷◌, ◌++◌, length, get_or, map, replicate, Some, None, Option, refl, sym, ap, subst, ◌∙◌, arith, eqb, ◌⊎◌, inl, inr, ⊎_elim}
+use Rattle.std.specs.List.{filter, list_any}
 use Rattle.std.specs.Prelude.{slice_get}
 use Rattle.std.proofs.Math.ListN.{set}
 use Rattle.std.proofs.lemmas.Bool.{and_from, and_parts, and_left, cases_Bool, cases_eq, cases_lt, cond-false, cond-true, eq-eqb, eqb-true, false_from_ne_true, false≢true, true≢false}
-use Rattle.std.proofs.lemmas.List.{append-nil, get_or-append_right, get_or-set_other, get_or-set_same, get_or_append_left, get_or_past, length-append, length-map, length-replicate, length-set, map-append}
+use Rattle.std.proofs.lemmas.List.{append-nil, get_or-append_right, get_or-set_other, get_or-set_same, get_or_append_left, length-append, length-map, length-replicate, length-set, map-append}
 use Rattle.std.proofs.lemmas.List.Folds.{list_any-append, list_any_at}
 use Rattle.std.proofs.Math.Bool.{or-false}
 use Rattle.std.proofs.lemmas.Option.{cond_some, get_or_from_slice_get}
 use Rattle.tesla_base.specs.declared.names.Name.{Name}
-use Rattle.tesla_base.specs.declared.names.Place.{Place}
-use Rattle.tesla_buffer.specs.Held.{Held, Holding, changed, is_at, is_live, is_released_as}
+use Rattle.tesla_buffer.specs.Held.{Held, Holding, is_at, is_live, is_released_as}
 use Rattle.tesla_buffer.specs.Stored.{IsStored, IsNumbered, Keyed, held_at, item_at, key_of_name, no_item, places_of, released_key}
 use Rattle.tesla_buffer.specs.declared.item.Item.{Item}
 use Rattle.tesla_links.specs.Entries.{Entries, Entry}
@@ -21,7 +19,7 @@ use Rattle.tesla_links.specs.Slots.{has_key}
 use Rattle.tesla_links.proofs.Filtered.{distinct_filter, filter-map, in_filter}
 use Rattle.tesla_links.proofs.Keyed.{replicate_same}
 use Rattle.tesla_links.proofs.Members.{apart_from, differs, distinct_push, distinct_split, in_cases, in_front, in_here, in_joined, in_rest, without_other, without_same}
-use Rattle.tesla_buffer.proofs.Places.{any_held, held_changed, held_on, held_there, keyed_filter, keyed_on, keyed_push, length-without, live_is, places_without}
+use Rattle.tesla_buffer.proofs.Places.{any_held, held_on, held_there, keyed_filter, keyed_on, keyed_push, length-without, live_is, places_without}
 
 -- ---- a place for a packet
 
@@ -60,8 +58,8 @@ module _ (capacity : ℕ) (slots slots' : List Item) (free free' : List ℕ) (in
         counted = omega (arith, h.counted, ap length es, ap length ef, length-append free' (p ∷ []));
         distinct_free = subst (λ xs. Distinct xs) (append-nil free') parts.2;
         free = λ q i.
-          let w = was q (in_front q free' (p ∷ []) i) in
-          (omega (arith, w.0, ap length es), w.1, λ e. differs q p free' i parts.0 (sym e));
+            let w = was q (in_front q free' (p ∷ []) i) in
+            (omega (arith, w.0, ap length es), w.1, λ e. differs q p free' i parts.0 (sym e));
         longer = omega (arith, ap length es);
         same = λ q i. ap (λ ss. item_at ss q) es;
         small = λ q. subst (λ ss. IsNumbered (item_at ss q)) (sym es) (h.small q);
@@ -74,11 +72,11 @@ module _ (capacity : ℕ) (slots slots' : List Item) (free free' : List ℕ) (in
   grown_small : slots' ≡ slots ++ empty ∷ [] → empty.released ≡ false → (q : ℕ) → IsNumbered (item_at slots' q)
   grown_small e none q =
       ⊎_elim
-        (λ (below : q < length slots). subst IsNumbered (sym (grown_same e q below)) (h.small q))
-        (λ (past : length slots ≤ q).
-          let at : item_at slots' q ≡ get_or (empty ∷ []) (q - length slots) no_item = ap (λ ss. item_at ss q) e ∙ get_or-append_right slots (empty ∷ []) (length slots) q no_item refl past in
-          subst IsNumbered (sym at) (either empty (q - length slots) none))
-        (cases_lt q (length slots))
+      (λ (below : q < length slots). subst IsNumbered (sym (grown_same e q below)) (h.small q))
+      (λ (past : length slots ≤ q).
+      let at : item_at slots' q ≡ get_or (empty ∷ []) (q - length slots) no_item = ap (λ ss. item_at ss q) e ∙ get_or-append_right slots (empty ∷ []) (length slots) q no_item refl past in
+      subst IsNumbered (sym at) (either empty (q - length slots) none))
+      (cases_lt q (length slots))
 
   grown : free ≡ [] → free' ≡ [] → p ≡ length slots → slots' ≡ slots ++ empty ∷ [] → empty.released ≡ false → length index.entries < capacity → IsVacant capacity slots slots' free' index.entries p
   grown ef ef' ep es none room =
@@ -99,8 +97,8 @@ module _ (capacity : ℕ) (slots slots' : List Item) (free free' : List ℕ) (in
   pub chosen : Chosen slots slots' free free' p empty → empty.released ≡ false → length index.entries < capacity → IsVacant capacity slots slots' free' index.entries p
   chosen c none room =
       ⊎_elim (λ (a : (free ≡ free' ++ p ∷ []) × (slots' ≡ slots)). reused a.0 a.1)
-        (λ (b : (free ≡ []) × (free' ≡ []) × (p ≡ length slots) × (slots' ≡ slots ++ empty ∷ [])). grown b.0 b.1 b.2 b.3 none room)
-        c
+      (λ (b : (free ≡ []) × (free' ≡ []) × (p ≡ length slots) × (slots' ≡ slots ++ empty ∷ [])). grown b.0 b.1 b.2 b.3 none room)
+      c
 
 -- ---- a packet comes
 
@@ -114,8 +112,8 @@ module _ (capacity : ℕ) (slots slots' slots'' : List Item) (free free' : List 
   came_cases : (q : ℕ) → is_in q (places_of index'.entries) ≡ true → (is_in q (places_of index.entries) ≡ true) ⊎ (q ≡ p)
   came_cases q i =
       ⊎_elim (λ (a : is_in q (places_of index.entries) ≡ true). inl a)
-        (λ (b : is_in q (p ∷ []) ≡ true). ⊎_elim (λ (s : p ≡ q). inr (sym s)) (λ (n : is_in q [] ≡ true). absurd (false≢true n)) (in_cases p q [] b))
-        (in_joined q (places_of index.entries) (p ∷ []) (ap (is_in q) (sym came) ∙ i))
+      (λ (b : is_in q (p ∷ []) ≡ true). ⊎_elim (λ (s : p ≡ q). inr (sym s)) (λ (n : is_in q [] ≡ true). absurd (false≢true n)) (in_cases p q [] b))
+      (in_joined q (places_of index.entries) (p ∷ []) (ap (is_in q) (sym came) ∙ i))
 
   came_other : (q : ℕ) → (q ≡ p → ⊥) → is_in q (places_of index'.entries) ≡ is_in q (places_of index.entries)
   came_other q ne =
@@ -134,11 +132,11 @@ module _ (capacity : ℕ) (slots slots' slots'' : List Item) (free free' : List 
   nameless q ne =
       ap (λ b. cond (b && (item_at slots'' q).released) (Some (key_of_name (item_at slots'' q).name)) None) (came_other q ne)
       ∙ ⊎_elim
-        (λ (i : is_in q (places_of index.entries) ≡ true). ap (λ (x : Item). cond (is_in q (places_of index.entries) && x.released) (Some (key_of_name x.name)) None) (held_same q i))
-        (λ (n : is_in q (places_of index.entries) ≡ false).
-          cond-false (is_in q (places_of index.entries) && (item_at slots'' q).released) (Some (key_of_name (item_at slots'' q).name)) None (and_left (is_in q (places_of index.entries)) (item_at slots'' q).released n)
-          ∙ sym (cond-false (is_in q (places_of index.entries) && (item_at slots q).released) (Some (key_of_name (item_at slots q).name)) None (and_left (is_in q (places_of index.entries)) (item_at slots q).released n)))
-        (cases_Bool (is_in q (places_of index.entries)))
+      (λ (i : is_in q (places_of index.entries) ≡ true). ap (λ (x : Item). cond (is_in q (places_of index.entries) && x.released) (Some (key_of_name x.name)) None) (held_same q i))
+      (λ (n : is_in q (places_of index.entries) ≡ false).
+      cond-false (is_in q (places_of index.entries) && (item_at slots'' q).released) (Some (key_of_name (item_at slots'' q).name)) None (and_left (is_in q (places_of index.entries)) (item_at slots'' q).released n)
+      ∙ sym (cond-false (is_in q (places_of index.entries) && (item_at slots q).released) (Some (key_of_name (item_at slots q).name)) None (and_left (is_in q (places_of index.entries)) (item_at slots q).released n)))
+      (cases_Bool (is_in q (places_of index.entries)))
 
   pub stored_put : index'.capacity ≡ index.capacity → IsNumbered it → length released' ≡ length released
       → get_or released' p None ≡ cond it.released (Some (key_of_name it.name)) None → ((q : ℕ) → (q ≡ p → ⊥) → get_or released' q None ≡ get_or released q None)
@@ -154,26 +152,26 @@ module _ (capacity : ℕ) (slots slots' slots'' : List Item) (free free' : List 
         slots_within = omega (arith, size, v.most);
         counted = omega (arith, ap length entries, added, v.counted, size);
         live = λ q i.
-          ⊎_elim (λ (a : is_in q (places_of index.entries) ≡ true). omega (arith, h.live q a, v.longer, size))
-          (λ (s : q ≡ p). subst Below (sym s) (omega (arith, v.inside, size)))
-          (came_cases q i);
+            ⊎_elim (λ (a : is_in q (places_of index.entries) ≡ true). omega (arith, h.live q a, v.longer, size))
+            (λ (s : q ≡ p). subst Below (sym s) (omega (arith, v.inside, size)))
+            (came_cases q i);
         vacant = λ q i. let f = v.free q i in (omega (arith, f.0, size), came_other q f.2 ∙ f.1);
         distinct = subst (λ xs. Distinct xs) (sym came) (distinct_push (places_of index.entries) p h.distinct v.absent);
         distinct_free = v.distinct_free;
         keyed = subst (λ xs. Keyed slots'' xs) (sym entries)
-          (keyed_push slots'' index.entries (record { key = it.name.interval; place = p })
+            (keyed_push slots'' index.entries (record { key = it.name.interval; place = p })
             (keyed_on slots slots'' index.entries h.keyed (λ q i. ap (λ (x : Item). x.name.interval) (held_same q i)))
             (ap (λ (x : Item). x.name.interval) (sym here)));
         small = λ q.
-          ⊎_elim (λ (s : q ≡ p). subst IsNumbered (sym (ap (item_at slots'') s ∙ here)) small)
-          (λ (ne : q ≡ p → ⊥). subst IsNumbered (sym (others q ne)) (v.small q))
-          (cases_eq q p);
+            ⊎_elim (λ (s : q ≡ p). subst IsNumbered (sym (ap (item_at slots'') s ∙ here)) small)
+            (λ (ne : q ≡ p → ⊥). subst IsNumbered (sym (others q ne)) (v.small q))
+            (cases_eq q p);
         names = names ∙ h.names;
         named = λ q.
-          ⊎_elim
+            ⊎_elim
             (λ (s : q ≡ p). subst Named (sym s)
-              (named ∙ sym (ap (λ b. cond (b && (item_at slots'' p).released) (Some (key_of_name (item_at slots'' p).name)) None) came_here
-                ∙ ap (λ (x : Item). cond x.released (Some (key_of_name x.name)) None) here)))
+            (named ∙ sym (ap (λ b. cond (b && (item_at slots'' p).released) (Some (key_of_name (item_at slots'' p).name)) None) came_here
+            ∙ ap (λ (x : Item). cond x.released (Some (key_of_name x.name)) None) here)))
             (λ (ne : q ≡ p → ⊥). unnamed q ne ∙ h.named q ∙ sym (nameless q ne))
             (cases_eq q p);
       }
@@ -194,9 +192,9 @@ module _ (capacity : ℕ) (slots slots' : List Item) (free : List ℕ) (index : 
       → IsStored capacity slots' free index released'
   stored_marked small names named unnamed =
       let same_name : (q : ℕ) → (item_at slots' q).name ≡ (item_at slots q).name = λ q.
-          ⊎_elim (λ (s : q ≡ p). ap (λ j. (item_at slots' j).name) s ∙ ap (λ (x : Item). x.name) here ∙ name ∙ ap (λ j. (item_at slots j).name) (sym s))
-          (λ (ne : q ≡ p → ⊥). ap (λ (x : Item). x.name) (others q ne))
-          (cases_eq q p) in
+      ⊎_elim (λ (s : q ≡ p). ap (λ j. (item_at slots' j).name) s ∙ ap (λ (x : Item). x.name) here ∙ name ∙ ap (λ j. (item_at slots j).name) (sym s))
+      (λ (ne : q ≡ p → ⊥). ap (λ (x : Item). x.name) (others q ne))
+      (cases_eq q p) in
       let Named : ℕ → Type 0 = λ q. get_or released' q None ≡ released_key slots' index.entries q in
       record {
         some = h.some;
@@ -210,15 +208,15 @@ module _ (capacity : ℕ) (slots slots' : List Item) (free : List ℕ) (index : 
         distinct_free = h.distinct_free;
         keyed = keyed_on slots slots' index.entries h.keyed (λ q i. ap (λ (n : Name). n.interval) (same_name q));
         small = λ q.
-          ⊎_elim (λ (s : q ≡ p). subst IsNumbered (sym (ap (item_at slots') s ∙ here)) small)
-          (λ (ne : q ≡ p → ⊥). subst IsNumbered (sym (others q ne)) (h.small q))
-          (cases_eq q p);
+            ⊎_elim (λ (s : q ≡ p). subst IsNumbered (sym (ap (item_at slots') s ∙ here)) small)
+            (λ (ne : q ≡ p → ⊥). subst IsNumbered (sym (others q ne)) (h.small q))
+            (cases_eq q p);
         names = names ∙ h.names;
         named = λ q.
-          ⊎_elim
+            ⊎_elim
             (λ (s : q ≡ p). subst Named (sym s)
-              (named ∙ sym (ap (λ b. cond (b && (item_at slots' p).released) (Some (key_of_name (item_at slots' p).name)) None) live
-                ∙ ap (λ (x : Item). cond x.released (Some (key_of_name x.name)) None) here)))
+            (named ∙ sym (ap (λ b. cond (b && (item_at slots' p).released) (Some (key_of_name (item_at slots' p).name)) None) live
+            ∙ ap (λ (x : Item). cond x.released (Some (key_of_name x.name)) None) here)))
             (λ (ne : q ≡ p → ⊥). unnamed q ne ∙ h.named q ∙ ap (λ (x : Item). cond (is_in q (places_of index.entries) && x.released) (Some (key_of_name x.name)) None) (sym (others q ne)))
             (cases_eq q p);
       }
@@ -246,7 +244,7 @@ module _ (capacity : ℕ) (slots : List Item) (free free' : List ℕ) (index ind
   pub stored_gone : index'.capacity ≡ index.capacity → free' ≡ free ++ p ∷ [] → released' ≡ set released p None → IsStored capacity slots free' index' released'
   stored_gone room ef er =
       let fewer : length index'.entries + 1 ≡ length index.entries =
-          omega (arith, length-map index'.entries (λ (e : Entry). e.place), length-map index.entries (λ (e : Entry). e.place), ap length gone, length-without p (places_of index.entries) h.distinct live) in
+      omega (arith, length-map index'.entries (λ (e : Entry). e.place), length-map index.entries (λ (e : Entry). e.place), ap length gone, length-without p (places_of index.entries) h.distinct live) in
       let busy : is_in p free ≡ false = false_from_ne_true (is_in p free) (λ i. true≢false (sym live ∙ (h.vacant p i).1)) in
       let Free : ℕ → Type 0 = λ q. (q < length slots) × (is_in q (places_of index'.entries) ≡ false) in
       let Named : ℕ → Type 0 = λ q. get_or released' q None ≡ released_key slots index'.entries q in
@@ -258,15 +256,15 @@ module _ (capacity : ℕ) (slots : List Item) (free free' : List ℕ) (index ind
         counted = omega (arith, h.counted, fewer, ap length ef, length-append free (p ∷ []));
         live = λ q i. h.live q ((in_filter (λ x. not (eqb x p)) q (places_of index.entries) (ap (is_in q) (sym gone) ∙ i)).0);
         vacant = λ q i.
-          ⊎_elim
+            ⊎_elim
             (λ (s : q ≡ p). subst Free (sym s) (h.live p live, gone_here))
             (λ (ne : q ≡ p → ⊥).
-              let was : is_in q free ≡ true =
-                  ⊎_elim (λ (a : is_in q free ≡ true). a)
-                    (λ (b : is_in q (p ∷ []) ≡ true). ⊎_elim (λ (s : p ≡ q). absurd (ne (sym s))) (λ (n : is_in q [] ≡ true). absurd (false≢true n)) (in_cases p q [] b))
-                    (in_joined q free (p ∷ []) (ap (is_in q) (sym ef) ∙ i)) in
-              let f = h.vacant q was in
-              (f.0, gone_other q ne ∙ f.1))
+            let was : is_in q free ≡ true =
+            ⊎_elim (λ (a : is_in q free ≡ true). a)
+            (λ (b : is_in q (p ∷ []) ≡ true). ⊎_elim (λ (s : p ≡ q). absurd (ne (sym s))) (λ (n : is_in q [] ≡ true). absurd (false≢true n)) (in_cases p q [] b))
+            (in_joined q free (p ∷ []) (ap (is_in q) (sym ef) ∙ i)) in
+            let f = h.vacant q was in
+            (f.0, gone_other q ne ∙ f.1))
             (cases_eq q p);
         distinct = subst (λ xs. Distinct xs) (sym gone) (distinct_filter (λ x. not (eqb x p)) (places_of index.entries) h.distinct);
         distinct_free = subst (λ xs. Distinct xs) (sym ef) (distinct_push free p h.distinct_free busy);
@@ -274,13 +272,13 @@ module _ (capacity : ℕ) (slots : List Item) (free free' : List ℕ) (index ind
         small = h.small;
         names = ap length er ∙ length-set released p None ∙ h.names;
         named = λ q.
-          ⊎_elim
+            ⊎_elim
             (λ (s : q ≡ p). subst Named (sym s)
-              (ap (λ rs. get_or rs p None) er ∙ get_or-set_same released p None None (omega (arith, h.names, h.slots_within, h.live p live))
-              ∙ sym (cond-false (is_in p (places_of index'.entries) && (item_at slots p).released) (Some (key_of_name (item_at slots p).name)) None (and_left (is_in p (places_of index'.entries)) (item_at slots p).released gone_here))))
+            (ap (λ rs. get_or rs p None) er ∙ get_or-set_same released p None None (omega (arith, h.names, h.slots_within, h.live p live))
+            ∙ sym (cond-false (is_in p (places_of index'.entries) && (item_at slots p).released) (Some (key_of_name (item_at slots p).name)) None (and_left (is_in p (places_of index'.entries)) (item_at slots p).released gone_here))))
             (λ (ne : q ≡ p → ⊥).
-              ap (λ rs. get_or rs q None) er ∙ get_or-set_other released p q None None ne ∙ h.named q
-              ∙ ap (λ b. cond (b && (item_at slots q).released) (Some (key_of_name (item_at slots q).name)) None) (sym (gone_other q ne)))
+            ap (λ rs. get_or rs q None) er ∙ get_or-set_other released p q None None ne ∙ h.named q
+            ∙ ap (λ b. cond (b && (item_at slots q).released) (Some (key_of_name (item_at slots q).name)) None) (sym (gone_other q ne)))
             (cases_eq q p);
       }
 
@@ -303,21 +301,21 @@ module _ (capacity : ℕ) (slots : List Item) (free : List ℕ) (index : Entries
       let both = and_parts (is_in p (places_of index.entries)) item.released passed.0 in
       let same = same_name item.name name (h.small p both.1) small passed.1 in
       held_there slots (is_released_as name) p index.entries both.0
-        (and_from item.released (eqb item.name.interval name.interval && eqb item.name.number name.number) both.1
-          (and_from (eqb item.name.interval name.interval) (eqb item.name.number name.number) (eq-eqb _ _ same.0) (eq-eqb _ _ same.1)))
+      (and_from item.released (eqb item.name.interval name.interval && eqb item.name.number name.number) both.1
+      (and_from (eqb item.name.interval name.interval) (eqb item.name.number name.number) (eq-eqb _ _ same.0) (eq-eqb _ _ same.1)))
 
   pub none_named : list_any (has_key (key_of_name name)) released ≡ false → list_any (is_released_as name) (map (held_at slots) index.entries) ≡ false
   none_named none =
       false_from_ne_true (list_any (is_released_as name) (map (held_at slots) index.entries)) (λ some.
-        let at = any_held slots (is_released_as name) index.entries some in
-        let item = item_at slots at.0 in
-        let first = and_parts item.released (eqb item.name.interval name.interval && eqb item.name.number name.number) at.2 in
-        let second = and_parts (eqb item.name.interval name.interval) (eqb item.name.number name.number) first.1 in
-        let key : key_of_name item.name ≡ key_of_name name = omega (arith, eqb-true _ _ second.0, eqb-true _ _ second.1) in
-        let slot : get_or released at.0 None ≡ Some (key_of_name name) =
-            named_live capacity slots free index released at.0 h at.1 ∙ cond-true item.released (Some (key_of_name item.name)) None first.0 ∙ ap Some key in
-        false≢true (sym none ∙ list_any_at (has_key (key_of_name name)) released at.0 None (omega (arith, h.live at.0 at.1, h.slots_within, h.names))
-          (ap (has_key (key_of_name name)) slot ∙ eq-eqb (key_of_name name) (key_of_name name) refl)))
+      let at = any_held slots (is_released_as name) index.entries some in
+      let item = item_at slots at.0 in
+      let first = and_parts item.released (eqb item.name.interval name.interval && eqb item.name.number name.number) at.2 in
+      let second = and_parts (eqb item.name.interval name.interval) (eqb item.name.number name.number) first.1 in
+      let key : key_of_name item.name ≡ key_of_name name = omega (arith, eqb-true _ _ second.0, eqb-true _ _ second.1) in
+      let slot : get_or released at.0 None ≡ Some (key_of_name name) =
+      named_live capacity slots free index released at.0 h at.1 ∙ cond-true item.released (Some (key_of_name item.name)) None first.0 ∙ ap Some key in
+      false≢true (sym none ∙ list_any_at (has_key (key_of_name name)) released at.0 None (omega (arith, h.live at.0 at.1, h.slots_within, h.names))
+      (ap (has_key (key_of_name name)) slot ∙ eq-eqb (key_of_name name) (key_of_name name) refl)))
 
 -- ---- at the opening
 
@@ -340,7 +338,7 @@ stored_open capacity slots free index released some most es ef ei er =
       small = λ p. subst (λ ss. IsNumbered (item_at ss p)) (sym es) (λ e. absurd (false≢true e));
       names = ap length er ∙ length-replicate capacity None;
       named = λ p. ap (λ rs. get_or rs p None) er ∙ replicate_same capacity p None
-        ∙ sym (cond-false (is_in p (places_of index.entries) && (item_at slots p).released) (Some (key_of_name (item_at slots p).name)) None (and_left (is_in p (places_of index.entries)) (item_at slots p).released (ap (is_in p) none)));
+          ∙ sym (cond-false (is_in p (places_of index.entries) && (item_at slots p).released) (Some (key_of_name (item_at slots p).name)) None (and_left (is_in p (places_of index.entries)) (item_at slots p).released (ap (is_in p) none)));
     }
 
 -- ---- what a caller sees

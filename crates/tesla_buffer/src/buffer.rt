@@ -92,7 +92,14 @@ impl Buffer {
         ensures capacity { self.new.capacity ≡ self.old.capacity }
     {
         let place = vacant_slot(&mut self.slots, &mut self.free);
-        write_parts(&mut self.slots[place as usize], order, name, chains, payload, tags);
+        write_parts(
+            &mut self.slots[place as usize],
+            order,
+            name,
+            chains,
+            payload,
+            tags,
+        );
         self.index.append(u64::from(name.interval), place);
         Place(place)
     }

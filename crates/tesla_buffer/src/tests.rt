@@ -150,11 +150,13 @@ fn holds(alloc: Global, buffer: &Buffer, interval: u32, want: &[u64]) -> Result<
 
 /// Whether what a row says can be done, and leaves the arrivals that it says.
 fn is_met(alloc: Global, buffer: &mut Buffer, number: u64, row: Row) -> Result<bool, Fail> {
-    Ok(is_done(buffer, number, row.step)
-        && holds(alloc, buffer, 1, row.first)?
-        && holds(alloc, buffer, 5, row.second)?
-        && holds(alloc, buffer, 9, row.third)?
-        && holds(alloc, buffer, 13, &[])?)
+    Ok(
+        is_done(buffer, number, row.step)
+            && holds(alloc, buffer, 1, row.first)?
+            && holds(alloc, buffer, 5, row.second)?
+            && holds(alloc, buffer, 9, row.third)?
+            && holds(alloc, buffer, 13, &[])?,
+    )
 }
 
 #[test]

@@ -1,9 +1,9 @@
 -- What a test keeps of a list, and what functions make of it, by the elements that it has.
-use Rattle.std.proofs.Common.{◌≡◌, ℕ, zero, suc, ◌+◌, ◌<◌, ◌≤◌, Bool, true, false, not, cond, ◌||◌, List, [], ◌∷◌, ◌++◌, length, map, refl, sym, ap, ◌∙◌, arith, eqb, ◌⊎◌, inl, inr, ⊎_elim}
-use Rattle.std.specs.List.{filter, list_any}
-use Rattle.std.proofs.lemmas.Bool.{cases_Bool, cond-false, cond-true, eq-eqb, false_from_ne_true, false≢true, ne_eqb, not_from_true, or_left}
+use Rattle.std.proofs.Common.{◌≡◌, ℕ, zero, suc, ◌<◌, ◌≤◌, Bool, true, false, not, cond, List, [], ◌∷◌, length, map, refl, sym, ap, ◌∙◌, arith, eqb, ⊎_elim}
+use Rattle.std.specs.List.{filter}
+use Rattle.std.proofs.lemmas.Bool.{cases_Bool, cond-false, cond-true, eq-eqb, false_from_ne_true, false≢true, not_from_true, or_left}
 use Rattle.tesla_links.specs.Lists.{Distinct, is_in, without}
-use Rattle.tesla_links.proofs.Members.{apart, differs, in_cases, in_here, in_there, without_other}
+use Rattle.tesla_links.proofs.Members.{in_cases, in_here, in_there, without_other}
 
 -- tests that agree on a list keep the same of it
 pub filter_on : (f g : ℕ → Bool) (xs : List ℕ) → ((p : ℕ) → is_in p xs ≡ true → f p ≡ g p) → filter f xs ≡ filter g xs
@@ -29,21 +29,21 @@ pub filter-filter : {X : Type 0} (f g : X → Bool) (xs : List X) → filter f (
 filter-filter f g [] = refl
 filter-filter f g (x ∷ xs) =
     ⊎_elim
-      (λ (e : f x ≡ true).
-        ⊎_elim
-          (λ (k : g x ≡ true). ap (filter f) (cond-true (g x) (x ∷ filter g xs) (filter g xs) k) ∙ cond-true (f x) (x ∷ filter f (filter g xs)) (filter f (filter g xs)) e ∙ ap (λ ys. x ∷ ys) (filter-filter f g xs)
-            ∙ sym (ap (filter g) (cond-true (f x) (x ∷ filter f xs) (filter f xs) e) ∙ cond-true (g x) (x ∷ filter g (filter f xs)) (filter g (filter f xs)) k))
-          (λ (k : g x ≡ false). ap (filter f) (cond-false (g x) (x ∷ filter g xs) (filter g xs) k) ∙ filter-filter f g xs
-            ∙ sym (ap (filter g) (cond-true (f x) (x ∷ filter f xs) (filter f xs) e) ∙ cond-false (g x) (x ∷ filter g (filter f xs)) (filter g (filter f xs)) k))
-          (cases_Bool (g x)))
-      (λ (e : f x ≡ false).
-        ⊎_elim
-          (λ (k : g x ≡ true). ap (filter f) (cond-true (g x) (x ∷ filter g xs) (filter g xs) k) ∙ cond-false (f x) (x ∷ filter f (filter g xs)) (filter f (filter g xs)) e ∙ filter-filter f g xs
-            ∙ sym (ap (filter g) (cond-false (f x) (x ∷ filter f xs) (filter f xs) e)))
-          (λ (k : g x ≡ false). ap (filter f) (cond-false (g x) (x ∷ filter g xs) (filter g xs) k) ∙ filter-filter f g xs
-            ∙ sym (ap (filter g) (cond-false (f x) (x ∷ filter f xs) (filter f xs) e)))
-          (cases_Bool (g x)))
-      (cases_Bool (f x))
+    (λ (e : f x ≡ true).
+    ⊎_elim
+    (λ (k : g x ≡ true). ap (filter f) (cond-true (g x) (x ∷ filter g xs) (filter g xs) k) ∙ cond-true (f x) (x ∷ filter f (filter g xs)) (filter f (filter g xs)) e ∙ ap (λ ys. x ∷ ys) (filter-filter f g xs)
+    ∙ sym (ap (filter g) (cond-true (f x) (x ∷ filter f xs) (filter f xs) e) ∙ cond-true (g x) (x ∷ filter g (filter f xs)) (filter g (filter f xs)) k))
+    (λ (k : g x ≡ false). ap (filter f) (cond-false (g x) (x ∷ filter g xs) (filter g xs) k) ∙ filter-filter f g xs
+    ∙ sym (ap (filter g) (cond-true (f x) (x ∷ filter f xs) (filter f xs) e) ∙ cond-false (g x) (x ∷ filter g (filter f xs)) (filter g (filter f xs)) k))
+    (cases_Bool (g x)))
+    (λ (e : f x ≡ false).
+    ⊎_elim
+    (λ (k : g x ≡ true). ap (filter f) (cond-true (g x) (x ∷ filter g xs) (filter g xs) k) ∙ cond-false (f x) (x ∷ filter f (filter g xs)) (filter f (filter g xs)) e ∙ filter-filter f g xs
+    ∙ sym (ap (filter g) (cond-false (f x) (x ∷ filter f xs) (filter f xs) e)))
+    (λ (k : g x ≡ false). ap (filter f) (cond-false (g x) (x ∷ filter g xs) (filter g xs) k) ∙ filter-filter f g xs
+    ∙ sym (ap (filter g) (cond-false (f x) (x ∷ filter f xs) (filter f xs) e)))
+    (cases_Bool (g x)))
+    (cases_Bool (f x))
 
 -- a test of what a function makes
 pub filter-map : {X Y : Type 0} (q : Y → Bool) (h : X → Y) (xs : List X) → filter q (map h xs) ≡ map h (filter (λ x. q (h x)) xs)
@@ -57,26 +57,26 @@ pub in_filter : (f : ℕ → Bool) (p : ℕ) (xs : List ℕ) → is_in p (filter
 in_filter f p [] i = absurd (false≢true i)
 in_filter f p (x ∷ xs) i =
     ⊎_elim
-      (λ (e : f x ≡ true).
-        ⊎_elim
-          (λ (s : x ≡ p). (or_left (eqb x p) (is_in p xs) (eq-eqb x p s), ap f (sym s) ∙ e))
-          (λ (more : is_in p (filter f xs) ≡ true). let r = in_filter f p xs more in (in_there x p xs r.0, r.1))
-          (in_cases x p (filter f xs) (ap (is_in p) (sym (cond-true (f x) (x ∷ filter f xs) (filter f xs) e)) ∙ i)))
-      (λ (e : f x ≡ false).
-        let r = in_filter f p xs (ap (is_in p) (sym (cond-false (f x) (x ∷ filter f xs) (filter f xs) e)) ∙ i) in
-        (in_there x p xs r.0, r.1))
-      (cases_Bool (f x))
+    (λ (e : f x ≡ true).
+    ⊎_elim
+    (λ (s : x ≡ p). (or_left (eqb x p) (is_in p xs) (eq-eqb x p s), ap f (sym s) ∙ e))
+    (λ (more : is_in p (filter f xs) ≡ true). let r = in_filter f p xs more in (in_there x p xs r.0, r.1))
+    (in_cases x p (filter f xs) (ap (is_in p) (sym (cond-true (f x) (x ∷ filter f xs) (filter f xs) e)) ∙ i)))
+    (λ (e : f x ≡ false).
+    let r = in_filter f p xs (ap (is_in p) (sym (cond-false (f x) (x ∷ filter f xs) (filter f xs) e)) ∙ i) in
+    (in_there x p xs r.0, r.1))
+    (cases_Bool (f x))
 
 -- and what is in the list and passes is kept
 pub in_filter_from : (f : ℕ → Bool) (p : ℕ) (xs : List ℕ) → is_in p xs ≡ true → f p ≡ true → is_in p (filter f xs) ≡ true
 in_filter_from f p [] i e = i
 in_filter_from f p (x ∷ xs) i e =
     ⊎_elim
-      (λ (s : x ≡ p). ap (is_in p) (cond-true (f x) (x ∷ filter f xs) (filter f xs) (ap f s ∙ e)) ∙ or_left (eqb x p) (is_in p (filter f xs)) (eq-eqb x p s))
-      (λ (more : is_in p xs ≡ true).
-        let rest = in_filter_from f p xs more e in
-        elim (f x) as (λ b. is_in p (cond b (x ∷ filter f xs) (filter f xs)) ≡ true) [ true ↦ in_there x p (filter f xs) rest | false ↦ rest ])
-      (in_cases x p xs i)
+    (λ (s : x ≡ p). ap (is_in p) (cond-true (f x) (x ∷ filter f xs) (filter f xs) (ap f s ∙ e)) ∙ or_left (eqb x p) (is_in p (filter f xs)) (eq-eqb x p s))
+    (λ (more : is_in p xs ≡ true).
+    let rest = in_filter_from f p xs more e in
+    elim (f x) as (λ b. is_in p (cond b (x ∷ filter f xs) (filter f xs)) ≡ true) [ true ↦ in_there x p (filter f xs) rest | false ↦ rest ])
+    (in_cases x p xs i)
 
 -- what a test keeps of distinct numbers is distinct
 pub distinct_filter : (f : ℕ → Bool) (xs : List ℕ) → Distinct xs → Distinct (filter f xs)
@@ -100,22 +100,22 @@ pub without_shorter : (p : ℕ) (xs : List ℕ) → is_in p xs ≡ true → leng
 without_shorter p [] i = absurd (false≢true i)
 without_shorter p (x ∷ xs) i =
     ⊎_elim
-      (λ (s : x ≡ p). let e = ap length (cond-false (not (eqb x p)) (x ∷ without p xs) (without p xs) (not_from_true (eqb x p) (eq-eqb x p s))) in omega (arith, e, without_short p xs))
-      (λ (more : is_in p xs ≡ true).
-        let rest = without_shorter p xs more in
-        elim (not (eqb x p)) as (λ b. length (cond b (x ∷ without p xs) (without p xs)) < suc (length xs)) [ true ↦ omega (arith, rest) | false ↦ omega (arith, rest) ])
-      (in_cases x p xs i)
+    (λ (s : x ≡ p). let e = ap length (cond-false (not (eqb x p)) (x ∷ without p xs) (without p xs) (not_from_true (eqb x p) (eq-eqb x p s))) in omega (arith, e, without_short p xs))
+    (λ (more : is_in p xs ≡ true).
+    let rest = without_shorter p xs more in
+    elim (not (eqb x p)) as (λ b. length (cond b (x ∷ without p xs) (without p xs)) < suc (length xs)) [ true ↦ omega (arith, rest) | false ↦ omega (arith, rest) ])
+    (in_cases x p xs i)
 
 -- fewer than n numbers leave out one below n
 pub left_out : (n : ℕ) (xs : List ℕ) → length xs < n → (g : ℕ) × (g < n) × (is_in g xs ≡ false)
 left_out zero xs short = absurd (omega arith)
 left_out (suc n) xs short =
     ⊎_elim
-      (λ (i : is_in n xs ≡ true).
-        let fewer = without_shorter n xs i in
-        let found = left_out n (without n xs) (omega (arith, fewer)) in
-        let below : found.0 < n = found.1 in
-        let ne : found.0 ≡ n → ⊥ = λ e. absurd (omega arith) in
-        (found.0, omega (arith, found.1), sym (without_other n found.0 xs ne) ∙ found.2))
-      (λ (none : is_in n xs ≡ false). (n, omega arith, none))
-      (cases_Bool (is_in n xs))
+    (λ (i : is_in n xs ≡ true).
+    let fewer = without_shorter n xs i in
+    let found = left_out n (without n xs) (omega (arith, fewer)) in
+    let below : found.0 < n = found.1 in
+    let ne : found.0 ≡ n → ⊥ = λ e. absurd (omega arith) in
+    (found.0, omega (arith, found.1), sym (without_other n found.0 xs ne) ∙ found.2))
+    (λ (none : is_in n xs ≡ false). (n, omega arith, none))
+    (cases_Bool (is_in n xs))

@@ -4,8 +4,8 @@ use Rattle.std.specs.List.{list_any, range_with_len}
 use Rattle.std.specs.Option.{MatchOption}
 use Rattle.std.specs.Prelude.{slice_get}
 use Rattle.std.proofs.Math.ListN.{set}
-use Rattle.std.proofs.lemmas.Bool.{cases_Bool, cases_eq, cond-false, cond-true, eq-eqb, eqb-true, false_from_ne_true, false≢true, or_cases, or_left, or_right}
-use Rattle.std.proofs.lemmas.List.{ext_get_or, get_or-map, get_or-replicate, get_or-set_other, get_or-set_same, get_or_past, length-map, length-replicate, length-set, set-get_or, set-set}
+use Rattle.std.proofs.lemmas.Bool.{cases_eq, cond-false, cond-true, eq-eqb, eqb-true, false_from_ne_true, false≢true, or_cases, or_left, or_right}
+use Rattle.std.proofs.lemmas.List.{ext_get_or, get_or-map, get_or-replicate, get_or-set_other, get_or-set_same, length-map, length-replicate, length-set, set-get_or, set-set}
 use Rattle.std.proofs.lemmas.List.FromFn.{get_or-map-range_with_len, length-map-range_with_len}
 use Rattle.std.proofs.lemmas.List.Folds.{list_any-append}
 use Rattle.std.proofs.Math.Bool.{or-false}
@@ -46,18 +46,18 @@ slots_of_is capacity chains keys slots h =
     let size : length (map read (range_with_len 0 capacity)) ≡ length slots = length-map-range_with_len read 0 capacity ∙ sym h.slotted in
     ext_get_or None (map read (range_with_len 0 capacity)) slots size
     (λ p below.
-      let inside : p < capacity = omega (arith, h.slotted) in
-      get_or-map-range_with_len read 0 capacity p p None inside (omega arith)
-      ∙ ⊎_elim
-        (λ (e : get_or slots p None ≡ None).
-          let vacant : is_in p (list_of chains capacity) ≡ true = subst (λ o. is_in p (list_of chains (chain_of capacity o)) ≡ true) e (h.chained p inside) in
-          cond-true (is_in p (list_of chains capacity)) None (Some (get_or keys p 0)) vacant ∙ sym e)
-        (λ (k : (key : ℕ) × (get_or slots p None ≡ Some key)).
-          let taken : is_in p (list_of chains capacity) ≡ false = false_from_ne_true (is_in p (list_of chains capacity)) (λ i.
-            let there : bucket_of capacity k.0 ≡ capacity = sym (ap (chain_of capacity) k.1) ∙ (h.only p capacity (omega arith) i).1 in
-            omega (arith, there, bucket_within capacity k.0 h.some)) in
-          cond-false (is_in p (list_of chains capacity)) None (Some (get_or keys p 0)) taken ∙ ap Some (h.key p k.0 k.1) ∙ sym k.1)
-        (slot_cases (get_or slots p None)))
+    let inside : p < capacity = omega (arith, h.slotted) in
+    get_or-map-range_with_len read 0 capacity p p None inside (omega arith)
+    ∙ ⊎_elim
+    (λ (e : get_or slots p None ≡ None).
+    let vacant : is_in p (list_of chains capacity) ≡ true = subst (λ o. is_in p (list_of chains (chain_of capacity o)) ≡ true) e (h.chained p inside) in
+    cond-true (is_in p (list_of chains capacity)) None (Some (get_or keys p 0)) vacant ∙ sym e)
+    (λ (k : (key : ℕ) × (get_or slots p None ≡ Some key)).
+    let taken : is_in p (list_of chains capacity) ≡ false = false_from_ne_true (is_in p (list_of chains capacity)) (λ i.
+    let there : bucket_of capacity k.0 ≡ capacity = sym (ap (chain_of capacity) k.1) ∙ (h.only p capacity (omega arith) i).1 in
+    omega (arith, there, bucket_within capacity k.0 h.some)) in
+    cond-false (is_in p (list_of chains capacity)) None (Some (get_or keys p 0)) taken ∙ ap Some (h.key p k.0 k.1) ∙ sym k.1)
+    (slot_cases (get_or slots p None)))
 
 pub at_view : (capacity : ℕ) (chains : Lists) (keys : List ℕ) (seen : List (Option ℕ)) → slots_of capacity chains keys ≡ seen → IsKeyed capacity chains keys (slots_of capacity chains keys) → IsKeyed capacity chains keys seen
 at_view capacity chains keys seen e h = subst (λ slots. IsKeyed capacity chains keys slots) e h
@@ -81,18 +81,18 @@ module _ (p to : ℕ) (lists : List (List ℕ)) where
   moved_other : (q j : ℕ) → j < length lists → (q ≡ p → ⊥) → is_in q (get_or (moved p to lists) j []) ≡ is_in q (get_or lists j [])
   moved_other q j below ne =
       ⊎_elim
-        (λ (e : j ≡ to).
-          ap (λ i. is_in q (get_or (moved p to lists) i [])) e
-          ∙ ap (is_in q) (get_or-set_same (map (without p) lists) to (without p (get_or lists to []) ++ p ∷ []) [] (omega (arith, length-map lists (without p))))
-          ∙ list_any-append (λ x. eqb x q) (without p (get_or lists to [])) (p ∷ [])
-          ∙ ap (λ b. is_in q (without p (get_or lists to [])) || b) (apart_from p q [] (λ s. ne (sym s)) refl)
-          ∙ or-false (is_in q (without p (get_or lists to [])))
-          ∙ without_other p q (get_or lists to []) ne
-          ∙ ap (λ i. is_in q (get_or lists i [])) (sym e))
-        (λ (other : j ≡ to → ⊥).
-          ap (is_in q) (get_or-set_other (map (without p) lists) to j (without p (get_or lists to []) ++ p ∷ []) [] other ∙ get_or-map (without p) lists j [] [] below)
-          ∙ without_other p q (get_or lists j []) ne)
-        (cases_eq j to)
+      (λ (e : j ≡ to).
+      ap (λ i. is_in q (get_or (moved p to lists) i [])) e
+      ∙ ap (is_in q) (get_or-set_same (map (without p) lists) to (without p (get_or lists to []) ++ p ∷ []) [] (omega (arith, length-map lists (without p))))
+      ∙ list_any-append (λ x. eqb x q) (without p (get_or lists to [])) (p ∷ [])
+      ∙ ap (λ b. is_in q (without p (get_or lists to [])) || b) (apart_from p q [] (λ s. ne (sym s)) refl)
+      ∙ or-false (is_in q (without p (get_or lists to [])))
+      ∙ without_other p q (get_or lists to []) ne
+      ∙ ap (λ i. is_in q (get_or lists i [])) (sym e))
+      (λ (other : j ≡ to → ⊥).
+      ap (is_in q) (get_or-set_other (map (without p) lists) to j (without p (get_or lists to []) ++ p ∷ []) [] other ∙ get_or-map (without p) lists j [] [] below)
+      ∙ without_other p q (get_or lists j []) ne)
+      (cases_eq j to)
 
 -- a place gets another slot, and stands in the list of it
 pub slot_set : (capacity : ℕ) (chains : Lists) (keys : List ℕ) (slots : List (Option ℕ)) (p : ℕ) (slot : Option ℕ) (chains' : Lists) (keys' : List ℕ)
@@ -115,28 +115,28 @@ slot_set capacity chains keys slots p slot chains' keys' h within same lists siz
       keyed = size ∙ h.keyed;
       slotted = length-set slots p slot ∙ h.slotted;
       key = λ q.
-        ⊎_elim (λ (e : q ≡ p). subst SetAt (sym e) (λ k is. key k (sym at ∙ is)))
-        (λ (ne : q ≡ p → ⊥). λ k is. others q ne ∙ h.key q k (sym (get_or-set_other slots p q slot None ne) ∙ is))
-        (cases_eq q p);
+          ⊎_elim (λ (e : q ≡ p). subst SetAt (sym e) (λ k is. key k (sym at ∙ is)))
+          (λ (ne : q ≡ p → ⊥). λ k is. others q ne ∙ h.key q k (sym (get_or-set_other slots p q slot None ne) ∙ is))
+          (cases_eq q p);
       chained = λ q inside.
-        ⊎_elim
+          ⊎_elim
           (λ (e : q ≡ p). subst Chained (sym e) (ap (λ o. is_in p (list_of chains' (chain_of capacity o))) at ∙ seen p to ∙ moved_to p to chains.lists below))
           (λ (ne : q ≡ p → ⊥).
-            let j = chain_of capacity (get_or slots q None) in
-            ap (λ o. is_in q (list_of chains' (chain_of capacity o))) (get_or-set_other slots p q slot None ne)
-            ∙ seen q j ∙ moved_other p to chains.lists q j (omega (arith, chain_within capacity (get_or slots q None) h.some, h.lists)) ne ∙ h.chained q inside)
+          let j = chain_of capacity (get_or slots q None) in
+          ap (λ o. is_in q (list_of chains' (chain_of capacity o))) (get_or-set_other slots p q slot None ne)
+          ∙ seen q j ∙ moved_other p to chains.lists q j (omega (arith, chain_within capacity (get_or slots q None) h.some, h.lists)) ne ∙ h.chained q inside)
           (cases_eq q p);
       only = λ q j inside i.
-        ⊎_elim
+          ⊎_elim
           (λ (e : q ≡ p).
-            let here : is_in p (get_or (moved p to chains.lists) j []) ≡ true = sym (seen p j) ∙ ap (λ x. is_in x (list_of chains' j)) (sym e) ∙ i in
-            let there : j ≡ to = ⊎_elim (λ (f : j ≡ to). f)
-              (λ (ne : j ≡ to → ⊥). absurd (false≢true (sym (moved_from p to chains.lists j (omega (arith, h.lists)) ne) ∙ here)))
-              (cases_eq j to) in
-            (omega arith, ap (λ x. chain_of capacity (get_or (set slots p slot) x None)) e ∙ ap (chain_of capacity) at ∙ sym there))
+          let here : is_in p (get_or (moved p to chains.lists) j []) ≡ true = sym (seen p j) ∙ ap (λ x. is_in x (list_of chains' j)) (sym e) ∙ i in
+          let there : j ≡ to = ⊎_elim (λ (f : j ≡ to). f)
+          (λ (ne : j ≡ to → ⊥). absurd (false≢true (sym (moved_from p to chains.lists j (omega (arith, h.lists)) ne) ∙ here)))
+          (cases_eq j to) in
+          (omega arith, ap (λ x. chain_of capacity (get_or (set slots p slot) x None)) e ∙ ap (chain_of capacity) at ∙ sym there))
           (λ (ne : q ≡ p → ⊥).
-            let old = h.only q j inside (sym (moved_other p to chains.lists q j (omega (arith, h.lists)) ne) ∙ sym (seen q j) ∙ i) in
-            (old.0, ap (chain_of capacity) (get_or-set_other slots p q slot None ne) ∙ old.1))
+          let old = h.only q j inside (sym (moved_other p to chains.lists q j (omega (arith, h.lists)) ne) ∙ sym (seen q j) ∙ i) in
+          (old.0, ap (chain_of capacity) (get_or-set_other slots p q slot None ne) ∙ old.1))
           (cases_eq q p);
     }
 
@@ -188,39 +188,39 @@ module _ (capacity : ℕ) (chains : Lists) (keys : List ℕ) (slots : List (Opti
       let within = bucket_within capacity key h.some in
       let own = h.only p (bucket_of capacity key) (omega (arith, within)) i in
       let slot : get_or slots p None ≡ Some key =
-          ⊎_elim
-            (λ (v : get_or slots p None ≡ None). let there : capacity ≡ bucket_of capacity key = sym (ap (chain_of capacity) v) ∙ own.1 in absurd (omega (arith, there, within)))
-            (λ (k : (key' : ℕ) × (get_or slots p None ≡ Some key')). k.1 ∙ ap Some (sym (h.key p k.0 k.1) ∙ e))
-            (slot_cases (get_or slots p None)) in
+      ⊎_elim
+      (λ (v : get_or slots p None ≡ None). let there : capacity ≡ bucket_of capacity key = sym (ap (chain_of capacity) v) ∙ own.1 in absurd (omega (arith, there, within)))
+      (λ (k : (key' : ℕ) × (get_or slots p None ≡ Some key')). k.1 ∙ ap Some (sym (h.key p k.0 k.1) ∙ e))
+      (slot_cases (get_or slots p None)) in
       slice_get-get_or slots p None (omega (arith, own.0, h.slotted)) ∙ ap Some slot
 
   -- where there is none in it, no place has the key
   pub not_found : (key : ℕ) → IsKeyed capacity chains keys slots → list_any (λ p. eqb (get_or keys p 0) key) (list_of chains (bucket_of capacity key)) ≡ false → list_any (has_key key) slots ≡ false
   not_found key h none =
       false_from_ne_true (list_any (has_key key) slots) (λ some.
-        let at = any_place (has_key key) slots some in
-        let slot : get_or slots at.0 None ≡ Some key = has_key_is key (get_or slots at.0 None) at.2 in
-        let i : is_in at.0 (list_of chains (bucket_of capacity key)) ≡ true = subst (λ o. is_in at.0 (list_of chains (chain_of capacity o)) ≡ true) slot (h.chained at.0 (omega (arith, at.1, h.slotted))) in
-        false≢true (sym none ∙ in_any (λ p. eqb (get_or keys p 0) key) at.0 (list_of chains (bucket_of capacity key)) i (eq-eqb _ _ (h.key at.0 key slot))))
+      let at = any_place (has_key key) slots some in
+      let slot : get_or slots at.0 None ≡ Some key = has_key_is key (get_or slots at.0 None) at.2 in
+      let i : is_in at.0 (list_of chains (bucket_of capacity key)) ≡ true = subst (λ o. is_in at.0 (list_of chains (chain_of capacity o)) ≡ true) slot (h.chained at.0 (omega (arith, at.1, h.slotted))) in
+      false≢true (sym none ∙ in_any (λ p. eqb (get_or keys p 0) key) at.0 (list_of chains (bucket_of capacity key)) i (eq-eqb _ _ (h.key at.0 key slot))))
 
   -- the first place of the list of vacant ones is vacant
   pub found_vacant : (p : ℕ) → IsKeyed capacity chains keys slots → slice_get (list_of chains capacity) 0 ≡ Some p → slice_get slots p ≡ Some None
   found_vacant p h e =
       let own = h.only p capacity (omega arith) (in_got (list_of chains capacity) 0 p e) in
       let slot : get_or slots p None ≡ None =
-          ⊎_elim (λ (v : get_or slots p None ≡ None). v)
-            (λ (k : (key' : ℕ) × (get_or slots p None ≡ Some key')). let there : bucket_of capacity k.0 ≡ capacity = sym (ap (chain_of capacity) k.1) ∙ own.1 in absurd (omega (arith, there, bucket_within capacity k.0 h.some)))
-            (slot_cases (get_or slots p None)) in
+      ⊎_elim (λ (v : get_or slots p None ≡ None). v)
+      (λ (k : (key' : ℕ) × (get_or slots p None ≡ Some key')). let there : bucket_of capacity k.0 ≡ capacity = sym (ap (chain_of capacity) k.1) ∙ own.1 in absurd (omega (arith, there, bucket_within capacity k.0 h.some)))
+      (slot_cases (get_or slots p None)) in
       slice_get-get_or slots p None (omega (arith, own.0, h.slotted)) ∙ ap Some slot
 
   -- where that list is empty, no place is
   pub none_vacant : IsKeyed capacity chains keys slots → slice_get (list_of chains capacity) 0 ≡ None → list_any is_vacant slots ≡ false
   none_vacant h e =
       false_from_ne_true (list_any is_vacant slots) (λ some.
-        let at = any_place is_vacant slots some in
-        let slot : get_or slots at.0 None ≡ None = is_vacant_is (get_or slots at.0 None) at.2 in
-        let i : is_in at.0 (list_of chains capacity) ≡ true = subst (λ o. is_in at.0 (list_of chains (chain_of capacity o)) ≡ true) slot (h.chained at.0 (omega (arith, at.1, h.slotted))) in
-        false≢true (ap (is_in at.0) (sym (empty (list_of chains capacity) e)) ∙ i))
+      let at = any_place is_vacant slots some in
+      let slot : get_or slots at.0 None ≡ None = is_vacant_is (get_or slots at.0 None) at.2 in
+      let i : is_in at.0 (list_of chains capacity) ≡ true = subst (λ o. is_in at.0 (list_of chains (chain_of capacity o)) ≡ true) slot (h.chained at.0 (omega (arith, at.1, h.slotted))) in
+      false≢true (ap (is_in at.0) (sym (empty (list_of chains capacity) e)) ∙ i))
 
   -- so the first of the list is a vacant place, or there is none
   pub first_vacant : IsKeyed capacity chains keys slots → (o : Option ℕ) → o ≡ slice_get (list_of chains capacity) 0 → MatchOption o (list_any is_vacant slots ≡ false) (λ p. slice_get slots p ≡ Some None)
@@ -257,9 +257,9 @@ vacant_more capacity place chains chains' e same appended =
     let long : length empties ≡ capacity + 1 = length-replicate (capacity + 1) none in
     let at : get_or old capacity [] ≡ range_with_len 0 place = get_or-set_same empties capacity (range_with_len 0 place) [] (omega arith) in
     let lists : chains'.lists ≡ set empties capacity (range_with_len 0 (place + 1)) =
-        appended ∙ ap (λ ls. set ls capacity (get_or ls capacity [] ++ place ∷ [])) seen
-        ∙ ap (λ xs. set old capacity (xs ++ place ∷ [])) at ∙ ap (set old capacity) (range_more place)
-        ∙ set-set empties capacity (range_with_len 0 place) (range_with_len 0 (place + 1)) in
+    appended ∙ ap (λ ls. set ls capacity (get_or ls capacity [] ++ place ∷ [])) seen
+    ∙ ap (λ xs. set old capacity (xs ++ place ∷ [])) at ∙ ap (set old capacity) (range_more place)
+    ∙ set-set empties capacity (range_with_len 0 place) (range_with_len 0 (place + 1)) in
     let places : chains'.places ≡ capacity = same ∙ ap (λ (v : Lists). v.places) e in
     let first : ◌≡◌ {A = Lists} chains' (record { places = capacity; lists = chains'.lists }) = ap (λ n. record { places = n; lists = chains'.lists }) places in
     first ∙ ap (λ ls. record { places = capacity; lists = ls }) lists
@@ -284,14 +284,14 @@ opened capacity chains keys some most e size =
       slotted = length-replicate capacity None;
       key = λ p k is. absurd (none-some k (sym (slot p) ∙ is));
       chained = λ p inside.
-        ap (λ o. is_in p (list_of chains (chain_of capacity o))) (slot p) ∙ ap (is_in p) vacant ∙ range_has 0 capacity p (omega arith) (omega arith);
+          ap (λ o. is_in p (list_of chains (chain_of capacity o))) (slot p) ∙ ap (is_in p) vacant ∙ range_has 0 capacity p (omega arith) (omega arith);
       only = λ p j inside i.
-        ⊎_elim
+          ⊎_elim
           (λ (f : j ≡ capacity).
-            let r = range_in 0 capacity p (ap (is_in p) (sym vacant) ∙ ap (λ n. is_in p (list_of chains n)) (sym f) ∙ i) in
-            (omega (arith, r.1), ap (chain_of capacity) (slot p) ∙ sym f))
+          let r = range_in 0 capacity p (ap (is_in p) (sym vacant) ∙ ap (λ n. is_in p (list_of chains n)) (sym f) ∙ i) in
+          (omega (arith, r.1), ap (chain_of capacity) (slot p) ∙ sym f))
           (λ (ne : j ≡ capacity → ⊥).
-            let none : list_of chains j ≡ [] = ap (λ ls. get_or ls j []) lists ∙ get_or-set_other empties capacity j (range_with_len 0 capacity) [] ne ∙ get_or-replicate (capacity + 1) j [] [] (omega arith) in
-            absurd (false≢true (ap (is_in p) (sym none) ∙ i)))
+          let none : list_of chains j ≡ [] = ap (λ ls. get_or ls j []) lists ∙ get_or-set_other empties capacity j (range_with_len 0 capacity) [] ne ∙ get_or-replicate (capacity + 1) j [] [] (omega arith) in
+          absurd (false≢true (ap (is_in p) (sym none) ∙ i)))
           (cases_eq j capacity);
     }

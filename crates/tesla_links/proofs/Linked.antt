@@ -1,5 +1,5 @@
 -- All lists in their rings, after a number was appended to one, and after one was removed.
-use Rattle.std.proofs.Common.{◌≡◌, ℕ, ◌+◌, ◌-◌, ◌^◌, ◌<◌, ◌≤◌, true, false, List, [], ◌∷◌, ◌++◌, length, get_or, map, replicate, refl, sym, ap, subst, ◌∙◌, arith, ◌⊎◌, ⊎_elim}
+use Rattle.std.proofs.Common.{◌≡◌, ℕ, ◌+◌, ◌-◌, ◌^◌, ◌<◌, ◌≤◌, true, false, List, [], ◌∷◌, ◌++◌, length, get_or, map, replicate, refl, sym, ap, subst, ◌∙◌, arith, ⊎_elim}
 use Rattle.std.specs.List.{list_any, range_with_len}
 use Rattle.std.proofs.Math.ListN.{set}
 use Rattle.std.proofs.lemmas.Bool.{cases_Bool, cases_eq, false≢true}
@@ -7,7 +7,7 @@ use Rattle.std.proofs.lemmas.List.{get_or-map, get_or-replicate, get_or-set_othe
 use Rattle.std.proofs.lemmas.List.FromFn.{get_or-range_with_len, length-range_with_len, map-range_with_len_more}
 use Rattle.tesla_links.specs.Lists.{Distinct, Lists, is_in, without}
 use Rattle.tesla_links.specs.Rings.{Chain, IsLinked, IsRing, Owned, lists_of}
-use Rattle.tesla_links.proofs.Members.{apart, apart_both, apart_from, differs, distinct_push, distinct_short, distinct_split, in_cases, in_front, in_here, in_no_list, in_rest, in_there, list_with, split_at, without_none, without_split}
+use Rattle.tesla_links.proofs.Members.{apart, apart_from, differs, distinct_push, distinct_short, distinct_split, in_cases, in_front, in_here, in_no_list, in_rest, in_there, list_with, split_at, without_none, without_split}
 use Rattle.tesla_links.proofs.Rings.{chain_append, chain_cut, chain_kept, chain_split, first_in, last_in, lists_of_is}
 
 -- ---- owners
@@ -114,12 +114,12 @@ module _ (places : ℕ) (after before owners counts : List ℕ) (lists : List (L
       let last_below : last < places + length lists = last_within h below in
       record {
         chain = chain_append after before after_append before_append p (places + k) xs (places + k) ring.chain (headless, ring.distinct) headless p_apart
-          (get_or-set_other (set after last p) p last (places + k) 0 (λ e. p_last (sym e)) ∙ get_or-set_same after last p 0 (omega (arith, h.after_each)))
-          (get_or-set_same (set after last p) p (places + k) 0 (omega (arith, h.after_each, length-set after last p)))
-          (get_or-set_other (set before p last) (places + k) p p 0 p_head ∙ get_or-set_same before p last 0 (omega (arith, h.before_each)))
-          (get_or-set_same (set before p last) (places + k) p 0 (omega (arith, h.before_each, length-set before p last)))
-          kept_after
-          kept_before;
+            (get_or-set_other (set after last p) p last (places + k) 0 (λ e. p_last (sym e)) ∙ get_or-set_same after last p 0 (omega (arith, h.after_each)))
+            (get_or-set_same (set after last p) p (places + k) 0 (omega (arith, h.after_each, length-set after last p)))
+            (get_or-set_other (set before p last) (places + k) p p 0 p_head ∙ get_or-set_same before p last 0 (omega (arith, h.before_each)))
+            (get_or-set_same (set before p last) (places + k) p 0 (omega (arith, h.before_each, length-set before p last)))
+            kept_after
+            kept_before;
         owned = owned_push places (set owners p k) k xs p (owned_set places owners k xs p k ring.owned absent) within (get_or-set_same owners p k 0 (omega (arith, h.owned)));
         distinct = distinct_push xs p ring.distinct absent;
         counted = ap (λ n. n + 1) ring.counted ∙ sym (length-append xs (p ∷ []));
@@ -138,10 +138,10 @@ module _ (places : ℕ) (after before owners counts : List ℕ) (lists : List (L
       let heads : places + j ≡ places + k → ⊥ = λ e. ne (omega arith) in
       record {
         chain = chain_kept after before after_append before_append (places + j) ys (places + j) other.chain
-          (kept_after (places + j) (other_head places owners k j xs last ring.owned ne is_last) head_p)
-          (λ n i. kept_after n (other_node places owners k j xs ys last n ring.owned other.owned ne is_last i) (λ e. differs n p ys i absent (sym e)))
-          (λ n i. kept_before n (λ e. differs n (places + k) ys i (head_apart places owners j ys k other.owned) (sym e)) (λ e. differs n p ys i absent (sym e)))
-          (kept_before (places + j) heads head_p);
+            (kept_after (places + j) (other_head places owners k j xs last ring.owned ne is_last) head_p)
+            (λ n i. kept_after n (other_node places owners k j xs ys last n ring.owned other.owned ne is_last i) (λ e. differs n p ys i absent (sym e)))
+            (λ n i. kept_before n (λ e. differs n (places + k) ys i (head_apart places owners j ys k other.owned) (sym e)) (λ e. differs n p ys i absent (sym e)))
+            (kept_before (places + j) heads head_p);
         owned = owned_set places owners j ys p k other.owned absent;
         distinct = other.distinct;
         counted = other.counted;
@@ -162,13 +162,13 @@ module _ (places : ℕ) (after before owners counts : List ℕ) (lists : List (L
         owned = length-set owners p k ∙ h.owned;
         counted = omega (arith, length-set counts k (get_or counts k 0 + 1), h.counted);
         each = λ j inside.
-          ⊎_elim
+            ⊎_elim
             (λ (e : j ≡ k). subst Ring (sym e) (ring_is places after_append before_append (set owners p k) k _ _ _ _ (ring_appended h below within none)
-              (get_or-set_same counts k (get_or counts k 0 + 1) 0 (omega (arith, h.counted)))
-              (get_or-set_same lists k (get_or lists k [] ++ p ∷ []) [] below)))
+            (get_or-set_same counts k (get_or counts k 0 + 1) 0 (omega (arith, h.counted)))
+            (get_or-set_same lists k (get_or lists k [] ++ p ∷ []) [] below)))
             (λ (ne : j ≡ k → ⊥). ring_is places after_append before_append (set owners p k) j _ _ _ _ (ring_beside h below within none j (omega arith) ne)
-              (get_or-set_other counts k j (get_or counts k 0 + 1) 0 ne)
-              (get_or-set_other lists k j (get_or lists k [] ++ p ∷ []) [] ne))
+            (get_or-set_other counts k j (get_or counts k 0 + 1) 0 ne)
+            (get_or-set_other lists k j (get_or lists k [] ++ p ∷ []) [] ne))
             (cases_eq j k);
       }
 
@@ -208,9 +208,9 @@ beside after before from xs p c i =
     let b : is_in (get_or before p 0) (from ∷ (s.0 ++ p ∷ s.1)) ≡ true = in_front (get_or before p 0) (from ∷ s.0) (p ∷ s.1) (last_in after before from s.0 p halves.0) in
     let n = get_or after p 0 in
     let a : is_in n (from ∷ (s.0 ++ p ∷ s.1)) ≡ true =
-        ⊎_elim (λ (e : from ≡ n). subst (λ m. is_in m (from ∷ (s.0 ++ p ∷ s.1)) ≡ true) e (in_here from (s.0 ++ p ∷ s.1)))
-        (λ (more : is_in n s.1 ≡ true). in_there from n (s.0 ++ p ∷ s.1) (in_rest n s.0 (p ∷ s.1) (in_there p n s.1 more)))
-        (in_cases from n s.1 (first_in after before p s.1 from halves.1)) in
+    ⊎_elim (λ (e : from ≡ n). subst (λ m. is_in m (from ∷ (s.0 ++ p ∷ s.1)) ≡ true) e (in_here from (s.0 ++ p ∷ s.1)))
+    (λ (more : is_in n s.1 ≡ true). in_there from n (s.0 ++ p ∷ s.1) (in_rest n s.0 (p ∷ s.1) (in_there p n s.1 more)))
+    (in_cases from n s.1 (first_in after before p s.1 from halves.1)) in
     (subst (In (get_or before p 0)) (sym s.2) b, subst (In n) (sym s.2) a, omega (arith, ap length s.2, length-append s.0 (p ∷ s.1)))
 
 pub placed : (places : ℕ) (after before owners counts : List ℕ) (lists : List (List ℕ)) (p : ℕ) → IsLinked places after before owners counts lists → list_any (is_in p) lists ≡ true → Placed places after before owners counts lists p
@@ -259,17 +259,17 @@ module _ (places : ℕ) (after before owners counts : List ℕ) (lists : List (L
       let left : without p xs ≡ front ++ rest = ap (without p) s.2 ∙ without_split p front rest distinct in
       let size : get_or counts k 0 ≡ length (front ++ p ∷ rest) = ring.counted ∙ ap length s.2 in
       ring_is places after_cut before_cut owners k (get_or counts k 0 - 1) (get_or counts k 0 - 1) (front ++ rest) (without p xs)
-        (record {
-          chain = chain_cut after before after_cut before_cut (places + k) front p rest (places + k) halves.0 halves.1 (headless, distinct) headless
+      (record {
+        chain = chain_cut after before after_cut before_cut (places + k) front p rest (places + k) halves.0 halves.1 (headless, distinct) headless
             (get_or-set_same after (get_or before p 0) (get_or after p 0) 0 (omega (arith, h.after_each, here.before_within)))
             (get_or-set_same before (get_or after p 0) (get_or before p 0) 0 (omega (arith, h.before_each, here.after_within)))
             (λ n ne. get_or-set_other after (get_or before p 0) n (get_or after p 0) 0 ne)
             (λ n ne. get_or-set_other before (get_or after p 0) n (get_or before p 0) 0 ne);
-          owned = owned_cut places owners k front p rest owned;
-          distinct = (distinct_split p front rest distinct).2;
-          counted = omega (arith, size, length-append front (p ∷ rest), length-append front rest);
-        })
-        refl left
+        owned = owned_cut places owners k front p rest owned;
+        distinct = (distinct_split p front rest distinct).2;
+        counted = omega (arith, size, length-append front (p ∷ rest), length-append front rest);
+      })
+      refl left
 
   ring_aside : IsLinked places after before owners counts lists → Placed places after before owners counts lists p
       → (j : ℕ) → j < length lists → (j ≡ get_or owners p 0 → ⊥) → IsRing places after_cut before_cut owners j (get_or counts j 0) (without p (get_or lists j []))
@@ -280,17 +280,17 @@ module _ (places : ℕ) (after before owners counts : List ℕ) (lists : List (L
       let ring = h.each k here.list in
       let other = h.each j inside in
       ring_is places after_cut before_cut owners j (get_or counts j 0) (get_or counts j 0) ys (without p ys)
-        (record {
-          chain = chain_kept after before after_cut before_cut (places + j) ys (places + j) other.chain
+      (record {
+        chain = chain_kept after before after_cut before_cut (places + j) ys (places + j) other.chain
             (get_or-set_other after (get_or before p 0) (places + j) (get_or after p 0) 0 (other_head places owners k j xs (get_or before p 0) ring.owned ne here.is_before))
             (λ n i. get_or-set_other after (get_or before p 0) n (get_or after p 0) 0 (other_node places owners k j xs ys (get_or before p 0) n ring.owned other.owned ne here.is_before i))
             (λ n i. get_or-set_other before (get_or after p 0) n (get_or before p 0) 0 (other_node places owners k j xs ys (get_or after p 0) n ring.owned other.owned ne here.is_after i))
             (get_or-set_other before (get_or after p 0) (places + j) (get_or before p 0) 0 (other_head places owners k j xs (get_or after p 0) ring.owned ne here.is_after));
-          owned = other.owned;
-          distinct = other.distinct;
-          counted = other.counted;
-        })
-        refl (without_none p ys (here.apart j inside ne))
+        owned = other.owned;
+        distinct = other.distinct;
+        counted = other.counted;
+      })
+      refl (without_none p ys (here.apart j inside ne))
 
   removed : IsLinked places after before owners counts lists → Placed places after before owners counts lists p
       → IsLinked places after_cut before_cut owners (set counts (get_or owners p 0) (get_or counts (get_or owners p 0) 0 - 1)) (map (without p) lists)
@@ -307,13 +307,13 @@ module _ (places : ℕ) (after before owners counts : List ℕ) (lists : List (L
         owned = h.owned;
         counted = omega (arith, length-set counts k fewer, h.counted);
         each = λ j inside.
-          ⊎_elim
+            ⊎_elim
             (λ (e : j ≡ k). subst Ring (sym e) (ring_is places after_cut before_cut owners k _ _ _ _ (ring_cut h here)
-              (get_or-set_same counts k fewer 0 (omega (arith, h.counted, here.list)))
-              (get_or-map (without p) lists k [] [] here.list)))
+            (get_or-set_same counts k fewer 0 (omega (arith, h.counted, here.list)))
+            (get_or-map (without p) lists k [] [] here.list)))
             (λ (ne : j ≡ k → ⊥). ring_is places after_cut before_cut owners j _ _ _ _ (ring_aside h here j (omega arith) ne)
-              (get_or-set_other counts k j fewer 0 ne)
-              (get_or-map (without p) lists j [] [] (omega arith)))
+            (get_or-set_other counts k j fewer 0 ne)
+            (get_or-map (without p) lists j [] [] (omega arith)))
             (cases_eq j k);
       }
 
@@ -324,7 +324,7 @@ module _ (places : ℕ) (after before owners counts : List ℕ) (lists : List (L
       let Nodes : ℕ → ℕ → ℕ → ℕ → Type 0 = λ u v w m. IsLinked places (set after v u) (set before u v) owners (set counts w (m - 1)) (map (without p) lists) in
       let count : n ≡ get_or counts (get_or owners p 0) 0 = en ∙ ap (λ w. get_or counts w 0) ek in
       subst (λ u. Nodes u b k n) (sym ea) (subst (λ v. Nodes (get_or after p 0) v k n) (sym eb) (subst (λ w. Nodes (get_or after p 0) (get_or before p 0) w n) (sym ek)
-        (subst (λ m. Nodes (get_or after p 0) (get_or before p 0) (get_or owners p 0) m) (sym count) (removed h here))))
+      (subst (λ m. Nodes (get_or after p 0) (get_or before p 0) (get_or owners p 0) m) (sym count) (removed h here))))
 
 -- ---- at the opening
 
@@ -348,8 +348,8 @@ opened places n after before owners counts small few ea eb eo ec =
       owned = ap length eo ∙ length-replicate places 0;
       counted = ap length ec ∙ length-replicate n 0 ∙ sym size;
       each = λ k below.
-        let alone : get_or (range_with_len 0 (places + n)) (places + k) 0 ≡ places + k = get_or-range_with_len 0 (places + n) (places + k) 0 (omega arith) ∙ omega arith in
-        ring_is places after before owners k 0 (get_or counts k 0) [] (get_or (replicate n []) k [])
+          let alone : get_or (range_with_len 0 (places + n)) (places + k) 0 ≡ places + k = get_or-range_with_len 0 (places + n) (places + k) 0 (omega arith) ∙ omega arith in
+          ring_is places after before owners k 0 (get_or counts k 0) [] (get_or (replicate n []) k [])
           (record { chain = (ap (λ xs. get_or xs (places + k) 0) ea ∙ alone, ap (λ xs. get_or xs (places + k) 0) eb ∙ alone); owned = tt; distinct = tt; counted = refl })
           (ap (λ xs. get_or xs k 0) ec ∙ get_or-replicate n k 0 0 (omega arith))
           (get_or-replicate n k [] [] (omega arith));

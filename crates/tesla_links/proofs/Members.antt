@@ -1,6 +1,6 @@
 -- Whether a number stands in a list, and lists in which none stands twice.
-use Rattle.std.proofs.Common.{◌≡◌, ℕ, zero, suc, ◌+◌, ◌<◌, ◌≤◌, Bool, true, false, not, cond, ◌||◌, List, [], ◌∷◌, ◌++◌, length, get_or, map, replicate, Some, None, refl, sym, ap, subst, ◌∙◌, arith, eqb, ◌⊎◌, inl, inr, ⊎_elim}
-use Rattle.std.specs.List.{filter, list_any, range_with_len}
+use Rattle.std.proofs.Common.{◌≡◌, ℕ, zero, suc, ◌+◌, ◌<◌, ◌≤◌, true, false, not, ◌||◌, List, [], ◌∷◌, ◌++◌, length, get_or, map, replicate, Some, refl, sym, ap, subst, ◌∙◌, arith, eqb, ◌⊎◌, inl, inr, ⊎_elim}
+use Rattle.std.specs.List.{list_any, range_with_len}
 use Rattle.std.specs.Prelude.{slice_get}
 use Rattle.std.proofs.Math.ListN.{set}
 use Rattle.std.proofs.lemmas.Bool.{cases_Bool, cases_eq, cond-false, cond-true, eq-eqb, eqb-false, eqb-true, false≢true, ne_eqb, not_from_false, not_from_true, or_cases, or_from, or_left, or_parts, or_right}
@@ -117,9 +117,10 @@ in_joined place xs ys h = or_cases (is_in place xs) (is_in place ys) (sym (list_
 -- what is in a list without one of its distinct numbers is in the list, and isn't that number
 in_split : (place : ℕ) (front : List ℕ) (p : ℕ) (rest : List ℕ) → Distinct (front ++ p ∷ rest) → is_in place (front ++ rest) ≡ true → (is_in place (front ++ p ∷ rest) ≡ true) × (p ≡ place → ⊥)
 in_split place front p rest d i =
-    let parts = distinct_split p front rest d in
-    (⊎_elim (λ (a : is_in place front ≡ true). in_front place front (p ∷ rest) a) (λ (b : is_in place rest ≡ true). in_rest place front (p ∷ rest) (in_there p place rest b)) (in_joined place front rest i),
-    differs place p (front ++ rest) i (apart_joined p front rest parts.0 parts.1))
+    let parts = distinct_split p front rest d in (
+      ⊎_elim (λ (a : is_in place front ≡ true). in_front place front (p ∷ rest) a) (λ (b : is_in place rest ≡ true). in_rest place front (p ∷ rest) (in_there p place rest b)) (in_joined place front rest i),
+      differs place p (front ++ rest) i (apart_joined p front rest parts.0 parts.1),
+    )
 
 -- there are at most n distinct numbers below n
 pub distinct_short : (n : ℕ) (xs : List ℕ) → Distinct xs → ((x : ℕ) → is_in x xs ≡ true → x < n) → length xs ≤ n
@@ -127,19 +128,19 @@ distinct_short zero [] d below = omega arith
 distinct_short zero (x ∷ xs) d below = absurd (omega (arith, below x (in_here x xs)))
 distinct_short (suc n) xs d below =
     ⊎_elim
-      (λ (i : is_in n xs ≡ true).
-        let s = split_at n xs i in
-        let distinct : Distinct (s.0 ++ n ∷ s.1) = subst (λ ys. Distinct ys) s.2 d in
-        let fewer = distinct_short n (s.0 ++ s.1) (distinct_split n s.0 s.1 distinct).2
-          (λ x here. let more = in_split x s.0 n s.1 distinct here in
-            let small : x < suc n = below x (ap (is_in x) s.2 ∙ more.0) in
-            let other : n ≡ x → ⊥ = more.1 in
-            omega arith) in
-        omega (arith, fewer, ap length s.2, length-append s.0 (n ∷ s.1), length-append s.0 s.1))
-      (λ (none : is_in n xs ≡ false).
-        let fewer = distinct_short n xs d (λ x here. let small : x < suc n = below x here in let other : n ≡ x → ⊥ = differs x n xs here none in omega arith) in
-        omega (arith, fewer))
-      (cases_Bool (is_in n xs))
+    (λ (i : is_in n xs ≡ true).
+    let s = split_at n xs i in
+    let distinct : Distinct (s.0 ++ n ∷ s.1) = subst (λ ys. Distinct ys) s.2 d in
+    let fewer = distinct_short n (s.0 ++ s.1) (distinct_split n s.0 s.1 distinct).2
+    (λ x here. let more = in_split x s.0 n s.1 distinct here in
+    let small : x < suc n = below x (ap (is_in x) s.2 ∙ more.0) in
+    let other : n ≡ x → ⊥ = more.1 in
+    omega arith) in
+    omega (arith, fewer, ap length s.2, length-append s.0 (n ∷ s.1), length-append s.0 s.1))
+    (λ (none : is_in n xs ≡ false).
+    let fewer = distinct_short n xs d (λ x here. let small : x < suc n = below x here in let other : n ≡ x → ⊥ = differs x n xs here none in omega arith) in
+    omega (arith, fewer))
+    (cases_Bool (is_in n xs))
 
 -- ---- without a number
 
@@ -148,21 +149,21 @@ pub without_same : (p : ℕ) (xs : List ℕ) → is_in p (without p xs) ≡ fals
 without_same p [] = refl
 without_same p (x ∷ xs) =
     ⊎_elim
-      (λ (e : eqb x p ≡ true). ap (is_in p) (cond-false (not (eqb x p)) (x ∷ without p xs) (without p xs) (not_from_true (eqb x p) e)) ∙ without_same p xs)
-      (λ (e : eqb x p ≡ false). ap (is_in p) (cond-true (not (eqb x p)) (x ∷ without p xs) (without p xs) (not_from_false (eqb x p) e)) ∙ or_from (eqb x p) (is_in p (without p xs)) e (without_same p xs))
-      (cases_Bool (eqb x p))
+    (λ (e : eqb x p ≡ true). ap (is_in p) (cond-false (not (eqb x p)) (x ∷ without p xs) (without p xs) (not_from_true (eqb x p) e)) ∙ without_same p xs)
+    (λ (e : eqb x p ≡ false). ap (is_in p) (cond-true (not (eqb x p)) (x ∷ without p xs) (without p xs) (not_from_false (eqb x p) e)) ∙ or_from (eqb x p) (is_in p (without p xs)) e (without_same p xs))
+    (cases_Bool (eqb x p))
 
 -- the others are
 pub without_other : (p q : ℕ) (xs : List ℕ) → (q ≡ p → ⊥) → is_in q (without p xs) ≡ is_in q xs
 without_other p q [] ne = refl
 without_other p q (x ∷ xs) ne =
     ⊎_elim
-      (λ (e : eqb x p ≡ true).
-        ap (is_in q) (cond-false (not (eqb x p)) (x ∷ without p xs) (without p xs) (not_from_true (eqb x p) e)) ∙ without_other p q xs ne
-        ∙ sym (ap (λ b. b || is_in q xs) (ne_eqb x q (λ s. ne (sym s ∙ eqb-true x p e)))))
-      (λ (e : eqb x p ≡ false).
-        ap (is_in q) (cond-true (not (eqb x p)) (x ∷ without p xs) (without p xs) (not_from_false (eqb x p) e)) ∙ ap (λ b. eqb x q || b) (without_other p q xs ne))
-      (cases_Bool (eqb x p))
+    (λ (e : eqb x p ≡ true).
+    ap (is_in q) (cond-false (not (eqb x p)) (x ∷ without p xs) (without p xs) (not_from_true (eqb x p) e)) ∙ without_other p q xs ne
+    ∙ sym (ap (λ b. b || is_in q xs) (ne_eqb x q (λ s. ne (sym s ∙ eqb-true x p e)))))
+    (λ (e : eqb x p ≡ false).
+    ap (is_in q) (cond-true (not (eqb x p)) (x ∷ without p xs) (without p xs) (not_from_false (eqb x p) e)) ∙ ap (λ b. eqb x q || b) (without_other p q xs ne))
+    (cases_Bool (eqb x p))
 
 -- it is left in no list
 pub nowhere_without : (p : ℕ) (lists : List (List ℕ)) → list_any (is_in p) (map (without p) lists) ≡ false

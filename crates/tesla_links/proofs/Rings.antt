@@ -1,14 +1,13 @@
 -- Lists in their rings: how they are read, and what an appended and a removed number leave.
-use Rattle.std.proofs.Common.{◌≡◌, ℕ, zero, suc, ◌+◌, ◌-◌, ◌^◌, ◌<◌, ◌≤◌, Bool, true, false, ◌||◌, List, [], ◌∷◌, ◌++◌, length, get_or, map, replicate, Some, None, refl, sym, ap, subst, ◌∙◌, arith, eqb, ◌⊎◌, inl, inr, ⊎_elim}
-use Rattle.std.specs.List.{list_any, range_with_len}
+use Rattle.std.proofs.Common.{◌≡◌, ℕ, ◌+◌, ◌<◌, true, false, List, [], ◌∷◌, ◌++◌, length, get_or, map, Some, None, refl, sym, ap, subst, ◌∙◌, arith, eqb}
+use Rattle.std.specs.List.{range_with_len}
 use Rattle.std.specs.Prelude.{slice_get}
-use Rattle.std.proofs.Math.ListN.{set}
 use Rattle.std.proofs.lemmas.Bool.{cond-false, cond-true, eq-eqb, ne_eqb, or_left, or_right}
-use Rattle.std.proofs.lemmas.List.{ext_get_or, get_or-map, get_or-set_other, get_or-set_same, length-append, length-map, length-replicate, length-set}
+use Rattle.std.proofs.lemmas.List.{ext_get_or}
 use Rattle.std.proofs.lemmas.List.FromFn.{get_or-map-range_with_len, length-map-range_with_len}
-use Rattle.tesla_links.specs.Lists.{Distinct, is_in, next_in, without}
-use Rattle.tesla_links.specs.Rings.{Chain, IsLinked, IsRing, Owned, lists_of, walk}
-use Rattle.tesla_links.proofs.Members.{apart, apart_both, apart_from, differs, distinct_push, distinct_split, in_cases, in_here, in_no_list, in_there, list_with, split_at, without_none, without_split}
+use Rattle.tesla_links.specs.Lists.{Distinct, is_in, next_in}
+use Rattle.tesla_links.specs.Rings.{Chain, IsLinked, lists_of, walk}
+use Rattle.tesla_links.proofs.Members.{apart, apart_both, apart_from, differs, distinct_split, in_here, in_there, split_at}
 
 -- ---- reading
 
@@ -27,11 +26,11 @@ lists_of_is places after before owners counts lists h =
     let size : length (map read (range_with_len 0 (length counts))) ≡ length lists = length-map-range_with_len read 0 (length counts) ∙ h.counted in
     ext_get_or [] (map read (range_with_len 0 (length counts))) lists size
     (λ k below.
-      let inside : k < length lists = omega arith in
-      let ring = h.each k inside in
-      get_or-map-range_with_len read 0 (length counts) k k [] (omega (arith, h.counted)) (omega arith)
-      ∙ ap (λ n. walk after n (get_or after (places + k) 0)) ring.counted
-      ∙ walk_chain after before (places + k) (get_or lists k []) (places + k) ring.chain)
+    let inside : k < length lists = omega arith in
+    let ring = h.each k inside in
+    get_or-map-range_with_len read 0 (length counts) k k [] (omega (arith, h.counted)) (omega arith)
+    ∙ ap (λ n. walk after n (get_or after (places + k) 0)) ring.counted
+    ∙ walk_chain after before (places + k) (get_or lists k []) (places + k) ring.chain)
 
 -- ---- nodes of a chain
 
@@ -63,9 +62,11 @@ pub chain_kept : (after before after' before' : List ℕ) (from : ℕ) (xs : Lis
     → get_or before' until 0 ≡ get_or before until 0
     → Chain after' before' from xs until
 chain_kept after before after' before' from [] until c a ka kb b = (a ∙ c.0, b ∙ c.1)
-chain_kept after before after' before' from (x ∷ xs) until c a ka kb b =
-    (a ∙ c.0, kb x (in_here x xs) ∙ c.1,
-    chain_kept after before after' before' x xs until c.2 (ka x (in_here x xs)) (λ n i. ka n (in_there x n xs i)) (λ n i. kb n (in_there x n xs i)) b)
+chain_kept after before after' before' from (x ∷ xs) until c a ka kb b = (
+  a ∙ c.0,
+  kb x (in_here x xs) ∙ c.1,
+  chain_kept after before after' before' x xs until c.2 (ka x (in_here x xs)) (λ n i. ka n (in_there x n xs i)) (λ n i. kb n (in_there x n xs i)) b,
+)
 
 -- a node is put in front of the end
 pub chain_append : (after before after' before' : List ℕ) (place from : ℕ) (xs : List ℕ) (until : ℕ) → Chain after before from xs until
@@ -81,10 +82,11 @@ chain_append after before after' before' place from (x ∷ xs) until c d u p a1 
     let last = last_in after before x xs until c.2 in
     let p_from = apart from place (x ∷ xs) p in
     let p_x = apart x place xs p_from.1 in
-    let u_x = apart x until xs u in
-    (ka from (differs (get_or before until 0) from (x ∷ xs) last d.0) p_from.0 ∙ c.0,
-    kb x u_x.0 p_x.0 ∙ c.1,
-    chain_append after before after' before' place x xs until c.2 d.1 u_x.1 p_from.1 a1 a2 b1 b2 ka kb)
+    let u_x = apart x until xs u in (
+      ka from (differs (get_or before until 0) from (x ∷ xs) last d.0) p_from.0 ∙ c.0,
+      kb x u_x.0 p_x.0 ∙ c.1,
+      chain_append after before after' before' place x xs until c.2 d.1 u_x.1 p_from.1 a1 a2 b1 b2 ka kb,
+    )
 
 -- a node is taken out
 pub chain_cut : (after before after' before' : List ℕ) (from : ℕ) (front : List ℕ) (place : ℕ) (rest : List ℕ) (until : ℕ)
@@ -102,23 +104,26 @@ chain_cut after before after' before' from [] place (y ∷ rest) until c e d u a
     let u_apart = apart place until (y ∷ rest) u in
     let u_y = apart y until rest u_apart.1 in
     let from_y = apart y from rest from_apart.1 in
-    let y_apart : is_in y rest ≡ false = d.1.1.0 in
-    (ap (λ n. get_or after' n 0) (sym c.1) ∙ a ∙ e.0, ap (λ n. get_or before' n 0) (sym e.0) ∙ b ∙ c.1,
-    chain_kept after before after' before' y rest until e.2
-      (ka y (λ q. from_y.0 (q ∙ c.1)))
-      (λ n i. ka n (λ q. differs n from rest i from_y.1 (sym (q ∙ c.1))))
-      (λ n i. kb n (λ q. differs n y rest i y_apart (sym (q ∙ e.0))))
-      (kb until (λ q. u_y.0 (sym (q ∙ e.0)))))
+    let y_apart : is_in y rest ≡ false = d.1.1.0 in (
+      ap (λ n. get_or after' n 0) (sym c.1) ∙ a ∙ e.0,
+      ap (λ n. get_or before' n 0) (sym e.0) ∙ b ∙ c.1,
+      chain_kept after before after' before' y rest until e.2
+          (ka y (λ q. from_y.0 (q ∙ c.1)))
+          (λ n i. ka n (λ q. differs n from rest i from_y.1 (sym (q ∙ c.1))))
+          (λ n i. kb n (λ q. differs n y rest i y_apart (sym (q ∙ e.0))))
+          (kb until (λ q. u_y.0 (sym (q ∙ e.0)))),
+    )
 chain_cut after before after' before' from (x ∷ front) place rest until c e d u a b ka kb =
     let last = last_in after before x front place c.2 in
     let next = first_in after before place rest until e in
     let from_apart = apart_both from (x ∷ front) (place ∷ rest) d.0 in
     let u_x = apart x until (front ++ place ∷ rest) u in
     let x_apart = apart_both x front (place ∷ rest) d.1.0 in
-    let x_rest = apart place x rest x_apart.1 in
-    (ka from (differs (get_or before place 0) from (x ∷ front) last from_apart.0) ∙ c.0,
-    kb x (differs (get_or after place 0) x (until ∷ rest) next (apart_from until x rest (λ q. u_x.0 (sym q)) x_rest.1)) ∙ c.1,
-    chain_cut after before after' before' x front place rest until c.2 e d.1 u_x.1 a b ka kb)
+    let x_rest = apart place x rest x_apart.1 in (
+      ka from (differs (get_or before place 0) from (x ∷ front) last from_apart.0) ∙ c.0,
+      kb x (differs (get_or after place 0) x (until ∷ rest) next (apart_from until x rest (λ q. u_x.0 (sym q)) x_rest.1)) ∙ c.1,
+      chain_cut after before after' before' x front place rest until c.2 e d.1 u_x.1 a b ka kb,
+    )
 
 -- ---- what the code reads
 
@@ -144,9 +149,12 @@ module _ (after before : List ℕ) (from : ℕ) (xs : List ℕ) (until p : ℕ) 
   behind c d i =
       let s = split_at p xs i in
       let distinct : Distinct (s.0 ++ p ∷ s.1) = subst (λ ys. Distinct ys) s.2 d in
-      let halves = chain_split after before from s.0 p s.1 until (subst (λ ys. Chain after before from ys until) s.2 c) in
-      (s.1, halves.1, ap (next_in p) s.2 ∙ next_in_split p s.0 s.1 (distinct_split p s.0 s.1 distinct).0,
-      λ none. (apart p until s.1 (apart_both until s.0 (p ∷ s.1) (sym (ap (is_in until) s.2) ∙ none)).1).1)
+      let halves = chain_split after before from s.0 p s.1 until (subst (λ ys. Chain after before from ys until) s.2 c) in (
+        s.1,
+        halves.1,
+        ap (next_in p) s.2 ∙ next_in_split p s.0 s.1 (distinct_split p s.0 s.1 distinct).0,
+        λ none. (apart p until s.1 (apart_both until s.0 (p ∷ s.1) (sym (ap (is_in until) s.2) ∙ none)).1).1,
+      )
 
   -- where the node after a number is the end, nothing stands behind it
   pub next_none : Chain after before from xs until → Distinct xs → is_in p xs ≡ true → is_in until xs ≡ false → get_or after p 0 ≡ until → next_in p xs ≡ None

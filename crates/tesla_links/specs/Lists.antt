@@ -1,5 +1,5 @@
 -- What a contract sees of linked lists of numbers.
-use Rattle.std.specs.Prelude.{◌≡◌, ℕ, ◌==◌, Bool, false, not, cond, List, [], ◌∷◌, ◌++◌, Option, None, Some, get_or, map, slice_get, slice_set}
+use Rattle.std.specs.Prelude.{◌≡◌, ℕ, ◌==◌, Bool, false, not, cond, List, [], ◌∷◌, ◌++◌, Option, None, get_or, map, slice_get, slice_set}
 use Rattle.std.specs.List.{filter, list_any}
 
 -- the numbers below `places` may stand in the lists

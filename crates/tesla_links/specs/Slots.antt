@@ -1,5 +1,5 @@
 -- What a contract sees of a table of keys: for each place its key, or None where the place is vacant.
-use Rattle.std.specs.Prelude.{ℕ, ◌+◌, ◌*◌, ◌/◌, ◌%◌, ◌^◌, ◌==◌, Bool, true, false, Option, None, Some}
+use Rattle.std.specs.Prelude.{ℕ, ◌==◌, Bool, true, false, Option, None, Some}
 
 -- whether a place is vacant
 abbrev pub is_vacant : Option ℕ → Bool

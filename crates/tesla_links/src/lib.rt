@@ -9,3 +9,6 @@ mod links;
 pub use index::Index;
 pub use key_table::KeyTable;
 pub use links::Links;
+
+#[cfg(test)]
+mod tests;

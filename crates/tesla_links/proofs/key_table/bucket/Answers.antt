@@ -1,4 +1,4 @@
-use Rattle.std.proofs.Common.{◌≡◌, ◌+◌, ◌*◌, ◌/◌, ◌%◌, sym, ap, ◌∙◌, arith}
+use Rattle.std.proofs.Common.{◌+◌, ◌*◌, ◌/◌, ◌%◌, sym, ap, ◌∙◌}
 use Rattle.tesla_links.proofs.Keyed.{bucket_is}
 use Rattle.tesla_links.proofs.key_table.bucket.Goals as goal
 

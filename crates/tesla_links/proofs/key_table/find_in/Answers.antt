@@ -1,4 +1,4 @@
-use Rattle.std.proofs.Common.{◌≡◌, ◌+◌, ℕ, arith, ◌∙◌, sym, get_or, eqb, Some}
+use Rattle.std.proofs.Common.{◌≡◌, ◌∙◌, sym, get_or, eqb, Some}
 use Rattle.std.proofs.lemmas.Bool.{ne_eqb}
 use Rattle.std.specs.Prelude.{slice_get}
 use Rattle.tesla_base.proofs.Lists.{list_any_got_more}

@@ -1,7 +1,7 @@
-use Rattle.std.proofs.Common.{◌≡◌, ◌==◌, ◌≤◌, false, length, take}
+use Rattle.std.proofs.Common.{◌≡◌, ◌==◌, false, length, take}
 use Rattle.std.specs.Prelude.{slice_get, slice_index}
 use Rattle.std.specs.List.{list_any}
-use Rattle.tesla_links.specs.Lists.{Distinct, list_of}
+use Rattle.tesla_links.specs.Lists.{list_of}
 use Rattle.tesla_links.proofs.key_table.find_in.Given as goal
 
 abbrev pub invariant-loop : goal.invariant-loop

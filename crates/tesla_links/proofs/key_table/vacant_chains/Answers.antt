@@ -1,4 +1,4 @@
-use Rattle.std.proofs.Common.{◌≡◌, ◌+◌, ℕ, List, [], replicate, arith, ◌∙◌, ap, false}
+use Rattle.std.proofs.Common.{◌+◌, ℕ, List, [], replicate, arith, ◌∙◌, ap}
 use Rattle.std.specs.List.{list_any, range_with_len}
 use Rattle.tesla_links.specs.Lists.{Lists, is_in}
 use Rattle.tesla_links.proofs.Keyed.{vacant_more, vacant_none}

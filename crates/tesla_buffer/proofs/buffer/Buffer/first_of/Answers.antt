@@ -1,4 +1,4 @@
-use Rattle.std.proofs.Common.{◌≡◌, ℕ, ◌+◌, ◌<◌, ◌≤◌, List, [], ◌∷◌, ◌++◌, length, get_or, map, true, false, not, cond, arith, ◌∙◌, sym, ap, subst, refl, Some, None, Option}
+use Rattle.std.proofs.Common.{◌∙◌, sym, ap}
 use Rattle.std.specs.List.{filter}
 use Rattle.tesla_buffer.specs.Held.{first_place, is_of}
 use Rattle.tesla_buffer.proofs.Stored.{seen_held}
@@ -11,7 +11,7 @@ returns-in_default-clause-place c =
     let i = c.self.inside in
     let h = c.self.invariant.0 in
     let all = ap (λ hs. first_place (filter (is_of c.args.interval) hs)) (sym (seen_held i.capacity i.slots.items i.index c.args.self.now c.self.view_is)) ∙ ap first_place (of_interval i.slots.items c.args.interval i.index.entries h.keyed)
-        ∙ first_is i.slots.items (filter (is_under c.args.interval) i.index.entries) in
+    ∙ first_is i.slots.items (filter (is_under c.args.interval) i.index.entries) in
     let told = c.first.ensures ∙ ap (λ k. first_entry (filter (is_under k) i.index.entries)) c.from.ensures in
     ap to_place (sym c.in_default.is ∙ told) ∙ sym all
 
@@ -20,7 +20,7 @@ returns-clause-place c =
     let i = c.self.inside in
     let h = c.self.invariant.0 in
     let all = ap (λ hs. first_place (filter (is_of c.args.interval) hs)) (sym (seen_held i.capacity i.slots.items i.index c.args.self.now c.self.view_is)) ∙ ap first_place (of_interval i.slots.items c.args.interval i.index.entries h.keyed)
-        ∙ first_is i.slots.items (filter (is_under c.args.interval) i.index.entries) in
+    ∙ first_is i.slots.items (filter (is_under c.args.interval) i.index.entries) in
     let told = c.first.ensures ∙ ap (λ k. first_entry (filter (is_under k) i.index.entries)) c.from.ensures in
     ap to_place (sym c.in-Some.is ∙ told) ∙ sym all
 
@@ -29,6 +29,6 @@ returns-clause-live c =
     let i = c.self.inside in
     let h = c.self.invariant.0 in
     let all = ap (λ hs. first_place (filter (is_of c.args.interval) hs)) (sym (seen_held i.capacity i.slots.items i.index c.args.self.now c.self.view_is)) ∙ ap first_place (of_interval i.slots.items c.args.interval i.index.entries h.keyed)
-        ∙ first_is i.slots.items (filter (is_under c.args.interval) i.index.entries) in
+    ∙ first_is i.slots.items (filter (is_under c.args.interval) i.index.entries) in
     let told = c.first.ensures ∙ ap (λ k. first_entry (filter (is_under k) i.index.entries)) c.from.ensures in
     first_live (is_of c.args.interval) c.args.self.now.held (record { 0 = c.in-Some.place }) (ap to_place (sym c.in-Some.is ∙ told) ∙ sym all)

@@ -1,4 +1,4 @@
-use Rattle.std.proofs.Common.{◌≡◌, ℕ, ◌+◌, ◌<◌, ◌≤◌, List, [], ◌∷◌, ◌++◌, length, get_or, map, true, false, not, cond, arith, ◌∙◌, sym, ap, subst, refl, Some, None, Option}
+use Rattle.std.proofs.Common.{map, ◌∙◌, sym, ap, subst}
 use Rattle.tesla_buffer.specs.Held.{Held}
 use Rattle.tesla_buffer.proofs.Stored.{seen_held}
 use Rattle.tesla_buffer.proofs.Places.{same_places}

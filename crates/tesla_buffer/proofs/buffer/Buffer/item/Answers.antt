@@ -1,9 +1,9 @@
-use Rattle.std.proofs.Common.{◌≡◌, ℕ, ◌+◌, ◌<◌, ◌≤◌, List, [], ◌∷◌, ◌++◌, length, get_or, map, true, false, not, cond, arith, ◌∙◌, sym, ap, subst, refl, Some, None, Option}
-use Rattle.tesla_buffer.specs.Stored.{held_at, item_at, no_item, places_of}
+use Rattle.std.proofs.Common.{◌≡◌, true, arith, ◌∙◌, sym, ap, Some}
+use Rattle.tesla_buffer.specs.Stored.{no_item, places_of}
 use Rattle.tesla_links.specs.Lists.{is_in}
 use Rattle.std.specs.List.{find}
 use Rattle.std.proofs.lemmas.List.{get_or_read}
-use Rattle.tesla_buffer.specs.Held.{Held, is_at}
+use Rattle.tesla_buffer.specs.Held.{is_at}
 use Rattle.tesla_buffer.proofs.Stored.{seen_capacity, seen_held, seen_live}
 use Rattle.tesla_buffer.proofs.Places.{find_live}
 use Rattle.tesla_buffer.proofs.buffer.Buffer.item.Goals as goal

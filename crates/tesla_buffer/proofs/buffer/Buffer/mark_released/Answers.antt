@@ -1,12 +1,11 @@
-use Rattle.std.proofs.Common.{◌≡◌, ℕ, ◌+◌, ◌<◌, ◌≤◌, List, [], ◌∷◌, ◌++◌, length, get_or, map, true, false, not, cond, arith, ◌∙◌, sym, ap, subst, refl, Some, None, Option}
-use Rattle.tesla_buffer.specs.Stored.{held_at, item_at, no_item, places_of}
+use Rattle.std.proofs.Common.{◌≡◌, length, get_or, true, arith, ◌∙◌, sym, ap, Some, None}
+use Rattle.tesla_buffer.specs.Stored.{item_at, no_item, places_of}
 use Rattle.tesla_links.specs.Lists.{is_in}
 use Rattle.std.proofs.Math.ListN.{set}
 use Rattle.std.proofs.lemmas.List.{get_or-set_other, get_or-set_same, get_or_read, length-set}
 use Rattle.tesla_buffer.specs.Held.{changed}
-use Rattle.tesla_buffer.specs.Stored.{key_of_name}
 use Rattle.tesla_buffer.specs.declared.item.Item.{Item}
-use Rattle.tesla_buffer.proofs.Stored.{stored_marked, named_live, seen_held, seen_live}
+use Rattle.tesla_buffer.proofs.Stored.{stored_marked, seen_held, seen_live}
 use Rattle.tesla_buffer.proofs.Places.{held_changed}
 use Rattle.tesla_buffer.proofs.buffer.Buffer.mark_released.Goals as goal
 
@@ -33,13 +32,15 @@ invariant_of-self c =
     let r = c.index_mut-item.result.now in
     let read : r ≡ item_at i.slots.items c.args.place = get_or_read i.slots.items c.args.place r within c.index_mut-item.ensures.value no_item in
     let it : Item = record r { released = true } in
-    let key = c.key_of_name.result in
-    (stored_marked i.capacity i.slots.items (set i.slots.items c.args.place it) i.free.items i.index i.released c.enter.new.self c.args.place it h live
-      (length-set i.slots.items c.args.place it) (get_or-set_same i.slots.items c.args.place it no_item within) (λ q ne. get_or-set_other i.slots.items c.args.place q it no_item ne) (ap (λ (x : Item). x.name) read)
-      (λ _. c.key_of_name.ensures.number) (ap length c.enter.ensures ∙ length-set i.released c.args.place (Some key))
-      (ap (λ ks. get_or ks c.args.place None) c.enter.ensures ∙ get_or-set_same i.released c.args.place (Some key) None (omega (arith, within, h.slots_within, h.names)) ∙ ap Some c.key_of_name.ensures.value)
-      (λ q ne. ap (λ ks. get_or ks q None) c.enter.ensures ∙ get_or-set_other i.released c.args.place q (Some key) None ne),
-    c.self.invariant.1, c.self.invariant.2)
+    let key = c.key_of_name.result in (
+      stored_marked i.capacity i.slots.items (set i.slots.items c.args.place it) i.free.items i.index i.released c.enter.new.self c.args.place it h live
+          (length-set i.slots.items c.args.place it) (get_or-set_same i.slots.items c.args.place it no_item within) (λ q ne. get_or-set_other i.slots.items c.args.place q it no_item ne) (ap (λ (x : Item). x.name) read)
+          (λ _. c.key_of_name.ensures.number) (ap length c.enter.ensures ∙ length-set i.released c.args.place (Some key))
+          (ap (λ ks. get_or ks c.args.place None) c.enter.ensures ∙ get_or-set_same i.released c.args.place (Some key) None (omega (arith, within, h.slots_within, h.names)) ∙ ap Some c.key_of_name.ensures.value)
+          (λ q ne. ap (λ ks. get_or ks q None) c.enter.ensures ∙ get_or-set_other i.released c.args.place q (Some key) None ne),
+      c.self.invariant.1,
+      c.self.invariant.2,
+    )
 
 pub returns-clause-held : goal.returns-clause-held
 returns-clause-held c =
@@ -52,5 +53,5 @@ returns-clause-held c =
     let it : Item = record r { released = true } in
     let change = λ (x : Item). record x { released = true } in
     held_changed i.slots.items (set i.slots.items c.args.place it) c.args.place change i.index.entries
-      (get_or-set_same i.slots.items c.args.place it no_item within ∙ ap change read) (λ q ne. get_or-set_other i.slots.items c.args.place q it no_item ne)
+    (get_or-set_same i.slots.items c.args.place it no_item within ∙ ap change read) (λ q ne. get_or-set_other i.slots.items c.args.place q it no_item ne)
     ∙ ap (changed c.args.place change) (seen_held i.capacity i.slots.items i.index c.args.self.now c.self.view_is)

@@ -1,5 +1,5 @@
-use Rattle.std.proofs.Common.{◌≡◌, ℕ, ◌^◌, ◌+◌, ◌<◌, ◌≤◌, List, [], ◌∷◌, ◌++◌, length, get_or, map, true, false, not, cond, arith, ◌∙◌, sym, ap, subst, refl, Some, None, Option}
-use Rattle.tesla_buffer.specs.Stored.{held_at, item_at, no_item, places_of}
+use Rattle.std.proofs.Common.{◌≡◌, ◌^◌, ◌<◌, true, cond, arith, ◌∙◌, sym, ap, subst, refl, Some, None}
+use Rattle.tesla_buffer.specs.Stored.{item_at, no_item, places_of}
 use Rattle.tesla_links.specs.Lists.{is_in}
 use Rattle.std.proofs.Math.ListN.{set}
 use Rattle.std.proofs.lemmas.List.{get_or-set_other, get_or-set_same, get_or_read, length-set}
@@ -25,12 +25,14 @@ invariant_of-self c =
     let within = h.live c.args.place live in
     let r = c.index_mut.result.now in
     let read : r ≡ item_at i.slots.items c.args.place = get_or_read i.slots.items c.args.place r within c.index_mut.ensures.value no_item in
-    let it : Item = record r { taken = true } in
-    (stored_marked i.capacity i.slots.items (set i.slots.items c.args.place it) i.free.items i.index i.released i.released c.args.place it h live
-      (length-set i.slots.items c.args.place it) (get_or-set_same i.slots.items c.args.place it no_item within) (λ q ne. get_or-set_other i.slots.items c.args.place q it no_item ne) (ap (λ (x : Item). x.name) read)
-      (λ e. subst (λ (x : Item). x.released ≡ true → x.name.number < 2 ^ 16) (sym read) (h.small c.args.place) e) refl
-      (named_live i.capacity i.slots.items i.free.items i.index i.released c.args.place h live ∙ ap (λ (x : Item). cond x.released (Some (key_of_name x.name)) None) (sym read)) (λ q ne. refl),
-    c.self.invariant.1, c.self.invariant.2)
+    let it : Item = record r { taken = true } in (
+      stored_marked i.capacity i.slots.items (set i.slots.items c.args.place it) i.free.items i.index i.released i.released c.args.place it h live
+          (length-set i.slots.items c.args.place it) (get_or-set_same i.slots.items c.args.place it no_item within) (λ q ne. get_or-set_other i.slots.items c.args.place q it no_item ne) (ap (λ (x : Item). x.name) read)
+          (λ e. subst (λ (x : Item). x.released ≡ true → x.name.number < 2 ^ 16) (sym read) (h.small c.args.place) e) refl
+          (named_live i.capacity i.slots.items i.free.items i.index i.released c.args.place h live ∙ ap (λ (x : Item). cond x.released (Some (key_of_name x.name)) None) (sym read)) (λ q ne. refl),
+      c.self.invariant.1,
+      c.self.invariant.2,
+    )
 
 pub returns-clause-held : goal.returns-clause-held
 returns-clause-held c =
@@ -43,5 +45,5 @@ returns-clause-held c =
     let it : Item = record r { taken = true } in
     let change = λ (x : Item). record x { taken = true } in
     held_changed i.slots.items (set i.slots.items c.args.place it) c.args.place change i.index.entries
-      (get_or-set_same i.slots.items c.args.place it no_item within ∙ ap change read) (λ q ne. get_or-set_other i.slots.items c.args.place q it no_item ne)
+    (get_or-set_same i.slots.items c.args.place it no_item within ∙ ap change read) (λ q ne. get_or-set_other i.slots.items c.args.place q it no_item ne)
     ∙ ap (changed c.args.place change) (seen_held i.capacity i.slots.items i.index c.args.self.now c.self.view_is)

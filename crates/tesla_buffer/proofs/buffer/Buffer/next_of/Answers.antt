@@ -1,5 +1,5 @@
-use Rattle.std.proofs.Common.{◌≡◌, ℕ, ◌+◌, ◌<◌, ◌≤◌, List, [], ◌∷◌, ◌++◌, length, get_or, map, true, false, not, cond, arith, ◌∙◌, sym, ap, subst, refl, Some, None, Option}
-use Rattle.tesla_buffer.specs.Stored.{held_at, item_at, no_item, places_of}
+use Rattle.std.proofs.Common.{◌≡◌, true, ◌∙◌, sym, ap}
+use Rattle.tesla_buffer.specs.Stored.{places_of}
 use Rattle.tesla_links.specs.Lists.{is_in}
 use Rattle.tesla_buffer.specs.Held.{next_place}
 use Rattle.tesla_buffer.proofs.Stored.{seen_held, seen_live}

@@ -1,15 +1,11 @@
-use Rattle.std.proofs.Common.{◌≡◌, ℕ, ◌+◌, ◌<◌, ◌≤◌, List, [], ◌∷◌, ◌++◌, length, get_or, map, true, false, not, cond, arith, ◌∙◌, sym, ap, subst, refl, Some, None, Option}
+use Rattle.std.proofs.Common.{◌≡◌, ℕ, ◌<◌, [], ◌∷◌, ◌++◌, length, get_or, arith, ◌∙◌, sym, ap, refl, Some, None}
 use Rattle.std.proofs.Math.ListN.{set}
 use Rattle.std.proofs.lemmas.Bool.{cond-false, cond-true, false≢true}
 use Rattle.std.proofs.lemmas.List.{get_or-set_other, get_or-set_same, length-set}
-use Rattle.tesla_buffer.specs.Held.{Held, is_live}
-use Rattle.tesla_buffer.specs.Stored.{held_at, item_at, key_of_name, no_item, places_of}
-use Rattle.tesla_buffer.specs.declared.item.Item.{Item}
+use Rattle.tesla_buffer.specs.Stored.{key_of_name, no_item}
 use Rattle.tesla_buffer.specs.declared.parts.TheConstants.{EMPTY}
 use Rattle.tesla_buffer.proofs.Stored.{chosen, held_put, stored_put, seen_capacity, seen_held, seen_length, seen_live, unnamed_vacant}
 use Rattle.tesla_buffer.proofs.Places.{entry_is}
-use Rattle.tesla_links.specs.Entries.{Entry}
-use Rattle.tesla_links.specs.Lists.{is_in}
 use Rattle.tesla_buffer.proofs.buffer.Buffer.put.Goals as goal
 
 pub index_mut-requires : goal.index_mut-requires
@@ -47,13 +43,15 @@ invariant_of-self c =
     let now = set slots p it in
     let here = get_or-set_same slots p it no_item v.inside in
     let others = λ (q : ℕ) (ne : q ≡ p → ⊥). get_or-set_other slots p q it no_item ne in
-    let key = c.key_of_name.result in
-    (stored_put i.capacity i.slots.items slots now i.free.items free i.index c.append.new.self i.released c.enter.new.self p it h v (length-set slots p it) here others (c.append.ensures.entries ∙ ap (λ k. i.index.entries ++ record { key = k; place = p } ∷ []) c.from.ensures)
-      c.append.ensures.capacity (λ _. c.key_of_name.ensures.number) (ap length c.enter.ensures ∙ length-set i.released p (Some key))
-      (ap (λ ks. get_or ks p None) c.enter.ensures ∙ get_or-set_same i.released p (Some key) None (omega (arith, v.inside, v.most, h.names)) ∙ ap Some c.key_of_name.ensures.value
-        ∙ sym (cond-true it.released (Some (key_of_name it.name)) None c.if-item.true))
-      (λ q ne. ap (λ ks. get_or ks q None) c.enter.ensures ∙ get_or-set_other i.released p q (Some key) None ne),
-    omega (arith, c.self.invariant.1, c.vacant_slot-place.ensures.slots_capacity), omega (arith, c.self.invariant.2, c.vacant_slot-place.ensures.free_capacity))
+    let key = c.key_of_name.result in (
+      stored_put i.capacity i.slots.items slots now i.free.items free i.index c.append.new.self i.released c.enter.new.self p it h v (length-set slots p it) here others (c.append.ensures.entries ∙ ap (λ k. i.index.entries ++ record { key = k; place = p } ∷ []) c.from.ensures)
+          c.append.ensures.capacity (λ _. c.key_of_name.ensures.number) (ap length c.enter.ensures ∙ length-set i.released p (Some key))
+          (ap (λ ks. get_or ks p None) c.enter.ensures ∙ get_or-set_same i.released p (Some key) None (omega (arith, v.inside, v.most, h.names)) ∙ ap Some c.key_of_name.ensures.value
+          ∙ sym (cond-true it.released (Some (key_of_name it.name)) None c.if-item.true))
+          (λ q ne. ap (λ ks. get_or ks q None) c.enter.ensures ∙ get_or-set_other i.released p q (Some key) None ne),
+      omega (arith, c.self.invariant.1, c.vacant_slot-place.ensures.slots_capacity),
+      omega (arith, c.self.invariant.2, c.vacant_slot-place.ensures.free_capacity),
+    )
 
 pub invariant_of-self-else-item : goal.invariant_of-self-else-item
 invariant_of-self-else-item c =
@@ -67,12 +65,14 @@ invariant_of-self-else-item c =
     let it = c.args.item.now in
     let now = set slots p it in
     let here = get_or-set_same slots p it no_item v.inside in
-    let others = λ (q : ℕ) (ne : q ≡ p → ⊥). get_or-set_other slots p q it no_item ne in
-    (stored_put i.capacity i.slots.items slots now i.free.items free i.index c.append.new.self i.released i.released p it h v (length-set slots p it) here others (c.append.ensures.entries ∙ ap (λ k. i.index.entries ++ record { key = k; place = p } ∷ []) c.from.ensures)
-      c.append.ensures.capacity (λ e. absurd (false≢true (sym c.if-item.false ∙ e))) refl
-      (unnamed_vacant i.capacity i.slots.items i.free.items i.index i.released p h v.absent ∙ sym (cond-false it.released (Some (key_of_name it.name)) None c.if-item.false))
-      (λ q ne. refl),
-    omega (arith, c.self.invariant.1, c.vacant_slot-place.ensures.slots_capacity), omega (arith, c.self.invariant.2, c.vacant_slot-place.ensures.free_capacity))
+    let others = λ (q : ℕ) (ne : q ≡ p → ⊥). get_or-set_other slots p q it no_item ne in (
+      stored_put i.capacity i.slots.items slots now i.free.items free i.index c.append.new.self i.released i.released p it h v (length-set slots p it) here others (c.append.ensures.entries ∙ ap (λ k. i.index.entries ++ record { key = k; place = p } ∷ []) c.from.ensures)
+          c.append.ensures.capacity (λ e. absurd (false≢true (sym c.if-item.false ∙ e))) refl
+          (unnamed_vacant i.capacity i.slots.items i.free.items i.index i.released p h v.absent ∙ sym (cond-false it.released (Some (key_of_name it.name)) None c.if-item.false))
+          (λ q ne. refl),
+      omega (arith, c.self.invariant.1, c.vacant_slot-place.ensures.slots_capacity),
+      omega (arith, c.self.invariant.2, c.vacant_slot-place.ensures.free_capacity),
+    )
 
 pub returns-then-item-clause-held : goal.returns-then-item-clause-held
 returns-then-item-clause-held c =

@@ -1,15 +1,11 @@
-use Rattle.std.proofs.Common.{◌≡◌, ℕ, ◌+◌, ◌<◌, ◌≤◌, List, [], ◌∷◌, ◌++◌, length, get_or, map, true, false, not, cond, arith, ◌∙◌, sym, ap, subst, refl, Some, None, Option}
+use Rattle.std.proofs.Common.{◌≡◌, ℕ, ◌<◌, [], ◌∷◌, ◌++◌, length, arith, ◌∙◌, sym, ap, refl, Some, None}
 use Rattle.std.proofs.Math.ListN.{set}
-use Rattle.std.proofs.lemmas.Bool.{cond-false, cond-true, false≢true}
+use Rattle.std.proofs.lemmas.Bool.{cond-false, false≢true}
 use Rattle.std.proofs.lemmas.List.{get_or-set_other, get_or-set_same, length-set}
-use Rattle.tesla_buffer.specs.Held.{Held, is_live}
-use Rattle.tesla_buffer.specs.Stored.{held_at, item_at, key_of_name, no_item, places_of}
-use Rattle.tesla_buffer.specs.declared.item.Item.{Item}
+use Rattle.tesla_buffer.specs.Stored.{key_of_name, no_item}
 use Rattle.tesla_buffer.specs.declared.parts.TheConstants.{EMPTY}
 use Rattle.tesla_buffer.proofs.Stored.{chosen, held_put, stored_put, seen_capacity, seen_held, seen_length, seen_live, unnamed_vacant}
 use Rattle.tesla_buffer.proofs.Places.{entry_is}
-use Rattle.tesla_links.specs.Entries.{Entry}
-use Rattle.tesla_links.specs.Lists.{is_in}
 use Rattle.tesla_base.specs.declared.names.Name.{Name}
 use Rattle.tesla_buffer.proofs.buffer.Buffer.put_parts.Goals as goal
 
@@ -47,12 +43,14 @@ invariant_of-self c =
     let it = c.write_parts.new.item in
     let now = set slots p it in
     let here = get_or-set_same slots p it no_item v.inside in
-    let others = λ (q : ℕ) (ne : q ≡ p → ⊥). get_or-set_other slots p q it no_item ne in
-    (stored_put i.capacity i.slots.items slots now i.free.items free i.index c.append.new.self i.released i.released p it h v (length-set slots p it) here others (c.append.ensures.entries ∙ ap (λ k. i.index.entries ++ record { key = k; place = p } ∷ []) (c.from.ensures ∙ ap (λ (n : Name). n.interval) (sym c.write_parts.ensures.name)))
-      c.append.ensures.capacity (λ e. absurd (false≢true (sym c.write_parts.ensures.released ∙ e))) refl
-      (unnamed_vacant i.capacity i.slots.items i.free.items i.index i.released p h v.absent ∙ sym (cond-false it.released (Some (key_of_name it.name)) None c.write_parts.ensures.released))
-      (λ q ne. refl),
-    omega (arith, c.self.invariant.1, c.vacant_slot-place.ensures.slots_capacity), omega (arith, c.self.invariant.2, c.vacant_slot-place.ensures.free_capacity))
+    let others = λ (q : ℕ) (ne : q ≡ p → ⊥). get_or-set_other slots p q it no_item ne in (
+      stored_put i.capacity i.slots.items slots now i.free.items free i.index c.append.new.self i.released i.released p it h v (length-set slots p it) here others (c.append.ensures.entries ∙ ap (λ k. i.index.entries ++ record { key = k; place = p } ∷ []) (c.from.ensures ∙ ap (λ (n : Name). n.interval) (sym c.write_parts.ensures.name)))
+          c.append.ensures.capacity (λ e. absurd (false≢true (sym c.write_parts.ensures.released ∙ e))) refl
+          (unnamed_vacant i.capacity i.slots.items i.free.items i.index i.released p h v.absent ∙ sym (cond-false it.released (Some (key_of_name it.name)) None c.write_parts.ensures.released))
+          (λ q ne. refl),
+      omega (arith, c.self.invariant.1, c.vacant_slot-place.ensures.slots_capacity),
+      omega (arith, c.self.invariant.2, c.vacant_slot-place.ensures.free_capacity),
+    )
 
 pub returns-clause-held : goal.returns-clause-held
 returns-clause-held c =

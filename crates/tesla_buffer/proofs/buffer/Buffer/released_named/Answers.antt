@@ -1,9 +1,8 @@
-use Rattle.std.proofs.Common.{◌≡◌, ℕ, ◌+◌, ◌<◌, ◌≤◌, List, [], ◌∷◌, ◌++◌, length, get_or, map, true, false, not, cond, arith, ◌∙◌, sym, ap, subst, refl, Some, None, Option}
+use Rattle.std.proofs.Common.{◌∙◌, sym, ap, Some}
 use Rattle.std.specs.List.{list_any}
 use Rattle.std.proofs.lemmas.Option.{MatchOption-at_none}
 use Rattle.tesla_buffer.specs.Held.{is_at, is_released_as}
-use Rattle.std.specs.Prelude.{◌&&◌, slice_get}
-use Rattle.tesla_buffer.specs.Stored.{key_of_name}
+use Rattle.std.specs.Prelude.{◌&&◌}
 use Rattle.tesla_buffer.proofs.Stored.{found_named, none_named, seen_held}
 use Rattle.tesla_buffer.proofs.Places.{test_live}
 use Rattle.tesla_links.specs.Slots.{has_key}
@@ -28,5 +27,5 @@ returns-clause-live c =
     let i = c.self.inside in
     let h = c.self.invariant.0 in
     test_live (is_released_as c.args.name) c.in-Some.place c.args.self.now.held
-      (ap (list_any (λ x. is_at c.in-Some.place x && is_released_as c.args.name x)) (sym (seen_held i.capacity i.slots.items i.index c.args.self.now c.self.view_is))
-      ∙ found_named i.capacity i.slots.items i.free.items i.index i.released c.args.name h c.key_of_name.ensures.number c.in-Some.place (c.in-Some.ensures ∙ ap (λ k. Some (Some k)) c.key_of_name.ensures.value))
+    (ap (list_any (λ x. is_at c.in-Some.place x && is_released_as c.args.name x)) (sym (seen_held i.capacity i.slots.items i.index c.args.self.now c.self.view_is))
+    ∙ found_named i.capacity i.slots.items i.free.items i.index i.released c.args.name h c.key_of_name.ensures.number c.in-Some.place (c.in-Some.ensures ∙ ap (λ k. Some (Some k)) c.key_of_name.ensures.value))

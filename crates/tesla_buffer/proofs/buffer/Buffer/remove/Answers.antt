@@ -1,5 +1,5 @@
-use Rattle.std.proofs.Common.{◌≡◌, ℕ, ◌+◌, ◌<◌, ◌≤◌, List, [], ◌∷◌, ◌++◌, length, get_or, map, true, false, not, cond, arith, ◌∙◌, sym, ap, subst, refl, Some, None, Option}
-use Rattle.tesla_buffer.specs.Stored.{held_at, item_at, no_item, places_of}
+use Rattle.std.proofs.Common.{◌≡◌, [], ◌∷◌, ◌++◌, true, not, arith, ◌∙◌, sym, ap}
+use Rattle.tesla_buffer.specs.Stored.{places_of}
 use Rattle.tesla_links.specs.Lists.{is_in}
 use Rattle.std.specs.List.{filter}
 use Rattle.std.specs.Result.{is_ok}
@@ -29,9 +29,11 @@ invariant_of-self c =
     let h = c.self.invariant.0 in
     let live : is_in c.args.place (places_of i.index.entries) ≡ true = sym (seen_live i.capacity i.slots.items i.index c.args.self.now c.self.view_is c.args.place) ∙ c.requires in
     let pushed : is_ok c.push.result ≡ true = c.is_err.ensures.negation ∙ ap not c.if-is_err.false in
-    let free : c.push.new.self.items ≡ i.free.items ++ c.args.place ∷ [] = c.push.ensures.items ∙ cond-true (is_ok c.push.result) (i.free.items ++ c.args.place ∷ []) i.free.items pushed in
-    (stored_gone i.capacity i.slots.items i.free.items c.push.new.self.items i.index c.remove.new.self i.released c.clear.new.self c.args.place h live c.remove.ensures.entries c.remove.ensures.capacity free c.clear.ensures,
-    c.self.invariant.1, omega (arith, c.self.invariant.2, c.push.ensures.capacity))
+    let free : c.push.new.self.items ≡ i.free.items ++ c.args.place ∷ [] = c.push.ensures.items ∙ cond-true (is_ok c.push.result) (i.free.items ++ c.args.place ∷ []) i.free.items pushed in (
+      stored_gone i.capacity i.slots.items i.free.items c.push.new.self.items i.index c.remove.new.self i.released c.clear.new.self c.args.place h live c.remove.ensures.entries c.remove.ensures.capacity free c.clear.ensures,
+      c.self.invariant.1,
+      omega (arith, c.self.invariant.2, c.push.ensures.capacity),
+    )
 
 pub returns-clause-held : goal.returns-clause-held
 returns-clause-held c =

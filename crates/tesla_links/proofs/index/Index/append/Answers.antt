@@ -1,6 +1,6 @@
-use Rattle.std.proofs.Common.{◌≡◌, ℕ, ◌+◌, ◌<◌, List, [], ◌∷◌, ◌++◌, length, get_or, map, true, false, not, arith, ◌∙◌, sym, ap, subst, refl, Some, None, Option}
+use Rattle.std.proofs.Common.{◌≡◌, ◌<◌, [], ◌∷◌, ◌++◌, false, arith, ◌∙◌, sym, ap}
 use Rattle.tesla_links.specs.Lists.{is_in, list_of}
-use Rattle.tesla_links.specs.Entries.{Entries, Entry}
+use Rattle.tesla_links.specs.Entries.{Entries}
 use Rattle.tesla_links.proofs.Grouped.{append_state, chosen_within, in_no_group, one_list, seen_at, seen_capacity, seen_length, some_vacant}
 use Rattle.tesla_links.proofs.index.Index.append.Goals as goal
 
@@ -40,7 +40,7 @@ invariant_of-self c =
     let within : c.args.place < i.capacity = omega (arith, c.requires.place, seen_capacity i.capacity i.order i.members i.groups.items i.keys c.args.self.now c.self.view_is) in
     let absent : is_in c.args.place (list_of i.order 0) ≡ false = sym (seen_at i.capacity i.order i.members i.groups.items i.keys c.args.self.now c.self.view_is c.args.place) ∙ c.requires.absent in
     (append_state i.capacity i.order i.members c.append-2.new.self c.append.new.self i.groups.items i.keys c.enter_group-group.new.keys c.args.place c.enter_group-group.result c.args.key h within absent c.enter_group-group.ensures.group
-      c.enter_group-group.ensures.keys c.append-2.ensures.places c.append-2.ensures.lists c.append.ensures.places c.append.ensures.lists).0
+    c.enter_group-group.ensures.keys c.append-2.ensures.places c.append-2.ensures.lists c.append.ensures.places c.append.ensures.lists).0
 
 pub returns-clause-entries : goal.returns-clause-entries
 returns-clause-entries c =
@@ -49,5 +49,5 @@ returns-clause-entries c =
     let within : c.args.place < i.capacity = omega (arith, c.requires.place, seen_capacity i.capacity i.order i.members i.groups.items i.keys c.args.self.now c.self.view_is) in
     let absent : is_in c.args.place (list_of i.order 0) ≡ false = sym (seen_at i.capacity i.order i.members i.groups.items i.keys c.args.self.now c.self.view_is c.args.place) ∙ c.requires.absent in
     (append_state i.capacity i.order i.members c.append-2.new.self c.append.new.self i.groups.items i.keys c.enter_group-group.new.keys c.args.place c.enter_group-group.result c.args.key h within absent c.enter_group-group.ensures.group
-      c.enter_group-group.ensures.keys c.append-2.ensures.places c.append-2.ensures.lists c.append.ensures.places c.append.ensures.lists).1
+    c.enter_group-group.ensures.keys c.append-2.ensures.places c.append-2.ensures.lists c.append.ensures.places c.append.ensures.lists).1
     ∙ ap (λ es. es ++ record { key = c.args.key; place = c.args.place } ∷ []) (ap (λ (v : Entries). v.entries) c.self.view_is)

@@ -1,4 +1,4 @@
-use Rattle.std.proofs.Common.{◌≡◌, ℕ, ◌+◌, ◌<◌, List, [], ◌∷◌, ◌++◌, length, get_or, map, true, false, not, arith, ◌∙◌, sym, ap, subst, refl, Some, None, Option}
+use Rattle.std.proofs.Common.{◌≡◌, length, get_or, arith, ◌∙◌, sym, ap, Some, None}
 use Rattle.std.specs.List.{filter}
 use Rattle.std.proofs.lemmas.List.{length-map}
 use Rattle.std.proofs.lemmas.Option.{get_or_from_slice_get}
@@ -19,7 +19,7 @@ returns-in-Some c =
     let i = c.self.inside in
     let slot : get_or i.keys c.in-Some.group None ≡ Some c.args.key = get_or_from_slice_get i.keys c.in-Some.group (Some c.args.key) None c.in-Some.ensures in
     c.count.ensures ∙ sym (ap (λ es. length (filter (is_under c.args.key) es)) (seen_entries i.capacity i.order i.members i.groups.items i.keys c.args.self.now c.self.view_is)
-      ∙ ap length (under_key i.capacity i.order i.members i.groups.items i.keys c.self.invariant c.in-Some.group c.args.key slot) ∙ length-map (list_of i.members c.in-Some.group) (entry_of i.keys i.groups.items))
+    ∙ ap length (under_key i.capacity i.order i.members i.groups.items i.keys c.self.invariant c.in-Some.group c.args.key slot) ∙ length-map (list_of i.members c.in-Some.group) (entry_of i.keys i.groups.items))
 
 pub returns-in-None : goal.returns-in-None
 returns-in-None c =

@@ -1,4 +1,4 @@
-use Rattle.std.proofs.Common.{◌≡◌, ℕ, ◌+◌, ◌<◌, List, [], ◌∷◌, ◌++◌, length, get_or, map, true, false, not, arith, ◌∙◌, sym, ap, subst, refl, Some, None, Option}
+use Rattle.std.proofs.Common.{◌≡◌, get_or, arith, ◌∙◌, sym, ap, Some, None}
 use Rattle.std.specs.List.{filter}
 use Rattle.std.proofs.lemmas.Option.{MatchOption-at_none, get_or_from_slice_get}
 use Rattle.tesla_links.specs.Entries.{first_place, is_under}
@@ -17,7 +17,7 @@ returns c =
     let i = c.self.inside in
     let slot : get_or i.keys c.in-Some.group None ≡ Some c.args.key = get_or_from_slice_get i.keys c.in-Some.group (Some c.args.key) None c.in-Some.ensures in
     c.first.ensures.value ∙ sym (ap (λ es. first_place (filter (is_under c.args.key) es)) (seen_entries i.capacity i.order i.members i.groups.items i.keys c.args.self.now c.self.view_is)
-      ∙ ap first_place (under_key i.capacity i.order i.members i.groups.items i.keys c.self.invariant c.in-Some.group c.args.key slot) ∙ first_of i.keys i.groups.items (list_of i.members c.in-Some.group))
+    ∙ ap first_place (under_key i.capacity i.order i.members i.groups.items i.keys c.self.invariant c.in-Some.group c.args.key slot) ∙ first_of i.keys i.groups.items (list_of i.members c.in-Some.group))
 
 pub returns-in_default : goal.returns-in_default
 returns-in_default c =

@@ -1,4 +1,4 @@
-use Rattle.std.proofs.Common.{◌≡◌, ℕ, ◌+◌, ◌<◌, List, [], ◌∷◌, ◌++◌, length, get_or, map, true, false, not, arith, ◌∙◌, sym, ap, subst, refl, Some, None, Option}
+use Rattle.std.proofs.Common.{◌∙◌, sym}
 use Rattle.tesla_links.proofs.Grouped.{seen_length}
 use Rattle.tesla_links.proofs.index.Index.len.Goals as goal
 

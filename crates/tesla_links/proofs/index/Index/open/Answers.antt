@@ -1,5 +1,4 @@
-use Rattle.std.proofs.Common.{◌≡◌, ℕ, ◌+◌, ◌<◌, List, [], ◌∷◌, ◌++◌, length, get_or, map, true, false, not, arith, ◌∙◌, sym, ap, subst, refl, Some, None, Option}
-use Rattle.tesla_links.specs.Entries.{Entries, Entry}
+use Rattle.std.proofs.Common.{◌≡◌, [], map, ◌∙◌, ap}
 use Rattle.tesla_links.specs.Indexed.{entries_of, entry_of}
 use Rattle.tesla_links.specs.Lists.{Lists, list_of}
 use Rattle.tesla_links.proofs.Grouped.{entries_are, indexed_open}

@@ -1,4 +1,4 @@
-use Rattle.std.proofs.Common.{◌≡◌, ℕ, ◌+◌, ◌<◌, length, arith, ◌∙◌, sym, ap, refl, Some, None, Option}
+use Rattle.std.proofs.Common.{◌<◌, arith, refl, None}
 use Rattle.std.proofs.lemmas.Option.{none-some}
 use Rattle.tesla_links.proofs.Keyed.{at_view, in_view, place_somewhere, slot_set, slots_of_is}
 use Rattle.tesla_links.proofs.key_table.KeyTable.clear.Goals as goal
@@ -16,8 +16,8 @@ invariant_of-self c =
     let h = at_view i.capacity i.chains i.keys.items c.args.self.now c.self.view_is c.self.invariant in
     let within : c.args.place < i.capacity = omega (arith, h.slotted, c.requires) in
     in_view i.capacity _ _ _ (slot_set i.capacity i.chains i.keys.items c.args.self.now c.args.place None c.transfer.new.self i.keys.items h within c.transfer.ensures.places c.transfer.ensures.lists refl
-      (λ k is. absurd (none-some k is))
-      (λ q ne. refl))
+    (λ k is. absurd (none-some k is))
+    (λ q ne. refl))
 
 pub returns : goal.returns
 returns c =
@@ -25,5 +25,5 @@ returns c =
     let h = at_view i.capacity i.chains i.keys.items c.args.self.now c.self.view_is c.self.invariant in
     let within : c.args.place < i.capacity = omega (arith, h.slotted, c.requires) in
     slots_of_is i.capacity _ _ _ (slot_set i.capacity i.chains i.keys.items c.args.self.now c.args.place None c.transfer.new.self i.keys.items h within c.transfer.ensures.places c.transfer.ensures.lists refl
-      (λ k is. absurd (none-some k is))
-      (λ q ne. refl))
+    (λ k is. absurd (none-some k is))
+    (λ q ne. refl))

@@ -1,4 +1,4 @@
-use Rattle.std.proofs.Common.{◌≡◌, ℕ, ◌+◌, ◌<◌, length, arith, ◌∙◌, sym, ap, refl, Some, None, Option}
+use Rattle.std.proofs.Common.{◌<◌, arith, ◌∙◌, ap, Some}
 use Rattle.std.proofs.Math.ListN.{set}
 use Rattle.std.proofs.lemmas.List.{get_or-set_other, get_or-set_same, length-set}
 use Rattle.std.proofs.lemmas.Option.{same_Some}
@@ -19,10 +19,10 @@ invariant_of-self c =
     let h = at_view i.capacity i.chains i.keys.items c.args.self.now c.self.view_is c.self.invariant in
     let within : c.args.place < i.capacity = omega (arith, h.slotted, c.requires) in
     in_view i.capacity _ _ _ (slot_set i.capacity i.chains i.keys.items c.args.self.now c.args.place (Some c.args.key) c.transfer.new.self (set i.keys.items c.args.place c.args.key) h within c.transfer.ensures.places
-      (c.transfer.ensures.lists ∙ ap (λ n. moved c.args.place n i.chains.lists) c.bucket.ensures.value)
-      (length-set i.keys.items c.args.place c.args.key)
-      (λ k is. get_or-set_same i.keys.items c.args.place c.args.key 0 (omega (arith, h.keyed)) ∙ same_Some c.args.key k is)
-      (λ q ne. get_or-set_other i.keys.items c.args.place q c.args.key 0 ne))
+    (c.transfer.ensures.lists ∙ ap (λ n. moved c.args.place n i.chains.lists) c.bucket.ensures.value)
+    (length-set i.keys.items c.args.place c.args.key)
+    (λ k is. get_or-set_same i.keys.items c.args.place c.args.key 0 (omega (arith, h.keyed)) ∙ same_Some c.args.key k is)
+    (λ q ne. get_or-set_other i.keys.items c.args.place q c.args.key 0 ne))
 
 pub returns : goal.returns
 returns c =
@@ -30,7 +30,7 @@ returns c =
     let h = at_view i.capacity i.chains i.keys.items c.args.self.now c.self.view_is c.self.invariant in
     let within : c.args.place < i.capacity = omega (arith, h.slotted, c.requires) in
     slots_of_is i.capacity _ _ _ (slot_set i.capacity i.chains i.keys.items c.args.self.now c.args.place (Some c.args.key) c.transfer.new.self (set i.keys.items c.args.place c.args.key) h within c.transfer.ensures.places
-      (c.transfer.ensures.lists ∙ ap (λ n. moved c.args.place n i.chains.lists) c.bucket.ensures.value)
-      (length-set i.keys.items c.args.place c.args.key)
-      (λ k is. get_or-set_same i.keys.items c.args.place c.args.key 0 (omega (arith, h.keyed)) ∙ same_Some c.args.key k is)
-      (λ q ne. get_or-set_other i.keys.items c.args.place q c.args.key 0 ne))
+    (c.transfer.ensures.lists ∙ ap (λ n. moved c.args.place n i.chains.lists) c.bucket.ensures.value)
+    (length-set i.keys.items c.args.place c.args.key)
+    (λ k is. get_or-set_same i.keys.items c.args.place c.args.key 0 (omega (arith, h.keyed)) ∙ same_Some c.args.key k is)
+    (λ q ne. get_or-set_other i.keys.items c.args.place q c.args.key 0 ne))

@@ -1,4 +1,4 @@
-use Rattle.std.proofs.Common.{◌≡◌, ℕ, ◌+◌, ◌<◌, length, arith, ◌∙◌, sym, ap, refl, Some, None, Option}
+use Rattle.std.proofs.Common.{length, ◌∙◌, ap}
 use Rattle.std.proofs.lemmas.List.{length-replicate}
 use Rattle.tesla_links.proofs.Keyed.{in_view, opened, slots_of_is}
 use Rattle.tesla_links.proofs.key_table.KeyTable.open.Goals as goal

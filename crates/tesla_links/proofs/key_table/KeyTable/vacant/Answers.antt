@@ -1,9 +1,3 @@
-use Rattle.std.proofs.Common.{◌≡◌, ℕ, ◌+◌, ◌<◌, length, arith, ◌∙◌, sym, ap, refl, Some, None, Option}
-use Rattle.std.specs.List.{list_any}
-use Rattle.std.specs.Option.{MatchOption}
-use Rattle.std.specs.Prelude.{slice_get}
-use Rattle.tesla_links.specs.Lists.{list_of}
-use Rattle.tesla_links.specs.Slots.{is_vacant}
 use Rattle.tesla_links.proofs.Keyed.{at_view, first_vacant}
 use Rattle.tesla_links.proofs.key_table.KeyTable.vacant.Goals as goal
 

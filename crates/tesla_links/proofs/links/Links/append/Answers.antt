@@ -1,5 +1,4 @@
-use Rattle.std.proofs.Common.{◌≡◌, ℕ, ◌+◌, ◌-◌, ◌<◌, length, arith, ◌∙◌, sym, ap, Some, None}
-use Rattle.std.proofs.Math.ListN.{set}
+use Rattle.std.proofs.Common.{◌+◌, arith}
 use Rattle.std.proofs.lemmas.List.{get_or_read}
 use Rattle.tesla_links.proofs.Linked.{append_keeps, at_view, count_within, in_view, last_within}
 use Rattle.tesla_links.proofs.Rings.{lists_of_is}

@@ -1,4 +1,4 @@
-use Rattle.std.proofs.Common.{◌≡◌, ℕ, ◌+◌, ◌-◌, ◌<◌, length, arith, ◌∙◌, sym, ap, Some, None}
+use Rattle.std.proofs.Common.{◌+◌, arith, ◌∙◌, sym, ap, Some}
 use Rattle.std.proofs.lemmas.List.{get_or_read}
 use Rattle.tesla_links.specs.Lists.{list_of}
 use Rattle.tesla_links.proofs.Linked.{at_view, head_apart}

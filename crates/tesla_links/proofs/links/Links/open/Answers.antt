@@ -1,4 +1,4 @@
-use Rattle.std.proofs.Common.{◌≡◌, ℕ, ◌+◌, ◌-◌, ◌<◌, length, arith, ◌∙◌, sym, ap, Some, None}
+use Rattle.std.proofs.Common.{ap}
 use Rattle.tesla_links.proofs.Linked.{in_view, opened}
 use Rattle.tesla_links.proofs.Rings.{lists_of_is}
 use Rattle.tesla_links.proofs.links.Links.open.Goals as goal

@@ -1,4 +1,4 @@
-use Rattle.std.proofs.Common.{◌≡◌, ℕ, ◌+◌, ◌-◌, ◌<◌, length, arith, ◌∙◌, sym, ap, Some, None}
+use Rattle.std.proofs.Common.{arith, ◌∙◌, ap}
 use Rattle.std.proofs.lemmas.List.{get_or_read}
 use Rattle.std.specs.Prelude.{get_or}
 use Rattle.tesla_links.proofs.Linked.{at_view, in_view, placed, remove_keeps}

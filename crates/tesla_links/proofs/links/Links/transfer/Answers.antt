@@ -1,4 +1,4 @@
-use Rattle.std.proofs.Common.{◌≡◌, ap, ◌∙◌, false}
+use Rattle.std.proofs.Common.{ap, ◌∙◌}
 use Rattle.std.specs.List.{list_any}
 use Rattle.tesla_links.specs.Lists.{is_in}
 use Rattle.tesla_links.proofs.Members.{nowhere_without}
