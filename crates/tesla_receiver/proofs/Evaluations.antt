@@ -1,17 +1,27 @@
--- What new keys take in evaluations of HMAC, packet by packet.
-use Rattle.std.proofs.Common.{◌≡◌, ℕ, zero, suc, ◌+◌, ◌-◌, ◌*◌, ◌<◌, ◌≤◌, Bool, true, false, List, [], ◌∷◌, ◌++◌, map, flat_map, take, drop, Option, Some, None, refl, sym, ap, subst, ◌∙◌, arith}
-use Rattle.std.specs.Prelude.{find}
+-- What an arrival takes in evaluations of HMAC: packet by packet, and by what a receiver keeps.
+use Rattle.std.proofs.Common.{◌≡◌, ℕ, zero, suc, ◌+◌, ◌-◌, ◌*◌, ◌<◌, ◌≤◌, Bool, true, false, cond, ◌||◌, ◌==◌, List, [], ◌∷◌, ◌++◌, map, flat_map, take, drop, Option, Some, None, refl, sym, ap, subst, ⊎_elim, ◌∙◌, arith, zero-add}
+use Rattle.std.specs.Prelude.{not, find, is_some, nat_lt, option_map}
 use Rattle.std.specs.List.{filter, sum_by}
-use Rattle.std.proofs.lemmas.List.Sums.{sum_by-append, sum_by_push}
+use Rattle.std.proofs.lemmas.Bool.{cases_Bool, ltb-false}
+use Rattle.std.proofs.lemmas.List.Sums.{sum_by-append, sum_by-cons, sum_by_push}
 use Rattle.tesla_base.specs.declared.names.Place.{Place}
+use Rattle.tesla_frame.specs.Frame.{Frame}
+use Rattle.tesla_frame.specs.Reading.{frame_of}
 use Rattle.tesla_frame.specs.declared.row.KeyRow.{KeyRow}
 use Rattle.tesla_keys.specs.Tip.{Tip}
 use Rattle.tesla_links.specs.Lists.{Distinct}
 use Rattle.tesla_receiver.specs.declared.config.Config.{Config}
 use Rattle.tesla_receiver.specs.declared.keeping.ordering.Proved.{Proved}
+use Rattle.tesla_receiver.specs.declared.verdict.Verdict.{Verdict}
+use Rattle.tesla_receiver.specs.declared.verdict.Verdict.TheVariants.{Foreign, Misfit, Future, BadKey}
+use Rattle.tesla_receiver.specs.Answer.{stream_of, is_misfit, is_future}
+use Rattle.tesla_receiver.specs.Costs.{is_unread, gaps_by, pairs_by, most_on, most_by}
+use Rattle.tesla_receiver.specs.Keys.{keys_of}
+use Rattle.tesla_receiver.specs.Offered.{HaveBegun, gap_of, gaps}
+use Rattle.tesla_receiver.specs.Unfit.{unfit}
 use Rattle.tesla_receiver.specs.Gathering.{in_turn, gathered, down_to}
-use Rattle.tesla_receiver.specs.State.{Holding}
-use Rattle.tesla_receiver.specs.Steps.{in_interval}
+use Rattle.tesla_receiver.specs.State.{Holding, State}
+use Rattle.tesla_receiver.specs.Steps.{bound_at, fails, in_interval, is_newer, new_rows, refused, tip_at}
 use Rattle.tesla_receiver.specs.Stored.{Placed, place_of, holding_at, stands_at, is_of}
 use Rattle.tesla_receiver.specs.Walking.{Walking, rows_of, left, tries, pairs}
 use Rattle.tesla_receiver.proofs.Gathering.{flat_map_one, gathered_more, gathered_sum, gathered_whole}
@@ -99,3 +109,82 @@ module _ (cfg : Config) (tips : List Tip) (begun : List Walking) (held : List Pl
 -- the packets of the intervals take no more than all that are held
 pub held_cost : (cfg : Config) (tips : List Tip) (new : List KeyRow) (held : List Holding) (low count : ℕ) → pairs cfg tips new (gathered (λ item. item ∷ []) held low count) ≤ pairs cfg tips new held
 held_cost cfg tips new held low count = gathered_sum (tries cfg tips new) held low count
+
+-- ---- an arrival
+
+-- a key that isn't newer isn't above the newest of its chain
+old_gap : (tip index : ℕ) → nat_lt tip index ≡ false → index - tip ≡ 0
+old_gap tip index e = let below = ltb-false tip index e in omega (arith, below)
+
+-- the newer keys alone are above the newest of their chains
+gaps_newer : (tips : List Tip) (rows : List KeyRow) → gaps tips rows ≡ gaps tips (filter (is_newer tips) rows)
+gaps_newer tips [] = refl
+gaps_newer tips (row ∷ rows) =
+    let rest = gaps_newer tips rows in
+    let whole = sum_by-cons (gap_of tips) row rows in
+    ⊎_elim
+    (λ newer. subst (λ b. gaps tips (row ∷ rows) ≡ gaps tips (cond b (row ∷ filter (is_newer tips) rows) (filter (is_newer tips) rows))) (sym newer)
+    (whole ∙ ap (λ (n : ℕ). gap_of tips row + n) rest ∙ sym (sum_by-cons (gap_of tips) row (filter (is_newer tips) rows))))
+    (λ older. subst (λ b. gaps tips (row ∷ rows) ≡ gaps tips (cond b (row ∷ filter (is_newer tips) rows) (filter (is_newer tips) rows))) (sym older)
+    (whole ∙ ap (λ (n : ℕ). n + gaps tips rows) (old_gap (tip_at tips row.chain.0).index row.index older) ∙ zero-add (gaps tips rows) ∙ rest))
+    (cases_Bool (is_newer tips row))
+
+-- how far the keys of a frame are above the newest, by what a receiver keeps
+pub gaps_are : (s : State) (frame : Frame) → gaps s.tips (keys_of s.config frame) ≡ gaps_by s frame
+gaps_are s frame = gaps_newer s.tips (keys_of s.config frame)
+
+-- the pairs of a held packet and a chain on which it is tried, by what a receiver keeps
+pub pairs_are : (s : State) (frame : Frame) → pairs s.config s.tips (new_rows s frame) s.held ≡ pairs_by s frame
+pairs_are s frame = refl
+
+unread_where : (other misfit early : Bool) (x y z : Verdict) → (other || misfit || early) ≡ is_some (cond other (Some x) (cond misfit (Some y) (cond early (Some z) None)))
+unread_where true misfit early x y z = refl
+unread_where false true early x y z = refl
+unread_where false false true x y z = refl
+unread_where false false false x y z = refl
+
+-- the keys of a frame aren't looked at exactly where it is unfit
+pub unread_is_unfit : (cfg : Config) (bound : Option ℕ) (frame : Frame) → is_unread cfg bound frame ≡ is_some (unfit cfg bound frame)
+unread_is_unfit cfg bound frame =
+    unread_where (not ((stream_of frame).0 == cfg.setup.stream.0)) (is_misfit cfg frame) (is_future cfg bound frame) (Foreign (stream_of frame)) Misfit (Future bound)
+
+read_where : (other misfit early : Bool) (x y z : Verdict) (o : Option Verdict) → cond other (Some x) (cond misfit (Some y) (cond early (Some z) o)) ≡ None → (other || misfit || early) ≡ false
+read_where true misfit early x y z o e = absurd (cc)
+read_where false true early x y z o e = absurd (cc)
+read_where false false true x y z o e = absurd (cc)
+read_where false false false x y z o e = refl
+
+-- the keys of a frame that isn't refused are looked at
+pub taken_is_read : (s : State) (bound : Option ℕ) (frame : Frame) → refused s bound frame ≡ None → is_unread s.config bound frame ≡ false
+taken_is_read s bound frame e =
+    read_where (not ((stream_of frame).0 == s.config.setup.stream.0)) (is_misfit s.config frame) (is_future s.config bound frame) (Foreign (stream_of frame)) Misfit (Future bound)
+    (option_map (λ row. BadKey row.chain) (find (fails s.tips) (keys_of s.config frame))) e
+
+within_unread : (unread : Bool) (before after most : ℕ) → (unread ≡ true → after ≡ before) → after ≤ before + most → after ≤ before + cond unread 0 most
+within_unread true before after most free paid = let same = free refl in omega (arith, same)
+within_unread false before after most free paid = paid
+
+module _ (s : State) (reading : ℕ) (bytes : List ℕ) (frame : Frame) (is : frame_of bytes ≡ Some frame) where
+  -- what an arrival may take, where its frame can be read
+  most_read : most_by s reading bytes ≡ cond (is_unread s.config (bound_at s reading) frame) 0 (2 * gaps_by s frame + 2 * pairs_by s frame)
+  unfolding most_by
+  most_read = ap (most_on s (bound_at s reading)) is
+
+  -- a frame that is refused takes no more
+  pub refused_cost : (before after : ℕ) → (is_some (unfit s.config (bound_at s reading) frame) ≡ true → after ≡ before) → after ≤ before + gaps s.tips (keys_of s.config frame) → after ≤ before + most_by s reading bytes
+  refused_cost before after free most =
+      let far = gaps_are s frame in
+      subst (λ (n : ℕ). after ≤ before + n) (sym most_read)
+      (within_unread (is_unread s.config (bound_at s reading) frame) before after (2 * gaps_by s frame + 2 * pairs_by s frame)
+      (λ e. free (sym (unread_is_unfit s.config (bound_at s reading) frame) ∙ e)) (omega (arith, far, most)))
+
+  -- a frame whose keys are taken takes no more: its keys were tried, and then the packets
+  pub taken_cost : (walks : List Walking) (before judged after : ℕ) → refused s (bound_at s reading) frame ≡ None → HaveBegun s.tips (keys_of s.config frame) walks → judged ≡ before + gaps s.tips (keys_of s.config frame)
+      → after ≤ judged + left s.tips walks + 2 * pairs s.config s.tips (rows_of walks) s.held → after ≤ before + most_by s reading bytes
+  taken_cost walks before judged after e begun tried paid =
+      let far = gaps_are s frame in
+      let potential = begun.potential in
+      let here = subst (λ (rows : List KeyRow). after ≤ judged + left s.tips walks + 2 * pairs s.config s.tips rows s.held) begun.new paid in
+      let whole : after ≤ before + (2 * gaps_by s frame + 2 * pairs_by s frame) = omega (arith, far, potential, here, tried) in
+      subst (λ (n : ℕ). after ≤ before + n) (sym most_read)
+      (subst (λ b. after ≤ before + cond b 0 (2 * gaps_by s frame + 2 * pairs_by s frame)) (sym (taken_is_read s (bound_at s reading) frame e)) whole)
