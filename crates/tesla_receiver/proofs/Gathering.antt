@@ -278,7 +278,8 @@ batch_rises cfg tips new held rise = gives_rising order_of place_of (proof_of cf
 
 -- ---- what is gathered is tried once
 
-flat_map_one : {A : Type 0} (xs : List A) → flat_map (λ x. x ∷ []) xs ≡ xs
+-- each element by itself is the list
+pub flat_map_one : {A : Type 0} (xs : List A) → flat_map (λ x. x ∷ []) xs ≡ xs
 flat_map_one [] = refl
 flat_map_one (x ∷ xs) = ap (λ ys. x ∷ ys) (flat_map_one xs)
 

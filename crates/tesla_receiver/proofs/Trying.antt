@@ -79,10 +79,16 @@ pub record Trying (cfg : Config) (tips : List Tip) (begun walks : List Walking) 
 
 pub trying_none : (cfg : Config) (tips : List Tip) (walks : List Walking) (held : List Placed) (i : ℕ) (at : Option Place) (batch : List Proved) → at ≡ first_place (filter (is_of i) held) → All (IsAbove i) walks → Trying cfg tips walks walks held i 0 at batch batch
 trying_none cfg tips walks held i at batch h above = record {
-  next = h; rows = refl; above = above; releases = sym (append-nil (map release_in batch)); proved = λ k. k; long = omega arith; within = omega arith;
+  next = h;
+  rows = refl;
+  above = above;
+  releases = sym (append-nil (map release_in batch));
+  proved = λ k. k;
+  long = omega arith;
+  within = omega arith;
 }
 
-take_next : {A : Type 0} (n : ℕ) (xs : List A) (y : A) (rest : List A) → drop n xs ≡ y ∷ rest → (take (suc n) xs ≡ take n xs ++ y ∷ []) × (n < length xs)
+pub take_next : {A : Type 0} (n : ℕ) (xs : List A) (y : A) (rest : List A) → drop n xs ≡ y ∷ rest → (take (suc n) xs ≡ take n xs ++ y ∷ []) × (n < length xs)
 take_next zero [] y rest h = absurd (cc)
 take_next (suc n) [] y rest h = absurd (cc)
 take_next zero (x ∷ xs) y rest h = let same : x ≡ y = cc in (ap (λ z. z ∷ []) same, omega arith)
@@ -117,17 +123,17 @@ trying_more cfg tips begun walks later held i n place next before batch more d s
       rows = rows ∙ s.rows;
       above = subst (λ (k : ℕ). All (IsAbove k) later) (eqb-true c.packet.holding.name.interval i c.of) (above c.packet c.found);
       releases = releases c.packet c.found
-      ∙ ap (λ rs. rs ++ proof_of cfg tips (rows_of walks) c.packet.holding) s.releases
-      ∙ ap (λ w. (map release_in before ++ flat_map f (take n (filter (is_of i) held))) ++ proof_of cfg tips w c.packet.holding) s.rows
-      ∙ append_assoc (map release_in before) (flat_map f (take n (filter (is_of i) held))) (f c.packet)
-      ∙ ap (λ rs. map release_in before ++ rs) (ap (λ r. flat_map f (take n (filter (is_of i) held)) ++ r) (sym (append-nil (f c.packet))) ∙ sym (flat_map-append f (take n (filter (is_of i) held)) (c.packet ∷ []))
-      ∙ ap (flat_map f) (sym taken.0) ∙ ap (λ (k : ℕ). flat_map f (take k (filter (is_of i) held))) count);
+          ∙ ap (λ rs. rs ++ proof_of cfg tips (rows_of walks) c.packet.holding) s.releases
+          ∙ ap (λ w. (map release_in before ++ flat_map f (take n (filter (is_of i) held))) ++ proof_of cfg tips w c.packet.holding) s.rows
+          ∙ append_assoc (map release_in before) (flat_map f (take n (filter (is_of i) held))) (f c.packet)
+          ∙ ap (λ rs. map release_in before ++ rs) (ap (λ r. flat_map f (take n (filter (is_of i) held)) ++ r) (sym (append-nil (f c.packet))) ∙ sym (flat_map-append f (take n (filter (is_of i) held)) (c.packet ∷ []))
+          ∙ ap (flat_map f) (sym taken.0) ∙ ap (λ (k : ℕ). flat_map f (take k (filter (is_of i) held))) count);
       proved = λ k. proved (s.proved k);
       long = (let so_far = s.long in omega arith);
       within = (let within = taken.1 in omega arith);
     }
 
-take_all : {A : Type 0} (n : ℕ) (xs : List A) → drop n xs ≡ [] → take n xs ≡ xs
+pub take_all : {A : Type 0} (n : ℕ) (xs : List A) → drop n xs ≡ [] → take n xs ≡ xs
 take_all zero [] h = refl
 take_all (suc n) [] h = refl
 take_all zero (x ∷ xs) h = absurd (cc)
@@ -238,11 +244,11 @@ spanning_more cfg tips begun walks later held low high b batch more least s rows
       rows = rows ∙ s.rows;
       above = lower_too b (b + 1) (omega arith) later above;
       releases = releases
-      ∙ ap (λ w. map release_in batch ++ in_turn (proof_of cfg tips w) hs (b + 1)) s.rows
-      ∙ ap (λ rs. rs ++ in_turn f hs (b + 1)) s.releases
-      ∙ ap (λ (i : ℕ). flat_map (in_turn f hs) (take k (down_to low (high - low))) ++ in_turn f hs i) (sym there)
-      ∙ sym (gathered_more f hs low (high - low) k inside)
-      ∙ ap (λ (n : ℕ). flat_map (in_turn f hs) (take n (down_to low (high - low)))) count;
+          ∙ ap (λ w. map release_in batch ++ in_turn (proof_of cfg tips w) hs (b + 1)) s.rows
+          ∙ ap (λ rs. rs ++ in_turn f hs (b + 1)) s.releases
+          ∙ ap (λ (i : ℕ). flat_map (in_turn f hs) (take k (down_to low (high - low))) ++ in_turn f hs i) (sym there)
+          ∙ sym (gathered_more f hs low (high - low) k inside)
+          ∙ ap (λ (n : ℕ). flat_map (in_turn f hs) (take n (down_to low (high - low)))) count;
       proved = proved s.proved;
       long = omega arith;
       within = omega arith;

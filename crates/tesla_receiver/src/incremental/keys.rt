@@ -1,12 +1,12 @@
 //! New keys are taken: what they prove is released, and what is needed no more is let go.
 
-ghost use Rattle.std.specs.Prelude.{◌≡◌, ◌++◌, ◌≤◌, All, ℕ, true, length, map, flat_map, vec_capacity};
+ghost use Rattle.std.specs.Prelude.{◌≡◌, ◌+◌, ◌*◌, ◌++◌, ◌≤◌, All, ℕ, true, length, map, flat_map, vec_capacity};
 ghost use Rattle.tesla_frame.specs.Frame.{ChainsRise};
 ghost use Rattle.tesla_receiver.specs.Gathering.{RiseBy, order_of};
 ghost use Rattle.tesla_receiver.specs.Offered.{IsOfChains, AreGood};
 ghost use Rattle.tesla_receiver.specs.Steps.{tips_after, batch_of, released_of, kept_after};
 ghost use Rattle.tesla_receiver.specs.Stored.{holding_at, AreNeeded};
-ghost use Rattle.tesla_receiver.specs.Walking.{rows_of, IsAbove};
+ghost use Rattle.tesla_receiver.specs.Walking.{rows_of, IsAbove, left, pairs};
 
 use super::Store;
 use crate::Config;
@@ -19,7 +19,8 @@ use tesla_keys::Verifier;
 
 /// Takes the keys of walks, which are good: each is the newest of its chain from then on. The held packets that they
 /// prove are released in order of arrival, one of each name, and what is needed no more is let go. It takes no
-/// memory: the batch has room for all that is held.
+/// memory: the batch has room for all that is held. The counted steps are those that the walks still take, and at most
+/// two for each held packet that isn't released and each chain on which it is tried.
 pub fn take_keys<L: Ledger>(
     config: &Config,
     tips: &mut [Verifier],
@@ -46,6 +47,7 @@ pub fn take_keys<L: Ledger>(
     ensures chains { store.new.chains ≡ store.old.chains }
     ensures given { store.new.given ≡ store.old.given }
     ensures room { vec_capacity batch.old ≤ vec_capacity batch.new }
+    ensures cost { steps.new ≤ steps.old + left tips.old walks.old + 2 * pairs config.now tips.old (rows_of walks.old) (map holding_at store.old.held) }
 {
     if store.held() == 0 {
         raise(tips, walks);

@@ -1,6 +1,6 @@
 //! The held packets are tried under new keys, interval by interval from the newest down.
 
-ghost use Rattle.std.specs.Prelude.{◌≡◌, ℕ, List, ◌+◌, ◌-◌, ◌<◌, ◌≤◌, ◌++◌, [], All, true, length, map, filter, find, Some, option_to_list, vec_capacity};
+ghost use Rattle.std.specs.Prelude.{◌≡◌, ℕ, List, ◌+◌, ◌*◌, ◌-◌, ◌<◌, ◌≤◌, ◌++◌, [], ◌∷◌, All, true, length, map, filter, find, Some, option_to_list, vec_capacity};
 ghost use Rattle.std.specs.List.{list_any};
 ghost use Rattle.std.specs.List.Sorted.{IsPermutation};
 ghost use Rattle.tesla_frame.specs.Frame.{ChainsRise};
@@ -8,9 +8,9 @@ ghost use Rattle.tesla_links.specs.Lists.{Distinct};
 ghost use Rattle.tesla_receiver.specs.Gathering.{RiseBy, Spans, order_of, place_of, in_turn, gathered};
 ghost use Rattle.tesla_receiver.specs.declared.release.Release.{Release};
 ghost use Rattle.tesla_receiver.specs.Proved.{release_in};
-ghost use Rattle.tesla_receiver.specs.Steps.{proof_of, batch_of};
+ghost use Rattle.tesla_receiver.specs.Steps.{proof_of, batch_of, in_interval};
 ghost use Rattle.tesla_receiver.specs.Stored.{Placed, place_proved, place_here, holding_at, stands_at, is_of, AreProved};
-ghost use Rattle.tesla_receiver.specs.Walking.{rows_of, IsAbove};
+ghost use Rattle.tesla_receiver.specs.Walking.{rows_of, IsAbove, left, tries, pairs};
 
 use super::Store;
 use crate::Config;
@@ -46,7 +46,8 @@ fn order(batch: &mut Vec<Proved>)
 }
 
 impl Store {
-    // Tries the packet in a place; what new keys prove of it goes to the batch.
+    // Tries the packet in a place; what new keys prove of it goes to the batch. The counted steps are those of
+    // `prove`.
     fn try_at<L: Ledger>(
         &self,
         config: &Config,
@@ -69,6 +70,8 @@ impl Store {
         ensures capacity { vec_capacity batch.old ≤ vec_capacity batch.new }
         ensures rows { rows_of walks.new ≡ rows_of walks.old }
         ensures above { (x : Placed) → find (stands_at place.0) self.now.held ≡ Some x → All (IsAbove x.holding.name.interval) walks.new }
+        ensures cost { (x : Placed) → find (stands_at place.0) self.now.held ≡ Some x →
+            steps.new + left tips.now walks.new ≤ steps.old + left tips.now walks.old + 2 * tries config.now tips.now (rows_of walks.old) x.holding }
     {
         let proved = prove(config, tips, walks, self.item(place), place, steps);
         append(batch, proved);
@@ -96,6 +99,8 @@ impl Store {
         ensures capacity { vec_capacity batch.old ≤ vec_capacity batch.new }
         ensures rows { rows_of walks.new ≡ rows_of walks.old }
         ensures above { All (IsAbove interval) walks.new }
+        ensures cost { steps.new + left tips.now walks.new ≤ steps.old + left tips.now walks.old
+            + 2 * pairs config.now tips.now (rows_of walks.old) (filter (in_interval interval) (map holding_at self.now.held)) }
     {
         let mut next = self.first_of(interval);
         for _looked in 0..self.held_in(interval) {
@@ -129,6 +134,8 @@ impl Store {
         ensures proved { AreProved self.now.held batch.new.items }
         ensures capacity { vec_capacity batch.old ≤ vec_capacity batch.new }
         ensures rows { rows_of walks.new ≡ rows_of walks.old }
+        ensures cost { steps.new + left tips.now walks.new ≤ steps.old + left tips.now walks.old
+            + 2 * pairs config.now tips.now (rows_of walks.old) (gathered (λ item. item ∷ []) (map holding_at self.now.held) low (high - low)) }
     {
         for below in (low..high).rev() {
             self.try_interval(config, tips, walks, below + 1, batch, steps);
@@ -136,7 +143,8 @@ impl Store {
     }
 
     /// What new keys prove of the packets that are held, in order of arrival. The intervals above `low`, up to
-    /// `high`, are those that the keys may prove.
+    /// `high`, are those that the keys may prove. The counted steps are those of the walks, and at most two for each
+    /// packet that isn't released and each chain on which it is tried.
     pub fn prove_held<L: Ledger>(
         &self,
         config: &Config,
@@ -161,6 +169,8 @@ impl Store {
         ensures places { Distinct (map place_proved batch.new.items) }
         ensures capacity { vec_capacity batch.old ≤ vec_capacity batch.new }
         ensures rows { rows_of walks.new ≡ rows_of walks.old }
+        ensures cost { steps.new + left tips.now walks.new ≤ steps.old + left tips.now walks.old
+            + 2 * pairs config.now tips.now (rows_of walks.old) (map holding_at self.now.held) }
     {
         self.try_span(config, tips, walks, low, high, batch, steps);
         order(batch);

@@ -9,6 +9,7 @@ use Rattle.tesla_receiver.specs.Stored.{holding_at, AreProved}
 use Rattle.tesla_receiver.specs.Walking.{rows_of}
 use Rattle.tesla_receiver.proofs.Batch.{numbers_differ, places_differ, proved_permuted}
 use Rattle.tesla_receiver.proofs.Gathering.{batch_gathers, batch_rises, spans_count}
+use Rattle.tesla_receiver.proofs.Evaluations.{held_cost}
 use Rattle.tesla_receiver.proofs.incremental.store.Store.prove_held.Goals as goal
 
 pub returns : goal.returns
@@ -29,4 +30,5 @@ returns g c =
       places = places_differ c.order.new.batch.items c.args.self.now.held c.requires.apart proved (numbers_differ c.order.new.batch.items (subst (RiseBy place_of) (sym told) rises));
       capacity = omega arith;
       rows = c.try_span.ensures.rows;
+      cost = omega (arith, c.try_span.ensures.cost, held_cost c.args.config.now c.args.tips.now (rows_of c.args.walks.now) (map holding_at c.args.self.now.held) c.args.low (c.args.high - c.args.low));
     }

@@ -1,4 +1,4 @@
-use Rattle.std.proofs.Common.{◌≡◌, ◌++◌, ℕ, ap, sym, ◌∙◌, subst, map, Some, true, length, refl}
+use Rattle.std.proofs.Common.{◌≡◌, ◌≤◌, ◌+◌, ◌*◌, ◌++◌, ℕ, ap, sym, ◌∙◌, subst, map, Some, true, length, refl}
 use Rattle.std.specs.Prelude.{All, option_to_list, find}
 use Rattle.std.specs.List.{list_all}
 use Rattle.tesla_base.proofs.Lists.{list_all_both}
@@ -8,7 +8,7 @@ use Rattle.tesla_receiver.specs.Steps.{proof_of}
 use Rattle.tesla_receiver.specs.Stored.{Placed, AreProved, is_proved_by}
 use Rattle.tesla_receiver.specs.declared.keeping.ordering.Proved.{Proved}
 use Rattle.std.specs.List.{list_any}
-use Rattle.tesla_receiver.specs.Walking.{Walking, IsAbove, rows_of}
+use Rattle.tesla_receiver.specs.Walking.{Walking, IsAbove, rows_of, left, tries}
 use Rattle.std.proofs.Common.{List}
 use Rattle.tesla_receiver.proofs.Trying.{one_proved, map-released}
 use Rattle.tesla_receiver.proofs.incremental.store.Store.try_at.Goals as goal
@@ -45,3 +45,11 @@ returns-clause-above g c y e =
     let found : Some x ≡ Some y = sym c.item.ensures.item ∙ e in
     let same : x ≡ y = cc in
     subst (λ (z : Placed). All (IsAbove z.holding.name.interval) c.prove-proved.new.walks) same c.prove-proved.ensures.above
+
+pub returns-clause-cost : goal.returns-clause-cost
+returns-clause-cost g c y e =
+    let x : Placed = record { place = c.args.place.0; holding = holding_in c.args.self.now.chains c.item.result.now } in
+    let found : Some x ≡ Some y = sym c.item.ensures.item ∙ e in
+    let same : x ≡ y = cc in
+    let paid = subst (λ (n : ℕ). c.prove-proved.new.steps + left c.args.tips.now c.prove-proved.new.walks ≤ c.args.steps.now + left c.args.tips.now c.args.walks.now + 2 * tries c.args.config.now c.args.tips.now (rows_of c.args.walks.now) (holding_in n c.item.result.now)) (sym c.requires.chains) c.prove-proved.ensures.cost in
+    subst (λ (z : Placed). c.prove-proved.new.steps + left c.args.tips.now c.prove-proved.new.walks ≤ c.args.steps.now + left c.args.tips.now c.args.walks.now + 2 * tries c.args.config.now c.args.tips.now (rows_of c.args.walks.now) z.holding) same paid

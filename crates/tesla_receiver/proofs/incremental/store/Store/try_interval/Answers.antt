@@ -1,34 +1,37 @@
-use Rattle.std.proofs.Common.{◌≡◌, ◌≤◌, ◌<◌, ◌+◌, ◌++◌, ℕ, ap, sym, ◌∙◌, subst, map, Some, None, true, length, refl, arith, List, []}
+use Rattle.std.proofs.Common.{◌≡◌, ◌≤◌, ◌<◌, ◌+◌, ◌*◌, ◌++◌, ℕ, ap, sym, ◌∙◌, subst, map, Some, None, true, length, refl, arith, List, []}
 use Rattle.std.specs.Prelude.{All, option_to_list, find, Option, vec_capacity}
 use Rattle.std.specs.List.{filter}
 use Rattle.std.proofs.Math.ListN.{drop_of_length-le}
 use Rattle.tesla_base.specs.declared.names.Place.{Place}
 use Rattle.tesla_frame.specs.Frame.{ChainsRise}
 use Rattle.tesla_receiver.specs.Stored.{Placed, is_of, stands_at}
-use Rattle.tesla_receiver.specs.Walking.{Walking, rows_of}
+use Rattle.tesla_receiver.specs.Walking.{Walking, rows_of, left}
 use Rattle.tesla_receiver.proofs.Sweeping.{found_any}
 use Rattle.tesla_receiver.proofs.Trying.{Trying, trying_none, tried_place, above_there, room_there, trying_more, tried_all, none_left}
+use Rattle.tesla_receiver.proofs.Evaluations.{tried_cost, tried_whole}
 use Rattle.tesla_receiver.proofs.incremental.store.Store.try_interval.Goals as goal
 
 pub loop-looked-init : goal.loop-looked-init
 loop-looked-init g c = record {
   walk = trying_none c.args.config.now c.args.tips.now c.args.walks.now c.args.self.now.held c.args.interval c.first_of-next.result c.args.batch.now.items c.first_of-next.ensures c.requires.above;
   capacity = omega arith;
+  cost = omega arith;
 }
 
 pub returns-in_default : goal.returns-in_default
 returns-in_default g c =
     let s = c.loop-looked.invariant.walk in
-    let left = none_left c.args.config.now c.args.tips.now c.args.walks.now c.loop-looked.walks c.args.self.now.held c.args.interval c.loop-looked._looked c.loop-looked.next c.args.batch.now.items c.loop-looked.batch.items s c.in_default.is in
+    let none = none_left c.args.config.now c.args.tips.now c.args.walks.now c.loop-looked.walks c.args.self.now.held c.args.interval c.loop-looked._looked c.loop-looked.next c.args.batch.now.items c.loop-looked.batch.items s c.in_default.is in
     let within = s.within in
     let long = s.long in
     record {
-      releases = tried_all c.args.config.now c.args.tips.now c.args.walks.now c.loop-looked.walks c.args.self.now.held c.args.interval c.loop-looked._looked c.loop-looked.next c.args.batch.now.items c.loop-looked.batch.items s left;
+      releases = tried_all c.args.config.now c.args.tips.now c.args.walks.now c.loop-looked.walks c.args.self.now.held c.args.interval c.loop-looked._looked c.loop-looked.next c.args.batch.now.items c.loop-looked.batch.items s none;
       proved = s.proved;
       long = omega arith;
       capacity = c.loop-looked.invariant.capacity;
       rows = s.rows;
       above = s.above;
+      cost = subst (λ (n : ℕ). c.loop-looked.steps + left c.args.tips.now c.loop-looked.walks ≤ c.args.steps.now + left c.args.tips.now c.args.walks.now + 2 * n) (tried_whole c.args.config.now c.args.tips.now c.args.walks.now c.args.self.now.held c.args.interval c.loop-looked._looked none) c.loop-looked.invariant.cost;
     }
 
 pub next_of-next-requires : goal.next_of-next-requires
@@ -59,8 +62,10 @@ loop-looked-preserved g c =
     let after = c.try_at.ensures.capacity in
     record {
       walk = trying_more c.args.config.now c.args.tips.now c.args.walks.now c.loop-looked.walks c.try_at.new.walks c.args.self.now.held c.args.interval c.loop-looked._looked c.in-Some.place c.next_of-next.result c.args.batch.now.items c.loop-looked.batch.items c.try_at.new.batch.items
-      c.requires.apart s c.next_of-next.ensures c.try_at.ensures.rows c.try_at.ensures.above c.try_at.ensures.releases c.try_at.ensures.proved c.try_at.ensures.long;
+          c.requires.apart s c.next_of-next.ensures c.try_at.ensures.rows c.try_at.ensures.above c.try_at.ensures.releases c.try_at.ensures.proved c.try_at.ensures.long;
       capacity = omega arith;
+      cost = tried_cost c.args.config.now c.args.tips.now c.args.walks.now c.args.self.now.held c.args.interval c.loop-looked._looked c.loop-looked.walks c.try_at.new.walks c.in-Some.place c.args.batch.now.items c.loop-looked.batch.items c.args.steps.now c.loop-looked.steps c.try_at.new.steps
+          c.requires.apart s c.loop-looked.invariant.cost c.try_at.ensures.cost;
     }
 
 pub returns : goal.returns
@@ -77,4 +82,5 @@ returns g c =
       capacity = c.loop-looked.invariant.capacity;
       rows = s.rows;
       above = s.above;
+      cost = subst (λ (n : ℕ). c.loop-looked.steps + left c.args.tips.now c.loop-looked.walks ≤ c.args.steps.now + left c.args.tips.now c.args.walks.now + 2 * n) (tried_whole c.args.config.now c.args.tips.now c.args.walks.now c.args.self.now.held c.args.interval c.loop-looked._looked (drop_of_length-le (filter (is_of c.args.interval) c.args.self.now.held) all)) c.loop-looked.invariant.cost;
     }

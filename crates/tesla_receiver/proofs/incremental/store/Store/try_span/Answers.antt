@@ -1,16 +1,19 @@
-use Rattle.std.proofs.Common.{◌≡◌, ◌≤◌, ◌<◌, ◌+◌, ◌-◌, ℕ, ap, sym, ◌∙◌, subst, arith, length, map, List}
+use Rattle.std.proofs.Common.{◌≡◌, ◌≤◌, ◌<◌, ◌+◌, ◌-◌, ◌*◌, ℕ, ap, sym, ◌∙◌, subst, arith, length, map, flat_map, take, List, [], ◌∷◌}
 use Rattle.std.specs.Prelude.{All, vec_capacity}
 use Rattle.std.specs.List.{filter}
 use Rattle.tesla_frame.specs.Frame.{ChainsRise}
-use Rattle.tesla_receiver.specs.Stored.{is_of}
-use Rattle.tesla_receiver.specs.Walking.{IsAbove}
+use Rattle.tesla_receiver.specs.Stored.{holding_at, is_of}
+use Rattle.tesla_receiver.specs.Gathering.{in_turn, down_to}
+use Rattle.tesla_receiver.specs.Walking.{IsAbove, rows_of, left, pairs}
 use Rattle.tesla_receiver.proofs.Trying.{Spanning, spanning_none, spanning_room, spanning_more, spanned_releases}
+use Rattle.tesla_receiver.proofs.Evaluations.{spanning_cost, spanned_cost}
 use Rattle.tesla_receiver.proofs.incremental.store.Store.try_span.Goals as goal
 
 pub loop-below-init : goal.loop-below-init
 loop-below-init g c = record {
   walk = spanning_none c.args.config.now c.args.tips.now c.args.walks.now c.args.self.now.held c.args.low c.args.high c.args.batch.now.items c.requires.empty c.requires.above;
   capacity = omega arith;
+  cost = omega arith;
 }
 
 pub try_interval-requires : goal.try_interval-requires
@@ -40,8 +43,11 @@ loop-below-preserved g c =
     let after : vec_capacity c.loop-below.batch ≤ vec_capacity c.try_interval.new.batch = c.try_interval.ensures.capacity in
     record {
       walk = spanning_more c.args.config.now c.args.tips.now c.args.walks.now c.loop-below.walks c.try_interval.new.walks c.args.self.now.held c.args.low c.args.high b c.loop-below.batch.items c.try_interval.new.batch.items (omega arith) s
-      c.try_interval.ensures.rows c.try_interval.ensures.above c.try_interval.ensures.releases c.try_interval.ensures.proved c.try_interval.ensures.long;
+          c.try_interval.ensures.rows c.try_interval.ensures.above c.try_interval.ensures.releases c.try_interval.ensures.proved c.try_interval.ensures.long;
       capacity = omega arith;
+      cost = spanning_cost c.args.config.now c.args.tips.now c.args.walks.now c.args.self.now.held c.args.low c.args.high b c.loop-below.walks c.try_interval.new.walks c.loop-below.batch.items c.args.steps.now c.loop-below.steps c.try_interval.new.steps (omega arith) s
+          (subst (λ (n : ℕ). c.loop-below.steps + left c.args.tips.now c.loop-below.walks ≤ c.args.steps.now + left c.args.tips.now c.args.walks.now + 2 * pairs c.args.config.now c.args.tips.now (rows_of c.args.walks.now) (flat_map (in_turn (λ item. item ∷ []) (map holding_at c.args.self.now.held)) (take (c.args.high - n) (down_to c.args.low (c.args.high - c.args.low))))) back c.loop-below.invariant.cost)
+          c.try_interval.ensures.cost;
     }
 
 pub returns : goal.returns
@@ -52,4 +58,6 @@ returns g c =
       proved = s.proved;
       capacity = c.loop-below.invariant.capacity;
       rows = s.rows;
+      cost = subst (λ (n : ℕ). c.loop-below.steps + left c.args.tips.now c.loop-below.walks ≤ c.args.steps.now + left c.args.tips.now c.args.walks.now + 2 * n)
+          (spanned_cost c.args.config.now c.args.tips.now c.args.walks.now c.args.self.now.held c.args.low c.args.high c.loop-below.below (omega arith)) c.loop-below.invariant.cost;
     }
