@@ -19,3 +19,4 @@ pub mod Gathering
 pub mod Proved
 pub mod Unfit
 pub mod Counting
+pub mod Kept

@@ -2,10 +2,12 @@
 
 mod keys;
 mod passing;
+mod receiver;
 mod releasing;
 mod store;
 mod taking;
 mod trying;
 
 
+pub use receiver::Keeping;
 pub use store::Store;
