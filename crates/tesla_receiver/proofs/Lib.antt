@@ -35,3 +35,4 @@ pub mod Batch
 pub mod KeysTaken
 pub mod TagsShown
 pub mod FirstTips
+pub mod TakenNext

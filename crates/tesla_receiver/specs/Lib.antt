@@ -20,3 +20,4 @@ pub mod Proved
 pub mod Unfit
 pub mod Counting
 pub mod Kept
+pub mod Judged

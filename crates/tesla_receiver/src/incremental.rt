@@ -1,5 +1,6 @@
 //! The receiver that keeps only what later events need.
 
+mod holding;
 mod keys;
 mod passing;
 mod receiver;
