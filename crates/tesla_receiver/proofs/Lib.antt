@@ -36,3 +36,4 @@ pub mod KeysTaken
 pub mod TagsShown
 pub mod FirstTips
 pub mod TakenNext
+pub mod Arrived

@@ -1,5 +1,6 @@
 //! The receiver that keeps only what later events need.
 
+mod arriving;
 mod holding;
 mod keys;
 mod passing;

@@ -21,7 +21,9 @@ use tesla_keys::Verifier;
 
 // The verdict on a packet of which these chains are safe.
 fn judge(config: &Config, store: &Store, set: u8, name: Name) -> Verdict
-    ensures { result ≡ verdict_by config.now.capacity config.now.quota set (is_named store.now.held name) (length store.now.held) (length (filter (is_of name.interval) store.now.held)) }
+    requires { store.now.capacity ≡ config.now.capacity }
+    ensures room { (chains : ℕ) → result ≡ Kept chains → length store.now.held < store.now.capacity }
+    ensures value { result ≡ verdict_by config.now.capacity config.now.quota set (is_named store.now.held name) (length store.now.held) (length (filter (is_of name.interval) store.now.held)) }
 {
     if set == 0 {
         return Verdict::Late;
