@@ -60,3 +60,5 @@ pub mod KeysTaken
 pub mod TagsShown
 pub mod FirstTips
 pub mod Evaluations
+pub mod TakenNext
+pub mod Arrived
