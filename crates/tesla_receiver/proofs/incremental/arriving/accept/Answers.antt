@@ -1,4 +1,4 @@
-use Rattle.std.proofs.Common.{◌≡◌, ℕ, ◌≤◌, ◌++◌, refl, ap, sym, ◌∙◌, subst, map, length, List, arith}
+use Rattle.std.proofs.Common.{◌≡◌, ℕ, ◌≤◌, ◌++◌, ap, sym, ◌∙◌, List, arith, append-nil}
 use Rattle.std.specs.Prelude.{vec_capacity}
 use Rattle.tesla_frame.specs.Frame.{Frame, Data}
 use Rattle.tesla_frame.specs.Shown.{shown}
@@ -50,3 +50,12 @@ returns-in-Data-clause-state g c ended counts calls =
     ∙ ap (λ (ws : List Release). record t { held = t.held ++ own c.args.order c.keep.result (Data c.in-Data.data); waiting = ws }) c.keep.ensures.waiting
     ∙ ap (λ (u : State). record u { held = u.held ++ own c.args.order c.keep.result (Data c.in-Data.data) }) taken
     ∙ ap (λ (f : Frame). record w { held = w.held ++ own c.args.order c.keep.result f }) (sym (ap shown c.in-Data.is))
+
+pub returns-in-Disclosure-clause-state : goal.returns-in-Disclosure-clause-state
+returns-in-Disclosure-clause-state g c ended counts calls =
+    let s : State = state_of c.args.config.now c.args.tips.now c.args.store.now ended counts calls in
+    let w : State = with_keys s (new_rows s (shown c.args.frame.now)) in
+    let taken : state_of c.args.config.now c.take_keys.new.tips c.take_keys.new.store ended counts calls ≡ w =
+    keys_are c.args.config.now c.args.tips.now c.take_keys.new.tips c.args.store.now c.take_keys.new.store ended counts calls (rows_of c.args.walks.now) c.take_keys.ensures.tips c.take_keys.ensures.held c.take_keys.ensures.waiting
+    ∙ ap (with_keys s) c.requires.begun.new in
+    taken ∙ ap (λ (hs : List Holding). record w { held = hs }) (sym (append-nil w.held))
