@@ -37,3 +37,4 @@ pub mod TagsShown
 pub mod FirstTips
 pub mod TakenNext
 pub mod Arrived
+pub mod StaysKept
