@@ -7,7 +7,7 @@ ghost use Rattle.tesla_frame.specs.Shown.{shown};
 ghost use Rattle.tesla_receiver.specs.declared.report.Report.{Report};
 ghost use Rattle.tesla_receiver.specs.Gathering.{RiseBy, order_of};
 ghost use Rattle.tesla_receiver.specs.Keys.{keys_of};
-ghost use Rattle.tesla_receiver.specs.Kept.{state_of};
+ghost use Rattle.tesla_receiver.specs.Kept.{state_of, IsBefore};
 ghost use Rattle.tesla_receiver.specs.Offered.{HaveBegun};
 ghost use Rattle.tesla_receiver.specs.Steps.{judged, judged_taken, with_keys, new_rows, own, counted, after_arrival};
 ghost use Rattle.tesla_receiver.specs.Stored.{holding_at, AreNeeded};
@@ -41,6 +41,7 @@ fn accept<L: Ledger>(
     requires chains { store.old.chains ≡ length config.now.setup.rows }
     requires capacity { store.old.capacity ≡ config.now.capacity }
     requires orders { RiseBy order_of (map holding_at store.old.held) }
+    requires before { All (IsBefore order) (map holding_at store.old.held) }
     requires needed { AreNeeded config.now tips.old store.old.held }
     requires begun { HaveBegun tips.old (keys_of config.now (shown frame.now)) walks.old }
     requires room { config.now.capacity ≤ vec_capacity batch.old }
@@ -49,6 +50,9 @@ fn accept<L: Ledger>(
         result ≡ judged_taken (with_keys s (new_rows s (shown frame.now))) bound (shown frame.now) }
     ensures state { (ended : List Bool) (counts : Report) (calls : ℕ) → let s = with_keys (state_of config.now tips.old store.old ended counts calls) (new_rows (state_of config.now tips.old store.old ended counts calls) (shown frame.now)) in
         state_of config.now tips.new store.new ended counts calls ≡ record s { held = s.held ++ own order result (shown frame.now) } }
+    ensures orders { RiseBy order_of (map holding_at store.new.held) }
+    ensures before { All (IsBefore (order + 1)) (map holding_at store.new.held) }
+    ensures needed { AreNeeded config.now tips.new store.new.held }
     ensures capacity { store.new.capacity ≡ store.old.capacity }
     ensures chains { store.new.chains ≡ store.old.chains }
     ensures given { store.new.given ≡ store.old.given }
@@ -85,6 +89,7 @@ pub fn receive<L: Ledger>(
     requires chains { store.old.chains ≡ length config.now.setup.rows }
     requires capacity { store.old.capacity ≡ config.now.capacity }
     requires orders { RiseBy order_of (map holding_at store.old.held) }
+    requires before { All (IsBefore order) (map holding_at store.old.held) }
     requires needed { AreNeeded config.now tips.old.items store.old.held }
     requires eight { 8 ≤ vec_capacity walks.old }
     requires room { config.now.capacity ≤ vec_capacity batch.old }
@@ -92,6 +97,10 @@ pub fn receive<L: Ledger>(
         result ≡ judged (state_of config.now tips.old.items store.old ended counts calls) reading bytes.now }
     ensures state { (ended : List Bool) (counts : Report) (calls : ℕ) → counts.arrivals ≡ order →
         state_of config.now tips.new.items store.new ended (counted result counts) (calls + 1) ≡ after_arrival (state_of config.now tips.old.items store.old ended counts calls) reading bytes.now }
+    ensures tips { length tips.new.items ≡ length tips.old.items }
+    ensures orders { RiseBy order_of (map holding_at store.new.held) }
+    ensures before { All (IsBefore (order + 1)) (map holding_at store.new.held) }
+    ensures needed { AreNeeded config.now tips.new.items store.new.held }
     ensures capacity { store.new.capacity ≡ store.old.capacity }
     ensures chains { store.new.chains ≡ store.old.chains }
     ensures given { store.new.given ≡ store.old.given }

@@ -11,8 +11,9 @@ use Rattle.tesla_receiver.specs.Kept.{state_of}
 use Rattle.tesla_receiver.specs.Offered.{HaveBegun}
 use Rattle.tesla_receiver.specs.State.{State}
 use Rattle.tesla_receiver.specs.Steps.{judged_frame, judged_taken, refused, refused_of, entered_as, entered_frame, with_keys, new_rows, own, counted, bound_at}
-use Rattle.tesla_receiver.specs.Stored.{AreNeeded}
+use Rattle.tesla_receiver.specs.Stored.{holding_at, AreNeeded}
 use Rattle.tesla_receiver.specs.Walking.{Walking}
+use Rattle.tesla_receiver.proofs.StaysKept.{before_later}
 use Rattle.tesla_receiver.proofs.Arrived.{judged_at, after_at, rows_fit, tips_back}
 use Rattle.tesla_receiver.proofs.incremental.arriving.receive.Goals as goal
 
@@ -58,6 +59,7 @@ accept-requires g c =
       chains = c.requires.chains;
       capacity = c.requires.capacity;
       orders = c.requires.orders;
+      before = c.requires.before;
       needed = subst (λ (ts : List Tip). AreNeeded c.args.config.now ts c.args.store.now.held) (sym c.deref_mut.ensures.value) c.requires.needed;
       begun = subst (λ (ws : List Walking). HaveBegun c.deref_mut.result.now (keys_of c.args.config.now fr) ws) (sym c.deref_mut-2.ensures.value)
       (subst (λ (ts : List Tip). HaveBegun ts (keys_of c.args.config.now fr) c.refused.new.walks.items) whole c.in_default-refused.ensures.begun);
@@ -93,3 +95,18 @@ returns-clause-state g c ended counts calls h =
     ∙ ap (λ (v : Verdict). entered_as v (record w { held = w.held ++ own counts.arrivals v fr })) verdict
     ∙ sym (ap (entered_frame s c.bound_at-bound.result (Some fr)) why)
     ∙ after_at s c.args.reading c.args.bytes.now (Some fr) c.bound_at-bound.result (sym c.read_frame.ensures.exact ∙ ap (option_map shown) c.in-Some.is) bound
+
+pub returns-in_default-clause-before : goal.returns-in_default-clause-before
+returns-in_default-clause-before g c = before_later c.args.order (map holding_at c.args.store.now.held) c.requires.before
+
+pub returns-in-Some-refused-clause-before : goal.returns-in-Some-refused-clause-before
+returns-in-Some-refused-clause-before g c = before_later c.args.order (map holding_at c.args.store.now.held) c.requires.before
+
+pub returns-clause-tips : goal.returns-clause-tips
+returns-clause-tips g c =
+    ap (λ (ts : List Tip). length ts) (tips_back c.args.tips.now.len c.deref_mut.result.now c.args.tips.now.items c.accept.new.tips c.deref_mut.ensures.len c.accept.auto.tips)
+    ∙ c.accept.auto.tips ∙ ap (λ (ts : List Tip). length ts) c.deref_mut.ensures.value
+
+pub returns-clause-needed : goal.returns-clause-needed
+returns-clause-needed g c =
+    subst (λ (ts : List Tip). AreNeeded c.args.config.now ts c.accept.new.store.held) (sym (tips_back c.args.tips.now.len c.deref_mut.result.now c.args.tips.now.items c.accept.new.tips c.deref_mut.ensures.len c.accept.auto.tips)) c.accept.ensures.needed
