@@ -62,3 +62,4 @@ pub mod FirstTips
 pub mod Evaluations
 pub mod TakenNext
 pub mod Arrived
+pub mod StaysKept
