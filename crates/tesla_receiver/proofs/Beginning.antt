@@ -117,7 +117,3 @@ begun tips rows walks is rise known good =
       potential = ap (left tips) is ∙ left_fresh tips rows;
       above = λ interval. subst (λ ws. All (IsAbove interval) ws) (sym is) (All-map (IsAbove interval) fresh newer (λ k d inside. omega arith));
     }
-
--- walks that aren't below an interval aren't below a lower one
-pub still_above : (walks : List Walking) (interval lower : ℕ) → lower ≤ interval → All (IsAbove interval) walks → All (IsAbove lower) walks
-still_above walks interval lower h above k d inside = omega (arith, h, above k d inside)

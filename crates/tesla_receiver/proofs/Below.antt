@@ -19,11 +19,6 @@ find_below p q a (suc n) same =
     ap (λ b. cond b (Some a) (find p (range_with_len (a + 1) n))) (same a (omega arith))
     ∙ ap (λ (o : Option ℕ). cond (q a) (Some a) o) (find_below p q (a + 1) n (λ c h. same c (omega arith)))
 
-pub map_below : {A : Type 0} (f g : ℕ → A) (a n : ℕ) → ((c : ℕ) → c < a + n → f c ≡ g c) → map f (range_with_len a n) ≡ map g (range_with_len a n)
-map_below f g a zero same = refl
-map_below f g a (suc n) same =
-    ap (λ y. y ∷ map f (range_with_len (a + 1) n)) (same a (omega arith)) ∙ ap (λ ys. g a ∷ ys) (map_below f g (a + 1) n (λ c h. same c (omega arith)))
-
 -- the number that is found is below n, and passes
 pub record FoundBelow (p : ℕ → Bool) (n c : ℕ) : Type 0 where
   pub below : c < n
@@ -127,19 +122,6 @@ all_fail p (x ∷ xs) h =
 abbrev pub first_in : {A : Type 0} → List A → Option A
 first_in [] = None
 first_in (x ∷ xs) = Some x
-
-first_if : {A : Type 0} (x : A) (rest : List A) (o : Option A) (b : Bool) → o ≡ first_in rest → cond b (Some x) o ≡ first_in (cond b (x ∷ rest) rest)
-first_if x rest o true e = refl
-first_if x rest o false e = e
-
--- what is found is the first of those that pass
-pub found_first : {A : Type 0} (p : A → Bool) (xs : List A) → find p xs ≡ first_in (filter p xs)
-found_first p [] = refl
-found_first p (x ∷ xs) = first_if x (filter p xs) (find p xs) (p x) (found_first p xs)
-
-pub first_map : {A B : Type 0} (f : A → B) (xs : List A) → first_in (map f xs) ≡ option_map f (first_in xs)
-first_map f [] = refl
-first_map f (x ∷ xs) = refl
 
 -- ---- how many
 

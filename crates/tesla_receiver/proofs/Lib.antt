@@ -1,14 +1,12 @@
 pub mod EachAfter
 pub mod Newest
 pub mod Carried
-pub mod Verified
 pub mod Grown
 pub mod Verdicts
 pub mod Standing
 pub mod Passing
 pub mod Places
 pub mod Playing
-pub mod Walked
 pub mod Events
 pub mod Fronts
 pub mod Finishing
@@ -37,9 +35,6 @@ pub mod Tips
 pub mod Costs
 pub mod States
 pub mod Bounded
-pub mod Rows
-pub mod TipsByRows
-pub mod Unreached
 pub mod Marked
 pub mod Stored
 pub mod Releasing

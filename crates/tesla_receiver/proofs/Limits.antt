@@ -112,17 +112,6 @@ quota_stays cfg interval xs given ingest reading bytes v e h =
 
 -- ---- one event more
 
--- nothing is held at first
-pub fits_new : (cfg : Config) → cfg.capacity ≤ 65536 → HeldFits cfg [] 0
-unfolding held_of
-fits_new cfg few = record { few = few; held = omega arith }
-
-pub fits_entered : (cfg : Config) (xs : List Arrival) (given ingest reading : ℕ) (bytes : List ℕ) (v : Verdict) → v ≡ verdict_of cfg xs given ingest reading bytes → HeldFits cfg xs given → HeldFits cfg (xs ++ record { ingest = ingest; reading = reading; bytes = bytes; verdict = v } ∷ []) given
-fits_entered cfg xs given ingest reading bytes v e fits = record { few = fits.few; held = capacity_stays cfg xs given ingest reading bytes v e fits.held }
-
-pub fits_taken : (cfg : Config) (xs : List Arrival) (given more : ℕ) → HeldFits cfg xs given → HeldFits cfg xs (given + more)
-fits_taken cfg xs given more fits = record { few = fits.few; held = let less = held_taken cfg xs given more None in omega (arith, less, fits.held) }
-
 -- ---- histories
 
 module _ (cfg : Config) (asked : Option ℕ) (limit : ℕ) (stays : StaysWithin cfg asked limit) where

@@ -23,10 +23,6 @@ use Rattle.tesla_base.proofs.Lists.{flat_map_numbered_more}
 use Rattle.tesla_receiver.proofs.Places.{texts_stay}
 use Rattle.tesla_receiver.proofs.Standing.{entered_legal, given_same}
 
--- what is released of the arrivals of a history
-abbrev released_in : Config → List Entry → List Release
-released_in cfg h = released cfg (arrivals_in h)
-
 -- the records of releaser 0 are those of the first that were released, one for each packet given
 pub record Wrote (cfg : Config) (h : List Entry) : Type 0 where
   pub few : given_in h ≤ length (released cfg (arrivals_in h))

@@ -16,7 +16,7 @@ use Rattle.tesla_receiver.specs.declared.history.Entry.{Entry}
 use Rattle.tesla_receiver.specs.declared.history.Entry.TheVariants.{Taken, Ended}
 use Rattle.tesla_receiver.specs.Packets.{released}
 use Rattle.tesla_receiver.specs.Answer.{verdict_of}
-use Rattle.tesla_receiver.specs.History.{Event, Arrives, Takes, Ends, event_of, entry_of, IsLegalAfter, IsLegal, arrival_in, arrivals_in, gives, given_in, ends, has_end, reply_to, reply_with, reply_of, State, Stands}
+use Rattle.tesla_receiver.specs.History.{Event, Arrives, Takes, Ends, event_of, entry_of, IsLegalAfter, IsLegal, arrival_in, arrivals_in, gives, given_in, ends, has_end, reply_to, reply_with}
 
 legal_after_more : (cfg : Config) (before h : List Entry) (e : Entry) → IsLegalAfter cfg before h → e ≡ entry_of cfg (before ++ h) (event_of e) → IsLegalAfter cfg before (h ++ e ∷ [])
 legal_after_more cfg before [] e l answered = (answered ∙ ap (λ b. entry_of cfg b (event_of e)) (append-nil before), tt)
@@ -55,62 +55,6 @@ pub none_ended : (a n : ℕ) → replicate n false ≡ map (has_end []) (range_w
 none_ended a zero = refl
 none_ended a (suc n) = ap (λ ys. false ∷ ys) (none_ended (a + 1) n)
 
--- what a receiver keeps after an event
-pub stands_more : (s after : State) (h : List Entry) (event : Event) → Stands s h → after.config ≡ s.config → after.arrivals ≡ arrivals_in (h ++ entry_of s.config h event ∷ []) → after.given ≡ given_in (h ++ entry_of s.config h event ∷ []) → after.ended ≡ map (has_end (h ++ entry_of s.config h event ∷ [])) (range_with_len 0 s.config.ingests) → after.calls ≡ s.calls + 1 → Stands after (h ++ entry_of s.config h event ∷ [])
-stands_more s after h event st config arrivals given ended calls = record {
-  legal = subst (λ (cfg : Config). IsLegal cfg (h ++ entry_of s.config h event ∷ [])) (sym config) (entered_legal s.config h event st.legal);
-  arrivals = arrivals;
-  given = given;
-  ended = ended ∙ ap (λ (cfg : Config). map (has_end (h ++ entry_of s.config h event ∷ [])) (range_with_len 0 cfg.ingests)) (sym config);
-  calls = calls ∙ ap (λ n. n + 1) st.calls ∙ sym (length-append h (entry_of s.config h event ∷ []));
-}
-
 -- an entry that gives nothing
 pub given_same : (h : List Entry) (e : Entry) → gives e ≡ false → given_in h ≡ given_in (h ++ e ∷ [])
 given_same h e none = sym (sum_by_push (λ x. cond (gives x) 1 0) h e ∙ ap (λ b. given_in h + cond b 1 0) none ∙ add-zero (given_in h))
-
--- one arrival more
-pub stands_arrival : (s after : State) (h : List Entry) (ingest reading : ℕ) (bytes : List ℕ) → Stands s h → after.config ≡ s.config → after.arrivals ≡ s.arrivals ++ record { ingest = ingest; reading = reading; bytes = bytes; verdict = verdict_of s.config s.arrivals s.given ingest reading bytes } ∷ [] → after.given ≡ s.given → after.ended ≡ s.ended → after.calls ≡ s.calls + 1 → Stands after (h ++ entry_of s.config h (Arrives ingest reading bytes) ∷ [])
-stands_arrival s after h ingest reading bytes st config arrivals given ended calls =
-    let e : Entry = entry_of s.config h (Arrives ingest reading bytes) in
-    stands_more s after h (Arrives ingest reading bytes) st config
-    (arrivals
-    ∙ ap (λ xs. xs ++ record { ingest = ingest; reading = reading; bytes = bytes; verdict = verdict_of s.config xs s.given ingest reading bytes } ∷ []) st.arrivals
-    ∙ ap (λ g. arrivals_in h ++ record { ingest = ingest; reading = reading; bytes = bytes; verdict = verdict_of s.config (arrivals_in h) g ingest reading bytes } ∷ []) st.given
-    ∙ sym (flat_map-append arrival_in h (e ∷ [])))
-    (given ∙ st.given ∙ given_same h e refl)
-    (ended ∙ st.ended ∙ ended_same h e s.config.ingests (λ k. refl))
-    calls
-
--- one end more
-pub stands_end : (s after : State) (h : List Entry) (ingest : ℕ) → Stands s h → after.config ≡ s.config → after.arrivals ≡ s.arrivals → after.given ≡ s.given → after.ended ≡ set s.ended ingest true → after.calls ≡ s.calls + 1 → Stands after (h ++ entry_of s.config h (Ends ingest) ∷ [])
-stands_end s after h ingest st config arrivals given ended calls =
-    stands_more s after h (Ends ingest) st config
-    (arrivals ∙ st.arrivals ∙ sym (flat_map-append arrival_in h (Ended ingest ∷ []) ∙ append-nil (arrivals_in h)))
-    (given ∙ st.given ∙ given_same h (Ended ingest) refl)
-    (ended ∙ ap (λ bs. set bs ingest true) st.ended ∙ ended_more h ingest s.config.ingests)
-    calls
-
--- the answer to a take, by what the receiver keeps
-pub reply_kept : (s : State) (h : List Entry) → Stands s h → reply_of s ≡ reply_to s.config h
-unfolding reply_to
-reply_kept s h st =
-    ap (λ xs. reply_with xs s.given (slice_get (released s.config xs) s.given) (list_all (λ b. b) s.ended)) st.arrivals
-    ∙ ap (λ g. reply_with (arrivals_in h) g (slice_get (released s.config (arrivals_in h)) g) (list_all (λ b. b) s.ended)) st.given
-    ∙ ap (reply_with (arrivals_in h) (given_in h) (slice_get (released s.config (arrivals_in h)) (given_in h))) (ap (list_all (λ b. b)) st.ended ∙ list_all-map (λ b. b) (has_end h) (range_with_len 0 s.config.ingests))
-
-gives_shown : (releaser : ℕ) (take : Take) (into : List ℕ) → gives (Taken releaser (reply_shown take into)) ≡ is_given take
-gives_shown releaser (takes.Given head) into = refl
-gives_shown releaser takes.Empty into = refl
-gives_shown releaser takes.Over into = refl
-
--- one take more
-pub stands_take : (s after : State) (h : List Entry) (releaser : ℕ) (take : Take) (into : List ℕ) → Stands s h → reply_shown take into ≡ reply_to s.config h → after.config ≡ s.config → after.arrivals ≡ s.arrivals → after.given ≡ s.given + cond (is_given take) 1 0 → after.ended ≡ s.ended → after.calls ≡ s.calls + 1 → Stands after (h ++ entry_of s.config h (Takes releaser) ∷ [])
-stands_take s after h releaser take into st reply config arrivals given ended calls =
-    let e : Entry = Taken releaser (reply_to s.config h) in
-    let gave : is_given take ≡ gives e = sym (gives_shown releaser take into) ∙ ap (λ r. gives (Taken releaser r)) reply in
-    stands_more s after h (Takes releaser) st config
-    (arrivals ∙ st.arrivals ∙ sym (flat_map-append arrival_in h (e ∷ []) ∙ append-nil (arrivals_in h)))
-    (given ∙ ap (λ b. s.given + cond b 1 0) gave ∙ ap (λ n. n + cond (gives e) 1 0) st.given ∙ sym (sum_by_push (λ x. cond (gives x) 1 0) h e))
-    (ended ∙ st.ended ∙ ended_same h e s.config.ingests (λ k. refl))
-    calls

@@ -185,19 +185,3 @@ needed_more s bound n v f held more e h is =
 one_less : (b : Bool) (n calls : ℕ) → n ≤ calls → one_if b n ≤ calls + 1
 one_less true n calls h = omega arith
 one_less false n calls h = omega arith
-
-pub counts_within : (calls : ℕ) (v : Verdict) (r : Report) → CountsWithin calls r → CountsWithin (calls + 1) (counted v r)
-counts_within calls v r w = record {
-  arrivals = omega (arith, w.arrivals);
-  malformed = one_less (line_of v == 1) r.malformed calls w.malformed;
-  foreign = one_less (line_of v == 2) r.foreign calls w.foreign;
-  misfit = one_less (line_of v == 3) r.misfit calls w.misfit;
-  future = one_less (line_of v == 4) r.future calls w.future;
-  badkey = one_less (line_of v == 5) r.badkey calls w.badkey;
-  late = one_less (line_of v == 6) r.late calls w.late;
-  repeat = one_less (line_of v == 7) r.repeat calls w.repeat;
-  full = one_less (line_of v == 8) r.full calls w.full;
-  kept = one_less (line_of v == 9) r.kept calls w.kept;
-  keys = one_less (line_of v == 10) r.keys calls w.keys;
-  given = omega (arith, w.given);
-}

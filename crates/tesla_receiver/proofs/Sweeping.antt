@@ -20,10 +20,6 @@ swept i over zero held = held
 swept i over (suc n) [] = []
 swept i over (suc n) (x ∷ xs) = cond (is_of i x) (cond (over x) (swept i over n xs) (x ∷ swept i over n xs)) (x ∷ swept i over (suc n) xs)
 
-pub swept_none : (i : ℕ) (over : Placed → Bool) (held : List Placed) → swept i over 0 held ≡ held
-unfolding swept
-swept_none i over held = refl
-
 some_first : {A : Type 0} (x y : A) (xs ys : List A) → x ∷ xs ≡ y ∷ ys → x ≡ y
 some_first x y xs ys h = cc
 

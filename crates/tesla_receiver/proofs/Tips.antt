@@ -130,39 +130,6 @@ tip_found cfg arrivals arrival chain =
       | inr one ↦ tip_taken cfg arrivals arrival chain one.0 one.1 ∙ ap (tip_after tip) (sym (find_filtered (is_of chain) new ∙ ap (λ rows. slice_get rows 0) one.1))
     ]
 
-unraised : (own : Bool) (above below : Tip) → cond (own && false) above below ≡ below
-unraised true above below = refl
-unraised false above below = refl
-
-raised_new : (chain : ℕ) (tip : Tip) (row : KeyRow) (newer : Bool) → newer ≡ nat_lt tip.index row.index → fold (raised chain) tip (cond newer (row ∷ []) []) ≡ raised chain tip row
-raised_new chain tip row true e = refl
-raised_new chain tip row false e = sym (ap (λ b. cond (is_of chain row && b) (tip_at row) tip) (sym e) ∙ unraised (is_of chain row) (tip_at row) tip)
-
--- the newest key by all keys that the arrival takes, one after the other
-pub tip_by_keys : (cfg : Config) (arrivals : List Arrival) (arrival : Arrival) (chain : ℕ) → tip_of cfg (arrivals ++ arrival ∷ []) chain ≡ fold (raised chain) (tip_of cfg arrivals chain) (keys_taken cfg arrival)
-tip_by_keys cfg arrivals arrival chain =
-    let tip : Tip = tip_of cfg arrivals chain in
-    let rows : List KeyRow = keys_taken cfg arrival in
-    let newer : KeyRow → Bool = λ row. nat_lt (newest cfg arrivals row.chain.0) row.index in
-    tip_more cfg arrivals arrival chain ∙ raised_own chain tip (new_keys cfg arrivals arrival) ∙ ap (fold (raised chain) tip) (filters_swap (is_of chain) newer rows)
-    ∙ elim (taken_few cfg arrival chain) [
-      | inl none ↦ ap (λ xs. fold (raised chain) tip (filter newer xs)) none ∙ sym (ap (fold (raised chain) tip) none)
-      | inr one ↦ (let same : one.0.chain.0 ≡ chain = eqb-true one.0.chain.0 chain (only_of chain rows one.0 one.1) in
-          let above : newer one.0 ≡ nat_lt tip.index one.0.index = ap (λ (c : ℕ). nat_lt (newest cfg arrivals c) one.0.index) same ∙ ap (λ (n : ℕ). nat_lt n one.0.index) (sym (tip_index cfg arrivals chain)) in
-          ap (λ xs. fold (raised chain) tip (filter newer xs)) one.1 ∙ raised_new chain tip one.0 (newer one.0) above ∙ sym (ap (fold (raised chain) tip) one.1))
-    ]
-    ∙ sym (raised_own chain tip rows)
-
--- an arrival that takes no keys changes none
-pub tip_quiet : (cfg : Config) (arrivals : List Arrival) (arrival : Arrival) (chain : ℕ) → takes_keys arrival.verdict ≡ false → tip_of cfg (arrivals ++ arrival ∷ []) chain ≡ tip_of cfg arrivals chain
-tip_quiet cfg arrivals arrival chain none =
-    tip_by_keys cfg arrivals arrival chain ∙ ap (λ b. fold (raised chain) (tip_of cfg arrivals chain) (cond b (keys_in cfg (frame_of arrival.bytes)) [])) none
-
--- nor does another verdict with which the same keys are taken
-pub tip_same : (cfg : Config) (arrivals : List Arrival) (a b : Arrival) (chain : ℕ) → keys_taken cfg a ≡ keys_taken cfg b → tip_of cfg (arrivals ++ a ∷ []) chain ≡ tip_of cfg (arrivals ++ b ∷ []) chain
-tip_same cfg arrivals a b chain same =
-    tip_by_keys cfg arrivals a chain ∙ ap (fold (raised chain) (tip_of cfg arrivals chain)) same ∙ sym (tip_by_keys cfg arrivals b chain)
-
 -- ---- good keys
 
 -- each chain's newest key reaches its commitment and all of its keys that were new

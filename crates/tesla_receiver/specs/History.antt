@@ -104,23 +104,3 @@ IsLegalAfter cfg before (entry ∷ entries) =
 
 abbrev pub IsLegal : Config → List Entry → Type 0
 IsLegal cfg history = IsLegalAfter cfg [] history
-
--- what a receiver keeps, as it is seen from outside
-pub record State : Type 0 where
-  pub config : Config
-  pub arrivals : List Arrival
-  pub given : ℕ
-  pub ended : List Bool
-  pub calls : ℕ
-
--- the answer to a take, by what the receiver keeps
-abbrev pub reply_of : State → Reply
-reply_of s = reply_with s.arrivals s.given (slice_get (released s.config s.arrivals) s.given) (list_all (λ flag. flag) s.ended)
-
--- a receiver stands for a history
-pub record Stands (state : State) (history : List Entry) : Type 0 where
-  pub legal : IsLegal state.config history
-  pub arrivals : state.arrivals ≡ arrivals_in history
-  pub given : state.given ≡ given_in history
-  pub ended : state.ended ≡ map (has_end history) (range_with_len 0 state.config.ingests)
-  pub calls : state.calls ≡ length history

@@ -4,7 +4,6 @@ pub mod Packets
 pub mod Held
 pub mod Answer
 pub mod History
-pub mod Book
 pub mod Report
 pub mod Played
 pub mod Replies

@@ -1,21 +1,13 @@
 //! The receiver: judges each arrival, and releases each authentic packet once.
 #![tactic(auto)]
 
-mod appending;
-mod book;
 mod config;
-mod counting;
 mod fitting;
-mod growing;
 mod history;
-mod incremental;
-mod holding;
-mod judging;
 pub(crate) mod keeping;
 mod keys;
 pub mod laws;
 mod packet;
-mod proving;
 mod receiver;
 mod release;
 mod report;
@@ -23,10 +15,8 @@ pub mod state_laws;
 mod taking;
 mod verdict;
 
-pub use book::Book;
 pub use config::Config;
 pub use history::{Arrival, Entry, Reply};
-pub use judging::Datagram;
 pub use packet::Packet;
 pub use receiver::Receiver;
 pub use release::Release;

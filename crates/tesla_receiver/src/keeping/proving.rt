@@ -15,7 +15,7 @@ ghost use Rattle.tesla_receiver.specs.Walking.{rows_of, IsAbove, left_of, left, 
 
 use crate::keeping::ordering::Proved;
 use crate::keeping::walk::Walk;
-use crate::proving::has_chain;
+use crate::packet::has_chain;
 use crate::{Config, Release};
 use std::sync::ledger::Ledger;
 use tesla_base::{ChainNo, Place, Steps, WideTag};

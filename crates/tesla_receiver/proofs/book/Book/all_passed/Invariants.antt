@@ -1,9 +1,0 @@
-use Rattle.std.proofs.Common.{◌≡◌, true, take}
-use Rattle.std.specs.List.{list_all}
-use Rattle.tesla_receiver.specs.Config.{chains}
-use Rattle.tesla_receiver.specs.Held.{has_passed}
-use Rattle.tesla_receiver.proofs.book.Book.all_passed.Given as goal
-
--- each chain so far has passed
-abbrev pub invariant-loop-chain : goal.invariant-loop-chain
-invariant-loop-chain l = list_all (has_passed l.self.config l.self.arrivals l.interval) (take l.chain (chains l.self.config)) ≡ true

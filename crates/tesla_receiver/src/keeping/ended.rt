@@ -1,0 +1,25 @@
+//! Which ingests have ended.
+
+ghost use Rattle.std.specs.Prelude.{◌≡◌, true, slice_set};
+ghost use Rattle.std.specs.List.{list_all};
+
+/// Whether all flags are set.
+pub fn all_set(flags: &[bool]) -> bool
+    ensures { result ≡ list_all (λ flag. flag) flags.now }
+{
+    for flag in flags {
+        if !*flag {
+            return false;
+        }
+    }
+    true
+}
+
+/// Sets the flag at a place, if there is one.
+pub fn mark(flags: &mut Vec<bool>, place: usize)
+    ensures { flags.new.items ≡ slice_set flags.old.items place true }
+{
+    if place < flags.len() {
+        flags[place] = true;
+    }
+}
