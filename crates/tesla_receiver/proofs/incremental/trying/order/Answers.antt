@@ -2,7 +2,6 @@ use Rattle.std.proofs.Common.{◌≡◌, ℕ, ◌++◌, suc, zero, ap, sym, ◌�
 use Rattle.std.specs.List.Sorted.{IsPermutation}
 use Rattle.std.proofs.lemmas.List.Sorted.{length_permutation}
 use Rattle.tesla_receiver.specs.declared.keeping.ordering.Proved.{Proved}
-use Rattle.tesla_receiver.specs.declared.release.Release.{Release}
 use Rattle.tesla_receiver.specs.Proved.{release_in}
 use Rattle.tesla_receiver.proofs.incremental.trying.order.Goals as goal
 

@@ -1,4 +1,4 @@
-use Rattle.std.proofs.Common.{◌≡◌, ◌≤◌, ◌+◌, ◌-◌, ℕ, ap, sym, ◌∙◌, subst, arith, map, List}
+use Rattle.std.proofs.Common.{◌≡◌, ◌≤◌, ◌-◌, sym, subst, arith, map, List}
 use Rattle.std.specs.Prelude.{vec_capacity}
 use Rattle.std.specs.List.Sorted.{IsPermutation}
 use Rattle.tesla_receiver.specs.declared.release.Release.{Release}

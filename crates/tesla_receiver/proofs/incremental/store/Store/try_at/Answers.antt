@@ -1,14 +1,14 @@
-use Rattle.std.proofs.Common.{◌≡◌, ◌≤◌, ◌+◌, ◌*◌, ◌++◌, ℕ, ap, sym, ◌∙◌, subst, map, Some, true, length, refl}
-use Rattle.std.specs.Prelude.{All, option_to_list, find}
+use Rattle.std.proofs.Common.{◌≡◌, ◌≤◌, ◌+◌, ◌*◌, ◌++◌, ℕ, ap, sym, ◌∙◌, subst, map, Some}
+use Rattle.std.specs.Prelude.{All, option_to_list}
 use Rattle.std.specs.List.{list_all}
 use Rattle.tesla_base.proofs.Lists.{list_all_both}
 use Rattle.tesla_receiver.specs.ItemShown.{holding_in, IsItem}
 use Rattle.tesla_receiver.specs.Proved.{release_in}
 use Rattle.tesla_receiver.specs.Steps.{proof_of}
-use Rattle.tesla_receiver.specs.Stored.{Placed, AreProved, is_proved_by}
+use Rattle.tesla_receiver.specs.Stored.{Placed, is_proved_by}
 use Rattle.tesla_receiver.specs.declared.keeping.ordering.Proved.{Proved}
 use Rattle.std.specs.List.{list_any}
-use Rattle.tesla_receiver.specs.Walking.{Walking, IsAbove, rows_of, left, tries}
+use Rattle.tesla_receiver.specs.Walking.{IsAbove, rows_of, left, tries}
 use Rattle.std.proofs.Common.{List}
 use Rattle.tesla_receiver.proofs.Trying.{one_proved, map-released}
 use Rattle.tesla_receiver.proofs.incremental.store.Store.try_at.Goals as goal

@@ -1,11 +1,11 @@
-use Rattle.std.proofs.Common.{◌≡◌, ◌≤◌, ◌<◌, ◌+◌, ◌*◌, ◌++◌, ℕ, ap, sym, ◌∙◌, subst, map, Some, None, true, length, refl, arith, List, []}
-use Rattle.std.specs.Prelude.{All, option_to_list, find, Option, vec_capacity}
+use Rattle.std.proofs.Common.{◌≡◌, ◌≤◌, ◌+◌, ◌*◌, ℕ, sym, subst, length, arith}
+use Rattle.std.specs.Prelude.{Option, vec_capacity}
 use Rattle.std.specs.List.{filter}
 use Rattle.std.proofs.Math.ListN.{drop_of_length-le}
 use Rattle.tesla_base.specs.declared.names.Place.{Place}
 use Rattle.tesla_frame.specs.Frame.{ChainsRise}
-use Rattle.tesla_receiver.specs.Stored.{Placed, is_of, stands_at}
-use Rattle.tesla_receiver.specs.Walking.{Walking, rows_of, left}
+use Rattle.tesla_receiver.specs.Stored.{is_of}
+use Rattle.tesla_receiver.specs.Walking.{left}
 use Rattle.tesla_receiver.proofs.Sweeping.{found_any}
 use Rattle.tesla_receiver.proofs.Trying.{Trying, trying_none, tried_place, above_there, room_there, trying_more, tried_all, none_left}
 use Rattle.tesla_receiver.proofs.Evaluations.{tried_cost, tried_whole}

@@ -1,5 +1,5 @@
-use Rattle.std.proofs.Common.{◌≡◌, ◌+◌, ◌*◌, ◌≤◌, ◌++◌, map, length, take, filter, flat_map, drop}
-use Rattle.std.specs.Prelude.{All, vec_capacity}
+use Rattle.std.proofs.Common.{◌+◌, ◌*◌, ◌≤◌, map, take, filter}
+use Rattle.std.specs.Prelude.{vec_capacity}
 use Rattle.tesla_receiver.specs.Stored.{holding_at, is_of}
 use Rattle.tesla_receiver.specs.Walking.{rows_of, left, pairs}
 use Rattle.tesla_receiver.proofs.Trying.{Trying}

@@ -1,10 +1,9 @@
-use Rattle.std.proofs.Common.{◌≡◌, ◌≤◌, ◌<◌, ◌+◌, ◌-◌, ◌*◌, ℕ, ap, sym, ◌∙◌, subst, arith, length, map, flat_map, take, List, [], ◌∷◌}
-use Rattle.std.specs.Prelude.{All, vec_capacity}
-use Rattle.std.specs.List.{filter}
+use Rattle.std.proofs.Common.{◌≡◌, ◌≤◌, ◌<◌, ◌+◌, ◌-◌, ◌*◌, ℕ, sym, subst, arith, length, map, flat_map, take, [], ◌∷◌}
+use Rattle.std.specs.Prelude.{vec_capacity}
 use Rattle.tesla_frame.specs.Frame.{ChainsRise}
-use Rattle.tesla_receiver.specs.Stored.{holding_at, is_of}
+use Rattle.tesla_receiver.specs.Stored.{holding_at}
 use Rattle.tesla_receiver.specs.Gathering.{in_turn, down_to}
-use Rattle.tesla_receiver.specs.Walking.{IsAbove, rows_of, left, pairs}
+use Rattle.tesla_receiver.specs.Walking.{rows_of, left, pairs}
 use Rattle.tesla_receiver.proofs.Trying.{Spanning, spanning_none, spanning_room, spanning_more, spanned_releases}
 use Rattle.tesla_receiver.proofs.Evaluations.{spanning_cost, spanned_cost}
 use Rattle.tesla_receiver.proofs.incremental.store.Store.try_span.Goals as goal
