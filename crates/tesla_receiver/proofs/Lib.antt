@@ -37,6 +37,7 @@ pub mod Tips
 pub mod Costs
 pub mod States
 pub mod Bounded
+pub mod Evaluations
 pub mod Rows
 pub mod TipsByRows
 pub mod Unreached
@@ -59,4 +60,3 @@ pub mod Batch
 pub mod KeysTaken
 pub mod TagsShown
 pub mod FirstTips
-pub mod Evaluations
