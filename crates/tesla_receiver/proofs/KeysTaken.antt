@@ -84,7 +84,7 @@ map-append_holdings : (xs ys : List Placed) → map holding_at (xs ++ ys) ≡ ma
 map-append_holdings [] ys = refl
 map-append_holdings (x ∷ xs) ys = ap (λ zs. x.holding ∷ zs) (map-append_holdings xs ys)
 
-map_flat : {A : Type 0} (f : A → List Placed) (xs : List A) → map holding_at (flat_map f xs) ≡ flat_map (λ x. map holding_at (f x)) xs
+pub map_flat : {A : Type 0} (f : A → List Placed) (xs : List A) → map holding_at (flat_map f xs) ≡ flat_map (λ x. map holding_at (f x)) xs
 map_flat f [] = refl
 map_flat f (x ∷ xs) = map-append_holdings (f x) (flat_map f xs) ∙ ap (λ ys. map holding_at (f x) ++ ys) (map_flat f xs)
 

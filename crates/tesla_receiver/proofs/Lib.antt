@@ -60,3 +60,6 @@ pub mod Batch
 pub mod KeysTaken
 pub mod TagsShown
 pub mod FirstTips
+pub mod TakenNext
+pub mod Arrived
+pub mod StaysKept

@@ -21,3 +21,5 @@ pub mod Gathering
 pub mod Proved
 pub mod Unfit
 pub mod Counting
+pub mod Kept
+pub mod Judged

@@ -39,8 +39,8 @@ impl Model for Receiver {
     ghost invariant = { λ r. HeldFits r.book.config r.book.arrivals r.given };
 }
 
-// Whether all flags are set.
-fn all_set(flags: &[bool]) -> bool
+/// Whether all flags are set.
+pub fn all_set(flags: &[bool]) -> bool
     ensures { result ≡ list_all (λ flag. flag) flags.now }
 {
     for flag in flags {
@@ -51,8 +51,8 @@ fn all_set(flags: &[bool]) -> bool
     true
 }
 
-// Sets the flag at a place, if there is one.
-fn mark(flags: &mut Vec<bool>, place: usize)
+/// Sets the flag at a place, if there is one.
+pub fn mark(flags: &mut Vec<bool>, place: usize)
     ensures { flags.new.items ≡ slice_set flags.old.items place true }
 {
     if place < flags.len() {

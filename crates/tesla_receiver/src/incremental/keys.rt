@@ -37,7 +37,7 @@ pub fn take_keys<L: Ledger>(
     requires rise { ChainsRise (rows_of walks.old) }
     requires good { AreGood tips.old (rows_of walks.old) }
     requires above { (interval : ℕ) → All (IsAbove interval) walks.old }
-    requires room { length store.old.held ≤ vec_capacity batch.old }
+    requires room { store.old.capacity ≤ vec_capacity batch.old }
     ensures tips { tips.new ≡ tips_after tips.old (rows_of walks.old) }
     ensures held { let new = rows_of walks.old in let before = map holding_at store.old.held in let batch = batch_of config.now tips.old new before in
         map holding_at store.new.held ≡ flat_map (kept_after config.now (tips_after tips.old new) batch (released_of before batch)) before }

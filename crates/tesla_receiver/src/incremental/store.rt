@@ -64,6 +64,13 @@ impl Store {
         self.buffer.held()
     }
 
+    /// How many released packets wait to be taken.
+    pub fn waiting(&self) -> u32
+        ensures { result ≡ length self.now.waiting }
+    {
+        self.queue.waiting()
+    }
+
     /// How many packets of an interval are held.
     pub fn held_in(&self, interval: u32) -> u32
         ensures { result ≡ length (filter (λ x. in_interval interval x.holding) self.now.held) }
