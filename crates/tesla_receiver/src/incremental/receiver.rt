@@ -2,6 +2,7 @@
 
 ghost use Rattle.std.specs.Prelude.{◌≡◌, ◌+◌, ◌^◌, ◌<◌, ◌≤◌, [], IfOk, length, map, replicate, false};
 ghost use Rattle.tesla_receiver.specs.Config.{chains};
+ghost use Rattle.tesla_receiver.specs.Costs.{most_by};
 ghost use Rattle.tesla_receiver.specs.Replies.{reply_shown, KeepsBehind};
 ghost use Rattle.tesla_receiver.specs.Steps.{judged, after_arrival, reply_by, after_take, after_end};
 ghost use Rattle.tesla_receiver.specs.Kept.{opened_as};
@@ -106,6 +107,9 @@ impl Keeping {
     }
 
     /// Judges a datagram of an ingest, with the reading of the receiver's clock in microseconds. It takes no memory.
+    /// No step is counted where a datagram is refused before its keys are looked at; else at most two for each interval
+    /// from a newer key down to the newest of its chain, and two for each held packet that isn't released and each chain
+    /// on which the new keys reach it.
     pub fn arrive<L: Ledger>(
         &mut self,
         _ingest: u8,
@@ -116,6 +120,7 @@ impl Keeping {
         requires { self.old.calls + 1 < 2 ^ 64 }
         ensures verdict { result ≡ judged self.old reading bytes.now }
         ensures state { self.new ≡ after_arrival self.old reading bytes.now }
+        ensures cost { steps.new ≤ steps.old + most_by self.old reading bytes.now }
     {
         let verdict = receive(
             &self.config,
