@@ -1,13 +1,14 @@
 -- What an arrival takes in evaluations of HMAC: packet by packet, and by what a receiver keeps.
-use Rattle.std.proofs.Common.{◌≡◌, ℕ, zero, suc, ◌+◌, ◌-◌, ◌*◌, ◌<◌, ◌≤◌, Bool, true, false, cond, ◌||◌, ◌==◌, List, [], ◌∷◌, ◌++◌, map, flat_map, take, drop, Option, Some, None, refl, sym, ap, subst, ⊎_elim, ◌∙◌, arith, zero-add}
-use Rattle.std.specs.Prelude.{not, find, is_some, nat_lt, option_map}
+use Rattle.std.proofs.Common.{◌≡◌, ℕ, suc, ◌+◌, ◌-◌, ◌*◌, ◌<◌, ◌≤◌, Bool, true, false, cond, ◌||◌, ◌==◌, List, [], ◌∷◌, ◌++◌, map, flat_map, take, drop, Option, Some, None, refl, sym, ap, subst, ⊎_elim, ◌∙◌, arith, zero-add}
 use Rattle.std.specs.List.{filter, sum_by}
+use Rattle.std.specs.Prelude.{not, find, is_some, nat_lt, option_map}
 use Rattle.std.proofs.lemmas.Bool.{cases_Bool, ltb-false}
+use Rattle.std.proofs.lemmas.List.{map-append}
 use Rattle.std.proofs.lemmas.List.Sums.{sum_by-append, sum_by-cons, sum_by_push}
 use Rattle.tesla_base.specs.declared.names.Place.{Place}
+use Rattle.tesla_frame.specs.declared.row.KeyRow.{KeyRow}
 use Rattle.tesla_frame.specs.Frame.{Frame}
 use Rattle.tesla_frame.specs.Reading.{frame_of}
-use Rattle.tesla_frame.specs.declared.row.KeyRow.{KeyRow}
 use Rattle.tesla_keys.specs.Tip.{Tip}
 use Rattle.tesla_links.specs.Lists.{Distinct}
 use Rattle.tesla_receiver.specs.declared.config.Config.{Config}
@@ -16,24 +17,20 @@ use Rattle.tesla_receiver.specs.declared.verdict.Verdict.{Verdict}
 use Rattle.tesla_receiver.specs.declared.verdict.Verdict.TheVariants.{Foreign, Misfit, Future, BadKey}
 use Rattle.tesla_receiver.specs.Answer.{stream_of, is_misfit, is_future}
 use Rattle.tesla_receiver.specs.Costs.{is_unread, gaps_by, pairs_by, most_on, most_by}
+use Rattle.tesla_receiver.specs.Gathering.{in_turn, gathered, down_to}
 use Rattle.tesla_receiver.specs.Keys.{keys_of}
 use Rattle.tesla_receiver.specs.Offered.{HaveBegun, gap_of, gaps}
-use Rattle.tesla_receiver.specs.Unfit.{unfit}
-use Rattle.tesla_receiver.specs.Gathering.{in_turn, gathered, down_to}
 use Rattle.tesla_receiver.specs.State.{Holding, State}
 use Rattle.tesla_receiver.specs.Steps.{bound_at, fails, in_interval, is_newer, new_rows, refused, tip_at}
 use Rattle.tesla_receiver.specs.Stored.{Placed, place_of, holding_at, stands_at, is_of}
+use Rattle.tesla_receiver.specs.Unfit.{unfit}
 use Rattle.tesla_receiver.specs.Walking.{Walking, rows_of, left, tries, pairs}
 use Rattle.tesla_receiver.proofs.Gathering.{flat_map_one, gathered_more, gathered_sum, gathered_whole}
 use Rattle.tesla_receiver.proofs.Marked.{filter_mapped}
-use Rattle.tesla_receiver.proofs.Sweeping.{Comes, comes}
+use Rattle.tesla_receiver.proofs.Sweeping.{comes}
 use Rattle.tesla_receiver.proofs.Trying.{Trying, Spanning, take_all, take_next}
 
 -- ---- the packets of an interval
-
-map_push : {A B : Type 0} (f : A → B) (xs : List A) (x : A) → map f (xs ++ x ∷ []) ≡ map f xs ++ f x ∷ []
-map_push f [] x = refl
-map_push f (y ∷ ys) x = ap (λ zs. f y ∷ zs) (map_push f ys x)
 
 -- one packet more
 sum_next : (number : Holding → ℕ) (n : ℕ) (xs : List Placed) (x : Placed) (rest : List Placed) → drop n xs ≡ x ∷ rest
@@ -42,12 +39,12 @@ sum_next number n xs x rest h =
     let count : n + 1 ≡ suc n = omega arith in
     ap (λ (k : ℕ). sum_by number (map holding_at (take k xs))) count
     ∙ ap (λ ys. sum_by number (map holding_at ys)) ((take_next n xs x rest h).0)
-    ∙ ap (sum_by number) (map_push holding_at (take n xs) x)
+    ∙ ap (sum_by number) (map-append holding_at (take n xs) (x ∷ []))
     ∙ sum_by_push number (map holding_at (take n xs)) x.holding
 
--- what was paid before, and what is paid for one more
-paid_more : (start now after sum here next : ℕ) → now ≤ start + 2 * sum → after ≤ now + 2 * here → next ≡ sum + here → after ≤ start + 2 * next
-paid_more start now after sum here next h k e = omega arith
+-- the steps before, and those for one more
+steps_more : (start now after sum here next : ℕ) → now ≤ start + 2 * sum → after ≤ now + 2 * here → next ≡ sum + here → after ≤ start + 2 * next
+steps_more start now after sum here next h k e = omega arith
 
 module _ (cfg : Config) (tips : List Tip) (begun : List Walking) (held : List Placed) (i n : ℕ) where
   -- one packet more was tried
@@ -55,10 +52,10 @@ module _ (cfg : Config) (tips : List Tip) (begun : List Walking) (held : List Pl
       → now + left tips walks ≤ start + left tips begun + 2 * pairs cfg tips (rows_of begun) (map holding_at (take n (filter (is_of i) held)))
       → ((x : Placed) → find (stands_at place.0) held ≡ Some x → after + left tips later ≤ now + left tips walks + 2 * tries cfg tips (rows_of walks) x.holding)
       → after + left tips later ≤ start + left tips begun + 2 * pairs cfg tips (rows_of begun) (map holding_at (take (n + 1) (filter (is_of i) held)))
-  tried_cost walks later place before batch start now after d s so_far paid =
+  tried_cost walks later place before batch start now after d s so_far cost =
       let c = comes i n held place d s.next in
-      let one = subst (λ (rows : List KeyRow). after + left tips later ≤ now + left tips walks + 2 * tries cfg tips rows c.packet.holding) s.rows (paid c.packet c.found) in
-      paid_more (start + left tips begun) (now + left tips walks) (after + left tips later) (pairs cfg tips (rows_of begun) (map holding_at (take n (filter (is_of i) held)))) (tries cfg tips (rows_of begun) c.packet.holding)
+      let one = subst (λ (rows : List KeyRow). after + left tips later ≤ now + left tips walks + 2 * tries cfg tips rows c.packet.holding) s.rows (cost c.packet c.found) in
+      steps_more (start + left tips begun) (now + left tips walks) (after + left tips later) (pairs cfg tips (rows_of begun) (map holding_at (take n (filter (is_of i) held)))) (tries cfg tips (rows_of begun) c.packet.holding)
       (pairs cfg tips (rows_of begun) (map holding_at (take (n + 1) (filter (is_of i) held)))) so_far one
       (sum_next (tries cfg tips (rows_of begun)) n (filter (is_of i) held) c.packet c.behind c.is)
 
@@ -89,7 +86,7 @@ module _ (cfg : Config) (tips : List Tip) (begun : List Walking) (held : List Pl
       → now + left tips walks ≤ start + left tips begun + 2 * pairs cfg tips (rows_of begun) (flat_map (in_turn (λ item. item ∷ []) (map holding_at held)) (take (high - (b + 1)) (down_to low (high - low))))
       → after + left tips later ≤ now + left tips walks + 2 * pairs cfg tips (rows_of walks) (filter (in_interval (b + 1)) (map holding_at held))
       → after + left tips later ≤ start + left tips begun + 2 * pairs cfg tips (rows_of begun) (flat_map (in_turn (λ item. item ∷ []) (map holding_at held)) (take (high - b) (down_to low (high - low))))
-  spanning_cost walks later batch start now after least s so_far paid =
+  spanning_cost walks later batch start now after least s so_far cost =
       let within = s.within in
       let hs : List Holding = map holding_at held in
       let k : ℕ = high - (b + 1) in
@@ -97,8 +94,8 @@ module _ (cfg : Config) (tips : List Tip) (begun : List Walking) (held : List Pl
       let count : k + 1 ≡ high - b = omega arith in
       let there : low + (high - low) - k ≡ b + 1 = omega arith in
       let number : Holding → ℕ = tries cfg tips (rows_of begun) in
-      let here = subst (λ (rows : List KeyRow). after + left tips later ≤ now + left tips walks + 2 * pairs cfg tips rows (filter (in_interval (b + 1)) hs)) s.rows paid in
-      paid_more (start + left tips begun) (now + left tips walks) (after + left tips later) (sum_by number (flat_map (in_turn alone hs) (take k (down_to low (high - low))))) (sum_by number (filter (in_interval (b + 1)) hs))
+      let here = subst (λ (rows : List KeyRow). after + left tips later ≤ now + left tips walks + 2 * pairs cfg tips rows (filter (in_interval (b + 1)) hs)) s.rows cost in
+      steps_more (start + left tips begun) (now + left tips walks) (after + left tips later) (sum_by number (flat_map (in_turn alone hs) (take k (down_to low (high - low))))) (sum_by number (filter (in_interval (b + 1)) hs))
       (sum_by number (flat_map (in_turn alone hs) (take (high - b) (down_to low (high - low))))) so_far here
       (ap (λ (n : ℕ). sum_by number (flat_map (in_turn alone hs) (take n (down_to low (high - low))))) (sym count) ∙ sum_gathered_more number hs low (high - low) k (b + 1) inside there)
 
@@ -161,8 +158,8 @@ taken_is_read s bound frame e =
     (option_map (λ row. BadKey row.chain) (find (fails s.tips) (keys_of s.config frame))) e
 
 within_unread : (unread : Bool) (before after most : ℕ) → (unread ≡ true → after ≡ before) → after ≤ before + most → after ≤ before + cond unread 0 most
-within_unread true before after most free paid = let same = free refl in omega (arith, same)
-within_unread false before after most free paid = paid
+within_unread true before after most free cost = let same = free refl in omega (arith, same)
+within_unread false before after most free cost = cost
 
 module _ (s : State) (reading : ℕ) (bytes : List ℕ) (frame : Frame) (is : frame_of bytes ≡ Some frame) where
   -- what an arrival may take, where its frame can be read
@@ -181,10 +178,10 @@ module _ (s : State) (reading : ℕ) (bytes : List ℕ) (frame : Frame) (is : fr
   -- a frame whose keys are taken takes no more: its keys were tried, and then the packets
   pub taken_cost : (walks : List Walking) (before judged after : ℕ) → refused s (bound_at s reading) frame ≡ None → HaveBegun s.tips (keys_of s.config frame) walks → judged ≡ before + gaps s.tips (keys_of s.config frame)
       → after ≤ judged + left s.tips walks + 2 * pairs s.config s.tips (rows_of walks) s.held → after ≤ before + most_by s reading bytes
-  taken_cost walks before judged after e begun tried paid =
+  taken_cost walks before judged after e begun tried cost =
       let far = gaps_are s frame in
       let potential = begun.potential in
-      let here = subst (λ (rows : List KeyRow). after ≤ judged + left s.tips walks + 2 * pairs s.config s.tips rows s.held) begun.new paid in
+      let here = subst (λ (rows : List KeyRow). after ≤ judged + left s.tips walks + 2 * pairs s.config s.tips rows s.held) begun.new cost in
       let whole : after ≤ before + (2 * gaps_by s frame + 2 * pairs_by s frame) = omega (arith, far, potential, here, tried) in
       subst (λ (n : ℕ). after ≤ before + n) (sym most_read)
       (subst (λ b. after ≤ before + cond b 0 (2 * gaps_by s frame + 2 * pairs_by s frame)) (sym (taken_is_read s (bound_at s reading) frame e)) whole)

@@ -35,6 +35,7 @@ pub mod Tips
 pub mod Costs
 pub mod States
 pub mod Bounded
+pub mod Evaluations
 pub mod Marked
 pub mod Stored
 pub mod Releasing
@@ -54,7 +55,7 @@ pub mod Batch
 pub mod KeysTaken
 pub mod TagsShown
 pub mod FirstTips
-pub mod Evaluations
 pub mod TakenNext
 pub mod Arrived
 pub mod StaysKept
+pub mod Moved

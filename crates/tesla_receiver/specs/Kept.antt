@@ -52,10 +52,3 @@ pub record IsKept (cfg : Config) (tips : List Tip) (store : Stored) (walks_room 
   pub needed : AreNeeded cfg tips store.held
   pub within : CountsWithin calls counts
   pub given : store.given ≡ counts.given
-
-abbrev pub no_counts : Report
-no_counts = record { arrivals = 0; malformed = 0; foreign = 0; misfit = 0; future = 0; badkey = 0; late = 0; repeat = 0; full = 0; kept = 0; keys = 0; given = 0 }
-
--- a receiver to which nothing has happened: the commitments are the newest keys
-abbrev pub opened_as : Config → State
-opened_as cfg = record { config = cfg; tips = map (first_tip cfg) (chains cfg); held = []; waiting = []; ended = replicate cfg.ingests false; counts = no_counts; calls = 0 }

@@ -1,15 +1,17 @@
 //! An arrival: it is judged, its keys are taken, and its packet is held if it is kept.
 
-ghost use Rattle.std.specs.Prelude.{◌≡◌, ℕ, ◌+◌, ◌++◌, ◌≤◌, All, Bool, List, length, map, vec_capacity};
+ghost use Rattle.std.specs.Prelude.{◌≡◌, ◌*◌, ℕ, ◌+◌, ◌++◌, ◌≤◌, All, Bool, List, length, map, vec_capacity};
 ghost use Rattle.tesla_clock.specs.Schedule.{bound_of};
 ghost use Rattle.tesla_frame.specs.Frame.{Data, DataFrame};
 ghost use Rattle.tesla_frame.specs.Shown.{shown};
 ghost use Rattle.tesla_receiver.specs.declared.report.Report.{Report};
+ghost use Rattle.tesla_receiver.specs.Costs.{most_by};
 ghost use Rattle.tesla_receiver.specs.Gathering.{RiseBy, order_of};
 ghost use Rattle.tesla_receiver.specs.Keys.{keys_of};
 ghost use Rattle.tesla_receiver.specs.Kept.{state_of, IsBefore};
 ghost use Rattle.tesla_receiver.specs.Offered.{HaveBegun};
 ghost use Rattle.tesla_receiver.specs.Steps.{judged, judged_taken, with_keys, new_rows, own, counted, after_arrival};
+ghost use Rattle.tesla_receiver.specs.Walking.{rows_of, left, pairs};
 ghost use Rattle.tesla_receiver.specs.Stored.{holding_at, AreNeeded};
 
 use super::Store;
@@ -57,6 +59,7 @@ fn accept<L: Ledger>(
     ensures chains { store.new.chains ≡ store.old.chains }
     ensures given { store.new.given ≡ store.old.given }
     ensures room { vec_capacity batch.old ≤ vec_capacity batch.new }
+    ensures cost { steps.new ≤ steps.old + left tips.old walks.old + 2 * pairs config.now tips.old (rows_of walks.old) (map holding_at store.old.held) }
 {
     take_keys(config, tips, store, walks, batch, steps);
     match frame {
@@ -73,7 +76,9 @@ fn bound_at(config: &Config, reading: u64) -> Option<u64>
 }
 
 /// Judges a datagram with the reading of the receiver's clock in microseconds, takes its keys, and holds its packet if
-/// it is kept. So many arrivals came before it. It takes no memory.
+/// it is kept. So many arrivals came before it. It takes no memory. The counted steps are at most two for each
+/// interval from a newer key down to the newest of its chain, and two for each held packet that isn't released and each
+/// chain on which it is tried.
 pub fn receive<L: Ledger>(
     config: &Config,
     tips: &mut Vec<Verifier>,
@@ -106,6 +111,8 @@ pub fn receive<L: Ledger>(
     ensures given { store.new.given ≡ store.old.given }
     ensures eight { vec_capacity walks.old ≤ vec_capacity walks.new }
     ensures room { vec_capacity batch.old ≤ vec_capacity batch.new }
+    ensures cost { (ended : List Bool) (counts : Report) (calls : ℕ) →
+        steps.new ≤ steps.old + most_by (state_of config.now tips.old.items store.old ended counts calls) reading bytes.now }
 {
     let Some(frame) = read_frame(bytes) else {
         return Verdict::Malformed;

@@ -2,9 +2,9 @@
 
 ghost use Rattle.std.specs.Prelude.{◌≡◌, ◌+◌, ◌^◌, ◌<◌, ◌≤◌, [], IfOk, length, map, replicate, false};
 ghost use Rattle.tesla_receiver.specs.Config.{chains};
+ghost use Rattle.tesla_receiver.specs.Costs.{most_by};
 ghost use Rattle.tesla_receiver.specs.Replies.{reply_shown, KeepsBehind};
-ghost use Rattle.tesla_receiver.specs.Steps.{judged, after_arrival, reply_by, after_take, after_end};
-ghost use Rattle.tesla_receiver.specs.Kept.{opened_as};
+ghost use Rattle.tesla_receiver.specs.Steps.{opened, judged, after_arrival, reply_by, after_take, after_end};
 ghost use Rattle.tesla_receiver.specs.Tips.{first_tip};
 
 use super::Store;
@@ -81,7 +81,7 @@ impl ReceiverState {
         requires within { quota ≤ capacity }
         requires few { capacity ≤ 65536 }
         requires ingests { 1 ≤ ingests }
-        ensures { IfOk result (λ k. k ≡ opened_as (record { setup = setup; lag = lag; capacity = capacity; quota = quota; ingests = ingests })) }
+        ensures { IfOk result (λ k. k ≡ opened (record { setup = setup; lag = lag; capacity = capacity; quota = quota; ingests = ingests })) }
     {
         let ended = vec![in alloc; false; ingests as usize]?;
         let config = Config {
@@ -106,6 +106,9 @@ impl ReceiverState {
     }
 
     /// Judges a datagram of an ingest, with the reading of the receiver's clock in microseconds. It takes no memory.
+    /// No step is counted where a datagram is refused before its keys are looked at; else at most two for each interval
+    /// from a newer key down to the newest of its chain, and two for each held packet that isn't released and each chain
+    /// on which the new keys reach it.
     pub fn arrive<L: Ledger>(
         &mut self,
         _ingest: u8,
@@ -116,6 +119,7 @@ impl ReceiverState {
         requires { self.old.calls + 1 < 2 ^ 64 }
         ensures verdict { result ≡ judged self.old reading bytes.now }
         ensures state { self.new ≡ after_arrival self.old reading bytes.now }
+        ensures cost { steps.new ≤ steps.old + most_by self.old reading bytes.now }
     {
         let verdict = receive(
             &self.config,

@@ -1,17 +1,20 @@
-use Rattle.std.proofs.Common.{◌≡◌, ℕ, ◌+◌, ◌++◌, refl, ap, sym, ◌∙◌, subst, map, length, List, [], Some, None}
-use Rattle.std.specs.Prelude.{option_map, unwrap_or}
-use Rattle.tesla_frame.specs.Frame.{Frame}
+use Rattle.std.proofs.Common.{◌≡◌, ℕ, ◌+◌, ◌++◌, refl, ap, sym, ◌∙◌, subst, map, length, List, [], take, drop, Some, None, ◌≤◌, ◌*◌}
+use Rattle.std.specs.Prelude.{option_map, unwrap_or, Option, Bool, is_some}
+use Rattle.tesla_frame.specs.Frame.{Frame, Data, DataFrame}
+use Rattle.tesla_frame.specs.Reading.{frame_of}
 use Rattle.tesla_frame.specs.Shown.{shown}
 use Rattle.tesla_keys.specs.Tip.{Tip}
 use Rattle.tesla_receiver.specs.declared.report.Report.{Report}
 use Rattle.tesla_receiver.specs.declared.verdict.Verdict.{Verdict}
 use Rattle.tesla_receiver.specs.Keys.{keys_of}
 use Rattle.tesla_receiver.specs.Kept.{state_of}
-use Rattle.tesla_receiver.specs.Offered.{HaveBegun}
+use Rattle.tesla_receiver.specs.Offered.{HaveBegun, gaps}
 use Rattle.tesla_receiver.specs.State.{State}
 use Rattle.tesla_receiver.specs.Steps.{judged_taken, refused, entered_as, entered_frame, with_keys, new_rows, own, counted, bound_at}
 use Rattle.tesla_receiver.specs.Stored.{holding_at, AreNeeded}
-use Rattle.tesla_receiver.specs.Walking.{Walking}
+use Rattle.tesla_receiver.specs.Walking.{Walking, rows_of, left, pairs}
+use Rattle.tesla_receiver.specs.Unfit.{unfit}
+use Rattle.tesla_receiver.proofs.Evaluations.{refused_cost, taken_cost}
 use Rattle.tesla_receiver.proofs.StaysKept.{before_later}
 use Rattle.tesla_receiver.proofs.Arrived.{judged_at, after_at, rows_fit, tips_back}
 use Rattle.tesla_receiver.proofs.keeping.arriving.receive.Goals as goal
@@ -61,7 +64,7 @@ accept-requires g c =
       before = c.requires.before;
       needed = subst (λ (ts : List Tip). AreNeeded c.args.config.now ts c.args.store.now.held) (sym c.deref_mut.ensures.value) c.requires.needed;
       begun = subst (λ (ws : List Walking). HaveBegun c.deref_mut.result.now (keys_of c.args.config.now fr) ws) (sym c.deref_mut-2.ensures.value)
-      (subst (λ (ts : List Tip). HaveBegun ts (keys_of c.args.config.now fr) c.refused.new.walks.items) whole c.in_default-refused.ensures.begun);
+          (subst (λ (ts : List Tip). HaveBegun ts (keys_of c.args.config.now fr) c.refused.new.walks.items) whole c.in_default-refused.ensures.begun);
       room = c.requires.room;
       rows = λ f is. rows_fit s c.bound_at-bound.result fr f why is;
     }
@@ -109,3 +112,27 @@ returns-clause-tips g c =
 pub returns-clause-needed : goal.returns-clause-needed
 returns-clause-needed g c =
     subst (λ (ts : List Tip). AreNeeded c.args.config.now ts c.accept.new.store.held) (sym (tips_back c.args.tips.now.len c.deref_mut.result.now c.args.tips.now.items c.accept.new.tips c.deref_mut.ensures.len c.accept.auto.tips)) c.accept.ensures.needed
+
+pub returns-in-Some-refused-clause-cost : goal.returns-in-Some-refused-clause-cost
+returns-in-Some-refused-clause-cost g c ended counts calls =
+    let s : State = state_of c.args.config.now c.args.tips.now.items c.args.store.now ended counts calls in
+    let fr : Frame = shown c.in-Some.frame in
+    let bound : c.bound_at-bound.result ≡ bound_at s c.args.reading = c.bound_at-bound.ensures in
+    refused_cost s c.args.reading c.args.bytes.now fr (sym c.read_frame.ensures.exact ∙ ap (option_map shown) c.in-Some.is) c.args.steps.now c.refused.new.steps
+    (λ e. c.refused.ensures.free (ap (λ (b : Option ℕ). is_some (unfit c.args.config.now b fr)) bound ∙ e))
+    (subst (λ (ts : List Tip). c.refused.new.steps ≤ c.args.steps.now + gaps ts (keys_of c.args.config.now fr)) c.as_slice.ensures.value c.refused.ensures.most)
+
+pub returns-clause-cost : goal.returns-clause-cost
+returns-clause-cost g c ended counts calls =
+    let s : State = state_of c.args.config.now c.args.tips.now.items c.args.store.now ended counts calls in
+    let fr : Frame = shown c.in-Some.frame in
+    let bound : c.bound_at-bound.result ≡ bound_at s c.args.reading = c.bound_at-bound.ensures in
+    let none : c.refused.result ≡ None = c.in_default-refused.is in
+    let why : refused s (bound_at s c.args.reading) fr ≡ None = ap (λ (b : Option ℕ). refused s b fr) (sym bound) ∙ sym (c.refused.ensures.value s refl (sym c.as_slice.ensures.value)) ∙ none in
+    let begun : HaveBegun c.args.tips.now.items (keys_of c.args.config.now fr) c.refused.new.walks.items =
+    subst (λ (ts : List Tip). HaveBegun ts (keys_of c.args.config.now fr) c.refused.new.walks.items) c.as_slice.ensures.value c.in_default-refused.ensures.begun in
+    let offered : c.refused.new.steps ≡ c.args.steps.now + gaps c.args.tips.now.items (keys_of c.args.config.now fr) =
+    subst (λ (ts : List Tip). c.refused.new.steps ≡ c.args.steps.now + gaps ts (keys_of c.args.config.now fr)) c.as_slice.ensures.value c.in_default-refused.ensures.cost in
+    taken_cost s c.args.reading c.args.bytes.now fr (sym c.read_frame.ensures.exact ∙ ap (option_map shown) c.in-Some.is) c.refused.new.walks.items c.args.steps.now c.refused.new.steps c.accept.new.steps why begun offered
+    (subst (λ (ws : List Walking). c.accept.new.steps ≤ c.refused.new.steps + left c.args.tips.now.items ws + 2 * pairs c.args.config.now c.args.tips.now.items (rows_of ws) (map holding_at c.args.store.now.held)) c.deref_mut-2.ensures.value
+    (subst (λ (ts : List Tip). c.accept.new.steps ≤ c.refused.new.steps + left ts c.deref_mut-2.result.now + 2 * pairs c.args.config.now ts (rows_of c.deref_mut-2.result.now) (map holding_at c.args.store.now.held)) c.deref_mut.ensures.value c.accept.ensures.cost))
