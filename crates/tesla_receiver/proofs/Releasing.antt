@@ -445,11 +445,11 @@ settling_more old new next batch n p s within is capacity chains given held wait
       given = given ∙ s.given;
       held = ap (λ h. held_all h rest) held ∙ ap (λ qs. held_all new.held qs) (sym parts) ∙ s.held;
       waiting = ap (λ ws. ws ++ map release_of (out_of next.held rest)) waiting
-      ∙ ap (λ h. (new.waiting ++ map release_of (released_if t p)) ++ map release_of (out_of h rest)) held
-      ∙ append_assoc new.waiting (map release_of (released_if t p)) (map release_of (out_of (held_then new.held p) rest))
-      ∙ ap (λ rs. new.waiting ++ rs) (sym (map-append_released (released_if t p) (out_of (held_then new.held p) rest)))
-      ∙ ap (λ qs. new.waiting ++ map release_of (out_of new.held qs)) (sym parts)
-      ∙ s.waiting;
+          ∙ ap (λ h. (new.waiting ++ map release_of (released_if t p)) ++ map release_of (out_of h rest)) held
+          ∙ append_assoc new.waiting (map release_of (released_if t p)) (map release_of (out_of (held_then new.held p) rest))
+          ∙ ap (λ rs. new.waiting ++ rs) (sym (map-append_released (released_if t p) (out_of (held_then new.held p) rest)))
+          ∙ ap (λ qs. new.waiting ++ map release_of (out_of new.held qs)) (sym parts)
+          ∙ s.waiting;
       proved = ap (λ h. list_all (λ k. list_any (is_proved_by k) h) rest) held ∙ rest_proved t p rest new.held places.0 proved.1;
       places = places.1;
     }

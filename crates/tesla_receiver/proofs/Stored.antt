@@ -280,12 +280,12 @@ released_stored capacity room proved w held waiting here s h =
       sound = all_marked is_sound is_sound m (λ x e. marked_sound (x.place == p) x e) held s.sound;
       once = subst Distinct (sym (map-append_places waiting w)) (distinct_pushed w.place.0 (map place_in waiting) s.once new);
       live = list_all_both (λ entry. list_any (waits_at entry.place.0) (map m held)) waiting (w ∷ [])
-      (list_all_weaker (λ entry. list_any (waits_at entry.place.0) held) (λ entry. list_any (waits_at entry.place.0) (map m held)) waiting
-      (λ entry e. any_marked (waits_at entry.place.0) (waits_at entry.place.0) m (λ x k. marked_waits entry.place.0 (x.place == p) x k) held e) s.live)
-      (and_from (list_any (waits_at w.place.0) (map m held)) true
-      (ap (λ (n : ℕ). list_any (waits_at n) (map m held)) here
-      ∙ any_marked (waits_at p) (untaken_at p) m (λ x k. marked_here p (x.place == p) x (and_parts (stands_at p x) (not x.holding.taken) k).0 k) held
-      (any_with_all (is_proved_by proved) is_sound (untaken_at p) (untaken proved) held h s.sound)) refl);
+          (list_all_weaker (λ entry. list_any (waits_at entry.place.0) held) (λ entry. list_any (waits_at entry.place.0) (map m held)) waiting
+          (λ entry e. any_marked (waits_at entry.place.0) (waits_at entry.place.0) m (λ x k. marked_waits entry.place.0 (x.place == p) x k) held e) s.live)
+          (and_from (list_any (waits_at w.place.0) (map m held)) true
+          (ap (λ (n : ℕ). list_any (waits_at n) (map m held)) here
+          ∙ any_marked (waits_at p) (untaken_at p) m (λ x k. marked_here p (x.place == p) x (and_parts (stands_at p x) (not x.holding.taken) k).0 k) held
+          (any_with_all (is_proved_by proved) is_sound (untaken_at p) (untaken proved) held h s.sound)) refl);
     }
 
 length-places : (waiting : List Waiting) → length (map place_in waiting) ≡ length waiting
@@ -473,7 +473,7 @@ pushed_store capacity room chains p item held waiting order named safe bytes giv
     let long = length-shown chains held in
     record {
       stored = subst (λ (xs : List Placed). IsStored capacity room xs waiting) (sym (pushed_shown chains held (record { place = p; item = item })))
-      (pushed_stored capacity room (map (placed_in chains) held) (placed_in chains (record { place = p; item = item })) waiting s.stored (omega arith) (sym (any_shown chains p held) ∙ vacant)
-      (ap (λ t. t || not item.taken) made.released ∙ ap not made.taken));
+          (pushed_stored capacity room (map (placed_in chains) held) (placed_in chains (record { place = p; item = item })) waiting s.stored (omega arith) (sym (any_shown chains p held) ∙ vacant)
+          (ap (λ t. t || not item.taken) made.released ∙ ap not made.taken));
       items = All-push (IsItemOf chains) held (record { place = p; item = item }) s.items (made_item chains order safe named bytes given item made size few count filled);
     }

@@ -71,9 +71,9 @@ next_head i over x xs none e =
       of = e;
       found = ap (λ t. cond t (Some x) (find (stands_at x.place) xs)) here;
       next = ap (λ t. cond t (first_place (filter (is_of x.holding.name.interval) xs)) (next_place x.place xs)) here
-      ∙ ap (λ (k : ℕ). first_place (filter (is_of k) xs)) (eqb-true x.holding.name.interval i e);
+          ∙ ap (λ (k : ℕ). first_place (filter (is_of k) xs)) (eqb-true x.holding.name.interval i e);
       more = ap (λ t. cond t (cond (over x) xs (x ∷ xs)) (x ∷ swept i over 1 xs)) e
-      ∙ ap (λ r. cond (over x) r (x ∷ xs)) (sym (ap (λ t. cond (not t) (x ∷ without x.place xs) (without x.place xs)) here ∙ none_without x.place xs none));
+          ∙ ap (λ r. cond (over x) r (x ∷ xs)) (sym (ap (λ t. cond (not t) (x ∷ without x.place xs) (without x.place xs)) here ∙ none_without x.place xs none));
     }
 
 -- the head was looked at
@@ -223,11 +223,11 @@ sweeping_more old new then i over n place next d s e capacity chains waiting giv
       waiting = waiting ∙ s.waiting;
       given = given ∙ s.given;
       held = held f.first (found_next old new i over n place d s)
-      ∙ ap (λ (p : ℕ). cond (over f.first) (without p new.held) new.held) f.place_is
-      ∙ ap (λ h. cond (over f.first) (without f.first.place h) h) s.held
-      ∙ sym r.more ∙ ap (λ (k : ℕ). swept i over k old.held) count;
+          ∙ ap (λ (p : ℕ). cond (over f.first) (without p new.held) new.held) f.place_is
+          ∙ ap (λ h. cond (over f.first) (without f.first.place h) h) s.held
+          ∙ sym r.more ∙ ap (λ (k : ℕ). swept i over k old.held) count;
       next = e ∙ ap (next_place place.0) s.held ∙ ap (λ (p : ℕ). next_place p (swept i over n old.held)) f.place_is ∙ r.next
-      ∙ ap first_place (sym (drop_next n (filter (is_of i) old.held) f.first f.rest f.is)) ∙ ap (λ (k : ℕ). first_place (drop k (filter (is_of i) old.held))) count;
+          ∙ ap first_place (sym (drop_next n (filter (is_of i) old.held) f.first f.rest f.is)) ∙ ap (λ (k : ℕ). first_place (drop k (filter (is_of i) old.held))) count;
     }
 
 pub found_stands : (p : ℕ) (f : Placed → Bool) (x : Placed) (held : List Placed) → find (stands_at p) held ≡ Some x → f x ≡ true → list_any (λ y. stands_at p y && f y) held ≡ true
@@ -344,7 +344,7 @@ comes i n held place d h =
       of = r.of;
       found = ap (λ (p : ℕ). find (stands_at p) held) f.place_is ∙ ap (find (stands_at f.first.place)) (sym (swept_never i n held)) ∙ r.found;
       next = ap (λ (p : ℕ). next_place p held) f.place_is ∙ ap (next_place f.first.place) (sym (swept_never i n held)) ∙ r.next
-      ∙ ap first_place (sym (drop_next n (filter (is_of i) held) f.first f.rest f.is)) ∙ ap (λ (k : ℕ). first_place (drop k (filter (is_of i) held))) count;
+          ∙ ap first_place (sym (drop_next n (filter (is_of i) held) f.first f.rest f.is)) ∙ ap (λ (k : ℕ). first_place (drop k (filter (is_of i) held))) count;
     }
 
 ends_same : (low high n i : ℕ) → low ≤ n → high ≤ n → n ≤ max low high → (nat_lt low i && nat_le i n) ≡ (nat_lt low i && nat_le i high)

@@ -54,7 +54,12 @@ taken_shown chains p held =
 
 tail_stored : (capacity room : ℕ) (held : List Placed) (w : Waiting) (ws : List Waiting) → IsStored capacity room held (w ∷ ws) → IsStored capacity room held ws
 tail_stored capacity room held w ws s = record {
-  few = s.few; fits = s.fits; same = s.same; distinct = s.distinct; sound = s.sound; once = s.once.1;
+  few = s.few;
+  fits = s.fits;
+  same = s.same;
+  distinct = s.distinct;
+  sound = s.sound;
+  once = s.once.1;
   live = (and_parts (list_any (waits_at w.place.0) held) (list_all (λ entry. list_any (waits_at entry.place.0) held) ws) s.live).1;
 }
 
@@ -123,12 +128,12 @@ item_marked chains false x h = h
 pub taken_store : (capacity room chains : ℕ) (b : Bool) (held : List Held) (w : Waiting) (ws : List Waiting) → IsStore capacity room chains held (w ∷ ws) → IsStore capacity room chains (settled w.place.0 (fate_if b) held) ws
 taken_store capacity room chains true held w ws s = record {
   stored = subst (λ (xs : List Placed). IsStored capacity room xs ws) (sym (without_shown chains w.place.0 held))
-  (gone_stored capacity room w.place.0 (map (placed_in chains) held) ws (tail_stored capacity room (map (placed_in chains) held) w ws s.stored) s.stored.once.0);
+      (gone_stored capacity room w.place.0 (map (placed_in chains) held) ws (tail_stored capacity room (map (placed_in chains) held) w ws s.stored) s.stored.once.0);
   items = All-filter (λ x. not (buffer.is_at w.place.0 x)) (IsItemOf chains) held s.items;
 }
 taken_store capacity room chains false held w ws s = record {
   stored = subst (λ (xs : List Placed). IsStored capacity room xs ws) (sym (taken_shown chains w.place.0 held))
-  (marked_stored capacity room w.place.0 (map (placed_in chains) held) ws (tail_stored capacity room (map (placed_in chains) held) w ws s.stored) s.stored.once.0 (first_live capacity room (map (placed_in chains) held) w ws s.stored));
+      (marked_stored capacity room w.place.0 (map (placed_in chains) held) ws (tail_stored capacity room (map (placed_in chains) held) w ws s.stored) s.stored.once.0 (first_live capacity room (map (placed_in chains) held) w ws s.stored));
   items = All-map (IsItemOf chains) (λ (x : Held). cond (buffer.is_at w.place.0 x) (record { place = x.place; item = record x.item { taken = true } }) x) held
       (All-weaker (IsItemOf chains) (λ x. IsItemOf chains (cond (buffer.is_at w.place.0 x) (record { place = x.place; item = record x.item { taken = true } }) x)) (λ x k. item_marked chains (buffer.is_at w.place.0 x) x k) held s.items);
 }

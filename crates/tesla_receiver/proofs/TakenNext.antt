@@ -107,8 +107,18 @@ needed_taken cfg tips order held h =
 
 later_counts : (calls : ℕ) (r : Report) → CountsWithin calls r → CountsWithin (calls + 1) (record r { given = r.given + 1 })
 later_counts calls r w = record {
-  arrivals = omega (arith, w.arrivals); malformed = omega (arith, w.malformed); foreign = omega (arith, w.foreign); misfit = omega (arith, w.misfit); future = omega (arith, w.future); badkey = omega (arith, w.badkey);
-  late = omega (arith, w.late); repeat = omega (arith, w.repeat); full = omega (arith, w.full); kept = omega (arith, w.kept); keys = omega (arith, w.keys); given = omega (arith, w.given);
+  arrivals = omega (arith, w.arrivals);
+  malformed = omega (arith, w.malformed);
+  foreign = omega (arith, w.foreign);
+  misfit = omega (arith, w.misfit);
+  future = omega (arith, w.future);
+  badkey = omega (arith, w.badkey);
+  late = omega (arith, w.late);
+  repeat = omega (arith, w.repeat);
+  full = omega (arith, w.full);
+  kept = omega (arith, w.kept);
+  keys = omega (arith, w.keys);
+  given = omega (arith, w.given);
 }
 
 pub kept_taken : (cfg : Config) (tips : List Tip) (old new : Stored) (walks_room batch_room : ℕ) (counts : Report) (calls : ℕ) (head : Head) (before after : List ℕ) → IsKept cfg tips old walks_room batch_room counts calls → calls + 1 < 2 ^ 64 → new.capacity ≡ old.capacity → new.chains ≡ old.chains → IsGiven cfg tips counts.given old new head before after → IsKept cfg tips new walks_room batch_room (record counts { given = counts.given + 1 }) (calls + 1)

@@ -17,8 +17,8 @@ ghost use Rattle.tesla_receiver.specs.Stored.{holding_at, AreNeeded};
 use super::Store;
 use super::holding::keep;
 use super::keys::take_keys;
-use crate::keeping::ordering::Proved;
 use crate::keeping::judging::refused;
+use crate::keeping::ordering::Proved;
 use crate::keeping::walk::Walk;
 use crate::{Config, Verdict};
 use std::sync::ledger::Ledger;
@@ -122,5 +122,7 @@ pub fn receive<L: Ledger>(
     if let Some(verdict) = refused(config, tips.as_slice(), bound, &frame, walks, steps) {
         return verdict;
     }
-    accept(config, tips, store, walks, batch, order, bound, &frame, steps)
+    accept(
+        config, tips, store, walks, batch, order, bound, &frame, steps,
+    )
 }

@@ -10,10 +10,10 @@ ghost use Rattle.tesla_receiver.specs.Tips.{first_tip};
 use super::Store;
 use super::arriving::receive;
 use crate::keeping::counts::count;
+use crate::keeping::ended::{all_set, mark};
 use crate::keeping::ordering::Proved;
 use crate::keeping::tips::first_tips;
 use crate::keeping::walk::Walk;
-use crate::keeping::ended::{all_set, mark};
 use crate::{Config, Report, Take, Verdict};
 use std::alloc::Global;
 use std::marker::Model;
@@ -146,11 +146,13 @@ impl ReceiverState {
         ensures behind { KeepsBehind result into.old into.new }
     {
         self.calls += 1;
-        let head = self
-            .store
-            .take(&self.config, self.tips.as_slice(), self.counts.given, into);
+        let head = self.store.take(&self.config, self.tips.as_slice(), self.counts.given, into);
         let Some(head) = head else {
-            return if all_set(&self.ended) { Take::Over } else { Take::Empty };
+            return if all_set(&self.ended) {
+                Take::Over
+            } else {
+                Take::Empty
+            };
         };
         self.counts.given += 1;
         Take::Given(head)

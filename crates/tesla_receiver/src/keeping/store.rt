@@ -31,11 +31,11 @@ impl Model for Store {
     ghost Value = { Stored };
 
     ghost view = { λ s. record {
-        capacity = s.buffer.capacity;
-        chains = s.chains;
-        held = map (placed_in s.chains) s.buffer.held;
-        waiting = map (release_in (map (placed_in s.chains) s.buffer.held)) s.queue.waiting;
-        given = s.queue.given;
+      capacity = s.buffer.capacity;
+      chains = s.chains;
+      held = map (placed_in s.chains) s.buffer.held;
+      waiting = map (release_in (map (placed_in s.chains) s.buffer.held)) s.queue.waiting;
+      given = s.queue.given;
     } };
 
     ghost invariant = { λ s. IsStore s.buffer.capacity s.queue.capacity s.chains s.buffer.held s.queue.waiting };

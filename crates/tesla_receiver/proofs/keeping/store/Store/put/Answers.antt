@@ -20,11 +20,12 @@ invariant_of-self c =
 pub returns-clause-held : goal.returns-clause-held
 returns-clause-held c =
     let made = c.put_parts-place.ensures.held in
-    let chains : length c.args.tags.now ≡ c.self.inside.chains = c.requires.tags ∙ ap (λ (s : Stored). s.chains) (sym c.self.view_is) in
-    (c.put_parts-place.result.0,
-    ap (map (placed_in c.self.inside.chains)) made.2 ∙ pushed_shown c.self.inside.chains c.self.inside.buffer.held (record { place = c.put_parts-place.result.0; item = made.0 })
-    ∙ ap (λ h. map (placed_in c.self.inside.chains) c.self.inside.buffer.held ++ record { place = c.put_parts-place.result.0; holding = h } ∷ []) (shown_made c.self.inside.chains c.args.order c.args.chains c.args.name c.args.payload.now c.args.tags.now made.0 made.1 chains)
-    ∙ ap (λ (s : Stored). s.held ++ record { place = c.put_parts-place.result.0; holding = record { order = c.args.order; name = c.args.name; chains = c.args.chains; payload = c.args.payload.now; tags = map tag_bytes c.args.tags.now; released = false; taken = false } } ∷ []) c.self.view_is)
+    let chains : length c.args.tags.now ≡ c.self.inside.chains = c.requires.tags ∙ ap (λ (s : Stored). s.chains) (sym c.self.view_is) in (
+      c.put_parts-place.result.0,
+      ap (map (placed_in c.self.inside.chains)) made.2 ∙ pushed_shown c.self.inside.chains c.self.inside.buffer.held (record { place = c.put_parts-place.result.0; item = made.0 })
+          ∙ ap (λ h. map (placed_in c.self.inside.chains) c.self.inside.buffer.held ++ record { place = c.put_parts-place.result.0; holding = h } ∷ []) (shown_made c.self.inside.chains c.args.order c.args.chains c.args.name c.args.payload.now c.args.tags.now made.0 made.1 chains)
+          ∙ ap (λ (s : Stored). s.held ++ record { place = c.put_parts-place.result.0; holding = record { order = c.args.order; name = c.args.name; chains = c.args.chains; payload = c.args.payload.now; tags = map tag_bytes c.args.tags.now; released = false; taken = false } } ∷ []) c.self.view_is,
+    )
 
 pub returns-clause-waiting : goal.returns-clause-waiting
 returns-clause-waiting c =

@@ -18,7 +18,6 @@ use Rattle.tesla_receiver.proofs.keeping.store.Store.take.Goals as goal
 abbrev head_made : ℕ → ℕ → ℕ → ℕ → ℕ → Head
 head_made position interval number chain length = record { position = position; interval = interval; number = number; chain = chain; length = length }
 
-
 pub item-item-requires : goal.item-item-requires
 item-item-requires c =
     let queue : c.self.inside.queue.waiting ≡ c.in-Some.waiting ∷ drop 1 c.self.inside.queue.waiting = first_waiting c.self.inside.queue.waiting c.in-Some.waiting (sym c.in-Some.is ∙ c.pop.ensures.value) in
@@ -67,13 +66,13 @@ returns-clause-given c =
       found = ap (find (λ (y : Placed). y.holding.order == x.holding.order)) (sym view) ∙ found_by_order w.place.0 x shown orders there;
       chain = w.chain;
       first = ap (λ (s : Stored). s.waiting) (sym c.self.view_is) ∙ ap (map (release_in shown)) queue
-      ∙ ap (λ o. release_by w.chain o ∷ map (release_in shown) ws) there
-      ∙ ap (λ rs. release_by w.chain (Some x) ∷ rs) (sym (ap (λ (q : List Waiting). map (release_in (map (placed_in n) c.settle.new.self.held)) q) c.pop.ensures.waiting ∙ ap (λ (h : List Placed). map (release_in h) ws) held
-      ∙ releases_taken (g x) w.place.0 shown ws before.stored.once.0));
+          ∙ ap (λ o. release_by w.chain o ∷ map (release_in shown) ws) there
+          ∙ ap (λ rs. release_by w.chain (Some x) ∷ rs) (sym (ap (λ (q : List Waiting). map (release_in (map (placed_in n) c.settle.new.self.held)) q) c.pop.ensures.waiting ∙ ap (λ (h : List Placed). map (release_in h) ws) held
+          ∙ releases_taken (g x) w.place.0 shown ws before.stored.once.0));
       head_is = c.give-head.ensures.head ∙ ap (λ (k : ℕ). head_made c.args.position x.holding.name.interval x.holding.name.number w.chain k) (sym c.give-head.ensures.long);
       payload = ap (λ (h : Head). take h.length c.give-head.new.into) c.give-head.ensures.head ∙ c.give-head.ensures.payload;
       behind = subst (λ (h : Head). (h.length ≤ 1200) × (drop h.length c.give-head.new.into ≡ drop h.length c.args.into.now)) (sym c.give-head.ensures.head)
-      ((found_passes (IsItemOf n) (is_at w.place.0) c.self.inside.buffer.held (record { place = w.place.0; item = c.item-item.result.now }) c.self.invariant.items c.item-item.ensures.item).payload, c.give-head.ensures.behind);
+          ((found_passes (IsItemOf n) (is_at w.place.0) c.self.inside.buffer.held (record { place = w.place.0; item = c.item-item.result.now }) c.self.invariant.items c.item-item.ensures.item).payload, c.give-head.ensures.behind);
       held = held ∙ taken_by_order g w.place.0 x shown before.stored.distinct orders there ∙ ap (flat_map (after_take c.args.config.now c.args.tips.now x.holding.order)) view;
       given = c.pop.ensures.given ∙ ap (given_after c.self.inside.queue.given) c.in-Some.is ∙ ap (λ (s : Stored). min (s.given + 1) (2 ^ 64 - 1)) c.self.view_is;
     }
