@@ -1,17 +1,15 @@
 -- An arrival, by the state of a receiver.
-use Rattle.std.proofs.Common.{◌≡◌, ℕ, ◌+◌, ◌-◌, ◌^◌, ◌<◌, ◌≤◌, suc, zero, Bool, true, false, cond, ◌&&◌, ◌||◌, List, [], ◌∷◌, ◌++◌, length, map, flat_map, take, drop, Option, Some, None, ◌⊎◌, inl, inr, refl, sym, ap, subst, ⊎_elim, ◌∙◌, arith, ◌==◌}
-use Rattle.std.specs.Prelude.{not, find, option_map, All, count_by, nat_lt, nat_le, unwrap_or}
-use Rattle.std.specs.List.{list_any, list_all, filter, enumerate_from}
+use Rattle.std.proofs.Common.{◌≡◌, ℕ, suc, zero, Bool, true, false, cond, ◌||◌, List, [], ◌∷◌, ◌++◌, length, map, flat_map, take, drop, Option, Some, None, refl, sym, ap, ◌∙◌, arith, ◌==◌}
+use Rattle.std.specs.Prelude.{not, find, option_map, count_by, nat_lt}
+use Rattle.std.specs.List.{list_any, filter, enumerate_from}
 use Rattle.std.proofs.lemmas.Bool.{or_parts, true≢false, eqb-true}
 use Rattle.tesla_base.specs.Version.{number_of}
 use Rattle.std.proofs.lemmas.List.Sums.{length-filter}
-use Rattle.std.proofs.lemmas.List.{append-nil}
-use Rattle.tesla_frame.specs.Frame.{Frame, Data, Disclosure, DataFrame, TagRow}
+use Rattle.tesla_frame.specs.Frame.{Frame, Data, DataFrame, TagRow}
 use Rattle.tesla_frame.specs.Reading.{frame_of}
 use Rattle.tesla_frame.specs.declared.row.KeyRow.{KeyRow}
 use Rattle.tesla_keys.specs.Tip.{Tip}
 use Rattle.tesla_receiver.specs.declared.config.Config.{Config}
-use Rattle.tesla_receiver.specs.declared.release.Release.{Release}
 use Rattle.tesla_receiver.specs.declared.report.Report.{Report}
 use Rattle.tesla_receiver.specs.declared.verdict.Verdict.{Verdict}
 use Rattle.tesla_receiver.specs.declared.verdict.Verdict.TheVariants.{Malformed, Foreign, Misfit, Future, BadKey, Late, Repeat, Full, Kept, Keys}
@@ -19,11 +17,10 @@ use Rattle.tesla_receiver.specs.Answer.{stream_of, version_in, is_misfit, is_fut
 use Rattle.tesla_receiver.specs.Keys.{keys_of}
 use Rattle.tesla_receiver.specs.Judged.{verdict_by}
 use Rattle.tesla_receiver.specs.Kept.{state_of}
-use Rattle.tesla_receiver.specs.State.{State, Holding}
+use Rattle.tesla_receiver.specs.State.{State}
 use Rattle.tesla_receiver.specs.Steps.{judged, judged_frame, entered_frame, refused, refused_of, after_arrival, bound_at, fails, is_named_so, in_interval, judged_packet, own, with_keys, batch_of, released_of, kept_after, tips_after}
 use Rattle.tesla_receiver.specs.Stored.{Placed, Stored, holding_at, is_named, is_of}
 use Rattle.tesla_receiver.proofs.Marked.{any_mapped, filter_mapped}
-use Rattle.tesla_receiver.proofs.Stored.{length-marked}
 
 length-holdings : (held : List Placed) → length (map holding_at held) ≡ length held
 length-holdings [] = refl

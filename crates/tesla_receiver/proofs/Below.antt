@@ -1,6 +1,6 @@
 -- Tests and functions that agree on the numbers below n, and elements that pass a test.
 use Rattle.std.proofs.Common.{◌≡◌, ℕ, zero, suc, ◌+◌, ◌<◌, ◌≤◌, Bool, true, false, cond, ◌&&◌, ◌||◌, List, [], ◌∷◌, length, get_or, map, take, Option, None, Some, refl, sym, ap, ⊎_elim, ◌∙◌, arith}
-use Rattle.std.specs.Prelude.{not, slice_get, find, filter, option_map}
+use Rattle.std.specs.Prelude.{not, slice_get, find, filter}
 use Rattle.std.specs.List.{list_any, list_all, enumerate_from, range_with_len}
 use Rattle.std.proofs.lemmas.Bool.{and_parts, and_from, cases_Bool, or_parts, or_cases, or_left, or_right, not_from_false}
 use Rattle.std.proofs.lemmas.List.FromFn.{get_or-map-range_with_len}

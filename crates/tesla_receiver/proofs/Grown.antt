@@ -1,19 +1,13 @@
 -- The lists of a book with one more arrival.
-use Rattle.std.proofs.Common.{◌≡◌, ℕ, ◌+◌, ◌<◌, ◌≤◌, cond, List, [], ◌∷◌, ◌++◌, length, get_or, take, count_by, Option, sym, ap, ◌∙◌}
-use Rattle.std.specs.Prelude.{option_to_list, filter, nat_lt}
-use Rattle.std.specs.List.{enumerate_from}
-use Rattle.std.proofs.lemmas.List.{append-nil, take_more, take_all}
-use Rattle.tesla_frame.specs.declared.row.KeyRow.{KeyRow}
+use Rattle.std.proofs.Common.{◌≡◌, cond, List, [], ◌∷◌, ◌++◌, sym, ap, ◌∙◌}
+use Rattle.std.specs.Prelude.{filter, nat_lt}
 use Rattle.tesla_receiver.specs.declared.config.Config.{Config}
 use Rattle.tesla_receiver.specs.declared.history.Arrival.{Arrival}
-use Rattle.tesla_receiver.specs.declared.release.Release.{Release}
-use Rattle.tesla_receiver.specs.Keys.{each_after, takes_keys, keys_in, keys_taken, newest, new_keys, fresh_keys}
+use Rattle.tesla_receiver.specs.Keys.{each_after, takes_keys, keys_in, keys_taken, newest, new_keys}
 use Rattle.tesla_receiver.specs.declared.verdict.Verdict.{Verdict}
 use Rattle.tesla_frame.specs.Reading.{frame_of}
-use Rattle.tesla_receiver.specs.Packets.{unless_named, proved_by, batch, candidates, released, packet_of}
-use Rattle.tesla_receiver.specs.Held.{has_place, held_of}
-use Rattle.tesla_receiver.proofs.EachAfter.{each_after-append, each_after_more}
-use Rattle.tesla_base.proofs.Lists.{count_by_numbered_more}
+use Rattle.tesla_receiver.specs.Packets.{proved_by, batch, candidates}
+use Rattle.tesla_receiver.proofs.EachAfter.{each_after_more}
 
 -- an arrival takes the same keys with another verdict with which it takes them
 pub same_taken : (cfg : Config) (a : Arrival) (verdict : Verdict) → takes_keys a.verdict ≡ takes_keys verdict → keys_taken cfg a ≡ keys_taken cfg (record { ingest = a.ingest; reading = a.reading; bytes = a.bytes; verdict = verdict })

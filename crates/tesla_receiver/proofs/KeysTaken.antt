@@ -1,9 +1,8 @@
 -- What is held once keys were taken: what is let go as a batch is released, and what is let go then, are together what the definition lets go.
-use Rattle.std.proofs.Common.{◌≡◌, ℕ, suc, zero, ◌+◌, ◌<◌, ◌≤◌, Bool, true, false, cond, ◌&&◌, ◌||◌, List, [], ◌∷◌, ◌++◌, length, map, flat_map, refl, sym, ap, subst, ⊎_elim, ◌∙◌, arith, ◌==◌}
+use Rattle.std.proofs.Common.{◌≡◌, ℕ, suc, zero, ◌+◌, ◌<◌, ◌≤◌, Bool, true, false, cond, ◌&&◌, ◌||◌, List, [], ◌∷◌, ◌++◌, map, flat_map, refl, sym, ap, subst, ⊎_elim, ◌∙◌, arith, ◌==◌}
 use Rattle.std.specs.Prelude.{not, nat_lt, nat_le, All, fold, find, get_or, Option, None, Some}
 use Rattle.std.specs.List.{list_any, list_all, filter, enumerate_from}
-use Rattle.std.proofs.Math.Bool.{and-false, or-false}
-use Rattle.std.proofs.lemmas.Bool.{false≢true, cases_Bool, and_parts, and_from, or_from, or_left, or_right, and_left, both_ways, ne_eqb, false_from_ne_true, not_from_false, ltb-true, eqb-true}
+use Rattle.std.proofs.lemmas.Bool.{false≢true, cases_Bool, and_parts, and_from, or_from, or_left, or_right, both_ways, false_from_ne_true, ltb-true, eqb-true}
 use Rattle.std.proofs.lemmas.Bool.Decides.{nat_tests}
 use Rattle.std.proofs.lemmas.List.Elements.{All-head, All-tail, All-weaker, filter-append}
 use Rattle.std.proofs.lemmas.List.Folds.{list_any-append, flat_map-map}
@@ -20,7 +19,7 @@ use Rattle.tesla_receiver.specs.Held.{is_at}
 use Rattle.tesla_receiver.specs.Keys.{is_of}
 use Rattle.tesla_receiver.specs.Tips.{raised}
 use Rattle.tesla_receiver.specs.State.{Holding}
-use Rattle.tesla_receiver.specs.Steps.{no_tip, tip_at, tips_after, is_over, is_passed, is_let_go, marked, kept_after, batch_of, proof_of, proves_on, released_on}
+use Rattle.tesla_receiver.specs.Steps.{no_tip, tip_at, tips_after, is_over, is_passed, marked, kept_after, batch_of, proof_of, proves_on, released_on}
 use Rattle.tesla_receiver.specs.Stored.{Placed, place_of, holding_at, order_of, after_batch, is_idle, in_span, AreNeeded}
 use Rattle.tesla_receiver.proofs.Releasing.{flat_same_in, eq_turn}
 

@@ -18,7 +18,7 @@ use Rattle.tesla_receiver.specs.declared.verdict.Verdict.{Verdict}
 use Rattle.tesla_receiver.specs.declared.verdict.Verdict.TheVariants.{Foreign, Misfit, Future, BadKey, Late, Repeat, Full, Kept}
 use Rattle.tesla_receiver.specs.Keys.{keys_of}
 use Rattle.tesla_receiver.specs.Packets.{packet_in, released, has_name}
-use Rattle.tesla_receiver.specs.Held.{held_of, HeldFits}
+use Rattle.tesla_receiver.specs.Held.{held_of}
 use Rattle.tesla_receiver.specs.Answer.{stream_of, is_misfit, is_future, is_bad, safe_chains, verdict_taken, verdict_on, verdict_of, late_arrival}
 use Rattle.tesla_receiver.specs.History.{Event, Arrives, Takes, Ends, event_of, entry_of, IsLegalAfter, IsLegal, arrival_in, arrivals_in, gives, given_in, held_in, held_of_interval}
 use Rattle.tesla_receiver.proofs.Events.{arrivals_more}

@@ -4,7 +4,7 @@ use Rattle.std.specs.Prelude.{not}
 use Rattle.std.specs.List.{list_any, list_all, filter}
 use Rattle.std.proofs.Math.Bool.{or-false}
 use Rattle.std.proofs.Math.ListN.{drop_of_length-le}
-use Rattle.std.proofs.lemmas.Bool.{false≢true, cases_Bool, and_parts, and_from, and_left, and_right, or_cases, or_left, or_right, or_from, both_ways, eqb-true, ne_eqb, eq-eqb, not-true, not-false, not_from_true, not_from_false, false_from_ne_true}
+use Rattle.std.proofs.lemmas.Bool.{false≢true, cases_Bool, and_parts, and_from, and_left, or_cases, or_left, or_right, both_ways, eqb-true, ne_eqb, eq-eqb, not-true, not-false, not_from_false, false_from_ne_true}
 use Rattle.std.proofs.lemmas.List.{append-nil}
 use Rattle.std.proofs.lemmas.List.Folds.{list_any-append, flat_map-map}
 use Rattle.std.specs.Prelude.{if◌then◌else◌}
@@ -16,11 +16,10 @@ use Rattle.tesla_receiver.specs.declared.release.Release.{Release}
 use Rattle.tesla_receiver.specs.Held.{is_at}
 use Rattle.tesla_receiver.specs.Keys.{each_after}
 use Rattle.tesla_receiver.specs.Packets.{has_name, unless_named}
-use Rattle.tesla_receiver.specs.State.{Holding}
 use Rattle.tesla_receiver.specs.Steps.{as_release, is_released, released_of, is_named_so, marked}
-use Rattle.tesla_receiver.specs.Stored.{Placed, Stored, place_of, holding_at, stands_at, rests_at, is_proved_by, with_released, without, release_of, is_named, after_batch, AreProved, place_proved, order_of, settled_if, released_if, held_then}
+use Rattle.tesla_receiver.specs.Stored.{Placed, Stored, place_of, holding_at, stands_at, is_proved_by, with_released, without, release_of, is_named, after_batch, AreProved, place_proved, order_of, settled_if, released_if, held_then}
 use Rattle.tesla_receiver.proofs.Gone.{same_name}
-use Rattle.tesla_receiver.proofs.Marked.{any_mapped, any_filtered, map_mapped, filter_mapped}
+use Rattle.tesla_receiver.proofs.Marked.{any_mapped, any_filtered, map_mapped}
 use Rattle.tesla_receiver.proofs.Stored.{released_place, distinct_kept, proved_rests, rests_stands}
 
 -- ---- one after the other

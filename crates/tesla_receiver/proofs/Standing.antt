@@ -1,22 +1,15 @@
 -- A receiver stands for one entry more.
-use Rattle.std.proofs.Common.{◌≡◌, ℕ, zero, suc, ◌+◌, true, false, cond, ◌||◌, List, [], ◌∷◌, ◌++◌, length-append, map, set, replicate, refl, sym, ap, subst, ◌∙◌, arith, append_assoc, ◌==◌, add-zero}
-use Rattle.tesla_receiver.specs.declared.taking.Take.{Take}
-use Rattle.tesla_receiver.specs.declared.taking.Take.TheVariants as takes
-use Rattle.tesla_receiver.specs.Replies.{reply_shown, is_given}
-use Rattle.std.specs.Prelude.{slice_get}
-use Rattle.std.specs.List.{list_all, range_with_len}
+use Rattle.std.proofs.Common.{◌≡◌, ℕ, zero, suc, ◌+◌, true, false, cond, ◌||◌, List, [], ◌∷◌, ◌++◌, map, set, replicate, refl, sym, ap, ◌∙◌, arith, append_assoc, ◌==◌, add-zero}
+use Rattle.std.specs.List.{range_with_len}
 use Rattle.std.proofs.Math.Bool.{or-false}
 use Rattle.std.proofs.lemmas.List.{append-nil}
-use Rattle.std.proofs.lemmas.List.Concat.{flat_map-append}
-use Rattle.std.proofs.lemmas.List.Folds.{list_any-append, list_all-map}
+use Rattle.std.proofs.lemmas.List.Folds.{list_any-append}
 use Rattle.std.proofs.lemmas.List.Sums.{sum_by_push}
 use Rattle.tesla_base.proofs.Lists.{map_same, map_number_set}
 use Rattle.tesla_receiver.specs.declared.config.Config.{Config}
 use Rattle.tesla_receiver.specs.declared.history.Entry.{Entry}
-use Rattle.tesla_receiver.specs.declared.history.Entry.TheVariants.{Taken, Ended}
-use Rattle.tesla_receiver.specs.Packets.{released}
-use Rattle.tesla_receiver.specs.Answer.{verdict_of}
-use Rattle.tesla_receiver.specs.History.{Event, Arrives, Takes, Ends, event_of, entry_of, IsLegalAfter, IsLegal, arrival_in, arrivals_in, gives, given_in, ends, has_end, reply_to, reply_with}
+use Rattle.tesla_receiver.specs.declared.history.Entry.TheVariants.{Ended}
+use Rattle.tesla_receiver.specs.History.{Event, Arrives, Takes, Ends, event_of, entry_of, IsLegalAfter, IsLegal, gives, given_in, ends, has_end}
 
 legal_after_more : (cfg : Config) (before h : List Entry) (e : Entry) → IsLegalAfter cfg before h → e ≡ entry_of cfg (before ++ h) (event_of e) → IsLegalAfter cfg before (h ++ e ∷ [])
 legal_after_more cfg before [] e l answered = (answered ∙ ap (λ b. entry_of cfg b (event_of e)) (append-nil before), tt)

@@ -1,9 +1,9 @@
 -- What a receiver keeps has rising numbers and is needed, also after an arrival.
-use Rattle.std.proofs.Common.{◌≡◌, ℕ, ◌+◌, ◌-◌, ◌^◌, ◌<◌, ◌≤◌, suc, zero, Bool, true, false, cond, ◌&&◌, ◌||◌, List, [], ◌∷◌, ◌++◌, length, map, flat_map, Option, Some, None, ◌⊎◌, inl, inr, refl, sym, ap, subst, ⊎_elim, ◌∙◌, arith, ◌==◌}
-use Rattle.std.specs.Prelude.{not, All, nat_lt, nat_le, count_by}
-use Rattle.std.specs.List.{list_any, list_all, filter, range_with_len}
-use Rattle.std.proofs.lemmas.Bool.{false≢true, true≢false, cases_Bool, and_parts, and_from, or_from, ltb-true, lt-leb}
-use Rattle.std.proofs.lemmas.List.Elements.{All-head, All-tail, All-nil, All-cons, All-push, All-weaker}
+use Rattle.std.proofs.Common.{◌≡◌, ℕ, ◌+◌, ◌^◌, ◌<◌, ◌≤◌, suc, zero, Bool, true, false, cond, ◌&&◌, ◌||◌, List, [], ◌∷◌, ◌++◌, length, map, flat_map, Option, Some, None, ◌⊎◌, inl, inr, refl, sym, ap, subst, ⊎_elim, ◌∙◌, arith, ◌==◌}
+use Rattle.std.specs.Prelude.{not, All, nat_lt, count_by}
+use Rattle.std.specs.List.{list_any, list_all}
+use Rattle.std.proofs.lemmas.Bool.{true≢false, cases_Bool, and_parts, and_from, or_from, ltb-true, lt-leb}
+use Rattle.std.proofs.lemmas.List.Elements.{All-head, All-tail, All-nil, All-push, All-weaker}
 use Rattle.tesla_base.proofs.Lists.{list_all_both, not_all_numbers}
 use Rattle.tesla_clock.proofs.Sets.{set_has}
 use Rattle.tesla_clock.specs.Safe.{has_chain, chain_set}
@@ -12,16 +12,14 @@ use Rattle.tesla_frame.specs.Frame.{Frame, Data, Disclosure, DataFrame}
 use Rattle.tesla_keys.specs.Tip.{Tip}
 use Rattle.tesla_receiver.specs.declared.config.Config.{Config}
 use Rattle.tesla_receiver.specs.declared.release.Release.{Release}
-use Rattle.tesla_receiver.specs.declared.report.Report.{Report}
 use Rattle.tesla_receiver.specs.declared.verdict.Verdict.{Verdict}
 use Rattle.tesla_receiver.specs.declared.verdict.Verdict.TheVariants.{Malformed, Foreign, Misfit, Future, BadKey, Late, Repeat, Full, Kept, Keys}
 use Rattle.tesla_receiver.specs.Config.{chains, chain_row}
 use Rattle.tesla_receiver.specs.Gathering.{RiseBy, order_of}
 use Rattle.tesla_receiver.specs.Held.{is_at}
-use Rattle.tesla_receiver.specs.Kept.{CountsWithin, IsBefore}
-use Rattle.tesla_receiver.specs.Report.{line_of}
+use Rattle.tesla_receiver.specs.Kept.{IsBefore}
 use Rattle.tesla_receiver.specs.State.{State, Holding, tag_in}
-use Rattle.tesla_receiver.specs.Steps.{is_named_so, in_interval, tip_at, is_over, is_passed, is_let_go, marked, kept_after, own, one_if, counted, safe_by, judged_packet}
+use Rattle.tesla_receiver.specs.Steps.{is_named_so, in_interval, tip_at, is_over, is_passed, is_let_go, marked, kept_after, own, one_if, safe_by, judged_packet}
 use Rattle.tesla_receiver.specs.Stored.{Placed, holding_at, is_idle, AreNeeded}
 use Rattle.tesla_receiver.proofs.Gathering.{GivesOwn, gives_rising}
 use Rattle.tesla_receiver.proofs.Marked.{all_mapped}

@@ -2,8 +2,8 @@
 use Rattle.std.proofs.Common.{◌≡◌, ℕ, ◌+◌, ◌<◌, ◌≤◌, Bool, true, false, cond, ◌&&◌, ◌||◌, List, [], ◌∷◌, ◌++◌, length, map, take, Option, Some, None, refl, sym, ap, subst, ⊎_elim, ◌∙◌, arith, ◌==◌}
 use Rattle.std.specs.Prelude.{not, find, option_map}
 use Rattle.std.specs.List.{list_any, list_all, filter}
-use Rattle.std.proofs.lemmas.Bool.{cases_Bool, and_parts, and_from, and_left, or_cases, or_left, or_right, or_from, both_ways, eqb-true, ne_eqb, eq-eqb, not-true, not_from_true, not_from_false, false_from_ne_true, not-false}
-use Rattle.std.proofs.lemmas.List.Folds.{list_any-append, list_all-append}
+use Rattle.std.proofs.lemmas.Bool.{cases_Bool, and_parts, and_from, and_left, or_cases, or_left, or_right, or_from, both_ways, eqb-true, ne_eqb, eq-eqb, not-true, false_from_ne_true, not-false}
+use Rattle.std.proofs.lemmas.List.Folds.{list_any-append}
 use Rattle.std.specs.Prelude.{All}
 use Rattle.std.proofs.lemmas.List.Elements.{All-filter, All-map, All-weaker, All-head, All-tail, All-push}
 use Rattle.tesla_base.proofs.Lists.{list_all_weaker, list_all_both}
@@ -19,7 +19,7 @@ use Rattle.tesla_receiver.specs.declared.keeping.ordering.Proved.{Proved}
 use Rattle.tesla_receiver.specs.declared.release.Release.{Release}
 use Rattle.tesla_receiver.specs.ItemShown.{holding_in, IsItem, IsFilled}
 use Rattle.tesla_receiver.specs.State.{Holding}
-use Rattle.tesla_receiver.specs.Stored.{Placed, placed_in, place_of, stands_at, release_by, release_in, waits, waits_at, rests_at, is_sound, is_proved_by, with_released, with_taken, without, place_in, IsStored, IsStore, IsItemOf, is_of, first_place, next_place}
+use Rattle.tesla_receiver.specs.Stored.{Placed, placed_in, place_of, stands_at, release_by, release_in, waits, waits_at, rests_at, is_sound, is_proved_by, with_released, without, place_in, IsStored, IsStore, IsItemOf, is_of, first_place, next_place}
 use Rattle.tesla_receiver.proofs.Marked.{any_mapped, all_mapped, map_mapped, filter_mapped, find_mapped, any_filtered, find_filtered, all_filtered, any_with_all, any_weaker}
 
 -- ---- places that differ

@@ -1,9 +1,9 @@
 -- A walk along the packets of an interval, some of which are let go on the way.
-use Rattle.std.proofs.Common.{◌≡◌, ℕ, ◌+◌, ◌<◌, ◌≤◌, suc, zero, Bool, true, false, cond, ◌&&◌, ◌||◌, List, [], ◌∷◌, ◌++◌, length, map, drop, Option, Some, None, refl, sym, ap, subst, ⊎_elim, ◌∙◌, arith, ◌==◌}
+use Rattle.std.proofs.Common.{◌≡◌, ℕ, ◌+◌, ◌≤◌, suc, zero, Bool, true, false, cond, ◌&&◌, ◌||◌, List, [], ◌∷◌, length, map, drop, Option, Some, None, refl, sym, ap, subst, ⊎_elim, ◌∙◌, arith, ◌==◌}
 use Rattle.std.specs.Prelude.{not, find, nat_lt, nat_le, max}
 use Rattle.std.specs.List.{list_any, list_all, filter}
 use Rattle.std.proofs.Math.ListN.{drop_of_length-le}
-use Rattle.std.proofs.lemmas.Bool.{cases_Bool, and_parts, and_from, or_cases, or_left, or_right, both_ways, eqb-true, eq-eqb, ne_eqb, false_from_ne_true, not-false}
+use Rattle.std.proofs.lemmas.Bool.{cases_Bool, and_from, or_left, or_right, both_ways, eqb-true, eq-eqb, false_from_ne_true}
 use Rattle.std.proofs.Math.Bool.{and-false}
 use Rattle.std.proofs.lemmas.Bool.Decides.{nat_tests}
 use Rattle.tesla_base.specs.declared.names.Place.{Place}
@@ -12,7 +12,7 @@ use Rattle.tesla_links.specs.Lists.{is_in, Distinct}
 use Rattle.tesla_receiver.specs.declared.config.Config.{Config}
 use Rattle.tesla_receiver.specs.Config.{chains}
 use Rattle.tesla_receiver.specs.Steps.{is_over, is_passed}
-use Rattle.tesla_receiver.specs.Stored.{Placed, Stored, place_of, stands_at, rests_at, waits, without, is_of, first_place, next_place, is_idle, in_span}
+use Rattle.tesla_receiver.specs.Stored.{Placed, Stored, place_of, stands_at, waits, without, is_of, first_place, next_place, is_idle, in_span}
 
 -- what is held after the first so many packets of an interval were looked at, and let go where they pass a test
 pub swept : ℕ → (Placed → Bool) → ℕ → List Placed → List Placed

@@ -1,22 +1,21 @@
 -- The packet that waits first is taken.
-use Rattle.std.proofs.Common.{◌≡◌, ℕ, ◌+◌, ◌<◌, ◌≤◌, Bool, true, false, cond, ◌&&◌, ◌||◌, List, [], ◌∷◌, ◌++◌, length, map, flat_map, drop, Option, Some, None, refl, sym, ap, subst, ⊎_elim, ◌∙◌, arith, ◌==◌}
-use Rattle.std.specs.Prelude.{not, find, slice_get, option_map, All}
-use Rattle.std.specs.List.{list_any, list_all, filter}
-use Rattle.std.proofs.lemmas.Bool.{cases_Bool, and_parts, and_from, or_cases, or_left, or_right, both_ways, eqb-true, eq-eqb, ne_eqb, false_from_ne_true}
+use Rattle.std.proofs.Common.{◌≡◌, ℕ, Bool, true, false, cond, ◌&&◌, ◌||◌, List, [], ◌∷◌, ◌++◌, map, flat_map, drop, Some, refl, sym, ap, subst, ⊎_elim, ◌∙◌, arith, ◌==◌}
+use Rattle.std.specs.Prelude.{not, find, slice_get}
+use Rattle.std.specs.List.{list_any, list_all}
+use Rattle.std.proofs.lemmas.Bool.{cases_Bool, and_parts, and_from, or_left, or_right, both_ways, eqb-true, eq-eqb, ne_eqb, false_from_ne_true}
 use Rattle.std.proofs.lemmas.List.Elements.{All-filter, All-map, All-weaker}
-use Rattle.tesla_base.proofs.Lists.{list_all_weaker}
 use Rattle.tesla_buffer.specs.Held.{Held, changed, settled}
 use Rattle.tesla_buffer.specs.Held as buffer
 use Rattle.tesla_buffer.specs.declared.item.Fate.{Fate}
 use Rattle.tesla_buffer.specs.declared.item.Fate.TheVariants.{Gone, Taken}
 use Rattle.tesla_links.specs.Lists.{is_in, Distinct}
 use Rattle.tesla_release.specs.declared.queue.Waiting.{Waiting}
-use Rattle.tesla_receiver.specs.Stored.{Placed, Stored, placed_in, place_of, place_in, order_of, stands_at, release_by, release_in, waits, waits_at, is_sound, with_taken, without, IsStored, IsStore, IsItemOf}
-use Rattle.tesla_receiver.proofs.Marked.{any_weaker, any_mapped, all_mapped, map_mapped}
+use Rattle.tesla_receiver.specs.Stored.{Placed, placed_in, place_of, place_in, order_of, stands_at, release_by, release_in, waits, waits_at, is_sound, with_taken, without, IsStored, IsStore, IsItemOf}
+use Rattle.tesla_receiver.proofs.Marked.{any_weaker, any_mapped, map_mapped}
 use Rattle.tesla_receiver.proofs.Releasing.{only_at}
 use Rattle.tesla_receiver.proofs.Stored.{any_shown, distinct_kept, shorter, without_shown, live_kept, length-marked, releases_kept, releases_marked}
 use Rattle.tesla_receiver.proofs.Marked.{all_filtered}
-use Rattle.tesla_receiver.proofs.Sweeping.{none_without, head_other, found_any}
+use Rattle.tesla_receiver.proofs.Sweeping.{none_without, head_other}
 
 pub first_waiting : (ws : List Waiting) (w : Waiting) → Some w ≡ slice_get ws 0 → ws ≡ w ∷ drop 1 ws
 first_waiting [] w h = absurd (cc)

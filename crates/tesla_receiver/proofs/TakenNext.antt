@@ -1,19 +1,16 @@
 -- A take, by the state of a receiver.
-use Rattle.std.proofs.Common.{◌≡◌, ℕ, ◌+◌, ◌-◌, ◌^◌, ◌<◌, ◌≤◌, Bool, true, false, cond, ◌&&◌, ◌||◌, List, [], ◌∷◌, ◌++◌, length, map, flat_map, take, drop, Option, Some, None, ◌⊎◌, inl, inr, refl, sym, ap, subst, ⊎_elim, ◌∙◌, arith, ◌==◌}
+use Rattle.std.proofs.Common.{◌≡◌, ℕ, ◌+◌, ◌-◌, ◌^◌, ◌<◌, ◌≤◌, Bool, true, false, cond, ◌&&◌, ◌||◌, List, [], ◌∷◌, ◌++◌, map, flat_map, take, Some, ◌⊎◌, inl, inr, refl, sym, ap, subst, ◌∙◌, arith, ◌==◌}
 use Rattle.std.specs.Prelude.{not, find, option_map, min, All}
-use Rattle.std.specs.List.{list_any, list_all, filter}
-use Rattle.std.proofs.Math.Bool.{and-false, or-false}
-use Rattle.std.proofs.lemmas.Bool.{cases_Bool, and_parts, and_from, not-true}
+use Rattle.std.specs.List.{list_all}
+use Rattle.std.proofs.lemmas.Bool.{and_parts, and_from}
 use Rattle.std.proofs.lemmas.List.Elements.{All-head, All-tail, All-nil, All-cons}
 use Rattle.std.proofs.lemmas.List.Folds.{flat_map-map}
 use Rattle.tesla_keys.specs.Tip.{Tip}
 use Rattle.tesla_capture.specs.declared.release.Head.{Head}
 use Rattle.tesla_receiver.specs.declared.config.Config.{Config}
-use Rattle.tesla_receiver.specs.declared.history.Reply.{Reply}
 use Rattle.tesla_receiver.specs.declared.history.Reply.TheVariants.{Given}
 use Rattle.tesla_receiver.specs.declared.release.Release.{Release}
 use Rattle.tesla_receiver.specs.declared.report.Report.{Report}
-use Rattle.tesla_receiver.specs.declared.taking.Take.{Take}
 use Rattle.tesla_receiver.specs.declared.taking.Take.TheVariants as takes
 use Rattle.tesla_receiver.specs.Config.{chains}
 use Rattle.tesla_receiver.specs.Gathering.{RiseBy}

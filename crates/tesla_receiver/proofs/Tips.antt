@@ -28,7 +28,7 @@ use Rattle.tesla_receiver.proofs.EachAfter.{each_after_more}
 use Rattle.tesla_receiver.proofs.Events.{arrivals_more}
 use Rattle.tesla_receiver.proofs.Newest.{newest_fresh}
 use Rattle.tesla_receiver.proofs.Offers.{tip_at, IsTip, filtered_pass, only_of, raised_own, raised_to, leads_by_tip, tip_none, tip_stays, tip_grows}
-use Rattle.tesla_receiver.proofs.OneKey.{taken_few, filters_swap, new_few}
+use Rattle.tesla_receiver.proofs.OneKey.{new_few}
 
 -- ---- the index of the newest key
 

@@ -1,5 +1,5 @@
 -- Histories: what happened to a receiver, with its answers.
-use Rattle.std.specs.Prelude.{◌≡◌, ℕ, Bool, true, false, List, [], ◌∷◌, ◌++◌, length, Option, Some, None, slice_get, ◌==◌, count_by, flat_map, map}
+use Rattle.std.specs.Prelude.{◌≡◌, ℕ, Bool, true, false, List, [], ◌∷◌, ◌++◌, length, Option, Some, None, slice_get, ◌==◌, count_by, flat_map}
 use Rattle.std.specs.List.{list_any, list_all, range_with_len}
 use Rattle.tesla_capture.specs.declared.release.Head.{Head}
 use Rattle.tesla_frame.specs.Frame.{Frame, Data, Disclosure}

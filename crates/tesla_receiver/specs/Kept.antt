@@ -1,12 +1,10 @@
 -- What a receiver that keeps no arrivals holds, and how it is seen.
-use Rattle.std.specs.Prelude.{◌≡◌, ℕ, ◌<◌, ◌≤◌, Bool, false, List, [], All, length, map, replicate}
+use Rattle.std.specs.Prelude.{◌≡◌, ℕ, ◌<◌, ◌≤◌, Bool, List, All, length, map}
 use Rattle.tesla_keys.specs.Tip.{Tip}
 use Rattle.tesla_receiver.specs.declared.config.Config.{Config}
 use Rattle.tesla_receiver.specs.declared.report.Report.{Report}
-use Rattle.tesla_receiver.specs.Config.{chains}
 use Rattle.tesla_receiver.specs.Gathering.{RiseBy, order_of}
 use Rattle.tesla_receiver.specs.State.{State, Holding}
-use Rattle.tesla_receiver.specs.Tips.{first_tip}
 use Rattle.tesla_receiver.specs.Stored.{Stored, holding_at, AreNeeded}
 
 -- the parts of a receiver as one state

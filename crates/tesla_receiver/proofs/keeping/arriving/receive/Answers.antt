@@ -1,7 +1,6 @@
-use Rattle.std.proofs.Common.{◌≡◌, ℕ, ◌+◌, ◌++◌, refl, ap, sym, ◌∙◌, subst, map, length, List, [], take, drop, Some, None, ◌≤◌, ◌*◌}
-use Rattle.std.specs.Prelude.{option_map, unwrap_or, Option, Bool, is_some}
-use Rattle.tesla_frame.specs.Frame.{Frame, Data, DataFrame}
-use Rattle.tesla_frame.specs.Reading.{frame_of}
+use Rattle.std.proofs.Common.{◌≡◌, ℕ, ◌+◌, ◌++◌, refl, ap, sym, ◌∙◌, subst, map, length, List, [], Some, None, ◌≤◌, ◌*◌}
+use Rattle.std.specs.Prelude.{option_map, unwrap_or, Option, is_some}
+use Rattle.tesla_frame.specs.Frame.{Frame}
 use Rattle.tesla_frame.specs.Shown.{shown}
 use Rattle.tesla_keys.specs.Tip.{Tip}
 use Rattle.tesla_receiver.specs.declared.report.Report.{Report}

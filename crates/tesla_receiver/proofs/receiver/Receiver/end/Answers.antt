@@ -1,4 +1,4 @@
-use Rattle.std.proofs.Common.{◌≡◌, List, [], ◌∷◌, ◌++◌, sym, ap, ◌∙◌, subst}
+use Rattle.std.proofs.Common.{[], ◌∷◌, ◌++◌, sym, ap, ◌∙◌, subst}
 use Rattle.tesla_receiver.specs.History.{Ends, entry_of}
 use Rattle.tesla_receiver.specs.State.{State, Stands}
 use Rattle.tesla_receiver.specs.Steps.{after_end}

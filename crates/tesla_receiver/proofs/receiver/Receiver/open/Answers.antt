@@ -1,4 +1,4 @@
-use Rattle.std.proofs.Common.{◌≡◌, [], sym, subst}
+use Rattle.std.proofs.Common.{[], sym, subst}
 use Rattle.tesla_receiver.specs.State.{State, Stands}
 use Rattle.tesla_receiver.proofs.Ends.{stands_opened}
 use Rattle.tesla_receiver.proofs.receiver.Receiver.open.Goals as goal

@@ -1,4 +1,4 @@
-use Rattle.std.proofs.Common.{◌≡◌, ap, ◌∙◌}
+use Rattle.std.proofs.Common.{ap, ◌∙◌}
 use Rattle.tesla_receiver.specs.State.{State}
 use Rattle.tesla_receiver.proofs.receiver.Receiver.report.Goals as goal
 
