@@ -228,7 +228,7 @@ pub const EXAMPLES: [(&str, Opening, Rows); 38] = [
     ),
 ];
 
-/// The examples of floods and of keys past what the receiver can take, by their names.
+/// The examples of floods, and of far keys that are refused without a walk, by their names.
 pub const FLOODS: [(&str, Opening, Rows); 5] = [
     (
         "far_bad_key_too_early",
