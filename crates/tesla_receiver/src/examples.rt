@@ -1,8 +1,10 @@
 //! The worked examples of two chains, with the answers that another program made.
 
+mod floods;
 mod version_two;
 
 use crate::{Report, Verdict};
+pub use floods::{FAR_BAD_KEY, MOST_INTERVALS};
 use tesla_base::{ChainNo, StreamId};
 use tesla_examples::version_two::{SETUP_WITH_TAGS_OF_10_BYTES, SETUP_WITH_TAGS_OF_32_BYTES};
 use tesla_examples::*;
@@ -21,6 +23,9 @@ pub struct Opening {
 pub enum Step {
     /// At this reading the frame of these digits comes.
     Comes(u64, &'static str, Verdict),
+    /// At this reading this many frames come, which have these digits but for their numbers, from 0. Each is kept,
+    /// both chains safe.
+    Floods(u64, &'static str, u16),
     /// A take gives the packet of this interval and number, told this chain.
     Gives(u64, u32, u16, u8, &'static str),
     /// A take gives nothing yet.
@@ -57,7 +62,7 @@ const LONG_TAGS: Opening = Opening {
 };
 
 /// The packet is kept, and both chains are safe.
-const BOTH: Verdict = Verdict::Kept { chains: 3 };
+pub const BOTH: Verdict = Verdict::Kept { chains: 3 };
 
 /// The packet is kept, and only chain 1 is safe.
 const SLOW: Verdict = Verdict::Kept { chains: 2 };
@@ -79,7 +84,7 @@ const NONE: Report = Report {
 };
 
 /// Each example by its name.
-pub const EXAMPLES: [(&str, Opening, Rows); 37] = [
+pub const EXAMPLES: [(&str, Opening, Rows); 38] = [
     ("last_safe_microsecond", USUAL, LAST_SAFE_MICROSECOND),
     ("first_unsafe_microsecond", USUAL, FIRST_UNSAFE_MICROSECOND),
     ("before_the_start", USUAL, BEFORE_THE_START),
@@ -118,6 +123,7 @@ pub const EXAMPLES: [(&str, Opening, Rows); 37] = [
         },
         PROVED_COPY_IS_GONE,
     ),
+    ("repeat_after_release", USUAL, REPEAT_AFTER_RELEASE),
     ("repeat_after_another_key", USUAL, REPEAT_AFTER_ANOTHER_KEY),
     ("late_after_all_chains", USUAL, LATE_AFTER_ALL_CHAINS),
     (
@@ -219,6 +225,35 @@ pub const EXAMPLES: [(&str, Opening, Rows); 37] = [
         "long_tag_is_compared_whole",
         LONG_TAGS,
         version_two::LONG_TAG_IS_COMPARED_WHOLE,
+    ),
+];
+
+/// The examples of floods, and of far keys that are refused without a walk, by their names.
+pub const FLOODS: [(&str, Opening, Rows); 5] = [
+    (
+        "far_bad_key_too_early",
+        floods::MOST_INTERVALS,
+        floods::FAR_BAD_KEY_TOO_EARLY,
+    ),
+    (
+        "past_the_last",
+        floods::MOST_INTERVALS,
+        floods::PAST_THE_LAST,
+    ),
+    (
+        "flood_of_forgeries",
+        floods::MANY_PLACES,
+        floods::FLOOD_OF_FORGERIES,
+    ),
+    (
+        "fast_key_after_the_flood",
+        floods::MANY_PLACES,
+        floods::FAST_KEY_AFTER_THE_FLOOD,
+    ),
+    (
+        "slow_key_after_the_flood",
+        floods::MANY_PLACES,
+        floods::SLOW_KEY_AFTER_THE_FLOOD,
     ),
 ];
 
@@ -424,6 +459,15 @@ const PROVED_COPY_IS_GONE: Rows = &[
     (Step::Ends(0), 2),
     (Step::Gives(0, 2, 0, 0, "a"), 2),
     (Step::Over, 2),
+];
+
+const REPEAT_AFTER_RELEASE: Rows = &[
+    (Step::Comes(1_250_000, BARE_2_0_A, BOTH), 1),
+    (Step::Comes(1_450_000, KEYS_0_2, Verdict::Keys), 1),
+    (Step::Comes(1_460_000, BARE_2_0_A, Verdict::Repeat), 1),
+    (Step::Ends(0), 1),
+    (Step::Gives(0, 2, 0, 0, "a"), 1),
+    (Step::Over, 1),
 ];
 
 const REPEAT_AFTER_ANOTHER_KEY: Rows = &[
