@@ -3,7 +3,7 @@ use Rattle.std.proofs.Common.{◌≡◌, ℕ, zero, suc, ◌+◌, ◌-◌, ◌<�
 use Rattle.std.specs.Prelude.{◌==◌, ◌^◌, fold, nat_le, nat_lt, find, slice_get}
 use Rattle.std.specs.List.{All, list_any, sum_by}
 use Rattle.std.specs.List.Sorted.{IsPermutation}
-use Rattle.std.proofs.lemmas.Bool.{cases_Bool, eqb-true}
+use Rattle.std.proofs.lemmas.Bool.{cases_Bool, eqb-true, or_parts}
 use Rattle.std.proofs.lemmas.Bool.Decides.{nat_tests}
 use Rattle.std.proofs.lemmas.List.{append-nil, get_or-map, length-map, take_all, take_more}
 use Rattle.std.proofs.lemmas.List.Concat.{flat_map-append}
@@ -19,8 +19,9 @@ use Rattle.tesla_receiver.specs.Keys.{is_of}
 use Rattle.tesla_receiver.specs.State.{Holding}
 use Rattle.tesla_receiver.specs.Steps.{batch_of, in_interval, is_proof_of, matches, proof_of, proves_on, released_on, tip_at}
 use Rattle.tesla_clock.specs.Safe.{has_chain}
+use Rattle.tesla_receiver.proofs.Reaching.{outside_unreached}
 use Rattle.tesla_receiver.proofs.Tried.{skips_proof}
-use Rattle.tesla_receiver.specs.Gathering.{RiseBy, Spans, down_to, gathered, higher, highest, in_turn, lower, lowest, order_of, place_of}
+use Rattle.tesla_receiver.specs.Gathering.{RiseBy, Spans, down_to, gathered, higher, highest, in_turn, index_in, is_first, is_reached, lower, lowest, order_of, place_of}
 use Rattle.tesla_receiver.specs.Walking.{Walking, row_of, rows_of}
 
 -- ---- two parts
@@ -183,29 +184,25 @@ no_chain : (p : ℕ → Bool) → ((c : ℕ) → p c ≡ false) → (xs : List �
 no_chain p none [] = refl
 no_chain p none (x ∷ xs) = ap (λ b. cond b (Some x) (find p xs)) (none x) ∙ no_chain p none xs
 
-far_below : (low high tip interval index : ℕ) → low ≤ tip → index ≤ high → (nat_lt low interval && nat_le interval high) ≡ false → nat_lt tip interval ≡ true → nat_le interval index ≡ false
-far_below low high tip interval index above below outside newer = grind (arith, nat_tests)
-
-module _ (cfg : Config) (tips : List Tip) (item : Holding) (chain low high : ℕ) (outside : is_between low high item ≡ false) (newer : nat_lt (tip_at tips chain).index item.name.interval ≡ true) where
+module _ (cfg : Config) (tips : List Tip) (item : Holding) (chain : ℕ) (newer : nat_lt (tip_at tips chain).index item.name.interval ≡ true) where
   -- a key proves nothing of an interval that its chain has reached before, or that it doesn't reach
-  row_proves_not : (row : KeyRow) → low ≤ (tip_at tips row.chain.0).index → row.index ≤ high → is_proof_of cfg item chain row ≡ false
-  row_proves_not row above below =
+  row_proves_not : (row : KeyRow) → is_first (index_in tips) item.name.interval row ≡ false → is_proof_of cfg item chain row ≡ false
+  row_proves_not row unreached =
       elim (cases_Bool (is_of chain row)) [
         | inl own ↦
             let same : row.chain.0 ≡ chain = eqb-true row.chain.0 chain own in
-            let low_tip : low ≤ (tip_at tips chain).index = subst (λ n. low ≤ (tip_at tips n).index) same above in
-            let far : nat_le item.name.interval row.index ≡ false = far_below low high (tip_at tips chain).index item.name.interval row.index low_tip below outside newer in
+            let far : nat_le item.name.interval row.index ≡ false =
+            ap (λ b. b && nat_le item.name.interval row.index) (sym (ap (λ (n : ℕ). nat_lt (tip_at tips n).index item.name.interval) same ∙ newer)) ∙ unreached in
             let tag = matches cfg item chain row (slice_get item.tags chain) in
             ap (λ b. b && nat_le item.name.interval row.index && tag) own ∙ ap (λ b. b && tag) far
         | inr other ↦ skips_proof cfg item chain row other
       ]
 
-  rows_prove_not : (rows : List KeyRow) → All (λ row. low ≤ (tip_at tips row.chain.0).index) rows → All (λ row. row.index ≤ high) rows → list_any (is_proof_of cfg item chain) rows ≡ false
-  rows_prove_not [] above below = refl
-  rows_prove_not (row ∷ rows) above below =
-      let here = row_proves_not row (All-head (λ r. low ≤ (tip_at tips r.chain.0).index) row rows above) (All-head (λ r. r.index ≤ high) row rows below) in
-      ap (λ b. b || list_any (is_proof_of cfg item chain) rows) here
-      ∙ rows_prove_not rows (All-tail (λ r. low ≤ (tip_at tips r.chain.0).index) row rows above) (All-tail (λ r. r.index ≤ high) row rows below)
+  rows_prove_not : (rows : List KeyRow) → is_reached (index_in tips) rows item.name.interval ≡ false → list_any (is_proof_of cfg item chain) rows ≡ false
+  rows_prove_not [] unreached = refl
+  rows_prove_not (row ∷ rows) unreached =
+      let parts = or_parts (is_first (index_in tips) item.name.interval row) (is_reached (index_in tips) rows item.name.interval) unreached in
+      ap (λ b. b || list_any (is_proof_of cfg item chain) rows) (row_proves_not row parts.0) ∙ rows_prove_not rows parts.1
 
 proved_not : (safe newer any : Bool) → (newer ≡ true → any ≡ false) → (safe && newer && any) ≡ false
 proved_not true true any h = h refl
@@ -216,14 +213,31 @@ nothing_told : (b : Bool) (item : Holding) (told : Option ℕ) → told ≡ None
 nothing_told true item told e = refl
 nothing_told false item told e = ap (released_on item) e
 
--- new keys prove nothing of an interval outside of those that they span
-pub proves_nothing : (cfg : Config) (tips : List Tip) (new : List KeyRow) (low high : ℕ) → Spans tips new low high → (item : Holding) → is_between low high item ≡ false → proof_of cfg tips new item ≡ []
-proves_nothing cfg tips new low high spans item outside =
+-- new keys prove nothing of an interval that they aren't the first to reach
+unreached_unproved : (cfg : Config) (tips : List Tip) (new : List KeyRow) (item : Holding) → is_reached (index_in tips) new item.name.interval ≡ false → proof_of cfg tips new item ≡ []
+unreached_unproved cfg tips new item unreached =
     let none : find (proves_on cfg tips new item) (chains cfg) ≡ None =
     no_chain (proves_on cfg tips new item)
     (λ c. proved_not (has_chain item.chains c) (nat_lt (tip_at tips c).index item.name.interval) (list_any (is_proof_of cfg item c) new)
-    (λ newer. rows_prove_not cfg tips item c low high outside newer new spans.above spans.below)) (chains cfg) in
+    (λ newer. rows_prove_not cfg tips item c newer new unreached)) (chains cfg) in
     nothing_told item.released item (find (proves_on cfg tips new item) (chains cfg)) none
+
+-- nor outside of those that they span
+pub proves_nothing : (cfg : Config) (tips : List Tip) (new : List KeyRow) (low high : ℕ) → Spans tips new low high → (item : Holding) → is_between low high item ≡ false → proof_of cfg tips new item ≡ []
+proves_nothing cfg tips new low high spans item outside =
+    unreached_unproved cfg tips new item (outside_unreached tips new low high item.name.interval spans.above spans.below outside)
+
+turn_step : (f : Holding → List Release) (item : Holding) (items : List Holding) (b : Bool) → (b ≡ true → f item ≡ []) → flat_map f items ≡ [] → flat_map f (cond b (item ∷ items) items) ≡ []
+turn_step f item items true here rest = ap (λ rs. rs ++ flat_map f items) (here refl) ∙ rest
+turn_step f item items false here rest = rest
+
+-- nothing is gathered in such an interval
+pub unreached_turn : (cfg : Config) (tips : List Tip) (new : List KeyRow) (interval : ℕ) (held : List Holding) → is_reached (index_in tips) new interval ≡ false → in_turn (proof_of cfg tips new) held interval ≡ []
+unreached_turn cfg tips new interval [] unreached = refl
+unreached_turn cfg tips new interval (item ∷ held) unreached =
+    turn_step (proof_of cfg tips new) item (filter (in_interval interval) held) (in_interval interval item)
+    (λ e. unreached_unproved cfg tips new item (ap (is_reached (index_in tips) new) (eqb-true item.name.interval interval e) ∙ unreached))
+    (unreached_turn cfg tips new interval held unreached)
 
 -- ---- the intervals that new keys span
 

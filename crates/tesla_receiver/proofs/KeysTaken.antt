@@ -1,10 +1,10 @@
 -- What is held once keys were taken: what is let go as a batch is released, and what is let go then, are together what the definition lets go.
-use Rattle.std.proofs.Common.{◌≡◌, ℕ, suc, zero, ◌+◌, ◌<◌, ◌≤◌, Bool, true, false, cond, ◌&&◌, ◌||◌, List, [], ◌∷◌, ◌++◌, map, flat_map, refl, sym, ap, subst, ⊎_elim, ◌∙◌, arith, ◌==◌}
+use Rattle.std.proofs.Common.{◌≡◌, ℕ, suc, zero, ◌+◌, ◌<◌, Bool, true, false, cond, ◌&&◌, ◌||◌, List, [], ◌∷◌, ◌++◌, length, map, flat_map, refl, sym, ap, subst, ⊎_elim, ◌∙◌, arith, ◌==◌}
 use Rattle.std.specs.Prelude.{not, nat_lt, nat_le, All, fold, find, get_or, Option, None, Some}
 use Rattle.std.specs.List.{list_any, list_all, filter, enumerate_from}
-use Rattle.std.proofs.lemmas.Bool.{false≢true, cases_Bool, and_parts, and_from, or_from, or_left, or_right, both_ways, false_from_ne_true, ltb-true, eqb-true}
+use Rattle.std.proofs.lemmas.Bool.{false≢true, cases_Bool, and_parts, and_from, or_from, or_left, or_right, or_parts, and_cases, both_ways, false_from_ne_true, ltb-true, eqb-true}
 use Rattle.std.proofs.lemmas.Bool.Decides.{nat_tests}
-use Rattle.std.proofs.lemmas.List.Elements.{All-head, All-tail, All-weaker, filter-append}
+use Rattle.std.proofs.lemmas.List.Elements.{All-cons, All-head, All-nil, All-tail, All-weaker, filter-append}
 use Rattle.std.proofs.lemmas.List.Folds.{list_any-append, flat_map-map}
 use Rattle.tesla_base.proofs.Lists.{list_all_weaker}
 use Rattle.tesla_frame.specs.declared.row.KeyRow.{KeyRow}
@@ -14,13 +14,15 @@ use Rattle.tesla_receiver.specs.declared.config.Config.{Config}
 use Rattle.tesla_receiver.specs.declared.release.Release.{Release}
 use Rattle.tesla_receiver.specs.Config.{chains}
 use Rattle.tesla_clock.specs.Safe.{has_chain}
-use Rattle.tesla_receiver.specs.Gathering.{Spans}
+use Rattle.tesla_receiver.specs.Gathering.{AreIndices, Spans, index_at, index_in, is_first, is_reached}
 use Rattle.tesla_receiver.specs.Held.{is_at}
 use Rattle.tesla_receiver.specs.Keys.{is_of}
+use Rattle.tesla_receiver.specs.Offered.{IsOfChains}
 use Rattle.tesla_receiver.specs.Tips.{raised}
 use Rattle.tesla_receiver.specs.State.{Holding}
-use Rattle.tesla_receiver.specs.Steps.{no_tip, tip_at, tips_after, is_over, is_passed, marked, kept_after, batch_of, proof_of, proves_on, released_on}
-use Rattle.tesla_receiver.specs.Stored.{Placed, place_of, holding_at, order_of, after_batch, is_idle, in_span, AreNeeded}
+use Rattle.tesla_receiver.specs.Steps.{no_tip, tips_after, is_over, is_passed, marked, kept_after, batch_of, proof_of, proves_on, released_on}
+use Rattle.tesla_receiver.specs.Stored.{Placed, place_of, holding_at, order_of, after_batch, is_idle, in_span, in_reach, AreNeeded}
+use Rattle.tesla_receiver.proofs.Reaching.{outside_unreached, reached_by}
 use Rattle.tesla_receiver.proofs.Releasing.{flat_same_in, eq_turn}
 
 -- ---- one packet
@@ -58,20 +60,20 @@ filter_one false true q x h = ap (λ t. map holding_at (cond t (x ∷ []) [])) h
 filter_one false false q x h = ap (λ t. map holding_at (cond t (x ∷ []) [])) h
 
 -- what is known of a packet: one of the batch isn't released, and one of another interval is needed
-abbrev pub is_fit : Config → List Tip → List Release → ℕ → ℕ → Placed → Bool
-is_fit cfg tips batch low high x = (not (list_any (is_at x.holding.order) batch) || not x.holding.released) && (in_span low high x || not (is_idle cfg tips x))
+abbrev pub is_fit : Config → List Tip → List Release → ℕ → ℕ → List ℕ → List KeyRow → Placed → Bool
+is_fit cfg tips batch low high indices new x = (not (list_any (is_at x.holding.order) batch) || not x.holding.released) && (in_reach low high indices new x || not (is_idle cfg tips x))
 
-one_after : (cfg : Config) (tips : List Tip) (batch now : List Release) (low high : ℕ) (x : Placed) → is_fit cfg tips batch low high x ≡ true → map holding_at (filter (λ y. not (in_span low high y && is_idle cfg tips y)) (after_batch batch now x)) ≡ kept_after cfg tips batch now x.holding
-one_after cfg tips batch now low high x fit =
-    let parts = and_parts (not (list_any (is_at x.holding.order) batch) || not x.holding.released) (in_span low high x || not (is_idle cfg tips x)) fit in
+one_after : (cfg : Config) (tips : List Tip) (batch now : List Release) (low high : ℕ) (indices : List ℕ) (new : List KeyRow) (x : Placed) → is_fit cfg tips batch low high indices new x ≡ true → map holding_at (filter (λ y. not (in_reach low high indices new y && is_idle cfg tips y)) (after_batch batch now x)) ≡ kept_after cfg tips batch now x.holding
+one_after cfg tips batch now low high indices new x fit =
+    let parts = and_parts (not (list_any (is_at x.holding.order) batch) || not x.holding.released) (in_reach low high indices new x || not (is_idle cfg tips x)) fit in
     let y : Placed = record x { holding = marked now x.holding } in
     let b : Bool = list_any (is_at x.holding.order) batch in
     let n : Bool = list_any (is_at x.holding.order) now in
     let a : Bool = list_all (is_over tips x.holding) (chains cfg) in
     let p : Bool = list_all (is_passed tips x.holding.name.interval) (chains cfg) in
-    filter_one (b && not n) (in_span low high x && is_idle cfg tips y) (λ z. not (in_span low high z && is_idle cfg tips z)) y refl
+    filter_one (b && not n) (in_reach low high indices new x && is_idle cfg tips y) (λ z. not (in_reach low high indices new z && is_idle cfg tips z)) y refl
     ∙ ap (λ t. cond t [] (marked now x.holding ∷ []))
-    (sym (let_go_both b n x.holding.released x.holding.taken a p (in_span low high x) parts.0 parts.1))
+    (sym (let_go_both b n x.holding.released x.holding.taken a p (in_reach low high indices new x) parts.0 parts.1))
 
 -- ---- all packets
 
@@ -87,12 +89,12 @@ pub map_flat : {A : Type 0} (f : A → List Placed) (xs : List A) → map holdin
 map_flat f [] = refl
 map_flat f (x ∷ xs) = map-append_holdings (f x) (flat_map f xs) ∙ ap (λ ys. map holding_at (f x) ++ ys) (map_flat f xs)
 
-pub held_after : (cfg : Config) (tips : List Tip) (batch now : List Release) (low high : ℕ) (held : List Placed) → list_all (is_fit cfg tips batch low high) held ≡ true → map holding_at (filter (λ y. not (in_span low high y && is_idle cfg tips y)) (flat_map (after_batch batch now) held)) ≡ flat_map (kept_after cfg tips batch now) (map holding_at held)
-held_after cfg tips batch now low high held fit =
-    ap (map holding_at) (filter_flat (λ y. not (in_span low high y && is_idle cfg tips y)) (after_batch batch now) held)
-    ∙ map_flat (λ x. filter (λ y. not (in_span low high y && is_idle cfg tips y)) (after_batch batch now x)) held
-    ∙ flat_same_in (λ x. map holding_at (filter (λ y. not (in_span low high y && is_idle cfg tips y)) (after_batch batch now x))) (λ x. kept_after cfg tips batch now x.holding) (is_fit cfg tips batch low high)
-    (λ x h. one_after cfg tips batch now low high x h) held fit
+pub held_after : (cfg : Config) (tips : List Tip) (batch now : List Release) (low high : ℕ) (indices : List ℕ) (new : List KeyRow) (held : List Placed) → list_all (is_fit cfg tips batch low high indices new) held ≡ true → map holding_at (filter (λ y. not (in_reach low high indices new y && is_idle cfg tips y)) (flat_map (after_batch batch now) held)) ≡ flat_map (kept_after cfg tips batch now) (map holding_at held)
+held_after cfg tips batch now low high indices new held fit =
+    ap (map holding_at) (filter_flat (λ y. not (in_reach low high indices new y && is_idle cfg tips y)) (after_batch batch now) held)
+    ∙ map_flat (λ x. filter (λ y. not (in_reach low high indices new y && is_idle cfg tips y)) (after_batch batch now x)) held
+    ∙ flat_same_in (λ x. map holding_at (filter (λ y. not (in_reach low high indices new y && is_idle cfg tips y)) (after_batch batch now x))) (λ x. kept_after cfg tips batch now x.holding) (is_fit cfg tips batch low high indices new)
+    (λ x h. one_after cfg tips batch now low high indices new x h) held fit
     ∙ sym (flat_map-map (kept_after cfg tips batch now) holding_at held)
 
 -- ---- what is proved wasn't released
@@ -146,67 +148,69 @@ all_unreleased cfg tips new (x ∷ xs) d =
 
 -- ---- packets of other intervals
 
--- a higher index between the two ends passes no other interval
-passes_same : (i low high old new : ℕ) → (nat_lt low i && nat_le i high) ≡ false → low ≤ old → old < new → new ≤ high → nat_le i new ≡ nat_le i old
-passes_same i low high old new out a b c = grind (arith, nat_tests)
+-- a higher index passes no interval that it doesn't reach first
+passes_same : (i old new : ℕ) → (nat_lt old i && nat_le i new) ≡ false → old < new → nat_le i new ≡ nat_le i old
+passes_same i old new out b = grind (arith, nat_tests)
 
-raised_same : (i low high chain : ℕ) → (nat_lt low i && nat_le i high) ≡ false → (tip : Tip) (rows : List KeyRow) → All (λ (row : KeyRow). is_of chain row ≡ true → low ≤ tip.index) rows → All (λ (row : KeyRow). row.index ≤ high) rows → nat_le i (fold (raised chain) tip rows).index ≡ nat_le i tip.index
-raised_same i low high chain out tip [] above below = refl
-raised_same i low high chain out tip (row ∷ rows) above below =
-    let here : is_of chain row ≡ true → low ≤ tip.index = All-head (λ (r : KeyRow). is_of chain r ≡ true → low ≤ tip.index) row rows above in
-    let others = All-tail (λ (r : KeyRow). is_of chain r ≡ true → low ≤ tip.index) row rows above in
-    let least : row.index ≤ high = All-head (λ (r : KeyRow). r.index ≤ high) row rows below in
-    let rest = All-tail (λ (r : KeyRow). r.index ≤ high) row rows below in
+still_out : (i old new later : ℕ) → (nat_lt old i && nat_le i later) ≡ false → old < new → (nat_lt new i && nat_le i later) ≡ false
+still_out i old new later out b = grind (arith, nat_tests)
+
+raised_same : (i chain : ℕ) (tip : Tip) (rows : List KeyRow) → All (λ (row : KeyRow). is_of chain row ≡ true → (nat_lt tip.index i && nat_le i row.index) ≡ false) rows → nat_le i (fold (raised chain) tip rows).index ≡ nat_le i tip.index
+raised_same i chain tip [] out = refl
+raised_same i chain tip (row ∷ rows) out =
+    let here : is_of chain row ≡ true → (nat_lt tip.index i && nat_le i row.index) ≡ false = All-head (λ (r : KeyRow). is_of chain r ≡ true → (nat_lt tip.index i && nat_le i r.index) ≡ false) row rows out in
+    let others = All-tail (λ (r : KeyRow). is_of chain r ≡ true → (nat_lt tip.index i && nat_le i r.index) ≡ false) row rows out in
     ⊎_elim
     (λ e. let parts = and_parts (is_of chain row) (nat_lt tip.index row.index) e in
-    let low_here : low ≤ tip.index = here parts.0 in
     let higher : tip.index < row.index = ltb-true tip.index row.index parts.1 in
     let next : Tip = record { index = row.index; key = row.key } in
     ap (λ t. nat_le i (fold (raised chain) (cond t next tip) rows).index) e
-    ∙ raised_same i low high chain out next rows (All-weaker (λ (r : KeyRow). is_of chain r ≡ true → low ≤ tip.index) (λ (r : KeyRow). is_of chain r ≡ true → low ≤ row.index) (λ r h k. omega arith) rows others) rest
-    ∙ passes_same i low high tip.index row.index out low_here higher least)
+    ∙ raised_same i chain next rows
+    (All-weaker (λ (r : KeyRow). is_of chain r ≡ true → (nat_lt tip.index i && nat_le i r.index) ≡ false) (λ (r : KeyRow). is_of chain r ≡ true → (nat_lt row.index i && nat_le i r.index) ≡ false)
+    (λ r h k. still_out i tip.index row.index r.index (h k) higher) rows others)
+    ∙ passes_same i tip.index row.index (here parts.0) higher)
     (λ e. ap (λ t. nat_le i (fold (raised chain) (cond t (record { index = row.index; key = row.key }) tip) rows).index) e
-    ∙ raised_same i low high chain out tip rows others rest)
+    ∙ raised_same i chain tip rows others)
     (cases_Bool (is_of chain row && nat_lt tip.index row.index))
 
 abbrev raise_from : ℕ → List Tip → List KeyRow → List Tip
 raise_from n tips rows = map (λ (p : ℕ × Tip). fold (raised p.0) p.1 rows) (enumerate_from n tips)
 
-tips_same : (i low high n : ℕ) → (nat_lt low i && nat_le i high) ≡ false → (tips : List Tip) (rows : List KeyRow) → ((c : ℕ) → All (λ (row : KeyRow). is_of (n + c) row ≡ true → low ≤ (get_or tips c no_tip).index) rows) → All (λ (row : KeyRow). row.index ≤ high) rows → (c : ℕ) → nat_le i (get_or (raise_from n tips rows) c no_tip).index ≡ nat_le i (get_or tips c no_tip).index
-tips_same i low high n out [] rows above below c = refl
-tips_same i low high n out (t ∷ ts) rows above below zero =
+tips_same : (i n : ℕ) (tips : List Tip) (rows : List KeyRow) → ((c : ℕ) → All (λ (row : KeyRow). is_of (n + c) row ≡ true → (nat_lt (get_or tips c no_tip).index i && nat_le i row.index) ≡ false) rows) → (c : ℕ) → nat_le i (get_or (raise_from n tips rows) c no_tip).index ≡ nat_le i (get_or tips c no_tip).index
+tips_same i n [] rows out c = refl
+tips_same i n (t ∷ ts) rows out zero =
     let first : n + 0 ≡ n = omega arith in
-    raised_same i low high n out t rows (subst (λ (k : ℕ). All (λ (row : KeyRow). is_of k row ≡ true → low ≤ t.index) rows) first (above 0)) below
-tips_same i low high n out (t ∷ ts) rows above below (suc c) =
-    tips_same i low high (n + 1) out ts rows
-    (λ k. let next : n + suc k ≡ n + 1 + k = omega arith in subst (λ (m : ℕ). All (λ (row : KeyRow). is_of m row ≡ true → low ≤ (get_or ts k no_tip).index) rows) next (above (suc k))) below c
+    raised_same i n t rows (subst (λ (k : ℕ). All (λ (row : KeyRow). is_of k row ≡ true → (nat_lt t.index i && nat_le i row.index) ≡ false) rows) first (out 0))
+tips_same i n (t ∷ ts) rows out (suc c) =
+    tips_same i (n + 1) ts rows
+    (λ k. let next : n + suc k ≡ n + 1 + k = omega arith in subst (λ (m : ℕ). All (λ (row : KeyRow). is_of m row ≡ true → (nat_lt (get_or ts k no_tip).index i && nat_le i row.index) ≡ false) rows) next (out (suc k))) c
 
 all_same : (f g : ℕ → Bool) → ((c : ℕ) → f c ≡ g c) → (xs : List ℕ) → list_all f xs ≡ list_all g xs
 all_same f g same [] = refl
 all_same f g same (x ∷ xs) = ap (λ t. t && list_all f xs) (same x) ∙ ap (λ t. g x && t) (all_same f g same xs)
 
-pub passed_same : (tips : List Tip) (new : List KeyRow) (low high i : ℕ) → Spans tips new low high → (nat_lt low i && nat_le i high) ≡ false → (c : ℕ) → is_passed (tips_after tips new) i c ≡ is_passed tips i c
-passed_same tips new low high i s out c =
-    tips_same i low high 0 out tips new
-    (λ k. All-weaker (λ (row : KeyRow). low ≤ (tip_at tips row.chain.0).index) (λ (row : KeyRow). is_of (0 + k) row ≡ true → low ≤ (get_or tips k no_tip).index)
-    (λ row h e. let there : row.chain.0 ≡ k = eqb-true row.chain.0 (0 + k) e ∙ omega arith in subst (λ (m : ℕ). low ≤ (get_or tips m no_tip).index) there h) new s.above)
-    s.below c
+-- no key of any chain is the first to reach it
+none_first : (tips : List Tip) (new : List KeyRow) (i k : ℕ) → is_reached (index_in tips) new i ≡ false → All (λ (row : KeyRow). is_of k row ≡ true → (nat_lt (get_or tips k no_tip).index i && nat_le i row.index) ≡ false) new
+none_first tips [] i k none = All-nil (λ (row : KeyRow). is_of k row ≡ true → (nat_lt (get_or tips k no_tip).index i && nat_le i row.index) ≡ false)
+none_first tips (row ∷ rows) i k none =
+    let parts = or_parts (is_first (index_in tips) i row) (is_reached (index_in tips) rows i) none in
+    All-cons (λ (r : KeyRow). is_of k r ≡ true → (nat_lt (get_or tips k no_tip).index i && nat_le i r.index) ≡ false) row rows
+    (λ e. ap (λ (m : ℕ). nat_lt (get_or tips m no_tip).index i && nat_le i row.index) (sym (eqb-true row.chain.0 k e)) ∙ parts.0)
+    (none_first tips rows i k parts.1)
 
--- a packet of another interval is needed as before
-pub idle_same : (cfg : Config) (tips : List Tip) (new : List KeyRow) (low high : ℕ) (x : Placed) → Spans tips new low high → in_span low high x ≡ false → is_idle cfg (tips_after tips new) x ≡ is_idle cfg tips x
-idle_same cfg tips new low high x s out =
+pub passed_same : (tips : List Tip) (new : List KeyRow) (i : ℕ) → is_reached (index_in tips) new i ≡ false → (c : ℕ) → is_passed (tips_after tips new) i c ≡ is_passed tips i c
+passed_same tips new i none c =
+    tips_same i 0 tips new
+    (λ k. let same : 0 + k ≡ k = omega arith in subst (λ (m : ℕ). All (λ (row : KeyRow). is_of m row ≡ true → (nat_lt (get_or tips k no_tip).index i && nat_le i row.index) ≡ false) new) (sym same) (none_first tips new i k none)) c
+
+-- a packet of an interval that no new key reaches first is needed as before
+pub idle_same : (cfg : Config) (tips : List Tip) (new : List KeyRow) (x : Placed) → is_reached (index_in tips) new x.holding.name.interval ≡ false → is_idle cfg (tips_after tips new) x ≡ is_idle cfg tips x
+idle_same cfg tips new x none =
     let i : ℕ = x.holding.name.interval in
-    let same = passed_same tips new low high i s out in
+    let same = passed_same tips new i none in
     ap (λ t. (t && not x.holding.released) || (x.holding.taken && list_all (is_passed (tips_after tips new) i) (chains cfg)))
     (all_same (is_over (tips_after tips new) x.holding) (is_over tips x.holding) (λ c. ap (λ t. not (has_chain x.holding.chains c) || t) (same c)) (chains cfg))
     ∙ ap (λ t. (list_all (is_over tips x.holding) (chains cfg) && not x.holding.released) || (x.holding.taken && t)) (all_same (is_passed (tips_after tips new) i) (is_passed tips i) same (chains cfg))
-
-fit_one : (cfg : Config) (tips : List Tip) (new : List KeyRow) (low high : ℕ) → Spans tips new low high → (x : Placed) → not (is_idle cfg tips x) ≡ true → (in_span low high x || not (is_idle cfg (tips_after tips new) x)) ≡ true
-fit_one cfg tips new low high s x h =
-    ⊎_elim
-    (λ e. or_left (in_span low high x) (not (is_idle cfg (tips_after tips new) x)) e)
-    (λ e. or_right (in_span low high x) (not (is_idle cfg (tips_after tips new) x)) (ap not (idle_same cfg tips new low high x s e) ∙ h))
-    (cases_Bool (in_span low high x))
 
 all_and : {A : Type 0} (p q : A → Bool) (xs : List A) → list_all p xs ≡ true → list_all q xs ≡ true → list_all (λ x. p x && q x) xs ≡ true
 all_and p q [] a b = refl
@@ -215,13 +219,28 @@ all_and p q (x ∷ xs) a b =
     let v = and_parts (q x) (list_all q xs) b in
     and_from (p x && q x) (list_all (λ y. p y && q y) xs) (and_from (p x) (q x) u.0 v.0) (all_and p q xs u.1 v.1)
 
--- what is held once keys were taken
-pub kept_is : (cfg : Config) (tips : List Tip) (new : List KeyRow) (low high : ℕ) (now : List Release) (held : List Placed) → Spans tips new low high → Distinct (map order_of held) → AreNeeded cfg tips held → map holding_at (filter (λ y. not (in_span low high y && is_idle cfg (tips_after tips new) y)) (flat_map (after_batch (batch_of cfg tips new (map holding_at held)) now) held)) ≡ flat_map (kept_after cfg (tips_after tips new) (batch_of cfg tips new (map holding_at held)) now) (map holding_at held)
-kept_is cfg tips new low high now held s d needed =
-    held_after cfg (tips_after tips new) (batch_of cfg tips new (map holding_at held)) now low high held
-    (all_and (unreleased_in (batch_of cfg tips new (map holding_at held))) (λ x. in_span low high x || not (is_idle cfg (tips_after tips new) x)) held
-    (all_unreleased cfg tips new held d)
-    (list_all_weaker (λ x. not (is_idle cfg tips x)) (λ x. in_span low high x || not (is_idle cfg (tips_after tips new) x)) held (fit_one cfg tips new low high s) needed))
+module _ (cfg : Config) (tips : List Tip) (new : List KeyRow) (low high : ℕ) (indices : List ℕ) (spans : Spans tips new low high) (are : AreIndices tips indices) (of_chains : All (IsOfChains (length tips)) new) where
+  unreached : (x : Placed) → in_reach low high indices new x ≡ false → is_reached (index_in tips) new x.holding.name.interval ≡ false
+  unreached x out =
+      ⊎_elim
+      (λ e. outside_unreached tips new low high x.holding.name.interval spans.above spans.below e)
+      (λ e. sym (reached_by tips indices new x.holding.name.interval are of_chains) ∙ e)
+      (and_cases (in_span low high x) (is_reached (index_at indices) new x.holding.name.interval) out)
+
+  fit_one : (x : Placed) → not (is_idle cfg tips x) ≡ true → (in_reach low high indices new x || not (is_idle cfg (tips_after tips new) x)) ≡ true
+  fit_one x h =
+      ⊎_elim
+      (λ e. or_left (in_reach low high indices new x) (not (is_idle cfg (tips_after tips new) x)) e)
+      (λ e. or_right (in_reach low high indices new x) (not (is_idle cfg (tips_after tips new) x)) (ap not (idle_same cfg tips new x (unreached x e)) ∙ h))
+      (cases_Bool (in_reach low high indices new x))
+
+  -- what is held once keys were taken
+  pub kept_is : (now : List Release) (held : List Placed) → Distinct (map order_of held) → AreNeeded cfg tips held → map holding_at (filter (λ y. not (in_reach low high indices new y && is_idle cfg (tips_after tips new) y)) (flat_map (after_batch (batch_of cfg tips new (map holding_at held)) now) held)) ≡ flat_map (kept_after cfg (tips_after tips new) (batch_of cfg tips new (map holding_at held)) now) (map holding_at held)
+  kept_is now held d needed =
+      held_after cfg (tips_after tips new) (batch_of cfg tips new (map holding_at held)) now low high indices new held
+      (all_and (unreleased_in (batch_of cfg tips new (map holding_at held))) (λ x. in_reach low high indices new x || not (is_idle cfg (tips_after tips new) x)) held
+      (all_unreleased cfg tips new held d)
+      (list_all_weaker (λ x. not (is_idle cfg tips x)) (λ x. in_reach low high indices new x || not (is_idle cfg (tips_after tips new) x)) held fit_one needed))
 
 -- ---- places stay apart
 

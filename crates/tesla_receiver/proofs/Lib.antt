@@ -40,6 +40,7 @@ pub mod Marked
 pub mod Stored
 pub mod Releasing
 pub mod Reached
+pub mod Reaching
 pub mod Tried
 pub mod Offering
 pub mod Raising

@@ -357,3 +357,37 @@ filter_same p q same (x ∷ xs) = ap (λ t. cond t (x ∷ filter p xs) (filter p
 pub span_ends : (low high n : ℕ) (over : Placed → Bool) (old new : Stored) → Spanned old new low over n → low ≤ n → high ≤ n → n ≤ max low high → new.held ≡ filter (λ x. not (in_span low high x && over x)) old.held
 span_ends low high n over old new s a b c =
     s.held ∙ filter_same (λ x. not (in_span low n x && over x)) (λ x. not (in_span low high x && over x)) (λ x. ap (λ t. not (t && over x)) (ends_same low high n x.holding.name.interval a b c)) old.held
+
+-- ---- intervals that are left out
+
+unmet_stays : (i : ℕ) (met : ℕ → Bool) (over : Placed → Bool) → met i ≡ false → (x : Placed) → not (is_of i x && (met x.holding.name.interval && over x)) ≡ true
+unmet_stays i met over none x =
+    ⊎_elim
+    (λ e. let same : met x.holding.name.interval ≡ false = ap met (eqb-true x.holding.name.interval i e) ∙ none in
+    ap (λ t. not (is_of i x && (t && over x))) same ∙ ap not (and-false (is_of i x)))
+    (λ e. ap (λ t. not (t && (met x.holding.name.interval && over x))) e)
+    (cases_Bool (is_of i x))
+
+met_same : (i : ℕ) (met : ℕ → Bool) (over : Placed → Bool) → met i ≡ true → (x : Placed) → not (is_of i x && over x) ≡ not (is_of i x && (met x.holding.name.interval && over x))
+met_same i met over all x =
+    ⊎_elim
+    (λ e. let same : met x.holding.name.interval ≡ true = ap met (eqb-true x.holding.name.interval i e) ∙ all in
+    sym (ap (λ t. not (is_of i x && (t && over x))) same))
+    (λ e. ap (λ t. not (t && over x)) e ∙ sym (ap (λ t. not (t && (met x.holding.name.interval && over x))) e))
+    (cases_Bool (is_of i x))
+
+-- where the interval fails a test, its packets stay
+pub unmet_stay : (i : ℕ) (met : ℕ → Bool) (over : Placed → Bool) (held : List Placed) → met i ≡ false → held ≡ filter (λ x. not (is_of i x && (met x.holding.name.interval && over x))) held
+unmet_stay i met over held none = sym (all_stay (λ x. not (is_of i x && (met x.holding.name.interval && over x))) (unmet_stays i met over none) held)
+
+-- where it passes, the test of the interval says nothing of them
+pub met_go : (i : ℕ) (met : ℕ → Bool) (over : Placed → Bool) (held : List Placed) → met i ≡ true → filter (λ x. not (is_of i x && over x)) held ≡ filter (λ x. not (is_of i x && (met x.holding.name.interval && over x))) held
+met_go i met over held all = filter_same (λ x. not (is_of i x && over x)) (λ x. not (is_of i x && (met x.holding.name.interval && over x))) (met_same i met over all) held
+
+three : (a b c : Bool) → (a && (b && c)) ≡ ((a && b) && c)
+three true b c = refl
+three false b c = refl
+
+-- the two tests of the interval, together
+pub met_span : (low high : ℕ) (met : ℕ → Bool) (over : Placed → Bool) (held : List Placed) → filter (λ x. not (in_span low high x && (met x.holding.name.interval && over x))) held ≡ filter (λ x. not ((in_span low high x && met x.holding.name.interval) && over x)) held
+met_span low high met over held = filter_same (λ x. not (in_span low high x && (met x.holding.name.interval && over x))) (λ x. not ((in_span low high x && met x.holding.name.interval) && over x)) (λ x. ap not (three (in_span low high x) (met x.holding.name.interval) (over x))) held

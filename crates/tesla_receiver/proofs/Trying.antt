@@ -16,13 +16,13 @@ use Rattle.tesla_receiver.specs.declared.config.Config.{Config}
 use Rattle.tesla_receiver.specs.declared.keeping.ordering.Proved.{Proved}
 use Rattle.tesla_receiver.specs.declared.release.Release.{Release}
 use Rattle.tesla_receiver.specs.Config.{chains}
-use Rattle.tesla_receiver.specs.Gathering.{in_turn, gathered, down_to}
+use Rattle.tesla_receiver.specs.Gathering.{in_turn, gathered, down_to, index_in, is_reached}
 use Rattle.tesla_receiver.specs.Proved.{release_in}
 use Rattle.tesla_receiver.specs.State.{Holding}
 use Rattle.tesla_receiver.specs.Steps.{proof_of, proves_on, released_on, in_interval}
 use Rattle.tesla_receiver.specs.Stored.{Placed, place_of, holding_at, stands_at, is_of, in_span, is_proved_by, first_place, next_place, AreProved}
 use Rattle.tesla_receiver.specs.Walking.{Walking, rows_of, IsAbove}
-use Rattle.tesla_receiver.proofs.Gathering.{gathered_more, gathered_whole}
+use Rattle.tesla_receiver.proofs.Gathering.{gathered_more, gathered_whole, unreached_turn}
 use Rattle.tesla_receiver.proofs.Marked.{filter_mapped}
 use Rattle.tesla_receiver.proofs.Sweeping.{Comes, comes, found_stands}
 
@@ -252,6 +252,13 @@ spanning_more cfg tips begun walks later held low high b batch more least s rows
       long = omega arith;
       within = omega arith;
     }
+
+-- an interval that no new key is the first to reach may be left out
+pub spanning_past : (cfg : Config) (tips : List Tip) (begun walks : List Walking) (held : List Placed) (low high b : ℕ) (batch : List Proved) → low ≤ b → Spanning cfg tips begun walks held low high (b + 1) batch → is_reached (index_in tips) (rows_of walks) (b + 1) ≡ false → Spanning cfg tips begun walks held low high b batch
+spanning_past cfg tips begun walks held low high b batch least s none =
+    spanning_more cfg tips begun walks walks held low high b batch batch least s refl s.above
+    (sym (append-nil (map release_in batch)) ∙ ap (λ rs. map release_in batch ++ rs) (sym (unreached_turn cfg tips (rows_of walks) (b + 1) (map holding_at held) none)))
+    (λ k. k) (omega arith)
 
 pub spanned_releases : (cfg : Config) (tips : List Tip) (begun walks : List Walking) (held : List Placed) (low high b : ℕ) (batch : List Proved) → Spanning cfg tips begun walks held low high b batch → b ≤ low → map release_in batch ≡ gathered (proof_of cfg tips (rows_of begun)) (map holding_at held) low (high - low)
 spanned_releases cfg tips begun walks held low high b batch s h =

@@ -1,5 +1,6 @@
 -- Held packets that are tried interval by interval, from the newest interval down.
-use Rattle.std.specs.Prelude.{ℕ, zero, suc, ◌+◌, ◌-◌, ◌^◌, ◌<◌, ◌≤◌, List, [], ◌∷◌, All, filter, flat_map, fold, max, min}
+use Rattle.std.specs.Prelude.{ℕ, zero, suc, ◌+◌, ◌-◌, ◌^◌, ◌<◌, ◌≤◌, ◌≡◌, Bool, ◌&&◌, List, [], ◌∷◌, All, filter, flat_map, fold, get_or, length, max, min, nat_lt, nat_le}
+use Rattle.std.specs.List.{list_any}
 use Rattle.tesla_frame.specs.declared.row.KeyRow.{KeyRow}
 use Rattle.tesla_keys.specs.Tip.{Tip}
 use Rattle.tesla_receiver.specs.declared.release.Release.{Release}
@@ -48,3 +49,25 @@ higher high row = max high row.index
 -- the greatest index of these new keys
 abbrev pub highest : List KeyRow → ℕ
 highest new = fold higher 0 new
+
+-- ---- the intervals that new keys are the first of their chains to reach
+
+-- the index of the newest key of a chain
+abbrev pub index_in : List Tip → ℕ → ℕ
+index_in tips chain = (tip_at tips chain).index
+
+-- the index that stands at a chain's place
+abbrev pub index_at : List ℕ → ℕ → ℕ
+index_at indices chain = get_or indices chain 0
+
+-- these are the indices of the newest keys
+abbrev pub AreIndices : List Tip → List ℕ → Type 0
+AreIndices tips indices = (chain : ℕ) → chain < length tips → index_at indices chain ≡ index_in tips chain
+
+-- where the newest keys have these indices, the new key is the first of its chain to reach the interval
+abbrev pub is_first : (ℕ → ℕ) → ℕ → KeyRow → Bool
+is_first newest interval row = nat_lt (newest row.chain.0) interval && nat_le interval row.index
+
+-- one of these new keys is
+abbrev pub is_reached : (ℕ → ℕ) → List KeyRow → ℕ → Bool
+is_reached newest new interval = list_any (is_first newest interval) new

@@ -12,6 +12,8 @@ use Rattle.tesla_capture.specs.declared.release.Head.{Head}
 use Rattle.tesla_keys.specs.Tip.{Tip}
 use Rattle.tesla_receiver.specs.declared.config.Config.{Config}
 use Rattle.tesla_receiver.specs.Config.{chains}
+use Rattle.tesla_frame.specs.declared.row.KeyRow.{KeyRow}
+use Rattle.tesla_receiver.specs.Gathering.{index_at, is_reached}
 use Rattle.tesla_receiver.specs.Held.{is_at}
 use Rattle.tesla_receiver.specs.History.{head_of}
 use Rattle.tesla_receiver.specs.ItemShown.{holding_in, IsItem}
@@ -166,6 +168,10 @@ is_idle cfg tips x = is_let_go cfg tips [] x.holding
 -- the packet's interval is above the one and not above the other
 abbrev pub in_span : ℕ → ℕ → Placed → Bool
 in_span low high x = nat_lt low x.holding.name.interval && nat_le x.holding.name.interval high
+
+-- its interval is, and new keys are the first of their chains to reach it
+abbrev pub in_reach : ℕ → ℕ → List ℕ → List KeyRow → Placed → Bool
+in_reach low high indices new x = in_span low high x && is_reached (index_at indices) new x.holding.name.interval
 
 -- a packet after the one of that number was taken
 abbrev pub after_take : Config → List Tip → ℕ → Placed → List Placed

@@ -11,6 +11,7 @@ pub mod offers;
 pub mod ordering;
 mod passing;
 pub mod proving;
+pub mod reaching;
 mod releasing;
 pub mod rows;
 mod state;

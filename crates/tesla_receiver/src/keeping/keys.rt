@@ -12,6 +12,7 @@ use super::Store;
 use crate::Config;
 use crate::keeping::offers::raise;
 use crate::keeping::ordering::{Proved, span};
+use crate::keeping::reaching::indices;
 use crate::keeping::walk::Walk;
 use std::sync::ledger::Ledger;
 use tesla_base::Steps;
@@ -54,9 +55,10 @@ pub fn take_keys<L: Ledger>(
         return;
     }
     let (low, high) = span(tips, walks);
+    let before = indices(config, tips);
     batch.clear();
-    store.prove_held(config, tips, walks, low, high, batch, steps);
+    store.prove_held(config, tips, walks, &before, low, high, batch, steps);
     raise(tips, walks);
     store.release_all(batch);
-    store.let_go(config, tips, low, high);
+    store.let_go(config, tips, walks, &before, low, high);
 }

@@ -1,15 +1,19 @@
 //! The packets that newest keys have passed are let go.
 
-ghost use Rattle.std.specs.Prelude.{◌≡◌, ℕ, ◌&&◌, ◌<◌, [], true, not, length, map, filter, find, Some, if◌then◌else◌};
+ghost use Rattle.std.specs.Prelude.{◌≡◌, ℕ, ◌&&◌, ◌<◌, [], All, true, not, length, map, filter, find, Some, if◌then◌else◌};
 ghost use Rattle.std.specs.List.{list_all, list_any};
 ghost use Rattle.tesla_links.specs.Lists.{Distinct};
 ghost use Rattle.tesla_receiver.specs.Config.{chains};
 ghost use Rattle.tesla_receiver.specs.ItemShown.{holding_in};
+ghost use Rattle.tesla_receiver.specs.Offered.{IsOfChains};
 ghost use Rattle.tesla_receiver.specs.Steps.{is_passed, is_over, is_let_go};
-ghost use Rattle.tesla_receiver.specs.Stored.{Placed, place_of, stands_at, without, is_of, is_idle, in_span};
+ghost use Rattle.tesla_receiver.specs.Stored.{Placed, place_of, stands_at, without, is_of, is_idle, in_reach};
+ghost use Rattle.tesla_receiver.specs.Walking.{rows_of};
 
 use super::Store;
 use crate::Config;
+use crate::keeping::reaching::is_reached;
+use crate::keeping::walk::Walk;
 use crate::packet::has_chain;
 use tesla_base::Place;
 use tesla_buffer::Item;
@@ -106,18 +110,30 @@ impl Store {
         }
     }
 
-    /// Lets the packets of the intervals above `low`, up to `high`, go that aren't needed any more.
-    pub fn let_go(&mut self, config: &Config, tips: &[Verifier], low: u32, high: u32)
+    /// Lets the packets of the intervals above `low`, up to `high`, go that aren't needed any more, where new keys were
+    /// the first of their chains to reach the interval. The others are needed as before.
+    pub fn let_go(
+        &mut self,
+        config: &Config,
+        tips: &[Verifier],
+        walks: &[Walk],
+        indices: &[u32; 8],
+        low: u32,
+        high: u32,
+    )
         requires tips { length tips.now ≡ length config.now.setup.rows }
+        requires chains { All (IsOfChains 8) (rows_of walks.now) }
         requires apart { Distinct (map place_of self.old.held) }
         ensures capacity { self.new.capacity ≡ self.old.capacity }
         ensures chains { self.new.chains ≡ self.old.chains }
-        ensures held { self.new.held ≡ filter (λ x. not (in_span low high x && is_idle config.now tips.now x)) self.old.held }
+        ensures held { self.new.held ≡ filter (λ x. not (in_reach low high indices.now (rows_of walks.now) x && is_idle config.now tips.now x)) self.old.held }
         ensures waiting { self.new.waiting ≡ self.old.waiting }
         ensures given { self.new.given ≡ self.old.given }
     {
-        for interval in low..high {
-            self.sweep(config, tips, interval + 1);
+        for before in low..high {
+            if is_reached(indices, walks, before + 1) {
+                self.sweep(config, tips, before + 1);
+            }
         }
     }
 }

@@ -5,8 +5,9 @@ ghost use Rattle.std.specs.List.{list_any};
 ghost use Rattle.std.specs.List.Sorted.{IsPermutation};
 ghost use Rattle.tesla_frame.specs.Frame.{ChainsRise};
 ghost use Rattle.tesla_links.specs.Lists.{Distinct};
-ghost use Rattle.tesla_receiver.specs.Gathering.{RiseBy, Spans, order_of, place_of, in_turn, gathered};
+ghost use Rattle.tesla_receiver.specs.Gathering.{AreIndices, RiseBy, Spans, order_of, place_of, in_turn, gathered};
 ghost use Rattle.tesla_receiver.specs.declared.release.Release.{Release};
+ghost use Rattle.tesla_receiver.specs.Offered.{IsOfChains};
 ghost use Rattle.tesla_receiver.specs.Proved.{release_in};
 ghost use Rattle.tesla_receiver.specs.Steps.{proof_of, batch_of, in_interval};
 ghost use Rattle.tesla_receiver.specs.Stored.{Placed, place_proved, place_here, holding_at, stands_at, is_of, AreProved};
@@ -16,6 +17,7 @@ use super::Store;
 use crate::Config;
 use crate::keeping::ordering::{Proved, sort};
 use crate::keeping::proving::prove;
+use crate::keeping::reaching::is_reached;
 use crate::keeping::walk::Walk;
 use std::sync::ledger::Ledger;
 use tesla_base::{Place, Steps};
@@ -112,12 +114,14 @@ impl Store {
         }
     }
 
-    // Tries the packets of the intervals above `low`, up to `high`, from the highest interval down.
+    // Tries the packets of the intervals above `low`, up to `high`, from the highest interval down, where new keys are
+    // the first of their chains to reach the interval.
     fn try_span<L: Ledger>(
         &self,
         config: &Config,
         tips: &[Verifier],
         walks: &mut [Walk],
+        indices: &[u32; 8],
         low: u32,
         high: u32,
         batch: &mut Vec<Proved>,
@@ -126,6 +130,9 @@ impl Store {
         requires tips { length tips.now ≡ length config.now.setup.rows }
         requires chains { self.now.chains ≡ length config.now.setup.rows }
         requires apart { Distinct (map place_here self.now.held) }
+        requires of_chains { All (IsOfChains (length tips.now)) (rows_of walks.old) }
+        requires indices { AreIndices tips.now indices.now }
+        requires few { length tips.now ≤ 8 }
         requires rise { ChainsRise (rows_of walks.old) }
         requires above { All (IsAbove high) walks.old }
         requires empty { batch.old.items ≡ [] }
@@ -138,7 +145,9 @@ impl Store {
             + 2 * pairs config.now tips.now (rows_of walks.old) (gathered (λ item. item ∷ []) (map holding_at self.now.held) low (high - low)) }
     {
         for below in (low..high).rev() {
-            self.try_interval(config, tips, walks, below + 1, batch, steps);
+            if is_reached(indices, walks, below + 1) {
+                self.try_interval(config, tips, walks, below + 1, batch, steps);
+            }
         }
     }
 
@@ -150,6 +159,7 @@ impl Store {
         config: &Config,
         tips: &[Verifier],
         walks: &mut [Walk],
+        indices: &[u32; 8],
         low: u32,
         high: u32,
         batch: &mut Vec<Proved>,
@@ -159,6 +169,9 @@ impl Store {
         requires chains { self.now.chains ≡ length config.now.setup.rows }
         requires apart { Distinct (map place_here self.now.held) }
         requires orders { RiseBy order_of (map holding_at self.now.held) }
+        requires of_chains { All (IsOfChains (length tips.now)) (rows_of walks.old) }
+        requires indices { AreIndices tips.now indices.now }
+        requires few { length tips.now ≤ 8 }
         requires rise { ChainsRise (rows_of walks.old) }
         requires above { All (IsAbove high) walks.old }
         requires spans { Spans tips.now (rows_of walks.old) low high }
@@ -172,7 +185,7 @@ impl Store {
         ensures cost { steps.new + left tips.now walks.new ≤ steps.old + left tips.now walks.old
             + 2 * pairs config.now tips.now (rows_of walks.old) (map holding_at self.now.held) }
     {
-        self.try_span(config, tips, walks, low, high, batch, steps);
+        self.try_span(config, tips, walks, indices, low, high, batch, steps);
         order(batch);
     }
 }

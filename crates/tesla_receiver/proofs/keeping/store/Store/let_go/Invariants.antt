@@ -1,11 +1,13 @@
 use Rattle.std.proofs.Common.{◌≤◌}
-use Rattle.std.specs.Prelude.{max}
+use Rattle.std.specs.Prelude.{◌&&◌, max}
+use Rattle.tesla_receiver.specs.Gathering.{index_at, is_reached}
 use Rattle.tesla_receiver.specs.Stored.{is_idle}
+use Rattle.tesla_receiver.specs.Walking.{rows_of}
 use Rattle.tesla_receiver.proofs.Sweeping.{Spanned}
 use Rattle.tesla_receiver.proofs.keeping.store.Store.let_go.Given as goal
 
-abbrev pub invariant-loop-interval : goal.invariant-loop-interval
-invariant-loop-interval l = record {
-  walk : Spanned l.initial.self l.self l.low (is_idle l.config l.tips) l.interval;
-  within : l.interval ≤ max l.low l.high;
+abbrev pub invariant-loop-before : goal.invariant-loop-before
+invariant-loop-before l = record {
+  walk : Spanned l.initial.self l.self l.low (λ x. is_reached (index_at l.indices) (rows_of l.walks) x.holding.name.interval && is_idle l.config l.tips x) l.before;
+  within : l.before ≤ max l.low l.high;
 }
