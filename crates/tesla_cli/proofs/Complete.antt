@@ -21,7 +21,7 @@ use Rattle.tesla_front.specs.declared.refusal.Refusal.TheVariants as refusals
 use Rattle.tesla_front.specs.declared.refusal.Stop.{Stop}
 use Rattle.tesla_front.specs.declared.refusal.Stop.TheVariants as stops
 use Rattle.tesla_receiver.specs.Report.{report_of}
-use Rattle.tesla_receiver.specs.declared.config.Config.{Config}
+use Rattle.tesla_fitting.specs.declared.config.Config.{Config}
 use Rattle.tesla_receiver.specs.declared.history.Entry.{Entry}
 use Rattle.tesla_cli.specs.Asked.{Asked, IsReplay}
 use Rattle.tesla_cli.specs.Chain.{WritesSetup, DoesChain, setup_made}

@@ -9,13 +9,13 @@ use Rattle.tesla_front.specs.declared.fault.Fault.TheVariants as faults
 use Rattle.tesla_front.specs.declared.refusal.Refusal.TheVariants.{Capture}
 use Rattle.tesla_front.specs.declared.refusal.Stop.{Stop}
 use Rattle.tesla_front.specs.declared.refusal.Stop.TheVariants as stops
-use Rattle.tesla_receiver.specs.declared.config.Config.{Config}
+use Rattle.tesla_fitting.specs.declared.config.Config.{Config}
 use Rattle.tesla_receiver.specs.declared.history.Entry.{Entry}
 use Rattle.tesla_receiver.specs.History.{Event, Takes, Ends, entry_of}
-use Rattle.tesla_receiver.specs.Keys.{each_after}
+use Rattle.tesla_state.specs.Releases.{each_after}
 use Rattle.tesla_receiver.specs.Played.{after_events, waiting_in, played}
 use Rattle.tesla_receiver.specs.Report.{record_in, records_of, report_of}
-use Rattle.tesla_receiver.specs.declared.report.Report.{Report}
+use Rattle.tesla_state.specs.declared.report.Report.{Report}
 use Rattle.tesla_receiver.proofs.Events.{after_one, records_more}
 use Rattle.tesla_receiver.proofs.Playing.{played_all}
 use Rattle.tesla_cli.specs.declared.outcome.Summary.{Summary}

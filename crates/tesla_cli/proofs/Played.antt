@@ -11,7 +11,7 @@ use Rattle.tesla_front.specs.declared.fault.Fault.TheVariants as faults
 use Rattle.tesla_front.specs.declared.refusal.Refusal.TheVariants as refusals
 use Rattle.tesla_front.specs.declared.refusal.Stop.{Stop}
 use Rattle.tesla_front.specs.declared.refusal.Stop.TheVariants as stops
-use Rattle.tesla_receiver.specs.declared.config.Config.{Config}
+use Rattle.tesla_fitting.specs.declared.config.Config.{Config}
 use Rattle.tesla_cli.specs.Asked.{Asked}
 use Rattle.tesla_cli.specs.Form.{Replay, Performs}
 use Rattle.tesla_cli.specs.Replay.{config_of, end_of, out_text, PlaysCapture}

@@ -8,7 +8,7 @@ use Rattle.tesla_capture.specs.declared.record.RecordKind.{RecordKind}
 use Rattle.tesla_front.specs.Files.{IsFront}
 use Rattle.tesla_front.specs.declared.fault.Fault.{Fault}
 use Rattle.tesla_receiver.specs.History.{Event, Takes, Ends}
-use Rattle.tesla_receiver.specs.Keys.{each_after}
+use Rattle.tesla_state.specs.Releases.{each_after}
 use Rattle.tesla_receiver.specs.Played.{event_in}
 use Rattle.tesla_receiver.proofs.EachAfter.{each_after-append}
 use Rattle.tesla_cli.specs.declared.replay.player.Ending.{Ending}

@@ -2,7 +2,7 @@
 use Rattle.std.proofs.Common.{◌≡◌, ◌∙◌, ◌+◌, ◌-◌, ◌≤◌, ℕ, zero, suc, Option, List, [], ◌∷◌, ◌++◌, replicate, refl, sym, ap, subst, arith, append_assoc, add-one}
 use Rattle.tesla_front.specs.declared.fault.Fault.{Fault}
 use Rattle.tesla_receiver.specs.History.{Event, Takes, Ends}
-use Rattle.tesla_receiver.specs.Keys.{each_after}
+use Rattle.tesla_state.specs.Releases.{each_after}
 use Rattle.tesla_cli.specs.Held.{HoldsText, HoldsFront, kept}
 use Rattle.tesla_cli.specs.Playing.{Rule, events_text, with_end}
 use Rattle.tesla_cli.proofs.Records.{text-append}

@@ -8,7 +8,7 @@ use Rattle.tesla_front.specs.Refusal.{refusal_status, refusal_line}
 use Rattle.tesla_front.specs.declared.fault.Fault.TheVariants.{Write}
 use Rattle.tesla_front.specs.declared.refusal.Stop.{Stop}
 use Rattle.tesla_front.specs.declared.refusal.Stop.TheVariants as stops
-use Rattle.tesla_receiver.specs.declared.report.Report.{Report}
+use Rattle.tesla_state.specs.declared.report.Report.{Report}
 use Rattle.tesla_cli.specs.Usage.{form_texts}
 use Rattle.tesla_cli.specs.declared.usage.FormText.{FormText}
 use Rattle.tesla_cli.specs.declared.outcome.Outcome.{Outcome}

@@ -8,11 +8,11 @@ use Rattle.tesla_desk.specs.Outside.{AppendsFront}
 use Rattle.tesla_front.specs.declared.fault.Fault.{Fault}
 use Rattle.tesla_front.specs.declared.fault.Fault.TheVariants as faults
 use Rattle.tesla_receiver.specs.History.{Event, Arrives, Takes, Ends, entry_of}
-use Rattle.tesla_receiver.specs.Keys.{each_after}
+use Rattle.tesla_state.specs.Releases.{each_after}
 use Rattle.tesla_receiver.specs.Played.{after_events, event_in, waiting_in}
 use Rattle.tesla_receiver.specs.Report.{record_in, report_of}
-use Rattle.tesla_receiver.specs.declared.report.Report.{Report}
-use Rattle.tesla_receiver.specs.declared.config.Config.{Config}
+use Rattle.tesla_state.specs.declared.report.Report.{Report}
+use Rattle.tesla_fitting.specs.declared.config.Config.{Config}
 use Rattle.tesla_cli.specs.Held.{HoldsText, HoldsFront, kept}
 use Rattle.tesla_cli.specs.declared.replay.player.Ending.{Ending}
 use Rattle.tesla_cli.specs.declared.replay.player.Ending.TheVariants.{End, Refused}

@@ -7,8 +7,8 @@ use Rattle.tesla_front.specs.declared.fault.Fault.TheVariants as faults
 use Rattle.tesla_front.specs.declared.refusal.Refusal.TheVariants as refusals
 use Rattle.tesla_front.specs.declared.refusal.Stop.{Stop}
 use Rattle.tesla_front.specs.declared.refusal.Stop.TheVariants as stops
-use Rattle.tesla_receiver.specs.declared.config.Config.{Config}
-use Rattle.tesla_receiver.specs.declared.report.Report.{Report}
+use Rattle.tesla_fitting.specs.declared.config.Config.{Config}
+use Rattle.tesla_state.specs.declared.report.Report.{Report}
 use Rattle.tesla_receiver.specs.History.{Event}
 use Rattle.tesla_cli.specs.Form.{Opens}
 use Rattle.tesla_cli.specs.Playing.{Rule}

@@ -10,7 +10,7 @@ ghost use Rattle.tesla_cli.specs.Replay.{config_of};
 ghost use Rattle.tesla_cli.specs.Steps.{PlaysFiles, PlaysOpened, PlaysSource, Sums};
 ghost use Rattle.tesla_receiver.specs.History.{Event};
 ghost use Rattle.tesla_receiver.specs.Played.{after_events};
-ghost use Rattle.tesla_receiver.specs.State.{Stands};
+ghost use Rattle.tesla_receiver.specs.Stands.{Stands};
 
 mod asked;
 mod player;

@@ -10,22 +10,26 @@ use Rattle.tesla_frame.specs.Frame.{Frame, Data, Disclosure}
 use Rattle.tesla_frame.specs.Reading.{frame_of}
 use Rattle.tesla_frame.specs.declared.row.KeyRow.{KeyRow}
 use Rattle.tesla_keys.specs.Tip.{Tip}
-use Rattle.tesla_receiver.specs.declared.config.Config.{Config}
+use Rattle.tesla_fitting.specs.declared.config.Config.{Config}
 use Rattle.tesla_receiver.specs.declared.history.Arrival.{Arrival}
 use Rattle.tesla_receiver.specs.declared.history.Entry.{Entry}
-use Rattle.tesla_receiver.specs.declared.release.Release.{Release}
-use Rattle.tesla_receiver.specs.declared.report.Report.{Report}
-use Rattle.tesla_receiver.specs.declared.verdict.Verdict.{Verdict}
-use Rattle.tesla_receiver.specs.declared.verdict.Verdict.TheVariants.{Malformed, Foreign, Misfit, Future, BadKey, Late, Repeat, Full, Kept, Keys}
-use Rattle.tesla_receiver.specs.Answer.{stream_of, is_misfit, is_future, is_bad, safe_chains, verdict_taken, refusal, verdict_on, verdict_of, late_arrival}
-use Rattle.tesla_receiver.specs.Config.{chains}
+use Rattle.tesla_state.specs.declared.release.Release.{Release}
+use Rattle.tesla_state.specs.declared.report.Report.{Report}
+use Rattle.tesla_fitting.specs.declared.verdict.Verdict.{Verdict}
+use Rattle.tesla_fitting.specs.declared.verdict.Verdict.TheVariants.{Malformed, Foreign, Misfit, Future, BadKey, Late, Repeat, Full, Kept, Keys}
+use Rattle.tesla_fitting.specs.Fitting.{stream_of, is_misfit, is_future}
+use Rattle.tesla_receiver.specs.Answer.{is_bad, safe_chains, verdict_taken, refusal, verdict_on, verdict_of, late_arrival}
+use Rattle.tesla_fitting.specs.Config.{chains}
 use Rattle.tesla_receiver.specs.Held.{held_of}
 use Rattle.tesla_receiver.specs.History.{Arrives, entry_of, arrivals_in, given_in}
-use Rattle.tesla_receiver.specs.Keys.{keys_of, takes_keys, greatest, newest, new_keys}
-use Rattle.tesla_receiver.specs.Packets.{packet_in, has_name, released}
+use Rattle.tesla_fitting.specs.Rows.{keys_of}
+use Rattle.tesla_receiver.specs.Keys.{takes_keys, greatest, newest, new_keys}
+use Rattle.tesla_receiver.specs.Packets.{packet_in, released}
+use Rattle.tesla_state.specs.Releases.{has_name}
 use Rattle.tesla_receiver.specs.Report.{report_on}
-use Rattle.tesla_receiver.specs.State.{Holding, State, Stands, held_at, holdings}
-use Rattle.tesla_receiver.specs.Steps.{new_rows, with_keys, refused, judged_taken, judged_frame, own, counted, entered_as, entered_with, entered_frame, refused_of, bound_at, judged, after_arrival}
+use Rattle.tesla_state.specs.State.{Holding, State}
+use Rattle.tesla_receiver.specs.Stands.{Stands, held_at, holdings}
+use Rattle.tesla_state.specs.Steps.{new_rows, with_keys, refused, judged_taken, judged_frame, own, counted, entered_as, entered_with, entered_frame, refused_of, bound_at, judged, after_arrival}
 use Rattle.tesla_receiver.specs.Tips.{tip_of}
 use Rattle.tesla_receiver.proofs.Counts.{report_more}
 use Rattle.tesla_receiver.proofs.Events.{arrivals_more}

@@ -11,17 +11,21 @@ use Rattle.tesla_clock.specs.Safe.{has_chain}
 use Rattle.tesla_frame.specs.declared.row.KeyRow.{KeyRow}
 use Rattle.tesla_frame.specs.Frame.{TagRow}
 use Rattle.tesla_keys.specs.Tip.{Tip}
-use Rattle.tesla_receiver.specs.declared.config.Config.{Config}
+use Rattle.tesla_fitting.specs.declared.config.Config.{Config}
 use Rattle.tesla_receiver.specs.declared.history.Arrival.{Arrival}
 use Rattle.tesla_receiver.specs.declared.packet.Packet.{Packet}
-use Rattle.tesla_receiver.specs.Config.{chains}
-use Rattle.tesla_receiver.specs.Held.{is_at, has_passed, is_past, is_settled, is_gone}
-use Rattle.tesla_receiver.specs.Keys.{each_after, is_of, newest}
-use Rattle.tesla_receiver.specs.Packets.{packet_of, verifies_row, is_proof, proves, release_on, release_of, proved_by, candidates, has_name, unless_named, released}
-use Rattle.tesla_receiver.specs.State.{Holding, tag_in, holding_of, held_at, holdings}
-use Rattle.tesla_receiver.specs.Steps.{tip_at, matches, is_proof_of, proves_on, released_on, proof_of, batch_of, as_release, is_released, released_of, is_named_so}
+use Rattle.tesla_fitting.specs.Config.{chains}
+use Rattle.tesla_state.specs.Releases.{is_at, each_after, has_name, unless_named}
+use Rattle.tesla_receiver.specs.Held.{has_passed, is_past, is_settled, is_gone}
+use Rattle.tesla_fitting.specs.Rows.{is_of, tag_in}
+use Rattle.tesla_receiver.specs.Keys.{newest}
+use Rattle.tesla_receiver.specs.Packets.{packet_of, verifies_row, is_proof, proves, release_on, release_of, proved_by, candidates, released}
+use Rattle.tesla_state.specs.State.{Holding}
+use Rattle.tesla_receiver.specs.Stands.{holding_of, held_at, holdings}
+use Rattle.tesla_state.specs.Steps.{tip_at, matches, is_proof_of, proves_on, released_on, proof_of, batch_of, as_release, is_released, released_of, is_named_so}
 use Rattle.tesla_receiver.proofs.Below.{find_below, found_below, same_test, implied, any_same, passes_somewhere, passes_at}
-use Rattle.tesla_receiver.proofs.Gone.{Brought, past_none, same_name}
+use Rattle.tesla_receiver.proofs.Gone.{Brought, past_none}
+use Rattle.tesla_state.proofs.Named.{same_name}
 use Rattle.tesla_receiver.proofs.Owners.{owned_at, named_at, released_proved}
 use Rattle.tesla_receiver.proofs.Names.{AgreeOn, SameOrSeen, first_named, firsts_gathered}
 use Rattle.tesla_receiver.proofs.Numbered.{any_from, flat_map-flat_map}

@@ -12,15 +12,16 @@ use Rattle.tesla_base.proofs.Lists.{list_all_weaker}
 use Rattle.tesla_frame.specs.Frame.{Frame, Data, Disclosure, TagRow, ChainsRise}
 use Rattle.tesla_frame.specs.Reading.{frame_of}
 use Rattle.tesla_frame.specs.declared.row.KeyRow.{KeyRow}
-use Rattle.tesla_receiver.specs.declared.config.Config.{Config}
+use Rattle.tesla_fitting.specs.declared.config.Config.{Config}
 use Rattle.tesla_receiver.specs.declared.history.Entry.{Entry}
-use Rattle.tesla_receiver.specs.Answer.{stream_of, version_in, is_early, is_outside, fields_misfit, is_misfit, is_future}
-use Rattle.tesla_receiver.specs.Config.{chains, chain_row}
-use Rattle.tesla_receiver.specs.Costs.{is_unread, most_evaluations, gaps_by, is_reached_by, reached_by, pairs_by, most_on, most_by}
+use Rattle.tesla_fitting.specs.Fitting.{stream_of, version_in, is_early, is_outside, fields_misfit, is_misfit, is_future}
+use Rattle.tesla_fitting.specs.Config.{chains, chain_row}
+use Rattle.tesla_state.specs.Costs.{is_unread, gaps_by, is_reached_by, reached_by, pairs_by, most_on, most_by}
+use Rattle.tesla_receiver.specs.Costs.{most_evaluations}
 use Rattle.tesla_receiver.specs.History.{IsLegal, arrivals_in}
-use Rattle.tesla_receiver.specs.Keys.{carried, keys_of}
-use Rattle.tesla_receiver.specs.State.{Holding, State}
-use Rattle.tesla_receiver.specs.Steps.{tip_at, is_newer, new_rows, bound_at}
+use Rattle.tesla_fitting.specs.Rows.{carried, keys_of}
+use Rattle.tesla_state.specs.State.{Holding, State}
+use Rattle.tesla_state.specs.Steps.{tip_at, is_newer, new_rows, bound_at}
 use Rattle.tesla_receiver.proofs.Below.{all_fail, filter_shorter}
 use Rattle.tesla_receiver.proofs.Consistent.{consistent}
 use Rattle.tesla_receiver.proofs.Costs.{all_filtered, cost_same, read_fits}

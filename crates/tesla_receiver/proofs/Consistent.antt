@@ -8,23 +8,26 @@ use Rattle.std.proofs.lemmas.Map.Views.{any-filter_same}
 use Rattle.std.proofs.lemmas.Option.{same_Some, slice_get_within}
 use Rattle.tesla_base.specs.declared.names.Name.{Name}
 use Rattle.tesla_base.proofs.Lists.{list_any_got}
-use Rattle.tesla_receiver.specs.declared.config.Config.{Config}
+use Rattle.tesla_fitting.specs.declared.config.Config.{Config}
 use Rattle.tesla_receiver.specs.declared.history.Arrival.{Arrival}
 use Rattle.tesla_receiver.specs.declared.history.Entry.{Entry}
 use Rattle.tesla_receiver.specs.declared.packet.Packet.{Packet}
-use Rattle.tesla_receiver.specs.declared.release.Release.{Release}
-use Rattle.tesla_receiver.specs.declared.report.Report.{Report}
+use Rattle.tesla_state.specs.declared.release.Release.{Release}
+use Rattle.tesla_state.specs.declared.report.Report.{Report}
 use Rattle.tesla_receiver.specs.Consistent.{RisesFrom, IsWaiting, IsCounted, IsConsistent}
-use Rattle.tesla_receiver.specs.Held.{is_at, is_gone, held_of}
+use Rattle.tesla_state.specs.Releases.{is_at, has_name}
+use Rattle.tesla_receiver.specs.Held.{is_gone, held_of}
 use Rattle.tesla_receiver.specs.History.{arrivals_in, given_in, has_end}
-use Rattle.tesla_receiver.specs.Packets.{packet_of, has_name, released}
-use Rattle.tesla_receiver.specs.State.{Holding, State, Stands, holding_of, held_at, holdings}
-use Rattle.tesla_receiver.specs.Steps.{in_interval, is_let_go, is_released, is_numbered}
+use Rattle.tesla_receiver.specs.Packets.{packet_of, released}
+use Rattle.tesla_state.specs.State.{Holding, State}
+use Rattle.tesla_receiver.specs.Stands.{Stands, holding_of, held_at, holdings}
+use Rattle.tesla_state.specs.Steps.{in_interval, is_let_go, is_released, is_numbered}
 use Rattle.tesla_receiver.specs.Tips.{tip_of}
 use Rattle.tesla_receiver.proofs.Arriving.{keeps_of}
 use Rattle.tesla_receiver.proofs.Below.{passes_somewhere, passes_at, any_taken, fails_fewer}
 use Rattle.tesla_receiver.proofs.Counts.{report_sum, entered_few}
-use Rattle.tesla_receiver.proofs.Gone.{Brought, is_called, called_same, same_name}
+use Rattle.tesla_receiver.proofs.Gone.{Brought, is_called, called_same}
+use Rattle.tesla_state.proofs.Named.{same_name}
 use Rattle.tesla_receiver.proofs.Judged.{held_all, held_interval}
 use Rattle.tesla_receiver.proofs.KeptState.{none_let_go}
 use Rattle.tesla_receiver.proofs.Limits.{capacity_kept, quota_kept}

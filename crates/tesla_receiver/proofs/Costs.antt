@@ -8,19 +8,23 @@ use Rattle.tesla_clock.specs.Safe.{has_chain}
 use Rattle.tesla_frame.specs.Frame.{Frame}
 use Rattle.tesla_frame.specs.Reading.{frame_of}
 use Rattle.tesla_frame.specs.declared.row.KeyRow.{KeyRow}
-use Rattle.tesla_receiver.specs.declared.config.Config.{Config}
+use Rattle.tesla_fitting.specs.declared.config.Config.{Config}
 use Rattle.tesla_receiver.specs.declared.history.Arrival.{Arrival}
 use Rattle.tesla_receiver.specs.declared.history.Entry.{Entry}
 use Rattle.tesla_receiver.specs.declared.packet.Packet.{Packet}
-use Rattle.tesla_receiver.specs.Answer.{stream_of, is_misfit, is_future}
-use Rattle.tesla_receiver.specs.Config.{chains}
-use Rattle.tesla_receiver.specs.Costs.{is_unread, has_reaching, newer_rows, gaps, is_reached, reached_on, pairs, most_of, most_evaluations, gaps_by, is_reached_by, reached_by, pairs_by, most_on, most_by}
-use Rattle.tesla_receiver.specs.Held.{is_at, has_passed, is_past, is_settled, is_gone}
+use Rattle.tesla_fitting.specs.Fitting.{stream_of, is_misfit, is_future}
+use Rattle.tesla_fitting.specs.Config.{chains}
+use Rattle.tesla_state.specs.Costs.{is_unread, has_reaching, gaps_by, is_reached_by, reached_by, pairs_by, most_on, most_by}
+use Rattle.tesla_receiver.specs.Costs.{newer_rows, gaps, is_reached, reached_on, pairs, most_of, most_evaluations}
+use Rattle.tesla_state.specs.Releases.{is_at}
+use Rattle.tesla_receiver.specs.Held.{has_passed, is_past, is_settled, is_gone}
 use Rattle.tesla_receiver.specs.History.{arrivals_in, given_in}
-use Rattle.tesla_receiver.specs.Keys.{keys_of, newest}
+use Rattle.tesla_fitting.specs.Rows.{keys_of}
+use Rattle.tesla_receiver.specs.Keys.{newest}
 use Rattle.tesla_receiver.specs.Packets.{packet_of, candidates, released}
-use Rattle.tesla_receiver.specs.State.{Holding, State, Stands, holding_of, held_at, holdings}
-use Rattle.tesla_receiver.specs.Steps.{tip_at, is_newer, new_rows, bound_at}
+use Rattle.tesla_state.specs.State.{Holding, State}
+use Rattle.tesla_receiver.specs.Stands.{Stands, holding_of, held_at, holdings}
+use Rattle.tesla_state.specs.Steps.{tip_at, is_newer, new_rows, bound_at}
 use Rattle.tesla_receiver.proofs.Arriving.{keeps_of}
 use Rattle.tesla_receiver.proofs.Below.{filter_same, any_taken}
 use Rattle.tesla_receiver.proofs.Judged.{keys_within}

@@ -4,13 +4,14 @@ use Rattle.std.proofs.lemmas.List.Sums.{sum_by_push, sum_by-cons}
 use Rattle.tesla_receiver.specs.declared.history.Arrival.{Arrival}
 use Rattle.tesla_receiver.specs.declared.history.Entry.{Entry}
 use Rattle.tesla_receiver.specs.declared.history.Entry.TheVariants.{Arrived, Taken, Ended}
-use Rattle.tesla_receiver.specs.declared.history.Reply.TheVariants.{Given, Empty, Over}
-use Rattle.tesla_receiver.specs.declared.verdict.Verdict.{Verdict}
-use Rattle.tesla_receiver.specs.declared.verdict.Verdict.TheVariants.{Malformed, Foreign, Misfit, Future, BadKey, Late, Repeat, Full, Kept, Keys}
+use Rattle.tesla_state.specs.declared.replies.Reply.TheVariants.{Given, Empty, Over}
+use Rattle.tesla_fitting.specs.declared.verdict.Verdict.{Verdict}
+use Rattle.tesla_fitting.specs.declared.verdict.Verdict.TheVariants.{Malformed, Foreign, Misfit, Future, BadKey, Late, Repeat, Full, Kept, Keys}
 use Rattle.tesla_receiver.specs.Consistent.{IsCounted}
 use Rattle.tesla_receiver.specs.History.{arrival_in, arrivals_in, gives, given_in}
-use Rattle.tesla_receiver.specs.Report.{line_of, count_of, report_on}
-use Rattle.tesla_receiver.specs.Steps.{one_if, counted}
+use Rattle.tesla_state.specs.Counting.{line_of}
+use Rattle.tesla_receiver.specs.Report.{count_of, report_on}
+use Rattle.tesla_state.specs.Steps.{one_if, counted}
 
 more_if : (b : Bool) (n : ℕ) → n + cond b 1 0 ≡ one_if b n
 more_if true n = refl

@@ -1,16 +1,17 @@
 -- A receiver's state stands for no event, and for one end more.
 use Rattle.std.proofs.Common.{◌≡◌, ℕ, ◌+◌, true, List, [], ◌∷◌, ◌++◌, length-append, map, drop, set, refl, ap, sym, ◌∙◌}
-use Rattle.tesla_receiver.specs.declared.config.Config.{Config}
+use Rattle.tesla_fitting.specs.declared.config.Config.{Config}
 use Rattle.tesla_receiver.specs.declared.history.Arrival.{Arrival}
 use Rattle.tesla_receiver.specs.declared.history.Entry.{Entry}
 use Rattle.tesla_receiver.specs.declared.history.Entry.TheVariants.{Ended}
-use Rattle.tesla_receiver.specs.Config.{chains}
+use Rattle.tesla_fitting.specs.Config.{chains}
 use Rattle.tesla_receiver.specs.History.{Ends, entry_of, arrivals_in, given_in}
 use Rattle.tesla_receiver.specs.Keys.{fresh_keys}
 use Rattle.tesla_receiver.specs.Packets.{candidates, released}
 use Rattle.tesla_receiver.specs.Report.{report_on}
-use Rattle.tesla_receiver.specs.State.{State, Stands, holdings}
-use Rattle.tesla_receiver.specs.Steps.{opened, after_end}
+use Rattle.tesla_state.specs.State.{State}
+use Rattle.tesla_receiver.specs.Stands.{Stands, holdings}
+use Rattle.tesla_state.specs.Steps.{opened, after_end}
 use Rattle.tesla_receiver.specs.Tips.{tip_of}
 use Rattle.tesla_receiver.proofs.Legal.{arrivals_same}
 use Rattle.tesla_receiver.proofs.Standing.{entered_legal, ended_more, none_ended, given_same}

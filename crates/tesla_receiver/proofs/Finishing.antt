@@ -8,13 +8,14 @@ use Rattle.std.proofs.lemmas.List.Folds.{list_all-map}
 use Rattle.std.proofs.lemmas.List.Sums.{sum_by_push}
 use Rattle.std.proofs.lemmas.Option.{slice_get_cases, slice_get_past}
 use Rattle.tesla_capture.specs.declared.release.Head.{Head}
-use Rattle.tesla_receiver.specs.declared.config.Config.{Config}
+use Rattle.tesla_fitting.specs.declared.config.Config.{Config}
 use Rattle.tesla_receiver.specs.declared.history.Entry.{Entry}
 use Rattle.tesla_receiver.specs.declared.history.Entry.TheVariants.{Taken, Ended}
-use Rattle.tesla_receiver.specs.declared.history.Reply.TheVariants.{Over}
-use Rattle.tesla_receiver.specs.declared.release.Release.{Release}
+use Rattle.tesla_state.specs.declared.replies.Reply.TheVariants.{Over}
+use Rattle.tesla_state.specs.declared.release.Release.{Release}
 use Rattle.tesla_receiver.specs.Packets.{released}
-use Rattle.tesla_receiver.specs.History.{Takes, entry_of, arrivals_in, gives, given_in, has_end, payload_of, head_of, reply_to, reply_with}
+use Rattle.tesla_receiver.specs.History.{Takes, entry_of, arrivals_in, gives, given_in, has_end, payload_of, reply_to, reply_with}
+use Rattle.tesla_state.specs.Releases.{head_of}
 use Rattle.tesla_receiver.specs.Played.{after_events, waiting_in, giving, Finishes}
 use Rattle.tesla_receiver.proofs.Events.{arrivals_more}
 use Rattle.tesla_receiver.proofs.Standing.{ended_same, has_end_more, given_same}

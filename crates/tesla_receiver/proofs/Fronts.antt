@@ -3,12 +3,14 @@ use Rattle.std.proofs.Common.{◌≡◌, ℕ, ◌≤◌, List, [], ◌∷◌, �
 use Rattle.std.specs.Prelude.{filter, fold, flat_map}
 use Rattle.std.proofs.lemmas.List.Concat.{flat_map-append}
 use Rattle.tesla_frame.specs.declared.row.KeyRow.{KeyRow}
-use Rattle.tesla_receiver.specs.declared.config.Config.{Config}
+use Rattle.tesla_fitting.specs.declared.config.Config.{Config}
 use Rattle.tesla_receiver.specs.declared.history.Arrival.{Arrival}
-use Rattle.tesla_receiver.specs.declared.release.Release.{Release}
-use Rattle.tesla_receiver.specs.Config.{chain_row}
-use Rattle.tesla_receiver.specs.Keys.{each_after, keys_taken, is_of, greatest, newest}
-use Rattle.tesla_receiver.specs.Packets.{batch, candidates, unless_named, released}
+use Rattle.tesla_state.specs.declared.release.Release.{Release}
+use Rattle.tesla_fitting.specs.Config.{chain_row}
+use Rattle.tesla_state.specs.Releases.{each_after, unless_named}
+use Rattle.tesla_receiver.specs.Keys.{keys_taken, greatest, newest}
+use Rattle.tesla_fitting.specs.Rows.{is_of}
+use Rattle.tesla_receiver.specs.Packets.{batch, candidates, released}
 use Rattle.tesla_receiver.proofs.EachAfter.{each_after-append}
 use Rattle.tesla_receiver.proofs.Newest.{greatest-append}
 

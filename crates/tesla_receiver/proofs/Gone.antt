@@ -10,18 +10,20 @@ use Rattle.tesla_base.proofs.Lists.{slice_get-append, list_all_weaker}
 use Rattle.tesla_clock.specs.Safe.{has_chain}
 use Rattle.tesla_frame.specs.declared.row.KeyRow.{KeyRow}
 use Rattle.tesla_frame.specs.Frame.{DataFrame}
-use Rattle.tesla_receiver.specs.declared.config.Config.{Config}
+use Rattle.tesla_fitting.specs.declared.config.Config.{Config}
 use Rattle.tesla_receiver.specs.declared.history.Arrival.{Arrival}
 use Rattle.tesla_receiver.specs.declared.packet.Packet.{Packet}
-use Rattle.tesla_receiver.specs.declared.release.Release.{Release}
-use Rattle.tesla_receiver.specs.Config.{chains}
-use Rattle.tesla_receiver.specs.Keys.{each_after, newest, new_keys}
-use Rattle.tesla_receiver.specs.Packets.{packet_of, is_proof, proves, release_on, release_of, batch, candidates, has_name, unless_named, released}
-use Rattle.tesla_receiver.specs.Held.{is_at, has_passed, is_past, is_settled, is_gone}
+use Rattle.tesla_state.specs.declared.release.Release.{Release}
+use Rattle.tesla_fitting.specs.Config.{chains}
+use Rattle.tesla_state.specs.Releases.{each_after, has_name, unless_named, is_at}
+use Rattle.tesla_receiver.specs.Keys.{newest, new_keys}
+use Rattle.tesla_receiver.specs.Packets.{packet_of, is_proof, proves, release_on, release_of, batch, candidates, released}
+use Rattle.tesla_receiver.specs.Held.{has_passed, is_past, is_settled, is_gone}
 use Rattle.tesla_receiver.proofs.EachAfter.{each_after-append}
 use Rattle.tesla_receiver.proofs.Fronts.{released_more, newest_rises}
 use Rattle.tesla_receiver.proofs.Passing.{none_passes, none_found, any_longer, any_further, all_each_after, all_enumerated}
 use Rattle.tesla_receiver.proofs.Places.{firsts_pass, unless_pass}
+use Rattle.tesla_state.proofs.Named.{same_name}
 
 -- a release isn't of the place
 abbrev pub is_elsewhere : ℕ → Release → Bool
@@ -134,12 +136,6 @@ past_elsewhere cfg xs ys place packet b past =
     let count : 0 + k ≡ k = omega arith in
     of_past cfg (xs ++ front) (new_keys cfg (xs ++ front) x) packet place (0 + k) (packet_of y) (all_past_stay cfg xs front packet past)
     (λ same. brought_at (xs ++ front) place k packet y (brought_stays xs front place packet b) at (sym count ∙ same))))
-
-pub same_name : (name : Name) (release : Release) → has_name name release ≡ true → release.name ≡ name
-same_name name release h =
-    let parts = and_parts (release.name.interval == name.interval) (release.name.number == name.number) h in
-    ap (λ (i : ℕ). record { interval = i; number = release.name.number }) (eqb-true release.name.interval name.interval parts.0)
-    ∙ ap (λ (n : ℕ). record { interval = name.interval; number = n }) (eqb-true release.name.number name.number parts.1)
 
 -- where the name stands before, none of the place comes again
 called_elsewhere : (place : ℕ) (name : Name) (before xs : List Release) → list_any (has_name name) before ≡ true → list_all (is_called place name) xs ≡ true → list_all (is_elsewhere place) (each_after unless_named before xs) ≡ true

@@ -1,10 +1,11 @@
 -- The lists of a book with one more arrival.
 use Rattle.std.proofs.Common.{◌≡◌, cond, List, [], ◌∷◌, ◌++◌, sym, ap, ◌∙◌}
 use Rattle.std.specs.Prelude.{filter, nat_lt}
-use Rattle.tesla_receiver.specs.declared.config.Config.{Config}
+use Rattle.tesla_fitting.specs.declared.config.Config.{Config}
 use Rattle.tesla_receiver.specs.declared.history.Arrival.{Arrival}
-use Rattle.tesla_receiver.specs.Keys.{each_after, takes_keys, keys_in, keys_taken, newest, new_keys}
-use Rattle.tesla_receiver.specs.declared.verdict.Verdict.{Verdict}
+use Rattle.tesla_state.specs.Releases.{each_after}
+use Rattle.tesla_receiver.specs.Keys.{takes_keys, keys_in, keys_taken, newest, new_keys}
+use Rattle.tesla_fitting.specs.declared.verdict.Verdict.{Verdict}
 use Rattle.tesla_frame.specs.Reading.{frame_of}
 use Rattle.tesla_receiver.specs.Packets.{proved_by, batch, candidates}
 use Rattle.tesla_receiver.proofs.EachAfter.{each_after_more}

@@ -6,14 +6,15 @@ use Rattle.std.proofs.lemmas.Bool.{and_parts, and_from, and_left, cases_Bool, no
 use Rattle.std.proofs.lemmas.List.{append-nil}
 use Rattle.std.proofs.lemmas.List.Sums.{sum_by_push}
 use Rattle.tesla_clock.specs.Safe.{has_chain}
-use Rattle.tesla_receiver.specs.declared.config.Config.{Config}
+use Rattle.tesla_fitting.specs.declared.config.Config.{Config}
 use Rattle.tesla_receiver.specs.declared.history.Arrival.{Arrival}
 use Rattle.tesla_receiver.specs.declared.packet.Packet.{Packet}
-use Rattle.tesla_receiver.specs.declared.release.Release.{Release}
-use Rattle.tesla_receiver.specs.Config.{chains}
+use Rattle.tesla_state.specs.declared.release.Release.{Release}
+use Rattle.tesla_fitting.specs.Config.{chains}
 use Rattle.tesla_receiver.specs.Keys.{keys_taken, greatest, newest}
 use Rattle.tesla_receiver.specs.Packets.{packet_of, candidates, first_of_each_name, released}
-use Rattle.tesla_receiver.specs.Held.{is_at, has_passed, is_past, is_gone, is_asked, has_place, held_of}
+use Rattle.tesla_state.specs.Releases.{is_at}
+use Rattle.tesla_receiver.specs.Held.{has_passed, is_past, is_gone, is_asked, has_place, held_of}
 use Rattle.tesla_base.proofs.Lists.{enumerate_from-append}
 use Rattle.tesla_receiver.proofs.Gone.{gone_stays}
 use Rattle.tesla_receiver.proofs.Grown.{candidates_same}

@@ -15,20 +15,24 @@ use Rattle.tesla_frame.specs.Frame.{Frame, Data, Disclosure, DataFrame, TagRow}
 use Rattle.tesla_frame.specs.Reading.{frame_of}
 use Rattle.tesla_frame.specs.declared.row.KeyRow.{KeyRow}
 use Rattle.tesla_keys.specs.Tip.{Tip}
-use Rattle.tesla_receiver.specs.declared.config.Config.{Config}
+use Rattle.tesla_fitting.specs.declared.config.Config.{Config}
 use Rattle.tesla_receiver.specs.declared.history.Arrival.{Arrival}
 use Rattle.tesla_receiver.specs.declared.history.Entry.{Entry}
 use Rattle.tesla_receiver.specs.declared.packet.Packet.{Packet}
-use Rattle.tesla_receiver.specs.declared.verdict.Verdict.{Verdict}
-use Rattle.tesla_receiver.specs.declared.verdict.Verdict.TheVariants.{Foreign, Misfit, Future, BadKey, Late, Repeat, Full, Kept}
-use Rattle.tesla_receiver.specs.Answer.{stream_of, version_in, is_early, is_outside, fields_misfit, is_misfit, is_future, is_bad, safe_chains, packet_verdict, verdict_taken, refusal}
-use Rattle.tesla_receiver.specs.Config.{chains, chain_row}
+use Rattle.tesla_fitting.specs.declared.verdict.Verdict.{Verdict}
+use Rattle.tesla_fitting.specs.declared.verdict.Verdict.TheVariants.{Foreign, Misfit, Future, BadKey, Late, Repeat, Full, Kept}
+use Rattle.tesla_fitting.specs.Fitting.{stream_of, version_in, is_early, is_outside, fields_misfit, is_misfit, is_future}
+use Rattle.tesla_receiver.specs.Answer.{is_bad, safe_chains, packet_verdict, verdict_taken, refusal}
+use Rattle.tesla_fitting.specs.Config.{chains, chain_row}
 use Rattle.tesla_receiver.specs.Held.{is_asked, has_passed, is_gone, has_place, held_of}
 use Rattle.tesla_receiver.specs.History.{IsLegal, arrivals_in}
-use Rattle.tesla_receiver.specs.Keys.{carried, keys_of, keys_in, takes_keys, newest, new_keys, leads_to}
-use Rattle.tesla_receiver.specs.Packets.{is_safe, packet_of, candidates, has_name, released}
-use Rattle.tesla_receiver.specs.State.{Holding, State, holding_of, held_at, holdings}
-use Rattle.tesla_receiver.specs.Steps.{tip_at, is_newer, fails, new_rows, refused, safe_by, is_named_so, in_interval, judged_packet, judged_taken}
+use Rattle.tesla_fitting.specs.Rows.{carried, keys_of, leads_to}
+use Rattle.tesla_receiver.specs.Keys.{keys_in, takes_keys, newest, new_keys}
+use Rattle.tesla_receiver.specs.Packets.{is_safe, packet_of, candidates, released}
+use Rattle.tesla_state.specs.Releases.{has_name}
+use Rattle.tesla_state.specs.State.{Holding, State}
+use Rattle.tesla_receiver.specs.Stands.{holding_of, held_at, holdings}
+use Rattle.tesla_state.specs.Steps.{tip_at, is_newer, fails, new_rows, refused, safe_by, is_named_so, in_interval, judged_packet, judged_taken}
 use Rattle.tesla_receiver.proofs.Batches.{is_open, is_seen, seen_held}
 use Rattle.tesla_receiver.proofs.Below.{same_test, find_same, filter_same, all_fail}
 use Rattle.tesla_receiver.proofs.Tips.{bad_offered}

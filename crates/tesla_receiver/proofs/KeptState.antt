@@ -10,16 +10,19 @@ use Rattle.tesla_clock.specs.Safe.{has_chain}
 use Rattle.tesla_frame.specs.Reading.{frame_of}
 use Rattle.tesla_frame.specs.declared.row.KeyRow.{KeyRow}
 use Rattle.tesla_keys.specs.Tip.{Tip}
-use Rattle.tesla_receiver.specs.declared.config.Config.{Config}
+use Rattle.tesla_fitting.specs.declared.config.Config.{Config}
 use Rattle.tesla_receiver.specs.declared.history.Arrival.{Arrival}
 use Rattle.tesla_receiver.specs.declared.packet.Packet.{Packet}
-use Rattle.tesla_receiver.specs.Config.{chains}
-use Rattle.tesla_receiver.specs.Held.{is_at, has_passed, is_past, is_gone}
+use Rattle.tesla_fitting.specs.Config.{chains}
+use Rattle.tesla_state.specs.Releases.{is_at}
+use Rattle.tesla_receiver.specs.Held.{has_passed, is_past, is_gone}
 use Rattle.tesla_receiver.specs.Keys.{takes_keys, keys_in, newest, new_keys}
 use Rattle.tesla_receiver.specs.Packets.{packet_of, candidates, released}
-use Rattle.tesla_receiver.specs.State.{Holding, State, holding_of, held_at, holdings}
-use Rattle.tesla_receiver.specs.Steps.{no_tip, tip_at, tips_after, proves_on, released_on, batch_of, released_of, is_passed, is_let_go, marked, kept_after, with_keys}
-use Rattle.tesla_receiver.specs.Tips.{raised, tip_of}
+use Rattle.tesla_state.specs.State.{Holding, State}
+use Rattle.tesla_receiver.specs.Stands.{holding_of, held_at, holdings}
+use Rattle.tesla_state.specs.Steps.{no_tip, tip_at, tips_after, proves_on, released_on, batch_of, released_of, is_passed, is_let_go, marked, kept_after, with_keys}
+use Rattle.tesla_state.specs.Tips.{raised}
+use Rattle.tesla_receiver.specs.Tips.{tip_of}
 use Rattle.tesla_receiver.proofs.Batches.{TipsOf, all_held}
 use Rattle.tesla_receiver.proofs.Below.{got_below, map_numbered}
 use Rattle.tesla_receiver.proofs.Tips.{tip_index, tip_more}

@@ -10,16 +10,18 @@ use Rattle.tesla_clock.specs.Schedule.{bound_of}
 use Rattle.tesla_frame.specs.declared.row.KeyRow.{KeyRow}
 use Rattle.tesla_frame.specs.Frame.{Frame, Data, Disclosure, DataFrame}
 use Rattle.tesla_frame.specs.Reading.{frame_of}
-use Rattle.tesla_receiver.specs.declared.config.Config.{Config}
+use Rattle.tesla_fitting.specs.declared.config.Config.{Config}
 use Rattle.tesla_receiver.specs.declared.history.Arrival.{Arrival}
 use Rattle.tesla_receiver.specs.declared.history.Entry.{Entry}
 use Rattle.tesla_receiver.specs.declared.packet.Packet.{Packet}
-use Rattle.tesla_receiver.specs.declared.verdict.Verdict.{Verdict}
-use Rattle.tesla_receiver.specs.declared.verdict.Verdict.TheVariants.{Foreign, Misfit, Future, BadKey, Late, Repeat, Full, Kept}
-use Rattle.tesla_receiver.specs.Keys.{keys_of}
-use Rattle.tesla_receiver.specs.Packets.{packet_in, released, has_name}
+use Rattle.tesla_fitting.specs.declared.verdict.Verdict.{Verdict}
+use Rattle.tesla_fitting.specs.declared.verdict.Verdict.TheVariants.{Foreign, Misfit, Future, BadKey, Late, Repeat, Full, Kept}
+use Rattle.tesla_fitting.specs.Rows.{keys_of}
+use Rattle.tesla_receiver.specs.Packets.{packet_in, released}
+use Rattle.tesla_state.specs.Releases.{has_name}
 use Rattle.tesla_receiver.specs.Held.{held_of}
-use Rattle.tesla_receiver.specs.Answer.{stream_of, is_misfit, is_future, is_bad, safe_chains, verdict_taken, verdict_on, verdict_of, late_arrival}
+use Rattle.tesla_fitting.specs.Fitting.{stream_of, is_misfit, is_future}
+use Rattle.tesla_receiver.specs.Answer.{is_bad, safe_chains, verdict_taken, verdict_on, verdict_of, late_arrival}
 use Rattle.tesla_receiver.specs.History.{Event, Arrives, Takes, Ends, event_of, entry_of, IsLegalAfter, IsLegal, arrival_in, arrivals_in, gives, given_in, held_in, held_of_interval}
 use Rattle.tesla_receiver.proofs.Events.{arrivals_more}
 use Rattle.tesla_receiver.proofs.Held.{held_quiet, held_other, held_taken, held_rejudged}

@@ -2,10 +2,10 @@
 use Rattle.std.proofs.Common.{◌≡◌, ℕ, ◌+◌, List, [], ◌∷◌, Option, Some, None, refl}
 use Rattle.tesla_frame.specs.Frame.{Frame}
 use Rattle.tesla_frame.specs.Reading.{frame_of}
-use Rattle.tesla_receiver.specs.declared.release.Release.{Release}
-use Rattle.tesla_receiver.specs.declared.verdict.Verdict.{Verdict}
-use Rattle.tesla_receiver.specs.State.{State}
-use Rattle.tesla_receiver.specs.Steps.{entered_frame, refused_of, bound_at, with_taken, after_arrival, after_take, after_end}
+use Rattle.tesla_state.specs.declared.release.Release.{Release}
+use Rattle.tesla_fitting.specs.declared.verdict.Verdict.{Verdict}
+use Rattle.tesla_state.specs.State.{State}
+use Rattle.tesla_state.specs.Steps.{entered_frame, refused_of, bound_at, with_taken, after_arrival, after_take, after_end}
 
 entered_config : (s : State) (bound : Option ℕ) (frame : Option Frame) (told : Option Verdict) → (entered_frame s bound frame told).config ≡ s.config
 entered_config s bound None told = refl

@@ -6,11 +6,10 @@ use Rattle.std.proofs.Math.Bool.{or-false}
 use Rattle.std.proofs.lemmas.Bool.{and_parts, cases_Bool, or_cases, or_from, or_left, both_ways}
 use Rattle.std.proofs.lemmas.List.Folds.{list_any-append}
 use Rattle.tesla_base.specs.declared.names.Name.{Name}
-use Rattle.tesla_receiver.specs.declared.release.Release.{Release}
-use Rattle.tesla_receiver.specs.Keys.{each_after}
-use Rattle.tesla_receiver.specs.Packets.{has_name, unless_named}
+use Rattle.tesla_state.specs.declared.release.Release.{Release}
+use Rattle.tesla_state.specs.Releases.{each_after, has_name, unless_named}
 use Rattle.tesla_receiver.proofs.EachAfter.{each_after-append}
-use Rattle.tesla_receiver.proofs.Gone.{same_name}
+use Rattle.tesla_state.proofs.Named.{same_name}
 
 -- the two lists have the same of the names that pass
 abbrev pub AgreeOn : (Name → Bool) → List Release → List Release → Type 0

@@ -5,10 +5,12 @@ use Rattle.std.proofs.lemmas.Bool.{ltb-false, eqb-true}
 use Rattle.std.proofs.lemmas.List.{append-nil}
 use Rattle.std.proofs.lemmas.List.Concat.{flat_map-append}
 use Rattle.tesla_frame.specs.declared.row.KeyRow.{KeyRow}
-use Rattle.tesla_receiver.specs.declared.config.Config.{Config}
+use Rattle.tesla_fitting.specs.declared.config.Config.{Config}
 use Rattle.tesla_receiver.specs.declared.history.Arrival.{Arrival}
-use Rattle.tesla_receiver.specs.Config.{chain_row}
-use Rattle.tesla_receiver.specs.Keys.{each_after, keys_taken, is_of, greatest, newest, new_keys, fresh_keys}
+use Rattle.tesla_fitting.specs.Config.{chain_row}
+use Rattle.tesla_state.specs.Releases.{each_after}
+use Rattle.tesla_receiver.specs.Keys.{keys_taken, greatest, newest, new_keys, fresh_keys}
+use Rattle.tesla_fitting.specs.Rows.{is_of}
 
 pub greatest-append : (chain index : ℕ) (xs ys : List KeyRow) → greatest chain index (xs ++ ys) ≡ greatest chain (greatest chain index xs) ys
 greatest-append chain index [] ys = refl

@@ -13,8 +13,8 @@ use Rattle.tesla_frame.specs.declared.row.KeyRow.{KeyRow}
 use Rattle.tesla_keys.specs.Tip.{Tip}
 use Rattle.tesla_prf.specs.Keys.{walk}
 use Rattle.tesla_prf.proofs.Walks.{walk_none, walk_on}
-use Rattle.tesla_receiver.specs.Keys.{is_of, leads_to}
-use Rattle.tesla_receiver.specs.Tips.{raised}
+use Rattle.tesla_fitting.specs.Rows.{is_of, leads_to}
+use Rattle.tesla_state.specs.Tips.{raised}
 
 -- a row's key, as a newest one
 abbrev pub tip_at : KeyRow → Tip

@@ -6,7 +6,7 @@ use Rattle.std.proofs.lemmas.Bool.{and_parts, or_from, or_left, or_right, or_cas
 use Rattle.std.proofs.lemmas.List.{append-nil}
 use Rattle.std.proofs.lemmas.List.Sums.{sum_by-cons}
 use Rattle.tesla_base.proofs.Lists.{list_all_both}
-use Rattle.tesla_receiver.specs.Keys.{each_after}
+use Rattle.tesla_state.specs.Releases.{each_after}
 
 -- two tests that agree
 pub all_same : {A : Type 0} (p q : A → Bool) (xs : List A) → ((x : A) → p x ≡ q x) → list_all p xs ≡ list_all q xs

@@ -7,14 +7,15 @@ use Rattle.std.proofs.lemmas.List.Folds.{list_all-append}
 use Rattle.tesla_base.proofs.Lists.{list_all_both, list_all-take, slice_get-append}
 use Rattle.tesla_capture.specs.Release.{release_text}
 use Rattle.tesla_frame.specs.declared.row.KeyRow.{KeyRow}
-use Rattle.tesla_receiver.specs.declared.config.Config.{Config}
+use Rattle.tesla_fitting.specs.declared.config.Config.{Config}
 use Rattle.tesla_receiver.specs.declared.history.Arrival.{Arrival}
 use Rattle.tesla_receiver.specs.declared.packet.Packet.{Packet}
-use Rattle.tesla_receiver.specs.declared.release.Release.{Release}
-use Rattle.tesla_receiver.specs.Config.{chains}
-use Rattle.tesla_receiver.specs.Keys.{each_after, new_keys}
-use Rattle.tesla_receiver.specs.Packets.{packet_of, proves, release_on, release_of, batch, candidates, has_name, unless_named, released}
-use Rattle.tesla_receiver.specs.History.{payload_of, head_of}
+use Rattle.tesla_state.specs.declared.release.Release.{Release}
+use Rattle.tesla_fitting.specs.Config.{chains}
+use Rattle.tesla_state.specs.Releases.{each_after, has_name, unless_named, head_of}
+use Rattle.tesla_receiver.specs.Keys.{new_keys}
+use Rattle.tesla_receiver.specs.Packets.{packet_of, proves, release_on, release_of, batch, candidates, released}
+use Rattle.tesla_receiver.specs.History.{payload_of}
 use Rattle.tesla_receiver.specs.Report.{text_of, texts_of}
 
 -- the packet's place is below n

@@ -1,15 +1,16 @@
 -- A legal history has one state that stands for it.
 use Rattle.std.proofs.Common.{◌≡◌, ℕ, List, length, length-drop, map, drop, count_by, refl, sym, ap, ◌∙◌}
 use Rattle.std.specs.List.{range_with_len}
-use Rattle.tesla_receiver.specs.declared.config.Config.{Config}
+use Rattle.tesla_fitting.specs.declared.config.Config.{Config}
 use Rattle.tesla_receiver.specs.declared.history.Entry.{Entry}
-use Rattle.tesla_receiver.specs.Config.{chains}
+use Rattle.tesla_fitting.specs.Config.{chains}
 use Rattle.tesla_receiver.specs.History.{IsLegal, arrivals_in, given_in, held_in, held_of_interval, has_end}
 use Rattle.tesla_receiver.specs.Packets.{released}
 use Rattle.tesla_receiver.specs.Played.{waiting_in}
 use Rattle.tesla_receiver.specs.Report.{report_of}
-use Rattle.tesla_receiver.specs.State.{State, Stands, holdings}
-use Rattle.tesla_receiver.specs.Steps.{in_interval}
+use Rattle.tesla_state.specs.State.{State}
+use Rattle.tesla_receiver.specs.Stands.{Stands, holdings}
+use Rattle.tesla_state.specs.Steps.{in_interval}
 use Rattle.tesla_receiver.specs.Tips.{tip_of}
 use Rattle.tesla_receiver.proofs.Judged.{held_all, held_interval}
 

@@ -15,15 +15,18 @@ use Rattle.tesla_keys.specs.Offers.{offer_of, is_new, is_refused, IsGood}
 use Rattle.tesla_keys.specs.Tip.{Tip}
 use Rattle.tesla_keys.specs.declared.offer.Offer.TheVariants.{Old, Good, Bad}
 use Rattle.tesla_prf.specs.Keys.{walk}
-use Rattle.tesla_receiver.specs.declared.config.Config.{Config}
+use Rattle.tesla_fitting.specs.declared.config.Config.{Config}
 use Rattle.tesla_receiver.specs.declared.history.Arrival.{Arrival}
 use Rattle.tesla_receiver.specs.declared.history.Entry.{Entry}
-use Rattle.tesla_receiver.specs.declared.verdict.Verdict.{Verdict}
-use Rattle.tesla_receiver.specs.declared.verdict.Verdict.TheVariants.{Foreign, Misfit, Future, BadKey}
-use Rattle.tesla_receiver.specs.Answer.{stream_of, is_misfit, is_future, is_bad, verdict_taken, verdict_on, verdict_of, late_arrival}
+use Rattle.tesla_fitting.specs.declared.verdict.Verdict.{Verdict}
+use Rattle.tesla_fitting.specs.declared.verdict.Verdict.TheVariants.{Foreign, Misfit, Future, BadKey}
+use Rattle.tesla_fitting.specs.Fitting.{stream_of, is_misfit, is_future}
+use Rattle.tesla_receiver.specs.Answer.{is_bad, verdict_taken, verdict_on, verdict_of, late_arrival}
 use Rattle.tesla_receiver.specs.History.{Event, Arrives, Takes, Ends, event_of, entry_of, IsLegalAfter, IsLegal, arrival_in, arrivals_in, given_in}
-use Rattle.tesla_receiver.specs.Keys.{keys_of, keys_in, takes_keys, keys_taken, is_of, greatest, newest, new_keys, fresh_keys, leads_to, is_good}
-use Rattle.tesla_receiver.specs.Tips.{first_tip, raised, tip_of}
+use Rattle.tesla_fitting.specs.Rows.{keys_of, is_of, leads_to}
+use Rattle.tesla_receiver.specs.Keys.{keys_in, takes_keys, keys_taken, greatest, newest, new_keys, fresh_keys, is_good}
+use Rattle.tesla_state.specs.Tips.{first_tip, raised}
+use Rattle.tesla_receiver.specs.Tips.{tip_of}
 use Rattle.tesla_receiver.proofs.EachAfter.{each_after_more}
 use Rattle.tesla_receiver.proofs.Events.{arrivals_more}
 use Rattle.tesla_receiver.proofs.Newest.{newest_fresh}

@@ -11,51 +11,16 @@ use Rattle.tesla_frame.specs.declared.row.KeyRow.{KeyRow}
 use Rattle.tesla_frame.specs.Frame.{Frame, Data, Disclosure, DataFrame, TagRow}
 use Rattle.tesla_frame.specs.Reading.{frame_of}
 use Rattle.tesla_receiver.specs.declared.history.Arrival.{Arrival}
-use Rattle.tesla_receiver.specs.declared.verdict.Verdict.{Verdict}
-use Rattle.tesla_receiver.specs.declared.verdict.Verdict.TheVariants.{Malformed, Foreign, Misfit, Future, BadKey, Late, Repeat, Full, Kept, Keys}
-use Rattle.tesla_receiver.specs.declared.config.Config.{Config}
-use Rattle.tesla_receiver.specs.Config.{chain_row}
-use Rattle.tesla_receiver.specs.Keys.{keys_of, newest, is_good}
-use Rattle.tesla_receiver.specs.Packets.{is_safe, has_name, released}
+use Rattle.tesla_fitting.specs.declared.verdict.Verdict.{Verdict}
+use Rattle.tesla_fitting.specs.declared.verdict.Verdict.TheVariants.{Malformed, Foreign, Misfit, Future, BadKey, Late, Repeat, Full, Kept, Keys}
+use Rattle.tesla_fitting.specs.declared.config.Config.{Config}
+use Rattle.tesla_fitting.specs.Config.{chain_row}
+use Rattle.tesla_fitting.specs.Rows.{keys_of}
+use Rattle.tesla_receiver.specs.Keys.{newest, is_good}
+use Rattle.tesla_receiver.specs.Packets.{is_safe, released}
+use Rattle.tesla_state.specs.Releases.{has_name}
 use Rattle.tesla_receiver.specs.Held.{held_of}
-
-abbrev pub stream_of : Frame → StreamId
-stream_of (Data f) = f.stream
-stream_of (Disclosure f) = f.stream
-
-abbrev pub version_in : Frame → Version
-version_in (Data f) = f.version
-version_in (Disclosure f) = f.version
-
--- a data frame's row carries a key though its interval is below the chain's delay
-abbrev pub is_early : Config → ℕ → ℕ → Option Key → Bool
-is_early cfg interval chain key = is_some key && nat_lt interval (chain_row cfg chain).delay
-
--- a disclosed key's chain isn't in the setup, or its index is above the last interval
-abbrev pub is_outside : Config → KeyRow → Bool
-is_outside cfg row = not (nat_lt row.chain.0 (length cfg.setup.rows)) || nat_lt cfg.setup.times.last row.index
-
--- the fields of the frame don't fit the setup
-abbrev pub fields_misfit : Config → Frame → Bool
-fields_misfit cfg (Data f) =
-    f.name.interval == 0 || nat_lt cfg.setup.times.last f.name.interval || not (length f.rows == length cfg.setup.rows)
-    || not (f.tag_length == cfg.setup.tag_length)
-    || list_any (λ (p : ℕ × TagRow). is_early cfg f.name.interval p.0 p.1.key) (enumerate_from 0 f.rows)
-fields_misfit cfg (Disclosure f) = list_any (is_outside cfg) f.rows
-
--- the frame's version isn't the setup's, or its fields don't fit the setup
-abbrev pub is_misfit : Config → Frame → Bool
-is_misfit cfg frame = not (number_of (version_in frame) == number_of cfg.setup.version) || fields_misfit cfg frame
-
--- by the bound, the sender can't have disclosed the key
-abbrev pub is_undisclosed : Config → ℕ → KeyRow → Bool
-is_undisclosed cfg bound row = nat_lt bound (row.index + (chain_row cfg row.chain.0).delay)
-
--- the sender's interval can't have reached the frame's yet
-abbrev pub is_future : Config → Option ℕ → Frame → Bool
-is_future cfg None frame = true
-is_future cfg (Some bound) (Data f) = nat_lt bound f.name.interval
-is_future cfg (Some bound) (Disclosure f) = list_any (is_undisclosed cfg bound) f.rows
+use Rattle.tesla_fitting.specs.Fitting.{stream_of, is_misfit, is_future}
 
 -- a key that is newer than those taken before and isn't good
 abbrev pub is_bad : Config → List Arrival → KeyRow → Bool

@@ -3,15 +3,13 @@ use Rattle.std.specs.Prelude.{◌≤◌, ℕ, Bool, true, false, not, ◌&&◌, 
 use Rattle.std.specs.List.{list_any, list_all, enumerate_from}
 use Rattle.tesla_clock.specs.Safe.{has_chain}
 use Rattle.tesla_receiver.specs.declared.history.Arrival.{Arrival}
-use Rattle.tesla_receiver.specs.declared.release.Release.{Release}
-use Rattle.tesla_receiver.specs.declared.config.Config.{Config}
-use Rattle.tesla_receiver.specs.Config.{chains}
+use Rattle.tesla_state.specs.declared.release.Release.{Release}
+use Rattle.tesla_fitting.specs.declared.config.Config.{Config}
+use Rattle.tesla_fitting.specs.Config.{chains}
 use Rattle.tesla_receiver.specs.Keys.{newest}
 use Rattle.tesla_receiver.specs.declared.packet.Packet.{Packet}
 use Rattle.tesla_receiver.specs.Packets.{packet_of, candidates, released}
-
-abbrev pub is_at : ℕ → Release → Bool
-is_at place release = release.place == place
+use Rattle.tesla_state.specs.Releases.{is_at}
 
 -- a key of the chain that reaches the interval was taken
 abbrev pub has_passed : Config → List Arrival → ℕ → ℕ → Bool

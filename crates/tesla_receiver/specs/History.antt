@@ -7,13 +7,14 @@ use Rattle.tesla_frame.specs.Reading.{frame_of}
 use Rattle.tesla_receiver.specs.declared.history.Arrival.{Arrival}
 use Rattle.tesla_receiver.specs.declared.history.Entry.{Entry}
 use Rattle.tesla_receiver.specs.declared.history.Entry.TheVariants.{Arrived, Taken, Ended}
-use Rattle.tesla_receiver.specs.declared.history.Reply.{Reply}
-use Rattle.tesla_receiver.specs.declared.history.Reply.TheVariants.{Given, Empty, Over}
-use Rattle.tesla_receiver.specs.declared.release.Release.{Release}
-use Rattle.tesla_receiver.specs.declared.config.Config.{Config}
+use Rattle.tesla_state.specs.declared.replies.Reply.{Reply}
+use Rattle.tesla_state.specs.declared.replies.Reply.TheVariants.{Given, Empty, Over}
+use Rattle.tesla_state.specs.declared.release.Release.{Release}
+use Rattle.tesla_fitting.specs.declared.config.Config.{Config}
 use Rattle.tesla_receiver.specs.Packets.{released}
 use Rattle.tesla_receiver.specs.Held.{held_of}
 use Rattle.tesla_receiver.specs.Answer.{verdict_of}
+use Rattle.tesla_state.specs.Releases.{head_of}
 
 -- an event of a receiver, before its answer
 pub data Event : Type 0 where
@@ -70,11 +71,6 @@ payload_in None = []
 abbrev pub payload_of : Option Arrival → List ℕ
 payload_of None = []
 payload_of (Some arrival) = payload_in (frame_of arrival.bytes)
-
--- the head of a release record
-abbrev pub head_of : ℕ → Release → List ℕ → Head
-head_of position release payload =
-    record { position = position; interval = release.name.interval; number = release.name.number; chain = release.chain.0; length = length payload }
 
 abbrev pub reply_with : List Arrival → ℕ → Option Release → Bool → Reply
 reply_with arrivals position (Some release) ended =

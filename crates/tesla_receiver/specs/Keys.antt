@@ -7,27 +7,12 @@ use Rattle.tesla_frame.specs.Frame.{Frame, Data, Disclosure, TagRow}
 use Rattle.tesla_frame.specs.Reading.{frame_of}
 use Rattle.tesla_prf.specs.Keys.{walk}
 use Rattle.tesla_receiver.specs.declared.history.Arrival.{Arrival}
-use Rattle.tesla_receiver.specs.declared.verdict.Verdict.{Verdict}
-use Rattle.tesla_receiver.specs.declared.verdict.Verdict.TheVariants.{Malformed, Foreign, Misfit, Future, BadKey, Late, Repeat, Full, Kept, Keys}
-use Rattle.tesla_receiver.specs.declared.config.Config.{Config}
-use Rattle.tesla_receiver.specs.Config.{chain_row}
-
--- what f gives for each element, told of those that stand before it
-abbrev pub each_after : {A B : Type 0} → (List A → A → List B) → List A → List A → List B
-each_after f before [] = []
-each_after f before (x ∷ xs) = f before x ++ each_after f (before ++ x ∷ []) xs
-
--- the key of a chain in a data frame of the interval: it is of the interval that is the delay before, if there is one
-abbrev pub carried : Config → ℕ → ℕ → Option Key → List KeyRow
-carried cfg interval chain None = []
-carried cfg interval chain (Some key) =
-    if nat_lt interval (chain_row cfg chain).delay then []
-    else record { chain = record { 0 = chain }; index = interval - (chain_row cfg chain).delay; key = key } ∷ []
-
--- the keys that a frame carries, each with its chain and index
-abbrev pub keys_of : Config → Frame → List KeyRow
-keys_of cfg (Data f) = flat_map (λ (p : ℕ × TagRow). carried cfg f.name.interval p.0 p.1.key) (enumerate_from 0 f.rows)
-keys_of cfg (Disclosure f) = f.rows
+use Rattle.tesla_fitting.specs.declared.verdict.Verdict.{Verdict}
+use Rattle.tesla_fitting.specs.declared.verdict.Verdict.TheVariants.{Malformed, Foreign, Misfit, Future, BadKey, Late, Repeat, Full, Kept, Keys}
+use Rattle.tesla_fitting.specs.declared.config.Config.{Config}
+use Rattle.tesla_fitting.specs.Config.{chain_row}
+use Rattle.tesla_fitting.specs.Rows.{keys_of, is_of, leads_to}
+use Rattle.tesla_state.specs.Releases.{each_after}
 
 abbrev pub keys_in : Config → Option Frame → List KeyRow
 keys_in cfg None = []
@@ -50,9 +35,6 @@ takes_keys Keys = true
 abbrev pub keys_taken : Config → Arrival → List KeyRow
 keys_taken cfg arrival = if takes_keys arrival.verdict then keys_in cfg (frame_of arrival.bytes) else []
 
-abbrev pub is_of : ℕ → KeyRow → Bool
-is_of chain row = row.chain.0 == chain
-
 -- the greatest of these indexes and of the chain's among the rows
 abbrev pub greatest : ℕ → ℕ → List KeyRow → ℕ
 greatest chain index rows = fold (λ n row. max n row.index) index (filter (is_of chain) rows)
@@ -68,10 +50,6 @@ new_keys cfg before arrival = filter (λ row. nat_lt (newest cfg before row.chai
 -- all keys that were new when they were taken
 unfoldable pub fresh_keys : Config → List Arrival → List KeyRow
 fresh_keys cfg arrivals = each_after (new_keys cfg) [] arrivals
-
--- the key walks to the other, which is of the same chain and not above it
-abbrev pub leads_to : KeyRow → ℕ → Key → Bool
-leads_to row index key = bytes_eq (walk row.key (row.index - index)).0 key.0
 
 -- the key is newer than those taken before, and walks to the commitment's key and to each of its chain that was new
 abbrev pub is_good : Config → List Arrival → KeyRow → Bool

@@ -1,4 +1,3 @@
-pub mod Config
 pub mod Keys
 pub mod Packets
 pub mod Held
@@ -6,19 +5,7 @@ pub mod Answer
 pub mod History
 pub mod Report
 pub mod Played
-pub mod Replies
 pub mod Tips
-pub mod State
-pub mod Steps
+pub mod Stands
 pub mod Consistent
 pub mod Costs
-pub mod Stored
-pub mod Walking
-pub mod ItemShown
-pub mod Offered
-pub mod Gathering
-pub mod Proved
-pub mod Unfit
-pub mod Counting
-pub mod Kept
-pub mod Judged

@@ -10,12 +10,15 @@ use Rattle.tesla_frame.specs.Reading.{frame_of}
 use Rattle.tesla_prf.specs.Keys.{walk, tag_of}
 use Rattle.tesla_receiver.specs.declared.history.Arrival.{Arrival}
 use Rattle.tesla_receiver.specs.declared.packet.Packet.{Packet}
-use Rattle.tesla_receiver.specs.declared.release.Release.{Release}
-use Rattle.tesla_receiver.specs.declared.verdict.Verdict.{Verdict}
-use Rattle.tesla_receiver.specs.declared.verdict.Verdict.TheVariants.{Malformed, Foreign, Misfit, Future, BadKey, Late, Repeat, Full, Kept, Keys}
-use Rattle.tesla_receiver.specs.declared.config.Config.{Config}
-use Rattle.tesla_receiver.specs.Config.{chains, chain_row}
-use Rattle.tesla_receiver.specs.Keys.{each_after, is_of, newest, new_keys}
+use Rattle.tesla_state.specs.declared.release.Release.{Release}
+use Rattle.tesla_fitting.specs.declared.verdict.Verdict.{Verdict}
+use Rattle.tesla_fitting.specs.declared.verdict.Verdict.TheVariants.{Malformed, Foreign, Misfit, Future, BadKey, Late, Repeat, Full, Kept, Keys}
+use Rattle.tesla_fitting.specs.declared.config.Config.{Config}
+use Rattle.tesla_fitting.specs.Config.{chains, chain_row}
+use Rattle.tesla_state.specs.Releases.{each_after}
+use Rattle.tesla_fitting.specs.Rows.{is_of}
+use Rattle.tesla_receiver.specs.Keys.{newest, new_keys}
+use Rattle.tesla_state.specs.Releases.{has_name, unless_named}
 
 -- whether the chain is safe for a packet of the interval, by its delay and its newest index
 abbrev pub is_safe : Config → List Arrival → ℕ → ℕ → ℕ → Bool
@@ -85,12 +88,6 @@ batch cfg before arrival = proved_by cfg before (new_keys cfg before arrival)
 -- all pairs of an arrival and a packet that it proves, by the arrival and then by the packet
 unfoldable pub candidates : Config → List Arrival → List Release
 candidates cfg arrivals = each_after (batch cfg) [] arrivals
-
-abbrev pub has_name : Name → Release → Bool
-has_name name release = release.name.interval == name.interval && release.name.number == name.number
-
-abbrev pub unless_named : List Release → Release → List Release
-unless_named before release = if list_any (has_name release.name) before then [] else release ∷ []
 
 -- the first of each name
 abbrev pub first_of_each_name : List Release → List Release

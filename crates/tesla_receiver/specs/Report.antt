@@ -5,28 +5,17 @@ use Rattle.tesla_capture.specs.Release.{release_text}
 use Rattle.tesla_receiver.specs.declared.history.Arrival.{Arrival}
 use Rattle.tesla_receiver.specs.declared.history.Entry.{Entry}
 use Rattle.tesla_receiver.specs.declared.history.Entry.TheVariants.{Arrived, Taken, Ended}
-use Rattle.tesla_receiver.specs.declared.history.Reply.{Reply}
-use Rattle.tesla_receiver.specs.declared.history.Reply.TheVariants.{Given, Empty, Over}
-use Rattle.tesla_receiver.specs.declared.report.Report.{Report}
-use Rattle.tesla_receiver.specs.declared.verdict.Verdict.{Verdict}
-use Rattle.tesla_receiver.specs.declared.verdict.Verdict.TheVariants.{Malformed, Foreign, Misfit, Future, BadKey, Late, Repeat, Full, Kept, Keys}
-use Rattle.tesla_receiver.specs.declared.config.Config.{Config}
-use Rattle.tesla_receiver.specs.declared.release.Release.{Release}
+use Rattle.tesla_state.specs.declared.replies.Reply.{Reply}
+use Rattle.tesla_state.specs.declared.replies.Reply.TheVariants.{Given, Empty, Over}
+use Rattle.tesla_state.specs.declared.report.Report.{Report}
+use Rattle.tesla_fitting.specs.declared.verdict.Verdict.{Verdict}
+use Rattle.tesla_fitting.specs.declared.verdict.Verdict.TheVariants.{Malformed, Foreign, Misfit, Future, BadKey, Late, Repeat, Full, Kept, Keys}
+use Rattle.tesla_fitting.specs.declared.config.Config.{Config}
+use Rattle.tesla_state.specs.declared.release.Release.{Release}
 use Rattle.tesla_receiver.specs.Packets.{released}
-use Rattle.tesla_receiver.specs.History.{arrivals_in, given_in, payload_of, head_of}
-
--- the place of a verdict in a report
-abbrev pub line_of : Verdict → ℕ
-line_of Malformed = 1
-line_of (Foreign stream) = 2
-line_of Misfit = 3
-line_of (Future bound) = 4
-line_of (BadKey chain) = 5
-line_of Late = 6
-line_of Repeat = 7
-line_of Full = 8
-line_of (Kept chains) = 9
-line_of Keys = 10
+use Rattle.tesla_receiver.specs.History.{arrivals_in, given_in, payload_of}
+use Rattle.tesla_state.specs.Releases.{head_of}
+use Rattle.tesla_state.specs.Counting.{line_of}
 
 -- how many arrivals have a verdict of this line
 abbrev pub count_of : ℕ → List Arrival → ℕ

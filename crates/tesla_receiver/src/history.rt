@@ -1,8 +1,8 @@
 //! What happened to a receiver, in order.
 
-use crate::Verdict;
 use tesla_base::Text;
-use tesla_capture::Head;
+use tesla_fitting::Verdict;
+use tesla_state::Reply;
 
 /// A datagram that came, with the reading of the receiver's clock in microseconds, and its verdict.
 #[derive(Debug, Drop)]
@@ -11,17 +11,6 @@ pub struct Arrival {
     pub reading: u64,
     pub bytes: Text,
     pub verdict: Verdict,
-}
-
-/// The answer to a take.
-#[derive(Debug, Drop)]
-pub enum Reply {
-    /// The next released packet.
-    Given { head: Head, payload: Text },
-    /// None waits now.
-    Empty,
-    /// None waits, and every ingest has ended.
-    Over,
 }
 
 /// One event of a receiver, with its answer.

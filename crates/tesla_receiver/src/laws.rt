@@ -4,12 +4,13 @@ ghost use Rattle.std.specs.Prelude.{◌≡◌, ◌<◌, ◌≤◌, ◌↔◌, �
 ghost use Rattle.tesla_capture.specs.Capture.{Record};
 ghost use Rattle.tesla_frame.specs.declared.row.KeyRow.{KeyRow};
 ghost use Rattle.tesla_keys.specs.Offers.{offer_of, IsGood};
-ghost use Rattle.tesla_receiver.specs.declared.config.Config.{Config};
+ghost use Rattle.tesla_fitting.specs.declared.config.Config.{Config};
 ghost use Rattle.tesla_receiver.specs.declared.history.Arrival.{Arrival};
 ghost use Rattle.tesla_receiver.specs.declared.history.Entry.{Entry};
-ghost use Rattle.tesla_receiver.specs.declared.release.Release.{Release};
+ghost use Rattle.tesla_state.specs.declared.release.Release.{Release};
 ghost use Rattle.tesla_receiver.specs.History.{Event, event_of, entry_of, IsLegal, arrivals_in, given_in, held_in, held_of_interval};
-ghost use Rattle.tesla_receiver.specs.Keys.{newest, leads_to, is_good};
+ghost use Rattle.tesla_receiver.specs.Keys.{newest, is_good};
+ghost use Rattle.tesla_fitting.specs.Rows.{leads_to};
 ghost use Rattle.tesla_receiver.specs.Tips.{tip_of};
 ghost use Rattle.tesla_receiver.specs.Packets.{released};
 ghost use Rattle.tesla_receiver.specs.Report.{records_of, released_text};

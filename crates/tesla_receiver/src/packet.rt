@@ -1,8 +1,5 @@
 //! A packet that waits for its key.
 
-ghost use Rattle.std.specs.Prelude.{◌≡◌, ◌<◌};
-ghost use Rattle.tesla_clock.specs.Safe.{has_chain};
-
 use tesla_frame::DataView;
 
 /// A kept packet.
@@ -12,12 +9,4 @@ pub struct Packet<'a> {
     pub chains: u8,
     /// The packet's frame.
     pub frame: DataView<'a>,
-}
-
-/// Whether bit `chain` of a set of chains is set.
-pub fn has_chain(set: u8, chain: u8) -> bool
-    requires { chain < 8 }
-    ensures { result ≡ has_chain set chain }
-{
-    (set >> chain) % 2 == 1
 }

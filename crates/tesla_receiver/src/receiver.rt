@@ -6,17 +6,17 @@ ghost use Rattle.tesla_receiver.specs.declared.history.Entry.TheVariants.{Arrive
 ghost use Rattle.tesla_receiver.specs.Costs.{most_evaluations};
 ghost use Rattle.tesla_receiver.specs.History.{Arrives, Takes, Ends, arrivals_in, entry_of, reply_to, held_in};
 ghost use Rattle.tesla_receiver.specs.Played.{waiting_in};
-ghost use Rattle.tesla_receiver.specs.Replies.{reply_shown, KeepsBehind};
+ghost use Rattle.tesla_state.specs.Replies.{reply_shown, KeepsBehind};
 ghost use Rattle.tesla_receiver.specs.Report.{report_of};
-ghost use Rattle.tesla_receiver.specs.State.{Stands};
+ghost use Rattle.tesla_receiver.specs.Stands.{Stands};
 
-use crate::keeping::ReceiverState;
-use crate::{Report, Take, Verdict};
 use std::alloc::Global;
 use std::marker::Model;
 use std::sync::ledger::Ledger;
 use tesla_base::{NoMemory, Steps};
 use tesla_commit::Setup;
+use tesla_fitting::Verdict;
+use tesla_state::{ReceiverState, Report, Take};
 
 /// A receiver of one stream (RFC 4082, section 3.5). It keeps what later events need and no history, in memory that is
 /// all taken when it is opened.
@@ -26,7 +26,7 @@ pub struct Receiver {
 }
 
 impl Model for Receiver {
-    ghost use Rattle.tesla_receiver.specs.State.{State};
+    ghost use Rattle.tesla_state.specs.State.{State};
 
     ghost Value = { State };
 

@@ -2,15 +2,17 @@
 //! contracts of functions that do nothing.
 
 ghost use Rattle.std.specs.Prelude.{◌≡◌, ◌≤◌, ◌+◌, ◌*◌, ◌++◌, ◌∷◌, [], ℕ, List, length, count_by};
-ghost use Rattle.tesla_receiver.specs.declared.config.Config.{Config};
+ghost use Rattle.tesla_fitting.specs.declared.config.Config.{Config};
 ghost use Rattle.tesla_receiver.specs.declared.history.Entry.{Entry};
 ghost use Rattle.tesla_receiver.specs.Answer.{verdict_of};
 ghost use Rattle.tesla_receiver.specs.Consistent.{IsConsistent};
-ghost use Rattle.tesla_receiver.specs.Costs.{most_evaluations, most_by};
+ghost use Rattle.tesla_receiver.specs.Costs.{most_evaluations};
+ghost use Rattle.tesla_state.specs.Costs.{most_by};
 ghost use Rattle.tesla_receiver.specs.History.{Arrives, Takes, Ends, entry_of, reply_to, IsLegal, arrivals_in, given_in, held_in, held_of_interval};
 ghost use Rattle.tesla_receiver.specs.Played.{waiting_in};
-ghost use Rattle.tesla_receiver.specs.State.{State, Stands};
-ghost use Rattle.tesla_receiver.specs.Steps.{in_interval, opened, judged, after_arrival, reply_by, after_take, after_end};
+ghost use Rattle.tesla_state.specs.State.{State};
+ghost use Rattle.tesla_receiver.specs.Stands.{Stands};
+ghost use Rattle.tesla_state.specs.Steps.{in_interval, opened, judged, after_arrival, reply_by, after_take, after_end};
 
 /// The state with the commitments alone stands for the empty history.
 pub fn openings()

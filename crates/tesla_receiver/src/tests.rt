@@ -7,11 +7,12 @@ ghost use Rattle.tesla_clock.specs.Schedule.{bound_of};
 ghost use Rattle.tesla_commit.specs.Parts.{Parts};
 ghost use Rattle.tesla_commit.specs.declared.chain_row.ChainRow.{ChainRow};
 ghost use Rattle.tesla_frame.specs.Frame.{Frame, Data, Disclosure};
-ghost use Rattle.tesla_receiver.specs.declared.config.Config.{Config};
-ghost use Rattle.tesla_receiver.specs.declared.report.Report.{Report};
-ghost use Rattle.tesla_receiver.specs.Costs.{most_of, most_on};
-ghost use Rattle.tesla_receiver.specs.State.{Holding, State};
-ghost use Rattle.tesla_receiver.specs.Steps.{bound_at};
+ghost use Rattle.tesla_fitting.specs.declared.config.Config.{Config};
+ghost use Rattle.tesla_state.specs.declared.report.Report.{Report};
+ghost use Rattle.tesla_receiver.specs.Costs.{most_of};
+ghost use Rattle.tesla_state.specs.Costs.{most_on};
+ghost use Rattle.tesla_state.specs.State.{Holding, State};
+ghost use Rattle.tesla_state.specs.Steps.{bound_at};
 
 use super::*;
 use crate::examples::{BOTH, EXAMPLES, FAR_BAD_KEY, FLOODS, MOST_INTERVALS, Opening, Rows, Step};

@@ -5,7 +5,7 @@ ghost use Rattle.tesla_capture.specs.Gathering.{gathered, Gathers};
 ghost use Rattle.tesla_desk.specs.Faults.{HasCause};
 ghost use Rattle.tesla_desk.specs.Outside.{AppendsFront};
 ghost use Rattle.tesla_receiver.specs.History.{Event, Takes, entry_of, reply_to};
-ghost use Rattle.tesla_receiver.specs.State.{Stands};
+ghost use Rattle.tesla_receiver.specs.Stands.{Stands};
 ghost use Rattle.tesla_receiver.specs.Played.{after_events};
 ghost use Rattle.tesla_cli.specs.Playing.{Rule, Halts, event_of};
 ghost use Rattle.tesla_receiver.specs.Report.{text_given};
@@ -120,7 +120,7 @@ fn take_once<O: Sink>(
 }
 
 impl Target for ReplayTarget {
-    ghost use Rattle.tesla_receiver.specs.State.{Stands};
+    ghost use Rattle.tesla_receiver.specs.Stands.{Stands};
     ghost use Rattle.tesla_receiver.specs.Played.{after_events};
     ghost use Rattle.std.specs.Prelude.{[]};
     ghost use Rattle.tesla_cli.specs.Playing.{rule_of};

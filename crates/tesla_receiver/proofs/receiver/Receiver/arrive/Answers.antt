@@ -1,10 +1,11 @@
 use Rattle.std.proofs.Common.{ℕ, ◌+◌, ◌≤◌, [], ◌∷◌, ◌++◌, sym, ap, ◌∙◌, subst}
 use Rattle.tesla_receiver.specs.declared.history.Entry.TheVariants.{Arrived}
-use Rattle.tesla_receiver.specs.declared.verdict.Verdict.{Verdict}
-use Rattle.tesla_receiver.specs.Costs.{most_by}
+use Rattle.tesla_fitting.specs.declared.verdict.Verdict.{Verdict}
+use Rattle.tesla_state.specs.Costs.{most_by}
 use Rattle.tesla_receiver.specs.History.{Arrives, entry_of}
-use Rattle.tesla_receiver.specs.State.{State, Stands}
-use Rattle.tesla_receiver.specs.Steps.{after_arrival, judged}
+use Rattle.tesla_state.specs.State.{State}
+use Rattle.tesla_receiver.specs.Stands.{Stands}
+use Rattle.tesla_state.specs.Steps.{after_arrival, judged}
 use Rattle.tesla_receiver.proofs.Arriving.{verdict_judged, stands_arrived}
 use Rattle.tesla_receiver.proofs.Costs.{cost_same}
 use Rattle.tesla_receiver.proofs.Moved.{arrival_config, arrival_calls}

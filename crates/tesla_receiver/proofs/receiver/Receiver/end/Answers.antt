@@ -1,7 +1,8 @@
 use Rattle.std.proofs.Common.{[], ◌∷◌, ◌++◌, sym, ap, ◌∙◌, subst}
 use Rattle.tesla_receiver.specs.History.{Ends, entry_of}
-use Rattle.tesla_receiver.specs.State.{State, Stands}
-use Rattle.tesla_receiver.specs.Steps.{after_end}
+use Rattle.tesla_state.specs.State.{State}
+use Rattle.tesla_receiver.specs.Stands.{Stands}
+use Rattle.tesla_state.specs.Steps.{after_end}
 use Rattle.tesla_receiver.proofs.Ends.{stands_ended}
 use Rattle.tesla_receiver.proofs.Moved.{end_config, end_calls}
 use Rattle.tesla_receiver.proofs.receiver.Receiver.end.Goals as goal

@@ -1,5 +1,5 @@
 use Rattle.std.proofs.Common.{ap, ◌∙◌, length}
-use Rattle.tesla_receiver.specs.State.{State}
+use Rattle.tesla_state.specs.State.{State}
 use Rattle.tesla_receiver.proofs.States.{held_number}
 use Rattle.tesla_receiver.proofs.receiver.Receiver.held.Goals as goal
 

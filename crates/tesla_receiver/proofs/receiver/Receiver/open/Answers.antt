@@ -1,5 +1,6 @@
 use Rattle.std.proofs.Common.{[], sym, subst}
-use Rattle.tesla_receiver.specs.State.{State, Stands}
+use Rattle.tesla_state.specs.State.{State}
+use Rattle.tesla_receiver.specs.Stands.{Stands}
 use Rattle.tesla_receiver.proofs.Ends.{stands_opened}
 use Rattle.tesla_receiver.proofs.receiver.Receiver.open.Goals as goal
 

@@ -1,5 +1,5 @@
 use Rattle.std.proofs.Common.{ap, ◌∙◌}
-use Rattle.tesla_receiver.specs.State.{State}
+use Rattle.tesla_state.specs.State.{State}
 use Rattle.tesla_receiver.proofs.receiver.Receiver.report.Goals as goal
 
 pub returns : goal.returns

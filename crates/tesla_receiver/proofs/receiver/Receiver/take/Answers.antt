@@ -1,7 +1,8 @@
 use Rattle.std.proofs.Common.{[], ◌∷◌, ◌++◌, sym, ap, ◌∙◌, subst}
 use Rattle.tesla_receiver.specs.History.{Takes, entry_of}
-use Rattle.tesla_receiver.specs.State.{State, Stands}
-use Rattle.tesla_receiver.specs.Steps.{after_take, reply_by}
+use Rattle.tesla_state.specs.State.{State}
+use Rattle.tesla_receiver.specs.Stands.{Stands}
+use Rattle.tesla_state.specs.Steps.{after_take, reply_by}
 use Rattle.tesla_receiver.proofs.Moved.{take_config, take_calls}
 use Rattle.tesla_receiver.proofs.Takes.{reply_same, stands_took}
 use Rattle.tesla_receiver.proofs.receiver.Receiver.take.Goals as goal

@@ -1,8 +1,0 @@
-use Rattle.std.proofs.Common.{◌≡◌, false, take}
-use Rattle.std.specs.List.{list_any}
-use Rattle.tesla_receiver.specs.Answer.{is_undisclosed}
-use Rattle.tesla_receiver.proofs.fitting.any_future_key.Given as goal
-
--- each key so far can be disclosed
-abbrev pub invariant-loop-place : goal.invariant-loop-place
-invariant-loop-place l = list_any (is_undisclosed l.config l.bound) (take l.place l.frame.rows) ≡ false

@@ -1,5 +1,0 @@
-use Rattle.tesla_receiver.proofs.Releasing.{Settling}
-use Rattle.tesla_receiver.proofs.keeping.store.Store.release_all.Given as goal
-
-abbrev pub invariant-loop-proved : goal.invariant-loop-proved
-invariant-loop-proved l = Settling l.initial.self l.self l.batch l.proved-index

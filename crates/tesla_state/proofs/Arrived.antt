@@ -1,0 +1,99 @@
+-- An arrival, by the state of a receiver.
+use Rattle.std.proofs.Common.{◌≡◌, ℕ, suc, zero, Bool, true, false, cond, ◌||◌, List, [], ◌∷◌, ◌++◌, length, map, flat_map, take, drop, Option, Some, None, refl, sym, ap, ◌∙◌, arith, ◌==◌}
+use Rattle.std.specs.Prelude.{not, find, option_map, count_by, nat_lt}
+use Rattle.std.specs.List.{list_any, filter, enumerate_from}
+use Rattle.std.proofs.lemmas.Bool.{or_parts, true≢false, eqb-true}
+use Rattle.tesla_base.specs.Version.{number_of}
+use Rattle.std.proofs.lemmas.List.Sums.{length-filter}
+use Rattle.tesla_frame.specs.Frame.{Frame, Data, DataFrame, TagRow}
+use Rattle.tesla_frame.specs.Reading.{frame_of}
+use Rattle.tesla_frame.specs.declared.row.KeyRow.{KeyRow}
+use Rattle.tesla_keys.specs.Tip.{Tip}
+use Rattle.tesla_fitting.specs.declared.config.Config.{Config}
+use Rattle.tesla_state.specs.declared.report.Report.{Report}
+use Rattle.tesla_fitting.specs.declared.verdict.Verdict.{Verdict}
+use Rattle.tesla_fitting.specs.declared.verdict.Verdict.TheVariants.{Malformed, Foreign, Misfit, Future, BadKey, Late, Repeat, Full, Kept, Keys}
+use Rattle.tesla_fitting.specs.Fitting.{stream_of, version_in, is_misfit, is_future, is_early}
+use Rattle.tesla_fitting.specs.Rows.{keys_of}
+use Rattle.tesla_state.specs.Judged.{verdict_by}
+use Rattle.tesla_state.specs.Kept.{state_of}
+use Rattle.tesla_state.specs.State.{State}
+use Rattle.tesla_state.specs.Steps.{judged, judged_frame, entered_frame, refused, refused_of, after_arrival, bound_at, fails, is_named_so, in_interval, judged_packet, own, with_keys, batch_of, released_of, kept_after, tips_after}
+use Rattle.tesla_state.specs.Stored.{Placed, Stored, holding_at, is_named, is_of}
+use Rattle.tesla_state.proofs.Marked.{any_mapped, filter_mapped}
+
+length-holdings : (held : List Placed) → length (map holding_at held) ≡ length held
+length-holdings [] = refl
+length-holdings (x ∷ xs) = let rest = length-holdings xs in omega arith
+
+counted_is : (i : ℕ) (held : List Placed) → count_by (in_interval i) (map holding_at held) ≡ length (filter (is_of i) held)
+counted_is i held =
+    sym (length-filter (in_interval i) (map holding_at held)) ∙ ap length (filter_mapped (in_interval i) holding_at held) ∙ length-holdings (filter (is_of i) held)
+
+pub judged_is : (cfg : Config) (tips : List Tip) (store : Stored) (ended : List Bool) (counts : Report) (calls : ℕ) (set : ℕ) (f : DataFrame) → judged_packet (state_of cfg tips store ended counts calls) set f ≡ verdict_by cfg.capacity cfg.quota set (is_named store.held f.name) (length store.held) (length (filter (is_of f.name.interval) store.held))
+judged_is cfg tips store ended counts calls set f =
+    ap (λ b. verdict_by cfg.capacity cfg.quota set b (length (map holding_at store.held)) (count_by (in_interval f.name.interval) (map holding_at store.held))) (any_mapped (is_named_so f.name) (λ (x : Placed). is_named_so f.name x.holding) holding_at (λ x. refl) store.held)
+    ∙ ap (λ (n : ℕ). verdict_by cfg.capacity cfg.quota set (is_named store.held f.name) n (count_by (in_interval f.name.interval) (map holding_at store.held))) (length-holdings store.held)
+    ∙ ap (λ (n : ℕ). verdict_by cfg.capacity cfg.quota set (is_named store.held f.name) (length store.held) n) (counted_is f.name.interval store.held)
+
+pub own_none : (order : ℕ) (v : Verdict) (f : DataFrame) → ((chains : ℕ) → v ≡ Kept chains → ⊥) → own order v (Data f) ≡ []
+own_none order Malformed f h = refl
+own_none order (Foreign stream) f h = refl
+own_none order Misfit f h = refl
+own_none order (Future bound) f h = refl
+own_none order (BadKey chain) f h = refl
+own_none order Late f h = refl
+own_none order Repeat f h = refl
+own_none order Full f h = refl
+own_none order (Kept chains) f h = absurd (h chains refl)
+own_none order Keys f h = refl
+
+-- the state once keys were taken
+pub keys_are : (cfg : Config) (tips later : List Tip) (old new : Stored) (ended : List Bool) (counts : Report) (calls : ℕ) (rows : List KeyRow) → later ≡ tips_after tips rows → map holding_at new.held ≡ flat_map (kept_after cfg (tips_after tips rows) (batch_of cfg tips rows (map holding_at old.held)) (released_of (map holding_at old.held) (batch_of cfg tips rows (map holding_at old.held)))) (map holding_at old.held) → new.waiting ≡ old.waiting ++ released_of (map holding_at old.held) (batch_of cfg tips rows (map holding_at old.held)) → state_of cfg later new ended counts calls ≡ with_keys (state_of cfg tips old ended counts calls) rows
+keys_are cfg tips later old new ended counts calls rows a b c =
+    ap (λ (ts : List Tip). record { config = cfg; tips = ts; held = map holding_at new.held; waiting = new.waiting; ended = ended; counts = counts; calls = calls }) a
+    ∙ ap (λ hs. record { config = cfg; tips = tips_after tips rows; held = hs; waiting = new.waiting; ended = ended; counts = counts; calls = calls }) b
+    ∙ ap (λ ws. record { config = cfg; tips = tips_after tips rows; held = flat_map (kept_after cfg (tips_after tips rows) (batch_of cfg tips rows (map holding_at old.held)) (released_of (map holding_at old.held) (batch_of cfg tips rows (map holding_at old.held)))) (map holding_at old.held); waiting = ws; ended = ended; counts = counts; calls = calls }) c
+
+-- ---- the whole arrival
+
+pub judged_at : (s : State) (reading : ℕ) (bytes : List ℕ) (o : Option Frame) (bound : Option ℕ) → frame_of bytes ≡ o → bound ≡ bound_at s reading → judged_frame s bound o ≡ judged s reading bytes
+unfolding judged
+judged_at s reading bytes o bound e b = ap (judged_frame s bound) (sym e) ∙ ap (λ k. judged_frame s k (frame_of bytes)) b
+
+pub after_at : (s : State) (reading : ℕ) (bytes : List ℕ) (o : Option Frame) (bound : Option ℕ) → frame_of bytes ≡ o → bound ≡ bound_at s reading → entered_frame s bound o (refused_of s bound o) ≡ after_arrival s reading bytes
+unfolding after_arrival
+after_at s reading bytes o bound e b = ap (λ f. entered_frame s bound f (refused_of s bound f)) (sym e) ∙ ap (λ k. entered_frame s k (frame_of bytes) (refused_of s k (frame_of bytes))) b
+
+refused_none : (a b : Bool) (v w : Verdict) (o : Option Verdict) → cond a (Some v) (cond b (Some w) o) ≡ None → b ≡ false
+refused_none true b v w o h = absurd (cc)
+refused_none false true v w o h = absurd (cc)
+refused_none false false v w o h = refl
+
+fits_rows : (v a b c d e : Bool) → (v || (a || b || not c || d || e)) ≡ false → c ≡ true
+fits_rows v a b true d e h = refl
+fits_rows v a b false d e h =
+    let u = or_parts v (a || b || true || d || e) h in
+    let w = or_parts (a || b || true || d) e u.1 in
+    let x = or_parts (a || b || true) d w.0 in
+    let y = or_parts (a || b) true x.0 in
+    absurd (true≢false y.1)
+
+-- a data frame that isn't refused has a row for each chain
+pub rows_fit : (s : State) (bound : Option ℕ) (frame : Frame) (f : DataFrame) → refused s bound frame ≡ None → frame ≡ Data f → length f.rows ≡ length s.config.setup.rows
+rows_fit s bound frame f h is =
+    let none : refused s bound (Data f) ≡ None = ap (refused s bound) (sym is) ∙ h in
+    let fit : is_misfit s.config (Data f) ≡ false = refused_none (not ((stream_of (Data f)).0 == s.config.setup.stream.0)) (is_misfit s.config (Data f)) (Foreign (stream_of (Data f))) Misfit (cond (is_future s.config bound (Data f)) (Some (Future bound)) (option_map (λ row. BadKey row.chain) (find (fails s.tips) (keys_of s.config (Data f))))) none in
+    eqb-true (length f.rows) (length s.config.setup.rows)
+    (fits_rows (not (number_of (version_in (Data f)) == number_of s.config.setup.version)) (f.name.interval == 0) (nat_lt s.config.setup.times.last f.name.interval) (length f.rows == length s.config.setup.rows) (not (f.tag_length == s.config.setup.tag_length))
+    (list_any (λ (p : ℕ × TagRow). is_early s.config f.name.interval p.0 p.1.key) (enumerate_from 0 f.rows)) fit)
+
+take_front : (n : ℕ) (ys zs : List Tip) → length ys ≡ n → take n (ys ++ zs) ≡ ys
+take_front zero [] zs h = refl
+take_front zero (y ∷ ys) zs h = absurd (omega (arith, h))
+take_front (suc n) [] zs h = absurd (omega (arith, h))
+take_front (suc n) (y ∷ ys) zs h = ap (λ rs. y ∷ rs) (take_front n ys zs (omega (arith, h)))
+
+-- the newest keys are written back whole
+pub tips_back : (n : ℕ) (now xs ys : List Tip) → length now ≡ n → length ys ≡ length now → take n (ys ++ drop (length ys) xs) ≡ ys
+tips_back n now xs ys long same = take_front n ys (drop (length ys) xs) (same ∙ long)

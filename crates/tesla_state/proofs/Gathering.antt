@@ -1,0 +1,316 @@
+-- What is gathered interval by interval has the elements of what is gathered in order of arrival.
+use Rattle.std.proofs.Common.{◌≡◌, ℕ, zero, suc, ◌+◌, ◌-◌, ◌<◌, ◌≤◌, Bool, true, false, cond, ◌&&◌, ◌||◌, List, [], ◌∷◌, ◌++◌, length, get_or, filter, flat_map, take, Option, Some, None, refl, sym, ap, subst, ◌∙◌, ◌⊎◌, inl, inr, arith, append_assoc}
+use Rattle.std.specs.Prelude.{◌==◌, ◌^◌, fold, nat_le, nat_lt, find, slice_get}
+use Rattle.std.specs.List.{All, list_any, sum_by}
+use Rattle.std.specs.List.Sorted.{IsPermutation}
+use Rattle.std.proofs.lemmas.Bool.{cases_Bool, eqb-true, or_parts}
+use Rattle.std.proofs.lemmas.Bool.Decides.{nat_tests}
+use Rattle.std.proofs.lemmas.List.{append-nil, get_or-map, length-map, take_all, take_more}
+use Rattle.std.proofs.lemmas.List.Concat.{flat_map-append}
+use Rattle.std.proofs.lemmas.List.Sums.{fold-append, sum_by-cons}
+use Rattle.std.proofs.lemmas.List.Elements.{All-cons, All-head, All-nil, All-tail}
+use Rattle.std.proofs.lemmas.List.Sorted.{IsPermutation-append_comm, IsPermutation-append_left, IsPermutation-append_right, IsPermutation-refl, IsPermutation-trans, sum_by-IsPermutation}
+use Rattle.tesla_frame.specs.declared.row.KeyRow.{KeyRow}
+use Rattle.tesla_keys.specs.Tip.{Tip}
+use Rattle.tesla_fitting.specs.declared.config.Config.{Config}
+use Rattle.tesla_state.specs.declared.release.Release.{Release}
+use Rattle.tesla_fitting.specs.Config.{chains}
+use Rattle.tesla_fitting.specs.Rows.{is_of}
+use Rattle.tesla_state.specs.State.{Holding}
+use Rattle.tesla_state.specs.Steps.{batch_of, in_interval, is_proof_of, matches, proof_of, proves_on, released_on, tip_at}
+use Rattle.tesla_clock.specs.Safe.{has_chain}
+use Rattle.tesla_state.proofs.ReachedIntervals.{outside_unreached}
+use Rattle.tesla_state.proofs.Tried.{skips_proof}
+use Rattle.tesla_state.specs.Gathering.{RiseBy, Spans, down_to, gathered, higher, highest, in_turn, index_in, is_first, is_reached, lower, lowest, order_of, place_of}
+use Rattle.tesla_state.specs.Walking.{Walking, row_of, rows_of}
+
+-- ---- two parts
+
+-- what is put before both parts
+permuted : {A : Type 0} (xs ys zs : List A) → ys ≡ zs → IsPermutation xs ys → IsPermutation xs zs
+permuted {A = A} xs ys zs e h = subst (λ (l : List A). IsPermutation xs l) e h
+
+-- the front of the second part goes before the first
+to_front : {A : Type 0} (us fs vs : List A) → IsPermutation (fs ++ (us ++ vs)) (us ++ (fs ++ vs))
+to_front {A = A} us fs vs =
+    let moved : IsPermutation ((fs ++ us) ++ vs) ((us ++ fs) ++ vs) = IsPermutation-append_left vs (fs ++ us) (us ++ fs) (IsPermutation-append_comm fs us) in
+    subst (λ (l : List A). IsPermutation l (us ++ (fs ++ vs))) (append_assoc fs us vs) (permuted ((fs ++ us) ++ vs) ((us ++ fs) ++ vs) (us ++ (fs ++ vs)) (append_assoc us fs vs) moved)
+
+module _ {X A : Type 0} (f : X → List A) where
+  -- an element that doesn't pass, or of which f gives nothing, may be left out
+  pub only_those : (p : X → Bool) → ((x : X) → p x ≡ false → f x ≡ []) → (xs : List X) → flat_map f (filter p xs) ≡ flat_map f xs
+  only_those p skip [] = refl
+  only_those p skip (x ∷ xs) = elim (cases_Bool (p x)) [
+    | inl e ↦ ap (λ b. flat_map f (cond b (x ∷ filter p xs) (filter p xs))) e ∙ ap (λ ys. f x ++ ys) (only_those p skip xs)
+    | inr e ↦ ap (λ b. flat_map f (cond b (x ∷ filter p xs) (filter p xs))) e ∙ only_those p skip xs ∙ ap (λ ys. ys ++ flat_map f xs) (sym (skip x e))
+  ]
+
+  part_step : (rx px qx : Bool) → (px ≡ true → (rx ≡ true) × (qx ≡ false)) → (qx ≡ true → rx ≡ true) → (rx ≡ true → px ≡ false → qx ≡ true) → (x : X) (rs ps qs : List X)
+      → IsPermutation (flat_map f rs) (flat_map f ps ++ flat_map f qs) → IsPermutation (flat_map f (cond rx (x ∷ rs) rs)) (flat_map f (cond px (x ∷ ps) ps) ++ flat_map f (cond qx (x ∷ qs) qs))
+  part_step true true true one both other x rs ps qs h = let e : true ≡ false = (one refl).1 in absurd (cc)
+  part_step true true false one both other x rs ps qs h =
+      permuted (f x ++ flat_map f rs) (f x ++ (flat_map f ps ++ flat_map f qs)) ((f x ++ flat_map f ps) ++ flat_map f qs) (sym (append_assoc (f x) (flat_map f ps) (flat_map f qs)))
+      (IsPermutation-append_right (f x) (flat_map f rs) (flat_map f ps ++ flat_map f qs) h)
+  part_step true false true one both other x rs ps qs h =
+      IsPermutation-trans (f x ++ flat_map f rs) (f x ++ (flat_map f ps ++ flat_map f qs)) (flat_map f ps ++ (f x ++ flat_map f qs))
+      (IsPermutation-append_right (f x) (flat_map f rs) (flat_map f ps ++ flat_map f qs) h)
+      (to_front (flat_map f ps) (f x) (flat_map f qs))
+  part_step true false false one both other x rs ps qs h = let e : false ≡ true = other refl refl in absurd (cc)
+  part_step false true qx one both other x rs ps qs h = let e : false ≡ true = (one refl).0 in absurd (cc)
+  part_step false false true one both other x rs ps qs h = let e : false ≡ true = both refl in absurd (cc)
+  part_step false false false one both other x rs ps qs h = h
+
+  -- each element that passes r passes just one of p and q
+  pub two_parts : (r p q : X → Bool) → ((x : X) → p x ≡ true → (r x ≡ true) × (q x ≡ false)) → ((x : X) → q x ≡ true → r x ≡ true) → ((x : X) → r x ≡ true → p x ≡ false → q x ≡ true) → (xs : List X)
+      → IsPermutation (flat_map f (filter r xs)) (flat_map f (filter p xs) ++ flat_map f (filter q xs))
+  two_parts r p q one both other [] = IsPermutation-refl []
+  two_parts r p q one both other (x ∷ xs) =
+      part_step (r x) (p x) (q x) (one x) (both x) (other x) x (filter r xs) (filter p xs) (filter q xs) (two_parts r p q one both other xs)
+
+-- ---- intervals
+
+-- above the one interval, and not above the other
+abbrev pub is_between : ℕ → ℕ → Holding → Bool
+is_between low high item = nat_lt low item.name.interval && nat_le item.name.interval high
+
+last_between : (low high interval : ℕ) → low < high → (interval == high) ≡ true → ((nat_lt low interval && nat_le interval high) ≡ true) × ((nat_lt low interval && nat_le interval (high - 1)) ≡ false)
+last_between low high interval h e = (grind (arith, nat_tests), grind (arith, nat_tests))
+
+still_between : (low high interval : ℕ) → (nat_lt low interval && nat_le interval (high - 1)) ≡ true → (nat_lt low interval && nat_le interval high) ≡ true
+still_between low high interval e = grind (arith, nat_tests)
+
+other_between : (low high interval : ℕ) → (nat_lt low interval && nat_le interval high) ≡ true → (interval == high) ≡ false → (nat_lt low interval && nat_le interval (high - 1)) ≡ true
+other_between low high interval e n = grind (arith, nat_tests)
+
+none_between : (low interval : ℕ) → (nat_lt low interval && nat_le interval (low + 0)) ≡ false
+none_between low interval = grind (arith, nat_tests)
+
+none_pass : {A : Type 0} (p : A → Bool) → ((x : A) → p x ≡ false) → (xs : List A) → filter p xs ≡ []
+none_pass p none [] = refl
+none_pass p none (x ∷ xs) = ap (λ b. cond b (x ∷ filter p xs) (filter p xs)) (none x) ∙ none_pass p none xs
+
+module _ {A : Type 0} (f : Holding → List A) (held : List Holding) (low : ℕ) where
+  -- what is gathered from the last interval down has the elements of what is gathered in order of arrival
+  pub gathers : (count : ℕ) → IsPermutation (flat_map f (filter (is_between low (low + count)) held)) (gathered f held low count)
+  gathers zero =
+      let nothing : flat_map f (filter (is_between low (low + 0)) held) ≡ [] = ap (flat_map f) (none_pass (is_between low (low + 0)) (λ item. none_between low item.name.interval) held) in
+      subst (λ (l : List A). IsPermutation l []) (sym nothing) (IsPermutation-refl [])
+  gathers (suc count) =
+      let one_less : low + suc count - 1 ≡ low + count = omega arith in
+      let parts : IsPermutation (flat_map f (filter (is_between low (low + suc count)) held)) (in_turn f held (low + suc count) ++ flat_map f (filter (is_between low (low + suc count - 1)) held)) =
+      two_parts f (is_between low (low + suc count)) (in_interval (low + suc count)) (is_between low (low + suc count - 1))
+      (λ item e. last_between low (low + suc count) item.name.interval (omega arith) e)
+      (λ item e. still_between low (low + suc count) item.name.interval e)
+      (λ item e n. other_between low (low + suc count) item.name.interval e n) held in
+      let rest : IsPermutation (flat_map f (filter (is_between low (low + suc count - 1)) held)) (gathered f held low count) =
+      subst (λ n. IsPermutation (flat_map f (filter (is_between low n) held)) (gathered f held low count)) (sym one_less) (gathers count) in
+      IsPermutation-trans (flat_map f (filter (is_between low (low + suc count)) held)) (in_turn f held (low + suc count) ++ flat_map f (filter (is_between low (low + suc count - 1)) held)) (gathered f held low (suc count)) parts
+      (IsPermutation-append_right (in_turn f held (low + suc count)) (flat_map f (filter (is_between low (low + suc count - 1)) held)) (gathered f held low count) rest)
+
+  -- where f gives nothing for the packets of other intervals
+  pub gathers_all : (count : ℕ) → ((item : Holding) → is_between low (low + count) item ≡ false → f item ≡ []) → IsPermutation (flat_map f held) (gathered f held low count)
+  gathers_all count skip =
+      subst (λ (l : List A). IsPermutation l (gathered f held low count)) (only_those f (is_between low (low + count)) skip held) (gathers count)
+
+-- ---- one interval after another
+
+pub length-down_to : (low count : ℕ) → length (down_to low count) ≡ count
+length-down_to low zero = refl
+length-down_to low (suc count) = omega (arith, length-down_to low count)
+
+-- the interval at a place
+pub down_to_at : (low count k d : ℕ) → k < count → get_or (down_to low count) k d ≡ low + count - k
+down_to_at low zero k d h = absurd (omega arith)
+down_to_at low (suc count) zero d h = omega arith
+down_to_at low (suc count) (suc k) d h = down_to_at low count k d (omega arith) ∙ omega arith
+
+-- what is gathered so far, with the interval at place k
+pub gathered_more : {A : Type 0} (f : Holding → List A) (held : List Holding) (low count k : ℕ) → k < count → flat_map (in_turn f held) (take (k + 1) (down_to low count)) ≡ flat_map (in_turn f held) (take k (down_to low count)) ++ in_turn f held (low + count - k)
+gathered_more {A = A} f held low count k h =
+    let inside : k < length (down_to low count) = omega (arith, length-down_to low count) in
+    ap (flat_map (in_turn f held)) (take_more (down_to low count) k 0 inside ∙ ap (λ i. take k (down_to low count) ++ i ∷ []) (down_to_at low count k 0 h))
+    ∙ flat_map-append (in_turn f held) (take k (down_to low count)) ((low + count - k) ∷ [])
+    ∙ ap (λ (l : List A). flat_map (in_turn f held) (take k (down_to low count)) ++ l) (append-nil (in_turn f held (low + count - k)))
+
+-- all is gathered where no interval is left
+pub gathered_whole : {A : Type 0} (f : Holding → List A) (held : List Holding) (low count k : ℕ) → count ≤ k → flat_map (in_turn f held) (take k (down_to low count)) ≡ gathered f held low count
+gathered_whole f held low count k h = ap (flat_map (in_turn f held)) (take_all k (down_to low count) (omega (arith, length-down_to low count)))
+
+-- ---- in order of arrival
+
+-- for an element f gives nothing, or one that carries its number
+abbrev pub GivesOwn : {X A : Type 0} → (X → ℕ) → (A → ℕ) → (X → List A) → Type 0
+GivesOwn {X = X} {A = A} number other f = (x : X) → (f x ≡ []) ⊎ ((y : A) × (f x ≡ y ∷ []) × (other y ≡ number x))
+
+module _ {X A : Type 0} (number : X → ℕ) (other : A → ℕ) (f : X → List A) (own : GivesOwn number other f) where
+  all_above : (m : ℕ) (xs : List X) → All (λ x. m < number x) xs → All (λ y. m < other y) (flat_map f xs)
+  all_above m [] all = All-nil (λ y. m < other y)
+  all_above m (x ∷ xs) all =
+      let rest : All (λ y. m < other y) (flat_map f xs) = all_above m xs (All-tail (λ x. m < number x) x xs all) in
+      let here : m < number x = All-head (λ x. m < number x) x xs all in
+      elim (own x) [
+        | inl none ↦ subst (λ ys. All (λ y. m < other y) (ys ++ flat_map f xs)) (sym none) rest
+        | inr (y, one, same) ↦
+            subst (λ ys. All (λ z. m < other z) (ys ++ flat_map f xs)) (sym one) (All-cons (λ z. m < other z) y (flat_map f xs) (omega (arith, here, same)) rest)
+      ]
+
+  -- what f gives along a list whose numbers rise has numbers that rise
+  pub gives_rising : (xs : List X) → RiseBy number xs → RiseBy other (flat_map f xs)
+  gives_rising [] rise = tt
+  gives_rising (x ∷ xs) rise =
+      let rest : RiseBy other (flat_map f xs) = gives_rising xs rise.1 in
+      let above : All (λ y. number x < other y) (flat_map f xs) = all_above (number x) xs rise.0 in
+      elim (own x) [
+        | inl none ↦ subst (λ ys. RiseBy other (ys ++ flat_map f xs)) (sym none) rest
+        | inr (y, one, same) ↦
+            subst (λ ys. RiseBy other (ys ++ flat_map f xs)) (sym one) ((λ k d inside. subst (λ n. n < other (get_or (flat_map f xs) k d)) (sym same) (above k d inside)), rest)
+      ]
+
+-- ---- what new keys prove
+
+own_release : (item : Holding) (told : Option ℕ) → (released_on item told ≡ []) ⊎ ((y : Release) × (released_on item told ≡ y ∷ []) × (y.place ≡ item.order))
+own_release item None = inl refl
+own_release item (Some chain) = inr (record { place = item.order; name = item.name; chain = record { 0 = chain } }, refl, refl)
+
+own_unless : (taken : Bool) (item : Holding) (told : Option ℕ) → (cond taken [] (released_on item told) ≡ []) ⊎ ((y : Release) × (cond taken [] (released_on item told) ≡ y ∷ []) × (y.place ≡ item.order))
+own_unless true item told = inl refl
+own_unless false item told = own_release item told
+
+-- a packet's release is told its place
+pub gives_own : (cfg : Config) (tips : List Tip) (new : List KeyRow) → GivesOwn order_of place_of (proof_of cfg tips new)
+gives_own cfg tips new item = own_unless item.released item (find (proves_on cfg tips new item) (chains cfg))
+
+no_chain : (p : ℕ → Bool) → ((c : ℕ) → p c ≡ false) → (xs : List ℕ) → find p xs ≡ None
+no_chain p none [] = refl
+no_chain p none (x ∷ xs) = ap (λ b. cond b (Some x) (find p xs)) (none x) ∙ no_chain p none xs
+
+module _ (cfg : Config) (tips : List Tip) (item : Holding) (chain : ℕ) (newer : nat_lt (tip_at tips chain).index item.name.interval ≡ true) where
+  -- a key proves nothing of an interval that its chain has reached before, or that it doesn't reach
+  row_proves_not : (row : KeyRow) → is_first (index_in tips) item.name.interval row ≡ false → is_proof_of cfg item chain row ≡ false
+  row_proves_not row unreached =
+      elim (cases_Bool (is_of chain row)) [
+        | inl own ↦
+            let same : row.chain.0 ≡ chain = eqb-true row.chain.0 chain own in
+            let far : nat_le item.name.interval row.index ≡ false =
+            ap (λ b. b && nat_le item.name.interval row.index) (sym (ap (λ (n : ℕ). nat_lt (tip_at tips n).index item.name.interval) same ∙ newer)) ∙ unreached in
+            let tag = matches cfg item chain row (slice_get item.tags chain) in
+            ap (λ b. b && nat_le item.name.interval row.index && tag) own ∙ ap (λ b. b && tag) far
+        | inr other ↦ skips_proof cfg item chain row other
+      ]
+
+  rows_prove_not : (rows : List KeyRow) → is_reached (index_in tips) rows item.name.interval ≡ false → list_any (is_proof_of cfg item chain) rows ≡ false
+  rows_prove_not [] unreached = refl
+  rows_prove_not (row ∷ rows) unreached =
+      let parts = or_parts (is_first (index_in tips) item.name.interval row) (is_reached (index_in tips) rows item.name.interval) unreached in
+      ap (λ b. b || list_any (is_proof_of cfg item chain) rows) (row_proves_not row parts.0) ∙ rows_prove_not rows parts.1
+
+proved_not : (safe newer any : Bool) → (newer ≡ true → any ≡ false) → (safe && newer && any) ≡ false
+proved_not true true any h = h refl
+proved_not true false any h = refl
+proved_not false newer any h = refl
+
+nothing_told : (b : Bool) (item : Holding) (told : Option ℕ) → told ≡ None → cond b [] (released_on item told) ≡ []
+nothing_told true item told e = refl
+nothing_told false item told e = ap (released_on item) e
+
+-- new keys prove nothing of an interval that they aren't the first to reach
+unreached_unproved : (cfg : Config) (tips : List Tip) (new : List KeyRow) (item : Holding) → is_reached (index_in tips) new item.name.interval ≡ false → proof_of cfg tips new item ≡ []
+unreached_unproved cfg tips new item unreached =
+    let none : find (proves_on cfg tips new item) (chains cfg) ≡ None =
+    no_chain (proves_on cfg tips new item)
+    (λ c. proved_not (has_chain item.chains c) (nat_lt (tip_at tips c).index item.name.interval) (list_any (is_proof_of cfg item c) new)
+    (λ newer. rows_prove_not cfg tips item c newer new unreached)) (chains cfg) in
+    nothing_told item.released item (find (proves_on cfg tips new item) (chains cfg)) none
+
+-- nor outside of those that they span
+pub proves_nothing : (cfg : Config) (tips : List Tip) (new : List KeyRow) (low high : ℕ) → Spans tips new low high → (item : Holding) → is_between low high item ≡ false → proof_of cfg tips new item ≡ []
+proves_nothing cfg tips new low high spans item outside =
+    unreached_unproved cfg tips new item (outside_unreached tips new low high item.name.interval spans.above spans.below outside)
+
+turn_step : (f : Holding → List Release) (item : Holding) (items : List Holding) (b : Bool) → (b ≡ true → f item ≡ []) → flat_map f items ≡ [] → flat_map f (cond b (item ∷ items) items) ≡ []
+turn_step f item items true here rest = ap (λ rs. rs ++ flat_map f items) (here refl) ∙ rest
+turn_step f item items false here rest = rest
+
+-- nothing is gathered in such an interval
+pub unreached_turn : (cfg : Config) (tips : List Tip) (new : List KeyRow) (interval : ℕ) (held : List Holding) → is_reached (index_in tips) new interval ≡ false → in_turn (proof_of cfg tips new) held interval ≡ []
+unreached_turn cfg tips new interval [] unreached = refl
+unreached_turn cfg tips new interval (item ∷ held) unreached =
+    turn_step (proof_of cfg tips new) item (filter (in_interval interval) held) (in_interval interval item)
+    (λ e. unreached_unproved cfg tips new item (ap (is_reached (index_in tips) new) (eqb-true item.name.interval interval e) ∙ unreached))
+    (unreached_turn cfg tips new interval held unreached)
+
+-- ---- the intervals that new keys span
+
+lowest_least : (tips : List Tip) (new : List KeyRow) (start : ℕ) → fold (lower tips) start new ≤ start
+lowest_least tips [] start = omega arith
+lowest_least tips (row ∷ rows) start =
+    let rest = lowest_least tips rows (lower tips start row) in
+    omega (arith, rest)
+
+lowest_all : (tips : List Tip) (new : List KeyRow) (start : ℕ) → All (λ row. fold (lower tips) start new ≤ (tip_at tips row.chain.0).index) new
+lowest_all tips [] start = All-nil (λ row. start ≤ (tip_at tips row.chain.0).index)
+lowest_all tips (row ∷ rows) start =
+    let here = lowest_least tips rows (lower tips start row) in
+    All-cons (λ r. fold (lower tips) (lower tips start row) rows ≤ (tip_at tips r.chain.0).index) row rows (omega (arith, here)) (lowest_all tips rows (lower tips start row))
+
+highest_greatest : (new : List KeyRow) (start : ℕ) → start ≤ fold higher start new
+highest_greatest [] start = omega arith
+highest_greatest (row ∷ rows) start =
+    let rest = highest_greatest rows (higher start row) in
+    omega (arith, rest)
+
+highest_all : (new : List KeyRow) (start : ℕ) → All (λ row. row.index ≤ fold higher start new) new
+highest_all [] start = All-nil (λ row. row.index ≤ start)
+highest_all (row ∷ rows) start =
+    let here = highest_greatest rows (higher start row) in
+    All-cons (λ r. r.index ≤ fold higher (higher start row) rows) row rows (omega (arith, here)) (highest_all rows (higher start row))
+
+-- new keys span the intervals from the lowest to the highest
+pub spans : (tips : List Tip) (new : List KeyRow) → Spans tips new (lowest tips new) (highest new)
+spans tips new = record { above = lowest_all tips new (2 ^ 32 - 1); below = highest_all new 0 }
+
+-- so many intervals after the lowest, or more
+pub spans_count : (tips : List Tip) (new : List KeyRow) (low high : ℕ) → Spans tips new low high → Spans tips new low (low + (high - low))
+spans_count tips new low high s = record { above = s.above; below = λ k d inside. omega (arith, s.below k d inside) }
+
+fold_more : {A : Type 0} (f : ℕ → A → ℕ) (start : ℕ) (xs : List A) (i : ℕ) (x : A) → i < length xs → get_or xs i x ≡ x → fold f start (take (i + 1) xs) ≡ f (fold f start (take i xs)) x
+fold_more f start xs i x inside at = ap (fold f start) (take_more xs i x inside ∙ ap (λ y. take i xs ++ y ∷ []) at) ∙ fold-append f start (take i xs) (x ∷ [])
+
+-- one walk more
+pub walk_more : (f : ℕ → KeyRow → ℕ) (start : ℕ) (walks : List Walking) (i : ℕ) (d : Walking) (row : KeyRow) → i < length walks → row ≡ (get_or walks i d).row → fold f start (take (i + 1) (rows_of walks)) ≡ f (fold f start (take i (rows_of walks))) row
+walk_more f start walks i d row inside is =
+    fold_more f start (rows_of walks) i row (omega (arith, length-map walks row_of, inside)) (get_or-map row_of walks i d row inside ∙ sym is)
+
+-- what is gathered from the last interval down is the batch in another order
+pub batch_gathers : (cfg : Config) (tips : List Tip) (new : List KeyRow) (held : List Holding) (low count : ℕ) → Spans tips new low (low + count) → IsPermutation (batch_of cfg tips new held) (gathered (proof_of cfg tips new) held low count)
+batch_gathers cfg tips new held low count spans =
+    gathers_all (proof_of cfg tips new) held low count (proves_nothing cfg tips new low (low + count) spans)
+
+-- the places of the batch rise
+pub batch_rises : (cfg : Config) (tips : List Tip) (new : List KeyRow) (held : List Holding) → RiseBy order_of held → RiseBy place_of (batch_of cfg tips new held)
+batch_rises cfg tips new held rise = gives_rising order_of place_of (proof_of cfg tips new) (gives_own cfg tips new) held rise
+
+-- ---- what is gathered is tried once
+
+-- each element by itself is the list
+pub flat_map_one : {A : Type 0} (xs : List A) → flat_map (λ x. x ∷ []) xs ≡ xs
+flat_map_one [] = refl
+flat_map_one (x ∷ xs) = ap (λ ys. x ∷ ys) (flat_map_one xs)
+
+sum_filter : {A : Type 0} (number : A → ℕ) (p : A → Bool) (xs : List A) → sum_by number (filter p xs) ≤ sum_by number xs
+sum_filter number p [] = omega arith
+sum_filter number p (x ∷ xs) =
+    let rest : sum_by number (filter p xs) ≤ sum_by number xs = sum_filter number p xs in
+    let whole = sum_by-cons number x xs in
+    let kept = sum_by-cons number x (filter p xs) in
+    elim (p x) as (λ b. sum_by number (cond b (x ∷ filter p xs) (filter p xs)) ≤ sum_by number (x ∷ xs)) [ true ↦ omega (arith, rest, whole, kept) | false ↦ omega (arith, rest, whole) ]
+
+-- the packets of the intervals, from the last interval down, count for no more than all that are held
+pub gathered_sum : (number : Holding → ℕ) (held : List Holding) (low count : ℕ) → sum_by number (gathered (λ item. item ∷ []) held low count) ≤ sum_by number held
+gathered_sum number held low count =
+    let one : Holding → List Holding = λ item. item ∷ [] in
+    let those = filter (is_between low (low + count)) held in
+    let same : sum_by number (gathered one held low count) ≡ sum_by number (flat_map one those) =
+    sum_by-IsPermutation number (flat_map one those) (gathered one held low count) (gathers one held low count) in
+    let plain : sum_by number (flat_map one those) ≡ sum_by number those = ap (sum_by number) (flat_map_one those) in
+    omega (arith, same, plain, sum_filter number (is_between low (low + count)) held)

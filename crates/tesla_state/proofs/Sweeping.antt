@@ -1,0 +1,393 @@
+-- A walk along the packets of an interval, some of which are let go on the way.
+use Rattle.std.proofs.Common.{◌≡◌, ℕ, ◌+◌, ◌≤◌, suc, zero, Bool, true, false, cond, ◌&&◌, ◌||◌, List, [], ◌∷◌, length, map, drop, Option, Some, None, refl, sym, ap, subst, ⊎_elim, ◌∙◌, arith, ◌==◌}
+use Rattle.std.specs.Prelude.{not, find, nat_lt, nat_le, max}
+use Rattle.std.specs.List.{list_any, list_all, filter}
+use Rattle.std.proofs.Math.ListN.{drop_of_length-le}
+use Rattle.std.proofs.lemmas.Bool.{cases_Bool, and_from, or_left, or_right, both_ways, eqb-true, eq-eqb, false_from_ne_true}
+use Rattle.std.proofs.Math.Bool.{and-false}
+use Rattle.std.proofs.lemmas.Bool.Decides.{nat_tests}
+use Rattle.tesla_base.specs.declared.names.Place.{Place}
+use Rattle.tesla_keys.specs.Tip.{Tip}
+use Rattle.tesla_links.specs.Lists.{is_in, Distinct}
+use Rattle.tesla_fitting.specs.declared.config.Config.{Config}
+use Rattle.tesla_fitting.specs.Config.{chains}
+use Rattle.tesla_state.specs.Steps.{is_over, is_passed}
+use Rattle.tesla_state.specs.Stored.{Placed, Stored, place_of, stands_at, waits, without, is_of, first_place, next_place, is_idle, in_span}
+
+-- what is held after the first so many packets of an interval were looked at, and let go where they pass a test
+pub swept : ℕ → (Placed → Bool) → ℕ → List Placed → List Placed
+swept i over zero held = held
+swept i over (suc n) [] = []
+swept i over (suc n) (x ∷ xs) = cond (is_of i x) (cond (over x) (swept i over n xs) (x ∷ swept i over n xs)) (x ∷ swept i over (suc n) xs)
+
+some_first : {A : Type 0} (x y : A) (xs ys : List A) → x ∷ xs ≡ y ∷ ys → x ≡ y
+some_first x y xs ys h = cc
+
+some_rest : {A : Type 0} (x y : A) (xs ys : List A) → x ∷ xs ≡ y ∷ ys → xs ≡ ys
+some_rest x y xs ys h = cc
+
+not_empty : {A : Type 0} (x : A) (xs : List A) → x ∷ xs ≡ [] → ⊥
+not_empty x xs h = cc
+
+nothing : {A : Type 0} (n : ℕ) (y : A) (rest : List A) → drop n [] ≡ y ∷ rest → ⊥
+nothing zero y rest h = cc
+nothing (suc n) y rest h = cc
+
+-- the packet that comes next: it is found, the one behind it, and what stays once it was looked at
+pub record Next (i : ℕ) (over : Placed → Bool) (n : ℕ) (held : List Placed) (y : Placed) (rest : List Placed) : Type 0 where
+  pub there : is_in y.place (map place_of held) ≡ true
+  pub of : is_of i y ≡ true
+  pub found : find (stands_at y.place) (swept i over n held) ≡ Some y
+  pub next : next_place y.place (swept i over n held) ≡ first_place rest
+  pub more : swept i over (suc n) held ≡ cond (over y) (without y.place (swept i over n held)) (swept i over n held)
+
+found_past : (x y : Placed) (s : List Placed) → (x.place == y.place) ≡ false → find (stands_at y.place) s ≡ Some y → find (stands_at y.place) (x ∷ s) ≡ Some y
+found_past x y s none h = ap (λ t. cond t (Some x) (find (stands_at y.place) s)) none ∙ h
+
+next_past : (x y : Placed) (s rest : List Placed) → (x.place == y.place) ≡ false → next_place y.place s ≡ first_place rest → next_place y.place (x ∷ s) ≡ first_place rest
+next_past x y s rest none h = ap (λ t. cond t (first_place (filter (is_of x.holding.name.interval) s)) (next_place y.place s)) none ∙ h
+
+more_past : (x y : Placed) (b : Bool) (s t : List Placed) → (x.place == y.place) ≡ false → t ≡ cond b (without y.place s) s → x ∷ t ≡ cond b (without y.place (x ∷ s)) (x ∷ s)
+more_past x y true s t none h = ap (λ r. x ∷ r) h ∙ sym (ap (λ u. cond (not u) (x ∷ without y.place s) (without y.place s)) none)
+more_past x y false s t none h = ap (λ r. x ∷ r) h
+
+pub none_without : (p : ℕ) (held : List Placed) → is_in p (map place_of held) ≡ false → without p held ≡ held
+none_without p [] h = refl
+none_without p (x ∷ xs) h =
+    let first : (x.place == p) ≡ false = false_from_ne_true (x.place == p) (λ e. both_ways (is_in p (map place_of (x ∷ xs))) h (or_left (x.place == p) (is_in p (map place_of xs)) e)) in
+    let rest : is_in p (map place_of xs) ≡ false = sym (ap (λ t. t || is_in p (map place_of xs)) first) ∙ h in
+    ap (λ t. cond (not t) (x ∷ without p xs) (without p xs)) first ∙ ap (λ r. x ∷ r) (none_without p xs rest)
+
+pub head_other : (n x : ℕ) (xs : List ℕ) → is_in x xs ≡ false → is_in n xs ≡ true → (x == n) ≡ false
+head_other n x xs none there = false_from_ne_true (x == n) (λ e. both_ways (is_in x xs) none (ap (λ (k : ℕ). is_in k xs) (eqb-true x n e) ∙ there))
+
+-- the first of the interval stands at the head
+next_head : (i : ℕ) (over : Placed → Bool) (x : Placed) (xs : List Placed) → is_in x.place (map place_of xs) ≡ false → is_of i x ≡ true → Next i over 0 (x ∷ xs) x (filter (is_of i) xs)
+unfolding swept
+next_head i over x xs none e =
+    let here : (x.place == x.place) ≡ true = eq-eqb x.place x.place refl in
+    record {
+      there = or_left (x.place == x.place) (is_in x.place (map place_of xs)) here;
+      of = e;
+      found = ap (λ t. cond t (Some x) (find (stands_at x.place) xs)) here;
+      next = ap (λ t. cond t (first_place (filter (is_of x.holding.name.interval) xs)) (next_place x.place xs)) here
+          ∙ ap (λ (k : ℕ). first_place (filter (is_of k) xs)) (eqb-true x.holding.name.interval i e);
+      more = ap (λ t. cond t (cond (over x) xs (x ∷ xs)) (x ∷ swept i over 1 xs)) e
+          ∙ ap (λ r. cond (over x) r (x ∷ xs)) (sym (ap (λ t. cond (not t) (x ∷ without x.place xs) (without x.place xs)) here ∙ none_without x.place xs none));
+    }
+
+-- the head was looked at
+next_looked : (i : ℕ) (over : Placed → Bool) (m : ℕ) (x : Placed) (xs : List Placed) (y : Placed) (rest : List Placed) (b : Bool) → over x ≡ b → is_in x.place (map place_of xs) ≡ false → is_of i x ≡ true → Next i over m xs y rest → Next i over (suc m) (x ∷ xs) y rest
+unfolding swept
+next_looked i over m x xs y rest true o none e r =
+    let now : swept i over (suc m) (x ∷ xs) ≡ swept i over m xs = ap (λ t. cond t (cond (over x) (swept i over m xs) (x ∷ swept i over m xs)) (x ∷ swept i over (suc m) xs)) e ∙ ap (λ t. cond t (swept i over m xs) (x ∷ swept i over m xs)) o in
+    let then : swept i over (suc (suc m)) (x ∷ xs) ≡ swept i over (suc m) xs = ap (λ t. cond t (cond (over x) (swept i over (suc m) xs) (x ∷ swept i over (suc m) xs)) (x ∷ swept i over (suc (suc m)) xs)) e ∙ ap (λ t. cond t (swept i over (suc m) xs) (x ∷ swept i over (suc m) xs)) o in
+    record {
+      there = or_right (x.place == y.place) (is_in y.place (map place_of xs)) r.there;
+      of = r.of;
+      found = ap (find (stands_at y.place)) now ∙ r.found;
+      next = ap (next_place y.place) now ∙ r.next;
+      more = then ∙ r.more ∙ ap (λ s. cond (over y) (without y.place s) s) (sym now);
+    }
+next_looked i over m x xs y rest false o none e r =
+    let other : (x.place == y.place) ≡ false = head_other y.place x.place (map place_of xs) none r.there in
+    let now : swept i over (suc m) (x ∷ xs) ≡ x ∷ swept i over m xs = ap (λ t. cond t (cond (over x) (swept i over m xs) (x ∷ swept i over m xs)) (x ∷ swept i over (suc m) xs)) e ∙ ap (λ t. cond t (swept i over m xs) (x ∷ swept i over m xs)) o in
+    let then : swept i over (suc (suc m)) (x ∷ xs) ≡ x ∷ swept i over (suc m) xs = ap (λ t. cond t (cond (over x) (swept i over (suc m) xs) (x ∷ swept i over (suc m) xs)) (x ∷ swept i over (suc (suc m)) xs)) e ∙ ap (λ t. cond t (swept i over (suc m) xs) (x ∷ swept i over (suc m) xs)) o in
+    record {
+      there = or_right (x.place == y.place) (is_in y.place (map place_of xs)) r.there;
+      of = r.of;
+      found = ap (find (stands_at y.place)) now ∙ found_past x y (swept i over m xs) other r.found;
+      next = ap (next_place y.place) now ∙ next_past x y (swept i over m xs) rest other r.next;
+      more = then ∙ more_past x y (over y) (swept i over m xs) (swept i over (suc m) xs) other r.more ∙ ap (λ s. cond (over y) (without y.place s) s) (sym now);
+    }
+
+swept_other : (i : ℕ) (over : Placed → Bool) (n : ℕ) (x : Placed) (xs : List Placed) → is_of i x ≡ false → swept i over n (x ∷ xs) ≡ x ∷ swept i over n xs
+unfolding swept
+swept_other i over zero x xs e = refl
+swept_other i over (suc n) x xs e = ap (λ t. cond t (cond (over x) (swept i over n xs) (x ∷ swept i over n xs)) (x ∷ swept i over (suc n) xs)) e
+
+-- the head is of another interval
+next_other : (i : ℕ) (over : Placed → Bool) (n : ℕ) (x : Placed) (xs : List Placed) (y : Placed) (rest : List Placed) → is_in x.place (map place_of xs) ≡ false → is_of i x ≡ false → Next i over n xs y rest → Next i over n (x ∷ xs) y rest
+next_other i over n x xs y rest none e r =
+    let other : (x.place == y.place) ≡ false = head_other y.place x.place (map place_of xs) none r.there in
+    let now : swept i over n (x ∷ xs) ≡ x ∷ swept i over n xs = swept_other i over n x xs e in
+    record {
+      there = or_right (x.place == y.place) (is_in y.place (map place_of xs)) r.there;
+      of = r.of;
+      found = ap (find (stands_at y.place)) now ∙ found_past x y (swept i over n xs) other r.found;
+      next = ap (next_place y.place) now ∙ next_past x y (swept i over n xs) rest other r.next;
+      more = swept_other i over (suc n) x xs e ∙ more_past x y (over y) (swept i over n xs) (swept i over (suc n) xs) other r.more ∙ ap (λ s. cond (over y) (without y.place s) s) (sym now);
+    }
+
+pub next_is : (i : ℕ) (over : Placed → Bool) (n : ℕ) (held : List Placed) (y : Placed) (rest : List Placed) → Distinct (map place_of held) → drop n (filter (is_of i) held) ≡ y ∷ rest → Next i over n held y rest
+next_is i over n [] y rest d h = absurd (nothing n y rest h)
+next_is i over zero (x ∷ xs) y rest d h =
+    ⊎_elim
+    (λ e. let same : x ∷ filter (is_of i) xs ≡ y ∷ rest = sym (ap (λ t. cond t (x ∷ filter (is_of i) xs) (filter (is_of i) xs)) e) ∙ h in
+    let first : x ≡ y = some_first x y (filter (is_of i) xs) rest same in
+    let behind : filter (is_of i) xs ≡ rest = some_rest x y (filter (is_of i) xs) rest same in
+    subst (λ z. Next i over 0 (x ∷ xs) z rest) first (subst (λ zs. Next i over 0 (x ∷ xs) x zs) behind (next_head i over x xs d.0 e)))
+    (λ e. next_other i over 0 x xs y rest d.0 e (next_is i over zero xs y rest d.1 (sym (ap (λ t. cond t (x ∷ filter (is_of i) xs) (filter (is_of i) xs)) e) ∙ h)))
+    (cases_Bool (is_of i x))
+next_is i over (suc m) (x ∷ xs) y rest d h =
+    ⊎_elim
+    (λ e. next_looked i over m x xs y rest (over x) refl d.0 e (next_is i over m xs y rest d.1 (sym (ap (λ t. drop (suc m) (cond t (x ∷ filter (is_of i) xs) (filter (is_of i) xs))) e) ∙ h)))
+    (λ e. next_other i over (suc m) x xs y rest d.0 e (next_is i over (suc m) xs y rest d.1 (sym (ap (λ t. drop (suc m) (cond t (x ∷ filter (is_of i) xs) (filter (is_of i) xs))) e) ∙ h)))
+    (cases_Bool (is_of i x))
+
+-- all of the interval were looked at
+kept_step : (b : Bool) (x : Placed) (s f : List Placed) → s ≡ f → cond b s (x ∷ s) ≡ cond (not b) (x ∷ f) f
+kept_step true x s f h = h
+kept_step false x s f h = ap (λ r. x ∷ r) h
+
+pub swept_all : (i : ℕ) (over : Placed → Bool) (n : ℕ) (held : List Placed) → drop n (filter (is_of i) held) ≡ [] → swept i over n held ≡ filter (λ x. not (is_of i x && over x)) held
+unfolding swept
+swept_all i over zero [] h = refl
+swept_all i over (suc n) [] h = refl
+swept_all i over zero (x ∷ xs) h =
+    ⊎_elim
+    (λ e. absurd (not_empty x (filter (is_of i) xs) (sym (ap (λ t. cond t (x ∷ filter (is_of i) xs) (filter (is_of i) xs)) e) ∙ h)))
+    (λ e. ap (λ r. x ∷ r) (swept_all i over zero xs (sym (ap (λ t. cond t (x ∷ filter (is_of i) xs) (filter (is_of i) xs)) e) ∙ h))
+    ∙ sym (ap (λ t. cond (not (t && over x)) (x ∷ filter (λ y. not (is_of i y && over y)) xs) (filter (λ y. not (is_of i y && over y)) xs)) e))
+    (cases_Bool (is_of i x))
+swept_all i over (suc m) (x ∷ xs) h =
+    ⊎_elim
+    (λ e. let rest = swept_all i over m xs (sym (ap (λ t. drop (suc m) (cond t (x ∷ filter (is_of i) xs) (filter (is_of i) xs))) e) ∙ h) in
+    ap (λ t. cond t (cond (over x) (swept i over m xs) (x ∷ swept i over m xs)) (x ∷ swept i over (suc m) xs)) e
+    ∙ kept_step (over x) x (swept i over m xs) (filter (λ y. not (is_of i y && over y)) xs) rest
+    ∙ sym (ap (λ t. cond (not (t && over x)) (x ∷ filter (λ y. not (is_of i y && over y)) xs) (filter (λ y. not (is_of i y && over y)) xs)) e))
+    (λ e. let rest = swept_all i over (suc m) xs (sym (ap (λ t. drop (suc m) (cond t (x ∷ filter (is_of i) xs) (filter (is_of i) xs))) e) ∙ h) in
+    ap (λ t. cond t (cond (over x) (swept i over m xs) (x ∷ swept i over m xs)) (x ∷ swept i over (suc m) xs)) e
+    ∙ ap (λ r. x ∷ r) rest
+    ∙ sym (ap (λ t. cond (not (t && over x)) (x ∷ filter (λ y. not (is_of i y && over y)) xs) (filter (λ y. not (is_of i y && over y)) xs)) e))
+    (cases_Bool (is_of i x))
+
+-- ---- a walk through an interval
+
+-- so many packets of the interval were looked at; this is the place of the next
+pub record Sweeping (old new : Stored) (i : ℕ) (over : Placed → Bool) (n : ℕ) (at : Option Place) : Type 0 where
+  pub capacity : new.capacity ≡ old.capacity
+  pub chains : new.chains ≡ old.chains
+  pub waiting : new.waiting ≡ old.waiting
+  pub given : new.given ≡ old.given
+  pub held : new.held ≡ swept i over n old.held
+  pub next : at ≡ first_place (drop n (filter (is_of i) old.held))
+
+pub sweeping_none : (old : Stored) (i : ℕ) (over : Placed → Bool) (o : Option Place) → o ≡ first_place (filter (is_of i) old.held) → Sweeping old old i over 0 o
+unfolding swept
+sweeping_none old i over o h = record { capacity = refl; chains = refl; waiting = refl; given = refl; held = refl; next = h }
+
+first_none : (xs : List Placed) → first_place xs ≡ None → xs ≡ []
+first_none [] h = refl
+first_none (x ∷ xs) h = absurd (cc)
+
+pub record FirstOf (xs : List Placed) (place : Place) : Type 0 where
+  pub first : Placed
+  pub rest : List Placed
+  pub is : xs ≡ first ∷ rest
+  pub place_is : place.0 ≡ first.place
+
+pub first_some : (xs : List Placed) (place : Place) → first_place xs ≡ Some place → FirstOf xs place
+first_some [] place h = absurd (cc)
+first_some (x ∷ xs) place h = record { first = x; rest = xs; is = refl; place_is = (let same : record { 0 = x.place } ≡ place = cc in sym (ap (λ (p : Place). p.0) same)) }
+
+pub swept_through : (old new : Stored) (i : ℕ) (over : Placed → Bool) (n : ℕ) (next : Option Place) → Sweeping old new i over n next → next ≡ None → new.held ≡ filter (λ x. not (is_of i x && over x)) old.held
+swept_through old new i over n next s none =
+    s.held ∙ swept_all i over n old.held (first_none (drop n (filter (is_of i) old.held)) (sym s.next ∙ none))
+
+pub swept_long : (old new : Stored) (i : ℕ) (over : Placed → Bool) (n : ℕ) (next : Option Place) → Sweeping old new i over n next → length (filter (is_of i) old.held) ≤ n → new.held ≡ filter (λ x. not (is_of i x && over x)) old.held
+swept_long old new i over n next s all = s.held ∙ swept_all i over n old.held (drop_of_length-le (filter (is_of i) old.held) all)
+
+drop_next : {A : Type 0} (n : ℕ) (xs : List A) (y : A) (rest : List A) → drop n xs ≡ y ∷ rest → drop (suc n) xs ≡ rest
+drop_next n [] y rest h = absurd (nothing n y rest h)
+drop_next zero (x ∷ xs) y rest h = some_rest x y xs rest h
+drop_next (suc n) (x ∷ xs) y rest h = drop_next n xs y rest h
+
+pub next_at : (old new : Stored) (i : ℕ) (over : Placed → Bool) (n : ℕ) (place : Place) → Sweeping old new i over n (Some place) → FirstOf (drop n (filter (is_of i) old.held)) place
+next_at old new i over n place s = first_some (drop n (filter (is_of i) old.held)) place (sym s.next)
+
+pub found_next : (old new : Stored) (i : ℕ) (over : Placed → Bool) (n : ℕ) (place : Place) → Distinct (map place_of old.held) → (s : Sweeping old new i over n (Some place)) → find (stands_at place.0) new.held ≡ Some (next_at old new i over n place s).first
+found_next old new i over n place d s =
+    let f = next_at old new i over n place s in
+    ap (find (stands_at place.0)) s.held ∙ ap (λ (p : ℕ). find (stands_at p) (swept i over n old.held)) f.place_is
+    ∙ (next_is i over n old.held f.first f.rest d f.is).found
+
+pub sweeping_more : (old new then : Stored) (i : ℕ) (over : Placed → Bool) (n : ℕ) (place : Place) (next : Option Place) → Distinct (map place_of old.held) → Sweeping old new i over n (Some place) → next ≡ next_place place.0 new.held → then.capacity ≡ new.capacity → then.chains ≡ new.chains → then.waiting ≡ new.waiting → then.given ≡ new.given → ((x : Placed) → find (stands_at place.0) new.held ≡ Some x → then.held ≡ cond (over x) (without place.0 new.held) new.held) → Sweeping old then i over (n + 1) next
+sweeping_more old new then i over n place next d s e capacity chains waiting given held =
+    let f = next_at old new i over n place s in
+    let r = next_is i over n old.held f.first f.rest d f.is in
+    let count : suc n ≡ n + 1 = omega arith in
+    record {
+      capacity = capacity ∙ s.capacity;
+      chains = chains ∙ s.chains;
+      waiting = waiting ∙ s.waiting;
+      given = given ∙ s.given;
+      held = held f.first (found_next old new i over n place d s)
+          ∙ ap (λ (p : ℕ). cond (over f.first) (without p new.held) new.held) f.place_is
+          ∙ ap (λ h. cond (over f.first) (without f.first.place h) h) s.held
+          ∙ sym r.more ∙ ap (λ (k : ℕ). swept i over k old.held) count;
+      next = e ∙ ap (next_place place.0) s.held ∙ ap (λ (p : ℕ). next_place p (swept i over n old.held)) f.place_is ∙ r.next
+          ∙ ap first_place (sym (drop_next n (filter (is_of i) old.held) f.first f.rest f.is)) ∙ ap (λ (k : ℕ). first_place (drop k (filter (is_of i) old.held))) count;
+    }
+
+pub found_stands : (p : ℕ) (f : Placed → Bool) (x : Placed) (held : List Placed) → find (stands_at p) held ≡ Some x → f x ≡ true → list_any (λ y. stands_at p y && f y) held ≡ true
+found_stands p f x [] h k = absurd (cc)
+found_stands p f x (y ∷ ys) h k =
+    ⊎_elim
+    (λ e. let same : Some y ≡ Some x = sym (ap (λ t. cond t (Some y) (find (stands_at p) ys)) e) ∙ h in
+    let here : y ≡ x = cc in
+    or_left (stands_at p y && f y) (list_any (λ z. stands_at p z && f z) ys) (and_from (stands_at p y) (f y) e (ap f here ∙ k)))
+    (λ e. or_right (stands_at p y && f y) (list_any (λ z. stands_at p z && f z) ys) (found_stands p f x ys (sym (ap (λ t. cond t (Some y) (find (stands_at p) ys)) e) ∙ h) k))
+    (cases_Bool (stands_at p y))
+
+pub found_any : (p : ℕ) (x : Placed) (held : List Placed) → find (stands_at p) held ≡ Some x → list_any (stands_at p) held ≡ true
+found_any p x [] h = absurd (cc)
+found_any p x (y ∷ ys) h =
+    ⊎_elim
+    (λ e. or_left (stands_at p y) (list_any (stands_at p) ys) e)
+    (λ e. or_right (stands_at p y) (list_any (stands_at p) ys) (found_any p x ys (sym (ap (λ t. cond t (Some y) (find (stands_at p) ys)) e) ∙ h)))
+    (cases_Bool (stands_at p y))
+
+idle_rests : (r t a p : Bool) → (((false || a) && not r) || (t && p)) ≡ true → not (r && not t) ≡ true
+idle_rests true true a p h = refl
+idle_rests true false true p h = h
+idle_rests true false false p h = h
+idle_rests false t a p h = refl
+
+-- what isn't needed any more doesn't wait to be taken
+pub idle_is_at_rest : (cfg : Config) (tips : List Tip) (x : Placed) → is_idle cfg tips x ≡ true → not (waits x) ≡ true
+idle_is_at_rest cfg tips x h = idle_rests x.holding.released x.holding.taken (list_all (is_over tips x.holding) (chains cfg)) (list_all (is_passed tips x.holding.name.interval) (chains cfg)) h
+
+-- ---- intervals one after another
+
+pub filter_filter : {A : Type 0} (p q r : A → Bool) → ((x : A) → (q x && p x) ≡ r x) → (xs : List A) → filter p (filter q xs) ≡ filter r xs
+filter_filter p q r same [] = refl
+filter_filter p q r same (x ∷ xs) =
+    ⊎_elim
+    (λ e. ap (λ t. filter p (cond t (x ∷ filter q xs) (filter q xs))) e ∙ ap (λ ys. cond (p x) (x ∷ ys) ys) (filter_filter p q r same xs)
+    ∙ ap (λ t. cond t (x ∷ filter r xs) (filter r xs)) (ap (λ t. t && p x) (sym e) ∙ same x))
+    (λ e. ap (λ t. filter p (cond t (x ∷ filter q xs) (filter q xs))) e ∙ filter_filter p q r same xs
+    ∙ ap (λ t. cond t (x ∷ filter r xs) (filter r xs)) (ap (λ t. t && p x) (sym e) ∙ same x))
+    (cases_Bool (q x))
+
+both_tests : (s e o : Bool) → (not (s && o) && not (e && o)) ≡ not ((s || e) && o)
+both_tests true e false = ap not (and-false e)
+both_tests true true true = refl
+both_tests true false true = refl
+both_tests false e o = refl
+
+-- the intervals above one, up to another
+span_from : (low n i : ℕ) → low ≤ n → (nat_lt low i && nat_le i (n + 1)) ≡ ((nat_lt low i && nat_le i n) || (i == (n + 1)))
+span_from low n i h = grind (arith, nat_tests)
+
+span_none : (low i : ℕ) → (nat_lt low i && nat_le i low) ≡ false
+span_none low i = grind (arith, nat_tests)
+
+pub record Spanned (old new : Stored) (low : ℕ) (over : Placed → Bool) (n : ℕ) : Type 0 where
+  pub capacity : new.capacity ≡ old.capacity
+  pub chains : new.chains ≡ old.chains
+  pub waiting : new.waiting ≡ old.waiting
+  pub given : new.given ≡ old.given
+  pub held : new.held ≡ filter (λ x. not (in_span low n x && over x)) old.held
+
+all_stay : {A : Type 0} (p : A → Bool) → ((x : A) → p x ≡ true) → (xs : List A) → filter p xs ≡ xs
+all_stay p h [] = refl
+all_stay p h (x ∷ xs) = ap (λ t. cond t (x ∷ filter p xs) (filter p xs)) (h x) ∙ ap (λ ys. x ∷ ys) (all_stay p h xs)
+
+pub spanned_none : (old : Stored) (low : ℕ) (over : Placed → Bool) → Spanned old old low over low
+spanned_none old low over = record { capacity = refl; chains = refl; waiting = refl; given = refl; held = sym (all_stay (λ x. not (in_span low low x && over x)) (λ x. ap (λ t. not (t && over x)) (span_none low x.holding.name.interval)) old.held) }
+
+pub spanned_more : (old new then : Stored) (low : ℕ) (over : Placed → Bool) (n : ℕ) → low ≤ n → Spanned old new low over n → then.capacity ≡ new.capacity → then.chains ≡ new.chains → then.waiting ≡ new.waiting → then.given ≡ new.given → then.held ≡ filter (λ x. not (is_of (n + 1) x && over x)) new.held → Spanned old then low over (n + 1)
+spanned_more old new then low over n h s capacity chains waiting given held = record {
+  capacity = capacity ∙ s.capacity;
+  chains = chains ∙ s.chains;
+  waiting = waiting ∙ s.waiting;
+  given = given ∙ s.given;
+  held = held ∙ ap (filter (λ x. not (is_of (n + 1) x && over x))) s.held
+      ∙ filter_filter (λ x. not (is_of (n + 1) x && over x)) (λ x. not (in_span low n x && over x)) (λ x. not (in_span low (n + 1) x && over x))
+      (λ x. both_tests (in_span low n x) (is_of (n + 1) x) (over x) ∙ ap (λ t. not (t && over x)) (sym (span_from low n x.holding.name.interval h))) old.held;
+}
+
+-- ---- a walk that lets nothing go
+
+pub never : Placed → Bool
+never x = false
+
+pub swept_never : (i n : ℕ) (held : List Placed) → swept i never n held ≡ held
+unfolding swept never
+swept_never i zero held = refl
+swept_never i (suc n) [] = refl
+swept_never i (suc n) (x ∷ xs) =
+    ⊎_elim
+    (λ e. ap (λ t. cond t (x ∷ swept i never n xs) (x ∷ swept i never (suc n) xs)) e ∙ ap (λ r. x ∷ r) (swept_never i n xs))
+    (λ e. ap (λ t. cond t (x ∷ swept i never n xs) (x ∷ swept i never (suc n) xs)) e ∙ ap (λ r. x ∷ r) (swept_never i (suc n) xs))
+    (cases_Bool (is_of i x))
+
+-- the packet that comes next, where nothing is let go
+pub record Comes (i n : ℕ) (held : List Placed) (place : Place) : Type 0 where
+  pub packet : Placed
+  pub behind : List Placed
+  pub is : drop n (filter (is_of i) held) ≡ packet ∷ behind
+  pub of : is_of i packet ≡ true
+  pub found : find (stands_at place.0) held ≡ Some packet
+  pub next : next_place place.0 held ≡ first_place (drop (n + 1) (filter (is_of i) held))
+
+pub comes : (i n : ℕ) (held : List Placed) (place : Place) → Distinct (map place_of held) → Some place ≡ first_place (drop n (filter (is_of i) held)) → Comes i n held place
+comes i n held place d h =
+    let f = first_some (drop n (filter (is_of i) held)) place (sym h) in
+    let r = next_is i never n held f.first f.rest d f.is in
+    let count : suc n ≡ n + 1 = omega arith in
+    record {
+      packet = f.first;
+      behind = f.rest;
+      is = f.is;
+      of = r.of;
+      found = ap (λ (p : ℕ). find (stands_at p) held) f.place_is ∙ ap (find (stands_at f.first.place)) (sym (swept_never i n held)) ∙ r.found;
+      next = ap (λ (p : ℕ). next_place p held) f.place_is ∙ ap (next_place f.first.place) (sym (swept_never i n held)) ∙ r.next
+          ∙ ap first_place (sym (drop_next n (filter (is_of i) held) f.first f.rest f.is)) ∙ ap (λ (k : ℕ). first_place (drop k (filter (is_of i) held))) count;
+    }
+
+ends_same : (low high n i : ℕ) → low ≤ n → high ≤ n → n ≤ max low high → (nat_lt low i && nat_le i n) ≡ (nat_lt low i && nat_le i high)
+ends_same low high n i a b c = grind (arith, nat_tests)
+
+filter_same : {A : Type 0} (p q : A → Bool) → ((x : A) → p x ≡ q x) → (xs : List A) → filter p xs ≡ filter q xs
+filter_same p q same [] = refl
+filter_same p q same (x ∷ xs) = ap (λ t. cond t (x ∷ filter p xs) (filter p xs)) (same x) ∙ ap (λ ys. cond (q x) (x ∷ ys) ys) (filter_same p q same xs)
+
+pub span_ends : (low high n : ℕ) (over : Placed → Bool) (old new : Stored) → Spanned old new low over n → low ≤ n → high ≤ n → n ≤ max low high → new.held ≡ filter (λ x. not (in_span low high x && over x)) old.held
+span_ends low high n over old new s a b c =
+    s.held ∙ filter_same (λ x. not (in_span low n x && over x)) (λ x. not (in_span low high x && over x)) (λ x. ap (λ t. not (t && over x)) (ends_same low high n x.holding.name.interval a b c)) old.held
+
+-- ---- intervals that are left out
+
+unmet_stays : (i : ℕ) (met : ℕ → Bool) (over : Placed → Bool) → met i ≡ false → (x : Placed) → not (is_of i x && (met x.holding.name.interval && over x)) ≡ true
+unmet_stays i met over none x =
+    ⊎_elim
+    (λ e. let same : met x.holding.name.interval ≡ false = ap met (eqb-true x.holding.name.interval i e) ∙ none in
+    ap (λ t. not (is_of i x && (t && over x))) same ∙ ap not (and-false (is_of i x)))
+    (λ e. ap (λ t. not (t && (met x.holding.name.interval && over x))) e)
+    (cases_Bool (is_of i x))
+
+met_same : (i : ℕ) (met : ℕ → Bool) (over : Placed → Bool) → met i ≡ true → (x : Placed) → not (is_of i x && over x) ≡ not (is_of i x && (met x.holding.name.interval && over x))
+met_same i met over all x =
+    ⊎_elim
+    (λ e. let same : met x.holding.name.interval ≡ true = ap met (eqb-true x.holding.name.interval i e) ∙ all in
+    sym (ap (λ t. not (is_of i x && (t && over x))) same))
+    (λ e. ap (λ t. not (t && over x)) e ∙ sym (ap (λ t. not (t && (met x.holding.name.interval && over x))) e))
+    (cases_Bool (is_of i x))
+
+-- where the interval fails a test, its packets stay
+pub unmet_stay : (i : ℕ) (met : ℕ → Bool) (over : Placed → Bool) (held : List Placed) → met i ≡ false → held ≡ filter (λ x. not (is_of i x && (met x.holding.name.interval && over x))) held
+unmet_stay i met over held none = sym (all_stay (λ x. not (is_of i x && (met x.holding.name.interval && over x))) (unmet_stays i met over none) held)
+
+-- where it passes, the test of the interval says nothing of them
+pub met_go : (i : ℕ) (met : ℕ → Bool) (over : Placed → Bool) (held : List Placed) → met i ≡ true → filter (λ x. not (is_of i x && over x)) held ≡ filter (λ x. not (is_of i x && (met x.holding.name.interval && over x))) held
+met_go i met over held all = filter_same (λ x. not (is_of i x && over x)) (λ x. not (is_of i x && (met x.holding.name.interval && over x))) (met_same i met over all) held
+
+three : (a b c : Bool) → (a && (b && c)) ≡ ((a && b) && c)
+three true b c = refl
+three false b c = refl
+
+-- the two tests of the interval, together
+pub met_span : (low high : ℕ) (met : ℕ → Bool) (over : Placed → Bool) (held : List Placed) → filter (λ x. not (in_span low high x && (met x.holding.name.interval && over x))) held ≡ filter (λ x. not ((in_span low high x && met x.holding.name.interval) && over x)) held
+met_span low high met over held = filter_same (λ x. not (in_span low high x && (met x.holding.name.interval && over x))) (λ x. not ((in_span low high x && met x.holding.name.interval) && over x)) (λ x. ap not (three (in_span low high x) (met x.holding.name.interval) (over x))) held

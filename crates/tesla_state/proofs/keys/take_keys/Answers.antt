@@ -1,0 +1,41 @@
+use Rattle.std.proofs.Common.{◌≡◌, ap, sym, ◌∙◌, subst, length, map, flat_map, List}
+use Rattle.std.specs.Prelude.{All, not, ◌&&◌}
+use Rattle.std.specs.List.{filter}
+use Rattle.tesla_keys.specs.Tip.{Tip}
+use Rattle.tesla_links.specs.Lists.{Distinct}
+use Rattle.tesla_frame.specs.declared.row.KeyRow.{KeyRow}
+use Rattle.tesla_state.specs.declared.release.Release.{Release}
+use Rattle.tesla_state.specs.Steps.{tips_after, batch_of, released_of}
+use Rattle.tesla_state.specs.Stored.{Placed, holding_at, place_of, release_of, after_batch, in_reach, is_idle}
+use Rattle.tesla_state.specs.Walking.{rows_of}
+use Rattle.tesla_state.specs.Offered.{IsOfChains}
+use Rattle.tesla_state.proofs.ReachedIntervals.{few_chains}
+use Rattle.tesla_state.proofs.Batch.{orders_differ}
+use Rattle.tesla_state.proofs.KeysTaken.{kept_is, apart_after}
+use Rattle.tesla_state.proofs.keys.take_keys.Goals as goal
+
+pub release_all-requires-clause-orders : goal.release_all-requires-clause-orders
+release_all-requires-clause-orders g c = orders_differ c.args.store.now.held c.requires.orders
+
+pub let_go-requires-clause-apart : goal.let_go-requires-clause-apart
+let_go-requires-clause-apart g c =
+    subst (λ (h : List Placed). Distinct (map place_of h)) (sym c.release_all.ensures.held)
+    (apart_after (map release_of c.deref.result.now) (released_of (map holding_at c.args.store.now.held) (map release_of c.deref.result.now)) c.args.store.now.held c.held.ensures.apart)
+
+pub let_go-requires-clause-chains : goal.let_go-requires-clause-chains
+let_go-requires-clause-chains g c =
+    few_chains c.args.tips.now (rows_of c.prove_held.new.walks) c.indices-before.ensures.few
+    (subst (λ (rows : List KeyRow). All (IsOfChains (length c.args.tips.now)) rows) (sym c.prove_held.ensures.rows) c.requires.of_chains)
+
+pub returns-clause-held : goal.returns-clause-held
+returns-clause-held g c =
+    let held : List Placed = c.args.store.now.held in
+    let new : List KeyRow = rows_of c.args.walks.now in
+    let batch : List Release = batch_of c.args.config.now c.args.tips.now new (map holding_at held) in
+    let told : map release_of c.deref.result.now ≡ batch = ap (map release_of) c.deref.ensures.value ∙ c.prove_held.ensures.releases in
+    let tips = c.raise-2.ensures ∙ ap (tips_after c.args.tips.now) c.prove_held.ensures.rows in
+    ap (map holding_at) (c.let_go.ensures.held
+    ∙ ap (λ (rows : List KeyRow). filter (λ x. not (in_reach c.span-low.result.0 c.span-low.result.1 c.indices-before.result rows x && is_idle c.args.config.now c.raise-2.new.tips x)) c.release_all.new.self.held) c.prove_held.ensures.rows
+    ∙ ap (filter (λ x. not (in_reach c.span-low.result.0 c.span-low.result.1 c.indices-before.result new x && is_idle c.args.config.now c.raise-2.new.tips x))) (c.release_all.ensures.held ∙ ap (λ (rs : List Release). flat_map (after_batch rs (released_of (map holding_at held) rs)) held) told)
+    ∙ ap (λ (ts : List Tip). filter (λ x. not (in_reach c.span-low.result.0 c.span-low.result.1 c.indices-before.result new x && is_idle c.args.config.now ts x)) (flat_map (after_batch batch (released_of (map holding_at held) batch)) held)) tips)
+    ∙ kept_is c.args.config.now c.args.tips.now new c.span-low.result.0 c.span-low.result.1 c.indices-before.result c.span-low.ensures.spans c.indices-before.ensures.newest c.requires.of_chains (released_of (map holding_at held) batch) held (orders_differ held c.requires.orders) c.requires.needed

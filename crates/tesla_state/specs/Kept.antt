@@ -1,0 +1,52 @@
+-- What a receiver that keeps no arrivals holds, and how it is seen.
+use Rattle.std.specs.Prelude.{◌≡◌, ℕ, ◌<◌, ◌≤◌, Bool, List, All, length, map}
+use Rattle.tesla_keys.specs.Tip.{Tip}
+use Rattle.tesla_fitting.specs.declared.config.Config.{Config}
+use Rattle.tesla_state.specs.declared.report.Report.{Report}
+use Rattle.tesla_state.specs.Gathering.{RiseBy, order_of}
+use Rattle.tesla_state.specs.State.{State, Holding}
+use Rattle.tesla_state.specs.Stored.{Stored, holding_at, AreNeeded}
+
+-- the parts of a receiver as one state
+abbrev pub state_of : Config → List Tip → Stored → List Bool → Report → ℕ → State
+state_of cfg tips store ended counts calls = record {
+  config = cfg;
+  tips = tips;
+  held = map holding_at store.held;
+  waiting = store.waiting;
+  ended = ended;
+  counts = counts;
+  calls = calls;
+}
+
+-- no count is above the number of calls
+pub record CountsWithin (calls : ℕ) (r : Report) : Type 0 where
+  pub arrivals : r.arrivals ≤ calls
+  pub malformed : r.malformed ≤ calls
+  pub foreign : r.foreign ≤ calls
+  pub misfit : r.misfit ≤ calls
+  pub future : r.future ≤ calls
+  pub badkey : r.badkey ≤ calls
+  pub late : r.late ≤ calls
+  pub repeat : r.repeat ≤ calls
+  pub full : r.full ≤ calls
+  pub kept : r.kept ≤ calls
+  pub keys : r.keys ≤ calls
+  pub given : r.given ≤ calls
+
+-- the packet's number is below
+abbrev pub IsBefore : ℕ → Holding → Type 0
+IsBefore count item = item.order < count
+
+-- there is a newest key for each chain, and room for all that can be held; what is held has rising numbers and is needed
+pub record IsKept (cfg : Config) (tips : List Tip) (store : Stored) (walks_room batch_room : ℕ) (counts : Report) (calls : ℕ) : Type 0 where
+  pub tips_each : length tips ≡ length cfg.setup.rows
+  pub chains : store.chains ≡ length cfg.setup.rows
+  pub capacity : store.capacity ≡ cfg.capacity
+  pub eight : 8 ≤ walks_room
+  pub room : cfg.capacity ≤ batch_room
+  pub orders : RiseBy order_of (map holding_at store.held)
+  pub before : All (IsBefore counts.arrivals) (map holding_at store.held)
+  pub needed : AreNeeded cfg tips store.held
+  pub within : CountsWithin calls counts
+  pub given : store.given ≡ counts.given

@@ -1,0 +1,64 @@
+//! New keys are taken: what they prove is released, and what is needed no more is let go.
+
+ghost use Rattle.std.specs.Prelude.{◌≡◌, ◌+◌, ◌*◌, ◌++◌, ◌≤◌, All, ℕ, true, length, map, flat_map, vec_capacity};
+ghost use Rattle.tesla_frame.specs.Frame.{ChainsRise};
+ghost use Rattle.tesla_state.specs.Gathering.{RiseBy, order_of};
+ghost use Rattle.tesla_state.specs.Offered.{IsOfChains, AreGood};
+ghost use Rattle.tesla_state.specs.Steps.{tips_after, batch_of, released_of, kept_after};
+ghost use Rattle.tesla_state.specs.Stored.{holding_at, AreNeeded};
+ghost use Rattle.tesla_state.specs.Walking.{rows_of, IsAbove, left, pairs};
+
+use crate::Store;
+use crate::offers::raise;
+use crate::ordering::{Proved, span};
+use crate::reaching::indices;
+use crate::walk::Walk;
+use std::sync::ledger::Ledger;
+use tesla_base::Steps;
+use tesla_fitting::Config;
+use tesla_keys::Verifier;
+
+/// Takes the keys of walks, which are good: each is the newest of its chain from then on. The held packets that they
+/// prove are released in order of arrival, one of each name, and what is needed no more is let go. It takes no
+/// memory: the batch has room for all that is held. The counted steps are those that the walks still take, and at most
+/// two for each held packet that isn't released and each chain on which it is tried.
+pub fn take_keys<L: Ledger>(
+    config: &Config,
+    tips: &mut [Verifier],
+    store: &mut Store,
+    walks: &mut [Walk],
+    batch: &mut Vec<Proved>,
+    steps: &mut Steps<L>,
+)
+    requires tips { length tips.old ≡ length config.now.setup.rows }
+    requires chains { store.old.chains ≡ length config.now.setup.rows }
+    requires orders { RiseBy order_of (map holding_at store.old.held) }
+    requires needed { AreNeeded config.now tips.old store.old.held }
+    requires of_chains { All (IsOfChains (length tips.old)) (rows_of walks.old) }
+    requires rise { ChainsRise (rows_of walks.old) }
+    requires good { AreGood tips.old (rows_of walks.old) }
+    requires above { (interval : ℕ) → All (IsAbove interval) walks.old }
+    requires room { store.old.capacity ≤ vec_capacity batch.old }
+    ensures tips { tips.new ≡ tips_after tips.old (rows_of walks.old) }
+    ensures held { let new = rows_of walks.old in let before = map holding_at store.old.held in let batch = batch_of config.now tips.old new before in
+        map holding_at store.new.held ≡ flat_map (kept_after config.now (tips_after tips.old new) batch (released_of before batch)) before }
+    ensures waiting { let before = map holding_at store.old.held in
+        store.new.waiting ≡ store.old.waiting ++ released_of before (batch_of config.now tips.old (rows_of walks.old) before) }
+    ensures capacity { store.new.capacity ≡ store.old.capacity }
+    ensures chains { store.new.chains ≡ store.old.chains }
+    ensures given { store.new.given ≡ store.old.given }
+    ensures room { vec_capacity batch.old ≤ vec_capacity batch.new }
+    ensures cost { steps.new ≤ steps.old + left tips.old walks.old + 2 * pairs config.now tips.old (rows_of walks.old) (map holding_at store.old.held) }
+{
+    if store.held() == 0 {
+        raise(tips, walks);
+        return;
+    }
+    let (low, high) = span(tips, walks);
+    let before = indices(config, tips);
+    batch.clear();
+    store.prove_held(config, tips, walks, &before, low, high, batch, steps);
+    raise(tips, walks);
+    store.release_all(batch);
+    store.let_go(config, tips, walks, &before, low, high);
+}

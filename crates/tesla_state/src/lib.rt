@@ -1,0 +1,33 @@
+//! What a receiver keeps, moved by each event: an arrival, a take and an end. It knows of no history, and takes no memory
+//! after its opening.
+#![tactic(auto)]
+
+mod arriving;
+mod counts;
+mod ended;
+mod holding;
+mod judging;
+mod keys;
+mod offers;
+mod ordering;
+mod passing;
+mod proving;
+mod reaching;
+mod release;
+mod releasing;
+mod replies;
+mod report;
+mod state;
+mod store;
+mod taking;
+#[cfg(test)]
+mod tests;
+mod tips;
+mod trying;
+mod walk;
+
+pub use release::Release;
+pub use replies::{Reply, Take};
+pub use report::Report;
+pub use state::ReceiverState;
+use store::Store;

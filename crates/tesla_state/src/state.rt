@@ -1,0 +1,199 @@
+//! What a receiver keeps, moved by each event.
+
+ghost use Rattle.std.specs.Prelude.{◌≡◌, ◌+◌, ◌^◌, ◌<◌, ◌≤◌, [], IfOk, length, map, replicate, false};
+ghost use Rattle.tesla_fitting.specs.Config.{chains};
+ghost use Rattle.tesla_state.specs.Costs.{most_by};
+ghost use Rattle.tesla_state.specs.Replies.{reply_shown, KeepsBehind};
+ghost use Rattle.tesla_state.specs.Steps.{opened, judged, after_arrival, reply_by, after_take, after_end};
+ghost use Rattle.tesla_state.specs.Tips.{first_tip};
+
+use crate::Store;
+use crate::arriving::receive;
+use crate::counts::count;
+use crate::ended::{all_set, mark};
+use crate::ordering::Proved;
+use crate::tips::first_tips;
+use crate::walk::Walk;
+use crate::{Report, Take};
+use std::alloc::Global;
+use std::marker::Model;
+use std::sync::ledger::Ledger;
+use tesla_base::{NoMemory, Steps};
+use tesla_commit::Setup;
+use tesla_fitting::{Config, Verdict};
+use tesla_keys::Verifier;
+
+/// The counts before any event.
+const NOTHING: Report = Report {
+    arrivals: 0,
+    malformed: 0,
+    foreign: 0,
+    misfit: 0,
+    future: 0,
+    badkey: 0,
+    late: 0,
+    repeat: 0,
+    full: 0,
+    kept: 0,
+    keys: 0,
+    given: 0,
+};
+
+/// What a receiver of one stream keeps: the newest keys, the packets that have a place, those that wait to be taken,
+/// which ingests have ended, and the counts. All memory is taken when it is opened. It knows of no history.
+#[derive(Drop)]
+pub struct ReceiverState {
+    config: Config,
+    tips: Vec<Verifier>,
+    store: Store,
+    walks: Vec<Walk>,
+    batch: Vec<Proved>,
+    ended: Vec<bool>,
+    counts: Report,
+    calls: u64,
+}
+
+impl Model for ReceiverState {
+    ghost use Rattle.std.specs.Prelude.{vec_capacity};
+    ghost use Rattle.tesla_state.specs.Kept.{state_of, IsKept};
+    ghost use Rattle.tesla_state.specs.State.{State};
+
+    ghost Value = { State };
+
+    ghost view = { λ k. state_of k.config k.tips.items k.store k.ended.items k.counts k.calls };
+
+    ghost invariant = { λ k. IsKept k.config k.tips.items k.store (vec_capacity k.walks) (vec_capacity k.batch) k.counts k.calls };
+}
+
+impl ReceiverState {
+    /// A receiver to which nothing has happened. The lag is in microseconds; the capacity is a number of packets, at
+    /// most 65,536, and the quota one of packets of an interval, from 1 to the capacity; each ingest below `ingests`,
+    /// of which there is one at least, has to end before a take answers `Over`. All memory is taken here. `NoMemory`:
+    /// there was none for the packets that may be held, or for a flag of each ingest.
+    pub fn open(
+        alloc: Global,
+        setup: Setup,
+        lag: i64,
+        capacity: u32,
+        quota: u32,
+        ingests: u8,
+    ) -> Result<ReceiverState, NoMemory>
+        requires some { 1 ≤ quota }
+        requires within { quota ≤ capacity }
+        requires few { capacity ≤ 65536 }
+        requires ingests { 1 ≤ ingests }
+        ensures { IfOk result (λ k. k ≡ opened (record { setup = setup; lag = lag; capacity = capacity; quota = quota; ingests = ingests })) }
+    {
+        let ended = vec![in alloc; false; ingests as usize]?;
+        let config = Config {
+            setup,
+            lag,
+            capacity,
+            quota,
+            ingests,
+        };
+        let tips = first_tips(alloc, &config)?;
+        let store = Store::open(alloc, capacity, config.setup.count())?;
+        Ok(ReceiverState {
+            config,
+            tips,
+            store,
+            walks: Vec::with_capacity(alloc, 8)?,
+            batch: Vec::with_capacity(alloc, capacity as usize)?,
+            ended,
+            counts: NOTHING,
+            calls: 0,
+        })
+    }
+
+    /// Judges a datagram of an ingest, with the reading of the receiver's clock in microseconds. It takes no memory.
+    /// No step is counted where a datagram is refused before its keys are looked at; else at most two for each interval
+    /// from a newer key down to the newest of its chain, and two for each held packet that isn't released and each chain
+    /// on which the new keys reach it.
+    pub fn arrive<L: Ledger>(
+        &mut self,
+        _ingest: u8,
+        reading: u64,
+        bytes: &[u8],
+        steps: &mut Steps<L>,
+    ) -> Verdict
+        requires { self.old.calls + 1 < 2 ^ 64 }
+        ensures verdict { result ≡ judged self.old reading bytes.now }
+        ensures state { self.new ≡ after_arrival self.old reading bytes.now }
+        ensures cost { steps.new ≤ steps.old + most_by self.old reading bytes.now }
+    {
+        let verdict = receive(
+            &self.config,
+            &mut self.tips,
+            &mut self.store,
+            &mut self.walks,
+            &mut self.batch,
+            self.counts.arrivals,
+            reading,
+            bytes,
+            steps,
+        );
+        count(&mut self.counts, verdict);
+        self.calls += 1;
+        verdict
+    }
+
+    /// Gives the next released packet, whose payload is then at the front of the buffer, or says whether all ingests
+    /// have ended. The rest of the buffer stays as it was. It takes no memory.
+    pub fn take(&mut self, into: &mut [u8; 1200]) -> Take
+        requires { self.old.calls + 1 < 2 ^ 64 }
+        ensures answer { reply_shown result into.new ≡ reply_by self.old }
+        ensures state { self.new ≡ after_take self.old }
+        ensures behind { KeepsBehind result into.old into.new }
+    {
+        self.calls += 1;
+        let head = self.store.take(&self.config, self.tips.as_slice(), self.counts.given, into);
+        let Some(head) = head else {
+            return if all_set(&self.ended) {
+                Take::Over
+            } else {
+                Take::Empty
+            };
+        };
+        self.counts.given += 1;
+        Take::Given(head)
+    }
+
+    /// Ends an ingest. One at or above the number of ingests counts for nothing. It takes no memory.
+    pub fn end(&mut self, ingest: u8)
+        requires { self.old.calls + 1 < 2 ^ 64 }
+        ensures { self.new ≡ after_end self.old ingest }
+    {
+        mark(&mut self.ended, ingest as usize);
+        self.calls += 1;
+    }
+
+    /// How many events the receiver has had.
+    pub fn calls(&self) -> u64
+        ensures { result ≡ self.now.calls }
+    {
+        self.calls
+    }
+
+    /// The counts of what happened.
+    pub fn report(&self) -> Report
+        ensures { result ≡ self.now.counts }
+    {
+        self.counts
+    }
+
+    /// How many released packets wait to be taken.
+    pub fn waiting(&self) -> u32
+        ensures { result ≡ length self.now.waiting }
+    {
+        self.store.waiting()
+    }
+
+    /// How many packets are held.
+    pub fn held(&self) -> u32
+        ensures value { result ≡ length self.now.held }
+        ensures most { result ≤ self.now.config.capacity }
+    {
+        self.store.held()
+    }
+}

@@ -1,0 +1,191 @@
+//! The held packets are tried under new keys, interval by interval from the newest down.
+
+ghost use Rattle.std.specs.Prelude.{◌≡◌, ℕ, List, ◌+◌, ◌*◌, ◌-◌, ◌<◌, ◌≤◌, ◌++◌, [], ◌∷◌, All, true, length, map, filter, find, Some, option_to_list, vec_capacity};
+ghost use Rattle.std.specs.List.{list_any};
+ghost use Rattle.std.specs.List.Sorted.{IsPermutation};
+ghost use Rattle.tesla_frame.specs.Frame.{ChainsRise};
+ghost use Rattle.tesla_links.specs.Lists.{Distinct};
+ghost use Rattle.tesla_state.specs.Gathering.{AreIndices, RiseBy, Spans, order_of, place_of, in_turn, gathered};
+ghost use Rattle.tesla_state.specs.declared.release.Release.{Release};
+ghost use Rattle.tesla_state.specs.Offered.{IsOfChains};
+ghost use Rattle.tesla_state.specs.Proved.{release_in};
+ghost use Rattle.tesla_state.specs.Steps.{proof_of, batch_of, in_interval};
+ghost use Rattle.tesla_state.specs.Stored.{Placed, place_proved, place_here, holding_at, stands_at, is_of, AreProved};
+ghost use Rattle.tesla_state.specs.Walking.{rows_of, IsAbove, left, tries, pairs};
+
+use crate::Store;
+use crate::ordering::{Proved, sort};
+use crate::proving::prove;
+use crate::reaching::is_reached;
+use crate::walk::Walk;
+use std::sync::ledger::Ledger;
+use tesla_base::{Place, Steps};
+use tesla_fitting::Config;
+use tesla_keys::Verifier;
+
+// Appends what was proved, if it was.
+fn append(batch: &mut Vec<Proved>, proved: Option<Proved>)
+    requires { length batch.old.items < vec_capacity batch.old }
+    ensures items { batch.new.items ≡ batch.old.items ++ option_to_list proved }
+    ensures long { length batch.new.items ≤ length batch.old.items + 1 }
+    ensures capacity { vec_capacity batch.old ≤ vec_capacity batch.new }
+{
+    let Some(proved) = proved else {
+        return;
+    };
+    let Ok(()) = batch.push(proved) else {
+        unreachable!()
+    };
+}
+
+// Puts a batch into order of arrival.
+fn order(batch: &mut Vec<Proved>)
+    ensures order { (releases : List Release) → RiseBy place_of releases → IsPermutation releases (map release_in batch.old.items) → map release_in batch.new.items ≡ releases }
+    ensures same { IsPermutation batch.old.items batch.new.items }
+    ensures capacity { vec_capacity batch.old ≤ vec_capacity batch.new }
+{
+    sort(batch);
+}
+
+impl Store {
+    // Tries the packet in a place; what new keys prove of it goes to the batch. The counted steps are those of
+    // `prove`.
+    fn try_at<L: Ledger>(
+        &self,
+        config: &Config,
+        tips: &[Verifier],
+        walks: &mut [Walk],
+        place: Place,
+        batch: &mut Vec<Proved>,
+        steps: &mut Steps<L>,
+    )
+        requires tips { length tips.now ≡ length config.now.setup.rows }
+        requires chains { self.now.chains ≡ length config.now.setup.rows }
+        requires rise { ChainsRise (rows_of walks.old) }
+        requires live { list_any (stands_at place.0) self.now.held ≡ true }
+        requires above { (x : Placed) → find (stands_at place.0) self.now.held ≡ Some x → All (IsAbove x.holding.name.interval) walks.old }
+        requires room { length batch.old.items < vec_capacity batch.old }
+        ensures releases { (x : Placed) → find (stands_at place.0) self.now.held ≡ Some x →
+            map release_in batch.new.items ≡ map release_in batch.old.items ++ proof_of config.now tips.now (rows_of walks.old) x.holding }
+        ensures proved { AreProved self.now.held batch.old.items → AreProved self.now.held batch.new.items }
+        ensures long { length batch.new.items ≤ length batch.old.items + 1 }
+        ensures capacity { vec_capacity batch.old ≤ vec_capacity batch.new }
+        ensures rows { rows_of walks.new ≡ rows_of walks.old }
+        ensures above { (x : Placed) → find (stands_at place.0) self.now.held ≡ Some x → All (IsAbove x.holding.name.interval) walks.new }
+        ensures cost { (x : Placed) → find (stands_at place.0) self.now.held ≡ Some x →
+            steps.new + left tips.now walks.new ≤ steps.old + left tips.now walks.old + 2 * tries config.now tips.now (rows_of walks.old) x.holding }
+    {
+        let proved = prove(config, tips, walks, self.item(place), place, steps);
+        append(batch, proved);
+    }
+
+    // Tries the packets of an interval, in order of arrival.
+    fn try_interval<L: Ledger>(
+        &self,
+        config: &Config,
+        tips: &[Verifier],
+        walks: &mut [Walk],
+        interval: u32,
+        batch: &mut Vec<Proved>,
+        steps: &mut Steps<L>,
+    )
+        requires tips { length tips.now ≡ length config.now.setup.rows }
+        requires chains { self.now.chains ≡ length config.now.setup.rows }
+        requires apart { Distinct (map place_here self.now.held) }
+        requires rise { ChainsRise (rows_of walks.old) }
+        requires above { All (IsAbove interval) walks.old }
+        requires room { length batch.old.items + length (filter (is_of interval) self.now.held) ≤ vec_capacity batch.old }
+        ensures releases { map release_in batch.new.items ≡ map release_in batch.old.items ++ in_turn (proof_of config.now tips.now (rows_of walks.old)) (map holding_at self.now.held) interval }
+        ensures proved { AreProved self.now.held batch.old.items → AreProved self.now.held batch.new.items }
+        ensures long { length batch.new.items ≤ length batch.old.items + length (filter (is_of interval) self.now.held) }
+        ensures capacity { vec_capacity batch.old ≤ vec_capacity batch.new }
+        ensures rows { rows_of walks.new ≡ rows_of walks.old }
+        ensures above { All (IsAbove interval) walks.new }
+        ensures cost { steps.new + left tips.now walks.new ≤ steps.old + left tips.now walks.old
+            + 2 * pairs config.now tips.now (rows_of walks.old) (filter (in_interval interval) (map holding_at self.now.held)) }
+    {
+        let mut next = self.first_of(interval);
+        for _looked in 0..self.held_in(interval) {
+            let Some(place) = next else {
+                return;
+            };
+            next = self.next_of(place);
+            self.try_at(config, tips, walks, place, batch, steps);
+        }
+    }
+
+    // Tries the packets of the intervals above `low`, up to `high`, from the highest interval down, where new keys are
+    // the first of their chains to reach the interval.
+    fn try_span<L: Ledger>(
+        &self,
+        config: &Config,
+        tips: &[Verifier],
+        walks: &mut [Walk],
+        indices: &[u32; 8],
+        low: u32,
+        high: u32,
+        batch: &mut Vec<Proved>,
+        steps: &mut Steps<L>,
+    )
+        requires tips { length tips.now ≡ length config.now.setup.rows }
+        requires chains { self.now.chains ≡ length config.now.setup.rows }
+        requires apart { Distinct (map place_here self.now.held) }
+        requires of_chains { All (IsOfChains (length tips.now)) (rows_of walks.old) }
+        requires indices { AreIndices tips.now indices.now }
+        requires few { length tips.now ≤ 8 }
+        requires rise { ChainsRise (rows_of walks.old) }
+        requires above { All (IsAbove high) walks.old }
+        requires empty { batch.old.items ≡ [] }
+        requires room { length self.now.held ≤ vec_capacity batch.old }
+        ensures releases { map release_in batch.new.items ≡ gathered (proof_of config.now tips.now (rows_of walks.old)) (map holding_at self.now.held) low (high - low) }
+        ensures proved { AreProved self.now.held batch.new.items }
+        ensures capacity { vec_capacity batch.old ≤ vec_capacity batch.new }
+        ensures rows { rows_of walks.new ≡ rows_of walks.old }
+        ensures cost { steps.new + left tips.now walks.new ≤ steps.old + left tips.now walks.old
+            + 2 * pairs config.now tips.now (rows_of walks.old) (gathered (λ item. item ∷ []) (map holding_at self.now.held) low (high - low)) }
+    {
+        for below in (low..high).rev() {
+            if is_reached(indices, walks, below + 1) {
+                self.try_interval(config, tips, walks, below + 1, batch, steps);
+            }
+        }
+    }
+
+    /// What new keys prove of the packets that are held, in order of arrival. The intervals above `low`, up to
+    /// `high`, are those that the keys may prove. The counted steps are those of the walks, and at most two for each
+    /// packet that isn't released and each chain on which it is tried.
+    pub fn prove_held<L: Ledger>(
+        &self,
+        config: &Config,
+        tips: &[Verifier],
+        walks: &mut [Walk],
+        indices: &[u32; 8],
+        low: u32,
+        high: u32,
+        batch: &mut Vec<Proved>,
+        steps: &mut Steps<L>,
+    )
+        requires tips { length tips.now ≡ length config.now.setup.rows }
+        requires chains { self.now.chains ≡ length config.now.setup.rows }
+        requires apart { Distinct (map place_here self.now.held) }
+        requires orders { RiseBy order_of (map holding_at self.now.held) }
+        requires of_chains { All (IsOfChains (length tips.now)) (rows_of walks.old) }
+        requires indices { AreIndices tips.now indices.now }
+        requires few { length tips.now ≤ 8 }
+        requires rise { ChainsRise (rows_of walks.old) }
+        requires above { All (IsAbove high) walks.old }
+        requires spans { Spans tips.now (rows_of walks.old) low high }
+        requires empty { batch.old.items ≡ [] }
+        requires room { length self.now.held ≤ vec_capacity batch.old }
+        ensures releases { map release_in batch.new.items ≡ batch_of config.now tips.now (rows_of walks.old) (map holding_at self.now.held) }
+        ensures proved { AreProved self.now.held batch.new.items }
+        ensures places { Distinct (map place_proved batch.new.items) }
+        ensures capacity { vec_capacity batch.old ≤ vec_capacity batch.new }
+        ensures rows { rows_of walks.new ≡ rows_of walks.old }
+        ensures cost { steps.new + left tips.now walks.new ≤ steps.old + left tips.now walks.old
+            + 2 * pairs config.now tips.now (rows_of walks.old) (map holding_at self.now.held) }
+    {
+        self.try_span(config, tips, walks, indices, low, high, batch, steps);
+        order(batch);
+    }
+}
