@@ -77,12 +77,7 @@ impl KeyRows {
 }
 
 // The key of a row with its index. In an interval below the chain's delay it has none.
-fn carried_row(
-    config: &Config,
-    interval: u32,
-    chain: u8,
-    key: Option<Key>,
-) -> Option<KeyRow>
+fn carried_row(config: &Config, interval: u32, chain: u8, key: Option<Key>) -> Option<KeyRow>
     ensures { option_to_list result ≡ carried config.now interval chain key }
 {
     let delay = u32::from(chain_row(config, chain).delay);

@@ -50,4 +50,3 @@ most_of cfg arrivals bound (Some frame) = if is_unread cfg bound frame then 0 el
 -- the most evaluations that an arrival may take after the earlier ones
 unfoldable pub most_evaluations : Config → List Arrival → ℕ → List ℕ → ℕ
 most_evaluations cfg arrivals reading bytes = most_of cfg arrivals (bound_of cfg.setup.times cfg.lag reading) (frame_of bytes)
-

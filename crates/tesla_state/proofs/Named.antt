@@ -1,5 +1,5 @@
 -- Releases that have a name.
-use Rattle.std.proofs.Common.{◌≡◌, ℕ, Bool, true, ap, ◌∙◌, ◌==◌}
+use Rattle.std.proofs.Common.{◌≡◌, ℕ, true, ap, ◌∙◌, ◌==◌}
 use Rattle.std.proofs.lemmas.Bool.{and_parts, eqb-true}
 use Rattle.tesla_base.specs.declared.names.Name.{Name}
 use Rattle.tesla_state.specs.declared.release.Release.{Release}

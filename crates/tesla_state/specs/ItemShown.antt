@@ -1,7 +1,6 @@
 -- A held item as the definitions of a receiver see it.
-use Rattle.std.specs.Prelude.{◌≡◌, ◌≤◌, ℕ, All, map, take}
-use Rattle.tesla_base.specs.declared.names.WideTag.{WideTag}
-use Rattle.tesla_base.specs.Tag.{wide_tag, tag_bytes}
+use Rattle.std.specs.Prelude.{◌≤◌, ℕ, All, map, take}
+use Rattle.tesla_base.specs.Tag.{tag_bytes}
 use Rattle.tesla_buffer.specs.declared.item.Item.{Item}
 use Rattle.tesla_state.specs.State.{Holding}
 use Rattle.tesla_fitting.specs.Rows.{IsFilled}

@@ -16,8 +16,8 @@ ghost use Rattle.tesla_state.specs.Stored.{holding_at, AreNeeded};
 
 use crate::Store;
 use crate::holding::keep;
-use crate::keys::take_keys;
 use crate::judging::refused;
+use crate::keys::take_keys;
 use crate::ordering::Proved;
 use crate::walk::Walk;
 use std::sync::ledger::Ledger;

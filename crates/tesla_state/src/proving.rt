@@ -13,9 +13,9 @@ ghost use Rattle.tesla_state.specs.Steps.{tip_at, matches, is_proof_of, proves_o
 ghost use Rattle.tesla_state.specs.Proved.{release_in};
 ghost use Rattle.tesla_state.specs.Walking.{rows_of, IsAbove, left_of, left, reaches, is_tried, tried, tries};
 
+use crate::Release;
 use crate::ordering::Proved;
 use crate::walk::Walk;
-use crate::Release;
 use std::sync::ledger::Ledger;
 use tesla_base::{ChainNo, Place, Steps, WideTag};
 use tesla_buffer::Item;

@@ -7,14 +7,13 @@ ghost use Rattle.tesla_state.specs.Replies.{reply_shown, KeepsBehind};
 ghost use Rattle.tesla_state.specs.Steps.{opened, judged, after_arrival, reply_by, after_take, after_end};
 ghost use Rattle.tesla_state.specs.Tips.{first_tip};
 
-use crate::Store;
 use crate::arriving::receive;
 use crate::counts::count;
 use crate::ended::{all_set, mark};
 use crate::ordering::Proved;
 use crate::tips::first_tips;
 use crate::walk::Walk;
-use crate::{Report, Take};
+use crate::{Report, Store, Take};
 use std::alloc::Global;
 use std::marker::Model;
 use std::sync::ledger::Ledger;
