@@ -6,7 +6,7 @@ mod faults;
 mod send_runs;
 
 use super::*;
-use chain_runs::CHAIN_RUNS;
+use chain_runs::{CHAIN_RUNS, SEEDS};
 use examples::{EXAMPLES, FIRST_CAPTURE, FIRST_RELEASED, NO_FORMS, Part, Released, Told, USUAL};
 use faults::{FAULTS, Left, Setting};
 use send_runs::{END_OF_STREAM, SEND_RUNS, SendRun};
@@ -235,6 +235,54 @@ fn a_capture_that_was_sent_is_replayed(rt: HostRuntime) -> Result<(), Fail> {
     assert_eq!(rt; came.out.as_slice(), released.as_slice());
     Ok(())
 }
+
+// A script of ten messages of 1,200 bytes in each of the intervals 1 to 600, and a disclosure of the last keys.
+fn ordinary_script(alloc: Global) -> Result<Vec<u8>, Fail> {
+    let mut script = Vec::new(alloc);
+    script.extend_from_slice(b"TSCR\x01")?;
+    for number in 0..6_000u64 {
+        script.push(1)?;
+        script.extend_from_slice(&(1_100_000 + 10_000 * number).to_be_bytes())?;
+        script.extend_from_slice(&1_200u16.to_be_bytes())?;
+        script.extend_from_slice(&[0x75; 1_200])?;
+    }
+    script.push(2)?;
+    script.extend_from_slice(&61_500_000u64.to_be_bytes())?;
+    Ok(script)
+}
+
+/// Ten messages in each of 600 intervals are sent, and all of them come back.
+#[test]
+fn ordinary_use(rt: HostRuntime) -> Result<(), Fail> {
+    let alloc = rt.alloc();
+    let mut desk = MemoryDesk::new(alloc, 8_500_000)?;
+    desk.put_page("secret", SEEDS.as_bytes())?;
+    desk.put_page("script", ordinary_script(alloc)?.as_slice())?;
+    let words = "chain setup secret 00000000000000a7 1000000 100000 600 2 5";
+    let made = came_to(alloc, words, &mut desk, &[])?;
+    assert_eq!(rt; made.told.as_str(), "0 chains 2\n");
+    let sent = came_to(alloc, "send setup secret script capture", &mut desk, &[])?;
+    assert_eq!(rt; sent.told.as_str(), "0 frames 6001\n");
+    let came = came_to(alloc, "replay setup 30000 4096 capture out", &mut desk, &[])?;
+    assert_eq!(rt; came.told.as_str(), ORDINARY_REPORT);
+    assert_eq!(rt; came.out.len(), 7_302_000);
+    Ok(())
+}
+
+/// What the replay of the ordinary stream prints, behind its status.
+const ORDINARY_REPORT: &str = "0 arrivals 6001
+malformed 0
+foreign 0
+misfit 0
+future 0
+badkey 0
+late 0
+repeat 0
+full 0
+kept 6000
+keys 1
+given 6000
+";
 
 const USAGE: &str = "1 usage: replay SETUP LAG CAPACITY CAPTURE OUT
 usage: chain SETUP-OUT SECRET STREAM START INTERVAL LAST DELAY [DELAY] [DELAY] [DELAY]
