@@ -1,5 +1,5 @@
 -- The keys and the tags that a frame carries (RFC 4082, section 3.5).
-use Rattle.std.specs.Prelude.{◌≡◌, ℕ, ◌-◌, Bool, List, [], ◌∷◌, length, take, Option, Some, None, nat_lt, ◌==◌, if◌then◌else◌, bytes_eq, flat_map}
+use Rattle.std.specs.Prelude.{◌≡◌, ℕ, ◌-◌, Bool, List, [], ◌∷◌, length, Option, Some, None, nat_lt, ◌==◌, if◌then◌else◌, bytes_eq, flat_map}
 use Rattle.std.specs.List.{enumerate_from}
 use Rattle.tesla_base.specs.declared.names.Key.{Key}
 use Rattle.tesla_base.specs.declared.names.WideTag.{WideTag}
@@ -26,11 +26,6 @@ keys_of cfg (Disclosure f) = f.rows
 abbrev pub row_count : Frame → ℕ
 row_count (Data f) = length f.rows
 row_count (Disclosure f) = length f.rows
-
--- the keys in the first rows of a frame
-abbrev pub first_keys : Config → Frame → ℕ → List KeyRow
-first_keys cfg (Data f) n = flat_map (λ (p : ℕ × TagRow). carried cfg f.name.interval p.0 p.1.key) (enumerate_from 0 (take n f.rows))
-first_keys cfg (Disclosure f) n = take n f.rows
 
 -- the key's index is above this one
 abbrev pub is_past : ℕ → KeyRow → Bool

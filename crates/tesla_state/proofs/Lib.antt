@@ -7,6 +7,7 @@ pub mod Reached
 pub mod ReachedIntervals
 pub mod Tried
 pub mod Offering
+pub mod NewerKeys
 pub mod Raising
 pub mod Sorting
 pub mod Gathering

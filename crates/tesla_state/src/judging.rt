@@ -8,11 +8,11 @@ ghost use Rattle.tesla_state.specs.State.{State};
 ghost use Rattle.tesla_state.specs.Steps.{refused, safe_by};
 ghost use Rattle.tesla_fitting.specs.Fitting.{unfit};
 
-use crate::offers::offer_rows;
+use crate::offers::offer_keys;
 use crate::walk::Walk;
 use std::sync::ledger::Ledger;
 use tesla_base::Steps;
-use tesla_fitting::{Config, Verdict, chain_row, frame_keys, unfit};
+use tesla_fitting::{Config, Verdict, chain_row, unfit};
 use tesla_frame::FrameView;
 use tesla_keys::Verifier;
 
@@ -42,8 +42,7 @@ pub fn refused<L: Ledger>(
     if let Some(verdict) = unfit(config, bound, frame) {
         return Some(verdict);
     }
-    let rows = frame_keys(config, frame);
-    let Some(chain) = offer_rows(tips, rows.as_slice(), walks, steps) else {
+    let Some(chain) = offer_keys(config, tips, frame, walks, steps) else {
         return None;
     };
     Some(Verdict::BadKey { chain })
