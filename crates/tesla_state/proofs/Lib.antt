@@ -14,7 +14,6 @@ pub mod Gathering
 pub mod Sweeping
 pub mod Taken
 pub mod Beginning
-pub mod SafeTips
 pub mod TriedIntervals
 pub mod Batch
 pub mod KeysTaken
