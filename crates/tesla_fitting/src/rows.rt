@@ -26,12 +26,7 @@ pub fn row_count(frame: &FrameView<'_>) -> u8
 
 /// The key that a data frame carries for a chain, if its index is above this one. Another key is neither copied nor
 /// looked at.
-pub fn key_above(
-    config: &Config,
-    frame: &DataView<'_>,
-    chain: u8,
-    newest: u32,
-) -> Option<KeyRow>
+pub fn key_above(config: &Config, frame: &DataView<'_>, chain: u8, newest: u32) -> Option<KeyRow>
     requires { chain < length frame.now.rows }
     ensures value { option_map (λ row. filter (is_past newest) (carried config.now frame.now.name.interval chain row.key)) (slice_get frame.now.rows chain) ≡ Some (option_to_list result) }
     ensures chain { IfSome result (λ row. row.chain.0 ≡ chain) }
