@@ -1,8 +1,7 @@
 -- The chains of the keys that a data frame carries rise.
-use Rattle.std.proofs.Common.{◌≡◌, ℕ, ◌+◌, ◌-◌, ◌<◌, ◌≤◌, Bool, true, false, cond, List, [], ◌∷◌, ◌++◌, length, flat_map, take, Option, Some, None, refl, sym, ap, subst, ◌⊎◌, inl, inr, arith}
+use Rattle.std.proofs.Common.{◌≡◌, ℕ, ◌+◌, ◌-◌, ◌<◌, ◌≤◌, Bool, true, false, cond, List, [], ◌∷◌, ◌++◌, flat_map, Option, Some, None, refl, sym, subst, ◌⊎◌, inl, inr, arith}
 use Rattle.std.specs.Prelude.{nat_lt}
 use Rattle.std.specs.List.{All, enumerate_from}
-use Rattle.std.proofs.lemmas.List.{length-take}
 use Rattle.std.proofs.lemmas.List.Elements.{All-cons, All-nil, All-weaker}
 use Rattle.tesla_base.specs.declared.names.Key.{Key}
 use Rattle.tesla_frame.specs.declared.row.KeyRow.{KeyRow}
@@ -52,16 +51,3 @@ carried_rise cfg interval n (row ∷ rows) =
           let later = from_number cfg interval (n + 1) rows in
           subst (λ ks. ChainsRise (ks ++ keys_from cfg interval (n + 1) rows)) (sym is) (rise_cons one (keys_from cfg interval (n + 1) rows) (λ k d inside. omega (arith, chain, later k d inside)) rest)
     ]
-
-pub carried_few : (cfg : Config) (interval n : ℕ) (rows : List TagRow) → length (keys_from cfg interval n rows) ≤ length rows
-carried_few cfg interval n [] = omega arith
-carried_few cfg interval n (row ∷ rows) =
-    let rest : length (keys_from cfg interval (n + 1) rows) ≤ length rows = carried_few cfg interval (n + 1) rows in
-    elim (carries cfg interval n row.key) [
-      | inl none ↦ subst (λ ks. length (ks ++ keys_from cfg interval (n + 1) rows) ≤ length (row ∷ rows)) (sym none) (omega (arith, rest))
-      | inr (one, is, chain) ↦ subst (λ ks. length (ks ++ keys_from cfg interval (n + 1) rows) ≤ length (row ∷ rows)) (sym is) (omega (arith, rest))
-    ]
-
--- those of the first rows are no more than these
-pub few_so_far : (cfg : Config) (interval i : ℕ) (rows : List TagRow) (keys : List KeyRow) → keys ≡ keys_from cfg interval 0 (take i rows) → length keys ≤ i
-few_so_far cfg interval i rows keys is = omega (arith, ap length is, carried_few cfg interval 0 (take i rows), length-take i rows)

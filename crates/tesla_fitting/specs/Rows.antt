@@ -1,5 +1,5 @@
 -- The keys and the tags that a frame carries (RFC 4082, section 3.5).
-use Rattle.std.specs.Prelude.{◌≡◌, ℕ, ◌-◌, Bool, List, [], ◌∷◌, Option, Some, None, nat_lt, ◌==◌, if◌then◌else◌, bytes_eq, flat_map}
+use Rattle.std.specs.Prelude.{◌≡◌, ℕ, ◌-◌, Bool, List, [], ◌∷◌, length, Option, Some, None, nat_lt, ◌==◌, if◌then◌else◌, bytes_eq, flat_map}
 use Rattle.std.specs.List.{enumerate_from}
 use Rattle.tesla_base.specs.declared.names.Key.{Key}
 use Rattle.tesla_base.specs.declared.names.WideTag.{WideTag}
@@ -21,6 +21,15 @@ carried cfg interval chain (Some key) =
 abbrev pub keys_of : Config → Frame → List KeyRow
 keys_of cfg (Data f) = flat_map (λ (p : ℕ × TagRow). carried cfg f.name.interval p.0 p.1.key) (enumerate_from 0 f.rows)
 keys_of cfg (Disclosure f) = f.rows
+
+-- how many rows a frame has
+abbrev pub row_count : Frame → ℕ
+row_count (Data f) = length f.rows
+row_count (Disclosure f) = length f.rows
+
+-- the key's index is above this one
+abbrev pub is_past : ℕ → KeyRow → Bool
+is_past newest row = nat_lt newest row.index
 
 abbrev pub is_of : ℕ → KeyRow → Bool
 is_of chain row = row.chain.0 == chain

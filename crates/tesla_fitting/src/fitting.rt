@@ -1,7 +1,7 @@
 //! Whether a frame fits the setup, and the time.
 
-ghost use Rattle.std.specs.Prelude.{◌≡◌};
-ghost use Rattle.std.specs.List.{list_any, enumerate_from};
+ghost use Rattle.std.specs.Prelude.{◌≡◌, ◌<◌, Some, length, option_map};
+ghost use Rattle.std.specs.List.{list_any, enumerate_from, slice_get};
 ghost use Rattle.tesla_frame.specs.Frame.{Data};
 ghost use Rattle.tesla_frame.specs.Shown.{shown};
 ghost use Rattle.tesla_base.specs.Version.{number_of};
@@ -9,7 +9,7 @@ ghost use Rattle.tesla_fitting.specs.Fitting.{is_early, is_outside, fields_misfi
 
 use crate::chains::chain_row;
 use crate::{Config, Verdict};
-use tesla_base::{Key, StreamId};
+use tesla_base::StreamId;
 use tesla_frame::{DataView, FrameView, KeyRow, KeysView};
 
 // The stream of a frame.
@@ -65,18 +65,20 @@ fn any_early_key(config: &Config, frame: &DataView<'_>) -> bool
 {
     let interval = frame.name().interval;
     for chain in 0..frame.count() {
-        let key = frame.key(chain);
-        if is_early(config, interval, chain, key) {
+        if is_early(config, interval, chain, frame) {
             return true;
         }
     }
     false
 }
 
-fn is_early(config: &Config, interval: u32, chain: u8, key: Option<Key>) -> bool
-    ensures { result ≡ is_early config.now interval chain key }
+// Whether a chain's row carries a key though this interval is below the delay. In another interval the row isn't
+// looked at.
+fn is_early(config: &Config, interval: u32, chain: u8, frame: &DataView<'_>) -> bool
+    requires { chain < length frame.now.rows }
+    ensures { option_map (λ row. is_early config.now interval chain row.key) (slice_get frame.now.rows chain) ≡ Some result }
 {
-    key.is_some() && interval < u32::from(chain_row(config, chain).delay)
+    interval < u32::from(chain_row(config, chain).delay) && frame.key(chain).is_some()
 }
 
 fn keys_misfit(config: &Config, frame: &KeysView<'_>) -> bool

@@ -11,6 +11,6 @@ mod verdict;
 pub use chains::{chain_row, has_chain};
 pub use config::Config;
 pub use fitting::unfit;
-pub use rows::{KeyRows, frame_keys};
+pub use rows::{key_above, row_count};
 pub use tags::tags_of;
 pub use verdict::Verdict;

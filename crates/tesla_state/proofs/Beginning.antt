@@ -8,7 +8,7 @@ use Rattle.std.proofs.lemmas.List.Elements.{All-cons, All-filter, All-map, All-n
 use Rattle.std.proofs.lemmas.List.Sums.{sum_by-cons}
 use Rattle.tesla_base.specs.Version.{number_of}
 use Rattle.tesla_frame.specs.declared.row.KeyRow.{KeyRow}
-use Rattle.tesla_frame.specs.Frame.{ChainsRise, Frame, Data, Disclosure, TagRow}
+use Rattle.tesla_frame.specs.Frame.{ChainsRise, Frame, Data, DataFrame, Disclosure, TagRow}
 use Rattle.tesla_keys.specs.Tip.{Tip}
 use Rattle.tesla_fitting.specs.declared.config.Config.{Config}
 use Rattle.tesla_fitting.specs.declared.verdict.Verdict.{Verdict}
@@ -18,6 +18,7 @@ use Rattle.tesla_state.specs.Offered.{AreGood, HaveBegun, IsOfChains, gap_of, ga
 use Rattle.tesla_state.specs.Steps.{is_newer, tip_at}
 use Rattle.tesla_state.specs.Walking.{Walking, IsAbove, fresh, left, left_of, rows_of}
 use Rattle.tesla_fitting.proofs.CarriedRise.{carries, keys_from, rise_cons}
+use Rattle.tesla_state.proofs.NewerKeys.{newer_gaps}
 use Rattle.tesla_state.proofs.Raising.{rises_above, rises_on}
 
 -- ---- chains of the setup
@@ -56,14 +57,18 @@ third_false false false false d e h = refl
 same_count : (a b : ℕ) → not (a == b) ≡ false → a ≡ b
 same_count a b e = grind (arith, nat_tests)
 
+-- a data frame that fits the setup has a row for each chain
+pub row_each : (cfg : Config) (f : DataFrame) → is_misfit cfg (Data f) ≡ false → length f.rows ≡ length cfg.setup.rows
+row_each cfg f e =
+    let fields : fields_misfit cfg (Data f) ≡ false = (first_false (not (number_of f.version == number_of cfg.setup.version)) (fields_misfit cfg (Data f)) e).1 in
+    same_count (length f.rows) (length cfg.setup.rows)
+    (third_false (f.name.interval == 0) (nat_lt cfg.setup.times.last f.name.interval) (not (length f.rows == length cfg.setup.rows)) (not (f.tag_length == cfg.setup.tag_length))
+    (list_any (λ (p : ℕ × TagRow). is_early cfg f.name.interval p.0 p.1.key) (enumerate_from 0 f.rows)) fields)
+
 -- the keys of a frame that fits the setup are of its chains
 pub known_keys : (cfg : Config) (frame : Frame) → is_misfit cfg frame ≡ false → All (IsOfChains (length cfg.setup.rows)) (keys_of cfg frame)
 known_keys cfg (Data f) e =
-    let fields : fields_misfit cfg (Data f) ≡ false = (first_false (not (number_of f.version == number_of cfg.setup.version)) (fields_misfit cfg (Data f)) e).1 in
-    let count : length f.rows ≡ length cfg.setup.rows =
-    same_count (length f.rows) (length cfg.setup.rows)
-    (third_false (f.name.interval == 0) (nat_lt cfg.setup.times.last f.name.interval) (not (length f.rows == length cfg.setup.rows)) (not (f.tag_length == cfg.setup.tag_length))
-    (list_any (λ (p : ℕ × TagRow). is_early cfg f.name.interval p.0 p.1.key) (enumerate_from 0 f.rows)) fields) in
+    let count : length f.rows ≡ length cfg.setup.rows = row_each cfg f e in
     subst (λ n. All (IsOfChains n) (keys_from cfg f.name.interval 0 f.rows)) (omega (arith, count)) (below_number cfg f.name.interval 0 f.rows)
 known_keys cfg (Disclosure f) e = none_outside cfg f.rows (first_false (not (number_of f.version == number_of cfg.setup.version)) (fields_misfit cfg (Disclosure f)) e).1
 
@@ -86,23 +91,10 @@ rise_filter p (row ∷ rows) rise =
     let above : All (λ (r : KeyRow). row.chain.0 < r.chain.0) (filter p rows) = All-filter p (λ (r : KeyRow). row.chain.0 < r.chain.0) rows (rises_above row rows rise) in
     elim (p row) as (λ b. ChainsRise (cond b (row ∷ filter p rows) (filter p rows))) [ true ↦ rise_cons row (filter p rows) above rest | false ↦ rest ]
 
-old_gap : (tips : List Tip) (row : KeyRow) → is_newer tips row ≡ false → gap_of tips row ≡ 0
-old_gap tips row e = let below : row.index ≤ (tip_at tips row.chain.0).index = grind (arith, nat_tests) in omega (arith, below)
-
-left_fresh : (tips : List Tip) (rows : List KeyRow) → left tips (map fresh (filter (is_newer tips) rows)) ≡ gaps tips rows
+left_fresh : (tips : List Tip) (rows : List KeyRow) → left tips (map fresh rows) ≡ gaps tips rows
 left_fresh tips [] = refl
 left_fresh tips (row ∷ rows) =
-    let rest : left tips (map fresh (filter (is_newer tips) rows)) ≡ gaps tips rows = left_fresh tips rows in
-    let sum = sum_by-cons (gap_of tips) row rows in
-    elim (cases_Bool (is_newer tips row)) [
-      | inl newer ↦
-          ap (λ b. left tips (map fresh (cond b (row ∷ filter (is_newer tips) rows) (filter (is_newer tips) rows)))) newer
-          ∙ sum_by-cons (left_of tips) (fresh row) (map fresh (filter (is_newer tips) rows)) ∙ ap (λ n. gap_of tips row + n) rest ∙ sym sum
-      | inr older ↦
-          let none : gap_of tips row ≡ 0 = old_gap tips row older in
-          let all : gaps tips rows ≡ gaps tips (row ∷ rows) = omega (arith, sum, none) in
-          ap (λ b. left tips (map fresh (cond b (row ∷ filter (is_newer tips) rows) (filter (is_newer tips) rows)))) older ∙ rest ∙ all
-    ]
+    sum_by-cons (left_of tips) (fresh row) (map fresh rows) ∙ ap (λ n. gap_of tips row + n) (left_fresh tips rows) ∙ sym (sum_by-cons (gap_of tips) row rows)
 
 -- the walks of the newer keys, before any of them is taken
 pub begun : (tips : List Tip) (rows : List KeyRow) (walks : List Walking) → walks ≡ map fresh (filter (is_newer tips) rows) → ChainsRise rows → All (IsOfChains (length tips)) rows → AreGood tips (filter (is_newer tips) rows) → HaveBegun tips rows walks
@@ -114,6 +106,6 @@ begun tips rows walks is rise known good =
       chains = subst (λ rs. All (IsOfChains (length tips)) rs) (sym new) (All-filter (is_newer tips) (IsOfChains (length tips)) rows known);
       rise = subst ChainsRise (sym new) (rise_filter (is_newer tips) rows rise);
       good = subst (AreGood tips) (sym new) good;
-      potential = ap (left tips) is ∙ left_fresh tips rows;
+      potential = ap (left tips) is ∙ left_fresh tips newer ∙ newer_gaps tips rows;
       above = λ interval. subst (λ ws. All (IsAbove interval) ws) (sym is) (All-map (IsAbove interval) fresh newer (λ k d inside. omega arith));
     }

@@ -7,13 +7,13 @@ pub mod Reached
 pub mod ReachedIntervals
 pub mod Tried
 pub mod Offering
+pub mod NewerKeys
 pub mod Raising
 pub mod Sorting
 pub mod Gathering
 pub mod Sweeping
 pub mod Taken
 pub mod Beginning
-pub mod SafeTips
 pub mod TriedIntervals
 pub mod Batch
 pub mod KeysTaken

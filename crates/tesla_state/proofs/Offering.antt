@@ -60,52 +60,7 @@ all_good tips (row ∷ rows) none =
           subst (λ b. AreGood tips (cond b (row ∷ filter (is_newer tips) rows) (filter (is_newer tips) rows))) (sym older) rest
     ]
 
--- ---- one key more
-
-length_filter_le : {A : Type 0} (p : A → Bool) (xs : List A) → length (filter p xs) ≤ length xs
-length_filter_le p [] = omega arith
-length_filter_le p (x ∷ xs) =
-    let rest : length (filter p xs) ≤ length xs = length_filter_le p xs in
-    elim (p x) as (λ b. length (cond b (x ∷ filter p xs) (filter p xs)) ≤ suc (length xs)) [ true ↦ omega arith | false ↦ omega arith ]
-
-one_of : (b : Bool) (row : KeyRow) → map fresh (cond b (row ∷ []) []) ≡ cond b (fresh row ∷ []) []
-one_of true row = refl
-one_of false row = refl
-
--- the walks of the newer keys, with one key more
-pub walks_more : (tips : List Tip) (rows : List KeyRow) (i : ℕ) (d : KeyRow) (before after : List Walking) → i < length rows → before ≡ map fresh (filter (is_newer tips) (take i rows))
-    → after ≡ before ++ cond (is_newer tips (get_or rows i d)) (fresh (get_or rows i d) ∷ []) [] → after ≡ map fresh (filter (is_newer tips) (take (i + 1) rows))
-walks_more tips rows i d before after h so_far grown =
-    let row = get_or rows i d in
-    let front = filter (is_newer tips) (take i rows) in
-    grown ∙ ap (λ ws. ws ++ cond (is_newer tips row) (fresh row ∷ []) []) so_far
-    ∙ ap (λ ws. map fresh front ++ ws) (sym (one_of (is_newer tips row) row))
-    ∙ sym (map-append fresh front (cond (is_newer tips row) (row ∷ []) []))
-    ∙ ap (map fresh) (sym (filter-append (is_newer tips) (take i rows) (row ∷ [])) ∙ ap (filter (is_newer tips)) (sym (take_more rows i d h)))
-
-pub gaps_more : (tips : List Tip) (rows : List KeyRow) (i : ℕ) (d : KeyRow) → i < length rows → gaps tips (take (i + 1) rows) ≡ gaps tips (take i rows) + gap_of tips (get_or rows i d)
-gaps_more tips rows i d h = ap (sum_by (gap_of tips)) (take_more rows i d h) ∙ sum_by_push (gap_of tips) (take i rows) (get_or rows i d)
-
--- there is room for one more
-pub fits_more : (tips : List Tip) (rows : List KeyRow) (i : ℕ) (walks : List Walking) → i < length rows → walks ≡ map fresh (filter (is_newer tips) (take i rows)) → length walks < length rows
-fits_more tips rows i walks h is =
-    let few : length (filter (is_newer tips) (take i rows)) ≤ length (take i rows) = length_filter_le (is_newer tips) (take i rows) in
-    omega (arith, ap length is, length-map (filter (is_newer tips) (take i rows)) fresh, few, length-take i rows)
-
--- ---- the answer to one key
-
-tested : (b t : Bool) → t ≡ not b → b ≡ not t
-tested true t e = sym (ap not e)
-tested false t e = sym (ap not e)
-
--- whether a key fails, by the answer to its offer
-pub fails_by : (tips : List Tip) (row : KeyRow) (tip : Tip) (answer : Bool) → tip ≡ tip_at tips row.chain.0 → answer ≡ not (nat_lt tip.index row.index && not (leads_to row tip.index tip.key)) → fails tips row ≡ not answer
-fails_by tips row tip answer is given =
-    tested (fails tips row) answer (given ∙ ap (λ (t : Tip). not (nat_lt t.index row.index && not (leads_to row t.index t.key))) is)
-
--- the steps up to a key are among those of all
-pub gaps_front : (tips : List Tip) (rows : List KeyRow) (i : ℕ) → gaps tips (take i rows) ≤ gaps tips rows
-gaps_front tips rows i = sum_by-take-le (gap_of tips) rows i
+-- ---- the newest keys
 
 -- the newest key that stands at a chain's place
 pub tip_found : (tips : List Tip) (place chain : ℕ) (tip : Tip) → tip ≡ get_or tips place tip → place ≡ chain → chain < length tips → tip ≡ tip_at tips chain

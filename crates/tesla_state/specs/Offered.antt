@@ -1,10 +1,12 @@
 -- Keys that are offered to the newest keys of their chains.
-use Rattle.std.specs.Prelude.{◌≡◌, ℕ, ◌<◌, ◌-◌, Bool, List, All, filter, length, nat_lt}
-use Rattle.std.specs.List.{sum_by}
+use Rattle.std.specs.Prelude.{◌≡◌, ℕ, ◌<◌, ◌-◌, List, All, filter, flat_map, length, take}
+use Rattle.std.specs.List.{enumerate_from, sum_by}
 use Rattle.tesla_frame.specs.declared.row.KeyRow.{KeyRow}
-use Rattle.tesla_frame.specs.Frame.{ChainsRise}
+use Rattle.tesla_frame.specs.Frame.{ChainsRise, Frame, Data, Disclosure, TagRow}
 use Rattle.tesla_keys.specs.Offers.{offer_of, IsGood}
 use Rattle.tesla_keys.specs.Tip.{Tip}
+use Rattle.tesla_fitting.specs.declared.config.Config.{Config}
+use Rattle.tesla_fitting.specs.Rows.{carried}
 use Rattle.tesla_state.specs.Steps.{is_newer, tip_at}
 use Rattle.tesla_state.specs.Walking.{Walking, IsAbove, left, rows_of}
 
@@ -12,9 +14,14 @@ use Rattle.tesla_state.specs.Walking.{Walking, IsAbove, left, rows_of}
 abbrev pub IsOfChains : ℕ → KeyRow → Type 0
 IsOfChains count row = row.chain.0 < count
 
--- the key is newer than this one of its chain
-abbrev pub is_above : Tip → KeyRow → Bool
-is_above tip row = nat_lt tip.index row.index
+-- the keys in the first rows of a frame
+abbrev pub first_keys : Config → Frame → ℕ → List KeyRow
+first_keys cfg (Data f) n = flat_map (λ (p : ℕ × TagRow). carried cfg f.name.interval p.0 p.1.key) (enumerate_from 0 (take n f.rows))
+first_keys cfg (Disclosure f) n = take n f.rows
+
+-- those of them that are newer than the newest of their chains
+abbrev pub newer_keys : Config → List Tip → Frame → ℕ → List KeyRow
+newer_keys cfg tips frame n = filter (is_newer tips) (first_keys cfg frame n)
 
 -- each key may be taken
 abbrev pub AreGood : List Tip → List KeyRow → Type 0

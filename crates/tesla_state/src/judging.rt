@@ -1,18 +1,20 @@
 //! Verdicts that need no held packet.
 
 ghost use Rattle.std.specs.Prelude.{◌≡◌, ◌+◌, ◌-◌, ◌<◌, ◌≤◌, ◌^◌, [], length, is_some, true, IfNone, vec_capacity};
+ghost use Rattle.tesla_clock.specs.Safe.{is_safe};
 ghost use Rattle.tesla_frame.specs.Shown.{shown};
+ghost use Rattle.tesla_fitting.specs.Config.{chain_row};
 ghost use Rattle.tesla_fitting.specs.Rows.{keys_of};
 ghost use Rattle.tesla_state.specs.Offered.{HaveBegun, gaps};
 ghost use Rattle.tesla_state.specs.State.{State};
-ghost use Rattle.tesla_state.specs.Steps.{refused, safe_by};
+ghost use Rattle.tesla_state.specs.Steps.{refused, safe_by, tip_at};
 ghost use Rattle.tesla_fitting.specs.Fitting.{unfit};
 
-use crate::offers::offer_rows;
+use crate::offers::offer_keys;
 use crate::walk::Walk;
 use std::sync::ledger::Ledger;
 use tesla_base::Steps;
-use tesla_fitting::{Config, Verdict, chain_row, frame_keys, unfit};
+use tesla_fitting::{Config, Verdict, chain_row, unfit};
 use tesla_frame::FrameView;
 use tesla_keys::Verifier;
 
@@ -42,11 +44,24 @@ pub fn refused<L: Ledger>(
     if let Some(verdict) = unfit(config, bound, frame) {
         return Some(verdict);
     }
-    let rows = frame_keys(config, frame);
-    let Some(chain) = offer_rows(tips, rows.as_slice(), walks, steps) else {
+    let Some(chain) = offer_keys(config, tips, frame, walks, steps) else {
         return None;
     };
     Some(Verdict::BadKey { chain })
+}
+
+/// Whether a chain that there is is safe for an interval. It is judged alone, so no list of delays is made.
+fn is_safe(config: &Config, tips: &[Verifier], bound: u64, interval: u32, chain: u8) -> bool
+    requires { chain < length tips.now }
+    ensures { result ≡ is_safe bound interval (chain_row config.now chain).delay (tip_at tips.now chain).index }
+{
+    let (newest, _) = tips[usize::from(chain)].newest();
+    let delay = chain_row(config, chain).delay;
+    config
+        .setup
+        .schedule()
+        .safe_chains(bound, interval, &[delay], &[newest])
+        == 1
 }
 
 /// The chains that are safe for an interval (RFC 4082, section 3.5), as a set of bits.
@@ -57,17 +72,11 @@ pub fn safe_by(config: &Config, tips: &[Verifier], bound: Option<u64>, interval:
     let Some(bound) = bound else {
         return 0;
     };
-    let count = config.setup.count();
-    let mut delays = [0u16; 8];
-    let mut newest = [0u32; 8];
-    for chain in 0..count {
-        delays[usize::from(chain)] = chain_row(config, chain).delay;
-        newest[usize::from(chain)] = tips[usize::from(chain)].newest().0;
+    let mut set = 0;
+    for chain in 0..config.setup.count() {
+        if is_safe(config, tips, bound, interval, chain) {
+            set += 1 << chain;
+        }
     }
-    let delays = &delays[..usize::from(count)];
-    let newest = &newest[..usize::from(count)];
-    config
-        .setup
-        .schedule()
-        .safe_chains(bound, interval, delays, newest)
+    set
 }

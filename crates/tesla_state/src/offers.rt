@@ -1,36 +1,71 @@
 //! The offers of a frame's keys to the newest keys of their chains.
 
-ghost use Rattle.std.specs.Prelude.{◌≡◌, ◌+◌, ◌-◌, ◌<◌, ◌≤◌, ◌&&◌, ◌++◌, ◌∷◌, [], true, All, length, filter, find, fold, map, not, option_map, IfNone, nat_lt, vec_capacity, if◌then◌else◌};
+ghost use Rattle.std.specs.Prelude.{◌≡◌, ◌+◌, ◌-◌, ◌<◌, ◌≤◌, ◌++◌, ◌∷◌, [], false, true, All, IfNone, IfSome, filter, find, length, option_map, option_to_list, vec_capacity, Some};
+ghost use Rattle.std.specs.List.{slice_get};
 ghost use Rattle.tesla_frame.specs.Frame.{ChainsRise};
-ghost use Rattle.tesla_fitting.specs.Rows.{leads_to};
-ghost use Rattle.tesla_state.specs.Offered.{IsOfChains, AreGood, is_above, gap_of, gaps};
-ghost use Rattle.tesla_state.specs.Steps.{fails, is_newer, tips_after};
+ghost use Rattle.tesla_frame.specs.Shown.{shown};
+ghost use Rattle.tesla_fitting.specs.Fitting.{is_misfit};
+ghost use Rattle.tesla_fitting.specs.Rows.{keys_of, leads_to, row_count};
+ghost use Rattle.tesla_state.specs.Offered.{AreGood, HaveBegun, IsOfChains, gaps, newer_keys};
+ghost use Rattle.tesla_state.specs.Steps.{fails, is_newer, tip_at, tips_after};
 ghost use Rattle.tesla_state.specs.Walking.{fresh, rows_of};
 
 use crate::walk::Walk;
 use std::sync::ledger::Ledger;
 use tesla_base::{ChainNo, Steps};
-use tesla_frame::KeyRow;
+use tesla_fitting::{Config, key_above, row_count};
+use tesla_frame::{FrameView, KeyRow, KeysView};
 use tesla_keys::{Offer, Verifier};
 
-/// Whether a key is good or isn't newer than the newest of its chain. A newer one is appended as a walk if it is
-/// good. The counted steps are as many as it is above the newest.
+/// The key in a row of a disclosure frame, if it is newer than the newest of its chain.
+fn disclosed_key(tips: &[Verifier], frame: &KeysView<'_>, place: u8) -> Option<KeyRow>
+    requires within { place < length frame.now.rows }
+    requires known { All (IsOfChains (length tips.now)) frame.now.rows }
+    ensures value { option_map (λ row. filter (is_newer tips.now) (row ∷ [])) (slice_get frame.now.rows place) ≡ Some (option_to_list result) }
+    ensures known { IfSome result (λ row. row.chain.0 < length tips.now) }
+    ensures newer { IfSome result (λ row. (tip_at tips.now row.chain.0).index < row.index) }
+{
+    let row = frame.row(place);
+    if row.index <= tips[usize::from(row.chain.0)].newest().0 {
+        return None;
+    }
+    Some(row)
+}
+
+/// The key in a row of a frame, if it is newer than the newest of its chain. A data frame's other keys aren't looked at.
+fn newer_key(config: &Config, tips: &[Verifier], frame: &FrameView<'_>, place: u8) -> Option<KeyRow>
+    requires fits { is_misfit config.now (shown frame.now) ≡ false }
+    requires tips { length tips.now ≡ length config.now.setup.rows }
+    requires within { place < row_count (shown frame.now) }
+    ensures more { newer_keys config.now tips.now (shown frame.now) (place + 1) ≡ newer_keys config.now tips.now (shown frame.now) place ++ option_to_list result }
+    ensures known { IfSome result (λ row. row.chain.0 < length tips.now) }
+    ensures newer { IfSome result (λ row. (tip_at tips.now row.chain.0).index < row.index) }
+{
+    match frame {
+        FrameView::Data(data) => {
+            let (newest, _) = tips[usize::from(place)].newest();
+            key_above(config, data, place, newest)
+        }
+        FrameView::Disclosure(keys) => disclosed_key(tips, keys, place),
+    }
+}
+
+/// Whether a key that is newer than the newest of its chain is good. Then it is appended as a walk. The counted steps
+/// are as many as it is above the newest.
 fn offer_row<L: Ledger>(
     verifier: &Verifier,
-    row: &KeyRow,
+    row: KeyRow,
     walks: &mut Vec<Walk>,
     steps: &mut Steps<L>,
 ) -> bool
+    requires newer { verifier.now.index < row.index }
     requires room { length walks.old.items < vec_capacity walks.old }
-    ensures value { result ≡ not (is_above verifier.now row.now && not (leads_to row.now verifier.now.index verifier.now.key)) }
-    ensures walks { result ≡ true → walks.new.items ≡ walks.old.items ++ (if is_above verifier.now row.now then fresh row.now ∷ [] else []) }
+    ensures value { result ≡ leads_to row verifier.now.index verifier.now.key }
+    ensures walks { result ≡ true → walks.new.items ≡ walks.old.items ++ fresh row ∷ [] }
     ensures capacity { vec_capacity walks.old ≤ vec_capacity walks.new }
-    ensures cost { steps.new ≡ steps.old + (row.now.index - verifier.now.index) }
+    ensures cost { steps.new ≡ steps.old + (row.index - verifier.now.index) }
 {
-    if row.index <= verifier.newest().0 {
-        return true;
-    }
-    let walking = Walk::new(*row);
+    let walking = Walk::new(row);
     let Offer::Good { .. } = walking.offer(verifier, steps) else {
         return false;
     };
@@ -42,26 +77,30 @@ fn offer_row<L: Ledger>(
 
 /// Offers a frame's keys to the newest keys of their chains, and takes none. `Some` is the chain of the first key
 /// that is newer than its chain's newest and doesn't walk to it. Where there is none, `walks` has a walk for each newer
-/// key, in order. No memory is taken: `walks` is empty, with room for all keys.
+/// key, in order. No memory is taken: `walks` is empty, with room for eight.
 ///
 /// The counted steps are those from the newer keys down to the newest, up to the first that isn't good.
-pub fn offer_rows<L: Ledger>(
+pub fn offer_keys<L: Ledger>(
+    config: &Config,
     tips: &[Verifier],
-    rows: &[KeyRow],
+    frame: &FrameView<'_>,
     walks: &mut Vec<Walk>,
     steps: &mut Steps<L>,
 ) -> Option<ChainNo>
-    requires chains { All (IsOfChains (length tips.now)) rows.now }
+    requires fits { is_misfit config.now (shown frame.now) ≡ false }
+    requires tips { length tips.now ≡ length config.now.setup.rows }
     requires empty { walks.old.items ≡ [] }
-    requires room { length rows.now ≤ vec_capacity walks.old }
-    ensures value { result ≡ option_map (λ row. row.chain) (find (fails tips.now) rows.now) }
-    ensures walks { IfNone result (walks.new.items ≡ map fresh (filter (is_newer tips.now) rows.now)) }
+    requires room { 8 ≤ vec_capacity walks.old }
+    ensures value { result ≡ option_map (λ row. row.chain) (find (fails tips.now) (keys_of config.now (shown frame.now))) }
+    ensures begun { IfNone result (HaveBegun tips.now (keys_of config.now (shown frame.now)) walks.new.items) }
     ensures capacity { vec_capacity walks.old ≤ vec_capacity walks.new }
-    ensures good { IfNone result (AreGood tips.now (filter (is_newer tips.now) rows.now)) }
-    ensures most { steps.new ≤ steps.old + gaps tips.now rows.now }
-    ensures cost { IfNone result (steps.new ≡ steps.old + gaps tips.now rows.now) }
+    ensures most { steps.new ≤ steps.old + gaps tips.now (keys_of config.now (shown frame.now)) }
+    ensures cost { IfNone result (steps.new ≡ steps.old + gaps tips.now (keys_of config.now (shown frame.now))) }
 {
-    for row in rows {
+    for place in 0..row_count(frame) {
+        let Some(row) = newer_key(config, tips, frame, place) else {
+            continue;
+        };
         if !offer_row(&tips[usize::from(row.chain.0)], row, walks, steps) {
             return Some(row.chain);
         }
