@@ -1,10 +1,10 @@
 -- What an arrival takes in evaluations of HMAC: packet by packet, and by what a receiver keeps.
-use Rattle.std.proofs.Common.{◌≡◌, ℕ, suc, ◌+◌, ◌-◌, ◌*◌, ◌<◌, ◌≤◌, Bool, true, false, cond, ◌||◌, ◌==◌, List, [], ◌∷◌, map, flat_map, take, drop, Option, Some, None, refl, sym, ap, subst, ⊎_elim, ◌∙◌, arith, zero-add}
+use Rattle.std.proofs.Common.{◌≡◌, ℕ, suc, ◌+◌, ◌-◌, ◌*◌, ◌≤◌, Bool, true, false, cond, ◌||◌, ◌==◌, List, [], ◌∷◌, map, take, drop, Option, Some, None, refl, sym, ap, subst, ⊎_elim, ◌∙◌, arith, zero-add}
 use Rattle.std.specs.List.{filter, sum_by}
 use Rattle.std.specs.Prelude.{not, find, is_some, nat_lt, option_map}
 use Rattle.std.proofs.lemmas.Bool.{cases_Bool, ltb-false}
 use Rattle.std.proofs.lemmas.List.{map-append}
-use Rattle.std.proofs.lemmas.List.Sums.{sum_by-append, sum_by-cons, sum_by_push}
+use Rattle.std.proofs.lemmas.List.Sums.{sum_by-cons, sum_by_push}
 use Rattle.tesla_base.specs.declared.names.Place.{Place}
 use Rattle.tesla_frame.specs.declared.row.KeyRow.{KeyRow}
 use Rattle.tesla_frame.specs.Frame.{Frame}
@@ -17,17 +17,15 @@ use Rattle.tesla_fitting.specs.declared.verdict.Verdict.{Verdict}
 use Rattle.tesla_fitting.specs.declared.verdict.Verdict.TheVariants.{Foreign, Misfit, Future, BadKey}
 use Rattle.tesla_fitting.specs.Fitting.{stream_of, is_misfit, is_future, unfit}
 use Rattle.tesla_state.specs.Costs.{is_unread, gaps_by, pairs_by, most_on, most_by}
-use Rattle.tesla_state.specs.Gathering.{in_turn, gathered, down_to}
 use Rattle.tesla_fitting.specs.Rows.{keys_of}
 use Rattle.tesla_state.specs.Offered.{HaveBegun, gap_of, gaps}
 use Rattle.tesla_state.specs.State.{Holding, State}
 use Rattle.tesla_state.specs.Steps.{bound_at, fails, in_interval, is_newer, new_rows, refused, tip_at}
 use Rattle.tesla_state.specs.Stored.{Placed, place_of, holding_at, stands_at, is_of}
 use Rattle.tesla_state.specs.Walking.{Walking, rows_of, left, tries, pairs}
-use Rattle.tesla_state.proofs.Gathering.{flat_map_one, gathered_more, gathered_sum, gathered_whole}
 use Rattle.tesla_state.proofs.Marked.{filter_mapped}
 use Rattle.tesla_state.proofs.Sweeping.{comes}
-use Rattle.tesla_state.proofs.TriedIntervals.{Trying, Spanning, take_all, take_next}
+use Rattle.tesla_state.proofs.TriedIntervals.{Trying, take_all, take_next}
 
 -- ---- the packets of an interval
 
@@ -63,48 +61,6 @@ module _ (cfg : Config) (tips : List Tip) (begun : List Walking) (held : List Pl
   tried_whole h =
       ap (λ xs. pairs cfg tips (rows_of begun) (map holding_at xs)) (take_all n (filter (is_of i) held) h)
       ∙ ap (pairs cfg tips (rows_of begun)) (sym (filter_mapped (in_interval i) holding_at held))
-
--- ---- one interval after another
-
--- the packet by itself
-abbrev alone : Holding → List Holding
-alone item = item ∷ []
-
--- one interval more
-sum_gathered_more : (number : Holding → ℕ) (hs : List Holding) (low count k i : ℕ) → k < count → low + count - k ≡ i
-    → sum_by number (flat_map (in_turn alone hs) (take (k + 1) (down_to low count))) ≡ sum_by number (flat_map (in_turn alone hs) (take k (down_to low count))) + sum_by number (filter (in_interval i) hs)
-sum_gathered_more number hs low count k i h e =
-    ap (sum_by number) (gathered_more alone hs low count k h)
-    ∙ sum_by-append number (flat_map (in_turn alone hs) (take k (down_to low count))) (in_turn alone hs (low + count - k))
-    ∙ ap (λ (n : ℕ). sum_by number (flat_map (in_turn alone hs) (take k (down_to low count))) + n)
-    (ap (λ (j : ℕ). sum_by number (in_turn alone hs j)) e ∙ ap (sum_by number) (flat_map_one (filter (in_interval i) hs)))
-
-module _ (cfg : Config) (tips : List Tip) (begun : List Walking) (held : List Placed) (low high b : ℕ) where
-  -- an interval more was tried
-  pub spanning_cost : (walks later : List Walking) (batch : List Proved) (start now after : ℕ) → low ≤ b → Spanning cfg tips begun walks held low high (b + 1) batch
-      → now + left tips walks ≤ start + left tips begun + 2 * pairs cfg tips (rows_of begun) (flat_map (in_turn (λ item. item ∷ []) (map holding_at held)) (take (high - (b + 1)) (down_to low (high - low))))
-      → after + left tips later ≤ now + left tips walks + 2 * pairs cfg tips (rows_of walks) (filter (in_interval (b + 1)) (map holding_at held))
-      → after + left tips later ≤ start + left tips begun + 2 * pairs cfg tips (rows_of begun) (flat_map (in_turn (λ item. item ∷ []) (map holding_at held)) (take (high - b) (down_to low (high - low))))
-  spanning_cost walks later batch start now after least s so_far cost =
-      let within = s.within in
-      let hs : List Holding = map holding_at held in
-      let k : ℕ = high - (b + 1) in
-      let inside : k < high - low = omega arith in
-      let count : k + 1 ≡ high - b = omega arith in
-      let there : low + (high - low) - k ≡ b + 1 = omega arith in
-      let number : Holding → ℕ = tries cfg tips (rows_of begun) in
-      let here = subst (λ (rows : List KeyRow). after + left tips later ≤ now + left tips walks + 2 * pairs cfg tips rows (filter (in_interval (b + 1)) hs)) s.rows cost in
-      steps_more (start + left tips begun) (now + left tips walks) (after + left tips later) (sum_by number (flat_map (in_turn alone hs) (take k (down_to low (high - low))))) (sum_by number (filter (in_interval (b + 1)) hs))
-      (sum_by number (flat_map (in_turn alone hs) (take (high - b) (down_to low (high - low))))) so_far here
-      (ap (λ (n : ℕ). sum_by number (flat_map (in_turn alone hs) (take n (down_to low (high - low))))) (sym count) ∙ sum_gathered_more number hs low (high - low) k (b + 1) inside there)
-
-  -- all intervals were tried
-  pub spanned_cost : high - low ≤ high - b → pairs cfg tips (rows_of begun) (flat_map (in_turn (λ item. item ∷ []) (map holding_at held)) (take (high - b) (down_to low (high - low)))) ≡ pairs cfg tips (rows_of begun) (gathered (λ item. item ∷ []) (map holding_at held) low (high - low))
-  spanned_cost h = ap (pairs cfg tips (rows_of begun)) (gathered_whole alone (map holding_at held) low (high - low) (high - b) h)
-
--- the packets of the intervals take no more than all that are held
-pub held_cost : (cfg : Config) (tips : List Tip) (new : List KeyRow) (held : List Holding) (low count : ℕ) → pairs cfg tips new (gathered (λ item. item ∷ []) held low count) ≤ pairs cfg tips new held
-held_cost cfg tips new held low count = gathered_sum (tries cfg tips new) held low count
 
 -- ---- an arrival
 

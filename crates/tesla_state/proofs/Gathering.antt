@@ -1,15 +1,14 @@
--- What is gathered interval by interval has the elements of what is gathered in order of arrival.
-use Rattle.std.proofs.Common.{◌≡◌, ℕ, zero, suc, ◌+◌, ◌-◌, ◌<◌, ◌≤◌, Bool, true, false, cond, ◌&&◌, ◌||◌, List, [], ◌∷◌, ◌++◌, length, get_or, filter, flat_map, take, Option, Some, None, refl, sym, ap, subst, ◌∙◌, ◌⊎◌, inl, inr, arith, append_assoc}
+-- What is gathered interval by interval, from the highest interval down, has the elements of what is gathered in order of arrival.
+use Rattle.std.proofs.Common.{◌≡◌, ℕ, ◌+◌, ◌-◌, ◌<◌, ◌≤◌, Bool, true, false, cond, ◌&&◌, ◌||◌, List, [], ◌∷◌, ◌++◌, length, get_or, filter, flat_map, take, Option, Some, None, refl, sym, ap, subst, ◌∙◌, ◌⊎◌, inl, inr, arith, append_assoc, zero-add}
 use Rattle.std.specs.Prelude.{◌==◌, ◌^◌, fold, nat_le, nat_lt, find, slice_get}
 use Rattle.std.specs.List.{All, list_any, sum_by}
 use Rattle.std.specs.List.Sorted.{IsPermutation}
 use Rattle.std.proofs.lemmas.Bool.{cases_Bool, eqb-true, or_parts}
 use Rattle.std.proofs.lemmas.Bool.Decides.{nat_tests}
-use Rattle.std.proofs.lemmas.List.{append-nil, get_or-map, length-map, take_all, take_more}
-use Rattle.std.proofs.lemmas.List.Concat.{flat_map-append}
+use Rattle.std.proofs.lemmas.List.{get_or-map, length-map, take_more}
 use Rattle.std.proofs.lemmas.List.Sums.{fold-append, sum_by-cons}
 use Rattle.std.proofs.lemmas.List.Elements.{All-cons, All-head, All-nil, All-tail}
-use Rattle.std.proofs.lemmas.List.Sorted.{IsPermutation-append_comm, IsPermutation-append_left, IsPermutation-append_right, IsPermutation-refl, IsPermutation-trans, sum_by-IsPermutation}
+use Rattle.std.proofs.lemmas.List.Sorted.{IsPermutation-append_comm, IsPermutation-append_left, IsPermutation-append_right, IsPermutation-refl, IsPermutation-trans}
 use Rattle.tesla_frame.specs.declared.row.KeyRow.{KeyRow}
 use Rattle.tesla_keys.specs.Tip.{Tip}
 use Rattle.tesla_fitting.specs.declared.config.Config.{Config}
@@ -19,9 +18,8 @@ use Rattle.tesla_fitting.specs.Rows.{is_of}
 use Rattle.tesla_state.specs.State.{Holding}
 use Rattle.tesla_state.specs.Steps.{batch_of, in_interval, is_proof_of, matches, proof_of, proves_on, released_on, tip_at}
 use Rattle.tesla_clock.specs.Safe.{has_chain}
-use Rattle.tesla_state.proofs.ReachedIntervals.{outside_unreached}
 use Rattle.tesla_state.proofs.Tried.{skips_proof}
-use Rattle.tesla_state.specs.Gathering.{RiseBy, Spans, down_to, gathered, higher, highest, in_turn, index_in, is_first, is_reached, lower, lowest, order_of, place_of}
+use Rattle.tesla_state.specs.Gathering.{RiseBy, Spans, higher, highest, in_turn, index_in, is_first, is_reached, lower, lowest, order_of, place_of}
 use Rattle.tesla_state.specs.Walking.{Walking, row_of, rows_of}
 
 -- ---- two parts
@@ -67,74 +65,87 @@ module _ {X A : Type 0} (f : X → List A) where
   two_parts r p q one both other (x ∷ xs) =
       part_step (r x) (p x) (q x) (one x) (both x) (other x) x (filter r xs) (filter p xs) (filter q xs) (two_parts r p q one both other xs)
 
+  same_step : (b : Bool) (x : X) (ps qs : List X) → flat_map f ps ≡ flat_map f qs → flat_map f (cond b (x ∷ ps) ps) ≡ flat_map f (cond b (x ∷ qs) qs)
+  same_step true x ps qs h = ap (λ ys. f x ++ ys) h
+  same_step false x ps qs h = h
+
+  skip_step : (b : Bool) (x : X) (ps : List X) → f x ≡ [] → flat_map f (cond b (x ∷ ps) ps) ≡ flat_map f ps
+  skip_step true x ps e = ap (λ ys. ys ++ flat_map f ps) e
+  skip_step false x ps e = refl
+
+  -- two tests that differ only where f gives nothing
+  pub same_given : (p q : X → Bool) → ((x : X) → (p x ≡ q x) ⊎ (f x ≡ [])) → (xs : List X) → flat_map f (filter p xs) ≡ flat_map f (filter q xs)
+  same_given p q same [] = refl
+  same_given p q same (x ∷ xs) = elim (same x) [
+    | inl e ↦ ap (λ b. flat_map f (cond b (x ∷ filter p xs) (filter p xs))) e ∙ same_step (q x) x (filter p xs) (filter q xs) (same_given p q same xs)
+    | inr e ↦ skip_step (p x) x (filter p xs) e ∙ same_given p q same xs ∙ sym (skip_step (q x) x (filter q xs) e)
+  ]
+
+  -- f gives nothing for those that pass
+  pub nothing_given : (p : X → Bool) → ((x : X) → p x ≡ true → f x ≡ []) → (xs : List X) → flat_map f (filter p xs) ≡ []
+  nothing_given p none [] = refl
+  nothing_given p none (x ∷ xs) = elim (cases_Bool (p x)) [
+    | inl e ↦ skip_step (p x) x (filter p xs) (none x e) ∙ nothing_given p none xs
+    | inr e ↦ ap (λ b. flat_map f (cond b (x ∷ filter p xs) (filter p xs))) e ∙ nothing_given p none xs
+  ]
+
+sum_step : (rx px qx : Bool) (n r p q : ℕ) → (px ≡ true → (rx ≡ true) × (qx ≡ false)) → (qx ≡ true → rx ≡ true) → p + q ≤ r → (cond px n 0 + p) + (cond qx n 0 + q) ≤ cond rx n 0 + r
+sum_step true true true n r p q one both h = let e : true ≡ false = (one refl).1 in absurd (cc)
+sum_step true true false n r p q one both h = omega arith
+sum_step true false true n r p q one both h = omega arith
+sum_step true false false n r p q one both h = omega arith
+sum_step false true qx n r p q one both h = let e : false ≡ true = (one refl).0 in absurd (cc)
+sum_step false false true n r p q one both h = let e : false ≡ true = both refl in absurd (cc)
+sum_step false false false n r p q one both h = omega arith
+
+sum_if : {A : Type 0} (number : A → ℕ) (b : Bool) (x : A) (xs : List A) → sum_by number (cond b (x ∷ xs) xs) ≡ cond b (number x) 0 + sum_by number xs
+sum_if number true x xs = sum_by-cons number x xs
+sum_if number false x xs = sym (zero-add (sum_by number xs))
+
+-- two parts of a list that have no element in common count for no more than a part that has both
+pub parts_sum : {A : Type 0} (number : A → ℕ) (r p q : A → Bool) → ((x : A) → p x ≡ true → (r x ≡ true) × (q x ≡ false)) → ((x : A) → q x ≡ true → r x ≡ true) → (xs : List A)
+    → sum_by number (filter p xs) + sum_by number (filter q xs) ≤ sum_by number (filter r xs)
+parts_sum number r p q one both [] = omega arith
+parts_sum number r p q one both (x ∷ xs) =
+    let rest = sum_step (r x) (p x) (q x) (number x) (sum_by number (filter r xs)) (sum_by number (filter p xs)) (sum_by number (filter q xs)) (one x) (both x) (parts_sum number r p q one both xs) in
+    omega (arith, rest, sum_if number (r x) x (filter r xs), sum_if number (p x) x (filter p xs), sum_if number (q x) x (filter q xs))
+
+-- a list counts for its length where each element counts for one
+pub sum_ones : {A : Type 0} (xs : List A) → sum_by (λ x. 1) xs ≡ length xs
+sum_ones [] = refl
+sum_ones (x ∷ xs) = omega (arith, sum_by-cons (λ y. 1) x xs, sum_ones xs)
+
 -- ---- intervals
 
--- above the one interval, and not above the other
-abbrev pub is_between : ℕ → ℕ → Holding → Bool
-is_between low high item = nat_lt low item.name.interval && nat_le item.name.interval high
+-- of an interval above this one
+abbrev pub is_past : ℕ → Holding → Bool
+is_past most item = nat_lt most item.name.interval
 
-last_between : (low high interval : ℕ) → low < high → (interval == high) ≡ true → ((nat_lt low interval && nat_le interval high) ≡ true) × ((nat_lt low interval && nat_le interval (high - 1)) ≡ false)
-last_between low high interval h e = (grind (arith, nat_tests), grind (arith, nat_tests))
+last_past : (interval most number : ℕ) → 0 < interval → interval ≤ most → (number == interval) ≡ true → (nat_lt (interval - 1) number ≡ true) × (nat_lt most number ≡ false)
+last_past interval most number some below e = (grind (arith, nat_tests), grind (arith, nat_tests))
 
-still_between : (low high interval : ℕ) → (nat_lt low interval && nat_le interval (high - 1)) ≡ true → (nat_lt low interval && nat_le interval high) ≡ true
-still_between low high interval e = grind (arith, nat_tests)
+still_past : (interval most number : ℕ) → interval ≤ most → nat_lt most number ≡ true → nat_lt (interval - 1) number ≡ true
+still_past interval most number below e = grind (arith, nat_tests)
 
-other_between : (low high interval : ℕ) → (nat_lt low interval && nat_le interval high) ≡ true → (interval == high) ≡ false → (nat_lt low interval && nat_le interval (high - 1)) ≡ true
-other_between low high interval e n = grind (arith, nat_tests)
+other_past : (interval number : ℕ) → 0 < interval → nat_lt (interval - 1) number ≡ true → (number == interval) ≡ false → nat_lt interval number ≡ true
+other_past interval number some e n = grind (arith, nat_tests)
 
-none_between : (low interval : ℕ) → (nat_lt low interval && nat_le interval (low + 0)) ≡ false
-none_between low interval = grind (arith, nat_tests)
+module _ {A : Type 0} (f : Holding → List A) (held : List Holding) (interval : ℕ) (some : 0 < interval) where
+  -- what f gives for the packets of an interval, and of those above it
+  pub past_parts : IsPermutation (flat_map f (filter (is_past (interval - 1)) held)) (in_turn f held interval ++ flat_map f (filter (is_past interval) held))
+  past_parts =
+      two_parts f (is_past (interval - 1)) (in_interval interval) (is_past interval)
+      (λ item e. last_past interval interval item.name.interval some (omega arith) e)
+      (λ item e. still_past interval interval item.name.interval (omega arith) e)
+      (λ item e n. other_past interval item.name.interval some e n) held
 
-none_pass : {A : Type 0} (p : A → Bool) → ((x : A) → p x ≡ false) → (xs : List A) → filter p xs ≡ []
-none_pass p none [] = refl
-none_pass p none (x ∷ xs) = ap (λ b. cond b (x ∷ filter p xs) (filter p xs)) (none x) ∙ none_pass p none xs
-
-module _ {A : Type 0} (f : Holding → List A) (held : List Holding) (low : ℕ) where
-  -- what is gathered from the last interval down has the elements of what is gathered in order of arrival
-  pub gathers : (count : ℕ) → IsPermutation (flat_map f (filter (is_between low (low + count)) held)) (gathered f held low count)
-  gathers zero =
-      let nothing : flat_map f (filter (is_between low (low + 0)) held) ≡ [] = ap (flat_map f) (none_pass (is_between low (low + 0)) (λ item. none_between low item.name.interval) held) in
-      subst (λ (l : List A). IsPermutation l []) (sym nothing) (IsPermutation-refl [])
-  gathers (suc count) =
-      let one_less : low + suc count - 1 ≡ low + count = omega arith in
-      let parts : IsPermutation (flat_map f (filter (is_between low (low + suc count)) held)) (in_turn f held (low + suc count) ++ flat_map f (filter (is_between low (low + suc count - 1)) held)) =
-      two_parts f (is_between low (low + suc count)) (in_interval (low + suc count)) (is_between low (low + suc count - 1))
-      (λ item e. last_between low (low + suc count) item.name.interval (omega arith) e)
-      (λ item e. still_between low (low + suc count) item.name.interval e)
-      (λ item e n. other_between low (low + suc count) item.name.interval e n) held in
-      let rest : IsPermutation (flat_map f (filter (is_between low (low + suc count - 1)) held)) (gathered f held low count) =
-      subst (λ n. IsPermutation (flat_map f (filter (is_between low n) held)) (gathered f held low count)) (sym one_less) (gathers count) in
-      IsPermutation-trans (flat_map f (filter (is_between low (low + suc count)) held)) (in_turn f held (low + suc count) ++ flat_map f (filter (is_between low (low + suc count - 1)) held)) (gathered f held low (suc count)) parts
-      (IsPermutation-append_right (in_turn f held (low + suc count)) (flat_map f (filter (is_between low (low + suc count - 1)) held)) (gathered f held low count) rest)
-
-  -- where f gives nothing for the packets of other intervals
-  pub gathers_all : (count : ℕ) → ((item : Holding) → is_between low (low + count) item ≡ false → f item ≡ []) → IsPermutation (flat_map f held) (gathered f held low count)
-  gathers_all count skip =
-      subst (λ (l : List A). IsPermutation l (gathered f held low count)) (only_those f (is_between low (low + count)) skip held) (gathers count)
-
--- ---- one interval after another
-
-pub length-down_to : (low count : ℕ) → length (down_to low count) ≡ count
-length-down_to low zero = refl
-length-down_to low (suc count) = omega (arith, length-down_to low count)
-
--- the interval at a place
-pub down_to_at : (low count k d : ℕ) → k < count → get_or (down_to low count) k d ≡ low + count - k
-down_to_at low zero k d h = absurd (omega arith)
-down_to_at low (suc count) zero d h = omega arith
-down_to_at low (suc count) (suc k) d h = down_to_at low count k d (omega arith) ∙ omega arith
-
--- what is gathered so far, with the interval at place k
-pub gathered_more : {A : Type 0} (f : Holding → List A) (held : List Holding) (low count k : ℕ) → k < count → flat_map (in_turn f held) (take (k + 1) (down_to low count)) ≡ flat_map (in_turn f held) (take k (down_to low count)) ++ in_turn f held (low + count - k)
-gathered_more {A = A} f held low count k h =
-    let inside : k < length (down_to low count) = omega (arith, length-down_to low count) in
-    ap (flat_map (in_turn f held)) (take_more (down_to low count) k 0 inside ∙ ap (λ i. take k (down_to low count) ++ i ∷ []) (down_to_at low count k 0 h))
-    ∙ flat_map-append (in_turn f held) (take k (down_to low count)) ((low + count - k) ∷ [])
-    ∙ ap (λ (l : List A). flat_map (in_turn f held) (take k (down_to low count)) ++ l) (append-nil (in_turn f held (low + count - k)))
-
--- all is gathered where no interval is left
-pub gathered_whole : {A : Type 0} (f : Holding → List A) (held : List Holding) (low count k : ℕ) → count ≤ k → flat_map (in_turn f held) (take k (down_to low count)) ≡ gathered f held low count
-gathered_whole f held low count k h = ap (flat_map (in_turn f held)) (take_all k (down_to low count) (omega (arith, length-down_to low count)))
+-- the packets of an interval and those above another, not lower one, count for no more than all of these intervals
+pub past_sum : (number : Holding → ℕ) (held : List Holding) (interval most : ℕ) → 0 < interval → interval ≤ most
+    → sum_by number (filter (in_interval interval) held) + sum_by number (filter (is_past most) held) ≤ sum_by number (filter (is_past (interval - 1)) held)
+past_sum number held interval most some below =
+    parts_sum number (is_past (interval - 1)) (in_interval interval) (is_past most)
+    (λ item e. last_past interval most item.name.interval some below e)
+    (λ item e. still_past interval most item.name.interval below e) held
 
 -- ---- in order of arrival
 
@@ -214,30 +225,13 @@ nothing_told true item told e = refl
 nothing_told false item told e = ap (released_on item) e
 
 -- new keys prove nothing of an interval that they aren't the first to reach
-unreached_unproved : (cfg : Config) (tips : List Tip) (new : List KeyRow) (item : Holding) → is_reached (index_in tips) new item.name.interval ≡ false → proof_of cfg tips new item ≡ []
+pub unreached_unproved : (cfg : Config) (tips : List Tip) (new : List KeyRow) (item : Holding) → is_reached (index_in tips) new item.name.interval ≡ false → proof_of cfg tips new item ≡ []
 unreached_unproved cfg tips new item unreached =
     let none : find (proves_on cfg tips new item) (chains cfg) ≡ None =
     no_chain (proves_on cfg tips new item)
     (λ c. proved_not (has_chain item.chains c) (nat_lt (tip_at tips c).index item.name.interval) (list_any (is_proof_of cfg item c) new)
     (λ newer. rows_prove_not cfg tips item c newer new unreached)) (chains cfg) in
     nothing_told item.released item (find (proves_on cfg tips new item) (chains cfg)) none
-
--- nor outside of those that they span
-pub proves_nothing : (cfg : Config) (tips : List Tip) (new : List KeyRow) (low high : ℕ) → Spans tips new low high → (item : Holding) → is_between low high item ≡ false → proof_of cfg tips new item ≡ []
-proves_nothing cfg tips new low high spans item outside =
-    unreached_unproved cfg tips new item (outside_unreached tips new low high item.name.interval spans.above spans.below outside)
-
-turn_step : (f : Holding → List Release) (item : Holding) (items : List Holding) (b : Bool) → (b ≡ true → f item ≡ []) → flat_map f items ≡ [] → flat_map f (cond b (item ∷ items) items) ≡ []
-turn_step f item items true here rest = ap (λ rs. rs ++ flat_map f items) (here refl) ∙ rest
-turn_step f item items false here rest = rest
-
--- nothing is gathered in such an interval
-pub unreached_turn : (cfg : Config) (tips : List Tip) (new : List KeyRow) (interval : ℕ) (held : List Holding) → is_reached (index_in tips) new interval ≡ false → in_turn (proof_of cfg tips new) held interval ≡ []
-unreached_turn cfg tips new interval [] unreached = refl
-unreached_turn cfg tips new interval (item ∷ held) unreached =
-    turn_step (proof_of cfg tips new) item (filter (in_interval interval) held) (in_interval interval item)
-    (λ e. unreached_unproved cfg tips new item (ap (is_reached (index_in tips) new) (eqb-true item.name.interval interval e) ∙ unreached))
-    (unreached_turn cfg tips new interval held unreached)
 
 -- ---- the intervals that new keys span
 
@@ -269,10 +263,6 @@ highest_all (row ∷ rows) start =
 pub spans : (tips : List Tip) (new : List KeyRow) → Spans tips new (lowest tips new) (highest new)
 spans tips new = record { above = lowest_all tips new (2 ^ 32 - 1); below = highest_all new 0 }
 
--- so many intervals after the lowest, or more
-pub spans_count : (tips : List Tip) (new : List KeyRow) (low high : ℕ) → Spans tips new low high → Spans tips new low (low + (high - low))
-spans_count tips new low high s = record { above = s.above; below = λ k d inside. omega (arith, s.below k d inside) }
-
 fold_more : {A : Type 0} (f : ℕ → A → ℕ) (start : ℕ) (xs : List A) (i : ℕ) (x : A) → i < length xs → get_or xs i x ≡ x → fold f start (take (i + 1) xs) ≡ f (fold f start (take i xs)) x
 fold_more f start xs i x inside at = ap (fold f start) (take_more xs i x inside ∙ ap (λ y. take i xs ++ y ∷ []) at) ∙ fold-append f start (take i xs) (x ∷ [])
 
@@ -281,36 +271,15 @@ pub walk_more : (f : ℕ → KeyRow → ℕ) (start : ℕ) (walks : List Walking
 walk_more f start walks i d row inside is =
     fold_more f start (rows_of walks) i row (omega (arith, length-map walks row_of, inside)) (get_or-map row_of walks i d row inside ∙ sym is)
 
--- what is gathered from the last interval down is the batch in another order
-pub batch_gathers : (cfg : Config) (tips : List Tip) (new : List KeyRow) (held : List Holding) (low count : ℕ) → Spans tips new low (low + count) → IsPermutation (batch_of cfg tips new held) (gathered (proof_of cfg tips new) held low count)
-batch_gathers cfg tips new held low count spans =
-    gathers_all (proof_of cfg tips new) held low count (proves_nothing cfg tips new low (low + count) spans)
-
 -- the places of the batch rise
 pub batch_rises : (cfg : Config) (tips : List Tip) (new : List KeyRow) (held : List Holding) → RiseBy order_of held → RiseBy place_of (batch_of cfg tips new held)
 batch_rises cfg tips new held rise = gives_rising order_of place_of (proof_of cfg tips new) (gives_own cfg tips new) held rise
 
--- ---- what is gathered is tried once
-
--- each element by itself is the list
-pub flat_map_one : {A : Type 0} (xs : List A) → flat_map (λ x. x ∷ []) xs ≡ xs
-flat_map_one [] = refl
-flat_map_one (x ∷ xs) = ap (λ ys. x ∷ ys) (flat_map_one xs)
-
-sum_filter : {A : Type 0} (number : A → ℕ) (p : A → Bool) (xs : List A) → sum_by number (filter p xs) ≤ sum_by number xs
+-- a part of a list counts for no more than the list
+pub sum_filter : {A : Type 0} (number : A → ℕ) (p : A → Bool) (xs : List A) → sum_by number (filter p xs) ≤ sum_by number xs
 sum_filter number p [] = omega arith
 sum_filter number p (x ∷ xs) =
     let rest : sum_by number (filter p xs) ≤ sum_by number xs = sum_filter number p xs in
     let whole = sum_by-cons number x xs in
     let kept = sum_by-cons number x (filter p xs) in
     elim (p x) as (λ b. sum_by number (cond b (x ∷ filter p xs) (filter p xs)) ≤ sum_by number (x ∷ xs)) [ true ↦ omega (arith, rest, whole, kept) | false ↦ omega (arith, rest, whole) ]
-
--- the packets of the intervals, from the last interval down, count for no more than all that are held
-pub gathered_sum : (number : Holding → ℕ) (held : List Holding) (low count : ℕ) → sum_by number (gathered (λ item. item ∷ []) held low count) ≤ sum_by number held
-gathered_sum number held low count =
-    let one : Holding → List Holding = λ item. item ∷ [] in
-    let those = filter (is_between low (low + count)) held in
-    let same : sum_by number (gathered one held low count) ≡ sum_by number (flat_map one those) =
-    sum_by-IsPermutation number (flat_map one those) (gathered one held low count) (gathers one held low count) in
-    let plain : sum_by number (flat_map one those) ≡ sum_by number those = ap (sum_by number) (flat_map_one those) in
-    omega (arith, same, plain, sum_filter number (is_between low (low + count)) held)

@@ -1,16 +1,17 @@
 -- A walk along the packets of an interval, some of which are let go on the way.
-use Rattle.std.proofs.Common.{◌≡◌, ℕ, ◌+◌, ◌≤◌, suc, zero, Bool, true, false, cond, ◌&&◌, ◌||◌, List, [], ◌∷◌, length, map, drop, Option, Some, None, refl, sym, ap, subst, ⊎_elim, ◌∙◌, arith, ◌==◌}
-use Rattle.std.specs.Prelude.{not, find, nat_lt, nat_le, max}
+use Rattle.std.proofs.Common.{◌≡◌, ℕ, ◌+◌, ◌-◌, ◌<◌, ◌≤◌, suc, zero, Bool, true, false, cond, ◌&&◌, ◌||◌, List, [], ◌∷◌, length, map, drop, Option, Some, None, refl, sym, ap, subst, ◌⊎◌, inl, inr, ⊎_elim, ◌∙◌, arith, ◌==◌}
+use Rattle.std.specs.Prelude.{not, find, nat_lt, nat_le, min}
 use Rattle.std.specs.List.{list_any, list_all, filter}
 use Rattle.std.proofs.Math.ListN.{drop_of_length-le}
-use Rattle.std.proofs.lemmas.Bool.{cases_Bool, and_from, or_left, or_right, both_ways, eqb-true, eq-eqb, false_from_ne_true}
-use Rattle.std.proofs.Math.Bool.{and-false}
+use Rattle.std.proofs.lemmas.Bool.{cases_Bool, and_from, and_parts, ltb-true, leb-true, or_left, or_right, both_ways, eqb-true, eq-eqb, false_from_ne_true}
+use Rattle.std.proofs.Math.Bool.{and-false, and-true}
 use Rattle.std.proofs.lemmas.Bool.Decides.{nat_tests}
 use Rattle.tesla_base.specs.declared.names.Place.{Place}
 use Rattle.tesla_keys.specs.Tip.{Tip}
 use Rattle.tesla_links.specs.Lists.{is_in, Distinct}
 use Rattle.tesla_fitting.specs.declared.config.Config.{Config}
 use Rattle.tesla_fitting.specs.Config.{chains}
+use Rattle.tesla_state.specs.Gathering.{IsHighest}
 use Rattle.tesla_state.specs.Steps.{is_over, is_passed}
 use Rattle.tesla_state.specs.Stored.{Placed, Stored, place_of, stands_at, waits, without, is_of, first_place, next_place, is_idle, in_span}
 
@@ -270,43 +271,109 @@ filter_filter p q r same (x ∷ xs) =
     ∙ ap (λ t. cond t (x ∷ filter r xs) (filter r xs)) (ap (λ t. t && p x) (sym e) ∙ same x))
     (cases_Bool (q x))
 
-both_tests : (s e o : Bool) → (not (s && o) && not (e && o)) ≡ not ((s || e) && o)
-both_tests true e false = ap not (and-false e)
-both_tests true true true = refl
-both_tests true false true = refl
-both_tests false e o = refl
-
--- the intervals above one, up to another
-span_from : (low n i : ℕ) → low ≤ n → (nat_lt low i && nat_le i (n + 1)) ≡ ((nat_lt low i && nat_le i n) || (i == (n + 1)))
-span_from low n i h = grind (arith, nat_tests)
-
-span_none : (low i : ℕ) → (nat_lt low i && nat_le i low) ≡ false
-span_none low i = grind (arith, nat_tests)
-
-pub record Spanned (old new : Stored) (low : ℕ) (over : Placed → Bool) (n : ℕ) : Type 0 where
-  pub capacity : new.capacity ≡ old.capacity
-  pub chains : new.chains ≡ old.chains
-  pub waiting : new.waiting ≡ old.waiting
-  pub given : new.given ≡ old.given
-  pub held : new.held ≡ filter (λ x. not (in_span low n x && over x)) old.held
+span_none : (high i : ℕ) → (nat_lt high i && nat_le i high) ≡ false
+span_none high i = grind (arith, nat_tests)
 
 all_stay : {A : Type 0} (p : A → Bool) → ((x : A) → p x ≡ true) → (xs : List A) → filter p xs ≡ xs
 all_stay p h [] = refl
 all_stay p h (x ∷ xs) = ap (λ t. cond t (x ∷ filter p xs) (filter p xs)) (h x) ∙ ap (λ ys. x ∷ ys) (all_stay p h xs)
 
-pub spanned_none : (old : Stored) (low : ℕ) (over : Placed → Bool) → Spanned old old low over low
-spanned_none old low over = record { capacity = refl; chains = refl; waiting = refl; given = refl; held = sym (all_stay (λ x. not (in_span low low x && over x)) (λ x. ap (λ t. not (t && over x)) (span_none low x.holding.name.interval)) old.held) }
+filter_same : {A : Type 0} (p q : A → Bool) → ((x : A) → p x ≡ q x) → (xs : List A) → filter p xs ≡ filter q xs
+filter_same p q same [] = refl
+filter_same p q same (x ∷ xs) = ap (λ t. cond t (x ∷ filter p xs) (filter p xs)) (same x) ∙ ap (λ ys. cond (q x) (x ∷ ys) ys) (filter_same p q same xs)
 
-pub spanned_more : (old new then : Stored) (low : ℕ) (over : Placed → Bool) (n : ℕ) → low ≤ n → Spanned old new low over n → then.capacity ≡ new.capacity → then.chains ≡ new.chains → then.waiting ≡ new.waiting → then.given ≡ new.given → then.held ≡ filter (λ x. not (is_of (n + 1) x && over x)) new.held → Spanned old then low over (n + 1)
-spanned_more old new then low over n h s capacity chains waiting given held = record {
-  capacity = capacity ∙ s.capacity;
-  chains = chains ∙ s.chains;
-  waiting = waiting ∙ s.waiting;
-  given = given ∙ s.given;
-  held = held ∙ ap (filter (λ x. not (is_of (n + 1) x && over x))) s.held
-      ∙ filter_filter (λ x. not (is_of (n + 1) x && over x)) (λ x. not (in_span low n x && over x)) (λ x. not (in_span low (n + 1) x && over x))
-      (λ x. both_tests (in_span low n x) (is_of (n + 1) x) (over x) ∙ ap (λ t. not (t && over x)) (sym (span_from low n x.holding.name.interval h))) old.held;
+-- the packets of the intervals above this one, up to the highest, were let go where the interval passes one test and the packet another
+pub record Spanned (old new : Stored) (met : ℕ → Bool) (over : Placed → Bool) (low most high : ℕ) : Type 0 where
+  pub capacity : new.capacity ≡ old.capacity
+  pub chains : new.chains ≡ old.chains
+  pub waiting : new.waiting ≡ old.waiting
+  pub given : new.given ≡ old.given
+  pub held : new.held ≡ filter (λ x. not ((in_span most high x && met x.holding.name.interval) && over x)) old.held
+  pub within : most ≤ high
+  pub least : min low high ≤ most
+
+pub spanned_none : (old : Stored) (met : ℕ → Bool) (over : Placed → Bool) (low high : ℕ) → Spanned old old met over low high high
+spanned_none old met over low high = record {
+  capacity = refl;
+  chains = refl;
+  waiting = refl;
+  given = refl;
+  held = sym (all_stay (λ x. not ((in_span high high x && met x.holding.name.interval) && over x)) (λ x. ap (λ t. not ((t && met x.holding.name.interval) && over x)) (span_none high x.holding.name.interval)) old.held);
+  within = omega arith;
+  least = omega arith;
 }
+
+-- the interval itself
+span_here : (interval most high i : ℕ) → 0 < interval → interval ≤ most → most ≤ high → (i == interval) ≡ true → ((nat_lt most i && nat_le i high) ≡ false) × ((nat_lt (interval - 1) i && nat_le i high) ≡ true)
+span_here interval most high i some below within e = (grind (arith, nat_tests), grind (arith, nat_tests))
+
+-- another that isn't between
+span_other : (interval most high i : ℕ) → 0 < interval → interval ≤ most → (i == interval) ≡ false → (nat_lt interval i && nat_le i most) ≡ false → (nat_lt most i && nat_le i high) ≡ (nat_lt (interval - 1) i && nat_le i high)
+span_other interval most high i some below e out = grind (arith, nat_tests)
+
+-- none is left
+span_rest : (low most high i : ℕ) → most ≤ high → min low high ≤ most → (nat_lt low i && nat_le i most) ≡ false → (nat_lt most i && nat_le i high) ≡ (nat_lt low i && nat_le i high)
+span_rest low most high i within least out = grind (arith, nat_tests)
+
+-- of this interval, of those above, of those above the one before, passes the test of the interval, the other test
+one_here : (t s r m o : Bool) → t ≡ true → s ≡ false → r ≡ true → m ≡ true → (not ((s && m) && o) && not (t && o)) ≡ not ((r && m) && o)
+one_here true false true true o a b c d = refl
+one_here false s r m o a b c d = absurd (cc)
+one_here true true r m o a b c d = absurd (cc)
+one_here true false false m o a b c d = absurd (cc)
+one_here true false true false o a b c d = absurd (cc)
+
+one_other : (t s r m o : Bool) → t ≡ false → (s ≡ r) ⊎ (m ≡ false) → (not ((s && m) && o) && not (t && o)) ≡ not ((r && m) && o)
+one_other true s r m o a b = absurd (cc)
+one_other false s r m o a (inl e) = and-true (not ((s && m) && o)) ∙ ap (λ t. not ((t && m) && o)) e
+one_other false s r m o a (inr e) = and-true (not ((s && m) && o)) ∙ ap (λ t. not (t && o)) (ap (λ k. s && k) e ∙ and-false s) ∙ sym (ap (λ t. not (t && o)) (ap (λ k. r && k) e ∙ and-false r))
+
+module _ (met : ℕ → Bool) (over : Placed → Bool) (low most high : ℕ) where
+  -- one packet, once the next interval was looked at
+  one_more : (interval : ℕ) → IsHighest met low most (Some interval) → most ≤ high → (x : Placed) →
+      (not ((in_span most high x && met x.holding.name.interval) && over x) && not (is_of interval x && over x)) ≡ not ((in_span (interval - 1) high x && met x.holding.name.interval) && over x)
+  one_more interval is within x =
+      let i : ℕ = x.holding.name.interval in
+      let some : 0 < interval = omega (arith, is.0) in
+      elim (cases_Bool (i == interval)) [
+        | inl e ↦
+            let here = span_here interval most high i some is.1 within e in
+            one_here (i == interval) (in_span most high x) (in_span (interval - 1) high x) (met i) (over x) e here.0 here.1 (ap met (eqb-true i interval e) ∙ is.2)
+        | inr e ↦
+            one_other (i == interval) (in_span most high x) (in_span (interval - 1) high x) (met i) (over x) e
+            (elim (cases_Bool (nat_lt interval i && nat_le i most)) [
+              | inl between ↦ let parts = and_parts (nat_lt interval i) (nat_le i most) between in inr (is.3 i (ltb-true interval i parts.0) (leb-true i most parts.1))
+              | inr out ↦ inl (span_other interval most high i some is.1 e out)
+            ])
+      ]
+
+  -- the next interval was looked at
+  pub spanned_more : (old new then : Stored) (interval : ℕ) → IsHighest met low most (Some interval) → Spanned old new met over low most high → then.capacity ≡ new.capacity → then.chains ≡ new.chains → then.waiting ≡ new.waiting → then.given ≡ new.given
+      → then.held ≡ filter (λ x. not (is_of interval x && over x)) new.held → Spanned old then met over low (interval - 1) high
+  spanned_more old new then interval is s capacity chains waiting given held = record {
+    capacity = capacity ∙ s.capacity;
+    chains = chains ∙ s.chains;
+    waiting = waiting ∙ s.waiting;
+    given = given ∙ s.given;
+    held = held ∙ ap (filter (λ x. not (is_of interval x && over x))) s.held
+        ∙ filter_filter (λ x. not (is_of interval x && over x)) (λ x. not ((in_span most high x && met x.holding.name.interval) && over x)) (λ x. not ((in_span (interval - 1) high x && met x.holding.name.interval) && over x))
+        (one_more interval is s.within) old.held;
+    within = omega (arith, s.within, is.1);
+    least = omega (arith, is.0);
+  }
+
+  -- no interval is left that passes the test
+  pub span_ends : (old new : Stored) → IsHighest met low most None → Spanned old new met over low most high → new.held ≡ filter (λ x. not ((in_span low high x && met x.holding.name.interval) && over x)) old.held
+  span_ends old new is s =
+      s.held ∙ filter_same (λ x. not ((in_span most high x && met x.holding.name.interval) && over x)) (λ x. not ((in_span low high x && met x.holding.name.interval) && over x))
+      (λ x. let i : ℕ = x.holding.name.interval in
+      elim (cases_Bool (nat_lt low i && nat_le i most)) [
+        | inl between ↦
+            let parts = and_parts (nat_lt low i) (nat_le i most) between in
+            let none : met i ≡ false = is i (ltb-true low i parts.0) (leb-true i most parts.1) in
+            ap (λ t. not (t && over x)) (ap (λ k. in_span most high x && k) none ∙ and-false (in_span most high x) ∙ sym (ap (λ k. in_span low high x && k) none ∙ and-false (in_span low high x)))
+        | inr out ↦ ap (λ t. not ((t && met i) && over x)) (span_rest low most high i s.within s.least out)
+      ]) old.held
 
 -- ---- a walk that lets nothing go
 
@@ -346,48 +413,3 @@ comes i n held place d h =
       next = ap (λ (p : ℕ). next_place p held) f.place_is ∙ ap (next_place f.first.place) (sym (swept_never i n held)) ∙ r.next
           ∙ ap first_place (sym (drop_next n (filter (is_of i) held) f.first f.rest f.is)) ∙ ap (λ (k : ℕ). first_place (drop k (filter (is_of i) held))) count;
     }
-
-ends_same : (low high n i : ℕ) → low ≤ n → high ≤ n → n ≤ max low high → (nat_lt low i && nat_le i n) ≡ (nat_lt low i && nat_le i high)
-ends_same low high n i a b c = grind (arith, nat_tests)
-
-filter_same : {A : Type 0} (p q : A → Bool) → ((x : A) → p x ≡ q x) → (xs : List A) → filter p xs ≡ filter q xs
-filter_same p q same [] = refl
-filter_same p q same (x ∷ xs) = ap (λ t. cond t (x ∷ filter p xs) (filter p xs)) (same x) ∙ ap (λ ys. cond (q x) (x ∷ ys) ys) (filter_same p q same xs)
-
-pub span_ends : (low high n : ℕ) (over : Placed → Bool) (old new : Stored) → Spanned old new low over n → low ≤ n → high ≤ n → n ≤ max low high → new.held ≡ filter (λ x. not (in_span low high x && over x)) old.held
-span_ends low high n over old new s a b c =
-    s.held ∙ filter_same (λ x. not (in_span low n x && over x)) (λ x. not (in_span low high x && over x)) (λ x. ap (λ t. not (t && over x)) (ends_same low high n x.holding.name.interval a b c)) old.held
-
--- ---- intervals that are left out
-
-unmet_stays : (i : ℕ) (met : ℕ → Bool) (over : Placed → Bool) → met i ≡ false → (x : Placed) → not (is_of i x && (met x.holding.name.interval && over x)) ≡ true
-unmet_stays i met over none x =
-    ⊎_elim
-    (λ e. let same : met x.holding.name.interval ≡ false = ap met (eqb-true x.holding.name.interval i e) ∙ none in
-    ap (λ t. not (is_of i x && (t && over x))) same ∙ ap not (and-false (is_of i x)))
-    (λ e. ap (λ t. not (t && (met x.holding.name.interval && over x))) e)
-    (cases_Bool (is_of i x))
-
-met_same : (i : ℕ) (met : ℕ → Bool) (over : Placed → Bool) → met i ≡ true → (x : Placed) → not (is_of i x && over x) ≡ not (is_of i x && (met x.holding.name.interval && over x))
-met_same i met over all x =
-    ⊎_elim
-    (λ e. let same : met x.holding.name.interval ≡ true = ap met (eqb-true x.holding.name.interval i e) ∙ all in
-    sym (ap (λ t. not (is_of i x && (t && over x))) same))
-    (λ e. ap (λ t. not (t && over x)) e ∙ sym (ap (λ t. not (t && (met x.holding.name.interval && over x))) e))
-    (cases_Bool (is_of i x))
-
--- where the interval fails a test, its packets stay
-pub unmet_stay : (i : ℕ) (met : ℕ → Bool) (over : Placed → Bool) (held : List Placed) → met i ≡ false → held ≡ filter (λ x. not (is_of i x && (met x.holding.name.interval && over x))) held
-unmet_stay i met over held none = sym (all_stay (λ x. not (is_of i x && (met x.holding.name.interval && over x))) (unmet_stays i met over none) held)
-
--- where it passes, the test of the interval says nothing of them
-pub met_go : (i : ℕ) (met : ℕ → Bool) (over : Placed → Bool) (held : List Placed) → met i ≡ true → filter (λ x. not (is_of i x && over x)) held ≡ filter (λ x. not (is_of i x && (met x.holding.name.interval && over x))) held
-met_go i met over held all = filter_same (λ x. not (is_of i x && over x)) (λ x. not (is_of i x && (met x.holding.name.interval && over x))) (met_same i met over all) held
-
-three : (a b c : Bool) → (a && (b && c)) ≡ ((a && b) && c)
-three true b c = refl
-three false b c = refl
-
--- the two tests of the interval, together
-pub met_span : (low high : ℕ) (met : ℕ → Bool) (over : Placed → Bool) (held : List Placed) → filter (λ x. not (in_span low high x && (met x.holding.name.interval && over x))) held ≡ filter (λ x. not ((in_span low high x && met x.holding.name.interval) && over x)) held
-met_span low high met over held = filter_same (λ x. not (in_span low high x && (met x.holding.name.interval && over x))) (λ x. not ((in_span low high x && met x.holding.name.interval) && over x)) (λ x. ap not (three (in_span low high x) (met x.holding.name.interval) (over x))) held

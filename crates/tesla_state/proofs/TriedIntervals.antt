@@ -1,10 +1,12 @@
 -- Packets are tried one after another.
-use Rattle.std.proofs.Common.{◌≡◌, ℕ, ◌+◌, ◌-◌, ◌<◌, ◌≤◌, suc, zero, Bool, true, false, cond, ◌&&◌, ◌||◌, List, [], ◌∷◌, ◌++◌, length, map, drop, take, flat_map, Option, Some, None, refl, sym, ap, subst, ⊎_elim, ◌∙◌, arith, ◌==◌, append_assoc}
+use Rattle.std.proofs.Common.{◌≡◌, ℕ, ◌+◌, ◌-◌, ◌*◌, ◌<◌, ◌≤◌, suc, zero, Bool, true, false, cond, ◌&&◌, List, [], ◌∷◌, ◌++◌, length, map, drop, take, flat_map, Option, Some, None, refl, sym, ap, subst, inl, inr, ⊎_elim, ◌∙◌, arith, ◌==◌, append_assoc}
 use Rattle.std.specs.Prelude.{not, find, nat_lt, nat_le, All, option_to_list, IfSome}
 use Rattle.std.specs.List.{list_any, list_all, filter}
-use Rattle.std.proofs.lemmas.Bool.{cases_Bool, and_from, eq-eqb, eqb-true}
+use Rattle.std.proofs.lemmas.Bool.{cases_Bool, and_from, and_parts, eq-eqb, eqb-true, ltb-true, leb-true}
 use Rattle.std.proofs.lemmas.Bool.Decides.{nat_tests}
-use Rattle.std.proofs.lemmas.List.{append-nil}
+use Rattle.std.proofs.lemmas.List.{append-nil, length-map}
+use Rattle.std.specs.List.Sorted.{IsPermutation}
+use Rattle.std.proofs.lemmas.List.Sorted.{IsPermutation-append_comm, IsPermutation-append_left, IsPermutation-refl, IsPermutation-trans}
 use Rattle.std.proofs.lemmas.List.Elements.{All-weaker}
 use Rattle.std.proofs.lemmas.List.Concat.{flat_map-append}
 use Rattle.tesla_base.specs.declared.names.Name.{Name}
@@ -16,13 +18,15 @@ use Rattle.tesla_fitting.specs.declared.config.Config.{Config}
 use Rattle.tesla_state.specs.declared.ordering.Proved.{Proved}
 use Rattle.tesla_state.specs.declared.release.Release.{Release}
 use Rattle.tesla_fitting.specs.Config.{chains}
-use Rattle.tesla_state.specs.Gathering.{in_turn, gathered, down_to, index_in, is_reached}
+use Rattle.tesla_state.specs.Gathering.{AreIndices, IsHighest, Spans, in_turn, index_at, index_in, is_reached}
+use Rattle.tesla_state.specs.Offered.{IsOfChains}
 use Rattle.tesla_state.specs.Proved.{release_in}
 use Rattle.tesla_state.specs.State.{Holding}
-use Rattle.tesla_state.specs.Steps.{proof_of, proves_on, released_on, in_interval}
-use Rattle.tesla_state.specs.Stored.{Placed, place_of, holding_at, stands_at, is_of, in_span, is_proved_by, first_place, next_place, AreProved}
-use Rattle.tesla_state.specs.Walking.{Walking, rows_of, IsAbove}
-use Rattle.tesla_state.proofs.Gathering.{gathered_more, gathered_whole, unreached_turn}
+use Rattle.tesla_state.specs.Steps.{batch_of, proof_of, proves_on, released_on, in_interval}
+use Rattle.tesla_state.specs.Stored.{Placed, place_of, holding_at, stands_at, is_of, is_proved_by, first_place, next_place, AreProved}
+use Rattle.tesla_state.specs.Walking.{Walking, rows_of, IsAbove, left, tries, pairs}
+use Rattle.tesla_state.proofs.Gathering.{is_past, nothing_given, only_those, past_parts, past_sum, same_given, sum_ones, unreached_unproved}
+use Rattle.tesla_state.proofs.ReachedIntervals.{highest_by, outside_unreached, reached_by}
 use Rattle.tesla_state.proofs.Marked.{filter_mapped}
 use Rattle.tesla_state.proofs.Sweeping.{Comes, comes, found_stands}
 
@@ -157,32 +161,7 @@ tried_all cfg tips begun walks held i n at before batch s h =
 pub none_left : (cfg : Config) (tips : List Tip) (begun walks : List Walking) (held : List Placed) (i n : ℕ) (at : Option Place) (before batch : List Proved) → Trying cfg tips begun walks held i n at before batch → at ≡ None → drop n (filter (is_of i) held) ≡ []
 none_left cfg tips begun walks held i n at before batch s h = no_first (drop n (filter (is_of i) held)) (sym s.next ∙ h)
 
--- ---- a walk down the intervals
-
-in_or_out : (a b : Bool) (n m k : ℕ) → n ≡ m + k → (a && b) ≡ false → (cond (a || b) (n + 1) n) ≡ cond a (m + 1) m + cond b (k + 1) k
-in_or_out true true n m k h e = absurd (cc)
-in_or_out true false n m k h e = omega arith
-in_or_out false true n m k h e = omega arith
-in_or_out false false n m k h e = h
-
-length_cond : {A : Type 0} (b : Bool) (x : A) (xs : List A) → length (cond b (x ∷ xs) xs) ≡ cond b (length xs + 1) (length xs)
-length_cond true x xs = omega arith
-length_cond false x xs = refl
-
-span_down : (b high i : ℕ) → b < high → (nat_lt b i && nat_le i high) ≡ ((nat_lt (b + 1) i && nat_le i high) || (i == (b + 1)))
-span_down b high i h = grind (arith, nat_tests)
-
-span_apart : (b high i : ℕ) → ((nat_lt (b + 1) i && nat_le i high) && (i == (b + 1))) ≡ false
-span_apart b high i = grind (arith, nat_tests)
-
-pub span_count : (b high : ℕ) (held : List Placed) → b < high → length (filter (in_span b high) held) ≡ length (filter (in_span (b + 1) high) held) + length (filter (is_of (b + 1)) held)
-span_count b high [] h = omega arith
-span_count b high (x ∷ xs) h =
-    length_cond (in_span b high x) x (filter (in_span b high) xs)
-    ∙ ap (λ t. cond t (length (filter (in_span b high) xs) + 1) (length (filter (in_span b high) xs))) (span_down b high x.holding.name.interval h)
-    ∙ in_or_out (in_span (b + 1) high x) (is_of (b + 1) x) (length (filter (in_span b high) xs)) (length (filter (in_span (b + 1) high) xs)) (length (filter (is_of (b + 1)) xs)) (span_count b high xs h) (span_apart b high x.holding.name.interval)
-    ∙ ap (λ (n : ℕ). n + cond (is_of (b + 1) x) (length (filter (is_of (b + 1)) xs) + 1) (length (filter (is_of (b + 1)) xs))) (sym (length_cond (in_span (b + 1) high x) x (filter (in_span (b + 1) high) xs)))
-    ∙ ap (λ (n : ℕ). length (filter (in_span (b + 1) high) (x ∷ xs)) + n) (sym (length_cond (is_of (b + 1) x) x (filter (is_of (b + 1)) xs)))
+-- ---- a walk down the intervals that are reached
 
 pub fewer : {A : Type 0} (p : A → Bool) (xs : List A) → length (filter p xs) ≤ length xs
 fewer p [] = omega arith
@@ -193,26 +172,17 @@ fewer p (x ∷ xs) =
     (λ e. subst (λ t. length (cond t (x ∷ filter p xs) (filter p xs)) ≤ length (x ∷ xs)) (sym e) (omega arith))
     (cases_Bool (p x))
 
--- the intervals above this one were tried
-pub record Spanning (cfg : Config) (tips : List Tip) (begun walks : List Walking) (held : List Placed) (low high b : ℕ) (batch : List Proved) : Type 0 where
-  pub rows : rows_of walks ≡ rows_of begun
-  pub above : All (IsAbove b) walks
-  pub releases : map release_in batch ≡ flat_map (in_turn (proof_of cfg tips (rows_of begun)) (map holding_at held)) (take (high - b) (down_to low (high - low)))
-  pub proved : AreProved held batch
-  pub long : length batch ≤ length (filter (in_span b high) held)
-  pub within : b ≤ high
+-- the packets of an interval count as many with their places
+turn_length : (held : List Placed) (i : ℕ) → length (filter (in_interval i) (map holding_at held)) ≡ length (filter (is_of i) held)
+turn_length held i = ap length (filter_mapped (in_interval i) holding_at held) ∙ length-map (filter (is_of i) held) holding_at
 
-pub spanning_none : (cfg : Config) (tips : List Tip) (walks : List Walking) (held : List Placed) (low high : ℕ) (batch : List Proved) → batch ≡ [] → All (IsAbove high) walks → Spanning cfg tips walks walks held low high high batch
-spanning_none cfg tips walks held low high batch empty above =
-    let none : high - high ≡ 0 = omega arith in
-    record {
-      rows = refl;
-      above = above;
-      releases = ap (map release_in) empty ∙ ap (λ (n : ℕ). flat_map (in_turn (proof_of cfg tips (rows_of walks)) (map holding_at held)) (take n (down_to low (high - low)))) (sym none);
-      proved = ap (λ qs. list_all (λ (p : Proved). list_any (is_proved_by p) held) qs) empty;
-      long = (let nothing : length batch ≡ 0 = ap length empty in omega arith);
-      within = omega arith;
-    }
+-- the packets of the intervals above this one were tried, or new keys prove nothing of them
+pub record Spanning (cfg : Config) (tips : List Tip) (begun walks : List Walking) (held : List Placed) (most : ℕ) (batch : List Proved) : Type 0 where
+  pub rows : rows_of walks ≡ rows_of begun
+  pub above : All (IsAbove most) walks
+  pub releases : IsPermutation (flat_map (proof_of cfg tips (rows_of begun)) (filter (is_past most) (map holding_at held))) (map release_in batch)
+  pub proved : AreProved held batch
+  pub long : length batch ≤ length (filter (is_past most) (map holding_at held))
 
 below_too : (i j : ℕ) → i ≤ j → (w : Walking) → IsAbove j w → IsAbove i w
 below_too i j h w a = omega arith
@@ -220,47 +190,105 @@ below_too i j h w a = omega arith
 pub lower_too : (i j : ℕ) → i ≤ j → (walks : List Walking) → All (IsAbove j) walks → All (IsAbove i) walks
 lower_too i j h walks all = All-weaker (IsAbove j) (IsAbove i) (below_too i j h) walks all
 
-pub spanning_room : (cfg : Config) (tips : List Tip) (begun walks : List Walking) (held : List Placed) (low high b room : ℕ) (batch : List Proved) → Spanning cfg tips begun walks held low high (b + 1) batch → length held ≤ room → length batch + length (filter (is_of (b + 1)) held) ≤ room
-spanning_room cfg tips begun walks held low high b room batch s h =
-    let within = s.within in
-    let long = s.long in
-    let parts = span_count b high held (omega arith) in
-    let few = fewer (in_span b high) held in
-    omega arith
+-- an interval between two others, or one that is above both or neither
+past_same : (interval most number : ℕ) → interval ≤ most → (nat_lt interval number && nat_le number most) ≡ false → nat_lt interval number ≡ nat_lt most number
+past_same interval most number below out = grind (arith, nat_tests)
 
-pub spanning_more : (cfg : Config) (tips : List Tip) (begun walks later : List Walking) (held : List Placed) (low high b : ℕ) (batch more : List Proved) → low ≤ b → Spanning cfg tips begun walks held low high (b + 1) batch → rows_of later ≡ rows_of walks → All (IsAbove (b + 1)) later → map release_in more ≡ map release_in batch ++ in_turn (proof_of cfg tips (rows_of walks)) (map holding_at held) (b + 1) → (AreProved held batch → AreProved held more) → length more ≤ length batch + length (filter (is_of (b + 1)) held) → Spanning cfg tips begun later held low high b more
-spanning_more cfg tips begun walks later held low high b batch more least s rows above releases proved long =
-    let within = s.within in
-    let f : Holding → List Release = proof_of cfg tips (rows_of begun) in
-    let hs : List Holding = map holding_at held in
-    let k : ℕ = high - (b + 1) in
-    let inside : k < high - low = omega arith in
-    let count : k + 1 ≡ high - b = omega arith in
-    let there : low + (high - low) - k ≡ b + 1 = omega arith in
-    let parts = span_count b high held (omega arith) in
-    let so_far = s.long in
-    record {
-      rows = rows ∙ s.rows;
-      above = lower_too b (b + 1) (omega arith) later above;
-      releases = releases
-          ∙ ap (λ w. map release_in batch ++ in_turn (proof_of cfg tips w) hs (b + 1)) s.rows
-          ∙ ap (λ rs. rs ++ in_turn f hs (b + 1)) s.releases
-          ∙ ap (λ (i : ℕ). flat_map (in_turn f hs) (take k (down_to low (high - low))) ++ in_turn f hs i) (sym there)
-          ∙ sym (gathered_more f hs low (high - low) k inside)
-          ∙ ap (λ (n : ℕ). flat_map (in_turn f hs) (take n (down_to low (high - low)))) count;
-      proved = proved s.proved;
-      long = omega arith;
-      within = omega arith;
-    }
+not_between : (low high most number : ℕ) → nat_lt most number ≡ false → (nat_lt low number && nat_le number high) ≡ true → (low < number) × (number ≤ most)
+not_between low high most number e span = (grind (arith, nat_tests), grind (arith, nat_tests))
 
--- an interval that no new key is the first to reach may be left out
-pub spanning_past : (cfg : Config) (tips : List Tip) (begun walks : List Walking) (held : List Placed) (low high b : ℕ) (batch : List Proved) → low ≤ b → Spanning cfg tips begun walks held low high (b + 1) batch → is_reached (index_in tips) (rows_of walks) (b + 1) ≡ false → Spanning cfg tips begun walks held low high b batch
-spanning_past cfg tips begun walks held low high b batch least s none =
-    spanning_more cfg tips begun walks walks held low high b batch batch least s refl s.above
-    (sym (append-nil (map release_in batch)) ∙ ap (λ rs. map release_in batch ++ rs) (sym (unreached_turn cfg tips (rows_of walks) (b + 1) (map holding_at held) none)))
-    (λ k. k) (omega arith)
+outside : (low high number : ℕ) → nat_lt high number ≡ true → (nat_lt low number && nat_le number high) ≡ false
+outside low high number e = grind (arith, nat_tests)
 
-pub spanned_releases : (cfg : Config) (tips : List Tip) (begun walks : List Walking) (held : List Placed) (low high b : ℕ) (batch : List Proved) → Spanning cfg tips begun walks held low high b batch → b ≤ low → map release_in batch ≡ gathered (proof_of cfg tips (rows_of begun)) (map holding_at held) low (high - low)
-spanned_releases cfg tips begun walks held low high b batch s h =
-    let within = s.within in
-    s.releases ∙ gathered_whole (proof_of cfg tips (rows_of begun)) (map holding_at held) low (high - low) (high - b) (omega arith)
+module _ (cfg : Config) (tips : List Tip) (begun : List Walking) (held : List Placed) where
+  -- a test of intervals: a new key is the first of its chain to reach it
+  abbrev met : ℕ → Bool
+  met = is_reached (index_in tips) (rows_of begun)
+
+  abbrev proof : Holding → List Release
+  proof = proof_of cfg tips (rows_of begun)
+
+  abbrev items : List Holding
+  items = map holding_at held
+
+  -- the highest interval that is reached, by the indices of the newest keys
+  pub highest_met : (walks : List Walking) (indices : List ℕ) (low most : ℕ) (o : Option ℕ) → AreIndices tips indices → All (IsOfChains (length tips)) (rows_of begun) → rows_of walks ≡ rows_of begun
+      → IsHighest (is_reached (index_at indices) (rows_of walks)) low most o → IsHighest met low most o
+  highest_met walks indices low most o are chains same is =
+      highest_by (is_reached (index_at indices) (rows_of walks)) met low most
+      (λ n. ap (λ (rows : List KeyRow). is_reached (index_at indices) rows n) same ∙ reached_by tips indices (rows_of begun) n are chains) o is
+
+  pub spanning_none : (low high : ℕ) (batch : List Proved) → Spans tips (rows_of begun) low high → batch ≡ [] → All (IsAbove high) begun → Spanning cfg tips begun begun held high batch
+  spanning_none low high batch spans empty above =
+      let none : flat_map proof (filter (is_past high) items) ≡ [] =
+      nothing_given proof (is_past high)
+      (λ item e. unreached_unproved cfg tips (rows_of begun) item (outside_unreached tips (rows_of begun) low high item.name.interval spans.above spans.below (outside low high item.name.interval e))) items in
+      record {
+        rows = refl;
+        above = above;
+        releases = subst (λ (rs : List Release). IsPermutation rs (map release_in batch)) (sym none) (subst (λ (qs : List Proved). IsPermutation [] (map release_in qs)) (sym empty) (IsPermutation-refl []));
+        proved = ap (λ qs. list_all (λ (p : Proved). list_any (is_proved_by p) held) qs) empty;
+        long = (let nothing : length batch ≡ 0 = ap length empty in omega arith);
+      }
+
+  -- the packets of the next interval, and those of intervals above, are among those above the interval before
+  turn_fits : (interval most : ℕ) → 0 < interval → interval ≤ most → length (filter (is_of interval) held) + length (filter (is_past most) items) ≤ length (filter (is_past (interval - 1)) items)
+  turn_fits interval most some below =
+      omega (arith, past_sum (λ item. 1) items interval most some below, sum_ones (filter (in_interval interval) items), sum_ones (filter (is_past most) items), sum_ones (filter (is_past (interval - 1)) items), turn_length held interval)
+
+  pub spanning_room : (walks : List Walking) (interval most room : ℕ) (batch : List Proved) → 0 < interval → interval ≤ most → Spanning cfg tips begun walks held most batch → length held ≤ room → length batch + length (filter (is_of interval) held) ≤ room
+  spanning_room walks interval most room batch some below s h =
+      let long = s.long in
+      omega (arith, turn_fits interval most some below, fewer (is_past (interval - 1)) items, length-map held holding_at)
+
+  -- the next interval that is reached was tried
+  pub spanning_more : (walks later : List Walking) (low interval most : ℕ) (batch more : List Proved) → IsHighest met low most (Some interval) → Spanning cfg tips begun walks held most batch → rows_of later ≡ rows_of walks → All (IsAbove interval) later
+      → map release_in more ≡ map release_in batch ++ in_turn (proof_of cfg tips (rows_of walks)) items interval → (AreProved held batch → AreProved held more) → length more ≤ length batch + length (filter (is_of interval) held)
+      → Spanning cfg tips begun later held (interval - 1) more
+  spanning_more walks later low interval most batch more is s rows above releases proved long =
+      let some : 0 < interval = omega (arith, is.0) in
+      let so_far = s.long in
+      let told : map release_in more ≡ map release_in batch ++ in_turn proof items interval =
+      releases ∙ ap (λ w. map release_in batch ++ in_turn (proof_of cfg tips w) items interval) s.rows in
+      let between : flat_map proof (filter (is_past interval) items) ≡ flat_map proof (filter (is_past most) items) =
+      same_given proof (is_past interval) (is_past most)
+      (λ item. elim (cases_Bool (nat_lt interval item.name.interval && nat_le item.name.interval most)) [
+        | inl e ↦
+            let parts = and_parts (nat_lt interval item.name.interval) (nat_le item.name.interval most) e in
+            inr (unreached_unproved cfg tips (rows_of begun) item (is.3 item.name.interval (ltb-true interval item.name.interval parts.0) (leb-true item.name.interval most parts.1)))
+        | inr e ↦ inl (past_same interval most item.name.interval is.1 e)
+      ]) items in
+      record {
+        rows = rows ∙ s.rows;
+        above = lower_too (interval - 1) interval (omega arith) later above;
+        releases = subst (λ (rs : List Release). IsPermutation (flat_map proof (filter (is_past (interval - 1)) items)) rs) (sym told)
+            (IsPermutation-trans (flat_map proof (filter (is_past (interval - 1)) items)) (in_turn proof items interval ++ flat_map proof (filter (is_past most) items)) (map release_in batch ++ in_turn proof items interval)
+            (subst (λ (rs : List Release). IsPermutation (flat_map proof (filter (is_past (interval - 1)) items)) (in_turn proof items interval ++ rs)) between (past_parts proof items interval some))
+            (IsPermutation-trans (in_turn proof items interval ++ flat_map proof (filter (is_past most) items)) (flat_map proof (filter (is_past most) items) ++ in_turn proof items interval) (map release_in batch ++ in_turn proof items interval)
+            (IsPermutation-append_comm (in_turn proof items interval) (flat_map proof (filter (is_past most) items)))
+            (IsPermutation-append_left (in_turn proof items interval) (flat_map proof (filter (is_past most) items)) (map release_in batch) s.releases)));
+        proved = proved s.proved;
+        long = omega (arith, turn_fits interval most some is.1);
+      }
+
+  -- no interval is left that is reached
+  pub spanned_releases : (walks : List Walking) (low high most : ℕ) (batch : List Proved) → Spans tips (rows_of begun) low high → IsHighest met low most None → Spanning cfg tips begun walks held most batch → IsPermutation (batch_of cfg tips (rows_of begun) items) (map release_in batch)
+  spanned_releases walks low high most batch spans is s =
+      subst (λ (rs : List Release). IsPermutation rs (map release_in batch))
+      (only_those proof (is_past most)
+      (λ item e. unreached_unproved cfg tips (rows_of begun) item
+      (elim (cases_Bool (nat_lt low item.name.interval && nat_le item.name.interval high)) [
+        | inl span ↦ let here = not_between low high most item.name.interval e span in is item.name.interval here.0 here.1
+        | inr out ↦ outside_unreached tips (rows_of begun) low high item.name.interval spans.above spans.below out
+      ])) items)
+      s.releases
+
+  -- the steps for one interval more
+  pub spanning_cost : (walks later : List Walking) (low interval most : ℕ) (batch : List Proved) (start now after : ℕ) → IsHighest met low most (Some interval) → Spanning cfg tips begun walks held most batch
+      → now + left tips walks ≤ start + left tips begun + 2 * pairs cfg tips (rows_of begun) (filter (is_past most) items)
+      → after + left tips later ≤ now + left tips walks + 2 * pairs cfg tips (rows_of walks) (filter (in_interval interval) items)
+      → after + left tips later ≤ start + left tips begun + 2 * pairs cfg tips (rows_of begun) (filter (is_past (interval - 1)) items)
+  spanning_cost walks later low interval most batch start now after is s so_far cost =
+      let here = subst (λ (rows : List KeyRow). after + left tips later ≤ now + left tips walks + 2 * pairs cfg tips rows (filter (in_interval interval) items)) s.rows cost in
+      let some : 0 < interval = omega (arith, is.0) in
+      omega (arith, so_far, here, past_sum (tries cfg tips (rows_of begun)) items interval most some is.1)

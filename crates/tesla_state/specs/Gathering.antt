@@ -1,5 +1,5 @@
 -- Held packets that are tried interval by interval, from the newest interval down.
-use Rattle.std.specs.Prelude.{ℕ, zero, suc, ◌+◌, ◌-◌, ◌^◌, ◌<◌, ◌≤◌, ◌≡◌, Bool, ◌&&◌, List, [], ◌∷◌, All, filter, flat_map, fold, get_or, length, max, min, nat_lt, nat_le}
+use Rattle.std.specs.Prelude.{ℕ, ◌-◌, ◌^◌, ◌<◌, ◌≤◌, ◌≡◌, Bool, true, false, ◌&&◌, List, [], ◌∷◌, All, filter, flat_map, fold, get_or, length, max, min, nat_lt, nat_le, Option, Some, None}
 use Rattle.std.specs.List.{list_any}
 use Rattle.tesla_frame.specs.declared.row.KeyRow.{KeyRow}
 use Rattle.tesla_keys.specs.Tip.{Tip}
@@ -18,18 +18,9 @@ order_of item = item.order
 abbrev pub place_of : Release → ℕ
 place_of release = release.place
 
--- so many intervals after one, the last first
-abbrev pub down_to : ℕ → ℕ → List ℕ
-down_to low zero = []
-down_to low (suc count) = (low + suc count) ∷ down_to low count
-
 -- what f gives for the packets of an interval, in order of arrival
 abbrev pub in_turn : {A : Type 0} → (Holding → List A) → List Holding → ℕ → List A
 in_turn f held interval = flat_map f (filter (in_interval interval) held)
-
--- what f gives for the packets of so many intervals after one, the last interval first
-abbrev pub gathered : {A : Type 0} → (Holding → List A) → List Holding → ℕ → ℕ → List A
-gathered f held low count = flat_map (in_turn f held) (down_to low count)
 
 -- each new key is of no interval above the highest, and its chain's newest key of none below the lowest
 pub record Spans (tips : List Tip) (new : List KeyRow) (low high : ℕ) : Type 0 where
@@ -71,3 +62,8 @@ is_first newest interval row = nat_lt (newest row.chain.0) interval && nat_le in
 -- one of these new keys is
 abbrev pub is_reached : (ℕ → ℕ) → List KeyRow → ℕ → Bool
 is_reached newest new interval = list_any (is_first newest interval) new
+
+-- the highest interval above one, up to another, that passes a test, if there is one
+abbrev pub IsHighest : (ℕ → Bool) → ℕ → ℕ → Option ℕ → Type 0
+IsHighest met low high None = (i : ℕ) → low < i → i ≤ high → met i ≡ false
+IsHighest met low high (Some n) = (low < n) × (n ≤ high) × (met n ≡ true) × ((i : ℕ) → n < i → i ≤ high → met i ≡ false)

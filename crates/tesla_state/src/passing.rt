@@ -11,7 +11,7 @@ ghost use Rattle.tesla_state.specs.Stored.{Placed, place_of, stands_at, without,
 ghost use Rattle.tesla_state.specs.Walking.{rows_of};
 
 use crate::Store;
-use crate::reaching::is_reached;
+use crate::reaching::highest_reached;
 use crate::walk::Walk;
 use tesla_base::Place;
 use tesla_buffer::Item;
@@ -129,10 +129,10 @@ impl Store {
         ensures waiting { self.new.waiting ≡ self.old.waiting }
         ensures given { self.new.given ≡ self.old.given }
     {
-        for before in low..high {
-            if is_reached(indices, walks, before + 1) {
-                self.sweep(config, tips, before + 1);
-            }
+        let mut most = high;
+        while let Some(interval) = highest_reached(indices, walks, low, most) {
+            self.sweep(config, tips, interval);
+            most = interval - 1;
         }
     }
 }

@@ -1,7 +1,7 @@
 //! The intervals that new keys are the first of their chains to reach.
 
 ghost use Rattle.std.specs.Prelude.{◌≡◌, ◌≤◌, All, length};
-ghost use Rattle.tesla_state.specs.Gathering.{AreIndices, index_at, is_reached};
+ghost use Rattle.tesla_state.specs.Gathering.{AreIndices, IsHighest, index_at, is_reached};
 ghost use Rattle.tesla_state.specs.Offered.{IsOfChains};
 ghost use Rattle.tesla_state.specs.Walking.{rows_of};
 
@@ -22,16 +22,22 @@ pub fn indices(config: &Config, tips: &[Verifier]) -> [u32; 8]
     indices
 }
 
-/// Whether a new key is the first of its chain to reach the interval, where the newest keys had these indices.
-pub fn is_reached(indices: &[u32; 8], walks: &[Walk], interval: u32) -> bool
+/// The highest interval above `low`, up to `high`, that a new key is the first of its chain to reach, where the newest
+/// keys had these indices.
+pub fn highest_reached(indices: &[u32; 8], walks: &[Walk], low: u32, high: u32) -> Option<u32>
     requires { All (IsOfChains 8) (rows_of walks.now) }
-    ensures { result ≡ is_reached (index_at indices.now) (rows_of walks.now) interval }
+    ensures { IsHighest (is_reached (index_at indices.now) (rows_of walks.now)) low high result }
 {
+    let mut highest = low;
     for walking in walks {
         let row = walking.row();
-        if indices[usize::from(row.chain.0)] < interval && interval <= row.index {
-            return true;
+        let reached = row.index.min(high);
+        if indices[usize::from(row.chain.0)] < reached {
+            highest = highest.max(reached);
         }
     }
-    false
+    if highest == low {
+        return None;
+    }
+    Some(highest)
 }

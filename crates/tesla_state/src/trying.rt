@@ -5,7 +5,7 @@ ghost use Rattle.std.specs.List.{list_any};
 ghost use Rattle.std.specs.List.Sorted.{IsPermutation};
 ghost use Rattle.tesla_frame.specs.Frame.{ChainsRise};
 ghost use Rattle.tesla_links.specs.Lists.{Distinct};
-ghost use Rattle.tesla_state.specs.Gathering.{AreIndices, RiseBy, Spans, order_of, place_of, in_turn, gathered};
+ghost use Rattle.tesla_state.specs.Gathering.{AreIndices, RiseBy, Spans, order_of, place_of, in_turn};
 ghost use Rattle.tesla_state.specs.declared.release.Release.{Release};
 ghost use Rattle.tesla_state.specs.Offered.{IsOfChains};
 ghost use Rattle.tesla_state.specs.Proved.{release_in};
@@ -16,7 +16,7 @@ ghost use Rattle.tesla_state.specs.Walking.{rows_of, IsAbove, left, tries, pairs
 use crate::Store;
 use crate::ordering::{Proved, sort};
 use crate::proving::prove;
-use crate::reaching::is_reached;
+use crate::reaching::highest_reached;
 use crate::walk::Walk;
 use std::sync::ledger::Ledger;
 use tesla_base::{Place, Steps};
@@ -114,8 +114,8 @@ impl Store {
         }
     }
 
-    // Tries the packets of the intervals above `low`, up to `high`, from the highest interval down, where new keys are
-    // the first of their chains to reach the interval.
+    // Tries the packets of the intervals above `low`, up to `high`, that new keys are the first of their chains to
+    // reach, from the highest of these intervals down. Keys prove nothing of the others.
     fn try_span<L: Ledger>(
         &self,
         config: &Config,
@@ -135,19 +135,20 @@ impl Store {
         requires few { length tips.now ≤ 8 }
         requires rise { ChainsRise (rows_of walks.old) }
         requires above { All (IsAbove high) walks.old }
+        requires spans { Spans tips.now (rows_of walks.old) low high }
         requires empty { batch.old.items ≡ [] }
         requires room { length self.now.held ≤ vec_capacity batch.old }
-        ensures releases { map release_in batch.new.items ≡ gathered (proof_of config.now tips.now (rows_of walks.old)) (map holding_at self.now.held) low (high - low) }
+        ensures releases { IsPermutation (batch_of config.now tips.now (rows_of walks.old) (map holding_at self.now.held)) (map release_in batch.new.items) }
         ensures proved { AreProved self.now.held batch.new.items }
         ensures capacity { vec_capacity batch.old ≤ vec_capacity batch.new }
         ensures rows { rows_of walks.new ≡ rows_of walks.old }
         ensures cost { steps.new + left tips.now walks.new ≤ steps.old + left tips.now walks.old
-            + 2 * pairs config.now tips.now (rows_of walks.old) (gathered (λ item. item ∷ []) (map holding_at self.now.held) low (high - low)) }
+            + 2 * pairs config.now tips.now (rows_of walks.old) (map holding_at self.now.held) }
     {
-        for below in (low..high).rev() {
-            if is_reached(indices, walks, below + 1) {
-                self.try_interval(config, tips, walks, below + 1, batch, steps);
-            }
+        let mut most = high;
+        while let Some(interval) = highest_reached(indices, walks, low, most) {
+            self.try_interval(config, tips, walks, interval, batch, steps);
+            most = interval - 1;
         }
     }
 

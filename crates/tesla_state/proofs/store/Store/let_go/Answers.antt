@@ -1,57 +1,38 @@
-use Rattle.std.proofs.Common.{ℕ, ◌+◌, Bool, ◌∙◌, refl, sym, subst, arith, map, List}
+use Rattle.std.proofs.Common.{ℕ, Bool, List, sym, subst, map}
 use Rattle.std.specs.Prelude.{not, ◌&&◌}
 use Rattle.tesla_links.specs.Lists.{Distinct}
-use Rattle.tesla_state.specs.Gathering.{index_at, is_reached}
-use Rattle.tesla_state.specs.Stored.{Placed, Stored, place_of, in_span, is_idle}
+use Rattle.tesla_state.specs.Gathering.{IsHighest, index_at, is_reached}
+use Rattle.tesla_state.specs.Stored.{Placed, place_of, in_span, is_idle}
 use Rattle.tesla_state.specs.Walking.{rows_of}
 use Rattle.tesla_state.proofs.Stored.{distinct_kept}
-use Rattle.tesla_state.proofs.Sweeping.{Spanned, spanned_none, spanned_more, span_ends, unmet_stay, met_go, met_span}
-use Rattle.tesla_state.proofs.store.Store.let_go.Goals.{then-is_reached, else-is_reached}
+use Rattle.tesla_state.proofs.Sweeping.{spanned_none, spanned_more, span_ends}
 use Rattle.tesla_state.proofs.store.Store.let_go.Goals as goal
 
-pub loop-before-init : goal.loop-before-init
-loop-before-init c =
-    let over : Placed → Bool = λ x. is_reached (index_at c.args.indices.now) (rows_of c.args.walks.now) x.holding.name.interval && is_idle c.args.config.now c.args.tips.now x in
-    record { walk = spanned_none c.args.self.now c.args.low over; within = omega arith }
+pub loop-interval-init : goal.loop-interval-init
+loop-interval-init c = spanned_none c.args.self.now (is_reached (index_at c.args.indices.now) (rows_of c.args.walks.now)) (is_idle c.args.config.now c.args.tips.now) c.args.low c.args.high
 
 pub sweep-requires-clause-apart : goal.sweep-requires-clause-apart
 sweep-requires-clause-apart c =
-    let over : Placed → Bool = λ x. is_reached (index_at c.args.indices.now) (rows_of c.args.walks.now) x.holding.name.interval && is_idle c.args.config.now c.args.tips.now x in
-    subst (λ (h : List Placed). Distinct (map place_of h)) (sym c.loop-before.invariant.walk.held)
-    (distinct_kept (λ x. not (in_span c.args.low c.loop-before.before x && over x)) c.args.self.now.held c.requires.apart)
-
-pub loop-before-preserved : goal.loop-before-preserved
-loop-before-preserved c =
     let met : ℕ → Bool = is_reached (index_at c.args.indices.now) (rows_of c.args.walks.now) in
-    let idle : Placed → Bool = is_idle c.args.config.now c.args.tips.now in
-    let over : Placed → Bool = λ x. met x.holding.name.interval && idle x in
-    let here : ℕ = c.loop-before.before in
-    let more = spanned_more c.args.self.now c.loop-before.self in
-    record {
-      walk = elim c.if-is_reached.branch [
-        | then-is_reached w ↦
-            subst (λ (st : Stored). Spanned c.args.self.now st c.args.low over (here + 1)) (sym w.self-is)
-            (more w.sweep.new.self c.args.low over here c.loop-before.auto.before c.loop-before.invariant.walk
-            w.sweep.ensures.capacity w.sweep.ensures.chains w.sweep.ensures.waiting w.sweep.ensures.given
-            (w.sweep.ensures.held ∙ met_go (here + 1) met idle c.loop-before.self.held (sym c.is_reached.ensures ∙ w.if-is_reached.true)))
-        | else-is_reached w ↦
-            subst (λ (st : Stored). Spanned c.args.self.now st c.args.low over (here + 1)) (sym w.self-is)
-            (more c.loop-before.self c.args.low over here c.loop-before.auto.before c.loop-before.invariant.walk
-            refl refl refl refl (unmet_stay (here + 1) met idle c.loop-before.self.held (sym c.is_reached.ensures ∙ w.if-is_reached.false)))
-      ];
-      within = (let more = c.loop-before-test.true in omega arith);
-    }
+    subst (λ (h : List Placed). Distinct (map place_of h)) (sym c.loop-interval.invariant.held)
+    (distinct_kept (λ x. not ((in_span c.loop-interval.most c.args.high x && met x.holding.name.interval) && is_idle c.args.config.now c.args.tips.now x)) c.args.self.now.held c.requires.apart)
+
+pub loop-interval-preserved : goal.loop-interval-preserved
+loop-interval-preserved c =
+    let met : ℕ → Bool = is_reached (index_at c.args.indices.now) (rows_of c.args.walks.now) in
+    spanned_more met (is_idle c.args.config.now c.args.tips.now) c.args.low c.loop-interval.most c.args.high c.args.self.now c.loop-interval.self c.sweep.new.self c.in-Some.interval
+    (subst (IsHighest met c.args.low c.loop-interval.most) c.in-Some.is c.highest_reached.ensures) c.loop-interval.invariant
+    c.sweep.ensures.capacity c.sweep.ensures.chains c.sweep.ensures.waiting c.sweep.ensures.given c.sweep.ensures.held
 
 pub returns : goal.returns
 returns c =
-    let s = c.loop-before.invariant.walk in
+    let s = c.loop-interval.invariant in
     let met : ℕ → Bool = is_reached (index_at c.args.indices.now) (rows_of c.args.walks.now) in
-    let idle : Placed → Bool = is_idle c.args.config.now c.args.tips.now in
     record {
       capacity = s.capacity;
       chains = s.chains;
-      held = span_ends c.args.low c.args.high c.loop-before.before (λ x. met x.holding.name.interval && idle x) c.args.self.now c.loop-before.self s c.loop-before.auto.before c.loop-before-test.false c.loop-before.invariant.within
-          ∙ met_span c.args.low c.args.high met idle c.args.self.now.held;
+      held = span_ends met (is_idle c.args.config.now c.args.tips.now) c.args.low c.loop-interval.most c.args.high c.args.self.now c.loop-interval.self
+          (subst (IsHighest met c.args.low c.loop-interval.most) c.in_default.is c.highest_reached.ensures) s;
       waiting = s.waiting;
       given = s.given;
     }

@@ -1,6 +1,5 @@
-use Rattle.std.proofs.Common.{◌≡◌, ◌≤◌, ◌-◌, sym, subst, arith, map, List}
+use Rattle.std.proofs.Common.{◌≡◌, ◌≤◌, sym, subst, arith, map, List}
 use Rattle.std.specs.Prelude.{vec_capacity}
-use Rattle.std.specs.List.Sorted.{IsPermutation}
 use Rattle.tesla_state.specs.declared.release.Release.{Release}
 use Rattle.tesla_state.specs.Gathering.{RiseBy, place_of}
 use Rattle.tesla_state.specs.Proved.{release_in}
@@ -8,19 +7,14 @@ use Rattle.tesla_state.specs.Steps.{batch_of}
 use Rattle.tesla_state.specs.Stored.{holding_at, AreProved}
 use Rattle.tesla_state.specs.Walking.{rows_of}
 use Rattle.tesla_state.proofs.Batch.{numbers_differ, places_differ, proved_permuted}
-use Rattle.tesla_state.proofs.Gathering.{batch_gathers, batch_rises, spans_count}
-use Rattle.tesla_state.proofs.Evaluations.{held_cost}
+use Rattle.tesla_state.proofs.Gathering.{batch_rises}
 use Rattle.tesla_state.proofs.store.Store.prove_held.Goals as goal
 
 pub returns : goal.returns
 returns g c =
     let releases : List Release = batch_of c.args.config.now c.args.tips.now (rows_of c.args.walks.now) (map holding_at c.args.self.now.held) in
     let rises : RiseBy place_of releases = batch_rises c.args.config.now c.args.tips.now (rows_of c.args.walks.now) (map holding_at c.args.self.now.held) c.requires.orders in
-    let same : IsPermutation releases (map release_in c.try_span.new.batch.items) =
-    subst (λ (rs : List Release). IsPermutation releases rs) (sym c.try_span.ensures.releases)
-    (batch_gathers c.args.config.now c.args.tips.now (rows_of c.args.walks.now) (map holding_at c.args.self.now.held) c.args.low (c.args.high - c.args.low)
-    (spans_count c.args.tips.now (rows_of c.args.walks.now) c.args.low c.args.high c.requires.spans)) in
-    let told : map release_in c.order.new.batch.items ≡ releases = c.order.ensures.order releases rises same in
+    let told : map release_in c.order.new.batch.items ≡ releases = c.order.ensures.order releases rises c.try_span.ensures.releases in
     let proved : AreProved c.args.self.now.held c.order.new.batch.items = proved_permuted c.args.self.now.held c.try_span.new.batch.items c.order.new.batch.items c.order.ensures.same c.try_span.ensures.proved in
     let before : vec_capacity c.args.batch.now ≤ vec_capacity c.try_span.new.batch = c.try_span.ensures.capacity in
     let after : vec_capacity c.try_span.new.batch ≤ vec_capacity c.order.new.batch = c.order.ensures.capacity in
@@ -30,5 +24,5 @@ returns g c =
       places = places_differ c.order.new.batch.items c.args.self.now.held c.requires.apart proved (numbers_differ c.order.new.batch.items (subst (RiseBy place_of) (sym told) rises));
       capacity = omega arith;
       rows = c.try_span.ensures.rows;
-      cost = omega (arith, c.try_span.ensures.cost, held_cost c.args.config.now c.args.tips.now (rows_of c.args.walks.now) (map holding_at c.args.self.now.held) c.args.low (c.args.high - c.args.low));
+      cost = c.try_span.ensures.cost;
     }
