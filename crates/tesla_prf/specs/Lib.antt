@@ -1,3 +1,3 @@
-pub mod Feeding
+pub mod Begun
 pub mod Hmac
 pub mod Keys

@@ -1,8 +1,9 @@
-//! HMAC over SHA-256 (RFC 2104, section 2; FIPS 180-4), of a text that is fed in pieces.
+//! HMAC over SHA-256 (RFC 2104, section 2; FIPS 180-4).
 
-ghost use Rattle.std.specs.Prelude.{◌≡◌, ℕ, ◌+◌, ◌-◌, ◌≤◌, List, [], ◌++◌, length, replicate};
+ghost use Rattle.std.specs.Prelude.{◌≡◌, ℕ, ◌+◌, ◌-◌, ◌≤◌, List, ◌++◌, length, replicate};
 ghost use Rattle.sha2.specs.Hashers.{Holds256};
-ghost use Rattle.tesla_prf.specs.Feeding.{Feeds};
+ghost use Rattle.sha2.specs.Sha256.{sha256};
+ghost use Rattle.tesla_prf.specs.Begun.{BegunUnder};
 ghost use Rattle.tesla_prf.specs.Hmac.{block_key, hmac_of, padded_with};
 
 use sha2::{Digest, Sha256};
@@ -49,80 +50,97 @@ fn padded(block: &[u8; BLOCK], pad: u8) -> [u8; BLOCK]
     out
 }
 
-/// A hash that has taken in the block, combined with the pad.
-fn begun_with(block: &[u8; BLOCK], pad: u8) -> Sha256
-    ensures { Holds256 result (padded_with pad block.now) }
+// Each move of a hash copies its 104 bytes, so the functions below make, feed and end a hash in one place.
+
+/// The digest of the block, combined with the pad, and the text after it.
+fn digest_under(block: &[u8; BLOCK], pad: u8, text: &[u8]) -> [u8; 32]
+    ensures { result ≡ sha256 (padded_with pad block.now ++ text.now) }
 {
     let mut hash = Sha256::new();
     hash.update(padded(block, pad));
-    hash
+    hash.update(text);
+    hash.finalize()
 }
 
-/// A second hash that stands where this one does.
-fn copied(hash: &Sha256) -> Sha256
-    ensures { result ≡ hash.now }
+/// The digest of what the hash has taken in and the text after it. The hash stays as it is; its copy needs no memory,
+/// and so cannot fail.
+fn digest_after(begun: &Sha256, text: &[u8]) -> [u8; 32]
+    ensures { (taken : List ℕ) → Holds256 begun.now taken → result ≡ sha256 (taken ++ text.now) }
 {
-    let Ok(copy) = hash.clone() else {
-        unreachable!()
-    };
-    copy
+    let mut hash = begun.clone().unwrap();
+    hash.update(text);
+    hash.finalize()
 }
 
-/// A running evaluation of HMAC. It is counted when it is finished.
+/// The digest of what the hash has taken in and both pieces after it, as by `digest_after`.
+fn digest_after_two(begun: &Sha256, first: &[u8], second: &[u8]) -> [u8; 32]
+    ensures { (taken : List ℕ) → Holds256 begun.now taken → result ≡ sha256 (taken ++ (first.now ++ second.now)) }
+{
+    let mut hash = begun.clone().unwrap();
+    hash.update(first);
+    hash.update(second);
+    hash.finalize()
+}
+
+/// What every evaluation of HMAC under one key begins with: both hashes have taken in the key's block, each combined
+/// with its own pad.
 #[derive(Drop)]
-pub struct Mac {
+pub struct Begun {
     inner: Sha256,
     outer: Sha256,
 }
 
-impl Mac {
-    /// An evaluation under a key, of the empty text so far.
-    pub fn new(key: &[u8]) -> Mac
-        ensures { Feeds result key.now [] }
+impl Begun {
+    /// The beginning of each evaluation under the key: two compressions of SHA-256.
+    pub fn new(key: &[u8]) -> Begun
+        ensures { BegunUnder result key.now }
     {
         let block = block_of(key);
-        Mac {
-            inner: begun_with(&block, INNER_PAD),
-            outer: begun_with(&block, OUTER_PAD),
-        }
+        let mut begun = Begun {
+            inner: Sha256::new(),
+            outer: Sha256::new(),
+        };
+        begun.inner.update(padded(&block, INNER_PAD));
+        begun.outer.update(padded(&block, OUTER_PAD));
+        begun
     }
 
-    /// A second evaluation that stands where this one does.
-    pub fn copied(&self) -> Mac
-        ensures { result ≡ self.now }
-    {
-        Mac {
-            inner: copied(&self.inner),
-            outer: copied(&self.outer),
-        }
-    }
-
-    /// Adds a piece to the text.
-    pub fn update(&mut self, piece: &[u8])
-        ensures { (key text : List ℕ) → Feeds self.old key text → Feeds self.new key (text ++ piece.now) }
-    {
-        self.inner.update(piece);
-    }
-
-    /// HMAC of the text.
-    pub fn finish<L: Ledger>(self, steps: &mut Steps<L>) -> [u8; 32]
-        ensures value { (key text : List ℕ) → Feeds self key text → result ≡ hmac_of key text }
+    /// HMAC of a text: one counted step.
+    #[tactic(auto, unfolding(crate::specs::Hmac::hmac_of))]
+    pub fn hmac<L: Ledger>(&self, text: &[u8], steps: &mut Steps<L>) -> [u8; 32]
+        ensures value { (key : List ℕ) → BegunUnder self.now key → result ≡ hmac_of key text.now }
         ensures cost { steps.new ≡ steps.old + 1 }
     {
         steps.tick();
-        let digest = self.inner.finalize();
-        let mut outer = self.outer;
-        outer.update(digest);
-        outer.finalize()
+        let digest = digest_after(&self.inner, text);
+        digest_after(&self.outer, &digest)
+    }
+
+    /// HMAC of a text in two pieces: one counted step.
+    #[tactic(auto, unfolding(crate::specs::Hmac::hmac_of))]
+    pub fn hmac_of_two<L: Ledger>(
+        &self,
+        first: &[u8],
+        second: &[u8],
+        steps: &mut Steps<L>,
+    ) -> [u8; 32]
+        ensures value { (key : List ℕ) → BegunUnder self.now key → result ≡ hmac_of key (first.now ++ second.now) }
+        ensures cost { steps.new ≡ steps.old + 1 }
+    {
+        steps.tick();
+        let digest = digest_after_two(&self.inner, first, second);
+        digest_after(&self.outer, &digest)
     }
 }
 
 /// HMAC-SHA-256 of a text under a key (RFC 2104): one counted step.
+#[tactic(auto, unfolding(crate::specs::Hmac::hmac_of))]
 pub fn hmac<L: Ledger>(key: &[u8], text: &[u8], steps: &mut Steps<L>) -> [u8; 32]
     ensures value { result ≡ hmac_of key.now text.now }
     ensures cost { steps.new ≡ steps.old + 1 }
 {
-    let mut mac = Mac::new(key);
-    mac.update(text);
-    mac.finish(steps)
+    steps.tick();
+    let block = block_of(key);
+    let digest = digest_under(&block, INNER_PAD, text);
+    digest_under(&block, OUTER_PAD, &digest)
 }

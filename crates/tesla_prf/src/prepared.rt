@@ -2,11 +2,11 @@
 
 ghost use Rattle.std.specs.Prelude.{◌≡◌, ◌+◌, ◌≤◌, [], ◌∷◌, Some, codes};
 ghost use Rattle.tesla_base.specs.Tag.{wide_tag};
-ghost use Rattle.tesla_prf.specs.Feeding.{Feeds};
+ghost use Rattle.tesla_prf.specs.Begun.{BegunUnder};
 ghost use Rattle.tesla_prf.specs.Hmac.{hmac_of};
 ghost use Rattle.tesla_prf.specs.Keys.{mac_of, next_of, tag_under};
 
-use crate::keyed::Mac;
+use crate::keyed::Begun;
 use crate::keys::{MAC, NEXT};
 use crate::tags::{front_of, message_mac};
 use std::fmt;
@@ -22,19 +22,18 @@ use tesla_base::{ChainNo, Key, Name, Steps, StreamId, Tag, WideTag};
 #[derive(Drop)]
 pub struct PreparedKey {
     key: Key,
-    begun: Mac,
+    begun: Begun,
 }
 
 impl Model for PreparedKey {
-    ghost use Rattle.std.specs.Prelude.{[]};
     ghost use Rattle.tesla_base.specs.declared.names.Key.{Key};
-    ghost use Rattle.tesla_prf.specs.Feeding.{Feeds};
+    ghost use Rattle.tesla_prf.specs.Begun.{BegunUnder};
 
     ghost Value = { Key };
 
     ghost view = { λ p. p.key };
 
-    ghost invariant = { λ p. Feeds p.begun p.key.0 [] };
+    ghost invariant = { λ p. BegunUnder p.begun p.key.0 };
 }
 
 impl PreparedKey {
@@ -44,7 +43,7 @@ impl PreparedKey {
     {
         PreparedKey {
             key: *key,
-            begun: Mac::new(&key.0),
+            begun: Begun::new(&key.0),
         }
     }
 
@@ -55,21 +54,12 @@ impl PreparedKey {
         self.key
     }
 
-    /// An evaluation of HMAC under the key, of the empty text so far.
-    fn begin(&self) -> Mac
-        ensures { Feeds result self.now.0 [] }
-    {
-        self.begun.copied()
-    }
-
     /// HMAC of one byte under the key.
     fn made_with<L: Ledger>(&self, text: u8, steps: &mut Steps<L>) -> Key
         ensures value { result.0 ≡ hmac_of self.now.0 (text ∷ []) }
         ensures cost { steps.new ≡ steps.old + 1 }
     {
-        let mut mac = self.begin();
-        mac.update(&[text]);
-        Key(mac.finish(steps))
+        Key(self.begun.hmac(&[text], steps))
     }
 
     /// The key of the interval before (`F` of RFC 4082): one counted step.
@@ -105,7 +95,7 @@ impl PreparedKey {
         ensures length { result.length ≡ length }
         ensures cost { steps.new ≡ steps.old + 1 }
     {
-        let digest = message_mac(self.begin(), stream, chain, name, payload, steps);
+        let digest = message_mac(&self.begun, stream, chain, name, payload, steps);
         WideTag::of(&digest[..length as usize])
     }
 
@@ -122,7 +112,7 @@ impl PreparedKey {
         ensures value { result.0 ≡ tag_under 16 self.now stream chain name payload.now }
         ensures cost { steps.new ≡ steps.old + 1 }
     {
-        let digest = message_mac(self.begin(), stream, chain, name, payload, steps);
+        let digest = message_mac(&self.begun, stream, chain, name, payload, steps);
         front_of(&digest)
     }
 }

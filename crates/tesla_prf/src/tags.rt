@@ -1,35 +1,43 @@
 //! The tags of messages (RFC 4082, section 3.4).
 
-ghost use Rattle.std.specs.Prelude.{◌≡◌, ◌+◌, ◌≤◌, ◌↔◌, ℕ, List, [], IsTrue, bytes_eq, take};
+ghost use Rattle.std.specs.Int.{w16, w32, w64, to_be_bytes};
+ghost use Rattle.std.specs.Prelude.{◌≡◌, ◌+◌, ◌≤◌, ◌↔◌, ℕ, List, [], ◌∷◌, ◌++◌, IsTrue, bytes_eq, take};
 ghost use Rattle.tesla_base.specs.Tag.{wide_tag};
-ghost use Rattle.tesla_prf.specs.Feeding.{Feeds};
+ghost use Rattle.tesla_prf.specs.Begun.{BegunUnder};
 ghost use Rattle.tesla_prf.specs.Hmac.{hmac_of};
 ghost use Rattle.tesla_prf.specs.Keys.{tag_text, tag_under};
 
-use crate::keyed::Mac;
+use crate::keyed::Begun;
 use std::sync::ledger::Ledger;
 use tesla_base::{ChainNo, Key, Name, Steps, StreamId, Tag, WideTag};
 
-/// The HMAC of a message on a chain, from an evaluation of the empty text so far: of the stream, the chain,
-/// the interval, the number and the payload, in 8, 1, 4 and 2 bytes and those of the payload, each number
-/// with its highest byte first. The pieces are fed one after another, none is copied.
+/// What the text of a tag has before the payload: the stream, the chain, the interval and the number, in 8, 1, 4
+/// and 2 bytes, each number with its highest byte first.
+fn heading(stream: StreamId, chain: ChainNo, name: Name) -> [u8; 15]
+    ensures { result ≡ to_be_bytes w64 stream.0 ++ chain.0 ∷ [] ++ to_be_bytes w32 name.interval ++ to_be_bytes w16 name.number }
+{
+    let mut bytes = [0; 15];
+    bytes[..8].copy_from_slice(&stream.0.to_be_bytes());
+    bytes[8] = chain.0;
+    bytes[9..13].copy_from_slice(&name.interval.to_be_bytes());
+    bytes[13..].copy_from_slice(&name.number.to_be_bytes());
+    bytes
+}
+
+/// The HMAC of a message on a chain, of which a tag has the first bytes: one counted step. The payload is fed from
+/// where it lies.
 pub fn message_mac<L: Ledger>(
-    mut text: Mac,
+    begun: &Begun,
     stream: StreamId,
     chain: ChainNo,
     name: Name,
     payload: &[u8],
     steps: &mut Steps<L>,
 ) -> [u8; 32]
-    ensures value { (key : List ℕ) → Feeds text key [] → result ≡ hmac_of key (tag_text stream chain name payload.now) }
+    ensures value { (key : List ℕ) → BegunUnder begun.now key → result ≡ hmac_of key (tag_text stream chain name payload.now) }
     ensures cost { steps.new ≡ steps.old + 1 }
 {
-    text.update(&stream.0.to_be_bytes());
-    text.update(&[chain.0]);
-    text.update(&name.interval.to_be_bytes());
-    text.update(&name.number.to_be_bytes());
-    text.update(payload);
-    text.finish(steps)
+    begun.hmac_of_two(&heading(stream, chain, name), payload, steps)
 }
 
 /// The tag of 16 bytes that an HMAC begins with.
@@ -58,7 +66,7 @@ pub fn wide_tag<L: Ledger>(
     ensures length { result.length ≡ length }
     ensures cost { steps.new ≡ steps.old + 1 }
 {
-    let digest = message_mac(Mac::new(&mac.0), stream, chain, name, payload, steps);
+    let digest = message_mac(&Begun::new(&mac.0), stream, chain, name, payload, steps);
     WideTag::of(&digest[..length as usize])
 }
 
@@ -75,7 +83,7 @@ pub fn tag<L: Ledger>(
     ensures value { result.0 ≡ tag_under 16 mac.now stream chain name payload.now }
     ensures cost { steps.new ≡ steps.old + 1 }
 {
-    let digest = message_mac(Mac::new(&mac.0), stream, chain, name, payload, steps);
+    let digest = message_mac(&Begun::new(&mac.0), stream, chain, name, payload, steps);
     front_of(&digest)
 }
 
