@@ -224,10 +224,10 @@ fn released_packets_are_left_out(rt: HostRuntime) -> Result<(), Fail> {
     let mut released = item(3, name(1, 0));
     released.released = true;
     hold(&mut buffer, &released);
-    assert!(rt; unreleased(alloc, &buffer, 1)?.as_slice() == &[0, 1, 2]);
+    assert!(rt; unreleased(alloc, &buffer, 1)?.as_slice() == [0, 1, 2].as_slice());
     assert!(rt; settle(&mut buffer, 1, 1, Fate::Released) && buffer.unreleased_in(1) == 2);
-    assert!(rt; unreleased(alloc, &buffer, 1)?.as_slice() == &[0, 2]);
-    assert!(rt; arrivals(alloc, &buffer, 1)?.as_slice() == &[0, 1, 2, 3]);
+    assert!(rt; unreleased(alloc, &buffer, 1)?.as_slice() == [0, 2].as_slice());
+    assert!(rt; arrivals(alloc, &buffer, 1)?.as_slice() == [0, 1, 2, 3].as_slice());
     Ok(())
 }
 
