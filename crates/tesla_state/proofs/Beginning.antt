@@ -1,8 +1,7 @@
 -- Walks that begin at the newer keys of a frame that fits the setup.
-use Rattle.std.proofs.Common.{◌≡◌, ℕ, ◌+◌, ◌<◌, ◌≤◌, ◌==◌, Bool, true, false, cond, not, ◌||◌, List, [], ◌∷◌, ◌++◌, length, filter, map, Option, Some, None, refl, sym, ap, subst, ◌∙◌, inl, inr, arith}
+use Rattle.std.proofs.Common.{◌≡◌, ℕ, ◌+◌, ◌<◌, ◌==◌, Bool, true, false, cond, not, ◌||◌, List, [], ◌∷◌, ◌++◌, length, filter, map, Option, Some, None, refl, sym, ap, subst, ◌∙◌, inl, inr, arith}
 use Rattle.std.specs.Prelude.{nat_lt}
 use Rattle.std.specs.List.{All, enumerate_from, list_any}
-use Rattle.std.proofs.lemmas.Bool.{cases_Bool}
 use Rattle.std.proofs.lemmas.Bool.Decides.{nat_tests}
 use Rattle.std.proofs.lemmas.List.Elements.{All-cons, All-filter, All-map, All-nil, All-weaker}
 use Rattle.std.proofs.lemmas.List.Sums.{sum_by-cons}
@@ -15,7 +14,7 @@ use Rattle.tesla_fitting.specs.declared.verdict.Verdict.{Verdict}
 use Rattle.tesla_fitting.specs.Fitting.{fields_misfit, is_early, is_misfit, is_outside}
 use Rattle.tesla_fitting.specs.Rows.{keys_of}
 use Rattle.tesla_state.specs.Offered.{AreGood, HaveBegun, IsOfChains, gap_of, gaps}
-use Rattle.tesla_state.specs.Steps.{is_newer, tip_at}
+use Rattle.tesla_state.specs.Steps.{is_newer}
 use Rattle.tesla_state.specs.Walking.{Walking, IsAbove, fresh, left, left_of, rows_of}
 use Rattle.tesla_fitting.proofs.CarriedRise.{carries, keys_from, rise_cons}
 use Rattle.tesla_state.proofs.NewerKeys.{newer_gaps}

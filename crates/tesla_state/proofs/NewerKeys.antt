@@ -2,7 +2,7 @@
 use Rattle.std.proofs.Common.{◌≡◌, ℕ, ◌+◌, ◌-◌, ◌<◌, ◌≤◌, Bool, true, false, cond, not, ◌&&◌, List, [], ◌∷◌, ◌++◌, length, get_or, take, drop, filter, flat_map, Option, Some, None, refl, sym, ap, ◌∙◌, inl, inr, arith}
 use Rattle.std.specs.Prelude.{find, nat_lt, option_map, option_to_list, slice_get}
 use Rattle.std.specs.Option.{option_or}
-use Rattle.std.specs.List.{enumerate_from, sum_by}
+use Rattle.std.specs.List.{enumerate_from}
 use Rattle.std.proofs.lemmas.Bool.{cases_Bool}
 use Rattle.std.proofs.lemmas.Bool.Decides.{nat_tests}
 use Rattle.std.proofs.lemmas.List.{take-append-drop, take_all, take_more}
@@ -66,11 +66,10 @@ others : (cfg : Config) (frame : Frame) (n : ℕ) → (rest : List KeyRow) × (k
 others cfg (Data f) n =
     let keys : List (ℕ × TagRow) → List KeyRow = flat_map (λ (p : ℕ × TagRow). carried cfg f.name.interval p.0 p.1.key) in
     let front = take n f.rows in
-    let behind = enumerate_from (0 + length front) (drop n f.rows) in
-    (
+    let behind = enumerate_from (0 + length front) (drop n f.rows) in (
       keys behind,
       ap (λ rs. keys (enumerate_from 0 rs)) (sym (take-append-drop n f.rows)) ∙ ap keys (enumerate_from-append 0 front (drop n f.rows))
-      ∙ flat_map-append (λ (p : ℕ × TagRow). carried cfg f.name.interval p.0 p.1.key) (enumerate_from 0 front) behind,
+          ∙ flat_map-append (λ (p : ℕ × TagRow). carried cfg f.name.interval p.0 p.1.key) (enumerate_from 0 front) behind,
     )
 others cfg (Disclosure f) n = (drop n f.rows, sym (take-append-drop n f.rows))
 

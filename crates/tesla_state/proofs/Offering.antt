@@ -1,21 +1,17 @@
 -- The offers of keys, one after another.
-use Rattle.std.proofs.Common.{◌≡◌, ℕ, zero, suc, ◌+◌, ◌-◌, ◌<◌, ◌≤◌, Bool, true, false, cond, not, ◌&&◌, List, [], ◌∷◌, ◌++◌, length, get_or, map, take, filter, Option, Some, None, refl, sym, ap, subst, ◌∙◌, inl, inr, arith}
+use Rattle.std.proofs.Common.{◌≡◌, ℕ, zero, suc, ◌-◌, ◌<◌, Bool, true, false, cond, not, ◌&&◌, List, [], ◌∷◌, length, get_or, filter, Option, Some, None, refl, sym, ap, subst, ◌∙◌, inl, inr, arith}
 use Rattle.std.specs.Prelude.{find, nat_lt, bytes_eq}
-use Rattle.std.specs.List.{sum_by}
 use Rattle.std.proofs.lemmas.Bool.{ne_eqb, cases_Bool}
 use Rattle.std.proofs.lemmas.Bool.Decides.{nat_tests}
-use Rattle.std.proofs.lemmas.List.{length-map, length-take, map-append, take_more}
-use Rattle.std.proofs.lemmas.List.Elements.{All-nil, All-cons, filter-append}
-use Rattle.std.proofs.lemmas.List.Sums.{sum_by-take-le, sum_by_push}
+use Rattle.std.proofs.lemmas.List.Elements.{All-nil, All-cons}
 use Rattle.tesla_frame.specs.declared.row.KeyRow.{KeyRow}
 use Rattle.tesla_keys.specs.declared.offer.Offer.TheVariants.{Old, Good, Bad}
 use Rattle.tesla_keys.specs.Offers.{offer_of, IsGood}
 use Rattle.tesla_keys.specs.Tip.{Tip}
 use Rattle.tesla_prf.specs.Keys.{walk}
 use Rattle.tesla_fitting.specs.Rows.{leads_to}
-use Rattle.tesla_state.specs.Offered.{AreGood, gap_of, gaps}
+use Rattle.tesla_state.specs.Offered.{AreGood}
 use Rattle.tesla_state.specs.Steps.{fails, is_newer, no_tip, tip_at}
-use Rattle.tesla_state.specs.Walking.{Walking, fresh}
 
 -- within a list the default doesn't matter
 pub any_default : {A : Type 0} (xs : List A) (i : ℕ) (d e : A) → i < length xs → get_or xs i d ≡ get_or xs i e

@@ -1,14 +1,14 @@
-use Rattle.std.proofs.Common.{◌≡◌, ◌+◌, ◌-◌, ◌<◌, ◌≤◌, ◌++◌, ◌∷◌, [], true, false, not, cond, filter, length, map, None, ap, sym, subst, ◌∙◌, arith, Some}
-use Rattle.std.specs.Prelude.{find, option_map, option_to_list}
+use Rattle.std.proofs.Common.{◌≡◌, ◌+◌, ◌-◌, ◌≤◌, ◌++◌, ◌∷◌, [], true, false, not, cond, filter, length, map, None, ap, sym, subst, ◌∙◌, arith, Some}
+use Rattle.std.specs.Prelude.{find, option_map}
 use Rattle.std.specs.List.{All}
 use Rattle.std.proofs.lemmas.List.{length-append, map-append}
 use Rattle.tesla_frame.specs.declared.row.KeyRow.{KeyRow}
 use Rattle.tesla_frame.specs.Shown.{shown}
 use Rattle.tesla_keys.specs.Tip.{Tip}
 use Rattle.tesla_fitting.specs.Rows.{keys_of, row_count}
-use Rattle.tesla_state.specs.Offered.{AreGood, IsOfChains, gap_of, gaps, newer_keys, first_keys}
+use Rattle.tesla_state.specs.Offered.{IsOfChains, gap_of, newer_keys}
 use Rattle.tesla_state.specs.Steps.{fails, is_newer, tip_at}
-use Rattle.tesla_state.specs.Walking.{Walking, fresh}
+use Rattle.tesla_state.specs.Walking.{fresh}
 use Rattle.tesla_state.proofs.Beginning.{begun, known_keys}
 use Rattle.tesla_state.proofs.NewerKeys.{all_gaps, all_keys, fails_where, first_failing, first_gaps, found_last, gaps_last, none_failing}
 use Rattle.tesla_state.proofs.Offering.{all_good, tip_found}
