@@ -12,7 +12,10 @@ use Rattle.tesla_links.specs.Lists.{is_in, Distinct}
 use Rattle.tesla_fitting.specs.declared.config.Config.{Config}
 use Rattle.tesla_fitting.specs.Config.{chains}
 use Rattle.tesla_state.specs.Gathering.{IsHighest}
-use Rattle.tesla_state.specs.Steps.{is_over, is_passed}
+use Rattle.tesla_state.specs.State.{Holding}
+use Rattle.tesla_state.specs.Steps.{is_let_go, is_over, is_passed}
+use Rattle.tesla_clock.specs.Safe.{has_chain}
+use Rattle.tesla_base.proofs.Lists.{list_all_weaker}
 use Rattle.tesla_state.specs.Stored.{Placed, Stored, place_of, stands_at, waits, without, is_of, first_place, next_place, is_idle, in_span}
 
 -- what is held after the first so many packets of an interval were looked at, and let go where they pass a test
@@ -213,6 +216,14 @@ found_next old new i over n place d s =
     ap (find (stands_at place.0)) s.held ∙ ap (λ (p : ℕ). find (stands_at p) (swept i over n old.held)) f.place_is
     ∙ (next_is i over n old.held f.first f.rest d f.is).found
 
+-- it is of the interval
+pub found_of : (old new : Stored) (i : ℕ) (over : Placed → Bool) (n : ℕ) (place : Place) → Distinct (map place_of old.held) → Sweeping old new i over n (Some place) → (x : Placed) → find (stands_at place.0) new.held ≡ Some x → x.holding.name.interval ≡ i
+found_of old new i over n place d s x h =
+    let f = next_at old new i over n place s in
+    let found : Some f.first ≡ Some x = sym (found_next old new i over n place d s) ∙ h in
+    let same : f.first ≡ x = cc in
+    eqb-true x.holding.name.interval i (ap (is_of i) (sym same) ∙ (next_is i over n old.held f.first f.rest d f.is).of)
+
 pub sweeping_more : (old new then : Stored) (i : ℕ) (over : Placed → Bool) (n : ℕ) (place : Place) (next : Option Place) → Distinct (map place_of old.held) → Sweeping old new i over n (Some place) → next ≡ next_place place.0 new.held → then.capacity ≡ new.capacity → then.chains ≡ new.chains → then.waiting ≡ new.waiting → then.given ≡ new.given → ((x : Placed) → find (stands_at place.0) new.held ≡ Some x → then.held ≡ cond (over x) (without place.0 new.held) new.held) → Sweeping old then i over (n + 1) next
 sweeping_more old new then i over n place next d s e capacity chains waiting given held =
     let f = next_at old new i over n place s in
@@ -258,6 +269,17 @@ idle_rests false t a p h = refl
 -- what isn't needed any more doesn't wait to be taken
 pub idle_is_at_rest : (cfg : Config) (tips : List Tip) (x : Placed) → is_idle cfg tips x ≡ true → not (waits x) ≡ true
 idle_is_at_rest cfg tips x h = idle_rests x.holding.released x.holding.taken (list_all (is_over tips x.holding) (chains cfg)) (list_all (is_passed tips x.holding.name.interval) (chains cfg)) h
+
+unreleased_idle : (r t a p : Bool) → r ≡ false → a ≡ true → true ≡ (((false || a) && not r) || (t && p))
+unreleased_idle true t a p e h = absurd (cc)
+unreleased_idle false t true p e h = refl
+unreleased_idle false t false p e h = absurd (cc)
+
+-- a packet that isn't released isn't needed where every chain has passed its interval
+pub passed_is_idle : (cfg : Config) (tips : List Tip) (x : Holding) → list_all (is_passed tips x.name.interval) (chains cfg) ≡ true → x.released ≡ false → true ≡ is_let_go cfg tips [] x
+passed_is_idle cfg tips x h e =
+    unreleased_idle x.released x.taken (list_all (is_over tips x) (chains cfg)) (list_all (is_passed tips x.name.interval) (chains cfg)) e
+    (list_all_weaker (is_passed tips x.name.interval) (is_over tips x) (chains cfg) (λ c k. or_right (not (has_chain x.chains c)) (is_passed tips x.name.interval c) k) h)
 
 -- ---- intervals one after another
 

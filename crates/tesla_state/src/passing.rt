@@ -61,22 +61,25 @@ fn all_over(config: &Config, tips: &[Verifier], item: &Item) -> bool
     true
 }
 
-// Whether the packet isn't needed any more.
-fn is_idle(config: &Config, tips: &[Verifier], item: &Item) -> bool
-    requires { length tips.now ≡ length config.now.setup.rows }
+// Whether the packet isn't needed any more, where every chain has passed its interval or not. One that isn't released
+// is looked at chain by chain only where a chain may still prove it.
+fn is_idle(config: &Config, tips: &[Verifier], item: &Item, passed: bool) -> bool
+    requires tips { length tips.now ≡ length config.now.setup.rows }
+    requires passed { passed ≡ list_all (is_passed tips.now item.now.name.interval) (chains config.now) }
     ensures { (count : ℕ) → result ≡ is_let_go config.now tips.now [] (holding_in count item.now) }
 {
-    if !item.released && all_over(config, tips, item) {
-        return true;
+    if item.released {
+        return item.taken && passed;
     }
-    item.taken && all_passed(config, tips, item.name.interval)
+    passed || all_over(config, tips, item)
 }
 
 impl Store {
-    // Lets the packet in a place go if it isn't needed any more.
-    fn let_go_idle(&mut self, config: &Config, tips: &[Verifier], place: Place)
+    // Lets the packet in a place go if it isn't needed any more, where every chain has passed its interval or not.
+    fn let_go_idle(&mut self, config: &Config, tips: &[Verifier], place: Place, passed: bool)
         requires tips { length tips.now ≡ length config.now.setup.rows }
         requires live { list_any (stands_at place.0) self.old.held ≡ true }
+        requires passed { (x : Placed) → find (stands_at place.0) self.old.held ≡ Some x → passed ≡ list_all (is_passed tips.now x.holding.name.interval) (chains config.now) }
         ensures capacity { self.new.capacity ≡ self.old.capacity }
         ensures chains { self.new.chains ≡ self.old.chains }
         ensures held { (x : Placed) → find (stands_at place.0) self.old.held ≡ Some x →
@@ -84,7 +87,7 @@ impl Store {
         ensures waiting { self.new.waiting ≡ self.old.waiting }
         ensures given { self.new.given ≡ self.old.given }
     {
-        if is_idle(config, tips, self.item(place)) {
+        if is_idle(config, tips, self.item(place), passed) {
             self.discard(place);
         }
     }
@@ -99,13 +102,14 @@ impl Store {
         ensures waiting { self.new.waiting ≡ self.old.waiting }
         ensures given { self.new.given ≡ self.old.given }
     {
+        let passed = all_passed(config, tips, interval);
         let mut next = self.first_of(interval);
         for _looked in 0..self.held_in(interval) {
             let Some(place) = next else {
                 return;
             };
             next = self.next_of(place);
-            self.let_go_idle(config, tips, place);
+            self.let_go_idle(config, tips, place, passed);
         }
     }
 

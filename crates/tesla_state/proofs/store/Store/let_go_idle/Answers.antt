@@ -5,6 +5,9 @@ use Rattle.tesla_state.specs.Stored.{Placed, waits, without, is_idle}
 use Rattle.tesla_state.proofs.Sweeping.{found_stands, idle_is_at_rest}
 use Rattle.tesla_state.proofs.store.Store.let_go_idle.Goals as goal
 
+pub is_idle-requires-clause-passed : goal.is_idle-requires-clause-passed
+is_idle-requires-clause-passed c = c.requires.passed (record { place = c.args.place.0; holding = holding_in c.args.self.now.chains c.item.result.now }) c.item.ensures.item
+
 pub discard-requires : goal.discard-requires
 discard-requires c =
     let x : Placed = record { place = c.args.place.0; holding = holding_in c.args.self.now.chains c.item.result.now } in
