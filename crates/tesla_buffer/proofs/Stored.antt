@@ -13,13 +13,13 @@ use Rattle.tesla_buffer.specs.Held.{Held, Holding, is_at, is_live, is_released_a
 use Rattle.tesla_buffer.specs.Stored.{IsStored, IsNumbered, Keyed, held_at, item_at, key_of_name, no_item, places_of, released_key}
 use Rattle.tesla_buffer.specs.declared.item.Item.{Item}
 use Rattle.tesla_links.specs.Entries.{Entries, Entry}
-use Rattle.tesla_links.specs.Entries.{is_at as entry_at}
+use Rattle.tesla_links.specs.Entries.{is_at as entry_at, marked_at}
 use Rattle.tesla_links.specs.Lists.{Distinct, is_in, without}
 use Rattle.tesla_links.specs.Slots.{has_key}
 use Rattle.tesla_links.proofs.Filtered.{distinct_filter, filter-map, in_filter}
 use Rattle.tesla_links.proofs.Keyed.{replicate_same}
 use Rattle.tesla_links.proofs.Members.{apart_from, differs, distinct_push, distinct_split, in_cases, in_front, in_here, in_joined, in_rest, without_other, without_same}
-use Rattle.tesla_buffer.proofs.Places.{any_held, held_on, held_there, keyed_filter, keyed_on, keyed_push, length-without, live_is, places_without}
+use Rattle.tesla_buffer.proofs.Places.{any_held, held_on, held_there, keyed_filter, keyed_marked, keyed_on, keyed_push, length-without, live_is, places_without}
 
 -- ---- a place for a packet
 
@@ -105,9 +105,9 @@ module _ (capacity : ℕ) (slots slots' : List Item) (free free' : List ℕ) (in
 module _ (capacity : ℕ) (slots slots' slots'' : List Item) (free free' : List ℕ) (index index' : Entries) (released released' : List (Option ℕ)) (p : ℕ) (it : Item)
     (h : IsStored capacity slots free index released) (v : IsVacant capacity slots slots' free' index.entries p)
     (size : length slots'' ≡ length slots') (here : item_at slots'' p ≡ it) (others : (q : ℕ) → (q ≡ p → ⊥) → item_at slots'' q ≡ item_at slots' q)
-    (entries : index'.entries ≡ index.entries ++ record { key = it.name.interval; place = p } ∷ []) where
+    (entries : index'.entries ≡ index.entries ++ record { key = it.name.interval; place = p; marked = it.released } ∷ []) where
   came : places_of index'.entries ≡ places_of index.entries ++ p ∷ []
-  came = ap places_of entries ∙ map-append (λ (e : Entry). e.place) index.entries (record { key = it.name.interval; place = p } ∷ [])
+  came = ap places_of entries ∙ map-append (λ (e : Entry). e.place) index.entries (record { key = it.name.interval; place = p; marked = it.released } ∷ [])
 
   came_cases : (q : ℕ) → is_in q (places_of index'.entries) ≡ true → (is_in q (places_of index.entries) ≡ true) ⊎ (q ≡ p)
   came_cases q i =
@@ -144,7 +144,7 @@ module _ (capacity : ℕ) (slots slots' slots'' : List Item) (free free' : List 
   stored_put room small names named unnamed =
       let Below : ℕ → Type 0 = λ q. q < length slots'' in
       let Named : ℕ → Type 0 = λ q. get_or released' q None ≡ released_key slots'' index'.entries q in
-      let added = length-append index.entries (record { key = it.name.interval; place = p } ∷ []) in
+      let added = length-append index.entries (record { key = it.name.interval; place = p; marked = it.released } ∷ []) in
       record {
         some = h.some;
         most = h.most;
@@ -159,9 +159,9 @@ module _ (capacity : ℕ) (slots slots' slots'' : List Item) (free free' : List 
         distinct = subst (λ xs. Distinct xs) (sym came) (distinct_push (places_of index.entries) p h.distinct v.absent);
         distinct_free = v.distinct_free;
         keyed = subst (λ xs. Keyed slots'' xs) (sym entries)
-            (keyed_push slots'' index.entries (record { key = it.name.interval; place = p })
-            (keyed_on slots slots'' index.entries h.keyed (λ q i. ap (λ (x : Item). x.name.interval) (held_same q i)))
-            (ap (λ (x : Item). x.name.interval) (sym here)));
+            (keyed_push slots'' index.entries (record { key = it.name.interval; place = p; marked = it.released })
+            (keyed_on slots slots'' index.entries h.keyed (λ q i. ap (λ (x : Item). x.name.interval) (held_same q i)) (λ q i. ap (λ (x : Item). x.released) (held_same q i)))
+            (ap (λ (x : Item). x.name.interval) (sym here), ap (λ (x : Item). x.released) (sym here)));
         small = λ q.
             ⊎_elim (λ (s : q ≡ p). subst IsNumbered (sym (ap (item_at slots'') s ∙ here)) small)
             (λ (ne : q ≡ p → ⊥). subst IsNumbered (sym (others q ne)) (v.small q))
@@ -178,47 +178,66 @@ module _ (capacity : ℕ) (slots slots' slots'' : List Item) (free free' : List 
 
   pub held_put : map (held_at slots'') index'.entries ≡ map (held_at slots) index.entries ++ record { place = p; item = it } ∷ []
   held_put =
-      ap (map (held_at slots'')) entries ∙ map-append (held_at slots'') index.entries (record { key = it.name.interval; place = p } ∷ [])
-      ∙ ap (λ hs. hs ++ held_at slots'' (record { key = it.name.interval; place = p }) ∷ []) (held_on slots slots'' index.entries held_same)
+      ap (map (held_at slots'')) entries ∙ map-append (held_at slots'') index.entries (record { key = it.name.interval; place = p; marked = it.released } ∷ [])
+      ∙ ap (λ hs. hs ++ held_at slots'' (record { key = it.name.interval; place = p; marked = it.released }) ∷ []) (held_on slots slots'' index.entries held_same)
       ∙ ap (λ (x : Item). map (held_at slots) index.entries ++ record { place = p; item = x } ∷ []) here
 
 -- ---- a packet is marked
 
-module _ (capacity : ℕ) (slots slots' : List Item) (free : List ℕ) (index : Entries) (released released' : List (Option ℕ)) (p : ℕ) (it : Item)
+module _ (capacity : ℕ) (slots slots' : List Item) (free : List ℕ) (index index' : Entries) (released released' : List (Option ℕ)) (p : ℕ) (it : Item)
     (h : IsStored capacity slots free index released) (live : is_in p (places_of index.entries) ≡ true)
     (size : length slots' ≡ length slots) (here : item_at slots' p ≡ it) (others : (q : ℕ) → (q ≡ p → ⊥) → item_at slots' q ≡ item_at slots q)
     (name : it.name ≡ (item_at slots p).name) where
-  pub stored_marked : IsNumbered it → length released' ≡ length released → get_or released' p None ≡ cond it.released (Some (key_of_name it.name)) None → ((q : ℕ) → (q ≡ p → ⊥) → get_or released' q None ≡ get_or released q None)
-      → IsStored capacity slots' free index released'
-  stored_marked small names named unnamed =
-      let same_name : (q : ℕ) → (item_at slots' q).name ≡ (item_at slots q).name = λ q.
-      ⊎_elim (λ (s : q ≡ p). ap (λ j. (item_at slots' j).name) s ∙ ap (λ (x : Item). x.name) here ∙ name ∙ ap (λ j. (item_at slots j).name) (sym s))
-      (λ (ne : q ≡ p → ⊥). ap (λ (x : Item). x.name) (others q ne))
-      (cases_eq q p) in
+  -- all keep their intervals
+  interval_kept : (q : ℕ) → (item_at slots' q).name.interval ≡ (item_at slots q).name.interval
+  interval_kept q =
+      ⊎_elim (λ (s : q ≡ p). ap (λ j. (item_at slots' j).name.interval) s ∙ ap (λ (x : Item). x.name.interval) here ∙ ap (λ (n : Name). n.interval) name ∙ ap (λ j. (item_at slots j).name.interval) (sym s))
+      (λ (ne : q ≡ p → ⊥). ap (λ (x : Item). x.name.interval) (others q ne))
+      (cases_eq q p)
+
+  -- an entry stays where its packet is released no more than before
+  pub keyed_same : it.released ≡ (item_at slots p).released → Keyed slots' index.entries
+  keyed_same same =
+      keyed_on slots slots' index.entries h.keyed (λ q i. interval_kept q)
+      (λ q i. ⊎_elim (λ (s : q ≡ p). ap (λ j. (item_at slots' j).released) s ∙ ap (λ (x : Item). x.released) here ∙ same ∙ ap (λ j. (item_at slots j).released) (sym s))
+      (λ (ne : q ≡ p → ⊥). ap (λ (x : Item). x.released) (others q ne))
+      (cases_eq q p))
+
+  -- and is marked where it is released from now on
+  pub keyed_released : it.released ≡ true → index'.entries ≡ marked_at p index.entries → Keyed slots' index'.entries
+  keyed_released e entries =
+      subst (λ xs. Keyed slots' xs) (sym entries)
+      (keyed_marked slots slots' p index.entries interval_kept (ap (λ (x : Item). x.released) here ∙ e) (λ q ne. ap (λ (x : Item). x.released) (others q ne)) h.keyed)
+
+  pub stored_marked : places_of index'.entries ≡ places_of index.entries → index'.capacity ≡ index.capacity → Keyed slots' index'.entries
+      → IsNumbered it → length released' ≡ length released → get_or released' p None ≡ cond it.released (Some (key_of_name it.name)) None → ((q : ℕ) → (q ≡ p → ⊥) → get_or released' q None ≡ get_or released q None)
+      → IsStored capacity slots' free index' released'
+  stored_marked places room keyed small names named unnamed =
       let Named : ℕ → Type 0 = λ q. get_or released' q None ≡ released_key slots' index.entries q in
+      let named_before : (q : ℕ) → get_or released' q None ≡ released_key slots' index.entries q = λ q.
+      ⊎_elim
+      (λ (s : q ≡ p). subst Named (sym s)
+      (named ∙ sym (ap (λ b. cond (b && (item_at slots' p).released) (Some (key_of_name (item_at slots' p).name)) None) live
+      ∙ ap (λ (x : Item). cond x.released (Some (key_of_name x.name)) None) here)))
+      (λ (ne : q ≡ p → ⊥). unnamed q ne ∙ h.named q ∙ ap (λ (x : Item). cond (is_in q (places_of index.entries) && x.released) (Some (key_of_name x.name)) None) (sym (others q ne)))
+      (cases_eq q p) in
       record {
         some = h.some;
         most = h.most;
-        room = h.room;
+        room = room ∙ h.room;
         slots_within = omega (arith, size, h.slots_within);
-        counted = h.counted ∙ sym size;
-        live = λ q i. omega (arith, h.live q i, size);
-        vacant = λ q i. let f = h.vacant q i in (omega (arith, f.0, size), f.1);
-        distinct = h.distinct;
+        counted = omega (arith, h.counted, size, length-map index'.entries (λ (e : Entry). e.place), length-map index.entries (λ (e : Entry). e.place), ap length places);
+        live = λ q i. omega (arith, h.live q (ap (is_in q) (sym places) ∙ i), size);
+        vacant = λ q i. let f = h.vacant q i in (omega (arith, f.0, size), ap (is_in q) places ∙ f.1);
+        distinct = subst (λ xs. Distinct xs) (sym places) h.distinct;
         distinct_free = h.distinct_free;
-        keyed = keyed_on slots slots' index.entries h.keyed (λ q i. ap (λ (n : Name). n.interval) (same_name q));
+        keyed = keyed;
         small = λ q.
             ⊎_elim (λ (s : q ≡ p). subst IsNumbered (sym (ap (item_at slots') s ∙ here)) small)
             (λ (ne : q ≡ p → ⊥). subst IsNumbered (sym (others q ne)) (h.small q))
             (cases_eq q p);
         names = names ∙ h.names;
-        named = λ q.
-            ⊎_elim
-            (λ (s : q ≡ p). subst Named (sym s)
-            (named ∙ sym (ap (λ b. cond (b && (item_at slots' p).released) (Some (key_of_name (item_at slots' p).name)) None) live
-            ∙ ap (λ (x : Item). cond x.released (Some (key_of_name x.name)) None) here)))
-            (λ (ne : q ≡ p → ⊥). unnamed q ne ∙ h.named q ∙ ap (λ (x : Item). cond (is_in q (places_of index.entries) && x.released) (Some (key_of_name x.name)) None) (sym (others q ne)))
-            (cases_eq q p);
+        named = λ q. named_before q ∙ ap (λ ps. cond (is_in q ps && (item_at slots' q).released) (Some (key_of_name (item_at slots' q).name)) None) (sym places);
       }
 
 -- what the table of names says of a packet that is held

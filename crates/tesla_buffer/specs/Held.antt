@@ -30,6 +30,14 @@ is_live place held = list_any (is_at place) held
 abbrev pub is_of : ℕ → Held → Bool
 is_of interval h = h.item.name.interval == interval
 
+-- whether a packet is at a place and was not released
+abbrev pub is_unreleased_at : ℕ → Held → Bool
+is_unreleased_at place h = is_at place h && not h.item.released
+
+-- whether a packet is of an interval and was not released
+abbrev pub is_unreleased_of : ℕ → Held → Bool
+is_unreleased_of interval h = is_of interval h && not h.item.released
+
 -- whether a packet was released under a name
 abbrev pub is_released_as : Name → Held → Bool
 is_released_as name h = h.item.released && ((h.item.name.interval == name.interval) && (h.item.name.number == name.number))
@@ -43,6 +51,11 @@ first_place (h ∷ hs) = Some (record { 0 = h.place })
 abbrev pub next_place : ℕ → List Held → Option Place
 next_place place [] = None
 next_place place (h ∷ hs) = cond (is_at place h) (first_place (filter (is_of h.item.name.interval) hs)) (next_place place hs)
+
+-- the place of the next packet of the same interval behind the one at a place, among those that were not released
+abbrev pub next_unreleased : ℕ → List Held → Option Place
+next_unreleased place [] = None
+next_unreleased place (h ∷ hs) = cond (is_at place h) (first_place (filter (is_unreleased_of h.item.name.interval) hs)) (next_unreleased place hs)
 
 -- the packet at a place is changed
 abbrev pub changed : ℕ → (Item → Item) → List Held → List Held

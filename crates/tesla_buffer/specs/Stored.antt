@@ -9,7 +9,7 @@ use Rattle.tesla_links.specs.Lists.{Distinct, is_in}
 
 -- an item that stands for none
 abbrev pub no_item : Item
-no_item = record { order = 0; name = record { interval = 0; number = 0 }; chains = 0; length = 0; payload = []; tags = []; released = false; taken = false }
+no_item = record { order = 0; name = record { interval = 0; number = 0 }; chains = 0; released = false; taken = false; length = 0; payload = []; tags = [] }
 
 -- the item of a slot
 abbrev pub item_at : List Item → ℕ → Item
@@ -27,10 +27,14 @@ places_of entries = map (λ e. e.place) entries
 abbrev pub key_of_name : Name → ℕ
 key_of_name name = name.interval * 2 ^ 32 + name.number
 
--- each entry has the interval of its packet as its key
+-- an entry has the interval of its packet as its key, and is marked where the packet was released
+abbrev pub IsEntryOf : Item → Entry → Type 0
+IsEntryOf item e = (e.key ≡ item.name.interval) × (e.marked ≡ item.released)
+
+-- each entry is that of its packet
 abbrev pub Keyed : List Item → List Entry → Type 0
 Keyed slots [] = Unit {0}
-Keyed slots (e ∷ es) = (e.key ≡ (item_at slots e.place).name.interval) × Keyed slots es
+Keyed slots (e ∷ es) = IsEntryOf (item_at slots e.place) e × Keyed slots es
 
 -- the name under which a place stands in the table of released packets: that of its packet, where it is held and
 -- was released

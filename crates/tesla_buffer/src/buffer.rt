@@ -3,7 +3,7 @@
 ghost use Rattle.std.specs.Prelude.{◌≡◌, ◌<◌, ◌≤◌, [], ◌∷◌, ◌++◌, ◌&&◌, false, true, not, length, map, IfOk, IfSome, MatchOption};
 ghost use Rattle.std.specs.List.{filter, find, list_any};
 ghost use Rattle.tesla_links.specs.Lists.{Distinct, is_in};
-ghost use Rattle.tesla_buffer.specs.Held.{Held, IsMadeOf, changed, first_place, is_at, is_live, is_of, is_released_as, next_place, settled};
+ghost use Rattle.tesla_buffer.specs.Held.{Held, IsMadeOf, changed, first_place, is_at, is_live, is_of, is_released_as, is_unreleased_at, is_unreleased_of, next_place, next_unreleased, settled};
 
 use crate::parts::{key_of_name, vacant_slot, write_parts};
 use crate::{Fate, Item};
@@ -14,8 +14,8 @@ use tesla_links::{Index, KeyTable};
 
 /// Packets that are held, each at a place that it keeps until it is gone, in the order in which they came.
 ///
-/// The packets of an interval are found by it, and a released packet by its name. No call goes over packets,
-/// whatever is held. A place that was never used is never touched, and the place that became vacant last is the
+/// The packets of an interval are found by it, also those alone that were not released, and a released packet by its
+/// name. No call goes over packets, whatever is held. A place that was never used is never touched, and the place that became vacant last is the
 /// first to be used again.
 #[derive(Drop)]
 pub struct Buffer {
@@ -68,6 +68,7 @@ impl Buffer {
         self.index.append(u64::from(item.name.interval), place);
         if item.released {
             self.released.enter(place, key_of_name(item.name));
+            self.index.mark(place);
         }
         Place(place)
     }
@@ -160,6 +161,39 @@ impl Buffer {
         Some(Place(next))
     }
 
+    /// How many packets of an interval are held that were not released.
+    pub fn unreleased_in(&self, interval: u32) -> u32
+        ensures { result ≡ length (filter (is_unreleased_of interval) self.now.held) }
+    {
+        self.index.count_unmarked(u64::from(interval))
+    }
+
+    /// The place of the first packet of an interval that was not released; `None` exactly where none is held.
+    pub fn first_unreleased(&self, interval: u32) -> Option<Place>
+        ensures place { result ≡ first_place (filter (is_unreleased_of interval) self.now.held) }
+        ensures live { IfSome result (λ p. is_live p.0 self.now.held ≡ true) }
+        ensures unreleased { IfSome result (λ p. list_any (is_unreleased_at p.0) self.now.held ≡ true) }
+    {
+        let Some(place) = self.index.first_unmarked(u64::from(interval)) else {
+            return None;
+        };
+        Some(Place(place))
+    }
+
+    /// The place of the next packet that was not released, of the same interval as the one at a place, which was not
+    /// released either; `None` exactly where that is the last.
+    pub fn next_unreleased(&self, place: Place) -> Option<Place>
+        requires { list_any (is_unreleased_at place.0) self.now.held ≡ true }
+        ensures place { result ≡ next_unreleased place.0 self.now.held }
+        ensures live { IfSome result (λ p. is_live p.0 self.now.held ≡ true) }
+        ensures unreleased { IfSome result (λ p. list_any (is_unreleased_at p.0) self.now.held ≡ true) }
+    {
+        let Some(behind) = self.index.next_unmarked(place.0) else {
+            return None;
+        };
+        Some(Place(behind))
+    }
+
     /// The place of a packet of this name that was released; `None` exactly where none is held. Where there are
     /// several, it is any of them.
     pub fn released_named(&self, name: Name) -> Option<Place>
@@ -182,6 +216,7 @@ impl Buffer {
         item.released = true;
         let name = item.name;
         self.released.enter(place, key_of_name(name));
+        self.index.mark(place);
     }
 
     /// Marks the packet at a place as taken.

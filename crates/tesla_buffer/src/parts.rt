@@ -16,14 +16,14 @@ const EMPTY: Item = Item {
         number: 0,
     },
     chains: 0,
+    released: false,
+    taken: false,
     length: 0,
     payload: [0; 1200],
     tags: [WideTag {
         bytes: [0; 32],
         length: 0,
     }; 8],
-    released: false,
-    taken: false,
 };
 
 /// The number that stands for a name.

@@ -23,11 +23,11 @@ fn item(order: u64, name: Name) -> Item {
         order,
         name,
         chains: 3,
+        released: false,
+        taken: false,
         length: 4,
         payload: [116; 1200],
         tags: [tag; 8],
-        released: false,
-        taken: false,
     }
 }
 
@@ -41,6 +41,21 @@ fn arrivals(alloc: Global, buffer: &Buffer, interval: u32) -> Result<Vec<u64>, F
         };
         arrivals.push(buffer.item(place).order)?;
         next = buffer.next_of(place);
+    }
+    Ok(arrivals)
+}
+
+/// The arrivals of the packets of an interval that were not released, in order, by the calls that lead from one to
+/// the next.
+fn unreleased(alloc: Global, buffer: &Buffer, interval: u32) -> Result<Vec<u64>, Fail> {
+    let mut arrivals = Vec::new(alloc);
+    let mut next = buffer.first_unreleased(interval);
+    for _ in 0..buffer.unreleased_in(interval) {
+        let Some(place) = next else {
+            return Ok(arrivals);
+        };
+        arrivals.push(buffer.item(place).order)?;
+        next = buffer.next_unreleased(place);
     }
     Ok(arrivals)
 }
@@ -196,6 +211,23 @@ fn a_released_packet_is_found_by_its_name_until_it_is_gone(rt: HostRuntime) -> R
     assert!(rt; marks(&buffer, 1) == Some((false, false)));
     assert!(rt; settle(&mut buffer, 4, 0, Fate::Gone));
     assert!(rt; buffer.released_named(name(4, 1)) == None);
+    Ok(())
+}
+
+#[test]
+fn released_packets_are_left_out(rt: HostRuntime) -> Result<(), Fail> {
+    let alloc = rt.alloc();
+    let mut buffer = Buffer::open(alloc, 4)?;
+    for number in 0..3 {
+        hold(&mut buffer, &item(number, name(1, 0)));
+    }
+    let mut released = item(3, name(1, 0));
+    released.released = true;
+    hold(&mut buffer, &released);
+    assert!(rt; unreleased(alloc, &buffer, 1)?.as_slice() == &[0, 1, 2]);
+    assert!(rt; settle(&mut buffer, 1, 1, Fate::Released) && buffer.unreleased_in(1) == 2);
+    assert!(rt; unreleased(alloc, &buffer, 1)?.as_slice() == &[0, 2]);
+    assert!(rt; arrivals(alloc, &buffer, 1)?.as_slice() == &[0, 1, 2, 3]);
     Ok(())
 }
 

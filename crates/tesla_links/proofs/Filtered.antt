@@ -1,5 +1,5 @@
 -- What a test keeps of a list, and what functions make of it, by the elements that it has.
-use Rattle.std.proofs.Common.{◌≡◌, ℕ, zero, suc, ◌<◌, ◌≤◌, Bool, true, false, not, cond, List, [], ◌∷◌, length, map, refl, sym, ap, ◌∙◌, arith, eqb, ⊎_elim}
+use Rattle.std.proofs.Common.{◌≡◌, ℕ, zero, suc, ◌<◌, ◌≤◌, Bool, true, false, not, cond, ◌&&◌, List, [], ◌∷◌, length, map, refl, sym, ap, ◌∙◌, arith, eqb, ⊎_elim}
 use Rattle.std.specs.List.{filter}
 use Rattle.std.proofs.lemmas.Bool.{cases_Bool, cond-false, cond-true, eq-eqb, false_from_ne_true, false≢true, not_from_true, or_left}
 use Rattle.tesla_links.specs.Lists.{Distinct, is_in, without}
@@ -44,6 +44,16 @@ filter-filter f g (x ∷ xs) =
     ∙ sym (ap (filter g) (cond-false (f x) (x ∷ filter f xs) (filter f xs) e)))
     (cases_Bool (g x)))
     (cases_Bool (f x))
+
+-- two tests, one after the other, keep what passes both
+pub filter_both : {X : Type 0} (f g : X → Bool) (xs : List X) → filter g (filter f xs) ≡ filter (λ x. f x && g x) xs
+filter_both f g [] = refl
+filter_both f g (x ∷ xs) =
+    let both = filter (λ y. f y && g y) xs in
+    elim (f x) as (λ b. filter g (cond b (x ∷ filter f xs) (filter f xs)) ≡ cond (b && g x) (x ∷ both) both) [
+      | true ↦ ap (λ ys. cond (g x) (x ∷ ys) ys) (filter_both f g xs)
+      | false ↦ filter_both f g xs
+    ]
 
 -- a test of what a function makes
 pub filter-map : {X Y : Type 0} (q : Y → Bool) (h : X → Y) (xs : List X) → filter q (map h xs) ≡ map h (filter (λ x. q (h x)) xs)

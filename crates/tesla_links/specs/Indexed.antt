@@ -1,6 +1,6 @@
 -- How an index is kept: the places in the order in which they came, and for each key in use a group, which is the
--- list of the places under it.
-use Rattle.std.specs.Prelude.{◌≡◌, ℕ, ◌==◌, ◌<◌, ◌≤◌, true, List, length, map, get_or, Option, None, Some}
+-- list of the places under it. The marked places stand in a list of their own, the others in the list of their group.
+use Rattle.std.specs.Prelude.{◌≡◌, ℕ, ◌==◌, ◌+◌, ◌<◌, ◌≤◌, Bool, true, not, List, length, map, get_or, Option, None, Some}
 use Rattle.std.specs.List.{filter}
 use Rattle.std.specs.Option.{unwrap_or}
 use Rattle.tesla_links.specs.Entries.{Entry}
@@ -10,13 +10,17 @@ use Rattle.tesla_links.specs.Lists.{Distinct, Lists, is_in, list_of}
 abbrev pub group_of : List ℕ → ℕ → ℕ
 group_of groups place = get_or groups place 0
 
+-- whether a place is marked, by the list behind those of the groups
+abbrev pub is_marked : ℕ → Lists → ℕ → Bool
+is_marked capacity unmarked place = is_in place (list_of unmarked capacity)
+
 -- the entry of a place, whose key is that of its group
-abbrev pub entry_of : List (Option ℕ) → List ℕ → ℕ → Entry
-entry_of keys groups place = record { key = unwrap_or (get_or keys (group_of groups place) None) 0; place = place }
+abbrev pub entry_of : List (Option ℕ) → List ℕ → (ℕ → Bool) → ℕ → Entry
+entry_of keys groups marks place = record { key = unwrap_or (get_or keys (group_of groups place) None) 0; place = place; marked = marks place }
 
 -- the entries, read off the places
-unfoldable pub entries_of : Lists → List (Option ℕ) → List ℕ → List Entry
-entries_of order keys groups = map (entry_of keys groups) (list_of order 0)
+unfoldable pub entries_of : Lists → List (Option ℕ) → List ℕ → (ℕ → Bool) → List Entry
+entries_of order keys groups marks = map (entry_of keys groups marks) (list_of order 0)
 
 -- each group in use has the places under its key, and no two have one key
 pub record IsIndexed (capacity : ℕ) (order members : Lists) (groups : List ℕ) (keys : List (Option ℕ)) : Type 0 where
@@ -34,3 +38,10 @@ pub record IsIndexed (capacity : ℕ) (order members : Lists) (groups : List ℕ
   pub live : (p : ℕ) → is_in p (list_of order 0) ≡ true → (key : ℕ) × (get_or keys (group_of groups p) None ≡ Some key)
   pub used : (g key : ℕ) → get_or keys g None ≡ Some key → (p : ℕ) × (is_in p (list_of order 0) ≡ true) × (group_of groups p ≡ g)
   pub unique : (g h key : ℕ) → get_or keys g None ≡ Some key → get_or keys h None ≡ Some key → g ≡ h
+
+-- the list of each group has its unmarked places, and the one behind them has only places that are listed
+pub record IsMarked (capacity : ℕ) (order members unmarked : Lists) : Type 0 where
+  pub places : unmarked.places ≡ capacity
+  pub lists : length unmarked.lists ≡ capacity + 1
+  pub open_places : (g : ℕ) → g < capacity → list_of unmarked g ≡ filter (λ p. not (is_marked capacity unmarked p)) (list_of members g)
+  pub marked : (p : ℕ) → is_marked capacity unmarked p ≡ true → is_in p (list_of order 0) ≡ true

@@ -2,7 +2,7 @@
 
 ghost use Rattle.std.specs.Prelude.{◌≡◌, ◌+◌, ◌<◌, ◌≤◌, ◌⊎◌, [], ◌∷◌, ◌++◌, false, true, not, length, replicate, slice_get, slice_set, IfOk};
 ghost use Rattle.std.specs.List.{filter, list_any};
-ghost use Rattle.tesla_links.specs.Entries.{first_place, is_at, is_under, next_place};
+ghost use Rattle.tesla_links.specs.Entries.{first_place, is_at, is_under, is_unmarked_at, is_unmarked_under, marked_at, next_place, next_unmarked};
 ghost use Rattle.tesla_links.specs.Slots.{has_key, is_vacant};
 
 use crate::{KeyTable, Links};
@@ -11,7 +11,8 @@ use std::marker::Model;
 use tesla_base::NoMemory;
 
 /// Entries of a key and a place, in the order in which they came. A place has one entry at most; a key may have
-/// many. The entries of a key are found by it, and each leads to the next.
+/// many. The entries of a key are found by it, and each leads to the next. An entry may be marked; the unmarked ones
+/// of a key are found in the same way, and marked ones are not passed on the way.
 ///
 /// The places of a key in use are a group, found by a hash table of as many places as there may be entries. So no
 /// call goes over entries, be they of the same key or of others.
@@ -20,19 +21,21 @@ pub struct Index {
     capacity: u32,
     order: Links,
     members: Links,
+    /// For each group its unmarked places, and behind these lists one of the marked places of all groups.
+    unmarked: Links,
     groups: Vec<u32>,
     keys: KeyTable,
 }
 
 impl Model for Index {
     ghost use Rattle.tesla_links.specs.Entries.{Entries};
-    ghost use Rattle.tesla_links.specs.Indexed.{IsIndexed, entries_of};
+    ghost use Rattle.tesla_links.specs.Indexed.{IsIndexed, IsMarked, entries_of, is_marked};
 
     ghost Value = { Entries };
 
-    ghost view = { λ t. record { capacity = t.capacity; entries = entries_of t.order t.keys t.groups.items } };
+    ghost view = { λ t. record { capacity = t.capacity; entries = entries_of t.order t.keys t.groups.items (is_marked t.capacity t.unmarked) } };
 
-    ghost invariant = { λ t. IsIndexed t.capacity t.order t.members t.groups.items t.keys };
+    ghost invariant = { λ t. IsIndexed t.capacity t.order t.members t.groups.items t.keys × IsMarked t.capacity t.order t.members t.unmarked };
 }
 
 /// The group of a key, which is a vacant one where the key has none yet.
@@ -62,23 +65,34 @@ impl Index {
             capacity,
             order: Links::open(alloc, 1, capacity)?,
             members: Links::open(alloc, capacity, capacity)?,
+            unmarked: Links::open(alloc, capacity + 1, capacity)?,
             groups: vec![in alloc; 0; capacity as usize]?,
             keys: KeyTable::open(alloc, capacity)?,
         })
     }
 
-    /// Puts an entry behind the others.
+    /// Puts an entry behind the others. It is not marked.
     pub fn append(&mut self, key: u64, place: u32)
         requires room { length self.old.entries < self.old.capacity }
         requires place { place < self.old.capacity }
         requires absent { list_any (is_at place) self.old.entries ≡ false }
         ensures capacity { self.new.capacity ≡ self.old.capacity }
-        ensures entries { self.new.entries ≡ self.old.entries ++ record { key = key; place = place } ∷ [] }
+        ensures entries { self.new.entries ≡ self.old.entries ++ record { key = key; place = place; marked = false } ∷ [] }
     {
         let group = enter_group(&mut self.keys, key);
         self.groups[place as usize] = group;
         self.members.append(group, place);
         self.order.append(0, place);
+        self.unmarked.append(group, place);
+    }
+
+    /// Marks the entry of a place; the others stay as they are. One that is marked stays so.
+    pub fn mark(&mut self, place: u32)
+        requires { list_any (is_at place) self.old.entries ≡ true }
+        ensures capacity { self.new.capacity ≡ self.old.capacity }
+        ensures entries { self.new.entries ≡ marked_at place self.old.entries }
+    {
+        self.unmarked.transfer(self.capacity, place);
     }
 
     /// Removes the entry of a place; the others stay in order.
@@ -90,6 +104,7 @@ impl Index {
         let group = self.groups[place as usize];
         self.members.remove(place);
         self.order.remove(place);
+        self.unmarked.remove(place);
         if self.members.count(group) == 0 {
             self.keys.clear(group);
         }
@@ -120,6 +135,36 @@ impl Index {
     {
         match self.keys.find(key) {
             Some(group) => self.members.count(group),
+            None => 0,
+        }
+    }
+
+    /// The place of the first unmarked entry with a key; `None` exactly where there is none.
+    pub fn first_unmarked(&self, key: u64) -> Option<u32>
+        ensures { result ≡ first_place (filter (is_unmarked_under key) self.now.entries) }
+    {
+        let Some(group) = self.keys.find(key) else {
+            return None;
+        };
+        self.unmarked.first(group)
+    }
+
+    /// The place of the next unmarked entry with the same key as that of a place, which is unmarked; `None` exactly
+    /// where there is none.
+    pub fn next_unmarked(&self, place: u32) -> Option<u32>
+        requires { list_any (is_unmarked_at place) self.now.entries ≡ true }
+        ensures { result ≡ next_unmarked place self.now.entries }
+    {
+        let group = self.groups[place as usize];
+        self.unmarked.next(group, place)
+    }
+
+    /// How many entries have a key and are not marked.
+    pub fn count_unmarked(&self, key: u64) -> u32
+        ensures { result ≡ length (filter (is_unmarked_under key) self.now.entries) }
+    {
+        match self.keys.find(key) {
+            Some(group) => self.unmarked.count(group),
             None => 0,
         }
     }

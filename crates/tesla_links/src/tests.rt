@@ -37,3 +37,22 @@ fn entries_of_a_key_are_in_order(rt: HostRuntime) -> Result<(), Fail> {
     assert!(rt; index.first(7) == Some(0));
     Ok(())
 }
+
+#[test]
+fn marked_entries_are_left_out(rt: HostRuntime) -> Result<(), Fail> {
+    let mut index = Index::open(rt.alloc(), 3)?;
+    index.append(7, 2);
+    index.append(7, 0);
+    index.append(7, 1);
+    assert!(rt; index.first_unmarked(7) == Some(2) && index.next_unmarked(2) == Some(0));
+    index.mark(0);
+    index.mark(0);
+    assert!(rt; index.next_unmarked(2) == Some(1) && index.next(2) == Some(0));
+    assert!(rt;
+        index.count_unmarked(7) == 2 && index.count(7) == 3 && index.count_unmarked(5) == 0
+    );
+    index.remove(0);
+    index.append(7, 0);
+    assert!(rt; index.next_unmarked(1) == Some(0) && index.next_unmarked(0) == None);
+    Ok(())
+}

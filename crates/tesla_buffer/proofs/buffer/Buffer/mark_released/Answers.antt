@@ -1,12 +1,12 @@
-use Rattle.std.proofs.Common.{◌≡◌, length, get_or, true, arith, ◌∙◌, sym, ap, Some, None}
+use Rattle.std.proofs.Common.{◌≡◌, ℕ, length, get_or, true, arith, refl, ◌∙◌, sym, ap, Some, None}
 use Rattle.tesla_buffer.specs.Stored.{item_at, no_item, places_of}
 use Rattle.tesla_links.specs.Lists.{is_in}
 use Rattle.std.proofs.Math.ListN.{set}
 use Rattle.std.proofs.lemmas.List.{get_or-set_other, get_or-set_same, get_or_read, length-set}
 use Rattle.tesla_buffer.specs.Held.{changed}
 use Rattle.tesla_buffer.specs.declared.item.Item.{Item}
-use Rattle.tesla_buffer.proofs.Stored.{stored_marked, seen_held, seen_live}
-use Rattle.tesla_buffer.proofs.Places.{held_changed}
+use Rattle.tesla_buffer.proofs.Stored.{keyed_released, stored_marked, seen_held, seen_live}
+use Rattle.tesla_buffer.proofs.Places.{entry_is, held_changed, held_same_places, marked_places}
 use Rattle.tesla_buffer.proofs.buffer.Buffer.mark_released.Goals as goal
 
 pub index_mut-item-requires : goal.index_mut-item-requires
@@ -23,6 +23,11 @@ enter-requires c =
     let live : is_in c.args.place (places_of i.index.entries) ≡ true = sym (seen_live i.capacity i.slots.items i.index c.args.self.now c.self.view_is c.args.place) ∙ c.requires in
     omega (arith, h.live c.args.place live, h.slots_within, h.names)
 
+pub mark-requires : goal.mark-requires
+mark-requires c =
+    let i = c.self.inside in
+    entry_is c.args.place i.index.entries ∙ sym (seen_live i.capacity i.slots.items i.index c.args.self.now c.self.view_is c.args.place) ∙ c.requires
+
 pub invariant_of-self : goal.invariant_of-self
 invariant_of-self c =
     let i = c.self.inside in
@@ -32,9 +37,14 @@ invariant_of-self c =
     let r = c.index_mut-item.result.now in
     let read : r ≡ item_at i.slots.items c.args.place = get_or_read i.slots.items c.args.place r within c.index_mut-item.ensures.value no_item in
     let it : Item = record r { released = true } in
-    let key = c.key_of_name.result in (
-      stored_marked i.capacity i.slots.items (set i.slots.items c.args.place it) i.free.items i.index i.released c.enter.new.self c.args.place it h live
-          (length-set i.slots.items c.args.place it) (get_or-set_same i.slots.items c.args.place it no_item within) (λ q ne. get_or-set_other i.slots.items c.args.place q it no_item ne) (ap (λ (x : Item). x.name) read)
+    let key = c.key_of_name.result in
+    let size = length-set i.slots.items c.args.place it in
+    let here = get_or-set_same i.slots.items c.args.place it no_item within in
+    let others = λ (q : ℕ) (ne : q ≡ c.args.place → ⊥). get_or-set_other i.slots.items c.args.place q it no_item ne in
+    let name = ap (λ (x : Item). x.name) read in (
+      stored_marked i.capacity i.slots.items (set i.slots.items c.args.place it) i.free.items i.index c.mark.new.self i.released c.enter.new.self c.args.place it h live size here others name
+          (ap places_of c.mark.ensures.entries ∙ marked_places c.args.place i.index.entries) c.mark.ensures.capacity
+          (keyed_released i.capacity i.slots.items (set i.slots.items c.args.place it) i.free.items i.index c.mark.new.self i.released c.enter.new.self c.args.place it h live size here others name refl c.mark.ensures.entries)
           (λ _. c.key_of_name.ensures.number) (ap length c.enter.ensures ∙ length-set i.released c.args.place (Some key))
           (ap (λ ks. get_or ks c.args.place None) c.enter.ensures ∙ get_or-set_same i.released c.args.place (Some key) None (omega (arith, within, h.slots_within, h.names)) ∙ ap Some c.key_of_name.ensures.value)
           (λ q ne. ap (λ ks. get_or ks q None) c.enter.ensures ∙ get_or-set_other i.released c.args.place q (Some key) None ne),
@@ -52,6 +62,7 @@ returns-clause-held c =
     let read : r ≡ item_at i.slots.items c.args.place = get_or_read i.slots.items c.args.place r within c.index_mut-item.ensures.value no_item in
     let it : Item = record r { released = true } in
     let change = λ (x : Item). record x { released = true } in
-    held_changed i.slots.items (set i.slots.items c.args.place it) c.args.place change i.index.entries
+    held_same_places (set i.slots.items c.args.place it) i.index.entries c.mark.new.self.entries (ap places_of c.mark.ensures.entries ∙ marked_places c.args.place i.index.entries)
+    ∙ held_changed i.slots.items (set i.slots.items c.args.place it) c.args.place change i.index.entries
     (get_or-set_same i.slots.items c.args.place it no_item within ∙ ap change read) (λ q ne. get_or-set_other i.slots.items c.args.place q it no_item ne)
     ∙ ap (changed c.args.place change) (seen_held i.capacity i.slots.items i.index c.args.self.now c.self.view_is)

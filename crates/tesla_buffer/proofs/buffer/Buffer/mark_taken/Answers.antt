@@ -1,4 +1,4 @@
-use Rattle.std.proofs.Common.{◌≡◌, ◌^◌, ◌<◌, true, cond, arith, ◌∙◌, sym, ap, subst, refl, Some, None}
+use Rattle.std.proofs.Common.{◌≡◌, ℕ, ◌^◌, ◌<◌, true, cond, arith, ◌∙◌, sym, ap, subst, refl, Some, None}
 use Rattle.tesla_buffer.specs.Stored.{item_at, no_item, places_of}
 use Rattle.tesla_links.specs.Lists.{is_in}
 use Rattle.std.proofs.Math.ListN.{set}
@@ -6,7 +6,7 @@ use Rattle.std.proofs.lemmas.List.{get_or-set_other, get_or-set_same, get_or_rea
 use Rattle.tesla_buffer.specs.Held.{changed}
 use Rattle.tesla_buffer.specs.Stored.{key_of_name}
 use Rattle.tesla_buffer.specs.declared.item.Item.{Item}
-use Rattle.tesla_buffer.proofs.Stored.{stored_marked, named_live, seen_held, seen_live}
+use Rattle.tesla_buffer.proofs.Stored.{keyed_same, stored_marked, named_live, seen_held, seen_live}
 use Rattle.tesla_buffer.proofs.Places.{held_changed}
 use Rattle.tesla_buffer.proofs.buffer.Buffer.mark_taken.Goals as goal
 
@@ -25,9 +25,13 @@ invariant_of-self c =
     let within = h.live c.args.place live in
     let r = c.index_mut.result.now in
     let read : r ≡ item_at i.slots.items c.args.place = get_or_read i.slots.items c.args.place r within c.index_mut.ensures.value no_item in
-    let it : Item = record r { taken = true } in (
-      stored_marked i.capacity i.slots.items (set i.slots.items c.args.place it) i.free.items i.index i.released i.released c.args.place it h live
-          (length-set i.slots.items c.args.place it) (get_or-set_same i.slots.items c.args.place it no_item within) (λ q ne. get_or-set_other i.slots.items c.args.place q it no_item ne) (ap (λ (x : Item). x.name) read)
+    let it : Item = record r { taken = true } in
+    let size = length-set i.slots.items c.args.place it in
+    let here = get_or-set_same i.slots.items c.args.place it no_item within in
+    let others = λ (q : ℕ) (ne : q ≡ c.args.place → ⊥). get_or-set_other i.slots.items c.args.place q it no_item ne in
+    let name = ap (λ (x : Item). x.name) read in (
+      stored_marked i.capacity i.slots.items (set i.slots.items c.args.place it) i.free.items i.index i.index i.released i.released c.args.place it h live size here others name refl refl
+          (keyed_same i.capacity i.slots.items (set i.slots.items c.args.place it) i.free.items i.index i.index i.released i.released c.args.place it h live size here others name (ap (λ (x : Item). x.released) read))
           (λ e. subst (λ (x : Item). x.released ≡ true → x.name.number < 2 ^ 16) (sym read) (h.small c.args.place) e) refl
           (named_live i.capacity i.slots.items i.free.items i.index i.released c.args.place h live ∙ ap (λ (x : Item). cond x.released (Some (key_of_name x.name)) None) (sym read)) (λ q ne. refl),
       c.self.invariant.1,

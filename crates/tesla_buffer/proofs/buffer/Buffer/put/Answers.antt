@@ -1,11 +1,13 @@
-use Rattle.std.proofs.Common.{◌≡◌, ℕ, ◌<◌, [], ◌∷◌, ◌++◌, length, get_or, arith, ◌∙◌, sym, ap, refl, Some, None}
+use Rattle.std.proofs.Common.{◌≡◌, ℕ, ◌<◌, false, [], ◌∷◌, ◌++◌, length, get_or, arith, ◌∙◌, sym, ap, refl, Some, None}
+use Rattle.std.specs.List.{list_any}
 use Rattle.std.proofs.Math.ListN.{set}
 use Rattle.std.proofs.lemmas.Bool.{cond-false, cond-true, false≢true}
 use Rattle.std.proofs.lemmas.List.{get_or-set_other, get_or-set_same, length-set}
 use Rattle.tesla_buffer.specs.Stored.{key_of_name, no_item}
 use Rattle.tesla_buffer.specs.declared.parts.TheConstants.{EMPTY}
 use Rattle.tesla_buffer.proofs.Stored.{chosen, held_put, stored_put, seen_capacity, seen_held, seen_length, seen_live, unnamed_vacant}
-use Rattle.tesla_buffer.proofs.Places.{entry_is}
+use Rattle.tesla_buffer.proofs.Places.{entry_is, marked_pushed, pushed_there}
+use Rattle.tesla_links.specs.Entries.{is_at as entry_at, marked_at}
 use Rattle.tesla_buffer.proofs.buffer.Buffer.put.Goals as goal
 
 pub index_mut-requires : goal.index_mut-requires
@@ -30,6 +32,12 @@ append-requires-clause-absent c =
     let v = chosen i.capacity i.slots.items slots i.free.items free i.index i.released p EMPTY h c.vacant_slot-place.ensures.slot refl room in
     entry_is p i.index.entries ∙ v.absent
 
+pub mark-requires : goal.mark-requires
+mark-requires c =
+    let i = c.self.inside in
+    let p = c.vacant_slot-place.result in
+    ap (list_any (entry_at p)) c.append.ensures.entries ∙ pushed_there c.from.result p false i.index.entries
+
 pub invariant_of-self : goal.invariant_of-self
 invariant_of-self c =
     let i = c.self.inside in
@@ -44,8 +52,8 @@ invariant_of-self c =
     let here = get_or-set_same slots p it no_item v.inside in
     let others = λ (q : ℕ) (ne : q ≡ p → ⊥). get_or-set_other slots p q it no_item ne in
     let key = c.key_of_name.result in (
-      stored_put i.capacity i.slots.items slots now i.free.items free i.index c.append.new.self i.released c.enter.new.self p it h v (length-set slots p it) here others (c.append.ensures.entries ∙ ap (λ k. i.index.entries ++ record { key = k; place = p } ∷ []) c.from.ensures)
-          c.append.ensures.capacity (λ _. c.key_of_name.ensures.number) (ap length c.enter.ensures ∙ length-set i.released p (Some key))
+      stored_put i.capacity i.slots.items slots now i.free.items free i.index c.mark.new.self i.released c.enter.new.self p it h v (length-set slots p it) here others (c.mark.ensures.entries ∙ ap (marked_at p) (c.append.ensures.entries ∙ ap (λ k. i.index.entries ++ record { key = k; place = p; marked = false } ∷ []) c.from.ensures) ∙ marked_pushed it.name.interval p i.index.entries v.absent ∙ ap (λ b. i.index.entries ++ record { key = it.name.interval; place = p; marked = b } ∷ []) (sym c.if-item.true))
+          (c.mark.ensures.capacity ∙ c.append.ensures.capacity) (λ _. c.key_of_name.ensures.number) (ap length c.enter.ensures ∙ length-set i.released p (Some key))
           (ap (λ ks. get_or ks p None) c.enter.ensures ∙ get_or-set_same i.released p (Some key) None (omega (arith, v.inside, v.most, h.names)) ∙ ap Some c.key_of_name.ensures.value
           ∙ sym (cond-true it.released (Some (key_of_name it.name)) None c.if-item.true))
           (λ q ne. ap (λ ks. get_or ks q None) c.enter.ensures ∙ get_or-set_other i.released p q (Some key) None ne),
@@ -66,7 +74,7 @@ invariant_of-self-else-item c =
     let now = set slots p it in
     let here = get_or-set_same slots p it no_item v.inside in
     let others = λ (q : ℕ) (ne : q ≡ p → ⊥). get_or-set_other slots p q it no_item ne in (
-      stored_put i.capacity i.slots.items slots now i.free.items free i.index c.append.new.self i.released i.released p it h v (length-set slots p it) here others (c.append.ensures.entries ∙ ap (λ k. i.index.entries ++ record { key = k; place = p } ∷ []) c.from.ensures)
+      stored_put i.capacity i.slots.items slots now i.free.items free i.index c.append.new.self i.released i.released p it h v (length-set slots p it) here others (c.append.ensures.entries ∙ ap (λ k. i.index.entries ++ record { key = k; place = p; marked = false } ∷ []) c.from.ensures ∙ ap (λ b. i.index.entries ++ record { key = it.name.interval; place = p; marked = b } ∷ []) (sym c.if-item.false))
           c.append.ensures.capacity (λ e. absurd (false≢true (sym c.if-item.false ∙ e))) refl
           (unnamed_vacant i.capacity i.slots.items i.free.items i.index i.released p h v.absent ∙ sym (cond-false it.released (Some (key_of_name it.name)) None c.if-item.false))
           (λ q ne. refl),
@@ -87,7 +95,7 @@ returns-then-item-clause-held c =
     let now = set slots p it in
     let here = get_or-set_same slots p it no_item v.inside in
     let others = λ (q : ℕ) (ne : q ≡ p → ⊥). get_or-set_other slots p q it no_item ne in
-    held_put i.capacity i.slots.items slots now i.free.items free i.index c.append.new.self i.released i.released p it h v (length-set slots p it) here others (c.append.ensures.entries ∙ ap (λ k. i.index.entries ++ record { key = k; place = p } ∷ []) c.from.ensures) ∙ ap (λ hs. hs ++ record { place = p; item = it } ∷ []) (seen_held i.capacity i.slots.items i.index c.args.self.now c.self.view_is)
+    held_put i.capacity i.slots.items slots now i.free.items free i.index c.mark.new.self i.released i.released p it h v (length-set slots p it) here others (c.mark.ensures.entries ∙ ap (marked_at p) (c.append.ensures.entries ∙ ap (λ k. i.index.entries ++ record { key = k; place = p; marked = false } ∷ []) c.from.ensures) ∙ marked_pushed it.name.interval p i.index.entries v.absent ∙ ap (λ b. i.index.entries ++ record { key = it.name.interval; place = p; marked = b } ∷ []) (sym c.if-item.true)) ∙ ap (λ hs. hs ++ record { place = p; item = it } ∷ []) (seen_held i.capacity i.slots.items i.index c.args.self.now c.self.view_is)
 
 pub returns-then-item-clause-vacant : goal.returns-then-item-clause-vacant
 returns-then-item-clause-vacant c =
@@ -113,7 +121,7 @@ returns-else-item-clause-held c =
     let now = set slots p it in
     let here = get_or-set_same slots p it no_item v.inside in
     let others = λ (q : ℕ) (ne : q ≡ p → ⊥). get_or-set_other slots p q it no_item ne in
-    held_put i.capacity i.slots.items slots now i.free.items free i.index c.append.new.self i.released i.released p it h v (length-set slots p it) here others (c.append.ensures.entries ∙ ap (λ k. i.index.entries ++ record { key = k; place = p } ∷ []) c.from.ensures) ∙ ap (λ hs. hs ++ record { place = p; item = it } ∷ []) (seen_held i.capacity i.slots.items i.index c.args.self.now c.self.view_is)
+    held_put i.capacity i.slots.items slots now i.free.items free i.index c.append.new.self i.released i.released p it h v (length-set slots p it) here others (c.append.ensures.entries ∙ ap (λ k. i.index.entries ++ record { key = k; place = p; marked = false } ∷ []) c.from.ensures ∙ ap (λ b. i.index.entries ++ record { key = it.name.interval; place = p; marked = b } ∷ []) (sym c.if-item.false)) ∙ ap (λ hs. hs ++ record { place = p; item = it } ∷ []) (seen_held i.capacity i.slots.items i.index c.args.self.now c.self.view_is)
 
 pub returns-else-item-clause-vacant : goal.returns-else-item-clause-vacant
 returns-else-item-clause-vacant c =

@@ -1,4 +1,4 @@
-use Rattle.std.proofs.Common.{◌≡◌, ℕ, ◌<◌, [], ◌∷◌, ◌++◌, length, arith, ◌∙◌, sym, ap, refl, Some, None}
+use Rattle.std.proofs.Common.{◌≡◌, ℕ, ◌<◌, false, [], ◌∷◌, ◌++◌, length, arith, ◌∙◌, sym, ap, refl, Some, None}
 use Rattle.std.proofs.Math.ListN.{set}
 use Rattle.std.proofs.lemmas.Bool.{cond-false, false≢true}
 use Rattle.std.proofs.lemmas.List.{get_or-set_other, get_or-set_same, length-set}
@@ -44,7 +44,7 @@ invariant_of-self c =
     let now = set slots p it in
     let here = get_or-set_same slots p it no_item v.inside in
     let others = λ (q : ℕ) (ne : q ≡ p → ⊥). get_or-set_other slots p q it no_item ne in (
-      stored_put i.capacity i.slots.items slots now i.free.items free i.index c.append.new.self i.released i.released p it h v (length-set slots p it) here others (c.append.ensures.entries ∙ ap (λ k. i.index.entries ++ record { key = k; place = p } ∷ []) (c.from.ensures ∙ ap (λ (n : Name). n.interval) (sym c.write_parts.ensures.name)))
+      stored_put i.capacity i.slots.items slots now i.free.items free i.index c.append.new.self i.released i.released p it h v (length-set slots p it) here others (c.append.ensures.entries ∙ ap (λ k. i.index.entries ++ record { key = k; place = p; marked = false } ∷ []) (c.from.ensures ∙ ap (λ (n : Name). n.interval) (sym c.write_parts.ensures.name)) ∙ ap (λ b. i.index.entries ++ record { key = it.name.interval; place = p; marked = b } ∷ []) (sym c.write_parts.ensures.released))
           c.append.ensures.capacity (λ e. absurd (false≢true (sym c.write_parts.ensures.released ∙ e))) refl
           (unnamed_vacant i.capacity i.slots.items i.free.items i.index i.released p h v.absent ∙ sym (cond-false it.released (Some (key_of_name it.name)) None c.write_parts.ensures.released))
           (λ q ne. refl),
@@ -65,7 +65,7 @@ returns-clause-held c =
     let now = set slots p it in
     let here = get_or-set_same slots p it no_item v.inside in
     let others = λ (q : ℕ) (ne : q ≡ p → ⊥). get_or-set_other slots p q it no_item ne in
-    (it, c.write_parts.ensures, held_put i.capacity i.slots.items slots now i.free.items free i.index c.append.new.self i.released i.released p it h v (length-set slots p it) here others (c.append.ensures.entries ∙ ap (λ k. i.index.entries ++ record { key = k; place = p } ∷ []) (c.from.ensures ∙ ap (λ (n : Name). n.interval) (sym c.write_parts.ensures.name))) ∙ ap (λ hs. hs ++ record { place = p; item = it } ∷ []) (seen_held i.capacity i.slots.items i.index c.args.self.now c.self.view_is))
+    (it, c.write_parts.ensures, held_put i.capacity i.slots.items slots now i.free.items free i.index c.append.new.self i.released i.released p it h v (length-set slots p it) here others (c.append.ensures.entries ∙ ap (λ k. i.index.entries ++ record { key = k; place = p; marked = false } ∷ []) (c.from.ensures ∙ ap (λ (n : Name). n.interval) (sym c.write_parts.ensures.name)) ∙ ap (λ b. i.index.entries ++ record { key = it.name.interval; place = p; marked = b } ∷ []) (sym c.write_parts.ensures.released)) ∙ ap (λ hs. hs ++ record { place = p; item = it } ∷ []) (seen_held i.capacity i.slots.items i.index c.args.self.now c.self.view_is))
 
 pub returns-clause-vacant : goal.returns-clause-vacant
 returns-clause-vacant c =
