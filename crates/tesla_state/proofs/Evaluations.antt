@@ -1,5 +1,5 @@
 -- What an arrival takes in evaluations of HMAC: packet by packet, and by what a receiver keeps.
-use Rattle.std.proofs.Common.{◌≡◌, ℕ, suc, ◌+◌, ◌-◌, ◌*◌, ◌≤◌, Bool, true, false, cond, ◌||◌, ◌==◌, List, [], ◌∷◌, map, take, drop, Option, Some, None, refl, sym, ap, subst, ⊎_elim, ◌∙◌, arith, zero-add}
+use Rattle.std.proofs.Common.{◌≡◌, ℕ, suc, ◌+◌, ◌-◌, ◌*◌, ◌≤◌, Bool, true, false, cond, ◌&&◌, ◌||◌, ◌==◌, List, [], ◌∷◌, map, take, drop, Option, Some, None, refl, sym, ap, subst, ⊎_elim, ◌∙◌, arith, zero-add}
 use Rattle.std.specs.List.{filter, sum_by}
 use Rattle.std.specs.Prelude.{not, find, is_some, nat_lt, option_map}
 use Rattle.std.proofs.lemmas.Bool.{cases_Bool, ltb-false}
@@ -21,8 +21,8 @@ use Rattle.tesla_fitting.specs.Rows.{keys_of}
 use Rattle.tesla_state.specs.Offered.{HaveBegun, gap_of, gaps}
 use Rattle.tesla_state.specs.State.{Holding, State}
 use Rattle.tesla_state.specs.Steps.{bound_at, fails, in_interval, is_newer, new_rows, refused, tip_at}
-use Rattle.tesla_state.specs.Stored.{Placed, place_of, holding_at, stands_at, is_of}
-use Rattle.tesla_state.specs.Walking.{Walking, rows_of, left, tries, pairs}
+use Rattle.tesla_state.specs.Stored.{Placed, place_of, holding_at, stands_at, is_of, is_unreleased_of}
+use Rattle.tesla_state.specs.Walking.{Walking, rows_of, left, tried, tries, pairs}
 use Rattle.tesla_state.proofs.Marked.{filter_mapped}
 use Rattle.tesla_state.proofs.Sweeping.{comes}
 use Rattle.tesla_state.proofs.TriedIntervals.{Trying, take_all, take_next}
@@ -43,23 +43,39 @@ sum_next number n xs x rest h =
 steps_more : (start now after sum here next : ℕ) → now ≤ start + 2 * sum → after ≤ now + 2 * here → next ≡ sum + here → after ≤ start + 2 * next
 steps_more start now after sum here next h k e = omega arith
 
+released_none : (b : Bool) (n : ℕ) → b ≡ true → cond b 0 n ≡ 0
+released_none true n e = refl
+released_none false n e = absurd (cc)
+
+sum_step : (number : Holding → ℕ) (x : Placed) (a r : Bool) (unreleased all : List Placed) → (r ≡ true → number x.holding ≡ 0) → sum_by number (map holding_at unreleased) ≡ sum_by number (map holding_at all)
+    → sum_by number (map holding_at (cond (a && not r) (x ∷ unreleased) unreleased)) ≡ sum_by number (map holding_at (cond a (x ∷ all) all))
+sum_step number x true true unreleased all none h = let nothing = none refl in omega (arith, nothing, h, sum_by-cons number x.holding (map holding_at all))
+sum_step number x true false unreleased all none h = omega (arith, h, sum_by-cons number x.holding (map holding_at unreleased), sum_by-cons number x.holding (map holding_at all))
+sum_step number x false r unreleased all none h = h
+
+-- where a released packet counts for nothing
+sum_unreleased : (number : Holding → ℕ) → ((item : Holding) → item.released ≡ true → number item ≡ 0) → (held : List Placed) (i : ℕ) → sum_by number (map holding_at (filter (is_unreleased_of i) held)) ≡ sum_by number (map holding_at (filter (is_of i) held))
+sum_unreleased number none [] i = refl
+sum_unreleased number none (x ∷ xs) i = sum_step number x (is_of i x) x.holding.released (filter (is_unreleased_of i) xs) (filter (is_of i) xs) (none x.holding) (sum_unreleased number none xs i)
+
 module _ (cfg : Config) (tips : List Tip) (begun : List Walking) (held : List Placed) (i n : ℕ) where
   -- one packet more was tried
   pub tried_cost : (walks later : List Walking) (place : Place) (before batch : List Proved) (start now after : ℕ) → Distinct (map place_of held) → Trying cfg tips begun walks held i n (Some place) before batch
-      → now + left tips walks ≤ start + left tips begun + 2 * pairs cfg tips (rows_of begun) (map holding_at (take n (filter (is_of i) held)))
+      → now + left tips walks ≤ start + left tips begun + 2 * pairs cfg tips (rows_of begun) (map holding_at (take n (filter (is_unreleased_of i) held)))
       → ((x : Placed) → find (stands_at place.0) held ≡ Some x → after + left tips later ≤ now + left tips walks + 2 * tries cfg tips (rows_of walks) x.holding)
-      → after + left tips later ≤ start + left tips begun + 2 * pairs cfg tips (rows_of begun) (map holding_at (take (n + 1) (filter (is_of i) held)))
+      → after + left tips later ≤ start + left tips begun + 2 * pairs cfg tips (rows_of begun) (map holding_at (take (n + 1) (filter (is_unreleased_of i) held)))
   tried_cost walks later place before batch start now after d s so_far cost =
-      let c = comes i n held place d s.next in
+      let c = comes true i n held place d s.next in
       let one = subst (λ (rows : List KeyRow). after + left tips later ≤ now + left tips walks + 2 * tries cfg tips rows c.packet.holding) s.rows (cost c.packet c.found) in
-      steps_more (start + left tips begun) (now + left tips walks) (after + left tips later) (pairs cfg tips (rows_of begun) (map holding_at (take n (filter (is_of i) held)))) (tries cfg tips (rows_of begun) c.packet.holding)
-      (pairs cfg tips (rows_of begun) (map holding_at (take (n + 1) (filter (is_of i) held)))) so_far one
-      (sum_next (tries cfg tips (rows_of begun)) n (filter (is_of i) held) c.packet c.behind c.is)
+      steps_more (start + left tips begun) (now + left tips walks) (after + left tips later) (pairs cfg tips (rows_of begun) (map holding_at (take n (filter (is_unreleased_of i) held)))) (tries cfg tips (rows_of begun) c.packet.holding)
+      (pairs cfg tips (rows_of begun) (map holding_at (take (n + 1) (filter (is_unreleased_of i) held)))) so_far one
+      (sum_next (tries cfg tips (rows_of begun)) n (filter (is_unreleased_of i) held) c.packet c.behind c.is)
 
-  -- all of the interval were tried
-  pub tried_whole : drop n (filter (is_of i) held) ≡ [] → pairs cfg tips (rows_of begun) (map holding_at (take n (filter (is_of i) held))) ≡ pairs cfg tips (rows_of begun) (filter (in_interval i) (map holding_at held))
+  -- all of the interval that aren't released were tried
+  pub tried_whole : drop n (filter (is_unreleased_of i) held) ≡ [] → pairs cfg tips (rows_of begun) (map holding_at (take n (filter (is_unreleased_of i) held))) ≡ pairs cfg tips (rows_of begun) (filter (in_interval i) (map holding_at held))
   tried_whole h =
-      ap (λ xs. pairs cfg tips (rows_of begun) (map holding_at xs)) (take_all n (filter (is_of i) held) h)
+      ap (λ xs. pairs cfg tips (rows_of begun) (map holding_at xs)) (take_all n (filter (is_unreleased_of i) held) h)
+      ∙ sum_unreleased (tries cfg tips (rows_of begun)) (λ item e. released_none item.released (tried cfg tips (rows_of begun) item) e) held i
       ∙ ap (pairs cfg tips (rows_of begun)) (sym (filter_mapped (in_interval i) holding_at held))
 
 -- ---- an arrival

@@ -20,7 +20,7 @@ use Rattle.tesla_state.specs.declared.release.Release.{Release}
 use Rattle.tesla_state.specs.ItemShown.{holding_in, IsItem}
 use Rattle.tesla_fitting.specs.Rows.{IsFilled}
 use Rattle.tesla_state.specs.State.{Holding}
-use Rattle.tesla_state.specs.Stored.{Placed, placed_in, place_of, stands_at, release_by, release_in, waits, waits_at, rests_at, is_sound, is_proved_by, with_released, without, place_in, IsStored, IsStore, IsItemOf, is_of, first_place, next_place}
+use Rattle.tesla_state.specs.Stored.{Placed, placed_in, place_of, stands_at, release_by, release_in, waits, waits_at, rests_at, is_sound, is_proved_by, with_released, without, place_in, IsStored, IsStore, IsItemOf, is_of, first_place, next_place, is_unreleased_at, is_unreleased_of, next_unreleased}
 use Rattle.tesla_state.proofs.Marked.{any_mapped, all_mapped, map_mapped, filter_mapped, find_mapped, any_filtered, find_filtered, all_filtered, any_with_all, any_weaker}
 
 -- ---- places that differ
@@ -402,6 +402,18 @@ next_shown chains p [] = refl
 next_shown chains p (x ∷ xs) =
     ap (λ o. cond (x.place == p) o (next_place p (map (placed_in chains) xs))) (first_shown chains x.item.name.interval xs)
     ∙ ap (λ o. cond (x.place == p) (buffer.first_place (filter (buffer.is_of x.item.name.interval) xs)) o) (next_shown chains p xs)
+
+pub first_unreleased_shown : (chains interval : ℕ) (held : List Held) → first_place (filter (is_unreleased_of interval) (map (placed_in chains) held)) ≡ buffer.first_place (filter (buffer.is_unreleased_of interval) held)
+first_unreleased_shown chains interval held = ap first_place (filter_mapped (is_unreleased_of interval) (placed_in chains) held) ∙ firsts_shown chains (filter (buffer.is_unreleased_of interval) held)
+
+pub next_unreleased_shown : (chains p : ℕ) (held : List Held) → next_unreleased p (map (placed_in chains) held) ≡ buffer.next_unreleased p held
+next_unreleased_shown chains p [] = refl
+next_unreleased_shown chains p (x ∷ xs) =
+    ap (λ o. cond (x.place == p) o (next_unreleased p (map (placed_in chains) xs))) (first_unreleased_shown chains x.item.name.interval xs)
+    ∙ ap (λ o. cond (x.place == p) (buffer.first_place (filter (buffer.is_unreleased_of x.item.name.interval) xs)) o) (next_unreleased_shown chains p xs)
+
+pub any_unreleased_shown : (chains p : ℕ) (held : List Held) → list_any (buffer.is_unreleased_at p) held ≡ list_any (is_unreleased_at p) (map (placed_in chains) held)
+any_unreleased_shown chains p held = sym (any_mapped (is_unreleased_at p) (buffer.is_unreleased_at p) (placed_in chains) (λ y. refl) held)
 
 -- ---- one more
 

@@ -12,14 +12,36 @@ use Rattle.tesla_links.specs.Lists.{is_in, Distinct}
 use Rattle.tesla_fitting.specs.declared.config.Config.{Config}
 use Rattle.tesla_fitting.specs.Config.{chains}
 use Rattle.tesla_state.specs.Gathering.{IsHighest}
+use Rattle.tesla_state.specs.State.{Holding}
 use Rattle.tesla_state.specs.Steps.{is_over, is_passed}
-use Rattle.tesla_state.specs.Stored.{Placed, Stored, place_of, stands_at, waits, without, is_of, first_place, next_place, is_idle, in_span}
+use Rattle.tesla_clock.specs.Safe.{has_chain}
+use Rattle.tesla_base.proofs.Lists.{list_all_weaker}
+use Rattle.tesla_state.proofs.Marked.{any_weaker}
+use Rattle.tesla_state.specs.Stored.{Placed, Stored, place_of, stands_at, waits, without, is_of, is_unreleased_at, is_unreleased_of, rests_at, first_place, next_place, next_unreleased, is_idle, in_span}
+
+-- the packets of an interval, or those of them alone that aren't released
+abbrev pub picks : Bool → ℕ → Placed → Bool
+picks true interval x = is_unreleased_of interval x
+picks false interval x = is_of interval x
+
+-- the next of them
+abbrev pub nexts : Bool → ℕ → List Placed → Option Place
+nexts true place held = next_unreleased place held
+nexts false place held = next_place place held
+
+pub picked_of : (u : Bool) (i : ℕ) (x : Placed) → picks u i x ≡ true → x.holding.name.interval ≡ i
+picked_of true i x e = eqb-true x.holding.name.interval i (and_parts (is_of i x) (not x.holding.released) e).0
+picked_of false i x e = eqb-true x.holding.name.interval i e
+
+nexts_cons : (u : Bool) (place : ℕ) (x : Placed) (xs : List Placed) → nexts u place (x ∷ xs) ≡ cond (stands_at place x) (first_place (filter (picks u x.holding.name.interval) xs)) (nexts u place xs)
+nexts_cons true place x xs = refl
+nexts_cons false place x xs = refl
 
 -- what is held after the first so many packets of an interval were looked at, and let go where they pass a test
-pub swept : ℕ → (Placed → Bool) → ℕ → List Placed → List Placed
-swept i over zero held = held
-swept i over (suc n) [] = []
-swept i over (suc n) (x ∷ xs) = cond (is_of i x) (cond (over x) (swept i over n xs) (x ∷ swept i over n xs)) (x ∷ swept i over (suc n) xs)
+pub swept : Bool → ℕ → (Placed → Bool) → ℕ → List Placed → List Placed
+swept u i over zero held = held
+swept u i over (suc n) [] = []
+swept u i over (suc n) (x ∷ xs) = cond (picks u i x) (cond (over x) (swept u i over n xs) (x ∷ swept u i over n xs)) (x ∷ swept u i over (suc n) xs)
 
 some_first : {A : Type 0} (x y : A) (xs ys : List A) → x ∷ xs ≡ y ∷ ys → x ≡ y
 some_first x y xs ys h = cc
@@ -35,18 +57,19 @@ nothing zero y rest h = cc
 nothing (suc n) y rest h = cc
 
 -- the packet that comes next: it is found, the one behind it, and what stays once it was looked at
-pub record Next (i : ℕ) (over : Placed → Bool) (n : ℕ) (held : List Placed) (y : Placed) (rest : List Placed) : Type 0 where
+pub record Next (u : Bool) (i : ℕ) (over : Placed → Bool) (n : ℕ) (held : List Placed) (y : Placed) (rest : List Placed) : Type 0 where
   pub there : is_in y.place (map place_of held) ≡ true
-  pub of : is_of i y ≡ true
-  pub found : find (stands_at y.place) (swept i over n held) ≡ Some y
-  pub next : next_place y.place (swept i over n held) ≡ first_place rest
-  pub more : swept i over (suc n) held ≡ cond (over y) (without y.place (swept i over n held)) (swept i over n held)
+  pub of : picks u i y ≡ true
+  pub found : find (stands_at y.place) (swept u i over n held) ≡ Some y
+  pub next : nexts u y.place (swept u i over n held) ≡ first_place rest
+  pub more : swept u i over (suc n) held ≡ cond (over y) (without y.place (swept u i over n held)) (swept u i over n held)
 
 found_past : (x y : Placed) (s : List Placed) → (x.place == y.place) ≡ false → find (stands_at y.place) s ≡ Some y → find (stands_at y.place) (x ∷ s) ≡ Some y
 found_past x y s none h = ap (λ t. cond t (Some x) (find (stands_at y.place) s)) none ∙ h
 
-next_past : (x y : Placed) (s rest : List Placed) → (x.place == y.place) ≡ false → next_place y.place s ≡ first_place rest → next_place y.place (x ∷ s) ≡ first_place rest
-next_past x y s rest none h = ap (λ t. cond t (first_place (filter (is_of x.holding.name.interval) s)) (next_place y.place s)) none ∙ h
+next_past : (u : Bool) (x y : Placed) (s rest : List Placed) → (x.place == y.place) ≡ false → nexts u y.place s ≡ first_place rest → nexts u y.place (x ∷ s) ≡ first_place rest
+next_past u x y s rest none h =
+    nexts_cons u y.place x s ∙ ap (λ t. cond t (first_place (filter (picks u x.holding.name.interval) s)) (nexts u y.place s)) none ∙ h
 
 more_past : (x y : Placed) (b : Bool) (s t : List Placed) → (x.place == y.place) ≡ false → t ≡ cond b (without y.place s) s → x ∷ t ≡ cond b (without y.place (x ∷ s)) (x ∷ s)
 more_past x y true s t none h = ap (λ r. x ∷ r) h ∙ sym (ap (λ u. cond (not u) (x ∷ without y.place s) (without y.place s)) none)
@@ -63,120 +86,120 @@ pub head_other : (n x : ℕ) (xs : List ℕ) → is_in x xs ≡ false → is_in 
 head_other n x xs none there = false_from_ne_true (x == n) (λ e. both_ways (is_in x xs) none (ap (λ (k : ℕ). is_in k xs) (eqb-true x n e) ∙ there))
 
 -- the first of the interval stands at the head
-next_head : (i : ℕ) (over : Placed → Bool) (x : Placed) (xs : List Placed) → is_in x.place (map place_of xs) ≡ false → is_of i x ≡ true → Next i over 0 (x ∷ xs) x (filter (is_of i) xs)
+next_head : (u : Bool) (i : ℕ) (over : Placed → Bool) (x : Placed) (xs : List Placed) → is_in x.place (map place_of xs) ≡ false → picks u i x ≡ true → Next u i over 0 (x ∷ xs) x (filter (picks u i) xs)
 unfolding swept
-next_head i over x xs none e =
+next_head u i over x xs none e =
     let here : (x.place == x.place) ≡ true = eq-eqb x.place x.place refl in
     record {
       there = or_left (x.place == x.place) (is_in x.place (map place_of xs)) here;
       of = e;
       found = ap (λ t. cond t (Some x) (find (stands_at x.place) xs)) here;
-      next = ap (λ t. cond t (first_place (filter (is_of x.holding.name.interval) xs)) (next_place x.place xs)) here
-          ∙ ap (λ (k : ℕ). first_place (filter (is_of k) xs)) (eqb-true x.holding.name.interval i e);
-      more = ap (λ t. cond t (cond (over x) xs (x ∷ xs)) (x ∷ swept i over 1 xs)) e
+      next = nexts_cons u x.place x xs ∙ ap (λ t. cond t (first_place (filter (picks u x.holding.name.interval) xs)) (nexts u x.place xs)) here
+          ∙ ap (λ (k : ℕ). first_place (filter (picks u k) xs)) (picked_of u i x e);
+      more = ap (λ t. cond t (cond (over x) xs (x ∷ xs)) (x ∷ swept u i over 1 xs)) e
           ∙ ap (λ r. cond (over x) r (x ∷ xs)) (sym (ap (λ t. cond (not t) (x ∷ without x.place xs) (without x.place xs)) here ∙ none_without x.place xs none));
     }
 
 -- the head was looked at
-next_looked : (i : ℕ) (over : Placed → Bool) (m : ℕ) (x : Placed) (xs : List Placed) (y : Placed) (rest : List Placed) (b : Bool) → over x ≡ b → is_in x.place (map place_of xs) ≡ false → is_of i x ≡ true → Next i over m xs y rest → Next i over (suc m) (x ∷ xs) y rest
+next_looked : (u : Bool) (i : ℕ) (over : Placed → Bool) (m : ℕ) (x : Placed) (xs : List Placed) (y : Placed) (rest : List Placed) (b : Bool) → over x ≡ b → is_in x.place (map place_of xs) ≡ false → picks u i x ≡ true → Next u i over m xs y rest → Next u i over (suc m) (x ∷ xs) y rest
 unfolding swept
-next_looked i over m x xs y rest true o none e r =
-    let now : swept i over (suc m) (x ∷ xs) ≡ swept i over m xs = ap (λ t. cond t (cond (over x) (swept i over m xs) (x ∷ swept i over m xs)) (x ∷ swept i over (suc m) xs)) e ∙ ap (λ t. cond t (swept i over m xs) (x ∷ swept i over m xs)) o in
-    let then : swept i over (suc (suc m)) (x ∷ xs) ≡ swept i over (suc m) xs = ap (λ t. cond t (cond (over x) (swept i over (suc m) xs) (x ∷ swept i over (suc m) xs)) (x ∷ swept i over (suc (suc m)) xs)) e ∙ ap (λ t. cond t (swept i over (suc m) xs) (x ∷ swept i over (suc m) xs)) o in
+next_looked u i over m x xs y rest true o none e r =
+    let now : swept u i over (suc m) (x ∷ xs) ≡ swept u i over m xs = ap (λ t. cond t (cond (over x) (swept u i over m xs) (x ∷ swept u i over m xs)) (x ∷ swept u i over (suc m) xs)) e ∙ ap (λ t. cond t (swept u i over m xs) (x ∷ swept u i over m xs)) o in
+    let then : swept u i over (suc (suc m)) (x ∷ xs) ≡ swept u i over (suc m) xs = ap (λ t. cond t (cond (over x) (swept u i over (suc m) xs) (x ∷ swept u i over (suc m) xs)) (x ∷ swept u i over (suc (suc m)) xs)) e ∙ ap (λ t. cond t (swept u i over (suc m) xs) (x ∷ swept u i over (suc m) xs)) o in
     record {
       there = or_right (x.place == y.place) (is_in y.place (map place_of xs)) r.there;
       of = r.of;
       found = ap (find (stands_at y.place)) now ∙ r.found;
-      next = ap (next_place y.place) now ∙ r.next;
+      next = ap (nexts u y.place) now ∙ r.next;
       more = then ∙ r.more ∙ ap (λ s. cond (over y) (without y.place s) s) (sym now);
     }
-next_looked i over m x xs y rest false o none e r =
+next_looked u i over m x xs y rest false o none e r =
     let other : (x.place == y.place) ≡ false = head_other y.place x.place (map place_of xs) none r.there in
-    let now : swept i over (suc m) (x ∷ xs) ≡ x ∷ swept i over m xs = ap (λ t. cond t (cond (over x) (swept i over m xs) (x ∷ swept i over m xs)) (x ∷ swept i over (suc m) xs)) e ∙ ap (λ t. cond t (swept i over m xs) (x ∷ swept i over m xs)) o in
-    let then : swept i over (suc (suc m)) (x ∷ xs) ≡ x ∷ swept i over (suc m) xs = ap (λ t. cond t (cond (over x) (swept i over (suc m) xs) (x ∷ swept i over (suc m) xs)) (x ∷ swept i over (suc (suc m)) xs)) e ∙ ap (λ t. cond t (swept i over (suc m) xs) (x ∷ swept i over (suc m) xs)) o in
+    let now : swept u i over (suc m) (x ∷ xs) ≡ x ∷ swept u i over m xs = ap (λ t. cond t (cond (over x) (swept u i over m xs) (x ∷ swept u i over m xs)) (x ∷ swept u i over (suc m) xs)) e ∙ ap (λ t. cond t (swept u i over m xs) (x ∷ swept u i over m xs)) o in
+    let then : swept u i over (suc (suc m)) (x ∷ xs) ≡ x ∷ swept u i over (suc m) xs = ap (λ t. cond t (cond (over x) (swept u i over (suc m) xs) (x ∷ swept u i over (suc m) xs)) (x ∷ swept u i over (suc (suc m)) xs)) e ∙ ap (λ t. cond t (swept u i over (suc m) xs) (x ∷ swept u i over (suc m) xs)) o in
     record {
       there = or_right (x.place == y.place) (is_in y.place (map place_of xs)) r.there;
       of = r.of;
-      found = ap (find (stands_at y.place)) now ∙ found_past x y (swept i over m xs) other r.found;
-      next = ap (next_place y.place) now ∙ next_past x y (swept i over m xs) rest other r.next;
-      more = then ∙ more_past x y (over y) (swept i over m xs) (swept i over (suc m) xs) other r.more ∙ ap (λ s. cond (over y) (without y.place s) s) (sym now);
+      found = ap (find (stands_at y.place)) now ∙ found_past x y (swept u i over m xs) other r.found;
+      next = ap (nexts u y.place) now ∙ next_past u x y (swept u i over m xs) rest other r.next;
+      more = then ∙ more_past x y (over y) (swept u i over m xs) (swept u i over (suc m) xs) other r.more ∙ ap (λ s. cond (over y) (without y.place s) s) (sym now);
     }
 
-swept_other : (i : ℕ) (over : Placed → Bool) (n : ℕ) (x : Placed) (xs : List Placed) → is_of i x ≡ false → swept i over n (x ∷ xs) ≡ x ∷ swept i over n xs
+swept_other : (u : Bool) (i : ℕ) (over : Placed → Bool) (n : ℕ) (x : Placed) (xs : List Placed) → picks u i x ≡ false → swept u i over n (x ∷ xs) ≡ x ∷ swept u i over n xs
 unfolding swept
-swept_other i over zero x xs e = refl
-swept_other i over (suc n) x xs e = ap (λ t. cond t (cond (over x) (swept i over n xs) (x ∷ swept i over n xs)) (x ∷ swept i over (suc n) xs)) e
+swept_other u i over zero x xs e = refl
+swept_other u i over (suc n) x xs e = ap (λ t. cond t (cond (over x) (swept u i over n xs) (x ∷ swept u i over n xs)) (x ∷ swept u i over (suc n) xs)) e
 
 -- the head is of another interval
-next_other : (i : ℕ) (over : Placed → Bool) (n : ℕ) (x : Placed) (xs : List Placed) (y : Placed) (rest : List Placed) → is_in x.place (map place_of xs) ≡ false → is_of i x ≡ false → Next i over n xs y rest → Next i over n (x ∷ xs) y rest
-next_other i over n x xs y rest none e r =
+next_other : (u : Bool) (i : ℕ) (over : Placed → Bool) (n : ℕ) (x : Placed) (xs : List Placed) (y : Placed) (rest : List Placed) → is_in x.place (map place_of xs) ≡ false → picks u i x ≡ false → Next u i over n xs y rest → Next u i over n (x ∷ xs) y rest
+next_other u i over n x xs y rest none e r =
     let other : (x.place == y.place) ≡ false = head_other y.place x.place (map place_of xs) none r.there in
-    let now : swept i over n (x ∷ xs) ≡ x ∷ swept i over n xs = swept_other i over n x xs e in
+    let now : swept u i over n (x ∷ xs) ≡ x ∷ swept u i over n xs = swept_other u i over n x xs e in
     record {
       there = or_right (x.place == y.place) (is_in y.place (map place_of xs)) r.there;
       of = r.of;
-      found = ap (find (stands_at y.place)) now ∙ found_past x y (swept i over n xs) other r.found;
-      next = ap (next_place y.place) now ∙ next_past x y (swept i over n xs) rest other r.next;
-      more = swept_other i over (suc n) x xs e ∙ more_past x y (over y) (swept i over n xs) (swept i over (suc n) xs) other r.more ∙ ap (λ s. cond (over y) (without y.place s) s) (sym now);
+      found = ap (find (stands_at y.place)) now ∙ found_past x y (swept u i over n xs) other r.found;
+      next = ap (nexts u y.place) now ∙ next_past u x y (swept u i over n xs) rest other r.next;
+      more = swept_other u i over (suc n) x xs e ∙ more_past x y (over y) (swept u i over n xs) (swept u i over (suc n) xs) other r.more ∙ ap (λ s. cond (over y) (without y.place s) s) (sym now);
     }
 
-pub next_is : (i : ℕ) (over : Placed → Bool) (n : ℕ) (held : List Placed) (y : Placed) (rest : List Placed) → Distinct (map place_of held) → drop n (filter (is_of i) held) ≡ y ∷ rest → Next i over n held y rest
-next_is i over n [] y rest d h = absurd (nothing n y rest h)
-next_is i over zero (x ∷ xs) y rest d h =
+pub next_is : (u : Bool) (i : ℕ) (over : Placed → Bool) (n : ℕ) (held : List Placed) (y : Placed) (rest : List Placed) → Distinct (map place_of held) → drop n (filter (picks u i) held) ≡ y ∷ rest → Next u i over n held y rest
+next_is u i over n [] y rest d h = absurd (nothing n y rest h)
+next_is u i over zero (x ∷ xs) y rest d h =
     ⊎_elim
-    (λ e. let same : x ∷ filter (is_of i) xs ≡ y ∷ rest = sym (ap (λ t. cond t (x ∷ filter (is_of i) xs) (filter (is_of i) xs)) e) ∙ h in
-    let first : x ≡ y = some_first x y (filter (is_of i) xs) rest same in
-    let behind : filter (is_of i) xs ≡ rest = some_rest x y (filter (is_of i) xs) rest same in
-    subst (λ z. Next i over 0 (x ∷ xs) z rest) first (subst (λ zs. Next i over 0 (x ∷ xs) x zs) behind (next_head i over x xs d.0 e)))
-    (λ e. next_other i over 0 x xs y rest d.0 e (next_is i over zero xs y rest d.1 (sym (ap (λ t. cond t (x ∷ filter (is_of i) xs) (filter (is_of i) xs)) e) ∙ h)))
-    (cases_Bool (is_of i x))
-next_is i over (suc m) (x ∷ xs) y rest d h =
+    (λ e. let same : x ∷ filter (picks u i) xs ≡ y ∷ rest = sym (ap (λ t. cond t (x ∷ filter (picks u i) xs) (filter (picks u i) xs)) e) ∙ h in
+    let first : x ≡ y = some_first x y (filter (picks u i) xs) rest same in
+    let behind : filter (picks u i) xs ≡ rest = some_rest x y (filter (picks u i) xs) rest same in
+    subst (λ z. Next u i over 0 (x ∷ xs) z rest) first (subst (λ zs. Next u i over 0 (x ∷ xs) x zs) behind (next_head u i over x xs d.0 e)))
+    (λ e. next_other u i over 0 x xs y rest d.0 e (next_is u i over zero xs y rest d.1 (sym (ap (λ t. cond t (x ∷ filter (picks u i) xs) (filter (picks u i) xs)) e) ∙ h)))
+    (cases_Bool (picks u i x))
+next_is u i over (suc m) (x ∷ xs) y rest d h =
     ⊎_elim
-    (λ e. next_looked i over m x xs y rest (over x) refl d.0 e (next_is i over m xs y rest d.1 (sym (ap (λ t. drop (suc m) (cond t (x ∷ filter (is_of i) xs) (filter (is_of i) xs))) e) ∙ h)))
-    (λ e. next_other i over (suc m) x xs y rest d.0 e (next_is i over (suc m) xs y rest d.1 (sym (ap (λ t. drop (suc m) (cond t (x ∷ filter (is_of i) xs) (filter (is_of i) xs))) e) ∙ h)))
-    (cases_Bool (is_of i x))
+    (λ e. next_looked u i over m x xs y rest (over x) refl d.0 e (next_is u i over m xs y rest d.1 (sym (ap (λ t. drop (suc m) (cond t (x ∷ filter (picks u i) xs) (filter (picks u i) xs))) e) ∙ h)))
+    (λ e. next_other u i over (suc m) x xs y rest d.0 e (next_is u i over (suc m) xs y rest d.1 (sym (ap (λ t. drop (suc m) (cond t (x ∷ filter (picks u i) xs) (filter (picks u i) xs))) e) ∙ h)))
+    (cases_Bool (picks u i x))
 
 -- all of the interval were looked at
 kept_step : (b : Bool) (x : Placed) (s f : List Placed) → s ≡ f → cond b s (x ∷ s) ≡ cond (not b) (x ∷ f) f
 kept_step true x s f h = h
 kept_step false x s f h = ap (λ r. x ∷ r) h
 
-pub swept_all : (i : ℕ) (over : Placed → Bool) (n : ℕ) (held : List Placed) → drop n (filter (is_of i) held) ≡ [] → swept i over n held ≡ filter (λ x. not (is_of i x && over x)) held
+pub swept_all : (u : Bool) (i : ℕ) (over : Placed → Bool) (n : ℕ) (held : List Placed) → drop n (filter (picks u i) held) ≡ [] → swept u i over n held ≡ filter (λ x. not (picks u i x && over x)) held
 unfolding swept
-swept_all i over zero [] h = refl
-swept_all i over (suc n) [] h = refl
-swept_all i over zero (x ∷ xs) h =
+swept_all u i over zero [] h = refl
+swept_all u i over (suc n) [] h = refl
+swept_all u i over zero (x ∷ xs) h =
     ⊎_elim
-    (λ e. absurd (not_empty x (filter (is_of i) xs) (sym (ap (λ t. cond t (x ∷ filter (is_of i) xs) (filter (is_of i) xs)) e) ∙ h)))
-    (λ e. ap (λ r. x ∷ r) (swept_all i over zero xs (sym (ap (λ t. cond t (x ∷ filter (is_of i) xs) (filter (is_of i) xs)) e) ∙ h))
-    ∙ sym (ap (λ t. cond (not (t && over x)) (x ∷ filter (λ y. not (is_of i y && over y)) xs) (filter (λ y. not (is_of i y && over y)) xs)) e))
-    (cases_Bool (is_of i x))
-swept_all i over (suc m) (x ∷ xs) h =
+    (λ e. absurd (not_empty x (filter (picks u i) xs) (sym (ap (λ t. cond t (x ∷ filter (picks u i) xs) (filter (picks u i) xs)) e) ∙ h)))
+    (λ e. ap (λ r. x ∷ r) (swept_all u i over zero xs (sym (ap (λ t. cond t (x ∷ filter (picks u i) xs) (filter (picks u i) xs)) e) ∙ h))
+    ∙ sym (ap (λ t. cond (not (t && over x)) (x ∷ filter (λ y. not (picks u i y && over y)) xs) (filter (λ y. not (picks u i y && over y)) xs)) e))
+    (cases_Bool (picks u i x))
+swept_all u i over (suc m) (x ∷ xs) h =
     ⊎_elim
-    (λ e. let rest = swept_all i over m xs (sym (ap (λ t. drop (suc m) (cond t (x ∷ filter (is_of i) xs) (filter (is_of i) xs))) e) ∙ h) in
-    ap (λ t. cond t (cond (over x) (swept i over m xs) (x ∷ swept i over m xs)) (x ∷ swept i over (suc m) xs)) e
-    ∙ kept_step (over x) x (swept i over m xs) (filter (λ y. not (is_of i y && over y)) xs) rest
-    ∙ sym (ap (λ t. cond (not (t && over x)) (x ∷ filter (λ y. not (is_of i y && over y)) xs) (filter (λ y. not (is_of i y && over y)) xs)) e))
-    (λ e. let rest = swept_all i over (suc m) xs (sym (ap (λ t. drop (suc m) (cond t (x ∷ filter (is_of i) xs) (filter (is_of i) xs))) e) ∙ h) in
-    ap (λ t. cond t (cond (over x) (swept i over m xs) (x ∷ swept i over m xs)) (x ∷ swept i over (suc m) xs)) e
+    (λ e. let rest = swept_all u i over m xs (sym (ap (λ t. drop (suc m) (cond t (x ∷ filter (picks u i) xs) (filter (picks u i) xs))) e) ∙ h) in
+    ap (λ t. cond t (cond (over x) (swept u i over m xs) (x ∷ swept u i over m xs)) (x ∷ swept u i over (suc m) xs)) e
+    ∙ kept_step (over x) x (swept u i over m xs) (filter (λ y. not (picks u i y && over y)) xs) rest
+    ∙ sym (ap (λ t. cond (not (t && over x)) (x ∷ filter (λ y. not (picks u i y && over y)) xs) (filter (λ y. not (picks u i y && over y)) xs)) e))
+    (λ e. let rest = swept_all u i over (suc m) xs (sym (ap (λ t. drop (suc m) (cond t (x ∷ filter (picks u i) xs) (filter (picks u i) xs))) e) ∙ h) in
+    ap (λ t. cond t (cond (over x) (swept u i over m xs) (x ∷ swept u i over m xs)) (x ∷ swept u i over (suc m) xs)) e
     ∙ ap (λ r. x ∷ r) rest
-    ∙ sym (ap (λ t. cond (not (t && over x)) (x ∷ filter (λ y. not (is_of i y && over y)) xs) (filter (λ y. not (is_of i y && over y)) xs)) e))
-    (cases_Bool (is_of i x))
+    ∙ sym (ap (λ t. cond (not (t && over x)) (x ∷ filter (λ y. not (picks u i y && over y)) xs) (filter (λ y. not (picks u i y && over y)) xs)) e))
+    (cases_Bool (picks u i x))
 
 -- ---- a walk through an interval
 
 -- so many packets of the interval were looked at; this is the place of the next
-pub record Sweeping (old new : Stored) (i : ℕ) (over : Placed → Bool) (n : ℕ) (at : Option Place) : Type 0 where
+pub record Sweeping (old new : Stored) (u : Bool) (i : ℕ) (over : Placed → Bool) (n : ℕ) (at : Option Place) : Type 0 where
   pub capacity : new.capacity ≡ old.capacity
   pub chains : new.chains ≡ old.chains
   pub waiting : new.waiting ≡ old.waiting
   pub given : new.given ≡ old.given
-  pub held : new.held ≡ swept i over n old.held
-  pub next : at ≡ first_place (drop n (filter (is_of i) old.held))
+  pub held : new.held ≡ swept u i over n old.held
+  pub next : at ≡ first_place (drop n (filter (picks u i) old.held))
 
-pub sweeping_none : (old : Stored) (i : ℕ) (over : Placed → Bool) (o : Option Place) → o ≡ first_place (filter (is_of i) old.held) → Sweeping old old i over 0 o
+pub sweeping_none : (old : Stored) (u : Bool) (i : ℕ) (over : Placed → Bool) (o : Option Place) → o ≡ first_place (filter (picks u i) old.held) → Sweeping old old u i over 0 o
 unfolding swept
-sweeping_none old i over o h = record { capacity = refl; chains = refl; waiting = refl; given = refl; held = refl; next = h }
+sweeping_none old u i over o h = record { capacity = refl; chains = refl; waiting = refl; given = refl; held = refl; next = h }
 
 first_none : (xs : List Placed) → first_place xs ≡ None → xs ≡ []
 first_none [] h = refl
@@ -192,43 +215,47 @@ pub first_some : (xs : List Placed) (place : Place) → first_place xs ≡ Some 
 first_some [] place h = absurd (cc)
 first_some (x ∷ xs) place h = record { first = x; rest = xs; is = refl; place_is = (let same : record { 0 = x.place } ≡ place = cc in sym (ap (λ (p : Place). p.0) same)) }
 
-pub swept_through : (old new : Stored) (i : ℕ) (over : Placed → Bool) (n : ℕ) (next : Option Place) → Sweeping old new i over n next → next ≡ None → new.held ≡ filter (λ x. not (is_of i x && over x)) old.held
-swept_through old new i over n next s none =
-    s.held ∙ swept_all i over n old.held (first_none (drop n (filter (is_of i) old.held)) (sym s.next ∙ none))
+pub swept_through : (old new : Stored) (u : Bool) (i : ℕ) (over : Placed → Bool) (n : ℕ) (next : Option Place) → Sweeping old new u i over n next → next ≡ None → new.held ≡ filter (λ x. not (picks u i x && over x)) old.held
+swept_through old new u i over n next s none =
+    s.held ∙ swept_all u i over n old.held (first_none (drop n (filter (picks u i) old.held)) (sym s.next ∙ none))
 
-pub swept_long : (old new : Stored) (i : ℕ) (over : Placed → Bool) (n : ℕ) (next : Option Place) → Sweeping old new i over n next → length (filter (is_of i) old.held) ≤ n → new.held ≡ filter (λ x. not (is_of i x && over x)) old.held
-swept_long old new i over n next s all = s.held ∙ swept_all i over n old.held (drop_of_length-le (filter (is_of i) old.held) all)
+pub swept_long : (old new : Stored) (u : Bool) (i : ℕ) (over : Placed → Bool) (n : ℕ) (next : Option Place) → Sweeping old new u i over n next → length (filter (picks u i) old.held) ≤ n → new.held ≡ filter (λ x. not (picks u i x && over x)) old.held
+swept_long old new u i over n next s all = s.held ∙ swept_all u i over n old.held (drop_of_length-le (filter (picks u i) old.held) all)
 
 drop_next : {A : Type 0} (n : ℕ) (xs : List A) (y : A) (rest : List A) → drop n xs ≡ y ∷ rest → drop (suc n) xs ≡ rest
 drop_next n [] y rest h = absurd (nothing n y rest h)
 drop_next zero (x ∷ xs) y rest h = some_rest x y xs rest h
 drop_next (suc n) (x ∷ xs) y rest h = drop_next n xs y rest h
 
-pub next_at : (old new : Stored) (i : ℕ) (over : Placed → Bool) (n : ℕ) (place : Place) → Sweeping old new i over n (Some place) → FirstOf (drop n (filter (is_of i) old.held)) place
-next_at old new i over n place s = first_some (drop n (filter (is_of i) old.held)) place (sym s.next)
+pub next_at : (old new : Stored) (u : Bool) (i : ℕ) (over : Placed → Bool) (n : ℕ) (place : Place) → Sweeping old new u i over n (Some place) → FirstOf (drop n (filter (picks u i) old.held)) place
+next_at old new u i over n place s = first_some (drop n (filter (picks u i) old.held)) place (sym s.next)
 
-pub found_next : (old new : Stored) (i : ℕ) (over : Placed → Bool) (n : ℕ) (place : Place) → Distinct (map place_of old.held) → (s : Sweeping old new i over n (Some place)) → find (stands_at place.0) new.held ≡ Some (next_at old new i over n place s).first
-found_next old new i over n place d s =
-    let f = next_at old new i over n place s in
-    ap (find (stands_at place.0)) s.held ∙ ap (λ (p : ℕ). find (stands_at p) (swept i over n old.held)) f.place_is
-    ∙ (next_is i over n old.held f.first f.rest d f.is).found
+pub found_next : (old new : Stored) (u : Bool) (i : ℕ) (over : Placed → Bool) (n : ℕ) (place : Place) → Distinct (map place_of old.held) → (s : Sweeping old new u i over n (Some place)) → find (stands_at place.0) new.held ≡ Some (next_at old new u i over n place s).first
+found_next old new u i over n place d s =
+    let f = next_at old new u i over n place s in
+    ap (find (stands_at place.0)) s.held ∙ ap (λ (p : ℕ). find (stands_at p) (swept u i over n old.held)) f.place_is
+    ∙ (next_is u i over n old.held f.first f.rest d f.is).found
 
-pub sweeping_more : (old new then : Stored) (i : ℕ) (over : Placed → Bool) (n : ℕ) (place : Place) (next : Option Place) → Distinct (map place_of old.held) → Sweeping old new i over n (Some place) → next ≡ next_place place.0 new.held → then.capacity ≡ new.capacity → then.chains ≡ new.chains → then.waiting ≡ new.waiting → then.given ≡ new.given → ((x : Placed) → find (stands_at place.0) new.held ≡ Some x → then.held ≡ cond (over x) (without place.0 new.held) new.held) → Sweeping old then i over (n + 1) next
-sweeping_more old new then i over n place next d s e capacity chains waiting given held =
-    let f = next_at old new i over n place s in
-    let r = next_is i over n old.held f.first f.rest d f.is in
+-- it is one of those that are picked
+pub found_picked : (old new : Stored) (u : Bool) (i : ℕ) (over : Placed → Bool) (n : ℕ) (place : Place) → Distinct (map place_of old.held) → (s : Sweeping old new u i over n (Some place)) → picks u i (next_at old new u i over n place s).first ≡ true
+found_picked old new u i over n place d s = let f = next_at old new u i over n place s in (next_is u i over n old.held f.first f.rest d f.is).of
+
+pub sweeping_more : (old new then : Stored) (u : Bool) (i : ℕ) (over : Placed → Bool) (n : ℕ) (place : Place) (next : Option Place) → Distinct (map place_of old.held) → Sweeping old new u i over n (Some place) → next ≡ nexts u place.0 new.held → then.capacity ≡ new.capacity → then.chains ≡ new.chains → then.waiting ≡ new.waiting → then.given ≡ new.given → ((x : Placed) → find (stands_at place.0) new.held ≡ Some x → then.held ≡ cond (over x) (without place.0 new.held) new.held) → Sweeping old then u i over (n + 1) next
+sweeping_more old new then u i over n place next d s e capacity chains waiting given held =
+    let f = next_at old new u i over n place s in
+    let r = next_is u i over n old.held f.first f.rest d f.is in
     let count : suc n ≡ n + 1 = omega arith in
     record {
       capacity = capacity ∙ s.capacity;
       chains = chains ∙ s.chains;
       waiting = waiting ∙ s.waiting;
       given = given ∙ s.given;
-      held = held f.first (found_next old new i over n place d s)
+      held = held f.first (found_next old new u i over n place d s)
           ∙ ap (λ (p : ℕ). cond (over f.first) (without p new.held) new.held) f.place_is
           ∙ ap (λ h. cond (over f.first) (without f.first.place h) h) s.held
-          ∙ sym r.more ∙ ap (λ (k : ℕ). swept i over k old.held) count;
-      next = e ∙ ap (next_place place.0) s.held ∙ ap (λ (p : ℕ). next_place p (swept i over n old.held)) f.place_is ∙ r.next
-          ∙ ap first_place (sym (drop_next n (filter (is_of i) old.held) f.first f.rest f.is)) ∙ ap (λ (k : ℕ). first_place (drop k (filter (is_of i) old.held))) count;
+          ∙ sym r.more ∙ ap (λ (k : ℕ). swept u i over k old.held) count;
+      next = e ∙ ap (nexts u place.0) s.held ∙ ap (λ (p : ℕ). nexts u p (swept u i over n old.held)) f.place_is ∙ r.next
+          ∙ ap first_place (sym (drop_next n (filter (picks u i) old.held) f.first f.rest f.is)) ∙ ap (λ (k : ℕ). first_place (drop k (filter (picks u i) old.held))) count;
     }
 
 pub found_stands : (p : ℕ) (f : Placed → Bool) (x : Placed) (held : List Placed) → find (stands_at p) held ≡ Some x → f x ≡ true → list_any (λ y. stands_at p y && f y) held ≡ true
@@ -249,15 +276,69 @@ found_any p x (y ∷ ys) h =
     (λ e. or_right (stands_at p y) (list_any (stands_at p) ys) (found_any p x ys (sym (ap (λ t. cond t (Some y) (find (stands_at p) ys)) e) ∙ h)))
     (cases_Bool (stands_at p y))
 
-idle_rests : (r t a p : Bool) → (((false || a) && not r) || (t && p)) ≡ true → not (r && not t) ≡ true
-idle_rests true true a p h = refl
-idle_rests true false true p h = h
-idle_rests true false false p h = h
-idle_rests false t a p h = refl
+unreleased_waits_not : (a r t : Bool) → (a && not r) ≡ true → (a && not (r && not t)) ≡ true
+unreleased_waits_not a true t h = absurd (both_ways (a && false) (and-false a) h)
+unreleased_waits_not a false t h = h
 
--- what isn't needed any more doesn't wait to be taken
-pub idle_is_at_rest : (cfg : Config) (tips : List Tip) (x : Placed) → is_idle cfg tips x ≡ true → not (waits x) ≡ true
-idle_is_at_rest cfg tips x h = idle_rests x.holding.released x.holding.taken (list_all (is_over tips x.holding) (chains cfg)) (list_all (is_passed tips x.holding.name.interval) (chains cfg)) h
+-- a packet that isn't released doesn't wait to be taken
+pub unreleased_rests : (p : ℕ) (held : List Placed) → list_any (is_unreleased_at p) held ≡ true → list_any (rests_at p) held ≡ true
+unreleased_rests p held h = any_weaker (is_unreleased_at p) (rests_at p) (λ x e. unreleased_waits_not (stands_at p x) x.holding.released x.holding.taken e) held h
+
+pub unreleased_stands : (p : ℕ) (held : List Placed) → list_any (is_unreleased_at p) held ≡ true → list_any (stands_at p) held ≡ true
+unreleased_stands p held h = any_weaker (is_unreleased_at p) (stands_at p) (λ x e. (and_parts (stands_at p x) (not x.holding.released) e).0) held h
+
+-- ---- what isn't needed any more
+
+-- released, taken, no chain can prove it, every chain has passed it
+idle_passed : (r t a p : Bool) → a ≡ true → p ≡ true → not (r && not t) ≡ (((false || a) && not r) || (t && p))
+idle_passed r t false p h k = absurd (cc)
+idle_passed r t true false h k = absurd (cc)
+idle_passed true true true true h k = refl
+idle_passed true false true true h k = refl
+idle_passed false t true true h k = refl
+
+-- of the interval, and the same
+idle_open : (s r t a p : Bool) → p ≡ false → ((s && not r) && a) ≡ (s && (((false || a) && not r) || (t && p)))
+idle_open s r t a true h = absurd (cc)
+idle_open false r t a false h = refl
+idle_open true true true true false h = refl
+idle_open true true true false false h = refl
+idle_open true true false true false h = refl
+idle_open true true false false false h = refl
+idle_open true false t true false h = refl
+idle_open true false true false false h = refl
+idle_open true false false false false h = refl
+
+filter_same : {A : Type 0} (p q : A → Bool) → ((x : A) → p x ≡ q x) → (xs : List A) → filter p xs ≡ filter q xs
+filter_same p q same [] = refl
+filter_same p q same (x ∷ xs) = ap (λ t. cond t (x ∷ filter p xs) (filter p xs)) (same x) ∙ ap (λ ys. cond (q x) (x ∷ ys) ys) (filter_same p q same xs)
+
+module _ (cfg : Config) (tips : List Tip) (i : ℕ) where
+  over_too : (x : Holding) → list_all (is_passed tips x.name.interval) (chains cfg) ≡ true → list_all (is_over tips x) (chains cfg) ≡ true
+  over_too x h = list_all_weaker (is_passed tips x.name.interval) (is_over tips x) (chains cfg) (λ c k. or_right (not (has_chain x.chains c)) (is_passed tips x.name.interval c) k) h
+
+  -- where every chain has passed the interval, a packet is needed only while it waits to be taken
+  pub passed_go : list_all (is_passed tips i) (chains cfg) ≡ true → (held : List Placed) → filter (λ x. not (is_of i x && not (waits x))) held ≡ filter (λ x. not (is_of i x && is_idle cfg tips x)) held
+  passed_go h held =
+      filter_same (λ x. not (is_of i x && not (waits x))) (λ x. not (is_of i x && is_idle cfg tips x))
+      (λ x. elim (cases_Bool (is_of i x)) [
+        | inl e ↦
+            let passed : list_all (is_passed tips x.holding.name.interval) (chains cfg) ≡ true = ap (λ (k : ℕ). list_all (is_passed tips k) (chains cfg)) (eqb-true x.holding.name.interval i e) ∙ h in
+            ap (λ t. not (is_of i x && t))
+            (idle_passed x.holding.released x.holding.taken (list_all (is_over tips x.holding) (chains cfg)) (list_all (is_passed tips x.holding.name.interval) (chains cfg)) (over_too x.holding passed) passed)
+        | inr e ↦ ap (λ t. not (t && not (waits x))) e ∙ sym (ap (λ t. not (t && is_idle cfg tips x)) e)
+      ]) held
+
+  -- before that, a released packet is needed
+  pub unreleased_go : list_all (is_passed tips i) (chains cfg) ≡ false → (held : List Placed) → filter (λ x. not (is_unreleased_of i x && list_all (is_over tips x.holding) (chains cfg))) held ≡ filter (λ x. not (is_of i x && is_idle cfg tips x)) held
+  unreleased_go h held =
+      filter_same (λ x. not (is_unreleased_of i x && list_all (is_over tips x.holding) (chains cfg))) (λ x. not (is_of i x && is_idle cfg tips x))
+      (λ x. ap not (elim (cases_Bool (is_of i x)) [
+        | inl e ↦
+            idle_open (is_of i x) x.holding.released x.holding.taken (list_all (is_over tips x.holding) (chains cfg)) (list_all (is_passed tips x.holding.name.interval) (chains cfg))
+            (ap (λ (k : ℕ). list_all (is_passed tips k) (chains cfg)) (eqb-true x.holding.name.interval i e) ∙ h)
+        | inr e ↦ ap (λ t. (t && not x.holding.released) && list_all (is_over tips x.holding) (chains cfg)) e ∙ sym (ap (λ t. t && is_idle cfg tips x) e)
+      ])) held
 
 -- ---- intervals one after another
 
@@ -277,10 +358,6 @@ span_none high i = grind (arith, nat_tests)
 all_stay : {A : Type 0} (p : A → Bool) → ((x : A) → p x ≡ true) → (xs : List A) → filter p xs ≡ xs
 all_stay p h [] = refl
 all_stay p h (x ∷ xs) = ap (λ t. cond t (x ∷ filter p xs) (filter p xs)) (h x) ∙ ap (λ ys. x ∷ ys) (all_stay p h xs)
-
-filter_same : {A : Type 0} (p q : A → Bool) → ((x : A) → p x ≡ q x) → (xs : List A) → filter p xs ≡ filter q xs
-filter_same p q same [] = refl
-filter_same p q same (x ∷ xs) = ap (λ t. cond t (x ∷ filter p xs) (filter p xs)) (same x) ∙ ap (λ ys. cond (q x) (x ∷ ys) ys) (filter_same p q same xs)
 
 -- the packets of the intervals above this one, up to the highest, were let go where the interval passes one test and the packet another
 pub record Spanned (old new : Stored) (met : ℕ → Bool) (over : Placed → Bool) (low most high : ℕ) : Type 0 where
@@ -380,36 +457,36 @@ module _ (met : ℕ → Bool) (over : Placed → Bool) (low most high : ℕ) whe
 pub never : Placed → Bool
 never x = false
 
-pub swept_never : (i n : ℕ) (held : List Placed) → swept i never n held ≡ held
+pub swept_never : (u : Bool) (i n : ℕ) (held : List Placed) → swept u i never n held ≡ held
 unfolding swept never
-swept_never i zero held = refl
-swept_never i (suc n) [] = refl
-swept_never i (suc n) (x ∷ xs) =
+swept_never u i zero held = refl
+swept_never u i (suc n) [] = refl
+swept_never u i (suc n) (x ∷ xs) =
     ⊎_elim
-    (λ e. ap (λ t. cond t (x ∷ swept i never n xs) (x ∷ swept i never (suc n) xs)) e ∙ ap (λ r. x ∷ r) (swept_never i n xs))
-    (λ e. ap (λ t. cond t (x ∷ swept i never n xs) (x ∷ swept i never (suc n) xs)) e ∙ ap (λ r. x ∷ r) (swept_never i (suc n) xs))
-    (cases_Bool (is_of i x))
+    (λ e. ap (λ t. cond t (x ∷ swept u i never n xs) (x ∷ swept u i never (suc n) xs)) e ∙ ap (λ r. x ∷ r) (swept_never u i n xs))
+    (λ e. ap (λ t. cond t (x ∷ swept u i never n xs) (x ∷ swept u i never (suc n) xs)) e ∙ ap (λ r. x ∷ r) (swept_never u i (suc n) xs))
+    (cases_Bool (picks u i x))
 
 -- the packet that comes next, where nothing is let go
-pub record Comes (i n : ℕ) (held : List Placed) (place : Place) : Type 0 where
+pub record Comes (u : Bool) (i n : ℕ) (held : List Placed) (place : Place) : Type 0 where
   pub packet : Placed
   pub behind : List Placed
-  pub is : drop n (filter (is_of i) held) ≡ packet ∷ behind
-  pub of : is_of i packet ≡ true
+  pub is : drop n (filter (picks u i) held) ≡ packet ∷ behind
+  pub of : picks u i packet ≡ true
   pub found : find (stands_at place.0) held ≡ Some packet
-  pub next : next_place place.0 held ≡ first_place (drop (n + 1) (filter (is_of i) held))
+  pub next : nexts u place.0 held ≡ first_place (drop (n + 1) (filter (picks u i) held))
 
-pub comes : (i n : ℕ) (held : List Placed) (place : Place) → Distinct (map place_of held) → Some place ≡ first_place (drop n (filter (is_of i) held)) → Comes i n held place
-comes i n held place d h =
-    let f = first_some (drop n (filter (is_of i) held)) place (sym h) in
-    let r = next_is i never n held f.first f.rest d f.is in
+pub comes : (u : Bool) (i n : ℕ) (held : List Placed) (place : Place) → Distinct (map place_of held) → Some place ≡ first_place (drop n (filter (picks u i) held)) → Comes u i n held place
+comes u i n held place d h =
+    let f = first_some (drop n (filter (picks u i) held)) place (sym h) in
+    let r = next_is u i never n held f.first f.rest d f.is in
     let count : suc n ≡ n + 1 = omega arith in
     record {
       packet = f.first;
       behind = f.rest;
       is = f.is;
       of = r.of;
-      found = ap (λ (p : ℕ). find (stands_at p) held) f.place_is ∙ ap (find (stands_at f.first.place)) (sym (swept_never i n held)) ∙ r.found;
-      next = ap (λ (p : ℕ). next_place p held) f.place_is ∙ ap (next_place f.first.place) (sym (swept_never i n held)) ∙ r.next
-          ∙ ap first_place (sym (drop_next n (filter (is_of i) held) f.first f.rest f.is)) ∙ ap (λ (k : ℕ). first_place (drop k (filter (is_of i) held))) count;
+      found = ap (λ (p : ℕ). find (stands_at p) held) f.place_is ∙ ap (find (stands_at f.first.place)) (sym (swept_never u i n held)) ∙ r.found;
+      next = ap (λ (p : ℕ). nexts u p held) f.place_is ∙ ap (nexts u f.first.place) (sym (swept_never u i n held)) ∙ r.next
+          ∙ ap first_place (sym (drop_next n (filter (picks u i) held) f.first f.rest f.is)) ∙ ap (λ (k : ℕ). first_place (drop k (filter (picks u i) held))) count;
     }

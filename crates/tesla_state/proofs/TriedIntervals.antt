@@ -2,7 +2,7 @@
 use Rattle.std.proofs.Common.{◌≡◌, ℕ, ◌+◌, ◌-◌, ◌*◌, ◌<◌, ◌≤◌, suc, zero, Bool, true, false, cond, ◌&&◌, List, [], ◌∷◌, ◌++◌, length, map, drop, take, flat_map, Option, Some, None, refl, sym, ap, subst, inl, inr, ⊎_elim, ◌∙◌, arith, ◌==◌, append_assoc}
 use Rattle.std.specs.Prelude.{not, find, nat_lt, nat_le, All, option_to_list, IfSome}
 use Rattle.std.specs.List.{list_any, list_all, filter}
-use Rattle.std.proofs.lemmas.Bool.{cases_Bool, and_from, and_parts, eq-eqb, eqb-true, ltb-true, leb-true}
+use Rattle.std.proofs.lemmas.Bool.{cases_Bool, and_from, and_parts, eq-eqb, ltb-true, leb-true}
 use Rattle.std.proofs.lemmas.Bool.Decides.{nat_tests}
 use Rattle.std.proofs.lemmas.List.{append-nil, length-map}
 use Rattle.std.specs.List.Sorted.{IsPermutation}
@@ -23,12 +23,12 @@ use Rattle.tesla_state.specs.Offered.{IsOfChains}
 use Rattle.tesla_state.specs.Proved.{release_in}
 use Rattle.tesla_state.specs.State.{Holding}
 use Rattle.tesla_state.specs.Steps.{batch_of, proof_of, proves_on, released_on, in_interval}
-use Rattle.tesla_state.specs.Stored.{Placed, place_of, holding_at, stands_at, is_of, is_proved_by, first_place, next_place, AreProved}
+use Rattle.tesla_state.specs.Stored.{Placed, place_of, holding_at, stands_at, is_of, is_unreleased_of, is_proved_by, first_place, next_unreleased, AreProved}
 use Rattle.tesla_state.specs.Walking.{Walking, rows_of, IsAbove, left, tries, pairs}
 use Rattle.tesla_state.proofs.Gathering.{is_past, nothing_given, only_those, past_parts, past_sum, same_given, sum_ones, unreached_unproved}
 use Rattle.tesla_state.proofs.ReachedIntervals.{highest_by, outside_unreached, reached_by}
 use Rattle.tesla_state.proofs.Marked.{filter_mapped}
-use Rattle.tesla_state.proofs.Sweeping.{Comes, comes, found_stands}
+use Rattle.tesla_state.proofs.Sweeping.{Comes, comes, found_stands, picked_of}
 
 -- ---- what is proved of a packet
 
@@ -70,17 +70,17 @@ map-released (x ∷ xs) ys = ap (λ rs. x.release ∷ rs) (map-released xs ys)
 
 -- ---- a walk through an interval
 
--- so many packets of the interval were tried; this is the place of the next
+-- so many packets of the interval that aren't released were tried; this is the place of the next
 pub record Trying (cfg : Config) (tips : List Tip) (begun walks : List Walking) (held : List Placed) (i n : ℕ) (at : Option Place) (before batch : List Proved) : Type 0 where
-  pub next : at ≡ first_place (drop n (filter (is_of i) held))
+  pub next : at ≡ first_place (drop n (filter (is_unreleased_of i) held))
   pub rows : rows_of walks ≡ rows_of begun
   pub above : All (IsAbove i) walks
-  pub releases : map release_in batch ≡ map release_in before ++ flat_map (λ (x : Placed). proof_of cfg tips (rows_of begun) x.holding) (take n (filter (is_of i) held))
+  pub releases : map release_in batch ≡ map release_in before ++ flat_map (λ (x : Placed). proof_of cfg tips (rows_of begun) x.holding) (take n (filter (is_unreleased_of i) held))
   pub proved : AreProved held before → AreProved held batch
   pub long : length batch ≤ length before + n
-  pub within : n ≤ length (filter (is_of i) held)
+  pub within : n ≤ length (filter (is_unreleased_of i) held)
 
-pub trying_none : (cfg : Config) (tips : List Tip) (walks : List Walking) (held : List Placed) (i : ℕ) (at : Option Place) (batch : List Proved) → at ≡ first_place (filter (is_of i) held) → All (IsAbove i) walks → Trying cfg tips walks walks held i 0 at batch batch
+pub trying_none : (cfg : Config) (tips : List Tip) (walks : List Walking) (held : List Placed) (i : ℕ) (at : Option Place) (batch : List Proved) → at ≡ first_place (filter (is_unreleased_of i) held) → All (IsAbove i) walks → Trying cfg tips walks walks held i 0 at batch batch
 trying_none cfg tips walks held i at batch h above = record {
   next = h;
   rows = refl;
@@ -97,40 +97,40 @@ take_next (suc n) [] y rest h = absurd (cc)
 take_next zero (x ∷ xs) y rest h = let same : x ≡ y = cc in (ap (λ z. z ∷ []) same, omega arith)
 take_next (suc n) (x ∷ xs) y rest h = let r = take_next n xs y rest h in (ap (λ ys. x ∷ ys) r.0, omega (arith, r.1))
 
-pub tried_place : (cfg : Config) (tips : List Tip) (begun walks : List Walking) (held : List Placed) (i n : ℕ) (place : Place) (before batch : List Proved) → Distinct (map place_of held) → Trying cfg tips begun walks held i n (Some place) before batch → Comes i n held place
-tried_place cfg tips begun walks held i n place before batch d s = comes i n held place d s.next
+pub tried_place : (cfg : Config) (tips : List Tip) (begun walks : List Walking) (held : List Placed) (i n : ℕ) (place : Place) (before batch : List Proved) → Distinct (map place_of held) → Trying cfg tips begun walks held i n (Some place) before batch → Comes true i n held place
+tried_place cfg tips begun walks held i n place before batch d s = comes true i n held place d s.next
 
 -- the packet there is of the interval
 pub above_there : (cfg : Config) (tips : List Tip) (begun walks : List Walking) (held : List Placed) (i n : ℕ) (place : Place) (before batch : List Proved) → Distinct (map place_of held) → Trying cfg tips begun walks held i n (Some place) before batch → (x : Placed) → find (stands_at place.0) held ≡ Some x → All (IsAbove x.holding.name.interval) walks
 above_there cfg tips begun walks held i n place before batch d s x h =
-    let c = comes i n held place d s.next in
+    let c = comes true i n held place d s.next in
     let found : Some c.packet ≡ Some x = sym c.found ∙ h in
     let same : c.packet ≡ x = cc in
-    subst (λ (k : ℕ). All (IsAbove k) walks) (sym (ap (λ (y : Placed). y.holding.name.interval) (sym same) ∙ eqb-true c.packet.holding.name.interval i c.of)) s.above
+    subst (λ (k : ℕ). All (IsAbove k) walks) (sym (ap (λ (y : Placed). y.holding.name.interval) (sym same) ∙ picked_of true i c.packet c.of)) s.above
 
-pub room_there : (cfg : Config) (tips : List Tip) (begun walks : List Walking) (held : List Placed) (i n room : ℕ) (place : Place) (before batch : List Proved) → Distinct (map place_of held) → Trying cfg tips begun walks held i n (Some place) before batch → length before + length (filter (is_of i) held) ≤ room → length batch < room
+pub room_there : (cfg : Config) (tips : List Tip) (begun walks : List Walking) (held : List Placed) (i n room : ℕ) (place : Place) (before batch : List Proved) → Distinct (map place_of held) → Trying cfg tips begun walks held i n (Some place) before batch → length before + length (filter (is_unreleased_of i) held) ≤ room → length batch < room
 room_there cfg tips begun walks held i n room place before batch d s h =
-    let c = comes i n held place d s.next in
-    let more = (take_next n (filter (is_of i) held) c.packet c.behind c.is).1 in
+    let c = comes true i n held place d s.next in
+    let more = (take_next n (filter (is_unreleased_of i) held) c.packet c.behind c.is).1 in
     let long = s.long in
     omega arith
 
-pub trying_more : (cfg : Config) (tips : List Tip) (begun walks later : List Walking) (held : List Placed) (i n : ℕ) (place : Place) (next : Option Place) (before batch more : List Proved) → Distinct (map place_of held) → Trying cfg tips begun walks held i n (Some place) before batch → next ≡ next_place place.0 held → rows_of later ≡ rows_of walks → ((x : Placed) → find (stands_at place.0) held ≡ Some x → All (IsAbove x.holding.name.interval) later) → ((x : Placed) → find (stands_at place.0) held ≡ Some x → map release_in more ≡ map release_in batch ++ proof_of cfg tips (rows_of walks) x.holding) → (AreProved held batch → AreProved held more) → length more ≤ length batch + 1 → Trying cfg tips begun later held i (n + 1) next before more
+pub trying_more : (cfg : Config) (tips : List Tip) (begun walks later : List Walking) (held : List Placed) (i n : ℕ) (place : Place) (next : Option Place) (before batch more : List Proved) → Distinct (map place_of held) → Trying cfg tips begun walks held i n (Some place) before batch → next ≡ next_unreleased place.0 held → rows_of later ≡ rows_of walks → ((x : Placed) → find (stands_at place.0) held ≡ Some x → All (IsAbove x.holding.name.interval) later) → ((x : Placed) → find (stands_at place.0) held ≡ Some x → map release_in more ≡ map release_in batch ++ proof_of cfg tips (rows_of walks) x.holding) → (AreProved held batch → AreProved held more) → length more ≤ length batch + 1 → Trying cfg tips begun later held i (n + 1) next before more
 trying_more cfg tips begun walks later held i n place next before batch more d s e rows above releases proved long =
-    let c = comes i n held place d s.next in
-    let taken = take_next n (filter (is_of i) held) c.packet c.behind c.is in
+    let c = comes true i n held place d s.next in
+    let taken = take_next n (filter (is_unreleased_of i) held) c.packet c.behind c.is in
     let count : suc n ≡ n + 1 = omega arith in
     let f : Placed → List Release = λ (x : Placed). proof_of cfg tips (rows_of begun) x.holding in
     record {
       next = e ∙ c.next;
       rows = rows ∙ s.rows;
-      above = subst (λ (k : ℕ). All (IsAbove k) later) (eqb-true c.packet.holding.name.interval i c.of) (above c.packet c.found);
+      above = subst (λ (k : ℕ). All (IsAbove k) later) (picked_of true i c.packet c.of) (above c.packet c.found);
       releases = releases c.packet c.found
           ∙ ap (λ rs. rs ++ proof_of cfg tips (rows_of walks) c.packet.holding) s.releases
-          ∙ ap (λ w. (map release_in before ++ flat_map f (take n (filter (is_of i) held))) ++ proof_of cfg tips w c.packet.holding) s.rows
-          ∙ append_assoc (map release_in before) (flat_map f (take n (filter (is_of i) held))) (f c.packet)
-          ∙ ap (λ rs. map release_in before ++ rs) (ap (λ r. flat_map f (take n (filter (is_of i) held)) ++ r) (sym (append-nil (f c.packet))) ∙ sym (flat_map-append f (take n (filter (is_of i) held)) (c.packet ∷ []))
-          ∙ ap (flat_map f) (sym taken.0) ∙ ap (λ (k : ℕ). flat_map f (take k (filter (is_of i) held))) count);
+          ∙ ap (λ w. (map release_in before ++ flat_map f (take n (filter (is_unreleased_of i) held))) ++ proof_of cfg tips w c.packet.holding) s.rows
+          ∙ append_assoc (map release_in before) (flat_map f (take n (filter (is_unreleased_of i) held))) (f c.packet)
+          ∙ ap (λ rs. map release_in before ++ rs) (ap (λ r. flat_map f (take n (filter (is_unreleased_of i) held)) ++ r) (sym (append-nil (f c.packet))) ∙ sym (flat_map-append f (take n (filter (is_unreleased_of i) held)) (c.packet ∷ []))
+          ∙ ap (flat_map f) (sym taken.0) ∙ ap (λ (k : ℕ). flat_map f (take k (filter (is_unreleased_of i) held))) count);
       proved = λ k. proved (s.proved k);
       long = (let so_far = s.long in omega arith);
       within = (let within = taken.1 in omega arith);
@@ -150,16 +150,41 @@ flat_mapped : (f : Holding → List Release) (xs : List Placed) → flat_map f (
 flat_mapped f [] = refl
 flat_mapped f (x ∷ xs) = ap (λ rs. f x.holding ++ rs) (flat_mapped f xs)
 
-turn_is : (f : Holding → List Release) (held : List Placed) (i : ℕ) → flat_map (λ (x : Placed). f x.holding) (filter (is_of i) held) ≡ in_turn f (map holding_at held) i
-turn_is f held i = sym (ap (flat_map f) (filter_mapped (in_interval i) holding_at held) ∙ flat_mapped f (filter (is_of i) held))
+released_nothing : (b : Bool) (rs : List Release) → b ≡ true → cond b [] rs ≡ []
+released_nothing true rs e = refl
+released_nothing false rs e = absurd (cc)
 
-pub tried_all : (cfg : Config) (tips : List Tip) (begun walks : List Walking) (held : List Placed) (i n : ℕ) (at : Option Place) (before batch : List Proved) → Trying cfg tips begun walks held i n at before batch → drop n (filter (is_of i) held) ≡ [] → map release_in batch ≡ map release_in before ++ in_turn (proof_of cfg tips (rows_of begun)) (map holding_at held) i
+turn_step : (f : Holding → List Release) (x : Placed) (a r : Bool) (unreleased all : List Placed) → (r ≡ true → f x.holding ≡ []) → flat_map (λ (y : Placed). f y.holding) unreleased ≡ flat_map (λ (y : Placed). f y.holding) all
+    → flat_map (λ (y : Placed). f y.holding) (cond (a && not r) (x ∷ unreleased) unreleased) ≡ flat_map (λ (y : Placed). f y.holding) (cond a (x ∷ all) all)
+turn_step f x true true unreleased all none h = h ∙ sym (ap (λ rs. rs ++ flat_map (λ (y : Placed). f y.holding) all) (none refl))
+turn_step f x true false unreleased all none h = ap (λ rs. f x.holding ++ rs) h
+turn_step f x false r unreleased all none h = h
+
+-- where f gives nothing for a released packet
+turn_unreleased : (f : Holding → List Release) → ((item : Holding) → item.released ≡ true → f item ≡ []) → (held : List Placed) (i : ℕ) → flat_map (λ (x : Placed). f x.holding) (filter (is_unreleased_of i) held) ≡ flat_map (λ (x : Placed). f x.holding) (filter (is_of i) held)
+turn_unreleased f none [] i = refl
+turn_unreleased f none (x ∷ xs) i = turn_step f x (is_of i x) x.holding.released (filter (is_unreleased_of i) xs) (filter (is_of i) xs) (none x.holding) (turn_unreleased f none xs i)
+
+turn_is : (f : Holding → List Release) → ((item : Holding) → item.released ≡ true → f item ≡ []) → (held : List Placed) (i : ℕ) → flat_map (λ (x : Placed). f x.holding) (filter (is_unreleased_of i) held) ≡ in_turn f (map holding_at held) i
+turn_is f none held i = turn_unreleased f none held i ∙ sym (ap (flat_map f) (filter_mapped (in_interval i) holding_at held) ∙ flat_mapped f (filter (is_of i) held))
+
+pub tried_all : (cfg : Config) (tips : List Tip) (begun walks : List Walking) (held : List Placed) (i n : ℕ) (at : Option Place) (before batch : List Proved) → Trying cfg tips begun walks held i n at before batch → drop n (filter (is_unreleased_of i) held) ≡ [] → map release_in batch ≡ map release_in before ++ in_turn (proof_of cfg tips (rows_of begun)) (map holding_at held) i
 tried_all cfg tips begun walks held i n at before batch s h =
-    s.releases ∙ ap (λ xs. map release_in before ++ flat_map (λ (x : Placed). proof_of cfg tips (rows_of begun) x.holding) xs) (take_all n (filter (is_of i) held) h)
-    ∙ ap (λ rs. map release_in before ++ rs) (turn_is (proof_of cfg tips (rows_of begun)) held i)
+    s.releases ∙ ap (λ xs. map release_in before ++ flat_map (λ (x : Placed). proof_of cfg tips (rows_of begun) x.holding) xs) (take_all n (filter (is_unreleased_of i) held) h)
+    ∙ ap (λ rs. map release_in before ++ rs) (turn_is (proof_of cfg tips (rows_of begun)) (λ item e. released_nothing item.released (released_on item (find (proves_on cfg tips (rows_of begun) item) (chains cfg))) e) held i)
 
-pub none_left : (cfg : Config) (tips : List Tip) (begun walks : List Walking) (held : List Placed) (i n : ℕ) (at : Option Place) (before batch : List Proved) → Trying cfg tips begun walks held i n at before batch → at ≡ None → drop n (filter (is_of i) held) ≡ []
-none_left cfg tips begun walks held i n at before batch s h = no_first (drop n (filter (is_of i) held)) (sym s.next ∙ h)
+pub none_left : (cfg : Config) (tips : List Tip) (begun walks : List Walking) (held : List Placed) (i n : ℕ) (at : Option Place) (before batch : List Proved) → Trying cfg tips begun walks held i n at before batch → at ≡ None → drop n (filter (is_unreleased_of i) held) ≡ []
+none_left cfg tips begun walks held i n at before batch s h = no_first (drop n (filter (is_unreleased_of i) held)) (sym s.next ∙ h)
+
+-- those that aren't released are no more
+pub unreleased_few : (held : List Placed) (i : ℕ) → length (filter (is_unreleased_of i) held) ≤ length (filter (is_of i) held)
+unreleased_few [] i = omega arith
+unreleased_few (x ∷ xs) i =
+    let rest = unreleased_few xs i in
+    elim (is_of i x) as (λ b. length (cond (b && not x.holding.released) (x ∷ filter (is_unreleased_of i) xs) (filter (is_unreleased_of i) xs)) ≤ length (cond b (x ∷ filter (is_of i) xs) (filter (is_of i) xs))) [
+      | true ↦ elim (x.holding.released) as (λ r. length (cond (true && not r) (x ∷ filter (is_unreleased_of i) xs) (filter (is_unreleased_of i) xs)) ≤ length (x ∷ filter (is_of i) xs)) [ true ↦ omega arith | false ↦ omega arith ]
+      | false ↦ rest
+    ]
 
 -- ---- a walk down the intervals that are reached
 

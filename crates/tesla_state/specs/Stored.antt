@@ -151,6 +151,19 @@ abbrev pub next_place : ℕ → List Placed → Option Place
 next_place place [] = None
 next_place place (x ∷ xs) = cond (stands_at place x) (first_place (filter (is_of x.holding.name.interval) xs)) (next_place place xs)
 
+-- the packet is of the interval and isn't released
+abbrev pub is_unreleased_of : ℕ → Placed → Bool
+is_unreleased_of interval x = is_of interval x && not x.holding.released
+
+-- it stands there and isn't released
+abbrev pub is_unreleased_at : ℕ → Placed → Bool
+is_unreleased_at place x = stands_at place x && not x.holding.released
+
+-- the place of the next packet of the same interval behind the one in a place, among those that aren't released
+abbrev pub next_unreleased : ℕ → List Placed → Option Place
+next_unreleased place [] = None
+next_unreleased place (x ∷ xs) = cond (stands_at place x) (first_place (filter (is_unreleased_of x.holding.name.interval) xs)) (next_unreleased place xs)
+
 -- the item in a place has room for its payload, and zeros behind its tags
 abbrev pub IsItemOf : ℕ → Held → Type 0
 IsItemOf chains held = IsItem chains held.item

@@ -1,13 +1,13 @@
 //! The packets that newest keys have passed are let go.
 
-ghost use Rattle.std.specs.Prelude.{◌≡◌, ℕ, ◌&&◌, ◌<◌, [], All, true, not, length, map, filter, find, Some, if◌then◌else◌};
+ghost use Rattle.std.specs.Prelude.{◌≡◌, ℕ, ◌&&◌, ◌<◌, All, true, not, length, map, filter, find, Some, if◌then◌else◌};
 ghost use Rattle.std.specs.List.{list_all, list_any};
 ghost use Rattle.tesla_links.specs.Lists.{Distinct};
 ghost use Rattle.tesla_fitting.specs.Config.{chains};
 ghost use Rattle.tesla_state.specs.ItemShown.{holding_in};
 ghost use Rattle.tesla_state.specs.Offered.{IsOfChains};
-ghost use Rattle.tesla_state.specs.Steps.{is_passed, is_over, is_let_go};
-ghost use Rattle.tesla_state.specs.Stored.{Placed, place_of, stands_at, without, is_of, is_idle, in_reach};
+ghost use Rattle.tesla_state.specs.Steps.{is_passed, is_over};
+ghost use Rattle.tesla_state.specs.Stored.{Placed, place_of, stands_at, waits, without, is_of, is_unreleased_at, is_unreleased_of, is_idle, in_reach};
 ghost use Rattle.tesla_state.specs.Walking.{rows_of};
 
 use crate::Store;
@@ -61,41 +61,51 @@ fn all_over(config: &Config, tips: &[Verifier], item: &Item) -> bool
     true
 }
 
-// Whether the packet isn't needed any more.
-fn is_idle(config: &Config, tips: &[Verifier], item: &Item) -> bool
-    requires { length tips.now ≡ length config.now.setup.rows }
-    ensures { (count : ℕ) → result ≡ is_let_go config.now tips.now [] (holding_in count item.now) }
+// Whether the packet doesn't wait to be taken.
+fn rests(item: &Item) -> bool
+    ensures { (count : ℕ) (place : ℕ) → result ≡ not (waits (record { place = place; holding = holding_in count item.now })) }
 {
-    if !item.released && all_over(config, tips, item) {
-        return true;
-    }
-    item.taken && all_passed(config, tips, item.name.interval)
+    !item.released || item.taken
 }
 
 impl Store {
-    // Lets the packet in a place go if it isn't needed any more.
-    fn let_go_idle(&mut self, config: &Config, tips: &[Verifier], place: Place)
-        requires tips { length tips.now ≡ length config.now.setup.rows }
-        requires live { list_any (stands_at place.0) self.old.held ≡ true }
+    // Lets the packet in a place go if it doesn't wait to be taken.
+    fn let_go_resting(&mut self, place: Place)
+        requires { list_any (stands_at place.0) self.old.held ≡ true }
         ensures capacity { self.new.capacity ≡ self.old.capacity }
         ensures chains { self.new.chains ≡ self.old.chains }
         ensures held { (x : Placed) → find (stands_at place.0) self.old.held ≡ Some x →
-            self.new.held ≡ (if is_idle config.now tips.now x then without place.0 self.old.held else self.old.held) }
+            self.new.held ≡ (if not (waits x) then without place.0 self.old.held else self.old.held) }
         ensures waiting { self.new.waiting ≡ self.old.waiting }
         ensures given { self.new.given ≡ self.old.given }
     {
-        if is_idle(config, tips, self.item(place)) {
+        if rests(self.item(place)) {
             self.discard(place);
         }
     }
 
-    // Lets the packets of an interval go that aren't needed any more.
-    fn sweep(&mut self, config: &Config, tips: &[Verifier], interval: u32)
+    // Lets the packet in a place go, which isn't released, if no chain can prove it any more.
+    fn let_go_over(&mut self, config: &Config, tips: &[Verifier], place: Place)
         requires tips { length tips.now ≡ length config.now.setup.rows }
-        requires apart { Distinct (map place_of self.old.held) }
+        requires live { list_any (is_unreleased_at place.0) self.old.held ≡ true }
         ensures capacity { self.new.capacity ≡ self.old.capacity }
         ensures chains { self.new.chains ≡ self.old.chains }
-        ensures held { self.new.held ≡ filter (λ x. not (is_of interval x && is_idle config.now tips.now x)) self.old.held }
+        ensures held { (x : Placed) → find (stands_at place.0) self.old.held ≡ Some x →
+            self.new.held ≡ (if list_all (is_over tips.now x.holding) (chains config.now) then without place.0 self.old.held else self.old.held) }
+        ensures waiting { self.new.waiting ≡ self.old.waiting }
+        ensures given { self.new.given ≡ self.old.given }
+    {
+        if all_over(config, tips, self.item(place)) {
+            self.discard(place);
+        }
+    }
+
+    // Lets the packets of an interval go that every chain has passed, but for those that wait to be taken.
+    fn sweep_passed(&mut self, interval: u32)
+        requires { Distinct (map place_of self.old.held) }
+        ensures capacity { self.new.capacity ≡ self.old.capacity }
+        ensures chains { self.new.chains ≡ self.old.chains }
+        ensures held { self.new.held ≡ filter (λ x. not (is_of interval x && not (waits x))) self.old.held }
         ensures waiting { self.new.waiting ≡ self.old.waiting }
         ensures given { self.new.given ≡ self.old.given }
     {
@@ -105,7 +115,45 @@ impl Store {
                 return;
             };
             next = self.next_of(place);
-            self.let_go_idle(config, tips, place);
+            self.let_go_resting(place);
+        }
+    }
+
+    // Lets the packets of an interval go that aren't released, and that no chain can prove any more.
+    fn sweep_unreleased(&mut self, config: &Config, tips: &[Verifier], interval: u32)
+        requires tips { length tips.now ≡ length config.now.setup.rows }
+        requires apart { Distinct (map place_of self.old.held) }
+        ensures capacity { self.new.capacity ≡ self.old.capacity }
+        ensures chains { self.new.chains ≡ self.old.chains }
+        ensures held { self.new.held ≡ filter (λ x. not (is_unreleased_of interval x && list_all (is_over tips.now x.holding) (chains config.now))) self.old.held }
+        ensures waiting { self.new.waiting ≡ self.old.waiting }
+        ensures given { self.new.given ≡ self.old.given }
+    {
+        let mut next = self.first_unreleased(interval);
+        for _looked in 0..self.unreleased_in(interval) {
+            let Some(place) = next else {
+                return;
+            };
+            next = self.next_unreleased(place);
+            self.let_go_over(config, tips, place);
+        }
+    }
+
+    // Lets the packets of an interval go that aren't needed any more. Before every chain has passed the interval,
+    // those are among the packets that aren't released.
+    fn sweep(&mut self, config: &Config, tips: &[Verifier], interval: u32)
+        requires tips { length tips.now ≡ length config.now.setup.rows }
+        requires apart { Distinct (map place_of self.old.held) }
+        ensures capacity { self.new.capacity ≡ self.old.capacity }
+        ensures chains { self.new.chains ≡ self.old.chains }
+        ensures held { self.new.held ≡ filter (λ x. not (is_of interval x && is_idle config.now tips.now x)) self.old.held }
+        ensures waiting { self.new.waiting ≡ self.old.waiting }
+        ensures given { self.new.given ≡ self.old.given }
+    {
+        if all_passed(config, tips, interval) {
+            self.sweep_passed(interval);
+        } else {
+            self.sweep_unreleased(config, tips, interval);
         }
     }
 

@@ -4,7 +4,7 @@ ghost use Rattle.std.specs.Prelude.{◌≡◌, ◌+◌, ◌<◌, ◌≤◌, ◌�
 ghost use Rattle.std.specs.List.{list_any};
 ghost use Rattle.tesla_base.specs.Tag.{tag_bytes};
 ghost use Rattle.tesla_links.specs.Lists.{Distinct};
-ghost use Rattle.tesla_state.specs.Stored.{stands_at, rests_at, is_proved_by, with_released, without, place_of, is_of, first_place, next_place};
+ghost use Rattle.tesla_state.specs.Stored.{stands_at, rests_at, is_proved_by, with_released, without, place_of, is_of, is_unreleased_at, is_unreleased_of, first_place, next_place, next_unreleased};
 ghost use Rattle.tesla_state.specs.ItemShown.{holding_in, IsItem};
 ghost use Rattle.tesla_fitting.specs.Rows.{IsFilled};
 ghost use Rattle.tesla_state.specs.Steps.{in_interval, is_named_so};
@@ -109,6 +109,29 @@ impl Store {
         ensures { result ≡ next_place place.0 self.now.held }
     {
         self.buffer.next_of(place)
+    }
+
+    /// How many packets of an interval are held that aren't released.
+    pub fn unreleased_in(&self, interval: u32) -> u32
+        ensures { result ≡ length (filter (is_unreleased_of interval) self.now.held) }
+    {
+        self.buffer.unreleased_in(interval)
+    }
+
+    /// The place of the first packet of an interval that isn't released; `None` exactly where none is held.
+    pub fn first_unreleased(&self, interval: u32) -> Option<Place>
+        ensures { result ≡ first_place (filter (is_unreleased_of interval) self.now.held) }
+    {
+        self.buffer.first_unreleased(interval)
+    }
+
+    /// The place of the next packet that isn't released, of the same interval as the one in a place, which isn't
+    /// released either; `None` exactly where that is the last.
+    pub fn next_unreleased(&self, place: Place) -> Option<Place>
+        requires { list_any (is_unreleased_at place.0) self.now.held ≡ true }
+        ensures { result ≡ next_unreleased place.0 self.now.held }
+    {
+        self.buffer.next_unreleased(place)
     }
 
     /// Holds a packet of these parts, behind the others: it isn't released.

@@ -79,7 +79,8 @@ impl Store {
         append(batch, proved);
     }
 
-    // Tries the packets of an interval, in order of arrival.
+    // Tries the packets of an interval, in order of arrival. Those that are released are passed over: keys prove
+    // nothing of them.
     fn try_interval<L: Ledger>(
         &self,
         config: &Config,
@@ -104,12 +105,12 @@ impl Store {
         ensures cost { steps.new + left tips.now walks.new ≤ steps.old + left tips.now walks.old
             + 2 * pairs config.now tips.now (rows_of walks.old) (filter (in_interval interval) (map holding_at self.now.held)) }
     {
-        let mut next = self.first_of(interval);
-        for _looked in 0..self.held_in(interval) {
+        let mut next = self.first_unreleased(interval);
+        for _looked in 0..self.unreleased_in(interval) {
             let Some(place) = next else {
                 return;
             };
-            next = self.next_of(place);
+            next = self.next_unreleased(place);
             self.try_at(config, tips, walks, place, batch, steps);
         }
     }

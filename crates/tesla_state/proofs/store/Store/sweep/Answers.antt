@@ -1,38 +1,11 @@
-use Rattle.std.proofs.Common.{◌≡◌, subst, length, ◌≤◌}
-use Rattle.std.specs.Prelude.{Option}
-use Rattle.std.specs.List.{filter}
-use Rattle.tesla_base.specs.declared.names.Place.{Place}
-use Rattle.tesla_state.specs.Stored.{is_idle, is_of}
-use Rattle.tesla_state.proofs.Sweeping.{Sweeping, sweeping_none, sweeping_more, swept_through, swept_long, found_next, next_at, found_any}
+use Rattle.std.proofs.Common.{◌∙◌, sym}
+use Rattle.tesla_state.proofs.Sweeping.{passed_go, unreleased_go}
 use Rattle.tesla_state.proofs.store.Store.sweep.Goals as goal
 
-pub loop-looked-init : goal.loop-looked-init
-loop-looked-init c = sweeping_none c.args.self.now c.args.interval (is_idle c.args.config.now c.args.tips.now) c.first_of-next.result c.first_of-next.ensures
+pub returns-then-all_passed-clause-held : goal.returns-then-all_passed-clause-held
+returns-then-all_passed-clause-held c =
+    c.sweep_passed.ensures.held ∙ passed_go c.args.config.now c.args.tips.now c.args.interval (sym c.all_passed.ensures ∙ c.if-all_passed.true) c.args.self.now.held
 
-pub returns-in_default-clause-held : goal.returns-in_default-clause-held
-returns-in_default-clause-held c =
-    swept_through c.args.self.now c.loop-looked.self c.args.interval (is_idle c.args.config.now c.args.tips.now) c.loop-looked._looked c.loop-looked.next c.loop-looked.invariant c.in_default.is
-
-pub next_of-next-requires : goal.next_of-next-requires
-next_of-next-requires c =
-    let s = subst (λ (o : Option Place). Sweeping c.args.self.now c.loop-looked.self c.args.interval (is_idle c.args.config.now c.args.tips.now) c.loop-looked._looked o) c.in-Some.is c.loop-looked.invariant in
-    found_any c.in-Some.place.0 (next_at c.args.self.now c.loop-looked.self c.args.interval (is_idle c.args.config.now c.args.tips.now) c.loop-looked._looked c.in-Some.place s).first c.loop-looked.self.held
-    (found_next c.args.self.now c.loop-looked.self c.args.interval (is_idle c.args.config.now c.args.tips.now) c.loop-looked._looked c.in-Some.place c.requires.apart s)
-
-pub let_go_idle-requires-clause-live : goal.let_go_idle-requires-clause-live
-let_go_idle-requires-clause-live c =
-    let s = subst (λ (o : Option Place). Sweeping c.args.self.now c.loop-looked.self c.args.interval (is_idle c.args.config.now c.args.tips.now) c.loop-looked._looked o) c.in-Some.is c.loop-looked.invariant in
-    found_any c.in-Some.place.0 (next_at c.args.self.now c.loop-looked.self c.args.interval (is_idle c.args.config.now c.args.tips.now) c.loop-looked._looked c.in-Some.place s).first c.loop-looked.self.held
-    (found_next c.args.self.now c.loop-looked.self c.args.interval (is_idle c.args.config.now c.args.tips.now) c.loop-looked._looked c.in-Some.place c.requires.apart s)
-
-pub loop-looked-preserved : goal.loop-looked-preserved
-loop-looked-preserved c =
-    let s = subst (λ (o : Option Place). Sweeping c.args.self.now c.loop-looked.self c.args.interval (is_idle c.args.config.now c.args.tips.now) c.loop-looked._looked o) c.in-Some.is c.loop-looked.invariant in
-    sweeping_more c.args.self.now c.loop-looked.self c.let_go_idle.new.self c.args.interval (is_idle c.args.config.now c.args.tips.now) c.loop-looked._looked c.in-Some.place c.next_of-next.result c.requires.apart s c.next_of-next.ensures
-    c.let_go_idle.ensures.capacity c.let_go_idle.ensures.chains c.let_go_idle.ensures.waiting c.let_go_idle.ensures.given c.let_go_idle.ensures.held
-
-pub returns-clause-held : goal.returns-clause-held
-returns-clause-held c =
-    let count : c.held_in-looked-end.result ≡ length (filter (is_of c.args.interval) c.args.self.now.held) = c.held_in-looked-end.ensures in
-    let all : length (filter (is_of c.args.interval) c.args.self.now.held) ≤ c.loop-looked._looked = rw count at c.loop-looked-test.false in
-    swept_long c.args.self.now c.loop-looked.self c.args.interval (is_idle c.args.config.now c.args.tips.now) c.loop-looked._looked c.loop-looked.next c.loop-looked.invariant all
+pub returns-else-all_passed-clause-held : goal.returns-else-all_passed-clause-held
+returns-else-all_passed-clause-held c =
+    c.sweep_unreleased.ensures.held ∙ unreleased_go c.args.config.now c.args.tips.now c.args.interval (sym c.all_passed.ensures ∙ c.if-all_passed.false) c.args.self.now.held
