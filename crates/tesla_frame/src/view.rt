@@ -1,6 +1,6 @@
 //! What was read of a frame: views that borrow the payload and the rows from the datagram.
 
-ghost use Rattle.std.specs.Prelude.{◌≡◌, ◌*◌, ◌<◌, ◌≤◌, length, take, map, Some, option_map, is_some};
+ghost use Rattle.std.specs.Prelude.{◌≡◌, ◌*◌, ◌<◌, ◌≤◌, length, take, map, Some, option_map};
 ghost use Rattle.std.specs.List.{slice_get};
 ghost use Rattle.tesla_base.specs.Tag.{wide_tag};
 ghost use Rattle.tesla_base.specs.Version.{number_of, most_chains, IsTagLength};
@@ -133,26 +133,8 @@ impl<'a> DataView<'a> {
         ensures tag { option_map (λ row. wide_tag row.tag) (slice_get self.now.rows chain) ≡ Some result }
         ensures length { result.length ≡ self.now.tag_length }
     {
-        WideTag::of(self.tag_bytes(chain))
-    }
-
-    /// The bytes of the tag of a chain, borrowed from the datagram: as many as `tag_length` tells.
-    pub fn tag_bytes(&self, chain: u8) -> &'a [u8]
-        requires { chain < length self.now.rows }
-        ensures tag { option_map (λ row. row.tag) (slice_get self.now.rows chain) ≡ Some result.now }
-        ensures length { length result.now ≡ self.now.tag_length }
-    {
         let start = self.starts[chain as usize] as usize;
-        &self.rows[start..start + self.tag_length as usize]
-    }
-
-    /// Whether the frame has a key of a chain.
-    pub fn has_key(&self, chain: u8) -> bool
-        requires { chain < length self.now.rows }
-        ensures { option_map (λ row. is_some row.key) (slice_get self.now.rows chain) ≡ Some result }
-    {
-        let start = self.starts[chain as usize] as usize;
-        self.rows[start + self.tag_length as usize] == 1
+        WideTag::of(&self.rows[start..start + self.tag_length as usize])
     }
 
     /// The key of a chain, copied from the datagram, where the frame has one.
