@@ -47,16 +47,16 @@ released_none : (b : Bool) (n : ℕ) → b ≡ true → cond b 0 n ≡ 0
 released_none true n e = refl
 released_none false n e = absurd (cc)
 
-sum_step : (number : Holding → ℕ) (x : Placed) (a r : Bool) (unreleased all : List Placed) → (r ≡ true → number x.holding ≡ 0) → sum_by number (map holding_at unreleased) ≡ sum_by number (map holding_at all)
+unreleased_step : (number : Holding → ℕ) (x : Placed) (a r : Bool) (unreleased all : List Placed) → (r ≡ true → number x.holding ≡ 0) → sum_by number (map holding_at unreleased) ≡ sum_by number (map holding_at all)
     → sum_by number (map holding_at (cond (a && not r) (x ∷ unreleased) unreleased)) ≡ sum_by number (map holding_at (cond a (x ∷ all) all))
-sum_step number x true true unreleased all none h = let nothing = none refl in omega (arith, nothing, h, sum_by-cons number x.holding (map holding_at all))
-sum_step number x true false unreleased all none h = omega (arith, h, sum_by-cons number x.holding (map holding_at unreleased), sum_by-cons number x.holding (map holding_at all))
-sum_step number x false r unreleased all none h = h
+unreleased_step number x true true unreleased all none h = let nothing = none refl in omega (arith, nothing, h, sum_by-cons number x.holding (map holding_at all))
+unreleased_step number x true false unreleased all none h = omega (arith, h, sum_by-cons number x.holding (map holding_at unreleased), sum_by-cons number x.holding (map holding_at all))
+unreleased_step number x false r unreleased all none h = h
 
 -- where a released packet counts for nothing
 sum_unreleased : (number : Holding → ℕ) → ((item : Holding) → item.released ≡ true → number item ≡ 0) → (held : List Placed) (i : ℕ) → sum_by number (map holding_at (filter (is_unreleased_of i) held)) ≡ sum_by number (map holding_at (filter (is_of i) held))
 sum_unreleased number none [] i = refl
-sum_unreleased number none (x ∷ xs) i = sum_step number x (is_of i x) x.holding.released (filter (is_unreleased_of i) xs) (filter (is_of i) xs) (none x.holding) (sum_unreleased number none xs i)
+sum_unreleased number none (x ∷ xs) i = unreleased_step number x (is_of i x) x.holding.released (filter (is_unreleased_of i) xs) (filter (is_of i) xs) (none x.holding) (sum_unreleased number none xs i)
 
 module _ (cfg : Config) (tips : List Tip) (begun : List Walking) (held : List Placed) (i n : ℕ) where
   -- one packet more was tried

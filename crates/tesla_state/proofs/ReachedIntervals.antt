@@ -38,9 +38,6 @@ pub record Reaching (newest : ℕ → ℕ) (rows : List KeyRow) (low high highes
   pub met : low < highest → (highest ≤ high) × (is_reached newest rows highest ≡ true)
   pub none : (n : ℕ) → highest < n → n ≤ high → is_reached newest rows n ≡ false
 
-pub reaching_none : (newest : ℕ → ℕ) (low high : ℕ) → Reaching newest [] low high low
-reaching_none newest low high = record { least = omega arith; met = λ h. absurd (omega arith); none = λ n above below. refl }
-
 module _ (newest : ℕ → ℕ) (walks : List Walking) (i : ℕ) (d : Walking) (row : KeyRow) (inside : i < length walks) (is : row ≡ (get_or walks i d).row) (low high highest : ℕ) (so_far : Reaching newest (take i (rows_of walks)) low high highest) where
   one_more : (n : ℕ) → is_reached newest (take (i + 1) (rows_of walks)) n ≡ (is_reached newest (take i (rows_of walks)) n || is_first newest n row)
   one_more n =
@@ -83,17 +80,6 @@ module _ (newest : ℕ → ℕ) (walks : List Walking) (i : ℕ) (d : Walking) (
     met = met_more;
     none = λ n h k. none_more n h k (elim (cases_lt row.index n) [ inl past ↦ isnt_first (newest row.chain.0) n row.index (inl past) | inr upto ↦ isnt_first (newest row.chain.0) n row.index (inr (omega arith)) ]);
   }
-
--- all keys are known: there is no such interval, or this is the highest
-pub reaching_ends : (newest : ℕ → ℕ) (rows : List KeyRow) (low high highest : ℕ) → Reaching newest rows low high highest → highest ≡ low → IsHighest (is_reached newest rows) low high None
-reaching_ends newest rows low high highest r e i above below = r.none i (omega arith) below
-
-pub reaching_found : (newest : ℕ → ℕ) (rows : List KeyRow) (low high highest : ℕ) → Reaching newest rows low high highest → (highest ≡ low → ⊥) → IsHighest (is_reached newest rows) low high (Some highest)
-reaching_found newest rows low high highest r other =
-    let least = r.least in
-    let above : low < highest = omega (arith, other) in
-    let it = r.met above in
-    (above, it.0, it.1, r.none)
 
 -- two tests that are the same
 pub highest_by : (met test : ℕ → Bool) (low high : ℕ) → ((n : ℕ) → met n ≡ test n) → (o : Option ℕ) → IsHighest met low high o → IsHighest test low high o
