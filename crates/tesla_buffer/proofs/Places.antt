@@ -264,11 +264,11 @@ first_any f t (h ∷ hs) p passes e =
 pub first_live : (f : Held → Bool) (hs : List Held) (p : Place) → Some p ≡ first_place (filter f hs) → is_live p.0 hs ≡ true
 first_live f hs p e = first_any f (is_at p.0) hs p (λ h y s. eq-eqb h.place p.0 s) e
 
-open_passes : (i : ℕ) (p : Place) (h : Held) → is_unreleased_of i h ≡ true → h.place ≡ p.0 → is_unreleased_at p.0 h ≡ true
-open_passes i p h y s = and_from (is_at p.0 h) (not h.item.released) (eq-eqb h.place p.0 s) (and_parts (is_of i h) (not h.item.released) y).1
+unreleased_passes : (i : ℕ) (p : Place) (h : Held) → is_unreleased_of i h ≡ true → h.place ≡ p.0 → is_unreleased_at p.0 h ≡ true
+unreleased_passes i p h y s = and_from (is_at p.0 h) (not h.item.released) (eq-eqb h.place p.0 s) (and_parts (is_of i h) (not h.item.released) y).1
 
-pub first_open : (i : ℕ) (hs : List Held) (p : Place) → Some p ≡ first_place (filter (is_unreleased_of i) hs) → list_any (is_unreleased_at p.0) hs ≡ true
-first_open i hs p e = first_any (is_unreleased_of i) (is_unreleased_at p.0) hs p (open_passes i p) e
+pub first_unreleased_there : (i : ℕ) (hs : List Held) (p : Place) → Some p ≡ first_place (filter (is_unreleased_of i) hs) → list_any (is_unreleased_at p.0) hs ≡ true
+first_unreleased_there i hs p e = first_any (is_unreleased_of i) (is_unreleased_at p.0) hs p (unreleased_passes i p) e
 
 -- the next place
 next_any : (at : ℕ) (those : ℕ → Held → Bool) (next : List Held → Option Place) (t : Held → Bool) (p : Place)
@@ -289,8 +289,8 @@ next_live at hs p e = next_any at is_of (next_place at) (is_at p.0) p refl (λ h
 pub next_unreleased_live : (at : ℕ) (hs : List Held) (p : Place) → Some p ≡ next_unreleased at hs → is_live p.0 hs ≡ true
 next_unreleased_live at hs p e = next_any at is_unreleased_of (next_unreleased at) (is_at p.0) p refl (λ h xs. refl) (λ i h y s. eq-eqb h.place p.0 s) hs e
 
-pub next_open : (at : ℕ) (hs : List Held) (p : Place) → Some p ≡ next_unreleased at hs → list_any (is_unreleased_at p.0) hs ≡ true
-next_open at hs p e = next_any at is_unreleased_of (next_unreleased at) (is_unreleased_at p.0) p refl (λ h xs. refl) (λ i h y s. open_passes i p h y s) hs e
+pub next_unreleased_there : (at : ℕ) (hs : List Held) (p : Place) → Some p ≡ next_unreleased at hs → list_any (is_unreleased_at p.0) hs ≡ true
+next_unreleased_there at hs p e = next_any at is_unreleased_of (next_unreleased at) (is_unreleased_at p.0) p refl (λ h xs. refl) (λ i h y s. unreleased_passes i p h y s) hs e
 
 -- the place of a packet that passes a test
 pub test_live : (f : Held → Bool) (p : ℕ) (hs : List Held) → list_any (λ h. is_at p h && f h) hs ≡ true → is_live p hs ≡ true

@@ -31,17 +31,17 @@ at_place keys groups marks p [] = refl
 at_place keys groups marks p (x ∷ xs) = ap (λ b. eqb x p || b) (at_place keys groups marks p xs)
 
 -- and an unmarked one where it isn't marked too
-pub open_at_place : (keys : List (Option ℕ)) (groups : List ℕ) (marks : ℕ → Bool) (p : ℕ) (xs : List ℕ) → list_any (is_unmarked_at p) (map (entry_of keys groups marks) xs) ≡ true
+pub unmarked_at_place : (keys : List (Option ℕ)) (groups : List ℕ) (marks : ℕ → Bool) (p : ℕ) (xs : List ℕ) → list_any (is_unmarked_at p) (map (entry_of keys groups marks) xs) ≡ true
     → (is_in p xs ≡ true) × (marks p ≡ false)
-open_at_place keys groups marks p [] i = absurd (false≢true i)
-open_at_place keys groups marks p (x ∷ xs) i =
+unmarked_at_place keys groups marks p [] i = absurd (false≢true i)
+unmarked_at_place keys groups marks p (x ∷ xs) i =
     ⊎_elim
     (λ (here : (eqb x p && not (marks x)) ≡ true).
     let parts = and_parts (eqb x p) (not (marks x)) here in
     let s : x ≡ p = eqb-true x p parts.0 in
     (or_left (eqb x p) (is_in p xs) parts.0, sym (ap marks s) ∙ not-true (marks x) parts.1))
     (λ (more : list_any (is_unmarked_at p) (map (entry_of keys groups marks) xs) ≡ true).
-    let rest = open_at_place keys groups marks p xs more in
+    let rest = unmarked_at_place keys groups marks p xs more in
     (in_there x p xs rest.0, rest.1))
     (or_cases (eqb x p && not (marks x)) (list_any (is_unmarked_at p) (map (entry_of keys groups marks) xs)) i)
 
@@ -175,26 +175,26 @@ module _ (capacity : ℕ) (order members : Lists) (groups : List ℕ) (keys : Li
     abbrev marks : ℕ → Bool
     marks = is_marked capacity unmarked
 
-    pub open_key : (g key : ℕ) → get_or keys g None ≡ Some key → filter (is_unmarked_under key) (map (entry_of keys groups marks) listed) ≡ map (entry_of keys groups marks) (list_of unmarked g)
-    open_key g key slot =
+    pub unmarked_key : (g key : ℕ) → get_or keys g None ≡ Some key → filter (is_unmarked_under key) (map (entry_of keys groups marks) listed) ≡ map (entry_of keys groups marks) (list_of unmarked g)
+    unmarked_key g key slot =
         let unmarked_entry = λ (e : Entry). not e.marked in
         sym (filter_both (is_under key) unmarked_entry (map (entry_of keys groups marks) listed))
         ∙ ap (filter unmarked_entry) (under_key marks g key slot)
         ∙ filter-map unmarked_entry (entry_of keys groups marks) (list_of members g)
         ∙ ap (map (entry_of keys groups marks)) (sym (m.open_places g (group_within g key slot)))
 
-    pub open_none : (key : ℕ) → list_any (has_key key) keys ≡ false → filter (is_unmarked_under key) (map (entry_of keys groups marks) listed) ≡ []
-    open_none key none =
+    pub unmarked_none : (key : ℕ) → list_any (has_key key) keys ≡ false → filter (is_unmarked_under key) (map (entry_of keys groups marks) listed) ≡ []
+    unmarked_none key none =
         let unmarked_entry = λ (e : Entry). not e.marked in
         sym (filter_both (is_under key) unmarked_entry (map (entry_of keys groups marks) listed)) ∙ ap (filter unmarked_entry) (under_none marks key none)
 
-    pub in_open : (p : ℕ) → is_in p listed ≡ true → marks p ≡ false → is_in p (list_of unmarked (group_of groups p)) ≡ true
-    in_open p i none =
+    pub in_unmarked : (p : ℕ) → is_in p listed ≡ true → marks p ≡ false → is_in p (list_of unmarked (group_of groups p)) ≡ true
+    in_unmarked p i none =
         ap (is_in p) (m.open_places (group_of groups p) (h.within p i).1)
         ∙ in_filter_from (λ q. not (marks q)) p (list_of members (group_of groups p)) (in_group p i) (not_from_false (marks p) none)
 
-    pub open_next_is : (p : ℕ) → is_in p listed ≡ true → marks p ≡ false → next_in p (list_of unmarked (group_of groups p)) ≡ next_unmarked p (map (entry_of keys groups marks) listed)
-    open_next_is p i none =
+    pub unmarked_next_is : (p : ℕ) → is_in p listed ≡ true → marks p ≡ false → next_in p (list_of unmarked (group_of groups p)) ≡ next_unmarked p (map (entry_of keys groups marks) listed)
+    unmarked_next_is p i none =
         let member = λ (q : ℕ). eqb (group_of groups q) (group_of groups p) in
         let left = λ (q : ℕ). not (marks q) in
         ap (next_in p) (m.open_places (group_of groups p) (h.within p i).1 ∙ ap (filter left) (h.member (group_of groups p) (h.within p i).1) ∙ filter_both member left listed)
@@ -205,7 +205,7 @@ module _ (capacity : ℕ) (order members : Lists) (groups : List ℕ) (keys : Li
     pub marked_somewhere : (p : ℕ) → is_in p listed ≡ true → list_any (is_in p) unmarked.lists ≡ true
     marked_somewhere p i =
         ⊎_elim (λ (t : marks p ≡ true). somewhere p unmarked.lists capacity t)
-        (λ (none : marks p ≡ false). somewhere p unmarked.lists (group_of groups p) (in_open p i none))
+        (λ (none : marks p ≡ false). somewhere p unmarked.lists (group_of groups p) (in_unmarked p i none))
         (cases_Bool (marks p))
 
     pub marked_nowhere : (p : ℕ) → is_in p listed ≡ false → list_any (is_in p) unmarked.lists ≡ false
@@ -554,8 +554,8 @@ module _ (capacity : ℕ) (order unmarked : Lists) (groups : List ℕ) (keys : L
   pub seen_at : (p : ℕ) → list_any (is_at p) seen.entries ≡ is_in p (list_of order 0)
   seen_at p = ap (list_any (is_at p)) seen_entries ∙ at_place keys groups (is_marked capacity unmarked) p (list_of order 0)
 
-  pub seen_open : (p : ℕ) → list_any (is_unmarked_at p) seen.entries ≡ true → (is_in p (list_of order 0) ≡ true) × (is_marked capacity unmarked p ≡ false)
-  seen_open p i = open_at_place keys groups (is_marked capacity unmarked) p (list_of order 0) (sym (ap (list_any (is_unmarked_at p)) seen_entries) ∙ i)
+  pub seen_unmarked : (p : ℕ) → list_any (is_unmarked_at p) seen.entries ≡ true → (is_in p (list_of order 0) ≡ true) × (is_marked capacity unmarked p ≡ false)
+  seen_unmarked p i = unmarked_at_place keys groups (is_marked capacity unmarked) p (list_of order 0) (sym (ap (list_any (is_unmarked_at p)) seen_entries) ∙ i)
 
 -- a number is put at the end of a list
 joined_at : (lists lists' : Lists) (g p : ℕ) → g < length lists.lists → lists'.lists ≡ set lists.lists g (list_of lists g ++ p ∷ [])
@@ -592,22 +592,22 @@ module _ (capacity : ℕ) (order members unmarked order' members' unmarked' : Li
   members_joined : (j : ℕ) → list_of members' j ≡ cond (eqb j g) (list_of members j ++ p ∷ []) (list_of members j)
   members_joined = joined_at members members' g p (omega (arith, h.member_lists, chosen)) ml
 
-  open_joined : (j : ℕ) → list_of unmarked' j ≡ cond (eqb j g) (list_of unmarked j ++ p ∷ []) (list_of unmarked j)
-  open_joined = joined_at unmarked unmarked' g p (omega (arith, m.lists, chosen)) ul
+  unmarked_joined : (j : ℕ) → list_of unmarked' j ≡ cond (eqb j g) (list_of unmarked j ++ p ∷ []) (list_of unmarked j)
+  unmarked_joined = joined_at unmarked unmarked' g p (omega (arith, m.lists, chosen)) ul
 
   -- the marked places are as before
   same_marked : list_of unmarked' capacity ≡ list_of unmarked capacity
   same_marked =
-      open_joined capacity ∙ cond-false (eqb capacity g) (list_of unmarked capacity ++ p ∷ []) (list_of unmarked capacity) (ne_eqb capacity g (λ e. absurd (omega (arith, e, chosen))))
+      unmarked_joined capacity ∙ cond-false (eqb capacity g) (list_of unmarked capacity ++ p ∷ []) (list_of unmarked capacity) (ne_eqb capacity g (λ e. absurd (omega (arith, e, chosen))))
 
   own_unmarked : is_marked capacity unmarked p ≡ false
   own_unmarked = false_from_ne_true (is_marked capacity unmarked p) (λ i. false≢true (sym absent ∙ m.marked p i))
 
-  open_appended : (j : ℕ) → j < capacity → list_of unmarked' j ≡ filter (λ q. not (is_marked capacity unmarked' q)) (list_of members' j)
-  open_appended j below =
+  unmarked_appended : (j : ℕ) → j < capacity → list_of unmarked' j ≡ filter (λ q. not (is_marked capacity unmarked' q)) (list_of members' j)
+  unmarked_appended j below =
       let left = λ (q : ℕ). not (is_marked capacity unmarked q) in
       let xs = list_of members j in
-      open_joined j
+      unmarked_joined j
       ∙ ap (λ ys. cond (eqb j g) (ys ++ p ∷ []) ys) (m.open_places j below)
       ∙ (elim (eqb j g) as (λ b. cond b (filter left xs ++ p ∷ []) (filter left xs) ≡ filter left (cond b (xs ++ p ∷ []) xs)) [
         | true ↦ ap (λ ys. filter left xs ++ ys) (sym (cond-true (left p) (p ∷ []) [] (not_from_false (is_marked capacity unmarked p) own_unmarked))) ∙ sym (filter-append left xs (p ∷ []))
@@ -620,7 +620,7 @@ module _ (capacity : ℕ) (order members unmarked order' members' unmarked' : Li
   append_marked = record {
     places = up ∙ m.places;
     lists = ap length ul ∙ length-set unmarked.lists g (list_of unmarked g ++ p ∷ []) ∙ m.lists;
-    open_places = open_appended;
+    open_places = unmarked_appended;
     marked = λ q i. ap (is_in q) appended ∙ in_front q (list_of order 0) (p ∷ []) (m.marked q (ap (is_in q) (sym same_marked) ∙ i));
   }
 
@@ -650,21 +650,21 @@ module _ (capacity : ℕ) (order members unmarked order' members' unmarked' : Li
   members_left : (j : ℕ) → j < capacity → list_of members' j ≡ without p (list_of members j)
   members_left j below = left_at members members' p ml j (omega (arith, h.member_lists))
 
-  open_left : (j : ℕ) → j ≤ capacity → list_of unmarked' j ≡ without p (list_of unmarked j)
-  open_left j below = left_at unmarked unmarked' p ul j (omega (arith, m.lists))
+  unmarked_left : (j : ℕ) → j ≤ capacity → list_of unmarked' j ≡ without p (list_of unmarked j)
+  unmarked_left j below = left_at unmarked unmarked' p ul j (omega (arith, m.lists))
 
   -- the others are marked as before
   marks_left : (q : ℕ) → (q ≡ p → ⊥) → is_marked capacity unmarked' q ≡ is_marked capacity unmarked q
-  marks_left q ne = ap (is_in q) (open_left capacity (omega arith)) ∙ without_other p q (list_of unmarked capacity) ne
+  marks_left q ne = ap (is_in q) (unmarked_left capacity (omega arith)) ∙ without_other p q (list_of unmarked capacity) ne
 
   not_left : (q : ℕ) (xs : List ℕ) → is_in q (without p xs) ≡ true → q ≡ p → ⊥
   not_left q xs i s = differs q p (without p xs) i (without_same p xs) (sym s)
 
-  open_places_left : (j : ℕ) → j < capacity → list_of unmarked' j ≡ filter (λ q. not (is_marked capacity unmarked' q)) (list_of members' j)
-  open_places_left j below =
+  unmarked_places_left : (j : ℕ) → j < capacity → list_of unmarked' j ≡ filter (λ q. not (is_marked capacity unmarked' q)) (list_of members' j)
+  unmarked_places_left j below =
       let left = λ (q : ℕ). not (is_marked capacity unmarked q) in
       let left' = λ (q : ℕ). not (is_marked capacity unmarked' q) in
-      open_left j (omega arith) ∙ ap (without p) (m.open_places j below) ∙ filter-filter (λ q. not (eqb q p)) left (list_of members j)
+      unmarked_left j (omega arith) ∙ ap (without p) (m.open_places j below) ∙ filter-filter (λ q. not (eqb q p)) left (list_of members j)
       ∙ sym (filter_on left' left (without p (list_of members j)) (λ q i. ap not (marks_left q (not_left q (list_of members j) i))))
       ∙ ap (filter left') (sym (members_left j below))
 
@@ -672,9 +672,9 @@ module _ (capacity : ℕ) (order members unmarked order' members' unmarked' : Li
   remove_marked = record {
     places = up ∙ m.places;
     lists = ap length ul ∙ length-map unmarked.lists (without p) ∙ m.lists;
-    open_places = open_places_left;
+    open_places = unmarked_places_left;
     marked = λ q i.
-        let ne = not_left q (list_of unmarked capacity) (ap (is_in q) (sym (open_left capacity (omega arith))) ∙ i) in
+        let ne = not_left q (list_of unmarked capacity) (ap (is_in q) (sym (unmarked_left capacity (omega arith))) ∙ i) in
         ap (is_in q) listed_left ∙ without_other p q (list_of order 0) ne ∙ m.marked q (sym (marks_left q ne) ∙ i);
   }
 
@@ -724,14 +724,14 @@ module _ (capacity : ℕ) (order members unmarked unmarked' : Lists) (groups : L
       ∙ or-false (is_in q (without p (list_of unmarked capacity)))
       ∙ without_other p q (list_of unmarked capacity) ne
 
-  open_without : (j : ℕ) → j < capacity → list_of unmarked' j ≡ without p (list_of unmarked j)
-  open_without j below =
+  unmarked_without : (j : ℕ) → j < capacity → list_of unmarked' j ≡ without p (list_of unmarked j)
+  unmarked_without j below =
       ap (λ ls. get_or ls j []) ul
       ∙ get_or-set_other (map (without p) unmarked.lists) capacity j (without p (list_of unmarked capacity) ++ p ∷ []) [] (λ e. absurd (omega (arith, e, below)))
       ∙ get_or-map (without p) unmarked.lists j [] [] (omega (arith, m.lists))
 
-  fewer_open : (q : ℕ) → (not (is_marked capacity unmarked q) && not (eqb q p)) ≡ not (is_marked capacity unmarked' q)
-  fewer_open q =
+  fewer_unmarked : (q : ℕ) → (not (is_marked capacity unmarked q) && not (eqb q p)) ≡ not (is_marked capacity unmarked' q)
+  fewer_unmarked q =
       ⊎_elim
       (λ (s : q ≡ p).
       ap (λ b. not (is_marked capacity unmarked q) && not b) (eq-eqb q p s) ∙ and-false (not (is_marked capacity unmarked q))
@@ -741,17 +741,17 @@ module _ (capacity : ℕ) (order members unmarked unmarked' : Lists) (groups : L
       ∙ sym (ap not (marks_kept q ne)))
       (cases_eq q p)
 
-  open_fewer : (j : ℕ) → j < capacity → list_of unmarked' j ≡ filter (λ q. not (is_marked capacity unmarked' q)) (list_of members j)
-  open_fewer j below =
+  unmarked_fewer : (j : ℕ) → j < capacity → list_of unmarked' j ≡ filter (λ q. not (is_marked capacity unmarked' q)) (list_of members j)
+  unmarked_fewer j below =
       let left = λ (q : ℕ). not (is_marked capacity unmarked q) in
-      open_without j below ∙ ap (without p) (m.open_places j below) ∙ filter_both left (λ q. not (eqb q p)) (list_of members j)
-      ∙ filter_on (λ q. left q && not (eqb q p)) (λ q. not (is_marked capacity unmarked' q)) (list_of members j) (λ q i. fewer_open q)
+      unmarked_without j below ∙ ap (without p) (m.open_places j below) ∙ filter_both left (λ q. not (eqb q p)) (list_of members j)
+      ∙ filter_on (λ q. left q && not (eqb q p)) (λ q. not (is_marked capacity unmarked' q)) (list_of members j) (λ q i. fewer_unmarked q)
 
   pub mark_marked : IsMarked capacity order members unmarked'
   mark_marked = record {
     places = up ∙ m.places;
     lists = ap length ul ∙ length-set (map (without p) unmarked.lists) capacity (without p (list_of unmarked capacity) ++ p ∷ []) ∙ length-map unmarked.lists (without p) ∙ m.lists;
-    open_places = open_fewer;
+    open_places = unmarked_fewer;
     marked = λ q i.
         ⊎_elim (λ (s : q ≡ p). ap (λ x. is_in x (list_of order 0)) s ∙ listed)
         (λ (ne : q ≡ p → ⊥). m.marked q (sym (marks_kept q ne) ∙ i))
