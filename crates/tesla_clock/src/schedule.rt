@@ -91,7 +91,19 @@ impl Schedule {
         if time < 0 {
             return None;
         }
-        Some((time as u128 / u128::from(self.length)) as u64)
+        Some(quotient(time as u128, self.length))
+    }
+}
+
+// How many times the length goes into the time. A division of 64 bits is cheaper, and mostly enough.
+fn quotient(time: u128, length: u32) -> u64
+    requires some { 0 < length }
+    requires few { time / length < 2 ^ 64 }
+    ensures { result ≡ time / length }
+{
+    match u64::try_from(time) {
+        Ok(short) => short / u64::from(length),
+        Err(_) => (time / u128::from(length)) as u64,
     }
 }
 

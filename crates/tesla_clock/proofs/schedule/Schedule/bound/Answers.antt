@@ -19,4 +19,4 @@ returns c =
     let fits = c.ranges.lag in
     let time_fits : SFits w128 time = search rules in
     let same = to_z-of_z w128 time time_fits in
-    rw (← c.self.view_is, c.from.ensures, same) (some_after (record { start = c.self.inside.start; length = c.self.inside.length; last = c.self.inside.last }) c.args.lag c.args.reading time (simp to_z-of_z at c.since_start-time.ensures) above)
+    rw (← c.self.view_is, c.quotient.ensures, same) (some_after (record { start = c.self.inside.start; length = c.self.inside.length; last = c.self.inside.last }) c.args.lag c.args.reading time (simp to_z-of_z at c.since_start-time.ensures) above)
