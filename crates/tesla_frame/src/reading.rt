@@ -113,17 +113,17 @@ pub fn read_frame(bytes: &[u8]) -> Option<FrameView<'_>>
 fn version_of(bytes: &[u8]) -> Option<(Version, &[u8])>
     ensures { option_map (λ x. (x.0, x.1.now)) result ≡ version_at bytes.now }
 {
-    if bytes.len() < 4 {
+    // The bytes are compared one by one, which the compiler makes one comparison.
+    let [t, s, l, a, rest @ ..] = bytes else {
         return None;
-    }
-    let (magic, rest) = bytes.split_at(4);
+    };
     let Some((number, rest)) = byte_of(rest) else {
         return None;
     };
     let Some(version) = Version::of(number) else {
         return None;
     };
-    if magic == MAGIC.as_slice() {
+    if *t == MAGIC[0] && *s == MAGIC[1] && *l == MAGIC[2] && *a == MAGIC[3] {
         Some((version, rest))
     } else {
         None

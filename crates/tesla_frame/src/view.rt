@@ -21,17 +21,18 @@ pub enum FrameView<'a> {
     Disclosure(KeysView<'a>),
 }
 
-/// A data frame. Contracts see a `DataFrame`, with one row for each chain.
+/// A data frame. Contracts see a `DataFrame`, with one row for each chain. The fields lie in memory in this order. What
+/// both kinds of frames have stands in front, in the same places, so that a frame is moved in few pieces.
 #[derive(Debug, Drop)]
 pub struct DataView<'a> {
     version: Version,
-    stream: StreamId,
-    name: Name,
-    payload: &'a [u8],
-    tag_length: u8,
     count: u8,
+    tag_length: u8,
+    stream: StreamId,
     rows: &'a [u8],
+    payload: &'a [u8],
     starts: [u16; 8],
+    name: Name,
 }
 
 impl<'a> Model for DataView<'a> {
@@ -151,8 +152,8 @@ impl<'a> DataView<'a> {
 #[derive(Debug, Drop)]
 pub struct KeysView<'a> {
     version: Version,
-    stream: StreamId,
     count: u8,
+    stream: StreamId,
     rows: &'a [u8],
 }
 
