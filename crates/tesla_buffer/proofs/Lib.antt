@@ -1,2 +1,4 @@
 pub mod Places
 pub mod Stored
+pub mod Written
+pub mod Resting

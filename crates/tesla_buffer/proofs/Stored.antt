@@ -9,17 +9,17 @@ use Rattle.std.proofs.lemmas.List.Folds.{list_any-append, list_any_at}
 use Rattle.std.proofs.Math.Bool.{or-false}
 use Rattle.std.proofs.lemmas.Option.{cond_some, get_or_from_slice_get}
 use Rattle.tesla_base.specs.declared.names.Name.{Name}
-use Rattle.tesla_buffer.specs.Held.{Held, Holding, is_at, is_live, is_released_as}
+use Rattle.tesla_buffer.specs.Held.{Held, Holding, first_place, is_at, is_live, is_of, is_released_as, is_unreleased_of, next_place, next_unreleased}
 use Rattle.tesla_buffer.specs.Stored.{IsStored, IsNumbered, Keyed, held_at, item_at, key_of_name, no_item, places_of, released_key}
 use Rattle.tesla_buffer.specs.declared.item.Item.{Item}
 use Rattle.tesla_links.specs.Entries.{Entries, Entry}
-use Rattle.tesla_links.specs.Entries.{is_at as entry_at, marked_at}
+use Rattle.tesla_links.specs.Entries.{first_place as first_entry, is_at as entry_at, is_under, is_unmarked_under, marked_at, next_place as next_entry, next_unmarked}
 use Rattle.tesla_links.specs.Lists.{Distinct, is_in, without}
 use Rattle.tesla_links.specs.Slots.{has_key}
 use Rattle.tesla_links.proofs.Filtered.{distinct_filter, filter-map, in_filter}
 use Rattle.tesla_links.proofs.Keyed.{replicate_same}
 use Rattle.tesla_links.proofs.Members.{apart_from, differs, distinct_push, distinct_split, in_cases, in_front, in_here, in_joined, in_rest, without_other, without_same}
-use Rattle.tesla_buffer.proofs.Places.{any_held, held_on, held_there, keyed_filter, keyed_marked, keyed_on, keyed_push, length-without, live_is, places_without}
+use Rattle.tesla_buffer.proofs.Places.{any_held, first_is, next_is, of_interval, of_unreleased, to_place, unreleased_next_is, held_on, held_there, keyed_filter, keyed_marked, keyed_on, keyed_push, length-without, live_is, places_without}
 
 -- ---- a place for a packet
 
@@ -374,6 +374,33 @@ module _ (capacity : ℕ) (slots : List Item) (index : Entries) (seen : Holding)
 
   pub seen_live : (p : ℕ) → is_live p seen.held ≡ is_in p (places_of index.entries)
   seen_live p = ap (is_live p) (sym seen_held) ∙ live_is slots p index.entries
+
+  -- where there is room as a caller sees it, the slot that was chosen is one for a packet
+  pub vacant_seen : (slots' : List Item) (free free' : List ℕ) (released : List (Option ℕ)) (p : ℕ) (empty : Item) → IsStored capacity slots free index released → length seen.held < seen.capacity → Chosen slots slots' free free' p empty → empty.released ≡ false → IsVacant capacity slots slots' free' index.entries p
+  vacant_seen slots' free free' released p empty h room c none =
+      chosen capacity slots slots' free free' index released p empty h c none (omega (arith, room, seen_capacity, seen_length))
+
+  -- the place that a caller names
+  pub live_seen : (p : ℕ) → is_live p seen.held ≡ true → is_in p (places_of index.entries) ≡ true
+  live_seen p live = sym (seen_live p) ∙ live
+
+  -- what the index finds, as a caller sees it
+  module _ (keyed : Keyed slots index.entries) where
+    pub first_seen : (i k : ℕ) (o : Option ℕ) → k ≡ i → o ≡ first_entry (filter (is_under k) index.entries) → to_place o ≡ first_place (filter (is_of i) seen.held)
+    first_seen i k o key told =
+        ap to_place (told ∙ ap (λ n. first_entry (filter (is_under n) index.entries)) key) ∙ sym (first_is slots (filter (is_under i) index.entries))
+        ∙ ap first_place (sym (of_interval slots i index.entries keyed)) ∙ ap (λ hs. first_place (filter (is_of i) hs)) seen_held
+
+    pub first_unreleased_seen : (i k : ℕ) (o : Option ℕ) → k ≡ i → o ≡ first_entry (filter (is_unmarked_under k) index.entries) → to_place o ≡ first_place (filter (is_unreleased_of i) seen.held)
+    first_unreleased_seen i k o key told =
+        ap to_place (told ∙ ap (λ n. first_entry (filter (is_unmarked_under n) index.entries)) key) ∙ sym (first_is slots (filter (is_unmarked_under i) index.entries))
+        ∙ ap first_place (sym (of_unreleased slots i index.entries keyed)) ∙ ap (λ hs. first_place (filter (is_unreleased_of i) hs)) seen_held
+
+    pub next_seen : (p : ℕ) (o : Option ℕ) → o ≡ next_entry p index.entries → to_place o ≡ next_place p seen.held
+    next_seen p o told = ap to_place told ∙ sym (next_is slots p index.entries keyed) ∙ ap (next_place p) seen_held
+
+    pub next_unreleased_seen : (p : ℕ) (o : Option ℕ) → o ≡ next_unmarked p index.entries → to_place o ≡ next_unreleased p seen.held
+    next_unreleased_seen p o told = ap to_place told ∙ sym (unreleased_next_is slots p index.entries keyed) ∙ ap (next_unreleased p) seen_held
 
 -- a place at which no packet is held has no name
 pub unnamed_vacant : (capacity : ℕ) (slots : List Item) (free : List ℕ) (index : Entries) (released : List (Option ℕ)) (p : ℕ) → IsStored capacity slots free index released → is_in p (places_of index.entries) ≡ false

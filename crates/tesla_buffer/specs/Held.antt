@@ -1,9 +1,11 @@
 -- What a contract sees of a buffer: the packets that are held, in the order in which they came.
-use Rattle.std.specs.Prelude.{◌≡◌, ℕ, ◌==◌, Bool, true, false, not, ◌&&◌, cond, List, [], ◌∷◌, length, map, take, Option, None, Some}
+use Rattle.std.specs.Prelude.{◌≡◌, ℕ, ◌==◌, Bool, true, false, not, ◌&&◌, ◌||◌, cond, List, [], ◌∷◌, length, map, take, Option, None, Some}
 use Rattle.std.specs.List.{filter, list_any}
 use Rattle.tesla_base.specs.declared.names.Name.{Name}
 use Rattle.tesla_base.specs.declared.names.Place.{Place}
 use Rattle.tesla_base.specs.declared.names.WideTag.{WideTag}
+use Rattle.tesla_base.specs.Tag.{wide_tag}
+use Rattle.tesla_frame.specs.Frame.{DataFrame, TagRow}
 use Rattle.tesla_buffer.specs.declared.item.Fate.{Fate}
 use Rattle.tesla_buffer.specs.declared.item.Fate.TheVariants.{Released, Taken, Gone}
 use Rattle.tesla_buffer.specs.declared.item.Item.{Item}
@@ -67,13 +69,21 @@ settled place Released held = changed place (λ item. record item { released = t
 settled place Taken held = changed place (λ item. record item { taken = true }) held
 settled place Gone held = filter (λ h. not (is_at place h)) held
 
--- an item is that of these parts: the bytes of the payload and the tags stand first
-pub record IsMadeOf (arrival : ℕ) (named : Name) (safe : ℕ) (bytes : List ℕ) (given : List WideTag) (item : Item) : Type 0 where
+-- whether a packet doesn't wait to be taken: it was not released, or it was taken
+abbrev pub is_resting : Item → Bool
+is_resting item = not item.released || item.taken
+
+-- the tag of a row, with zeros that fill up its room
+abbrev pub wide_tag_in : TagRow → WideTag
+wide_tag_in row = wide_tag row.tag
+
+-- an item is that of the packet of a frame: the bytes of the payload and the tags stand first
+pub record IsMadeOf (arrival : ℕ) (safe : ℕ) (frame : DataFrame) (item : Item) : Type 0 where
   pub order : item.order ≡ arrival
-  pub name : item.name ≡ named
+  pub name : item.name ≡ frame.name
   pub chains : item.chains ≡ safe
-  pub size : item.length ≡ length bytes
-  pub payload : take (length bytes) item.payload ≡ bytes
-  pub tags : take (length given) item.tags ≡ given
+  pub size : item.length ≡ length frame.payload
+  pub payload : take (length frame.payload) item.payload ≡ frame.payload
+  pub tags : take (length frame.rows) item.tags ≡ map wide_tag_in frame.rows
   pub released : item.released ≡ false
   pub taken : item.taken ≡ false

@@ -1,8 +1,8 @@
 -- How packets are stored: each at its place in a table of slots, an index of the places by interval, and a table of
 -- the names of those that were released.
-use Rattle.std.specs.Prelude.{◌≡◌, ℕ, ◌+◌, ◌*◌, ◌^◌, ◌<◌, ◌≤◌, true, false, ◌&&◌, cond, List, [], ◌∷◌, length, map, get_or, Option, None, Some}
+use Rattle.std.specs.Prelude.{◌≡◌, ℕ, ◌+◌, ◌*◌, ◌^◌, ◌<◌, ◌≤◌, Bool, true, false, ◌&&◌, cond, List, [], ◌∷◌, length, map, get_or, Option, None, Some}
 use Rattle.tesla_base.specs.declared.names.Name.{Name}
-use Rattle.tesla_buffer.specs.Held.{Held}
+use Rattle.tesla_buffer.specs.Held.{Held, is_resting}
 use Rattle.tesla_buffer.specs.declared.item.Item.{Item}
 use Rattle.tesla_links.specs.Entries.{Entries, Entry}
 use Rattle.tesla_links.specs.Lists.{Distinct, is_in}
@@ -44,6 +44,11 @@ released_key slots entries place = cond (is_in place (places_of entries) && (ite
 -- an item that was released has a number that fits into 16 bits
 abbrev pub IsNumbered : Item → Type 0
 IsNumbered item = item.released ≡ true → item.name.number < 2 ^ 16
+
+-- for each slot that was used it stands beside whether its item rests, so that an item needn't be looked at for it
+pub record IsBeside (capacity : ℕ) (slots : List Item) (resting : List Bool) : Type 0 where
+  pub long : length resting ≡ capacity
+  pub told : (p : ℕ) → p < length slots → get_or resting p true ≡ is_resting (item_at slots p)
 
 -- the slots that were used are those of packets that are held and the free ones
 pub record IsStored (capacity : ℕ) (slots : List Item) (free : List ℕ) (index : Entries) (released : List (Option ℕ)) : Type 0 where

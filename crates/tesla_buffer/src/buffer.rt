@@ -1,22 +1,23 @@
 //! The buffer of a receiver.
 
-ghost use Rattle.std.specs.Prelude.{◌≡◌, ◌<◌, ◌≤◌, [], ◌∷◌, ◌++◌, ◌&&◌, false, true, not, length, map, IfOk, IfSome, MatchOption};
+ghost use Rattle.std.specs.Prelude.{◌≡◌, ◌<◌, ◌≤◌, [], ◌∷◌, ◌++◌, ◌&&◌, false, true, not, length, map, option_map, IfOk, IfSome, MatchOption, Some};
 ghost use Rattle.std.specs.List.{filter, find, list_any};
 ghost use Rattle.tesla_links.specs.Lists.{Distinct, is_in};
-ghost use Rattle.tesla_buffer.specs.Held.{Held, IsMadeOf, changed, first_place, is_at, is_live, is_of, is_released_as, is_unreleased_at, is_unreleased_of, next_place, next_unreleased, settled};
+ghost use Rattle.tesla_buffer.specs.Held.{Held, IsMadeOf, changed, first_place, is_at, is_live, is_of, is_released_as, is_resting, is_unreleased_at, is_unreleased_of, next_place, next_unreleased, settled};
 
-use crate::parts::{key_of_name, vacant_slot, write_parts};
+use crate::parts::{key_of_name, rests, vacant_slot, write_parts};
 use crate::{Fate, Item};
 use std::alloc::Global;
 use std::marker::Model;
-use tesla_base::{Name, NoMemory, Place, WideTag};
+use tesla_base::{Name, NoMemory, Place};
+use tesla_frame::DataView;
 use tesla_links::{Index, KeyTable};
 
 /// Packets that are held, each at a place that it keeps until it is gone, in the order in which they came.
 ///
 /// The packets of an interval are found by it, also those alone that were not released, and a released packet by its
-/// name. No call goes over packets, whatever is held. A place that was never used is never touched, and the place that became vacant last is the
-/// first to be used again.
+/// name. No call goes over packets, whatever is held. A place that was never used is never touched, and the place that
+/// became vacant last is the first to be used again.
 #[derive(Drop)]
 pub struct Buffer {
     capacity: u32,
@@ -24,19 +25,22 @@ pub struct Buffer {
     free: Vec<u32>,
     index: Index,
     released: KeyTable,
+    /// Of each place, whether its packet doesn't wait to be taken, beside the slots: a packet that is let go long after
+    /// it was taken isn't looked at again.
+    resting: Vec<bool>,
 }
 
 impl Model for Buffer {
     ghost use Rattle.std.specs.Prelude.{◌≤◌, map};
     ghost use Rattle.std.specs.Vec.{vec_capacity};
     ghost use Rattle.tesla_buffer.specs.Held.{Holding};
-    ghost use Rattle.tesla_buffer.specs.Stored.{IsStored, held_at};
+    ghost use Rattle.tesla_buffer.specs.Stored.{IsBeside, IsStored, held_at};
 
     ghost Value = { Holding };
 
     ghost view = { λ b. record { capacity = b.capacity; held = map (held_at b.slots.items) b.index.entries } };
 
-    ghost invariant = { λ b. IsStored b.capacity b.slots.items b.free.items b.index b.released × (b.capacity ≤ vec_capacity b.slots) × (b.capacity ≤ vec_capacity b.free) };
+    ghost invariant = { λ b. IsStored b.capacity b.slots.items b.free.items b.index b.released × (b.capacity ≤ vec_capacity b.slots) × (b.capacity ≤ vec_capacity b.free) × IsBeside b.capacity b.slots.items b.resting.items };
 }
 
 impl Buffer {
@@ -52,6 +56,7 @@ impl Buffer {
             free: Vec::with_capacity(alloc, capacity as usize)?,
             index: Index::open(alloc, capacity)?,
             released: KeyTable::open(alloc, capacity)?,
+            resting: vec![in alloc; true; capacity as usize]?,
         })
     }
 
@@ -65,6 +70,7 @@ impl Buffer {
     {
         let place = vacant_slot(&mut self.slots, &mut self.free);
         self.slots[place as usize] = *item;
+        self.resting[place as usize] = rests(item);
         self.index.append(u64::from(item.name.interval), place);
         if item.released {
             self.released.enter(place, key_of_name(item.name));
@@ -73,35 +79,22 @@ impl Buffer {
         Place(place)
     }
 
-    /// Holds the packet of these parts, behind the others, at a vacant place: not released and not taken. The
-    /// payload has at most 1,200 bytes, and there are at most 8 tags. Only what is there is copied; the bytes
-    /// behind the payload and the tags behind those given are left as they were. It takes no memory.
-    pub fn put_parts(
-        &mut self,
-        order: u64,
-        name: Name,
-        chains: u8,
-        payload: &[u8],
-        tags: &[WideTag],
-    ) -> Place
-        requires room { length self.old.held < self.old.capacity }
-        requires payload { length payload.now ≤ 1200 }
-        requires tags { length tags.now ≤ 8 }
-        ensures held { (item : Item) × IsMadeOf order name chains payload.now tags.now item × (self.new.held ≡ self.old.held ++ record { place = result.0; item = item } ∷ []) }
+    /// Holds the packet of a data frame, behind the others, at a vacant place: not released and not taken. Only the
+    /// bytes and the tags that are there are copied, from the datagram into the place; the bytes behind the payload and
+    /// the tags behind those of the frame are left as they were. It takes no memory.
+    pub fn put_frame(&mut self, order: u64, chains: u8, frame: &DataView<'_>) -> Place
+        requires { length self.old.held < self.old.capacity }
+        ensures held { (item : Item) × IsMadeOf order chains frame.now item × (self.new.held ≡ self.old.held ++ record { place = result.0; item = item } ∷ []) }
         ensures vacant { is_live result.0 self.old.held ≡ false }
         ensures within { result.0 < self.old.capacity }
         ensures capacity { self.new.capacity ≡ self.old.capacity }
+        ensures few { length frame.now.rows ≤ 8 }
+        ensures payload { length frame.now.payload ≤ 1200 }
     {
         let place = vacant_slot(&mut self.slots, &mut self.free);
-        write_parts(
-            &mut self.slots[place as usize],
-            order,
-            name,
-            chains,
-            payload,
-            tags,
-        );
-        self.index.append(u64::from(name.interval), place);
+        write_parts(&mut self.slots[place as usize], order, chains, frame);
+        self.resting[place as usize] = true;
+        self.index.append(u64::from(frame.name().interval), place);
         Place(place)
     }
 
@@ -135,6 +128,15 @@ impl Buffer {
         ensures within { place.0 < self.now.capacity }
     {
         &self.slots[place.0 as usize]
+    }
+
+    /// Whether the packet at a place doesn't wait to be taken: it was not released, or it was taken. The packet itself
+    /// isn't looked at.
+    pub fn is_resting(&self, place: Place) -> bool
+        requires { is_live place.0 self.now.held ≡ true }
+        ensures { option_map (λ h. is_resting h.item) (find (is_at place.0) self.now.held) ≡ Some result }
+    {
+        self.resting[place.0 as usize]
     }
 
     /// The place of the first packet of an interval; `None` exactly where none is held.
@@ -214,7 +216,8 @@ impl Buffer {
     {
         let item = &mut self.slots[place as usize];
         item.released = true;
-        let name = item.name;
+        let (name, taken) = (item.name, item.taken);
+        self.resting[place as usize] = taken;
         self.released.enter(place, key_of_name(name));
         self.index.mark(place);
     }
@@ -226,6 +229,7 @@ impl Buffer {
         ensures capacity { self.new.capacity ≡ self.old.capacity }
     {
         self.slots[place as usize].taken = true;
+        self.resting[place as usize] = true;
     }
 
     /// Holds the packet at a place no longer.

@@ -1,12 +1,13 @@
 //! The parts of a buffer: its slots, and what stands in one.
 
-ghost use Rattle.std.specs.Prelude.{◌≡◌, ◌+◌, ◌*◌, ◌^◌, ◌<◌, ◌≤◌, ◌⊎◌, [], ◌∷◌, ◌++◌, false, length, vec_len};
+ghost use Rattle.std.specs.Prelude.{◌≡◌, ◌+◌, ◌*◌, ◌^◌, ◌<◌, ◌≤◌, ◌⊎◌, [], ◌∷◌, ◌++◌, false, length, map, take, vec_len};
 ghost use Rattle.std.specs.Vec.{vec_capacity};
-ghost use Rattle.tesla_buffer.specs.Held.{IsMadeOf};
+ghost use Rattle.tesla_buffer.specs.Held.{IsMadeOf, is_resting, wide_tag_in};
 ghost use Rattle.tesla_buffer.specs.Stored.{key_of_name};
 
 use crate::Item;
 use tesla_base::{Name, WideTag};
+use tesla_frame::DataView;
 
 /// An item of which nothing is said.
 const EMPTY: Item = Item {
@@ -32,6 +33,13 @@ pub fn key_of_name(name: Name) -> u64
     ensures number { name.number < 2 ^ 16 }
 {
     u64::from(name.interval) * 0x1_0000_0000 + u64::from(name.number)
+}
+
+/// Whether the packet doesn't wait to be taken: it was not released, or it was taken.
+pub fn rests(item: &Item) -> bool
+    ensures { result ≡ is_resting item.now }
+{
+    !item.released || item.taken
 }
 
 /// One more slot, where there is room for it.
@@ -61,25 +69,29 @@ pub fn vacant_slot(slots: &mut Vec<Item>, free: &mut Vec<u32>) -> u32
     place
 }
 
-/// Writes the item of these parts over another. Only the bytes and the tags that are there are copied.
-pub fn write_parts(
-    item: &mut Item,
-    order: u64,
-    name: Name,
-    chains: u8,
-    payload: &[u8],
-    tags: &[WideTag],
-)
-    requires payload { length payload.now ≤ 1200 }
-    requires tags { length tags.now ≤ 8 }
-    ensures { IsMadeOf order name chains payload.now tags.now item.new }
+/// Writes the tags of a frame over those that stand first, each with zeros behind its bytes.
+fn write_tags(room: &mut [WideTag; 8], frame: &DataView<'_>)
+    ensures tags { take (length frame.now.rows) room.new ≡ map wide_tag_in frame.now.rows }
+    ensures few { length frame.now.rows ≤ 8 }
 {
+    for chain in 0..frame.count() {
+        room[usize::from(chain)] = frame.tag(chain);
+    }
+}
+
+/// Writes the item of a data frame over another. Only the bytes and the tags that are there are copied.
+pub fn write_parts(item: &mut Item, order: u64, chains: u8, frame: &DataView<'_>)
+    ensures made { IsMadeOf order chains frame.now item.new }
+    ensures few { length frame.now.rows ≤ 8 }
+    ensures payload { length frame.now.payload ≤ 1200 }
+{
+    let payload = frame.payload();
     item.order = order;
-    item.name = name;
+    item.name = frame.name();
     item.chains = chains;
     item.length = payload.len() as u16;
     item.payload[..payload.len()].copy_from_slice(payload);
-    item.tags[..tags.len()].copy_from_slice(tags);
+    write_tags(&mut item.tags, frame);
     item.released = false;
     item.taken = false;
 }

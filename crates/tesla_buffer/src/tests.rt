@@ -7,6 +7,11 @@ use crate::{Buffer, Fate, Item};
 use std::alloc::Global;
 use std::test::*;
 use tesla_base::{Name, Place, WideTag};
+use tesla_frame::{FrameView, read_frame};
+
+/// A frame of version 1: stream 0xa7, interval 1, number 4, five bytes and one tag.
+const TOCK: &[u8] =
+    b"TSLA\x01\x01\x00\x00\x00\x00\x00\x00\x00\xa7\x00\x00\x00\x01\x00\x04\x00\x05tock!\x01tag of 16 bytes.\x00";
 
 /// The name of a message.
 fn name(interval: u32, number: u16) -> Name {
@@ -232,12 +237,20 @@ fn released_packets_are_left_out(rt: HostRuntime) -> Result<(), Fail> {
 }
 
 #[test]
-fn a_packet_of_parts_has_them(rt: HostRuntime) -> Result<(), Fail> {
+fn a_packet_of_a_frame_has_its_parts(rt: HostRuntime) -> Result<(), Fail> {
     let mut buffer = Buffer::open(rt.alloc(), 1)?;
-    let tag = WideTag::of(b"tag of 16 bytes.");
-    let place = buffer.put_parts(8, name(1, 4), 1, b"tock!", &[tag]);
+    let Some(FrameView::Data(frame)) = read_frame(TOCK) else {
+        return Err("a data frame".into());
+    };
+    let place = buffer.put_frame(8, 1, &frame);
     let made = buffer.item(place);
+    let tag = WideTag::of(b"tag of 16 bytes.");
     assert!(rt; made.order == 8 && made.name == name(1, 4) && made.chains == 1 && made.length == 5);
     assert!(rt; made.payload.starts_with(b"tock!") && made.tags[0] == tag);
+    assert!(rt; buffer.is_resting(place));
+    buffer.settle(place, Fate::Released);
+    assert!(rt; !buffer.is_resting(place));
+    buffer.settle(place, Fate::Taken);
+    assert!(rt; buffer.is_resting(place));
     Ok(())
 }

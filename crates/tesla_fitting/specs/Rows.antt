@@ -1,9 +1,7 @@
 -- The keys and the tags that a frame carries (RFC 4082, section 3.5).
-use Rattle.std.specs.Prelude.{◌≡◌, ℕ, ◌-◌, Bool, List, [], ◌∷◌, length, Option, Some, None, nat_lt, ◌==◌, if◌then◌else◌, bytes_eq, flat_map}
+use Rattle.std.specs.Prelude.{ℕ, ◌-◌, Bool, List, [], ◌∷◌, length, Option, Some, None, nat_lt, ◌==◌, if◌then◌else◌, bytes_eq, flat_map}
 use Rattle.std.specs.List.{enumerate_from}
 use Rattle.tesla_base.specs.declared.names.Key.{Key}
-use Rattle.tesla_base.specs.declared.names.WideTag.{WideTag}
-use Rattle.tesla_base.specs.Tag.{wide_tag, tag_bytes}
 use Rattle.tesla_frame.specs.declared.row.KeyRow.{KeyRow}
 use Rattle.tesla_frame.specs.Frame.{Frame, Data, Disclosure, TagRow}
 use Rattle.tesla_prf.specs.Keys.{walk}
@@ -40,7 +38,3 @@ leads_to row index key = bytes_eq (walk row.key (row.index - index)).0 key.0
 
 abbrev pub tag_in : TagRow → List ℕ
 tag_in row = row.tag
-
--- zeros fill up the room of the tag
-abbrev pub IsFilled : WideTag → Type 0
-IsFilled tag = tag ≡ wide_tag (tag_bytes tag)

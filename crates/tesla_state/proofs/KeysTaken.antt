@@ -20,8 +20,9 @@ use Rattle.tesla_fitting.specs.Rows.{is_of}
 use Rattle.tesla_state.specs.Offered.{IsOfChains}
 use Rattle.tesla_state.specs.Tips.{raised}
 use Rattle.tesla_state.specs.State.{Holding}
-use Rattle.tesla_state.specs.Steps.{no_tip, tips_after, is_over, is_passed, marked, kept_after, batch_of, proof_of, proves_on, released_on}
+use Rattle.tesla_state.specs.Steps.{no_tip, tips_after, is_let_go, is_over, is_passed, marked, kept_after, batch_of, proof_of, proves_on, released_of, released_on}
 use Rattle.tesla_state.specs.Stored.{Placed, place_of, holding_at, order_of, after_batch, is_idle, in_span, in_reach, AreNeeded}
+use Rattle.tesla_state.proofs.Gathering.{unreached_unproved}
 use Rattle.tesla_state.proofs.ReachedIntervals.{outside_unreached, reached_by}
 use Rattle.tesla_state.proofs.ReleasedPackets.{flat_same_in, eq_turn}
 
@@ -241,6 +242,55 @@ module _ (cfg : Config) (tips : List Tip) (new : List KeyRow) (low high : ℕ) (
       (all_and (unreleased_in (batch_of cfg tips new (map holding_at held))) (λ x. in_reach low high indices new x || not (is_idle cfg (tips_after tips new) x)) held
       (all_unreleased cfg tips new held d)
       (list_all_weaker (λ x. not (is_idle cfg tips x)) (λ x. in_reach low high indices new x || not (is_idle cfg (tips_after tips new) x)) held fit_one needed))
+
+-- ---- without new keys
+
+not_true : (b : Bool) → not b ≡ true → b ≡ false
+not_true true h = absurd (false≢true h)
+not_true false h = refl
+
+or_none : (b : Bool) → (b || false) ≡ b
+or_none true = refl
+or_none false = refl
+
+module _ (cfg : Config) (tips : List Tip) where
+  -- nothing is proved
+  pub none_proved : (held : List Holding) → batch_of cfg tips [] held ≡ []
+  none_proved [] = refl
+  none_proved (x ∷ xs) = ap (λ rs. rs ++ batch_of cfg tips [] xs) (unreached_unproved cfg tips [] x refl) ∙ none_proved xs
+
+  one_stays : (x : Placed) → not (is_idle cfg tips x) ≡ true → kept_after cfg (tips_after tips []) [] [] x.holding ≡ x.holding ∷ []
+  one_stays x h =
+      let needed : is_idle cfg (tips_after tips []) x ≡ false = idle_same cfg tips [] x refl ∙ not_true (is_idle cfg tips x) h in
+      ap (λ b. cond (is_let_go cfg (tips_after tips []) [] (record x.holding { released = b })) [] (record x.holding { released = b } ∷ [])) (or_none x.holding.released)
+      ∙ ap (λ b. cond b [] (x.holding ∷ [])) needed
+
+  -- and all that is held stays
+  pub all_stay : (held : List Placed) → AreNeeded cfg tips held → flat_map (kept_after cfg (tips_after tips []) [] []) (map holding_at held) ≡ map holding_at held
+  all_stay [] h = refl
+  all_stay (x ∷ xs) h =
+      let parts = and_parts (not (is_idle cfg tips x)) (list_all (λ y. not (is_idle cfg tips y)) xs) h in
+      ap (λ hs. hs ++ flat_map (kept_after cfg (tips_after tips []) [] []) (map holding_at xs)) (one_stays x parts.0)
+      ∙ ap (λ hs. x.holding ∷ hs) (all_stay xs parts.1)
+
+  pub held_stays : (rows : List KeyRow) → rows ≡ [] → (held : List Placed) → AreNeeded cfg tips held →
+      map holding_at held ≡ flat_map (kept_after cfg (tips_after tips rows) (batch_of cfg tips rows (map holding_at held)) (released_of (map holding_at held) (batch_of cfg tips rows (map holding_at held)))) (map holding_at held)
+  held_stays rows none held needed =
+      sym (ap (λ (rs : List KeyRow). flat_map (kept_after cfg (tips_after tips rs) (batch_of cfg tips rs (map holding_at held)) (released_of (map holding_at held) (batch_of cfg tips rs (map holding_at held)))) (map holding_at held)) none
+      ∙ ap (λ (batch : List Release). flat_map (kept_after cfg (tips_after tips []) batch (released_of (map holding_at held) batch)) (map holding_at held)) (none_proved (map holding_at held))
+      ∙ all_stay held needed)
+
+  pub none_released : (rows : List KeyRow) → rows ≡ [] → (held : List Holding) → released_of held (batch_of cfg tips rows held) ≡ []
+  none_released rows none held = ap (λ (rs : List KeyRow). released_of held (batch_of cfg tips rs held)) none ∙ ap (released_of held) (none_proved held)
+
+-- where nothing is held, nothing is after any keys
+module _ (cfg : Config) (tips later : List Tip) (rows : List KeyRow) where
+  pub held_none : (held : List Placed) → held ≡ [] → map holding_at held ≡ flat_map (kept_after cfg later (batch_of cfg tips rows (map holding_at held)) (released_of (map holding_at held) (batch_of cfg tips rows (map holding_at held)))) (map holding_at held)
+  held_none held none =
+      subst (λ (hs : List Placed). map holding_at hs ≡ flat_map (kept_after cfg later (batch_of cfg tips rows (map holding_at hs)) (released_of (map holding_at hs) (batch_of cfg tips rows (map holding_at hs)))) (map holding_at hs)) (sym none) refl
+
+  pub released_none : (held : List Placed) → held ≡ [] → released_of (map holding_at held) (batch_of cfg tips rows (map holding_at held)) ≡ []
+  released_none held none = ap (λ (hs : List Placed). released_of (map holding_at hs) (batch_of cfg tips rows (map holding_at hs))) none
 
 -- ---- places stay apart
 

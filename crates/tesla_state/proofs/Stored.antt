@@ -4,21 +4,24 @@ use Rattle.std.specs.Prelude.{not, find, option_map}
 use Rattle.std.specs.List.{list_any, list_all, filter}
 use Rattle.std.proofs.lemmas.Bool.{cases_Bool, and_parts, and_from, and_left, or_cases, or_left, or_right, or_from, both_ways, eqb-true, ne_eqb, eq-eqb, not-true, false_from_ne_true, not-false}
 use Rattle.std.proofs.lemmas.List.Folds.{list_any-append}
+use Rattle.std.proofs.lemmas.Option.{none-some, same_Some}
 use Rattle.std.specs.Prelude.{All}
-use Rattle.std.proofs.lemmas.List.Elements.{All-filter, All-map, All-weaker, All-head, All-tail, All-push}
+use Rattle.std.proofs.lemmas.List.Elements.{All-cons, All-filter, All-map, All-nil, All-weaker, All-head, All-tail, All-push}
 use Rattle.tesla_base.proofs.Lists.{list_all_weaker, list_all_both}
 use Rattle.tesla_base.specs.declared.names.Name.{Name}
 use Rattle.tesla_base.specs.declared.names.WideTag.{WideTag}
-use Rattle.tesla_base.specs.Tag.{tag_bytes}
+use Rattle.tesla_base.specs.Tag.{tag_bytes, wide_tag}
+use Rattle.tesla_base.proofs.Tags.{bytes_of_wide}
 use Rattle.tesla_buffer.specs.declared.item.Item.{Item}
-use Rattle.tesla_buffer.specs.Held.{Held, changed, IsMadeOf}
+use Rattle.tesla_buffer.specs.Held.{Held, changed, is_resting, wide_tag_in, IsMadeOf}
+use Rattle.tesla_frame.specs.Frame.{DataFrame, TagRow}
+use Rattle.tesla_fitting.specs.Rows.{tag_in}
 use Rattle.tesla_buffer.specs.Held as buffer
 use Rattle.tesla_links.specs.Lists.{is_in, Distinct}
 use Rattle.tesla_release.specs.declared.queue.Waiting.{Waiting}
 use Rattle.tesla_state.specs.declared.ordering.Proved.{Proved}
 use Rattle.tesla_state.specs.declared.release.Release.{Release}
-use Rattle.tesla_state.specs.ItemShown.{holding_in, IsItem}
-use Rattle.tesla_fitting.specs.Rows.{IsFilled}
+use Rattle.tesla_state.specs.ItemShown.{holding_in, IsFilled, IsItem}
 use Rattle.tesla_state.specs.State.{Holding}
 use Rattle.tesla_state.specs.Stored.{Placed, placed_in, place_of, stands_at, release_by, release_in, waits, waits_at, rests_at, is_sound, is_proved_by, with_released, without, place_in, IsStored, IsStore, IsItemOf, is_of, first_place, next_place, is_unreleased_at, is_unreleased_of, next_unreleased}
 use Rattle.tesla_state.proofs.Marked.{any_mapped, all_mapped, map_mapped, filter_mapped, find_mapped, any_filtered, find_filtered, all_filtered, any_with_all, any_weaker}
@@ -457,36 +460,57 @@ pushed_stored capacity room held x waiting s fits vacant sound = record {
   live = live_pushed held x waiting s.live;
 }
 
-made_item : (chains order safe : ℕ) (named : Name) (bytes : List ℕ) (given : List WideTag) (item : Item) → IsMadeOf order named safe bytes given item → length bytes ≤ 1200 → length given ≤ 8 → length given ≡ chains → All IsFilled given → IsItem chains item
-made_item chains order safe named bytes given item made size few count filled = record {
-  few = omega arith;
-  payload = (let long = made.size in omega arith);
-  tags = subst (λ (ts : List WideTag). All IsFilled ts) (sym (ap (λ (n : ℕ). take n item.tags) (sym count) ∙ made.tags)) filled;
-}
+-- tags that are made of bytes have their rooms filled, and these bytes
+filled_rooms : (rows : List TagRow) → All IsFilled (map wide_tag_in rows)
+filled_rooms [] = All-nil IsFilled
+filled_rooms (row ∷ rows) = All-cons IsFilled (wide_tag row.tag) (map wide_tag_in rows) (ap wide_tag (sym (bytes_of_wide row.tag))) (filled_rooms rows)
+
+bytes_again : (rows : List TagRow) → map tag_bytes (map wide_tag_in rows) ≡ map tag_in rows
+bytes_again [] = refl
+bytes_again (row ∷ rows) = ap (λ b. b ∷ map tag_bytes (map wide_tag_in rows)) (bytes_of_wide row.tag) ∙ ap (λ bs. row.tag ∷ bs) (bytes_again rows)
 
 abbrev holding_of_parts : ℕ → Name → ℕ → List ℕ → List (List ℕ) → Bool → Bool → Holding
 holding_of_parts order named safe bytes given released taken = record { order = order; name = named; chains = safe; payload = bytes; tags = given; released = released; taken = taken }
 
--- an item as it is shown, by the parts that it was made of
-pub shown_made : (chains order safe : ℕ) (named : Name) (bytes : List ℕ) (given : List WideTag) (item : Item) → IsMadeOf order named safe bytes given item → length given ≡ chains → holding_in chains item ≡ record { order = order; name = named; chains = safe; payload = bytes; tags = map tag_bytes given; released = false; taken = false }
-shown_made chains order safe named bytes given item made count =
-    ap (λ (k : ℕ). holding_of_parts k item.name item.chains (take item.length item.payload) (map tag_bytes (take chains item.tags)) item.released item.taken) made.order
-    ∙ ap (λ (k : Name). holding_of_parts order k item.chains (take item.length item.payload) (map tag_bytes (take chains item.tags)) item.released item.taken) made.name
-    ∙ ap (λ (k : ℕ). holding_of_parts order named k (take item.length item.payload) (map tag_bytes (take chains item.tags)) item.released item.taken) made.chains
-    ∙ ap (λ (k : List ℕ). holding_of_parts order named safe k (map tag_bytes (take chains item.tags)) item.released item.taken) (ap (λ (n : ℕ). take n item.payload) made.size ∙ made.payload)
-    ∙ ap (λ (k : List WideTag). holding_of_parts order named safe bytes (map tag_bytes k) item.released item.taken) (ap (λ (n : ℕ). take n item.tags) (sym count) ∙ made.tags)
-    ∙ ap (λ (k : Bool). holding_of_parts order named safe bytes (map tag_bytes given) k item.taken) made.released
-    ∙ ap (λ (k : Bool). holding_of_parts order named safe bytes (map tag_bytes given) false k) made.taken
+module _ (chains order safe : ℕ) (frame : DataFrame) (item : Item) (made : IsMadeOf order safe frame item) (count : length frame.rows ≡ chains) where
+  made_item : length frame.payload ≤ 1200 → length frame.rows ≤ 8 → IsItem chains item
+  made_item size few = record {
+    few = omega (arith, few, count);
+    payload = (let long = made.size in omega (arith, long, size));
+    tags = subst (λ (ts : List WideTag). All IsFilled ts) (sym (ap (λ (n : ℕ). take n item.tags) (sym count) ∙ made.tags)) (filled_rooms frame.rows);
+  }
+
+  -- an item as it is shown, by the parts that it was made of
+  pub shown_made : holding_in chains item ≡ record { order = order; name = frame.name; chains = safe; payload = frame.payload; tags = map tag_in frame.rows; released = false; taken = false }
+  shown_made =
+      ap (λ (k : ℕ). holding_of_parts k item.name item.chains (take item.length item.payload) (map tag_bytes (take chains item.tags)) item.released item.taken) made.order
+      ∙ ap (λ (k : Name). holding_of_parts order k item.chains (take item.length item.payload) (map tag_bytes (take chains item.tags)) item.released item.taken) made.name
+      ∙ ap (λ (k : ℕ). holding_of_parts order frame.name k (take item.length item.payload) (map tag_bytes (take chains item.tags)) item.released item.taken) made.chains
+      ∙ ap (λ (k : List ℕ). holding_of_parts order frame.name safe k (map tag_bytes (take chains item.tags)) item.released item.taken) (ap (λ (n : ℕ). take n item.payload) made.size ∙ made.payload)
+      ∙ ap (λ (k : List WideTag). holding_of_parts order frame.name safe frame.payload (map tag_bytes k) item.released item.taken) (ap (λ (n : ℕ). take n item.tags) (sym count) ∙ made.tags)
+      ∙ ap (λ (k : List (List ℕ)). holding_of_parts order frame.name safe frame.payload k item.released item.taken) (bytes_again frame.rows)
+      ∙ ap (λ (k : Bool). holding_of_parts order frame.name safe frame.payload (map tag_in frame.rows) k item.taken) made.released
+      ∙ ap (λ (k : Bool). holding_of_parts order frame.name safe frame.payload (map tag_in frame.rows) false k) made.taken
+
+-- a packet rests where it doesn't wait
+rests_unless_waits : (r t : Bool) → (not r || t) ≡ not (r && not t)
+rests_unless_waits true true = refl
+rests_unless_waits true false = refl
+rests_unless_waits false t = refl
+
+pub resting_shown : (chains : ℕ) (found : Option Held) (b : Bool) → option_map (λ h. is_resting h.item) found ≡ Some b → (x : Placed) × (option_map (placed_in chains) found ≡ Some x) × (b ≡ not (waits x))
+resting_shown chains None b e = absurd (none-some b e)
+resting_shown chains (Some h) b e = (placed_in chains h, refl, sym (same_Some (is_resting h.item) b e) ∙ rests_unless_waits h.item.released h.item.taken)
 
 pub pushed_shown : (chains : ℕ) (held : List Held) (x : Held) → map (placed_in chains) (held ++ x ∷ []) ≡ map (placed_in chains) held ++ placed_in chains x ∷ []
 pushed_shown chains held x = map-pushed (placed_in chains) held x
 
-pub pushed_store : (capacity room chains p : ℕ) (item : Item) (held : List Held) (waiting : List Waiting) (order : ℕ) (named : Name) (safe : ℕ) (bytes : List ℕ) (given : List WideTag) → IsStore capacity room chains held waiting → length held < capacity → list_any (buffer.is_at p) held ≡ false → IsMadeOf order named safe bytes given item → length bytes ≤ 1200 → length given ≤ 8 → length given ≡ chains → All IsFilled given → IsStore capacity room chains (held ++ record { place = p; item = item } ∷ []) waiting
-pushed_store capacity room chains p item held waiting order named safe bytes given s fits vacant made size few count filled =
+pub pushed_store : (capacity room chains p : ℕ) (item : Item) (held : List Held) (waiting : List Waiting) (order safe : ℕ) (frame : DataFrame) → IsStore capacity room chains held waiting → length held < capacity → list_any (buffer.is_at p) held ≡ false → IsMadeOf order safe frame item → length frame.payload ≤ 1200 → length frame.rows ≤ 8 → length frame.rows ≡ chains → IsStore capacity room chains (held ++ record { place = p; item = item } ∷ []) waiting
+pushed_store capacity room chains p item held waiting order safe frame s fits vacant made size few count =
     let long = length-shown chains held in
     record {
       stored = subst (λ (xs : List Placed). IsStored capacity room xs waiting) (sym (pushed_shown chains held (record { place = p; item = item })))
           (pushed_stored capacity room (map (placed_in chains) held) (placed_in chains (record { place = p; item = item })) waiting s.stored (omega arith) (sym (any_shown chains p held) ∙ vacant)
           (ap (λ t. t || not item.taken) made.released ∙ ap not made.taken));
-      items = All-push (IsItemOf chains) held (record { place = p; item = item }) s.items (made_item chains order safe named bytes given item made size few count filled);
+      items = All-push (IsItemOf chains) held (record { place = p; item = item }) s.items (made_item chains order safe frame item made count size few);
     }

@@ -1,22 +1,38 @@
 //! A packet whose keys are taken is judged, and held if there is room.
 
-ghost use Rattle.std.specs.Prelude.{◌≡◌, ℕ, ◌++◌, ◌∷◌, [], ◌<◌, ◌≤◌, length, map, filter, Bool, List, false};
+ghost use Rattle.std.specs.Prelude.{◌≡◌, ℕ, ◌++◌, ◌∷◌, [], ◌<◌, ◌≤◌, ◌==◌, ◌||◌, length, map, filter, Bool, List, false};
 ghost use Rattle.tesla_frame.specs.Frame.{Data};
 ghost use Rattle.tesla_keys.specs.Tip.{Tip};
 ghost use Rattle.tesla_state.specs.declared.report.Report.{Report};
 ghost use Rattle.tesla_fitting.specs.declared.verdict.Verdict.TheVariants.{Kept};
 ghost use Rattle.tesla_state.specs.Judged.{verdict_by};
 ghost use Rattle.tesla_state.specs.Kept.{state_of};
-ghost use Rattle.tesla_fitting.specs.Rows.{tag_in};
 ghost use Rattle.tesla_state.specs.Steps.{judged_packet, safe_by, own};
 ghost use Rattle.tesla_state.specs.Stored.{holding_at, is_named, is_of};
 
 use crate::Store;
 use crate::judging::safe_by;
 use tesla_base::Name;
-use tesla_fitting::{Config, Verdict, tags_of};
+use tesla_fitting::{Config, Verdict};
 use tesla_frame::DataView;
 use tesla_keys::Verifier;
+
+// Whether no packet of the interval can be held. While fewer packets are held than the quota, those of the interval
+// aren't counted.
+fn is_full(config: &Config, store: &Store, interval: u32) -> bool
+    requires { store.now.capacity ≡ config.now.capacity }
+    ensures room { result ≡ false → length store.now.held < store.now.capacity }
+    ensures value { result ≡ (length store.now.held == config.now.capacity || length (filter (is_of interval) store.now.held) == config.now.quota) }
+{
+    let held = store.held();
+    if held == config.capacity {
+        return true;
+    }
+    if held < config.quota {
+        return false;
+    }
+    store.held_in(interval) == config.quota
+}
 
 // The verdict on a packet of which these chains are safe.
 fn judge(config: &Config, store: &Store, set: u8, name: Name) -> Verdict
@@ -30,7 +46,7 @@ fn judge(config: &Config, store: &Store, set: u8, name: Name) -> Verdict
     if store.is_released(name) {
         return Verdict::Repeat;
     }
-    if store.held() == config.capacity || store.held_in(name.interval) == config.quota {
+    if is_full(config, store, name.interval) {
         return Verdict::Full;
     }
     Verdict::Kept { chains: set }
@@ -46,9 +62,7 @@ fn hold(store: &mut Store, order: u64, chains: u8, frame: &DataView<'_>)
     ensures waiting { store.new.waiting ≡ store.old.waiting }
     ensures given { store.new.given ≡ store.old.given }
 {
-    let tags = tags_of(frame);
-    let tags = &tags[..usize::from(frame.count())];
-    store.put(order, frame.name(), chains, frame.payload(), tags);
+    store.put(order, chains, frame);
 }
 
 /// Judges a data frame whose keys are taken, and holds its packet if it is kept. So many arrivals came before it.

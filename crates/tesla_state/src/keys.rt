@@ -19,9 +19,9 @@ use tesla_fitting::Config;
 use tesla_keys::Verifier;
 
 /// Takes the keys of walks, which are good: each is the newest of its chain from then on. The held packets that they
-/// prove are released in order of arrival, one of each name, and what is needed no more is let go. It takes no
-/// memory: the batch has room for all that is held. The counted steps are those that the walks still take, and at most
-/// two for each held packet that isn't released and each chain on which it is tried.
+/// prove are released in order of arrival, one of each name, and what is needed no more is let go. Without keys nothing
+/// is done. It takes no memory: the batch has room for all that is held. The counted steps are those that the walks still
+/// take, and at most two for each held packet that isn't released and each chain on which it is tried.
 pub fn take_keys<L: Ledger>(
     config: &Config,
     tips: &mut [Verifier],
@@ -50,7 +50,7 @@ pub fn take_keys<L: Ledger>(
     ensures room { vec_capacity batch.old ≤ vec_capacity batch.new }
     ensures cost { steps.new ≤ steps.old + left tips.old walks.old + 2 * pairs config.now tips.old (rows_of walks.old) (map holding_at store.old.held) }
 {
-    if store.held() == 0 {
+    if walks.is_empty() || store.held() == 0 {
         raise(tips, walks);
         return;
     }

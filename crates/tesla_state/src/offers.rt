@@ -13,7 +13,7 @@ ghost use Rattle.tesla_state.specs.Walking.{fresh, rows_of};
 use crate::walk::Walk;
 use std::sync::ledger::Ledger;
 use tesla_base::{ChainNo, Steps};
-use tesla_fitting::{Config, key_above, row_count};
+use tesla_fitting::{Config, key_above, may_be_above, row_count};
 use tesla_frame::{FrameView, KeyRow, KeysView};
 use tesla_keys::{Offer, Verifier};
 
@@ -30,6 +30,23 @@ fn disclosed_key(tips: &[Verifier], frame: &KeysView<'_>, place: u8) -> Option<K
         return None;
     }
     Some(row)
+}
+
+/// Whether the key in a row of a frame may be newer than the newest of its chain. Of a data frame that is judged by its
+/// interval, and the row isn't looked at.
+fn may_be_newer(config: &Config, tips: &[Verifier], frame: &FrameView<'_>, place: u8) -> bool
+    requires fits { is_misfit config.now (shown frame.now) ≡ false }
+    requires tips { length tips.now ≡ length config.now.setup.rows }
+    requires within { place < row_count (shown frame.now) }
+    ensures { result ≡ false → newer_keys config.now tips.now (shown frame.now) (place + 1) ≡ newer_keys config.now tips.now (shown frame.now) place }
+{
+    match frame {
+        FrameView::Data(data) => {
+            let (newest, _) = tips[usize::from(place)].newest();
+            may_be_above(config, data, place, newest)
+        }
+        FrameView::Disclosure(_) => true,
+    }
 }
 
 /// The key in a row of a frame, if it is newer than the newest of its chain. A data frame's other keys aren't looked at.
@@ -98,6 +115,9 @@ pub fn offer_keys<L: Ledger>(
     ensures cost { IfNone result (steps.new ≡ steps.old + gaps tips.now (keys_of config.now (shown frame.now))) }
 {
     for place in 0..row_count(frame) {
+        if !may_be_newer(config, tips, frame, place) {
+            continue;
+        }
         let Some(row) = newer_key(config, tips, frame, place) else {
             continue;
         };

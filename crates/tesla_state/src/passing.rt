@@ -61,13 +61,6 @@ fn all_over(config: &Config, tips: &[Verifier], item: &Item) -> bool
     true
 }
 
-// Whether the packet doesn't wait to be taken.
-fn rests(item: &Item) -> bool
-    ensures { (count : ℕ) (place : ℕ) → result ≡ not (waits (record { place = place; holding = holding_in count item.now })) }
-{
-    !item.released || item.taken
-}
-
 impl Store {
     // Lets the packet in a place go if it doesn't wait to be taken.
     fn let_go_resting(&mut self, place: Place)
@@ -79,7 +72,7 @@ impl Store {
         ensures waiting { self.new.waiting ≡ self.old.waiting }
         ensures given { self.new.given ≡ self.old.given }
     {
-        if rests(self.item(place)) {
+        if self.is_resting(place) {
             self.discard(place);
         }
     }

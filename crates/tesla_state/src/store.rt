@@ -1,19 +1,19 @@
 //! The packets that are held, each in its place, and those that wait to be taken.
 
-ghost use Rattle.std.specs.Prelude.{◌≡◌, ◌+◌, ◌<◌, ◌≤◌, ◌∷◌, ◌++◌, [], true, false, IfOk, length, map, filter, find, slice_get, option_map, is_some, Some, All, ℕ};
+ghost use Rattle.std.specs.Prelude.{◌≡◌, ◌+◌, ◌<◌, ◌≤◌, ◌∷◌, ◌++◌, [], true, false, not, IfOk, length, map, filter, find, slice_get, option_map, is_some, Some, All, ℕ};
 ghost use Rattle.std.specs.List.{list_any};
-ghost use Rattle.tesla_base.specs.Tag.{tag_bytes};
+ghost use Rattle.tesla_fitting.specs.Rows.{tag_in};
 ghost use Rattle.tesla_links.specs.Lists.{Distinct};
-ghost use Rattle.tesla_state.specs.Stored.{stands_at, rests_at, is_proved_by, with_released, without, place_of, is_of, is_unreleased_at, is_unreleased_of, first_place, next_place, next_unreleased};
+ghost use Rattle.tesla_state.specs.Stored.{Placed, stands_at, rests_at, waits, is_proved_by, with_released, without, place_of, is_of, is_unreleased_at, is_unreleased_of, first_place, next_place, next_unreleased};
 ghost use Rattle.tesla_state.specs.ItemShown.{holding_in, IsItem};
-ghost use Rattle.tesla_fitting.specs.Rows.{IsFilled};
 ghost use Rattle.tesla_state.specs.Steps.{in_interval, is_named_so};
 
 use crate::ordering::Proved;
 use std::alloc::Global;
 use std::marker::Model;
-use tesla_base::{Name, NoMemory, Place, WideTag};
+use tesla_base::{Name, NoMemory, Place};
 use tesla_buffer::{Buffer, Fate, Item};
+use tesla_frame::DataView;
 use tesla_release::{Queue, Waiting};
 
 /// The packets that are held, each in its place, and those that were released and wait to be taken. All memory is
@@ -95,6 +95,14 @@ impl Store {
         self.buffer.item(place)
     }
 
+    /// Whether the packet in a place doesn't wait to be taken. The packet itself isn't looked at.
+    pub fn is_resting(&self, place: Place) -> bool
+        requires { list_any (stands_at place.0) self.now.held ≡ true }
+        ensures { (x : Placed) × (find (stands_at place.0) self.now.held ≡ Some x) × (result ≡ not (waits x)) }
+    {
+        self.buffer.is_resting(place)
+    }
+
     /// The place of the first packet of an interval; `None` exactly where none is held.
     pub fn first_of(&self, interval: u32) -> Option<Place>
         ensures { result ≡ first_place (filter (is_of interval) self.now.held) }
@@ -134,20 +142,17 @@ impl Store {
         self.buffer.next_unreleased(place)
     }
 
-    /// Holds a packet of these parts, behind the others: it isn't released.
-    pub fn put(&mut self, order: u64, name: Name, chains: u8, payload: &[u8], tags: &[WideTag])
+    /// Holds the packet of a data frame, behind the others: it isn't released. These chains are safe.
+    pub fn put(&mut self, order: u64, chains: u8, frame: &DataView<'_>)
         requires room { length self.old.held < self.old.capacity }
-        requires payload { length payload.now ≤ 1200 }
-        requires few { length tags.now ≤ 8 }
-        requires tags { length tags.now ≡ self.old.chains }
-        requires filled { All IsFilled tags.now }
+        requires rows { length frame.now.rows ≡ self.old.chains }
         ensures capacity { self.new.capacity ≡ self.old.capacity }
         ensures chains { self.new.chains ≡ self.old.chains }
-        ensures held { (place : ℕ) × (self.new.held ≡ self.old.held ++ record { place = place; holding = record { order = order; name = name; chains = chains; payload = payload.now; tags = map tag_bytes tags.now; released = false; taken = false } } ∷ []) }
+        ensures held { (place : ℕ) × (self.new.held ≡ self.old.held ++ record { place = place; holding = record { order = order; name = frame.now.name; chains = chains; payload = frame.now.payload; tags = map tag_in frame.now.rows; released = false; taken = false } } ∷ []) }
         ensures waiting { self.new.waiting ≡ self.old.waiting }
         ensures given { self.new.given ≡ self.old.given }
     {
-        let _place = self.buffer.put_parts(order, name, chains, payload, tags);
+        let _place = self.buffer.put_frame(order, chains, frame);
     }
 
     /// Releases a packet that new keys prove. It waits behind the others.

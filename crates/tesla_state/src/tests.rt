@@ -14,14 +14,14 @@ use std::alloc::Global;
 use std::marker::Brand;
 use std::sync::ledger::{Blank, Ledger};
 use std::test::*;
-use tesla_base::{ChainNo, Name, Place, Steps};
+use tesla_base::{ChainNo, Name, Place, Steps, WideTag};
 use tesla_buffer::Item;
 use tesla_commit::read_setup;
 use tesla_examples::{
     BARE_2_0_A, BARE_2_0_A_WITH_AN_ALTERED_TAG, KEYS_0_1_ALTERED, KEYS_0_2, KEYS_0_6, KEYS_1_2,
     SETUP,
 };
-use tesla_fitting::{Config, Verdict, tags_of};
+use tesla_fitting::{Config, Verdict};
 use tesla_frame::{DataView, FrameView, read_frame};
 use tesla_keys::Verifier;
 
@@ -33,13 +33,16 @@ fn held_as(frame: &DataView<'_>) -> Item
     let text = frame.payload();
     let mut payload = [0; 1200];
     payload[..text.len()].copy_from_slice(text);
+    let mut tags = [WideTag::of(&[]); 8];
+    tags[0] = frame.tag(0);
+    tags[1] = frame.tag(1);
     Item {
         order: 7,
         name: frame.name(),
         chains: 3,
         length: text.len() as u16,
         payload,
-        tags: tags_of(frame),
+        tags,
         released: false,
         taken: false,
     }

@@ -106,6 +106,9 @@ impl Walk {
         ensures reached { self.new ≡ record { row = self.old.row; reached = interval; made = true } }
         ensures cost { steps.new + interval ≡ steps.old + self.old.reached + unmade self.old interval }
     {
+        if self.reached == interval && self.mac.is_some() {
+            return;
+        }
         self.walk_to(interval, steps);
         self.make_mac(steps);
     }

@@ -1,4 +1,6 @@
-use Rattle.std.proofs.Common.{◌≡◌, ap, sym, ◌∙◌, subst, length, map, flat_map, List}
+use Rattle.std.proofs.Common.{◌≡◌, ap, sym, ◌∙◌, subst, length, map, flat_map, List, [], ◌++◌}
+use Rattle.std.proofs.lemmas.Bool.{eqb-true}
+use Rattle.std.proofs.lemmas.List.{append-nil, nil_from_length}
 use Rattle.std.specs.Prelude.{All, not, ◌&&◌}
 use Rattle.std.specs.List.{filter}
 use Rattle.tesla_keys.specs.Tip.{Tip}
@@ -11,8 +13,30 @@ use Rattle.tesla_state.specs.Walking.{rows_of}
 use Rattle.tesla_state.specs.Offered.{IsOfChains}
 use Rattle.tesla_state.proofs.ReachedIntervals.{few_chains}
 use Rattle.tesla_state.proofs.Batch.{orders_differ}
-use Rattle.tesla_state.proofs.KeysTaken.{kept_is, apart_after}
+use Rattle.tesla_state.proofs.KeysTaken.{kept_is, apart_after, held_none, held_stays, none_released, released_none}
+use Rattle.tesla_state.proofs.keys.take_keys.Goals.{then-is_empty-via-then-is_empty, then-is_empty-via-else-is_empty+then-held-eq0}
 use Rattle.tesla_state.proofs.keys.take_keys.Goals as goal
+
+-- no new key, or no packet that is held
+pub returns-then-is_empty-clause-held : goal.returns-then-is_empty-clause-held
+returns-then-is_empty-clause-held g c =
+    let tips = c.args.tips.now in
+    let rows = rows_of c.args.walks.now in
+    elim c.then-is_empty.branch [
+      | then-is_empty-via-then-is_empty w ↦ held_stays c.args.config.now tips rows (ap rows_of (nil_from_length c.args.walks.now (eqb-true _ _ (sym c.is_empty.ensures ∙ w.if-is_empty.true)))) c.args.store.now.held c.requires.needed
+      | then-is_empty-via-else-is_empty+then-held-eq0 w ↦ held_none c.args.config.now tips (tips_after tips rows) rows c.args.store.now.held (nil_from_length c.args.store.now.held (sym w.held.ensures.value ∙ w.if-held-eq0.true))
+    ]
+
+pub returns-then-is_empty-clause-waiting : goal.returns-then-is_empty-clause-waiting
+returns-then-is_empty-clause-waiting g c =
+    let tips = c.args.tips.now in
+    let rows = rows_of c.args.walks.now in
+    let none : released_of (map holding_at c.args.store.now.held) (batch_of c.args.config.now tips rows (map holding_at c.args.store.now.held)) ≡ [] =
+    elim c.then-is_empty.branch [
+      | then-is_empty-via-then-is_empty w ↦ none_released c.args.config.now tips rows (ap rows_of (nil_from_length c.args.walks.now (eqb-true _ _ (sym c.is_empty.ensures ∙ w.if-is_empty.true)))) (map holding_at c.args.store.now.held)
+      | then-is_empty-via-else-is_empty+then-held-eq0 w ↦ released_none c.args.config.now tips (tips_after tips rows) rows c.args.store.now.held (nil_from_length c.args.store.now.held (sym w.held.ensures.value ∙ w.if-held-eq0.true))
+    ] in
+    sym (ap (λ rs. c.args.store.now.waiting ++ rs) none ∙ append-nil c.args.store.now.waiting)
 
 pub release_all-requires-clause-orders : goal.release_all-requires-clause-orders
 release_all-requires-clause-orders g c = orders_differ c.args.store.now.held c.requires.orders

@@ -1,8 +1,8 @@
 use Rattle.std.proofs.Common.{◌∙◌, sym, ap}
 use Rattle.std.specs.List.{list_any}
-use Rattle.tesla_buffer.specs.Held.{is_unreleased_at, next_unreleased}
-use Rattle.tesla_buffer.proofs.Stored.{seen_held}
-use Rattle.tesla_buffer.proofs.Places.{next_unreleased_there, next_unreleased_live, to_place, unreleased_next_is, unreleased_there}
+use Rattle.tesla_buffer.specs.Held.{is_unreleased_at}
+use Rattle.tesla_buffer.proofs.Stored.{next_unreleased_seen, seen_held}
+use Rattle.tesla_buffer.proofs.Places.{next_unreleased_there, next_unreleased_live, to_place, unreleased_there}
 use Rattle.tesla_buffer.proofs.buffer.Buffer.next_unreleased.Goals as goal
 
 pub next_unmarked-requires : goal.next_unmarked-requires
@@ -14,27 +14,21 @@ next_unmarked-requires c =
 pub returns-in_default-clause-place : goal.returns-in_default-clause-place
 returns-in_default-clause-place c =
     let i = c.self.inside in
-    let h = c.self.invariant.0 in
-    let all = ap (next_unreleased c.args.place.0) (sym (seen_held i.capacity i.slots.items i.index c.args.self.now c.self.view_is)) ∙ unreleased_next_is i.slots.items c.args.place.0 i.index.entries h.keyed in
-    ap to_place (sym c.in_default.is ∙ c.next_unmarked.ensures) ∙ sym all
+    ap to_place (sym c.in_default.is) ∙ next_unreleased_seen i.capacity i.slots.items i.index c.args.self.now c.self.view_is c.self.invariant.0.keyed c.args.place.0 c.next_unmarked.result c.next_unmarked.ensures
 
 pub returns-clause-place : goal.returns-clause-place
 returns-clause-place c =
     let i = c.self.inside in
-    let h = c.self.invariant.0 in
-    let all = ap (next_unreleased c.args.place.0) (sym (seen_held i.capacity i.slots.items i.index c.args.self.now c.self.view_is)) ∙ unreleased_next_is i.slots.items c.args.place.0 i.index.entries h.keyed in
-    ap to_place (sym c.in-Some.is ∙ c.next_unmarked.ensures) ∙ sym all
+    ap to_place (sym c.in-Some.is) ∙ next_unreleased_seen i.capacity i.slots.items i.index c.args.self.now c.self.view_is c.self.invariant.0.keyed c.args.place.0 c.next_unmarked.result c.next_unmarked.ensures
 
 pub returns-clause-live : goal.returns-clause-live
 returns-clause-live c =
     let i = c.self.inside in
-    let h = c.self.invariant.0 in
-    let all = ap (next_unreleased c.args.place.0) (sym (seen_held i.capacity i.slots.items i.index c.args.self.now c.self.view_is)) ∙ unreleased_next_is i.slots.items c.args.place.0 i.index.entries h.keyed in
-    next_unreleased_live c.args.place.0 c.args.self.now.held (record { 0 = c.in-Some.behind }) (ap to_place (sym c.in-Some.is ∙ c.next_unmarked.ensures) ∙ sym all)
+    next_unreleased_live c.args.place.0 c.args.self.now.held (record { 0 = c.in-Some.behind })
+    (ap to_place (sym c.in-Some.is) ∙ next_unreleased_seen i.capacity i.slots.items i.index c.args.self.now c.self.view_is c.self.invariant.0.keyed c.args.place.0 c.next_unmarked.result c.next_unmarked.ensures)
 
 pub returns-clause-unreleased : goal.returns-clause-unreleased
 returns-clause-unreleased c =
     let i = c.self.inside in
-    let h = c.self.invariant.0 in
-    let all = ap (next_unreleased c.args.place.0) (sym (seen_held i.capacity i.slots.items i.index c.args.self.now c.self.view_is)) ∙ unreleased_next_is i.slots.items c.args.place.0 i.index.entries h.keyed in
-    next_unreleased_there c.args.place.0 c.args.self.now.held (record { 0 = c.in-Some.behind }) (ap to_place (sym c.in-Some.is ∙ c.next_unmarked.ensures) ∙ sym all)
+    next_unreleased_there c.args.place.0 c.args.self.now.held (record { 0 = c.in-Some.behind })
+    (ap to_place (sym c.in-Some.is) ∙ next_unreleased_seen i.capacity i.slots.items i.index c.args.self.now c.self.view_is c.self.invariant.0.keyed c.args.place.0 c.next_unmarked.result c.next_unmarked.ensures)

@@ -1,11 +1,12 @@
-use Rattle.std.proofs.Common.{◌≡◌, ℕ, ◌<◌, false, [], ◌∷◌, ◌++◌, length, get_or, arith, ◌∙◌, sym, ap, refl, Some, None}
+use Rattle.std.proofs.Common.{◌≡◌, ℕ, false, [], ◌∷◌, ◌++◌, length, get_or, arith, ◌∙◌, sym, ap, refl, Some, None}
 use Rattle.std.specs.List.{list_any}
 use Rattle.std.proofs.Math.ListN.{set}
 use Rattle.std.proofs.lemmas.Bool.{cond-false, cond-true, false≢true}
 use Rattle.std.proofs.lemmas.List.{get_or-set_other, get_or-set_same, length-set}
 use Rattle.tesla_buffer.specs.Stored.{key_of_name, no_item}
 use Rattle.tesla_buffer.specs.declared.parts.TheConstants.{EMPTY}
-use Rattle.tesla_buffer.proofs.Stored.{chosen, held_put, stored_put, seen_capacity, seen_held, seen_length, seen_live, unnamed_vacant}
+use Rattle.tesla_buffer.proofs.Stored.{held_put, stored_put, seen_held, seen_live, unnamed_vacant, vacant_seen}
+use Rattle.tesla_buffer.proofs.Resting.{beside_put}
 use Rattle.tesla_buffer.proofs.Places.{entry_is, marked_pushed, pushed_there}
 use Rattle.tesla_links.specs.Entries.{is_at as entry_at, marked_at}
 use Rattle.tesla_buffer.proofs.buffer.Buffer.put.Goals as goal
@@ -17,8 +18,7 @@ index_mut-requires c =
     let p = c.vacant_slot-place.result in
     let slots = c.vacant_slot-place.new.slots.items in
     let free = c.vacant_slot-place.new.free.items in
-    let room : length i.index.entries < i.capacity = omega (arith, c.requires, seen_capacity i.capacity i.slots.items i.index c.args.self.now c.self.view_is, seen_length i.capacity i.slots.items i.index c.args.self.now c.self.view_is) in
-    let v = chosen i.capacity i.slots.items slots i.free.items free i.index i.released p EMPTY h c.vacant_slot-place.ensures.slot refl room in
+    let v = vacant_seen i.capacity i.slots.items i.index c.args.self.now c.self.view_is slots i.free.items free i.released p EMPTY h c.requires c.vacant_slot-place.ensures.slot refl in
     omega (arith, v.inside)
 
 pub append-requires-clause-absent : goal.append-requires-clause-absent
@@ -28,8 +28,7 @@ append-requires-clause-absent c =
     let p = c.vacant_slot-place.result in
     let slots = c.vacant_slot-place.new.slots.items in
     let free = c.vacant_slot-place.new.free.items in
-    let room : length i.index.entries < i.capacity = omega (arith, c.requires, seen_capacity i.capacity i.slots.items i.index c.args.self.now c.self.view_is, seen_length i.capacity i.slots.items i.index c.args.self.now c.self.view_is) in
-    let v = chosen i.capacity i.slots.items slots i.free.items free i.index i.released p EMPTY h c.vacant_slot-place.ensures.slot refl room in
+    let v = vacant_seen i.capacity i.slots.items i.index c.args.self.now c.self.view_is slots i.free.items free i.released p EMPTY h c.requires c.vacant_slot-place.ensures.slot refl in
     entry_is p i.index.entries ∙ v.absent
 
 pub mark-requires : goal.mark-requires
@@ -45,8 +44,7 @@ invariant_of-self c =
     let p = c.vacant_slot-place.result in
     let slots = c.vacant_slot-place.new.slots.items in
     let free = c.vacant_slot-place.new.free.items in
-    let room : length i.index.entries < i.capacity = omega (arith, c.requires, seen_capacity i.capacity i.slots.items i.index c.args.self.now c.self.view_is, seen_length i.capacity i.slots.items i.index c.args.self.now c.self.view_is) in
-    let v = chosen i.capacity i.slots.items slots i.free.items free i.index i.released p EMPTY h c.vacant_slot-place.ensures.slot refl room in
+    let v = vacant_seen i.capacity i.slots.items i.index c.args.self.now c.self.view_is slots i.free.items free i.released p EMPTY h c.requires c.vacant_slot-place.ensures.slot refl in
     let it = c.args.item.now in
     let now = set slots p it in
     let here = get_or-set_same slots p it no_item v.inside in
@@ -59,6 +57,7 @@ invariant_of-self c =
           (λ q ne. ap (λ ks. get_or ks q None) c.enter.ensures ∙ get_or-set_other i.released p q (Some key) None ne),
       omega (arith, c.self.invariant.1, c.vacant_slot-place.ensures.slots_capacity),
       omega (arith, c.self.invariant.2, c.vacant_slot-place.ensures.free_capacity),
+      beside_put i.capacity i.slots.items slots i.free.items free i.resting.items p EMPTY it c.rests.result c.vacant_slot-place.ensures.slot v.inside (omega (arith, v.inside, v.most)) c.rests.ensures c.self.invariant.3,
     )
 
 pub invariant_of-self-else-item : goal.invariant_of-self-else-item
@@ -68,8 +67,7 @@ invariant_of-self-else-item c =
     let p = c.vacant_slot-place.result in
     let slots = c.vacant_slot-place.new.slots.items in
     let free = c.vacant_slot-place.new.free.items in
-    let room : length i.index.entries < i.capacity = omega (arith, c.requires, seen_capacity i.capacity i.slots.items i.index c.args.self.now c.self.view_is, seen_length i.capacity i.slots.items i.index c.args.self.now c.self.view_is) in
-    let v = chosen i.capacity i.slots.items slots i.free.items free i.index i.released p EMPTY h c.vacant_slot-place.ensures.slot refl room in
+    let v = vacant_seen i.capacity i.slots.items i.index c.args.self.now c.self.view_is slots i.free.items free i.released p EMPTY h c.requires c.vacant_slot-place.ensures.slot refl in
     let it = c.args.item.now in
     let now = set slots p it in
     let here = get_or-set_same slots p it no_item v.inside in
@@ -80,6 +78,7 @@ invariant_of-self-else-item c =
           (λ q ne. refl),
       omega (arith, c.self.invariant.1, c.vacant_slot-place.ensures.slots_capacity),
       omega (arith, c.self.invariant.2, c.vacant_slot-place.ensures.free_capacity),
+      beside_put i.capacity i.slots.items slots i.free.items free i.resting.items p EMPTY it c.rests.result c.vacant_slot-place.ensures.slot v.inside (omega (arith, v.inside, v.most)) c.rests.ensures c.self.invariant.3,
     )
 
 pub returns-then-item-clause-held : goal.returns-then-item-clause-held
@@ -89,8 +88,7 @@ returns-then-item-clause-held c =
     let p = c.vacant_slot-place.result in
     let slots = c.vacant_slot-place.new.slots.items in
     let free = c.vacant_slot-place.new.free.items in
-    let room : length i.index.entries < i.capacity = omega (arith, c.requires, seen_capacity i.capacity i.slots.items i.index c.args.self.now c.self.view_is, seen_length i.capacity i.slots.items i.index c.args.self.now c.self.view_is) in
-    let v = chosen i.capacity i.slots.items slots i.free.items free i.index i.released p EMPTY h c.vacant_slot-place.ensures.slot refl room in
+    let v = vacant_seen i.capacity i.slots.items i.index c.args.self.now c.self.view_is slots i.free.items free i.released p EMPTY h c.requires c.vacant_slot-place.ensures.slot refl in
     let it = c.args.item.now in
     let now = set slots p it in
     let here = get_or-set_same slots p it no_item v.inside in
@@ -104,8 +102,7 @@ returns-then-item-clause-vacant c =
     let p = c.vacant_slot-place.result in
     let slots = c.vacant_slot-place.new.slots.items in
     let free = c.vacant_slot-place.new.free.items in
-    let room : length i.index.entries < i.capacity = omega (arith, c.requires, seen_capacity i.capacity i.slots.items i.index c.args.self.now c.self.view_is, seen_length i.capacity i.slots.items i.index c.args.self.now c.self.view_is) in
-    let v = chosen i.capacity i.slots.items slots i.free.items free i.index i.released p EMPTY h c.vacant_slot-place.ensures.slot refl room in
+    let v = vacant_seen i.capacity i.slots.items i.index c.args.self.now c.self.view_is slots i.free.items free i.released p EMPTY h c.requires c.vacant_slot-place.ensures.slot refl in
     seen_live i.capacity i.slots.items i.index c.args.self.now c.self.view_is p ∙ v.absent
 
 pub returns-else-item-clause-held : goal.returns-else-item-clause-held
@@ -115,8 +112,7 @@ returns-else-item-clause-held c =
     let p = c.vacant_slot-place.result in
     let slots = c.vacant_slot-place.new.slots.items in
     let free = c.vacant_slot-place.new.free.items in
-    let room : length i.index.entries < i.capacity = omega (arith, c.requires, seen_capacity i.capacity i.slots.items i.index c.args.self.now c.self.view_is, seen_length i.capacity i.slots.items i.index c.args.self.now c.self.view_is) in
-    let v = chosen i.capacity i.slots.items slots i.free.items free i.index i.released p EMPTY h c.vacant_slot-place.ensures.slot refl room in
+    let v = vacant_seen i.capacity i.slots.items i.index c.args.self.now c.self.view_is slots i.free.items free i.released p EMPTY h c.requires c.vacant_slot-place.ensures.slot refl in
     let it = c.args.item.now in
     let now = set slots p it in
     let here = get_or-set_same slots p it no_item v.inside in
@@ -130,6 +126,5 @@ returns-else-item-clause-vacant c =
     let p = c.vacant_slot-place.result in
     let slots = c.vacant_slot-place.new.slots.items in
     let free = c.vacant_slot-place.new.free.items in
-    let room : length i.index.entries < i.capacity = omega (arith, c.requires, seen_capacity i.capacity i.slots.items i.index c.args.self.now c.self.view_is, seen_length i.capacity i.slots.items i.index c.args.self.now c.self.view_is) in
-    let v = chosen i.capacity i.slots.items slots i.free.items free i.index i.released p EMPTY h c.vacant_slot-place.ensures.slot refl room in
+    let v = vacant_seen i.capacity i.slots.items i.index c.args.self.now c.self.view_is slots i.free.items free i.released p EMPTY h c.requires c.vacant_slot-place.ensures.slot refl in
     seen_live i.capacity i.slots.items i.index c.args.self.now c.self.view_is p ∙ v.absent

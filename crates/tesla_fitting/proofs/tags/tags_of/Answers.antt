@@ -1,9 +1,0 @@
-use Rattle.std.proofs.Common.{◌≤◌, length, arith}
-use Rattle.tesla_fitting.proofs.TagsShown.{bytes_shown}
-use Rattle.tesla_fitting.proofs.tags.tags_of.Goals as goal
-
-pub returns-clause-tags : goal.returns-clause-tags
-returns-clause-tags c =
-    let rows = c.args.frame.now.rows in
-    let all : length rows ≤ c.loop-chain.chain = omega arith in
-    bytes_shown rows c.loop-chain.tags (omega (arith, c.loop-chain.invariant.0)) (λ k d h. c.loop-chain.invariant.1 k d (omega (arith, h, all)))
