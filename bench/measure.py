@@ -27,10 +27,10 @@ def run(words):
         return used.ru_utime + used.ru_stime, int(peak.read()), told
 
 
-def least(words, runs=RUNS):
-    """The least time and the greatest memory of some runs."""
-    came = [run(words) for _ in range(runs)]
-    return min(it[0] for it in came), max(it[1] for it in came)
+def least(words, runs=RUNS, times=1):
+    """The least time and the greatest memory of some runs, each of which is the mean of so many."""
+    came = [[run(words) for _ in range(times)] for _ in range(runs)]
+    return min(sum(it[0] for it in group) / times for group in came), max(it[1] for group in came for it in group)
 
 
 def reading(interval, part=0.5):
