@@ -1,6 +1,8 @@
 """What the scripts of this folder share: running a program with its time and memory, and making streams."""
 import os
+import re
 import struct
+import subprocess
 import sys
 import tempfile
 
@@ -27,10 +29,17 @@ def run(words):
         return used.ru_utime + used.ru_stime, int(peak.read()), told
 
 
-def least(words, runs=RUNS, times=1):
-    """The least time and the greatest memory of some runs, each of which is the mean of so many."""
-    came = [[run(words) for _ in range(times)] for _ in range(runs)]
-    return min(sum(it[0] for it in group) / times for group in came), max(it[1] for group in came for it in group)
+def instructions(words):
+    """Runs the words under callgrind, and gives how many instructions it counted: the same for each run."""
+    counted = subprocess.run(["valgrind", "--tool=callgrind", "--callgrind-out-file=/dev/null", *words],
+                             stdout=subprocess.DEVNULL, stderr=subprocess.PIPE, check=True)
+    return int(re.search(rb"Collected : ([0-9]+)", counted.stderr).group(1))
+
+
+def least(words, runs=RUNS):
+    """The least time and the greatest memory of some runs."""
+    came = [run(words) for _ in range(runs)]
+    return min(it[0] for it in came), max(it[1] for it in came)
 
 
 def reading(interval, part=0.5):
@@ -69,10 +78,9 @@ class Stream:
             it.write(b"TSCR\x01" + b"".join(records))
         return [self.tesla, "send", self.path("setup"), self.path("secret"), self.path("script"), self.path("capture")]
 
-    def replay(self, capacity):
-        """The words that replay the capture."""
-        return [self.tesla, "replay", self.path("setup"), "30000", str(capacity), self.path("capture"),
-                self.path("out")]
+    def replay(self, capacity, name="capture"):
+        """The words that replay the capture of this name."""
+        return [self.tesla, "replay", self.path("setup"), "30000", str(capacity), self.path(name), self.path("out")]
 
     def arrivals(self):
         """The datagrams of the capture, each with its reading."""
