@@ -1,5 +1,7 @@
 //! Reading a data frame again and again.
 
+ghost use Rattle.std.specs.Prelude.{◌≡◌, ◌+◌, ◌*◌, ◌==◌, if◌then◌else◌, min};
+
 use tesla_frame::{FrameView, read_frame};
 
 /// How many bytes a frame has before its payload.
@@ -15,7 +17,9 @@ pub struct Datagram {
 impl Datagram {
     /// The data frame of a version with so many bytes of payload, at most 1,200, and so many rows, at most 8. Each row
     /// has a tag of 16 bytes and a key.
-    pub fn new(version: u64, payload: u64, chains: u64) -> Datagram {
+    pub fn new(version: u64, payload: u64, chains: u64) -> Datagram
+        ensures { result.length ≡ 23 + min payload 1200 + (if version == 2 then 1 else 0) + 49 * min chains 8 }
+    {
         let payload = payload.min(1200) as usize;
         let chains = chains.min(8) as usize;
         let mut bytes = [1; 2048];

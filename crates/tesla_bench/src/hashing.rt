@@ -1,5 +1,8 @@
 //! Hashing again and again.
 
+ghost use Rattle.std.specs.Prelude.{◌≡◌, ◌+◌, ◌-◌, ◌^◌, min, slice_index};
+ghost use Rattle.tesla_prf.specs.Keys.{walk};
+
 use sha2::{Digest, Sha256};
 use std::sync::ledger::Ledger;
 use tesla_base::{Key, Steps};
@@ -20,8 +23,15 @@ pub fn compress_often(blocks: u64) -> u64 {
     sum
 }
 
-/// Walks back from a key so many times: one evaluation of HMAC each. It gives the last byte of the key that is reached.
-pub fn evaluate_often<L: Ledger>(times: u64, steps: &mut Steps<L>) -> u64 {
+/// The key from which is walked.
+const FIRST: Key = Key([0x11; 32]);
+
+/// Walks back from a key so many times, at most 2^32 - 1: one evaluation of HMAC each. It gives the last byte of the key
+/// that is reached.
+pub fn evaluate_often<L: Ledger>(times: u64, steps: &mut Steps<L>) -> u64
+    ensures value { result ≡ slice_index (walk FIRST (min times (2 ^ 32 - 1))).0 31 }
+    ensures cost { steps.new ≡ steps.old + min times (2 ^ 32 - 1) }
+{
     let times = times.min(u64::from(u32::MAX)) as u32;
-    u64::from(walk_back(&Key([0x11; 32]), times, steps).0[31])
+    u64::from(walk_back(&FIRST, times, steps).0[31])
 }
