@@ -1,7 +1,7 @@
 -- The records of released packets. They follow each other without a head.
 use Rattle.std.specs.Prelude.{ℕ, List, [], ◌∷◌, ◌++◌}
 use Rattle.std.specs.Int.{w16, w32, w64, to_be_bytes}
-use Rattle.tesla_capture.specs.declared.release.Head.{Head}
+use Rattle.tesla_base.specs.declared.release.Head.{Head}
 
 -- the fields before the payload
 abbrev pub head_text : Head → List ℕ

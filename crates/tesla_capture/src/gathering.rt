@@ -7,8 +7,8 @@ ghost use Rattle.tesla_capture.specs.Capture.{head as capture_head, record_text,
 ghost use Rattle.tesla_capture.specs.Release.{release_text};
 
 use crate::format::{CaptureFormat, Format};
-use crate::release::Head;
 use crate::writing::{arrival_bytes, head_bytes};
+use tesla_base::Head;
 use tesla_desk::{Sink, write_all};
 
 /// How many bytes are gathered at most.

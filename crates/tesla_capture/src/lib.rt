@@ -8,15 +8,14 @@ pub mod laws;
 mod pieces;
 mod reader;
 mod record;
-mod release;
 mod script;
 mod writing;
 
 pub use gathering::Gatherer;
 pub use reader::Reader;
 pub use record::{RecordKind, ScriptStep, Step};
-pub use release::Head;
 pub use script::ScriptReader;
+pub use tesla_base::Head;
 pub use writing::{write_arrival, write_head, write_record, write_take};
 
 #[cfg(test)]

@@ -8,7 +8,7 @@ ghost use Rattle.tesla_capture.specs.Capture.{head as capture_head, record_text,
 ghost use Rattle.tesla_capture.specs.Release.{head_text, release_text};
 
 use crate::format::{CaptureFormat, Format};
-use crate::release::Head;
+use tesla_base::Head;
 use tesla_desk::{Sink, write_all};
 
 /// Writes one piece, and then the other.

@@ -3,7 +3,7 @@ use Rattle.std.specs.Prelude.{◌≡◌, ℕ, suc, ◌-◌, Bool, true, false, L
 use Rattle.tesla_capture.specs.Capture.{Record}
 use Rattle.tesla_capture.specs.Capture as captures
 use Rattle.tesla_fitting.specs.declared.config.Config.{Config}
-use Rattle.tesla_capture.specs.declared.release.Head.{Head}
+use Rattle.tesla_base.specs.declared.release.Head.{Head}
 use Rattle.tesla_receiver.specs.declared.history.Entry.{Entry}
 use Rattle.tesla_receiver.specs.declared.history.Entry.TheVariants.{Taken, Ended}
 use Rattle.tesla_state.specs.declared.replies.Reply.TheVariants.{Given, Over}

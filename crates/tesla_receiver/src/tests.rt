@@ -20,8 +20,7 @@ use std::alloc::Global;
 use std::marker::Brand;
 use std::sync::ledger::{Blank, Ledger};
 use std::test::*;
-use tesla_base::Steps;
-use tesla_capture::Head;
+use tesla_base::{Head, Steps};
 use tesla_commit::read_setup;
 
 fn takes(receiver: &mut Receiver, want: Take, payload: &str) -> bool

@@ -6,7 +6,7 @@ use Rattle.std.proofs.lemmas.Bool.{and_parts, and_from}
 use Rattle.std.proofs.lemmas.List.Elements.{All-head, All-tail, All-nil, All-cons}
 use Rattle.std.proofs.lemmas.List.Folds.{flat_map-map}
 use Rattle.tesla_keys.specs.Tip.{Tip}
-use Rattle.tesla_capture.specs.declared.release.Head.{Head}
+use Rattle.tesla_base.specs.declared.release.Head.{Head}
 use Rattle.tesla_fitting.specs.declared.config.Config.{Config}
 use Rattle.tesla_state.specs.declared.replies.Reply.TheVariants.{Given}
 use Rattle.tesla_state.specs.declared.release.Release.{Release}

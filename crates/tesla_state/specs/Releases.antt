@@ -2,7 +2,7 @@
 use Rattle.std.specs.Prelude.{ℕ, Bool, ◌&&◌, List, [], ◌∷◌, ◌++◌, length, ◌==◌, if◌then◌else◌}
 use Rattle.std.specs.List.{list_any}
 use Rattle.tesla_base.specs.declared.names.Name.{Name}
-use Rattle.tesla_capture.specs.declared.release.Head.{Head}
+use Rattle.tesla_base.specs.declared.release.Head.{Head}
 use Rattle.tesla_state.specs.declared.release.Release.{Release}
 
 -- what f gives for each element, told of those that stand before it

@@ -8,7 +8,7 @@ use Rattle.tesla_links.specs.Lists.{Distinct}
 use Rattle.tesla_release.specs.declared.queue.Waiting.{Waiting}
 use Rattle.tesla_state.specs.declared.ordering.Proved.{Proved}
 use Rattle.tesla_state.specs.declared.release.Release.{Release}
-use Rattle.tesla_capture.specs.declared.release.Head.{Head}
+use Rattle.tesla_base.specs.declared.release.Head.{Head}
 use Rattle.tesla_keys.specs.Tip.{Tip}
 use Rattle.tesla_fitting.specs.declared.config.Config.{Config}
 use Rattle.tesla_fitting.specs.Config.{chains}

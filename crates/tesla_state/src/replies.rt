@@ -1,7 +1,6 @@
 //! The answers to a take.
 
-use tesla_base::Text;
-use tesla_capture::Head;
+use tesla_base::{Head, Text};
 
 /// The answer to a take.
 #[derive(Clone, Copy, Debug, PartialEq, Eq)]

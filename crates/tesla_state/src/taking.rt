@@ -9,8 +9,8 @@ ghost use Rattle.tesla_state.specs.Stored.{order_of, IsGiven};
 
 use crate::Store;
 use crate::passing::all_passed;
+use tesla_base::Head;
 use tesla_buffer::{Fate, Item};
-use tesla_capture::Head;
 use tesla_fitting::Config;
 use tesla_keys::Verifier;
 

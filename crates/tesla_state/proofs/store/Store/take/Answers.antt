@@ -6,7 +6,7 @@ use Rattle.tesla_buffer.specs.declared.item.Fate.{Fate}
 use Rattle.tesla_links.specs.Lists.{Distinct}
 use Rattle.tesla_release.specs.Released.{given_after}
 use Rattle.tesla_release.specs.declared.queue.Waiting.{Waiting}
-use Rattle.tesla_capture.specs.declared.release.Head.{Head}
+use Rattle.tesla_base.specs.declared.release.Head.{Head}
 use Rattle.tesla_fitting.specs.Config.{chains}
 use Rattle.tesla_state.specs.ItemShown.{holding_in}
 use Rattle.tesla_state.specs.Steps.{is_passed}

@@ -1,4 +1,4 @@
-//! The head of a record of a released packet.
+//! What is told of a released packet beside its payload.
 
 /// Which packet was released, and the length of its payload.
 #[derive(Clone, Copy, Debug, PartialEq, Eq)]
