@@ -2,7 +2,7 @@
 
 ghost use Rattle.std.specs.Prelude.{◌≡◌, ◌≤◌, ◌+◌, [], ◌++◌, length, true, false};
 ghost use Rattle.tesla_desk.specs.Faults.{HasCause};
-ghost use Rattle.tesla_desk.specs.Outside.{AppendsFront, with_bytes};
+ghost use Rattle.tesla_desk.specs.Outside.{AppendsPrefix, with_bytes};
 ghost use Rattle.tesla_capture.specs.Capture.{head as capture_head, record_text, Arrives, Takes};
 ghost use Rattle.tesla_capture.specs.Release.{release_text};
 
@@ -39,13 +39,13 @@ impl Gatherer {
     /// behind the records gathered. Where it doesn't fit, these are written to the sink first; where it fits,
     /// the sink is left as it was. It takes no memory.
     ///
-    /// True: the record was put. False: a front of the records gathered was written, and the sink's count of
+    /// True: the record was put. False: a prefix of the records gathered was written, and the sink's count of
     /// faults rose.
     pub fn put<S: Sink>(&mut self, sink: &mut S, head: &Head, payload: &[u8]) -> bool
         requires same { head.now.length ≡ length payload.now }
         requires limit { length payload.now ≤ 1200 }
         ensures all { result ≡ true → Gathers (S.written sink.old) (S.written sink.new) (gathered self.new) (gathered self.old ++ release_text head.now payload.now) }
-        ensures front { result ≡ false → AppendsFront (S.written sink.old) (S.written sink.new) (gathered self.old) }
+        ensures prefix { result ≡ false → AppendsPrefix (S.written sink.old) (S.written sink.new) (gathered self.old) }
         ensures kept { result ≡ false → gathered self.new ≡ gathered self.old }
         ensures waits { length (gathered self.old) + 17 + length payload.now ≤ 8192 → sink.new ≡ sink.old }
         ensures cause { HasCause (S.faults sink.old) (S.faults sink.new) (result ≡ false) }
@@ -56,11 +56,11 @@ impl Gatherer {
 
     /// Puts the head of a capture behind the records gathered, as `put` does. It takes no memory.
     ///
-    /// True: the head was put. False: a front of the records gathered was written, and the sink's count of
+    /// True: the head was put. False: a prefix of the records gathered was written, and the sink's count of
     /// faults rose.
     pub fn put_head<S: Sink>(&mut self, sink: &mut S) -> bool
         ensures all { result ≡ true → Gathers (S.written sink.old) (S.written sink.new) (gathered self.new) (gathered self.old ++ capture_head) }
-        ensures front { result ≡ false → AppendsFront (S.written sink.old) (S.written sink.new) (gathered self.old) }
+        ensures prefix { result ≡ false → AppendsPrefix (S.written sink.old) (S.written sink.new) (gathered self.old) }
         ensures kept { result ≡ false → gathered self.new ≡ gathered self.old }
         ensures waits { length (gathered self.old) + 5 ≤ 8192 → sink.new ≡ sink.old }
         ensures cause { HasCause (S.faults sink.old) (S.faults sink.new) (result ≡ false) }
@@ -72,12 +72,12 @@ impl Gatherer {
     /// Puts the record of an arrival of at most 2,048 bytes, with the reading of the receiver's clock in
     /// microseconds, behind the records gathered, as `put` does. It takes no memory.
     ///
-    /// True: the record was put. False: a front of the records gathered was written, and the sink's count of
+    /// True: the record was put. False: a prefix of the records gathered was written, and the sink's count of
     /// faults rose.
     pub fn put_arrival<S: Sink>(&mut self, sink: &mut S, reading: u64, bytes: &[u8]) -> bool
         requires { length bytes.now ≤ 2048 }
         ensures all { result ≡ true → Gathers (S.written sink.old) (S.written sink.new) (gathered self.new) (gathered self.old ++ record_text (Arrives reading bytes.now)) }
-        ensures front { result ≡ false → AppendsFront (S.written sink.old) (S.written sink.new) (gathered self.old) }
+        ensures prefix { result ≡ false → AppendsPrefix (S.written sink.old) (S.written sink.new) (gathered self.old) }
         ensures kept { result ≡ false → gathered self.new ≡ gathered self.old }
         ensures waits { length (gathered self.old) + 11 + length bytes.now ≤ 8192 → sink.new ≡ sink.old }
         ensures cause { HasCause (S.faults sink.old) (S.faults sink.new) (result ≡ false) }
@@ -88,11 +88,11 @@ impl Gatherer {
 
     /// Puts the record of a take behind the records gathered, as `put` does. It takes no memory.
     ///
-    /// True: the record was put. False: a front of the records gathered was written, and the sink's count of
+    /// True: the record was put. False: a prefix of the records gathered was written, and the sink's count of
     /// faults rose.
     pub fn put_take<S: Sink>(&mut self, sink: &mut S) -> bool
         ensures all { result ≡ true → Gathers (S.written sink.old) (S.written sink.new) (gathered self.new) (gathered self.old ++ record_text Takes) }
-        ensures front { result ≡ false → AppendsFront (S.written sink.old) (S.written sink.new) (gathered self.old) }
+        ensures prefix { result ≡ false → AppendsPrefix (S.written sink.old) (S.written sink.new) (gathered self.old) }
         ensures kept { result ≡ false → gathered self.new ≡ gathered self.old }
         ensures waits { length (gathered self.old) + 1 ≤ 8192 → sink.new ≡ sink.old }
         ensures cause { HasCause (S.faults sink.old) (S.faults sink.new) (result ≡ false) }
@@ -103,13 +103,13 @@ impl Gatherer {
 
     /// Writes the records gathered; where there is none, the sink is left as it was. It takes no memory.
     ///
-    /// True: they were written, and none is gathered now. False: a front of them was written, and the
+    /// True: they were written, and none is gathered now. False: a prefix of them was written, and the
     /// sink's count of faults rose.
     pub fn flush<S: Sink>(&mut self, sink: &mut S) -> bool
         ensures all { result ≡ true → S.written sink.new ≡ with_bytes (S.written sink.old) (gathered self.old) }
         ensures empty { result ≡ true → gathered self.new ≡ [] }
         ensures kept { result ≡ false → gathered self.new ≡ gathered self.old }
-        ensures front { AppendsFront (S.written sink.old) (S.written sink.new) (gathered self.old) }
+        ensures prefix { AppendsPrefix (S.written sink.old) (S.written sink.new) (gathered self.old) }
         ensures idle { gathered self.old ≡ [] → sink.new ≡ sink.old }
         ensures cause { HasCause (S.faults sink.old) (S.faults sink.new) (result ≡ false) }
         ensures name { S.name sink.new ≡ S.name sink.old }
@@ -138,7 +138,7 @@ impl Gatherer {
     fn put_one<S: Sink>(&mut self, sink: &mut S, bytes: &[u8]) -> bool
         requires { length bytes.now ≤ 8192 }
         ensures all { result ≡ true → Gathers (S.written sink.old) (S.written sink.new) (gathered self.new) (gathered self.old ++ bytes.now) }
-        ensures front { result ≡ false → AppendsFront (S.written sink.old) (S.written sink.new) (gathered self.old) }
+        ensures prefix { result ≡ false → AppendsPrefix (S.written sink.old) (S.written sink.new) (gathered self.old) }
         ensures kept { result ≡ false → gathered self.new ≡ gathered self.old }
         ensures waits { length (gathered self.old) + length bytes.now ≤ 8192 → sink.new ≡ sink.old }
         ensures cause { HasCause (S.faults sink.old) (S.faults sink.new) (result ≡ false) }
@@ -156,7 +156,7 @@ impl Gatherer {
     fn put_both<S: Sink>(&mut self, sink: &mut S, front: &[u8], back: &[u8]) -> bool
         requires { length front.now + length back.now ≤ 8192 }
         ensures all { result ≡ true → Gathers (S.written sink.old) (S.written sink.new) (gathered self.new) (gathered self.old ++ (front.now ++ back.now)) }
-        ensures front { result ≡ false → AppendsFront (S.written sink.old) (S.written sink.new) (gathered self.old) }
+        ensures prefix { result ≡ false → AppendsPrefix (S.written sink.old) (S.written sink.new) (gathered self.old) }
         ensures kept { result ≡ false → gathered self.new ≡ gathered self.old }
         ensures waits { length (gathered self.old) + length front.now + length back.now ≤ 8192 → sink.new ≡ sink.old }
         ensures cause { HasCause (S.faults sink.old) (S.faults sink.new) (result ≡ false) }
@@ -183,7 +183,7 @@ impl Gatherer {
         requires limit { more ≤ 8192 }
         ensures room { result ≡ true → length (gathered self.new) + more ≤ 8192 }
         ensures all { result ≡ true → Gathers (S.written sink.old) (S.written sink.new) (gathered self.new) (gathered self.old) }
-        ensures front { result ≡ false → AppendsFront (S.written sink.old) (S.written sink.new) (gathered self.old) }
+        ensures prefix { result ≡ false → AppendsPrefix (S.written sink.old) (S.written sink.new) (gathered self.old) }
         ensures kept { result ≡ false → gathered self.new ≡ gathered self.old }
         ensures waits { length (gathered self.old) + more ≤ 8192 → sink.new ≡ sink.old }
         ensures cause { HasCause (S.faults sink.old) (S.faults sink.new) (result ≡ false) }

@@ -3,7 +3,7 @@
 ghost use Rattle.std.specs.Prelude.{◌≡◌, ◌≤◌, [], ◌∷◌, ◌++◌, length, true, false};
 ghost use Rattle.std.specs.Int.{w16, w64, to_be_bytes};
 ghost use Rattle.tesla_desk.specs.Faults.{HasCause};
-ghost use Rattle.tesla_desk.specs.Outside.{AppendsFront, with_bytes};
+ghost use Rattle.tesla_desk.specs.Outside.{AppendsPrefix, with_bytes};
 ghost use Rattle.tesla_capture.specs.Capture.{head as capture_head, record_text, Arrives, Takes};
 ghost use Rattle.tesla_capture.specs.Release.{head_text, release_text};
 
@@ -14,7 +14,7 @@ use tesla_desk::{Sink, write_all};
 /// Writes one piece, and then the other.
 fn write_both<S: Sink>(sink: &mut S, front: &[u8], back: &[u8]) -> bool
     ensures all { result ≡ true → S.written sink.new ≡ with_bytes (S.written sink.old) (front.now ++ back.now) }
-    ensures front { AppendsFront (S.written sink.old) (S.written sink.new) (front.now ++ back.now) }
+    ensures prefix { AppendsPrefix (S.written sink.old) (S.written sink.new) (front.now ++ back.now) }
     ensures cause { HasCause (S.faults sink.old) (S.faults sink.new) (result ≡ false) }
     ensures name { S.name sink.new ≡ S.name sink.old }
 {
@@ -49,10 +49,10 @@ pub(crate) fn arrival_bytes(reading: u64, length: u16) -> [u8; 11]
 
 /// Writes the head of a capture. It takes no memory.
 ///
-/// True: the head was appended. False: a front of it was appended, and the sink's count of faults rose.
+/// True: the head was appended. False: a prefix of it was appended, and the sink's count of faults rose.
 pub fn write_head<S: Sink>(sink: &mut S) -> bool
     ensures all { result ≡ true → S.written sink.new ≡ with_bytes (S.written sink.old) capture_head }
-    ensures front { AppendsFront (S.written sink.old) (S.written sink.new) capture_head }
+    ensures prefix { AppendsPrefix (S.written sink.old) (S.written sink.new) capture_head }
     ensures cause { HasCause (S.faults sink.old) (S.faults sink.new) (result ≡ false) }
     ensures name { S.name sink.new ≡ S.name sink.old }
 {
@@ -62,11 +62,11 @@ pub fn write_head<S: Sink>(sink: &mut S) -> bool
 /// Writes the record of an arrival of at most 2,048 bytes, with the reading of the receiver's clock in
 /// microseconds. It takes no memory.
 ///
-/// True: the record was appended. False: a front of it was appended, and the sink's count of faults rose.
+/// True: the record was appended. False: a prefix of it was appended, and the sink's count of faults rose.
 pub fn write_arrival<S: Sink>(sink: &mut S, reading: u64, bytes: &[u8]) -> bool
     requires { length bytes.now ≤ 2048 }
     ensures all { result ≡ true → S.written sink.new ≡ with_bytes (S.written sink.old) (record_text (Arrives reading bytes.now)) }
-    ensures front { AppendsFront (S.written sink.old) (S.written sink.new) (record_text (Arrives reading bytes.now)) }
+    ensures prefix { AppendsPrefix (S.written sink.old) (S.written sink.new) (record_text (Arrives reading bytes.now)) }
     ensures cause { HasCause (S.faults sink.old) (S.faults sink.new) (result ≡ false) }
     ensures name { S.name sink.new ≡ S.name sink.old }
 {
@@ -75,10 +75,10 @@ pub fn write_arrival<S: Sink>(sink: &mut S, reading: u64, bytes: &[u8]) -> bool
 
 /// Writes the record of a take. It takes no memory.
 ///
-/// True: the record was appended. False: a front of it was appended, and the sink's count of faults rose.
+/// True: the record was appended. False: a prefix of it was appended, and the sink's count of faults rose.
 pub fn write_take<S: Sink>(sink: &mut S) -> bool
     ensures all { result ≡ true → S.written sink.new ≡ with_bytes (S.written sink.old) (record_text Takes) }
-    ensures front { AppendsFront (S.written sink.old) (S.written sink.new) (record_text Takes) }
+    ensures prefix { AppendsPrefix (S.written sink.old) (S.written sink.new) (record_text Takes) }
     ensures cause { HasCause (S.faults sink.old) (S.faults sink.new) (result ≡ false) }
     ensures name { S.name sink.new ≡ S.name sink.old }
 {
@@ -88,12 +88,12 @@ pub fn write_take<S: Sink>(sink: &mut S) -> bool
 /// Writes the record of a released packet, whose payload has the head's length of at most 1,200 bytes.
 /// It takes no memory.
 ///
-/// True: the record was appended. False: a front of it was appended, and the sink's count of faults rose.
+/// True: the record was appended. False: a prefix of it was appended, and the sink's count of faults rose.
 pub fn write_record<S: Sink>(sink: &mut S, head: &Head, payload: &[u8]) -> bool
     requires same { head.now.length ≡ length payload.now }
     requires limit { length payload.now ≤ 1200 }
     ensures all { result ≡ true → S.written sink.new ≡ with_bytes (S.written sink.old) (release_text head.now payload.now) }
-    ensures front { AppendsFront (S.written sink.old) (S.written sink.new) (release_text head.now payload.now) }
+    ensures prefix { AppendsPrefix (S.written sink.old) (S.written sink.new) (release_text head.now payload.now) }
     ensures cause { HasCause (S.faults sink.old) (S.faults sink.new) (result ≡ false) }
     ensures name { S.name sink.new ≡ S.name sink.old }
 {

@@ -3,8 +3,8 @@ use Rattle.std.proofs.Common.{◌≡◌, ◌∙◌, ℕ, Option, Some, None, Res
 use Rattle.std.proofs.Math.Seq.{take-append_seam}
 use Rattle.tesla_capture.specs.Gathering.{Gathers}
 use Rattle.tesla_capture.specs.Script.{Record}
-use Rattle.tesla_desk.specs.Outside.{AppendsFront}
-use Rattle.tesla_desk.proofs.Told.{with_more, front_after, front_longer}
+use Rattle.tesla_desk.specs.Outside.{AppendsPrefix}
+use Rattle.tesla_desk.proofs.Told.{with_more, prefix_after, prefix_longer}
 use Rattle.tesla_frame.specs.Frame.{Frame, frame_text}
 use Rattle.tesla_front.specs.declared.fault.Fault.{Fault}
 use Rattle.tesla_front.specs.declared.script_kind.ScriptKind.{ScriptKind}
@@ -25,15 +25,15 @@ gathers_both before mid now held more rest a b first second = record {
   both = sym (append_assoc held a b) ∙ ap (λ t. t ++ b) first.both ∙ append_assoc first.done more b ∙ ap (λ t. first.done ++ t) second.both ∙ sym (append_assoc first.done second.done rest);
 }
 
--- where the first wasn't put, a front of what is held was written
-pub front_first : (before now : Option (List ℕ)) (held piece : List ℕ) → AppendsFront before now held → AppendsFront before now (held ++ piece)
-front_first before now held piece front = front_longer before now held piece front
+-- where the first wasn't put, a prefix of what is held was written
+pub front_first : (before now : Option (List ℕ)) (held piece : List ℕ) → AppendsPrefix before now held → AppendsPrefix before now (held ++ piece)
+front_first before now held piece front = prefix_longer before now held piece front
 
--- where the second wasn't put, a front of what is held and of the first was
-pub front_second : (before mid now : Option (List ℕ)) (held more a b : List ℕ) → Gathers before mid more (held ++ a) → AppendsFront mid now more → AppendsFront before now (held ++ (a ++ b))
+-- where the second wasn't put, a prefix of what is held and of the first was
+pub front_second : (before mid now : Option (List ℕ)) (held more a b : List ℕ) → Gathers before mid more (held ++ a) → AppendsPrefix mid now more → AppendsPrefix before now (held ++ (a ++ b))
 front_second before mid now held more a b first front =
-    subst (λ (t : List ℕ). AppendsFront before now t) (append_assoc held a b)
-    (front_longer before now (held ++ a) b (subst (λ (t : List ℕ). AppendsFront before now t) (sym first.both) (front_after before mid now first.done more first.written front)))
+    subst (λ (t : List ℕ). AppendsPrefix before now t) (append_assoc held a b)
+    (prefix_longer before now (held ++ a) b (subst (λ (t : List ℕ). AppendsPrefix before now t) (sym first.both) (prefix_after before mid now first.done more first.written front)))
 
 -- the bytes of a frame that was written at the front of the room
 text_is : (frame : Frame) (size : ℕ) (before now : List ℕ) → IsWritten frame size before now → take size now ≡ frame_text frame

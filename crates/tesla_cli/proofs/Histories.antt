@@ -3,7 +3,7 @@ use Rattle.std.proofs.Common.{◌≡◌, ◌∙◌, ℕ, suc, Option, Some, None
 use Rattle.tesla_capture.specs.Capture.{Record}
 use Rattle.tesla_capture.specs.Outline.{outline_of}
 use Rattle.tesla_capture.specs.declared.record.RecordKind.{RecordKind}
-use Rattle.tesla_front.specs.Files.{IsFront}
+use Rattle.tesla_front.specs.Files.{IsPrefix}
 use Rattle.tesla_front.specs.declared.fault.Fault.{Fault}
 use Rattle.tesla_front.specs.declared.fault.Fault.TheVariants as faults
 use Rattle.tesla_front.specs.declared.refusal.Refusal.TheVariants.{Capture}
@@ -103,8 +103,8 @@ source_by cfg Has left written (Ok (Refused place kind)) came memory plays sums 
 source_by cfg Has left written (Err faults.NoMemory) came memory plays sums = absurd (memory refl)
 source_by cfg Has left written (Err fault) came memory plays sums =
     subst (λ (r : Result Summary Stop). PlaysSource cfg left written r) (sym sums) (λ bytes done told told_written.
-    subst (λ (t : List ℕ). IsFront t done) (out_is cfg bytes)
-    (subst (λ (b : List ℕ). IsFront (events_text (rule_of cfg) (events_of (rule_of cfg) bytes)) b) (append-nil done) (plays bytes told done told_written)))
+    subst (λ (t : List ℕ). IsPrefix t done) (out_is cfg bytes)
+    (subst (λ (b : List ℕ). IsPrefix (events_text (rule_of cfg) (events_of (rule_of cfg) bytes)) b) (append-nil done) (plays bytes told done told_written)))
 
 -- the same, told by the rules of the target before and after it
 pub plays_source : (cfg : Config) (before after : Rule) (Has : List Event → Type 0) (left written : Option (List ℕ)) (ended : Result Ending Fault) (came : Result Summary Stop) → before ≡ rule_of cfg → after ≡ before

@@ -2,7 +2,7 @@
 use Rattle.std.proofs.Common.{◌≡◌, ◌∙◌, ◌≢◌, inl, inr, ℕ, zero, suc, ◌≤◌, Bool, true, false, Err, List, [], ◌∷◌, take, refl, sym, ap, arith}
 use Rattle.std.proofs.lemmas.Slice.Eq.{bytes_eq-Decides}
 use Rattle.std.specs.Str.{bytes_eq}
-use Rattle.tesla_desk.specs.Outside.{Page, Told, Opening, OfSink, with_opening, with_openings, AsksFront, OpensSink}
+use Rattle.tesla_desk.specs.Outside.{Page, Told, Opening, OfSink, with_opening, with_openings, AsksPrefix, OpensSink}
 use Rattle.tesla_desk.specs.declared.desk.OpenRefusal.{OpenRefusal}
 use Rattle.tesla_desk.specs.declared.desk.OpenRefusal.TheVariants as refused
 use Rattle.tesla_desk.proofs.Told.{openings_none, openings_first}
@@ -55,7 +55,7 @@ take_none zero = refl
 take_none (suc n) = refl
 
 -- of one file a front was asked for
-pub opens_front : (opening : Opening) (files : List Opening) (before now : Told) → AsksFront (opening ∷ []) before.openings now.openings → ((name : List ℕ) → now.page name ≡ before.page name) → (opened : ℕ) × (opened ≤ 1) × Opens (opening ∷ files) opened before now
-opens_front opening files before now (zero, asked) pages = (0, omega arith, record { asked = asked; pages = λ name none. pages name })
-opens_front opening files before now (suc n, asked) pages =
+pub opens_prefix : (opening : Opening) (files : List Opening) (before now : Told) → AsksPrefix (opening ∷ []) before.openings now.openings → ((name : List ℕ) → now.page name ≡ before.page name) → (opened : ℕ) × (opened ≤ 1) × Opens (opening ∷ files) opened before now
+opens_prefix opening files before now (zero, asked) pages = (0, omega arith, record { asked = asked; pages = λ name none. pages name })
+opens_prefix opening files before now (suc n, asked) pages =
     (1, omega arith, record { asked = asked ∙ ap (λ (more : List Opening). with_openings before.openings (opening ∷ more)) (take_none n); pages = λ name none. pages name })

@@ -2,7 +2,7 @@
 use Rattle.std.proofs.Common.{◌≡◌, inl, inr, ℕ, suc, Option, Result, Ok, Err, List, [], ◌∷◌, refl, sym, subst}
 use Rattle.tesla_commit.specs.Parts.{Parts}
 use Rattle.tesla_desk.specs.Faults.{HasCause}
-use Rattle.tesla_desk.specs.Outside.{Page, Told, Opened, OfSource, OfSink, with_opening, AsksFront, page_of}
+use Rattle.tesla_desk.specs.Outside.{Page, Told, Opened, OfSource, OfSink, with_opening, AsksPrefix, page_of}
 use Rattle.tesla_desk.specs.declared.desk.OpenRefusal.{OpenRefusal}
 use Rattle.tesla_desk.specs.declared.desk.OpenRefusal.TheVariants as refused
 use Rattle.tesla_front.specs.Fault.{unopened}
@@ -18,7 +18,7 @@ use Rattle.tesla_cli.specs.Replay.{config_of, end_of, out_text, PlaysCapture}
 use Rattle.tesla_cli.specs.Steps.{PlaysSource, PlaysLeft, PlaysOpened, PlaysFiles}
 use Rattle.tesla_cli.specs.declared.outcome.Summary.{Summary}
 use Rattle.tesla_cli.proofs.Conversions.{ends_on, breaks_on, empty_on, has_failed, ends_by, breaks_by, nothing_by}
-use Rattle.tesla_cli.proofs.Openings.{opens_then, opens_front}
+use Rattle.tesla_cli.proofs.Openings.{opens_then, opens_prefix}
 use Rattle.tesla_cli.proofs.Told.{rose_some}
 
 -- ---- the output, once it is closed
@@ -65,9 +65,9 @@ files_opened cfg left capture out before mid now came opened asked pages plays =
 -- ---- the setup
 
 -- there was no setup
-pub performs_none : (asked : Asked) (before now : Told) (stop : Stop) → AsksFront (OfSource asked.setup ∷ []) before.openings now.openings → ((name : List ℕ) → now.page name ≡ before.page name) → IsNoSetup (before.page asked.setup) stop → Performs (Replay asked) before now (Err stop)
+pub performs_none : (asked : Asked) (before now : Told) (stop : Stop) → AsksPrefix (OfSource asked.setup ∷ []) before.openings now.openings → ((name : List ℕ) → now.page name ≡ before.page name) → IsNoSetup (before.page asked.setup) stop → Performs (Replay asked) before now (Err stop)
 performs_none asked before now stop front pages why =
-    let it = opens_front (OfSource asked.setup) (OfSource asked.capture ∷ OfSink asked.out ∷ []) before now front pages in
+    let it = opens_prefix (OfSource asked.setup) (OfSource asked.capture ∷ OfSink asked.out ∷ []) before now front pages in
     record { opened = it.0; opens = it.2; does = inl (record { alone = it.1; stop = stop; came_is = refl; why = why }) }
 
 -- the setup was read, and then the capture played

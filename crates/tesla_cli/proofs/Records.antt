@@ -5,7 +5,7 @@ use Rattle.tesla_capture.specs.Capture.{Record}
 use Rattle.tesla_capture.specs.Outline.{Outline, Recorded, next_at, outline_of, outline_at, with_record}
 use Rattle.tesla_capture.specs.Reader.{GivesRecord}
 use Rattle.tesla_capture.specs.declared.record.RecordKind.{RecordKind}
-use Rattle.tesla_front.specs.Files.{IsFront}
+use Rattle.tesla_front.specs.Files.{IsPrefix}
 use Rattle.tesla_front.specs.declared.fault.Fault.{Fault}
 use Rattle.tesla_receiver.specs.History.{Event, Takes, Ends}
 use Rattle.tesla_state.specs.Releases.{each_after}
@@ -13,9 +13,9 @@ use Rattle.tesla_receiver.specs.Played.{event_in}
 use Rattle.tesla_receiver.proofs.EachAfter.{each_after-append}
 use Rattle.tesla_cli.specs.declared.replay.player.Ending.{Ending}
 use Rattle.tesla_cli.specs.declared.replay.player.Ending.TheVariants.{End}
-use Rattle.tesla_cli.specs.Held.{HoldsText, HoldsFront, kept, Settles}
+use Rattle.tesla_cli.specs.Held.{HoldsText, HoldsPrefix, kept, Settles}
 use Rattle.tesla_cli.specs.Playing.{Rule, events_text, events_in, ending_of, Adds, IsAt, PlaysNext, PlaysRecords, PlaysAll, Plays, events_by, events_of, with_end, more_after, with_records}
-use Rattle.tesla_cli.proofs.Held.{holds_front, front_more, holds_flushed, front_written, whole_front}
+use Rattle.tesla_cli.proofs.Held.{holds_prefix, prefix_more, holds_flushed, prefix_written, whole_prefix}
 
 -- what is written of some events begins what is written of more
 pub text-append : (rule : Rule) (events more : List Event) → events_text rule (events ++ more) ≡ events_text rule events ++ each_after rule.adds events more
@@ -47,7 +47,7 @@ next_by (Ok x) first rule Had Has bytes place now ahead left before written held
       holds = subst (λ (es : List Event). HoldsText written rest (events_text rule es)) (sym events) it.1;
     }
 next_by (Err fault) first rule Had Has bytes place now ahead left before written held rest at gives one adds =
-    subst (λ (t : List ℕ). HoldsFront written (kept fault rest) t) (sym (text_all rule bytes at.records (outline_at place at.rest) at.outline))
+    subst (λ (t : List ℕ). HoldsPrefix written (kept fault rest) t) (sym (text_all rule bytes at.records (outline_at place at.rest) at.outline))
     (adds (events_text rule (events_in at.records)) (each_after rule.adds (events_in at.records) (events_in (outline_at place at.rest).records)) at.holds)
 
 -- a record was found and played, or playing stopped at it
@@ -59,10 +59,10 @@ at_next played next first rule Had Has bytes place now ahead left before written
     subst (λ (r : Result (Option Ending) Fault). PlaysNext r rule Has bytes now left written rest) (sym e) (next_by played first rule Had Has bytes place now ahead left before written held rest at gives one adds)
 
 -- a read failed
-pub at_fault : (rule : Rule) (Has : List Event → Type 0) (bytes : List ℕ) (place : ℕ) (ahead written : Option (List ℕ)) (held : List ℕ) → IsAt rule Has bytes place ahead written held → HoldsFront written held (events_text rule (events_in (outline_of bytes).records))
+pub at_fault : (rule : Rule) (Has : List Event → Type 0) (bytes : List ℕ) (place : ℕ) (ahead written : Option (List ℕ)) (held : List ℕ) → IsAt rule Has bytes place ahead written held → HoldsPrefix written held (events_text rule (events_in (outline_of bytes).records))
 at_fault rule Has bytes place ahead written held at =
-    subst (λ (t : List ℕ). HoldsFront written held t) (sym (text_all rule bytes at.records (outline_at place at.rest) at.outline))
-    (holds_front written held (events_text rule (events_in at.records)) (each_after rule.adds (events_in at.records) (events_in (outline_at place at.rest).records)) at.holds)
+    subst (λ (t : List ℕ). HoldsPrefix written held t) (sym (text_all rule bytes at.records (outline_at place at.rest) at.outline))
+    (holds_prefix written held (events_text rule (events_in at.records)) (each_after rule.adds (events_in at.records) (events_in (outline_at place at.rest).records)) at.holds)
 
 -- nothing was played yet
 pub at_start : (rule : Rule) (Has : List Event → Type 0) (bytes : List ℕ) (place : ℕ) (ahead written : Option (List ℕ)) (held : List ℕ) → place ≡ 0 → ahead ≡ Some bytes → Has [] → HoldsText written held [] → IsAt rule Has bytes place ahead written held
@@ -86,17 +86,17 @@ at_end next ending rule same Has bytes place ahead written held some e plays =
     subst (λ (r : Rule). PlaysRecords (Ok ending) r Has bytes written held) e (subst (λ (n : Option Ending). PlaysNext (Ok n) rule Has bytes place ahead written held) some plays)
 
 -- where playing stopped, the rule is that of before
-pub fault_same : (rule same : Rule) (bytes : List ℕ) (written : Option (List ℕ)) (held : List ℕ) → rule ≡ same → HoldsFront written held (events_text rule (events_in (outline_of bytes).records)) → HoldsFront written held (events_text same (events_in (outline_of bytes).records))
-fault_same rule same bytes written held e front = subst (λ (r : Rule). HoldsFront written held (events_text r (events_in (outline_of bytes).records))) e front
+pub fault_same : (rule same : Rule) (bytes : List ℕ) (written : Option (List ℕ)) (held : List ℕ) → rule ≡ same → HoldsPrefix written held (events_text rule (events_in (outline_of bytes).records)) → HoldsPrefix written held (events_text same (events_in (outline_of bytes).records))
+fault_same rule same bytes written held e front = subst (λ (r : Rule). HoldsPrefix written held (events_text r (events_in (outline_of bytes).records))) e front
 
-front_by : (rule : Rule) (events : List Event) (fault : Option (ℕ × RecordKind)) (written : Option (List ℕ)) (held : List ℕ) → HoldsFront written held (events_text rule events) → HoldsFront written held (events_text rule (events_by rule events fault))
+front_by : (rule : Rule) (events : List Event) (fault : Option (ℕ × RecordKind)) (written : Option (List ℕ)) (held : List ℕ) → HoldsPrefix written held (events_text rule events) → HoldsPrefix written held (events_text rule (events_by rule events fault))
 front_by rule events None written held front = λ done told.
-    subst (λ (t : List ℕ). IsFront t (done ++ held)) (sym (text-append rule events (Ends 0 ∷ replicate (suc (rule.waiting events)) (Takes 0))))
-    (front_more (events_text rule events) (each_after rule.adds events (Ends 0 ∷ replicate (suc (rule.waiting events)) (Takes 0))) (done ++ held) (front done told))
+    subst (λ (t : List ℕ). IsPrefix t (done ++ held)) (sym (text-append rule events (Ends 0 ∷ replicate (suc (rule.waiting events)) (Takes 0))))
+    (prefix_more (events_text rule events) (each_after rule.adds events (Ends 0 ∷ replicate (suc (rule.waiting events)) (Takes 0))) (done ++ held) (front done told))
 front_by rule events (Some fault) written held front = front
 
 -- what begins the text of a file's records begins that of all its events
-pub records_front : (rule : Rule) (bytes : List ℕ) (written : Option (List ℕ)) (held : List ℕ) → HoldsFront written held (events_text rule (events_in (outline_of bytes).records)) → HoldsFront written held (events_text rule (events_of rule bytes))
+pub records_front : (rule : Rule) (bytes : List ℕ) (written : Option (List ℕ)) (held : List ℕ) → HoldsPrefix written held (events_text rule (events_in (outline_of bytes).records)) → HoldsPrefix written held (events_text rule (events_of rule bytes))
 records_front rule bytes written held front = front_by rule (events_in (outline_of bytes).records) (outline_of bytes).fault written held front
 
 not_refused : (fault : Option (ℕ × RecordKind)) → End ≡ ending_of fault → fault ≡ None
@@ -112,14 +112,14 @@ pub holds_same : (rule same : Rule) (events : List Event) (written : Option (Lis
 holds_same rule same events written held e holds = subst (λ (r : Rule). HoldsText written held (events_text r events)) e holds
 
 -- playing stopped at the end of the file
-pub end_front : (rule same : Rule) (bytes : List ℕ) (written : Option (List ℕ)) (held : List ℕ) → same ≡ rule → End ≡ ending_of (outline_of bytes).fault → HoldsFront written held (events_text same (with_end same (events_in (outline_of bytes).records))) → HoldsFront written held (events_text rule (events_of rule bytes))
+pub end_front : (rule same : Rule) (bytes : List ℕ) (written : Option (List ℕ)) (held : List ℕ) → same ≡ rule → End ≡ ending_of (outline_of bytes).fault → HoldsPrefix written held (events_text same (with_end same (events_in (outline_of bytes).records))) → HoldsPrefix written held (events_text rule (events_of rule bytes))
 end_front rule same bytes written held e ended front =
-    subst (λ (es : List Event). HoldsFront written held (events_text rule es)) (sym (end_events rule bytes ended))
-    (subst (λ (r : Rule). HoldsFront written held (events_text r (with_end r (events_in (outline_of bytes).records)))) e front)
+    subst (λ (es : List Event). HoldsPrefix written held (events_text rule es)) (sym (end_events rule bytes ended))
+    (subst (λ (r : Rule). HoldsPrefix written held (events_text r (with_end r (events_in (outline_of bytes).records)))) e front)
 
--- what was played and is held was written at last, or a front of it
+-- what was played and is held was written at last, or a prefix of it
 pub settled_plays : (ended settled : Result Ending Fault) (rule : Rule) (Has : List Event → Type 0) (bytes : List ℕ) (before now : Option (List ℕ)) (held : List ℕ) → Settles ended settled before now held → PlaysAll ended rule Has bytes before held → Plays rule Has bytes settled now
 settled_plays (Ok ending) (Ok other) rule Has bytes before now held settles plays = (settles.0 ∙ plays.0, plays.1, holds_flushed before now held (events_text rule (events_of rule bytes)) plays.2 settles.1)
-settled_plays (Ok ending) (Err fault) rule Has bytes before now held settles plays = front_written before now held (events_text rule (events_of rule bytes)) (whole_front before held (events_text rule (events_of rule bytes)) plays.2) settles.1
+settled_plays (Ok ending) (Err fault) rule Has bytes before now held settles plays = prefix_written before now held (events_text rule (events_of rule bytes)) (whole_prefix before held (events_text rule (events_of rule bytes)) plays.2) settles.1
 settled_plays (Err fault) settled rule Has bytes before now held settles plays =
-    subst (λ (r : Result Ending Fault). Plays rule Has bytes r now) (sym settles.0) (front_written before now (kept fault held) (events_text rule (events_of rule bytes)) plays settles.1)
+    subst (λ (r : Result Ending Fault). Plays rule Has bytes r now) (sym settles.0) (prefix_written before now (kept fault held) (events_text rule (events_of rule bytes)) plays settles.1)

@@ -14,13 +14,13 @@ use Rattle.tesla_front.specs.declared.fault.Fault.{Fault}
 use Rattle.tesla_front.specs.declared.script_kind.ScriptKind.{ScriptKind}
 use Rattle.tesla_sender.specs.Made.{Call, Stream}
 use Rattle.tesla_sender.specs.Stands.{State, Stands}
-use Rattle.tesla_cli.specs.Held.{HoldsText, HoldsFront, kept}
+use Rattle.tesla_cli.specs.Held.{HoldsText, HoldsPrefix, kept}
 use Rattle.tesla_cli.specs.Script.{Answer, Makes, MakesNone, Refuses, Sent, Sending, answer_to, call_of, reading_of, sending, sending_by, sending_in, sent_text, capture_of}
 use Rattle.tesla_cli.specs.Send.{text_of}
 use Rattle.tesla_cli.specs.SendSteps.{CarriesOut, IsAt, SendsAll, SendsNext, ending_at, ending_of, frame_records, with_sent}
 use Rattle.tesla_cli.specs.declared.send.sending.ScriptEnding.{ScriptEnding}
 use Rattle.tesla_cli.specs.declared.send.sending.ScriptEnding.TheVariants as endings
-use Rattle.tesla_cli.proofs.Held.{holds_more, holds_front, holds_written}
+use Rattle.tesla_cli.proofs.Held.{holds_more, holds_prefix, holds_written}
 
 -- ---- texts and places
 
@@ -119,8 +119,8 @@ next_by (Err fault) (Makes frame) first stream sender bytes at now left before w
     let more : List ℕ = flat_map captures.record_text (capture_of behind.sent) in
     let whole : text_of stream bytes ≡ (sent_text sent ++ piece) ++ more = ap (λ (s : Sending). sent_text s.sent) others ∙ text_through sent it behind.sent in
     let both : HoldsText before (held ++ piece) (sent_text sent ++ piece) = λ done told_before. sym (append_assoc done held piece) ∙ ap (λ t. t ++ piece) (holds done told_before) in
-    subst (λ (f : Fault). HoldsFront written (kept f rest) (text_of stream bytes)) (sym does.0)
-    (subst (λ (t : List ℕ). HoldsFront written [] t) (sym whole) (holds_written before written (held ++ piece) (sent_text sent ++ piece) more both does.1))
+    subst (λ (f : Fault). HoldsPrefix written (kept f rest) (text_of stream bytes)) (sym does.0)
+    (subst (λ (t : List ℕ). HoldsPrefix written [] t) (sym whole) (holds_written before written (held ++ piece) (sent_text sent ++ piece) more both does.1))
 next_by (Err fault) MakesNone first stream sender bytes at now left before written held rest count counted sent log after told others same count_is holds does = absurd does
 next_by (Err fault) (Refuses kind) first stream sender bytes at now left before written held rest count counted sent log after told others same count_is holds does = absurd does
 
@@ -170,11 +170,11 @@ at_refused stream sender bytes place at kind told ahead written held count is re
     )
 
 -- a read failed
-pub at_fault : (stream : Stream) (sender : State) (bytes : List ℕ) (place : ℕ) (ahead written : Option (List ℕ)) (held : List ℕ) (count : ℕ) → IsAt stream sender bytes place ahead written held count → HoldsFront written held (text_of stream bytes)
+pub at_fault : (stream : Stream) (sender : State) (bytes : List ℕ) (place : ℕ) (ahead written : Option (List ℕ)) (held : List ℕ) (count : ℕ) → IsAt stream sender bytes place ahead written held count → HoldsPrefix written held (text_of stream bytes)
 at_fault stream sender bytes place ahead written held count is =
     let behind : Sending = sending_in stream is.log (record_place place) (outline_at script place is.rest) in
     let whole : text_of stream bytes ≡ sent_text is.sent ++ flat_map captures.record_text (capture_of behind.sent) = ap (λ (s : Sending). sent_text s.sent) is.others ∙ text_both is.sent behind.sent in
-    subst (λ (t : List ℕ). HoldsFront written held t) (sym whole) (holds_front written held (sent_text is.sent) (flat_map captures.record_text (capture_of behind.sent)) is.holds)
+    subst (λ (t : List ℕ). HoldsPrefix written held t) (sym whole) (holds_prefix written held (sent_text is.sent) (flat_map captures.record_text (capture_of behind.sent)) is.holds)
 
 -- nothing was sent yet, and the head of the capture is held
 pub at_start : (stream : Stream) (sender : State) (bytes : List ℕ) (place : ℕ) (ahead written : Option (List ℕ)) (held : List ℕ) (count : ℕ) → place ≡ 0 → ahead ≡ Some bytes → sender.stream ≡ stream → Stands sender [] → count ≡ 0 → HoldsText written held captures.head → IsAt stream sender bytes place ahead written held count

@@ -5,7 +5,7 @@ use Rattle.tesla_base.specs.declared.names.ChainNo.{ChainNo}
 use Rattle.tesla_base.specs.declared.names.Key.{Key}
 use Rattle.tesla_commit.specs.Parts.{Parts}
 use Rattle.tesla_desk.specs.Faults.{HasCause}
-use Rattle.tesla_desk.specs.Outside.{Page, Told, Opened, OfSource, OfSink, OpensSource, with_opening, AsksFront, page_of}
+use Rattle.tesla_desk.specs.Outside.{Page, Told, Opened, OfSource, OfSink, OpensSource, with_opening, AsksPrefix, page_of}
 use Rattle.tesla_desk.specs.declared.desk.OpenRefusal.{OpenRefusal}
 use Rattle.tesla_desk.specs.declared.desk.OpenRefusal.TheVariants as refused
 use Rattle.tesla_front.specs.Fault.{unopened}
@@ -26,7 +26,7 @@ use Rattle.tesla_cli.specs.SendAsked.{SendAsked}
 use Rattle.tesla_cli.specs.SendSteps.{SendsSource, SendsLeft, SendsOpened, SendsFiles, SendsSeeded, SendsSetup}
 use Rattle.tesla_cli.specs.declared.outcome.Summary.{Summary}
 use Rattle.tesla_cli.proofs.Conversions.{ends_on, breaks_on, has_failed, ends_by, breaks_by}
-use Rattle.tesla_cli.proofs.Openings.{opens_none, opens_then, opens_first, opens_front}
+use Rattle.tesla_cli.proofs.Openings.{opens_none, opens_then, opens_first, opens_prefix}
 use Rattle.tesla_cli.proofs.Told.{rose_some}
 
 -- ---- the output, once it is closed
@@ -127,9 +127,9 @@ seeded_files stream other script out before now came right same sends = record {
 -- ---- the seeds
 
 -- there were no seeds
-pub setup_unseeded : (asked : SendAsked) (setup : Parts) (before now : Told) (stop : Stop) → AsksFront (OfSource asked.secret ∷ []) before.openings now.openings → ((name : List ℕ) → now.page name ≡ before.page name) → IsNoSeeds (length setup.rows) (before.page asked.secret) stop → SendsSetup asked setup before now (Err stop)
+pub setup_unseeded : (asked : SendAsked) (setup : Parts) (before now : Told) (stop : Stop) → AsksPrefix (OfSource asked.secret ∷ []) before.openings now.openings → ((name : List ℕ) → now.page name ≡ before.page name) → IsNoSeeds (length setup.rows) (before.page asked.secret) stop → SendsSetup asked setup before now (Err stop)
 setup_unseeded asked setup before now stop front pages why =
-    let it = opens_front (OfSource asked.secret) (OfSource asked.script ∷ OfSink asked.out ∷ []) before now front pages in
+    let it = opens_prefix (OfSource asked.secret) (OfSource asked.script ∷ OfSink asked.out ∷ []) before now front pages in
     record { opened = it.0; opens = it.2; does = inl (record { few = omega (arith, it.1); stop = stop; came_is = refl; why = inl why }) }
 
 seeded_by : (asked : SendAsked) (setup : Parts) (seeds : List Key) (opened : ℕ) (before mid now : Told) (came : Result Summary Stop) → length seeds ≡ length setup.rows → IsSeedsIn (length setup.rows) (before.page asked.secret) seeds → ((name : List ℕ) → mid.page name ≡ before.page name)
@@ -155,9 +155,9 @@ setup_seeded asked setup seeds before mid now came opened pages count found send
 -- ---- the setup
 
 -- there was no setup
-pub performs_no_send : (asked : SendAsked) (before now : Told) (stop : Stop) → AsksFront (OfSource asked.setup ∷ []) before.openings now.openings → ((name : List ℕ) → now.page name ≡ before.page name) → IsNoSetup (before.page asked.setup) stop → Performs (Send asked) before now (Err stop)
+pub performs_no_send : (asked : SendAsked) (before now : Told) (stop : Stop) → AsksPrefix (OfSource asked.setup ∷ []) before.openings now.openings → ((name : List ℕ) → now.page name ≡ before.page name) → IsNoSetup (before.page asked.setup) stop → Performs (Send asked) before now (Err stop)
 performs_no_send asked before now stop front pages why =
-    let it = opens_front (OfSource asked.setup) (OfSource asked.secret ∷ OfSource asked.script ∷ OfSink asked.out ∷ []) before now front pages in
+    let it = opens_prefix (OfSource asked.setup) (OfSource asked.secret ∷ OfSource asked.script ∷ OfSink asked.out ∷ []) before now front pages in
     record { opened = it.0; opens = it.2; does = inl (record { alone = it.1; stop = stop; came_is = refl; why = why }) }
 
 -- what was done under a setup is told of pages that are the same

@@ -3,7 +3,7 @@ use Rattle.std.proofs.Common.{◌≡◌, ◌∙◌, ◌+◌, ◌-◌, ◌≤◌,
 use Rattle.tesla_front.specs.declared.fault.Fault.{Fault}
 use Rattle.tesla_receiver.specs.History.{Event, Takes, Ends}
 use Rattle.tesla_state.specs.Releases.{each_after}
-use Rattle.tesla_cli.specs.Held.{HoldsText, HoldsFront, kept}
+use Rattle.tesla_cli.specs.Held.{HoldsText, HoldsPrefix, kept}
 use Rattle.tesla_cli.specs.Playing.{Rule, events_text, with_end}
 use Rattle.tesla_cli.proofs.Records.{text-append}
 
@@ -29,11 +29,11 @@ takes_text rule events n i h =
     ap (events_text rule) (ap (λ l. events ++ l) (takes_apart n i h) ∙ sym (append_assoc events (replicate i (Takes 0)) (replicate (n - i) (Takes 0)))) ∙ text-append rule (events ++ replicate i (Takes 0)) (replicate (n - i) (Takes 0))
 
 -- playing stopped at a take
-pub take_stops : (rule : Rule) (events : List Event) (n i : ℕ) (fault : Fault) (before written : Option (List ℕ)) (held rest : List ℕ) → i ≤ n → ((text more : List ℕ) → HoldsText before held text → HoldsFront written (kept fault rest) (text ++ more)) → HoldsText before held (events_text rule (events ++ replicate i (Takes 0))) → HoldsFront written (kept fault rest) (events_text rule (events ++ replicate n (Takes 0)))
+pub take_stops : (rule : Rule) (events : List Event) (n i : ℕ) (fault : Fault) (before written : Option (List ℕ)) (held rest : List ℕ) → i ≤ n → ((text more : List ℕ) → HoldsText before held text → HoldsPrefix written (kept fault rest) (text ++ more)) → HoldsText before held (events_text rule (events ++ replicate i (Takes 0))) → HoldsPrefix written (kept fault rest) (events_text rule (events ++ replicate n (Takes 0)))
 take_stops rule events n i fault before written held rest h stops holds =
-    subst (λ (t : List ℕ). HoldsFront written (kept fault rest) t) (sym (takes_text rule events n i h)) (stops (events_text rule (events ++ replicate i (Takes 0))) (each_after rule.adds (events ++ replicate i (Takes 0)) (replicate (n - i) (Takes 0))) holds)
+    subst (λ (t : List ℕ). HoldsPrefix written (kept fault rest) t) (sym (takes_text rule events n i h)) (stops (events_text rule (events ++ replicate i (Takes 0))) (each_after rule.adds (events ++ replicate i (Takes 0)) (replicate (n - i) (Takes 0))) holds)
 
 -- playing stopped at the end
-pub end_stops : (rule : Rule) (events : List Event) (fault : Fault) (before written : Option (List ℕ)) (held rest : List ℕ) → ((text more : List ℕ) → HoldsText before held text → HoldsFront written (kept fault rest) (text ++ more)) → HoldsText before held (events_text rule events) → HoldsFront written (kept fault rest) (events_text rule (with_end rule events))
+pub end_stops : (rule : Rule) (events : List Event) (fault : Fault) (before written : Option (List ℕ)) (held rest : List ℕ) → ((text more : List ℕ) → HoldsText before held text → HoldsPrefix written (kept fault rest) (text ++ more)) → HoldsText before held (events_text rule events) → HoldsPrefix written (kept fault rest) (events_text rule (with_end rule events))
 end_stops rule events fault before written held rest stops holds =
-    subst (λ (t : List ℕ). HoldsFront written (kept fault rest) t) (sym (text-append rule events (Ends 0 ∷ replicate (suc (rule.waiting events)) (Takes 0)))) (stops (events_text rule events) (each_after rule.adds events (Ends 0 ∷ replicate (suc (rule.waiting events)) (Takes 0))) holds)
+    subst (λ (t : List ℕ). HoldsPrefix written (kept fault rest) t) (sym (text-append rule events (Ends 0 ∷ replicate (suc (rule.waiting events)) (Takes 0)))) (stops (events_text rule events) (each_after rule.adds events (Ends 0 ∷ replicate (suc (rule.waiting events)) (Takes 0))) holds)

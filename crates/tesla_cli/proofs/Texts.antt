@@ -1,11 +1,11 @@
 -- A text that is written to an output as a whole, once the output is closed.
 use Rattle.std.proofs.Common.{◌≡◌, inl, inr, ℕ, Option, Some, None, Result, Ok, Err, IfSome, List, [], ◌∷◌, ◌++◌, length, take, suc, refl, sym, ap, subst}
 use Rattle.tesla_desk.specs.Faults.{Rose}
-use Rattle.tesla_desk.specs.Outside.{Page, Told, OfSource, OfSink, AppendsFront, AsksFront, with_bytes, with_opening, page_of}
+use Rattle.tesla_desk.specs.Outside.{Page, Told, OfSource, OfSink, AppendsPrefix, AsksPrefix, with_bytes, with_opening, page_of}
 use Rattle.tesla_desk.specs.declared.desk.OpenRefusal.{OpenRefusal}
 use Rattle.tesla_desk.specs.declared.desk.OpenRefusal.TheVariants as refused
 use Rattle.tesla_front.specs.Fault.{unopened}
-use Rattle.tesla_front.specs.Files.{HoldsWhere, HasFailed, IsFront}
+use Rattle.tesla_front.specs.Files.{HoldsWhere, HasFailed, IsPrefix}
 use Rattle.tesla_front.specs.declared.fault.Fault.TheVariants as faults
 use Rattle.tesla_front.specs.Seeds.{IsSeedsIn, IsNoSeeds}
 use Rattle.tesla_front.specs.declared.refusal.Stop.{Stop}
@@ -15,7 +15,7 @@ use Rattle.tesla_cli.specs.ChainAsked.{ChainAsked}
 use Rattle.tesla_cli.specs.ChainSteps.{PutsText, WritesMade}
 use Rattle.tesla_cli.specs.Form.{Chain, Performs}
 use Rattle.tesla_cli.specs.declared.outcome.Summary.{Summary}
-use Rattle.tesla_cli.proofs.Openings.{opens_then, opens_front}
+use Rattle.tesla_cli.proofs.Openings.{opens_then, opens_prefix}
 use Rattle.tesla_cli.proofs.Conversions.{has_failed, where_map}
 use Rattle.tesla_cli.proofs.Told.{rose_some}
 
@@ -28,11 +28,11 @@ held_all (Some front) written count text empty is = subst (λ (w : Option (List 
 pub text_whole : (text : List ℕ) (before written : Option (List ℕ)) (count : ℕ) (old page : Page) → IfSome before (λ bytes. bytes ≡ []) → written ≡ with_bytes before text → page ≡ page_of written count → PutsText text old page (Ok tt)
 text_whole text before written count old page empty is own = subst (λ (p : Page). HoldsWhere p (λ bytes. bytes ≡ text)) (sym own) (held_all before written count text empty is)
 
--- a front of the text was written, and then a write failed
-pub text_front : (text : List ℕ) (before written : Option (List ℕ)) (first count : ℕ) (old page : Page) → IfSome before (λ bytes. bytes ≡ []) → AppendsFront before written text → first ≡ 0 → Rose first count → page ≡ page_of written count → PutsText text old page (Err faults.Write)
-text_front text before written first count old page empty front fresh rose own =
-    subst (λ (p : Page). HoldsWhere p (IsFront text) × HasFailed p) (sym own) (
-      where_map (page_of written count) (λ bytes. bytes ≡ take front.0 text) (IsFront text) (λ bytes is. (front.0, is)) (held_all before written count (take front.0 text) empty front.1.written),
+-- a prefix of the text was written, and then a write failed
+pub text_prefix : (text : List ℕ) (before written : Option (List ℕ)) (first count : ℕ) (old page : Page) → IfSome before (λ bytes. bytes ≡ []) → AppendsPrefix before written text → first ≡ 0 → Rose first count → page ≡ page_of written count → PutsText text old page (Err faults.Write)
+text_prefix text before written first count old page empty front fresh rose own =
+    subst (λ (p : Page). HoldsWhere p (IsPrefix text) × HasFailed p) (sym own) (
+      where_map (page_of written count) (λ bytes. bytes ≡ take front.0 text) (IsPrefix text) (λ bytes is. (front.0, is)) (held_all before written count (take front.0 text) empty front.1.written),
       has_failed written count (rose_some first count fresh rose),
     )
 
@@ -44,9 +44,9 @@ text_unopened text before page refused.NoMemory same = same
 -- ---- the seeds
 
 -- there were no seeds
-pub performs_unseeded : (asked : ChainAsked) (before now : Told) (stop : Stop) → AsksFront (OfSource asked.secret ∷ []) before.openings now.openings → ((name : List ℕ) → now.page name ≡ before.page name) → IsNoSeeds (length asked.delays) (before.page asked.secret) stop → Performs (Chain asked) before now (Err stop)
+pub performs_unseeded : (asked : ChainAsked) (before now : Told) (stop : Stop) → AsksPrefix (OfSource asked.secret ∷ []) before.openings now.openings → ((name : List ℕ) → now.page name ≡ before.page name) → IsNoSeeds (length asked.delays) (before.page asked.secret) stop → Performs (Chain asked) before now (Err stop)
 performs_unseeded asked before now stop front pages why =
-    let it = opens_front (OfSource asked.secret) (OfSink asked.out ∷ []) before now front pages in
+    let it = opens_prefix (OfSource asked.secret) (OfSink asked.out ∷ []) before now front pages in
     record { opened = it.0; opens = it.2; does = inl (record { alone = it.1; stop = stop; came_is = refl; why = why }) }
 
 -- the seeds were read, and then the setup made and written

@@ -2,8 +2,8 @@
 use Rattle.std.proofs.Common.{◌≡◌, ◌∙◌, inl, inr, ◌<◌, ◌≤◌, ◌-◌, ℕ, Bool, true, false, Option, List, [], ◌∷◌, ◌++◌, length, get_or, take, drop, refl, sym, ap, subst, arith}
 use Rattle.std.proofs.lemmas.List.{take_rest}
 use Rattle.tesla_desk.specs.Faults.{HasCause, Rose}
-use Rattle.tesla_desk.specs.Outside.{AppendsFront, with_bytes}
-use Rattle.tesla_desk.proofs.Told.{with_bytes_twice, front_longer, front_after}
+use Rattle.tesla_desk.specs.Outside.{AppendsPrefix, with_bytes}
+use Rattle.tesla_desk.proofs.Told.{with_bytes_twice, prefix_longer, prefix_after}
 use Rattle.tesla_front.specs.Fault.{fault_line}
 use Rattle.tesla_front.specs.declared.fault.Fault.TheVariants.{Write}
 use Rattle.tesla_cli.specs.Outcome.{outcome_text, usage_line, usage_of, IsDone, Tells}
@@ -18,27 +18,27 @@ rose_some before now e (inl above) = omega (arith, e, above)
 rose_some before now e (inr full) = absurd (omega (arith, e, full))
 
 -- a summary was lost, and a write fault told behind it
-pub tells_lost : (summary : Summary) (before mid now : Option (List ℕ)) (old between new : ℕ) (line : List ℕ) (text : List ℕ) → text ≡ outcome_text (Done summary) → line ≡ fault_line Write → AppendsFront before mid text → AppendsFront mid now line → old ≡ 0 → Rose old between → between ≤ new → Tells (Done summary) (Failed Write) before now new
+pub tells_lost : (summary : Summary) (before mid now : Option (List ℕ)) (old between new : ℕ) (line : List ℕ) (text : List ℕ) → text ≡ outcome_text (Done summary) → line ≡ fault_line Write → AppendsPrefix before mid text → AppendsPrefix mid now line → old ≡ 0 → Rose old between → between ≤ new → Tells (Done summary) (Failed Write) before now new
 tells_lost summary before mid now old between new line text text_is line_is first second e rose stays =
     let some : 0 < between = rose_some old between e rose in
     let written : now ≡ with_bytes before (take first.0 text ++ take second.0 line) = second.1.written ∙ ap (λ w. with_bytes w (take second.0 line)) first.1.written ∙ with_bytes_twice before (take first.0 text) (take second.0 line) in
     let parts : take first.0 text ++ take second.0 line ≡ take first.0 (outcome_text (Done summary)) ++ take second.0 (fault_line Write) = ap (λ t. take first.0 t ++ take second.0 line) text_is ∙ ap (λ l. take first.0 (outcome_text (Done summary)) ++ take second.0 l) line_is in
     inr (inr (refl, tt, omega (arith, some, stays), (take first.0 text ++ take second.0 line, (first.0, second.0, parts), written)))
 
--- the lines of an outcome without a summary were told, or a front of them
-pub tells_lines : (came : Outcome) (whole : Bool) (before now : Option (List ℕ)) (old new : ℕ) → (IsDone came → ⊥) → (whole ≡ true → now ≡ with_bytes before (outcome_text came)) → AppendsFront before now (outcome_text came) → HasCause old new (whole ≡ false) → old ≡ 0 → Tells came came before now new
+-- the lines of an outcome without a summary were told, or a prefix of them
+pub tells_lines : (came : Outcome) (whole : Bool) (before now : Option (List ℕ)) (old new : ℕ) → (IsDone came → ⊥) → (whole ≡ true → now ≡ with_bytes before (outcome_text came)) → AppendsPrefix before now (outcome_text came) → HasCause old new (whole ≡ false) → old ≡ 0 → Tells came came before now new
 tells_lines came true before now old new none all front cause e = inl (refl, all refl)
 tells_lines came false before now old new none all front cause e = inr (inl (refl, none, rose_some old new e (cause.rose refl), front))
 
 -- the second of three pieces was written in part
-pub second_front : (before mid now : Option (List ℕ)) (a b c piece : List ℕ) → mid ≡ with_bytes before a → piece ≡ b → AppendsFront mid now piece → AppendsFront before now (a ++ b ++ c)
-second_front before mid now a b c piece whole same front =
-    front_longer before now (a ++ b) c (front_after before mid now a b whole (subst (λ (p : List ℕ). AppendsFront mid now p) same front))
+pub second_prefix : (before mid now : Option (List ℕ)) (a b c piece : List ℕ) → mid ≡ with_bytes before a → piece ≡ b → AppendsPrefix mid now piece → AppendsPrefix before now (a ++ b ++ c)
+second_prefix before mid now a b c piece whole same front =
+    prefix_longer before now (a ++ b) c (prefix_after before mid now a b whole (subst (λ (p : List ℕ). AppendsPrefix mid now p) same front))
 
 -- the third of three pieces was written in part
-pub third_front : (before mid late now : Option (List ℕ)) (a b c piece : List ℕ) → mid ≡ with_bytes before a → piece ≡ b → late ≡ with_bytes mid piece → AppendsFront late now c → AppendsFront before now (a ++ b ++ c)
-third_front before mid late now a b c piece whole same next front =
-    front_after before late now (a ++ b) c (next ∙ ap (with_bytes mid) same ∙ ap (λ w. with_bytes w b) whole ∙ with_bytes_twice before a b) front
+pub third_prefix : (before mid late now : Option (List ℕ)) (a b c piece : List ℕ) → mid ≡ with_bytes before a → piece ≡ b → late ≡ with_bytes mid piece → AppendsPrefix late now c → AppendsPrefix before now (a ++ b ++ c)
+third_prefix before mid late now a b c piece whole same next front =
+    prefix_after before late now (a ++ b) c (next ∙ ap (with_bytes mid) same ∙ ap (λ w. with_bytes w b) whole ∙ with_bytes_twice before a b) front
 
 -- the lines of some forms are that of the first and those of the others
 usage_first : (forms : List FormText) (d : FormText) → 1 ≤ length forms → usage_of forms ≡ usage_line (get_or forms 0 d).words.now ++ usage_of (take (length forms - 1) (drop 1 forms))
@@ -46,14 +46,14 @@ usage_first [] d some = absurd (omega arith)
 usage_first (form ∷ forms) d some = ap (λ (l : List FormText). usage_line form.words.now ++ usage_of l) (sym (take_rest (form ∷ forms) 1))
 
 -- the first of some lines was written in part
-pub usage_stops : (forms : List FormText) (d : FormText) (before now : Option (List ℕ)) → 1 ≤ length forms → AppendsFront before now (usage_line (get_or forms 0 d).words.now) → AppendsFront before now (usage_of forms)
+pub usage_stops : (forms : List FormText) (d : FormText) (before now : Option (List ℕ)) → 1 ≤ length forms → AppendsPrefix before now (usage_line (get_or forms 0 d).words.now) → AppendsPrefix before now (usage_of forms)
 usage_stops forms d before now some front =
-    subst (λ (t : List ℕ). AppendsFront before now t) (sym (usage_first forms d some)) (front_longer before now (usage_line (get_or forms 0 d).words.now) (usage_of (take (length forms - 1) (drop 1 forms))) front)
+    subst (λ (t : List ℕ). AppendsPrefix before now t) (sym (usage_first forms d some)) (prefix_longer before now (usage_line (get_or forms 0 d).words.now) (usage_of (take (length forms - 1) (drop 1 forms))) front)
 
 -- the first of some lines was written, and then the others in part
-pub usage_front : (forms : List FormText) (d : FormText) (before mid now : Option (List ℕ)) → 1 ≤ length forms → mid ≡ with_bytes before (usage_line (get_or forms 0 d).words.now) → AppendsFront mid now (usage_of (take (length forms - 1) (drop 1 forms))) → AppendsFront before now (usage_of forms)
-usage_front forms d before mid now some first front =
-    subst (λ (t : List ℕ). AppendsFront before now t) (sym (usage_first forms d some)) (front_after before mid now (usage_line (get_or forms 0 d).words.now) (usage_of (take (length forms - 1) (drop 1 forms))) first front)
+pub usage_prefix : (forms : List FormText) (d : FormText) (before mid now : Option (List ℕ)) → 1 ≤ length forms → mid ≡ with_bytes before (usage_line (get_or forms 0 d).words.now) → AppendsPrefix mid now (usage_of (take (length forms - 1) (drop 1 forms))) → AppendsPrefix before now (usage_of forms)
+usage_prefix forms d before mid now some first front =
+    subst (λ (t : List ℕ). AppendsPrefix before now t) (sym (usage_first forms d some)) (prefix_after before mid now (usage_line (get_or forms 0 d).words.now) (usage_of (take (length forms - 1) (drop 1 forms))) first front)
 
 -- the first of some lines was written, and then the others
 pub usage_whole : (forms : List FormText) (d : FormText) (before mid now : Option (List ℕ)) → 1 ≤ length forms → mid ≡ with_bytes before (usage_line (get_or forms 0 d).words.now) → now ≡ with_bytes mid (usage_of (take (length forms - 1) (drop 1 forms))) → now ≡ with_bytes before (usage_of forms)

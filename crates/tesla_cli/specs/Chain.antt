@@ -5,7 +5,7 @@ use Rattle.tesla_commit.specs.Parts.{Parts}
 use Rattle.tesla_commit.specs.SetupText.{IsSetup, setup_text}
 use Rattle.tesla_commit.specs.declared.chain_row.ChainRow.{ChainRow}
 use Rattle.tesla_desk.specs.Outside.{Page}
-use Rattle.tesla_front.specs.Files.{HoldsWhere, HasFailed, IsFront}
+use Rattle.tesla_front.specs.Files.{HoldsWhere, HasFailed, IsPrefix}
 use Rattle.tesla_front.specs.Seeds.{IsSeedsIn, IsNoSeeds}
 use Rattle.tesla_front.specs.declared.fault.Fault.TheVariants as faults
 use Rattle.tesla_front.specs.declared.refusal.Stop.{Stop}
@@ -34,7 +34,7 @@ setup_made asked seeds = setup_with asked (rows_of asked.times.last asked.delays
 abbrev pub WritesSetup : Parts → Page → Page → Result Summary Stop → Type 0
 WritesSetup setup before out (Ok summary) = (summary ≡ Chains (length setup.rows)) × HoldsWhere out (λ written. IsSetup written setup)
 WritesSetup setup before out (Err (Refused _)) = ⊥
-WritesSetup setup before out (Err (Failed faults.Write)) = HoldsWhere out (IsFront (setup_text setup)) × HasFailed out
+WritesSetup setup before out (Err (Failed faults.Write)) = HoldsWhere out (IsPrefix (setup_text setup)) × HasFailed out
 WritesSetup setup before out (Err (Failed faults.Read)) = ⊥
 -- memory is wanting only before the output is opened
 WritesSetup setup before out (Err (Failed faults.NoMemory)) = out ≡ before

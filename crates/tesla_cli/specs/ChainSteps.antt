@@ -2,7 +2,7 @@
 use Rattle.std.specs.Prelude.{◌≡◌, ℕ, Result, Ok, Err, List, [], ◌∷◌}
 use Rattle.tesla_commit.specs.Parts.{Parts}
 use Rattle.tesla_desk.specs.Outside.{Page, Told, OfSink}
-use Rattle.tesla_front.specs.Files.{HoldsWhere, HasFailed, IsFront}
+use Rattle.tesla_front.specs.Files.{HoldsWhere, HasFailed, IsPrefix}
 use Rattle.tesla_front.specs.declared.fault.Fault.{Fault}
 use Rattle.tesla_front.specs.declared.fault.Fault.TheVariants as faults
 use Rattle.tesla_front.specs.declared.refusal.Stop.{Stop}
@@ -13,7 +13,7 @@ use Rattle.tesla_cli.specs.declared.outcome.Summary.{Summary}
 -- what writing a text comes to, with the page of the output before and afterwards
 abbrev pub PutsText : List ℕ → Page → Page → Result (Unit {0}) Fault → Type 0
 PutsText text before out (Ok x) = HoldsWhere out (λ written. written ≡ text)
-PutsText text before out (Err faults.Write) = HoldsWhere out (IsFront text) × HasFailed out
+PutsText text before out (Err faults.Write) = HoldsWhere out (IsPrefix text) × HasFailed out
 PutsText text before out (Err faults.Read) = ⊥
 PutsText text before out (Err faults.NoMemory) = out ≡ before
 PutsText text before out (Err faults.Open) = out ≡ before

@@ -1,7 +1,7 @@
 -- A command that makes an output from one input, under a setup: what it comes to and what it writes, told as functions of the input's bytes.
 use Rattle.std.specs.Prelude.{◌≡◌, ◌≢◌, ◌≤◌, ℕ, Bool, Result, Err, List, []}
 use Rattle.tesla_desk.specs.Outside.{Page, Absent, Holds}
-use Rattle.tesla_front.specs.Files.{HoldsWhere, IsFront}
+use Rattle.tesla_front.specs.Files.{HoldsWhere, IsPrefix}
 use Rattle.tesla_front.specs.Setup.{IsNoSetup}
 use Rattle.tesla_front.specs.declared.refusal.Stop.{Stop}
 use Rattle.tesla_cli.specs.declared.outcome.Summary.{Summary}
@@ -21,10 +21,10 @@ pub record HoldsNothing (input out : Page) : Type 0 where
   pub there : input ≢ Absent
   pub nothing : HoldsWhere out (λ written. written ≡ [])
 
--- the command was broken off: the output holds a front of its text
+-- the command was broken off: the output holds a prefix of its text
 pub record BreaksOff (makes : List ℕ → List ℕ) (input out : Page) : Type 0 where
   pub there : input ≢ Absent
-  pub front : HoldsWhere out (λ written. Where input (λ bytes. IsFront (makes bytes) written))
+  pub front : HoldsWhere out (λ written. Where input (λ bytes. IsPrefix (makes bytes) written))
 
 -- there is no setup under the name, and no other file was asked for
 pub record StopsAtSetup (setup : List ℕ) (opened : ℕ) (before : List ℕ → Page) (came : Result Summary Stop) : Type 0 where

@@ -1,8 +1,8 @@
 -- What a run of the commands is, for all words and desks.
 use Rattle.std.specs.Prelude.{◌≡◌, ◌≢◌, ◌⊎◌, ◌-◌, ◌<◌, ◌^◌, ℕ, true, false, Result, List, [], ◌∷◌, take, codes}
 use Rattle.tesla_desk.specs.Faults.{Faults, HasCauses}
-use Rattle.tesla_desk.specs.Outside.{Page, Untold, Absent, Holds, Told, Opening, OfSink, with_openings, AsksFront}
-use Rattle.tesla_front.specs.Files.{IsFront}
+use Rattle.tesla_desk.specs.Outside.{Page, Untold, Absent, Holds, Told, Opening, OfSink, with_openings, AsksPrefix}
+use Rattle.tesla_front.specs.Files.{IsPrefix}
 use Rattle.tesla_front.specs.declared.fault.Fault.TheVariants as faults
 use Rattle.tesla_front.specs.declared.refusal.Stop.{Stop}
 use Rattle.tesla_cli.specs.Form.{Form, Spells, Does, IsAmong, files_of}
@@ -19,20 +19,20 @@ console = OfSink (codes "-")
 abbrev pub IsNoForm : List (List ℕ) → Type 0
 IsNoForm words = (form : Form) → Spells form words → ⊥
 
--- the console, on which an outcome that came was told: it holds exactly the lines, and a front of them where a write to it failed, which changes no outcome but that of a summary
+-- the console, on which an outcome that came was told: it holds exactly the lines, and a prefix of them where a write to it failed, which changes no outcome but that of a summary
 abbrev pub Shows : Outcome → Outcome → Page → Type 0
 Shows came told Untold = (told ≡ came) ⊎ ((told ≡ Failed faults.Write) × IsDone came)
 Shows came told Absent = ⊥
 Shows came told (Holds text false) = (told ≡ came) × (text ≡ outcome_text came)
 Shows came told (Holds text true) =
     ((told ≡ came) × (text ≡ outcome_text came))
-    ⊎ ((told ≡ came) × (IsDone came → ⊥) × IsFront (outcome_text came) text)
+    ⊎ ((told ≡ came) × (IsDone came → ⊥) × IsPrefix (outcome_text came) text)
     ⊎ ((told ≡ Failed faults.Write) × IsDone came × IsLost came text)
 
 -- the console wasn't opened: nothing else was, and nothing is written
 pub record HasNoConsole (old new : Told) (outcome : Outcome) : Type 0 where
   pub fault : (outcome ≡ Failed faults.Open) ⊎ (outcome ≡ Failed faults.NoMemory)
-  pub asked : AsksFront (console ∷ []) old.openings new.openings
+  pub asked : AsksPrefix (console ∷ []) old.openings new.openings
   pub pages : (name : List ℕ) → new.page name ≡ old.page name
 
 -- words that are no form: the console alone was opened, and is told so

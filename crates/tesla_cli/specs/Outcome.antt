@@ -1,7 +1,7 @@
 -- What a command comes to: its status, and the lines that the console is given.
 use Rattle.std.specs.Prelude.{◌≡◌, ◌⊎◌, ℕ, ◌<◌, Option, Result, Ok, Err, List, ◌++◌, take, codes}
 use Rattle.std.specs.List.{flat_map}
-use Rattle.tesla_desk.specs.Outside.{AppendsFront, with_bytes}
+use Rattle.tesla_desk.specs.Outside.{AppendsPrefix, with_bytes}
 use Rattle.tesla_front.specs.Fault.{fault_status, fault_line}
 use Rattle.tesla_front.specs.Lines.{count_line}
 use Rattle.tesla_front.specs.Refusal.{refusal_status, refusal_line}
@@ -63,13 +63,13 @@ abbrev pub IsDone : Outcome → Type 0
 IsDone (Done summary) = Unit {0}
 IsDone _ = ⊥
 
--- a front of the lines of a summary, and behind it a front of the line of a write fault
+-- a prefix of the lines of a summary, and behind it a prefix of the line of a write fault
 abbrev pub IsLost : Outcome → List ℕ → Type 0
 IsLost came text = (n : ℕ) × (m : ℕ) × (text ≡ take n (outcome_text came) ++ take m (fault_line Write))
 
--- what an outcome that came is told as, with what is written of it on a sink that has had so many faults then: it stays, with all of its lines, or where there is no summary with a front of them; a summary that isn't written whole is told as a write fault
+-- what an outcome that came is told as, with what is written of it on a sink that has had so many faults then: it stays, with all of its lines, or where there is no summary with a prefix of them; a summary that isn't written whole is told as a write fault
 abbrev pub Tells : Outcome → Outcome → Option (List ℕ) → Option (List ℕ) → ℕ → Type 0
 Tells came told before now faults =
     ((told ≡ came) × (now ≡ with_bytes before (outcome_text came)))
-    ⊎ ((told ≡ came) × (IsDone came → ⊥) × (0 < faults) × AppendsFront before now (outcome_text came))
+    ⊎ ((told ≡ came) × (IsDone came → ⊥) × (0 < faults) × AppendsPrefix before now (outcome_text came))
     ⊎ ((told ≡ Failed Write) × IsDone came × (0 < faults) × ((text : List ℕ) × IsLost came text × (now ≡ with_bytes before text)))

@@ -4,7 +4,7 @@ use Rattle.tesla_capture.specs.Capture.{Record, limit}
 use Rattle.tesla_capture.specs.declared.reader.Reader.{Reader}
 use Rattle.tesla_capture.specs.Outline.{Outline, outline_of, outline_at}
 use Rattle.tesla_capture.specs.declared.record.RecordKind.{RecordKind}
-use Rattle.tesla_desk.specs.Outside.{AppendsFront}
+use Rattle.tesla_desk.specs.Outside.{AppendsPrefix}
 use Rattle.tesla_front.specs.declared.fault.Fault.{Fault}
 use Rattle.tesla_front.specs.declared.fault.Fault.TheVariants as faults
 use Rattle.tesla_receiver.specs.History.{Event, Arrives, Takes, Ends, entry_of}
@@ -13,7 +13,7 @@ use Rattle.tesla_receiver.specs.Played.{after_events, event_in, waiting_in}
 use Rattle.tesla_receiver.specs.Report.{record_in, report_of}
 use Rattle.tesla_state.specs.declared.report.Report.{Report}
 use Rattle.tesla_fitting.specs.declared.config.Config.{Config}
-use Rattle.tesla_cli.specs.Held.{HoldsText, HoldsFront, kept}
+use Rattle.tesla_cli.specs.Held.{HoldsText, HoldsPrefix, kept}
 use Rattle.tesla_cli.specs.declared.replay.player.Ending.{Ending}
 use Rattle.tesla_cli.specs.declared.replay.player.Ending.TheVariants.{End, Refused}
 use Rattle.tesla_cli.specs.declared.replay.target.PlayedEvent.{PlayedEvent}
@@ -58,16 +58,16 @@ ending_of (Some fault) = Refused fault.0 fault.1
 
 -- playing stopped at a failed write, and of what was held a front was written: no other fault comes
 abbrev pub Halts : Fault → Option (List ℕ) → Option (List ℕ) → List ℕ → Type 0
-Halts faults.Write before now held = AppendsFront before now held
+Halts faults.Write before now held = AppendsPrefix before now held
 Halts faults.NoMemory before now held = ⊥
 Halts faults.Read before now held = ⊥
 Halts faults.Open before now held = ⊥
 
--- a capture was played to a target: it has had all events of the file, and what is written of them is written; or a front of that is
+-- a capture was played to a target: it has had all events of the file, and what is written of them is written; or a prefix of that is
 abbrev pub Plays : Rule → (List Event → Type 0) → List ℕ → Result Ending Fault → Option (List ℕ) → Type 0
 Plays rule Has bytes (Ok ending) written =
     (ending ≡ ending_of (outline_of bytes).fault) × Has (events_of rule bytes) × HoldsText written [] (events_text rule (events_of rule bytes))
-Plays rule Has bytes (Err fault) written = HoldsFront written [] (events_text rule (events_of rule bytes))
+Plays rule Has bytes (Err fault) written = HoldsPrefix written [] (events_text rule (events_of rule bytes))
 
 -- what a receiver of that configuration writes: the records of what its takes give
 abbrev pub rule_of : Config → Rule
@@ -77,12 +77,12 @@ rule_of cfg = record {
   counts = λ events. report_of (after_events cfg [] events);
 }
 
--- one event more was played: it is had and what is written of it is held; or playing stopped, and what was written is a front of every text that begins with what was held
+-- one event more was played: it is had and what is written of it is held; or playing stopped, and what was written is a prefix of every text that begins with what was held
 abbrev pub Adds : Result (Unit {0}) Fault → Event → Rule → (List Event → Type 0) → (List Event → Type 0) → Option (List ℕ) → List ℕ → Option (List ℕ) → List ℕ → Type 0
 Adds (Ok x) event rule Had Has before held now rest =
     (events : List Event) → Had events → HoldsText before held (events_text rule events) → Has (events ++ event ∷ []) × HoldsText now rest (events_text rule (events ++ event ∷ []))
 Adds (Err fault) event rule Had Has before held now rest =
-    (text more : List ℕ) → HoldsText before held text → HoldsFront now (kept fault rest) (text ++ more)
+    (text more : List ℕ) → HoldsText before held text → HoldsPrefix now (kept fault rest) (text ++ more)
 
 -- an outline with these records before it
 abbrev pub with_records : List Record → Outline → Outline
@@ -101,7 +101,7 @@ pub record IsAt (rule : Rule) (Has : List Event → Type 0) (bytes : List ℕ) (
 abbrev pub PlaysRecords : Result Ending Fault → Rule → (List Event → Type 0) → List ℕ → Option (List ℕ) → List ℕ → Type 0
 PlaysRecords (Ok ending) rule Has bytes written held =
     (ending ≡ ending_of (outline_of bytes).fault) × Has (events_in (outline_of bytes).records) × HoldsText written held (events_text rule (events_in (outline_of bytes).records))
-PlaysRecords (Err fault) rule Has bytes written held = HoldsFront written (kept fault held) (events_text rule (events_in (outline_of bytes).records))
+PlaysRecords (Err fault) rule Has bytes written held = HoldsPrefix written (kept fault held) (events_text rule (events_in (outline_of bytes).records))
 
 -- after a record that was played there may be more
 abbrev pub more_after : Result (Unit {0}) Fault → Result (Option Ending) Fault
@@ -112,7 +112,7 @@ more_after (Err fault) = Err fault
 abbrev pub PlaysAll : Result Ending Fault → Rule → (List Event → Type 0) → List ℕ → Option (List ℕ) → List ℕ → Type 0
 PlaysAll (Ok ending) rule Has bytes written held =
     (ending ≡ ending_of (outline_of bytes).fault) × Has (events_of rule bytes) × HoldsText written held (events_text rule (events_of rule bytes))
-PlaysAll (Err fault) rule Has bytes written held = HoldsFront written (kept fault held) (events_text rule (events_of rule bytes))
+PlaysAll (Err fault) rule Has bytes written held = HoldsPrefix written (kept fault held) (events_text rule (events_of rule bytes))
 
 -- the next record was played, or there was none, or playing stopped
 abbrev pub PlaysNext : Result (Option Ending) Fault → Rule → (List Event → Type 0) → List ℕ → ℕ → Option (List ℕ) → Option (List ℕ) → List ℕ → Type 0
@@ -126,7 +126,7 @@ pub record GoesUp (old new : Reader) : Type 0 where
   pub limited : new.place ≤ limit
   pub going : new.going ≡ true
 
--- what is held after some events and so many takes was written or is held; or a front of it was
+-- what is held after some events and so many takes was written or is held; or a prefix of it was
 abbrev pub PlaysTo : Result (Unit {0}) Fault → Rule → (List Event → Type 0) → List Event → Option (List ℕ) → List ℕ → Type 0
 PlaysTo (Ok x) rule Has events written held = Has events × HoldsText written held (events_text rule events)
-PlaysTo (Err fault) rule Has events written held = HoldsFront written (kept fault held) (events_text rule events)
+PlaysTo (Err fault) rule Has events written held = HoldsPrefix written (kept fault held) (events_text rule events)

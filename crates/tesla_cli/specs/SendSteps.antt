@@ -7,7 +7,7 @@ use Rattle.tesla_capture.specs.Records.{outline_at, record_place}
 use Rattle.tesla_capture.specs.Script.{Record, script}
 use Rattle.tesla_capture.specs.Steps.{Progress}
 use Rattle.tesla_commit.specs.Parts.{Parts}
-use Rattle.tesla_desk.specs.Outside.{Page, Told, OfSource, OfSink, AppendsFront}
+use Rattle.tesla_desk.specs.Outside.{Page, Told, OfSource, OfSink, AppendsPrefix}
 use Rattle.tesla_frame.specs.Frame.{frame_text}
 use Rattle.tesla_front.specs.Files.{HasFailed}
 use Rattle.tesla_front.specs.declared.fault.Fault.{Fault}
@@ -19,7 +19,7 @@ use Rattle.tesla_front.specs.declared.script_kind.ScriptKind.{ScriptKind}
 use Rattle.tesla_sender.specs.Made.{Call, Stream}
 use Rattle.tesla_sender.specs.Stands.{State, Stands}
 use Rattle.tesla_cli.specs.Form.{Opens}
-use Rattle.tesla_cli.specs.Held.{HoldsText, HoldsFront, kept}
+use Rattle.tesla_cli.specs.Held.{HoldsText, HoldsPrefix, kept}
 use Rattle.tesla_cli.specs.Script.{Answer, Makes, MakesNone, Refuses, Sent, Sending, call_of, reading_of, sending, sending_in, sent_text}
 use Rattle.tesla_cli.specs.Send.{SendsScript, SendsWith, StopsAtSeeds, IsNoSender, came_of, text_of, wrong_line}
 use Rattle.tesla_cli.specs.SendAsked.{SendAsked}
@@ -33,11 +33,11 @@ use Rattle.tesla_cli.specs.declared.send.sending.ScriptEnding.TheVariants.{End, 
 abbrev pub frame_records : ℕ → List ℕ → List ℕ
 frame_records reading bytes = captures.record_text (captures.Arrives reading bytes) ++ captures.record_text captures.Takes
 
--- a piece was put behind what was held, and counted; or a write failed, and a front of both was written
+-- a piece was put behind what was held, and counted; or a write failed, and a prefix of both was written
 abbrev pub PutsFrame : Result (Option ScriptKind) Fault → List ℕ → ℕ → ℕ → Option (List ℕ) → Option (List ℕ) → List ℕ → List ℕ → Type 0
 PutsFrame (Ok None) piece count counted before now held rest = (counted ≡ count + 1) × Gathers before now rest (held ++ piece)
 PutsFrame (Ok (Some kind)) piece count counted before now held rest = ⊥
-PutsFrame (Err fault) piece count counted before now held rest = (fault ≡ faults.Write) × AppendsFront before now (held ++ piece)
+PutsFrame (Err fault) piece count counted before now held rest = (fault ≡ faults.Write) × AppendsPrefix before now (held ++ piece)
 
 -- nothing was made: what was counted, written and held is as before
 pub record Unmoved (count counted : ℕ) (before now : Option (List ℕ)) (held rest : List ℕ) : Type 0 where
@@ -85,7 +85,7 @@ pub record IsAt (stream : Stream) (sender : State) (bytes : List ℕ) (place : �
 abbrev pub SendsAll : Result ScriptEnding Fault → Stream → List ℕ → ℕ → Option (List ℕ) → List ℕ → Type 0
 SendsAll (Ok ending) stream bytes count written held =
     (ending ≡ ending_of (sending stream bytes).refused) × (count ≡ length (sending stream bytes).sent) × HoldsText written held (text_of stream bytes)
-SendsAll (Err fault) stream bytes count written held = HoldsFront written (kept fault held) (text_of stream bytes)
+SendsAll (Err fault) stream bytes count written held = HoldsPrefix written (kept fault held) (text_of stream bytes)
 
 -- the next record was carried out, or there was none, or it is refused, or sending stopped
 abbrev pub SendsNext : Result (Option ScriptEnding) Fault → Stream → State → List ℕ → ℕ → Option (List ℕ) → Option (List ℕ) → List ℕ → ℕ → Type 0

@@ -1,7 +1,7 @@
 -- What the inner steps of a command that makes an output from one input come to, and those of a replay.
 use Rattle.std.specs.Prelude.{◌≡◌, ◌⊎◌, ℕ, Option, Some, IfSome, Result, Ok, Err, List, [], ◌∷◌}
 use Rattle.tesla_desk.specs.Outside.{Page, Told, OfSource, OfSink}
-use Rattle.tesla_front.specs.Files.{HoldsWhere, HasFailed, IsFront}
+use Rattle.tesla_front.specs.Files.{HoldsWhere, HasFailed, IsPrefix}
 use Rattle.tesla_front.specs.declared.fault.Fault.{Fault}
 use Rattle.tesla_front.specs.declared.fault.Fault.TheVariants as faults
 use Rattle.tesla_front.specs.declared.refusal.Refusal.TheVariants as refusals
@@ -31,7 +31,7 @@ pub record EndsFrom (comes : List ℕ → Result Summary Stop) (makes : List ℕ
 
 -- it was broken off
 abbrev pub BreaksFrom : (List ℕ → List ℕ) → Option (List ℕ) → Option (List ℕ) → Type 0
-BreaksFrom makes left written = (bytes done : List ℕ) → left ≡ Some bytes → written ≡ Some done → IsFront (makes bytes) done
+BreaksFrom makes left written = (bytes done : List ℕ) → left ≡ Some bytes → written ≡ Some done → IsPrefix (makes bytes) done
 
 -- the output of an input that was taken to its end
 pub record EndsOn (comes : List ℕ → Result Summary Stop) (makes : List ℕ → List ℕ) (left : Option (List ℕ)) (out : Page) (came : Result Summary Stop) : Type 0 where
@@ -40,7 +40,7 @@ pub record EndsOn (comes : List ℕ → Result Summary Stop) (makes : List ℕ �
 
 -- the output of an input that was broken off
 abbrev pub BreaksOn : (List ℕ → List ℕ) → Option (List ℕ) → Page → Type 0
-BreaksOn makes left out = HoldsWhere out (λ written. (bytes : List ℕ) → left ≡ Some bytes → IsFront (makes bytes) written)
+BreaksOn makes left out = HoldsWhere out (λ written. (bytes : List ℕ) → left ≡ Some bytes → IsPrefix (makes bytes) written)
 
 -- what playing from a source to a sink came to: memory is wanting only before the first record, when nothing is written yet
 abbrev pub PlaysSource : Config → Option (List ℕ) → Option (List ℕ) → Result Summary Stop → Type 0

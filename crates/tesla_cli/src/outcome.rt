@@ -3,7 +3,7 @@
 ghost use Rattle.std.specs.Prelude.{◌≡◌, codes, true, false};
 ghost use Rattle.tesla_front.specs.Lines.{count_line};
 ghost use Rattle.tesla_desk.specs.Faults.{HasCause};
-ghost use Rattle.tesla_desk.specs.Outside.{AppendsFront, with_bytes};
+ghost use Rattle.tesla_desk.specs.Outside.{AppendsPrefix, with_bytes};
 ghost use Rattle.tesla_cli.specs.Outcome.{status_of, report_text, summary_text, outcome_of, usage_line, usage_of, outcome_text, Tells, IsDone};
 
 use crate::usage::{FORMS, FormText};
@@ -113,7 +113,7 @@ fn summary_lines(summary: &Summary) -> Lines
 // Writes the usage line of a form. False: a write failed.
 fn write_form<S: Sink>(console: &mut S, form: &FormText) -> bool
     ensures all { result ≡ true → S.written console.new ≡ with_bytes (S.written console.old) (usage_line form.now.words.now) }
-    ensures front { AppendsFront (S.written console.old) (S.written console.new) (usage_line form.now.words.now) }
+    ensures prefix { AppendsPrefix (S.written console.old) (S.written console.new) (usage_line form.now.words.now) }
     ensures cause { HasCause (S.faults console.old) (S.faults console.new) (result ≡ false) }
     ensures name { S.name console.new ≡ S.name console.old }
 {
@@ -129,7 +129,7 @@ fn write_form<S: Sink>(console: &mut S, form: &FormText) -> bool
 // Writes the usage line of each of these forms. False: a write failed.
 fn write_usage<S: Sink>(console: &mut S, forms: &[FormText]) -> bool
     ensures all { result ≡ true → S.written console.new ≡ with_bytes (S.written console.old) (usage_of forms.now) }
-    ensures front { AppendsFront (S.written console.old) (S.written console.new) (usage_of forms.now) }
+    ensures prefix { AppendsPrefix (S.written console.old) (S.written console.new) (usage_of forms.now) }
     ensures cause { HasCause (S.faults console.old) (S.faults console.new) (result ≡ false) }
     ensures name { S.name console.new ≡ S.name console.old }
 {
@@ -162,7 +162,7 @@ fn tell_summary<S: Sink>(console: &mut S, summary: Summary) -> Outcome
 fn write_lines<S: Sink>(console: &mut S, outcome: &Outcome) -> bool
     requires { IsDone outcome.now → ⊥ }
     ensures all { result ≡ true → S.written console.new ≡ with_bytes (S.written console.old) (outcome_text outcome.now) }
-    ensures front { AppendsFront (S.written console.old) (S.written console.new) (outcome_text outcome.now) }
+    ensures prefix { AppendsPrefix (S.written console.old) (S.written console.new) (outcome_text outcome.now) }
     ensures cause { HasCause (S.faults console.old) (S.faults console.new) (result ≡ false) }
     ensures name { S.name console.new ≡ S.name console.old }
 {

@@ -2,7 +2,7 @@
 use Rattle.std.proofs.Common.{◌≡◌, ◌∙◌, ℕ, suc, min, ◌≤◌, ◌<◌, Option, Some, None, IfSome, Result, Ok, Err, Bool, ◌+◌, ◌-◌, List, [], ◌∷◌, ◌++◌, refl, ap, sym, append_assoc, append-nil, length-append, arith, length, take, drop}
 use Rattle.std.proofs.Math.Seq.{take-add, take-append-add, take-length, take-append_seam}
 use Rattle.std.proofs.lemmas.List.{drop-drop, length-take-le, take-append-drop, take-append-le, take_min, take_rest}
-use Rattle.tesla_desk.specs.Outside.{with_bytes, after_bytes, AppendsFront, Brings, Ends, Opened, Page, Untold, Absent, Holds, page_of, Opening, with_opening, with_openings, after_opening, AsksFront}
+use Rattle.tesla_desk.specs.Outside.{with_bytes, after_bytes, AppendsPrefix, Brings, Ends, Opened, Page, Untold, Absent, Holds, page_of, Opening, with_opening, with_openings, after_opening, AsksPrefix}
 use Rattle.tesla_desk.specs.declared.desk.OpenRefusal.{OpenRefusal}
 use Rattle.tesla_desk.specs.declared.desk.OpenRefusal.TheVariants as refusals
 
@@ -26,19 +26,19 @@ pub appends_none : (before : Option (List ℕ)) → before ≡ with_bytes before
 appends_none None = refl
 appends_none (Some front) = ap (λ bytes. Some bytes) (sym (append-nil front))
 
--- ---- fronts of a piece
+-- ---- prefixes of a piece
 
--- nothing of a piece is a front of it
-pub front_none : (written : Option (List ℕ)) (piece : List ℕ) → AppendsFront written written piece
-front_none written piece = (0, record { fits = omega arith; written = appends_none written })
+-- nothing of a piece is a prefix of it
+pub prefix_none : (written : Option (List ℕ)) (piece : List ℕ) → AppendsPrefix written written piece
+prefix_none written piece = (0, record { fits = omega arith; written = appends_none written })
 
--- the whole of a piece is a front of it
-pub front_whole : (old new : Option (List ℕ)) (piece : List ℕ) → new ≡ with_bytes old piece → AppendsFront old new piece
-front_whole old new piece e = (length piece, record { fits = omega arith; written = e ∙ ap (λ bytes. with_bytes old bytes) (sym (take-length piece)) })
+-- the whole of a piece is a prefix of it
+pub prefix_whole : (old new : Option (List ℕ)) (piece : List ℕ) → new ≡ with_bytes old piece → AppendsPrefix old new piece
+prefix_whole old new piece e = (length piece, record { fits = omega arith; written = e ∙ ap (λ bytes. with_bytes old bytes) (sym (take-length piece)) })
 
--- a front of a piece is one of a longer piece
-pub front_longer : (old new : Option (List ℕ)) (piece more : List ℕ) → AppendsFront old new piece → AppendsFront old new (piece ++ more)
-front_longer old new piece more front = (
+-- a prefix of a piece is one of a longer piece
+pub prefix_longer : (old new : Option (List ℕ)) (piece more : List ℕ) → AppendsPrefix old new piece → AppendsPrefix old new (piece ++ more)
+prefix_longer old new piece more front = (
   front.0,
   record {
     fits = omega (arith, front.1.fits, length-append piece more);
@@ -46,9 +46,9 @@ front_longer old new piece more front = (
   },
 )
 
--- a front of a piece that comes after another is a front of both
-pub front_after : (first old new : Option (List ℕ)) (a b : List ℕ) → old ≡ with_bytes first a → AppendsFront old new b → AppendsFront first new (a ++ b)
-front_after first old new a b e front = (
+-- a prefix of a piece that comes after another is a prefix of both
+pub prefix_after : (first old new : Option (List ℕ)) (a b : List ℕ) → old ≡ with_bytes first a → AppendsPrefix old new b → AppendsPrefix first new (a ++ b)
+prefix_after first old new a b e front = (
   length a + front.0,
   record {
     fits = omega (arith, front.1.fits, length-append a b);
@@ -71,7 +71,7 @@ ended_rest bytes (Some more) after rest ends e =
     let is : rest ≡ bytes ++ more = cc in
     is ∙ ap (λ m. bytes ++ m) none ∙ append-nil bytes
 
--- a front of the rest was moved to the front of a slice
+-- a prefix of the rest was moved to the front of a slice
 pub brings_front : (slice bytes moved tail : List ℕ) (at n : ℕ) → slice ≡ bytes → 0 < n → n ≤ length (take (length slice - at) (drop at slice)) → moved ≡ take n (take (length slice - at) (drop at slice)) → Brings n (Some (drop at bytes)) (Some (drop (at + n) bytes)) (moved ++ tail)
 brings_front slice bytes moved tail at n same some fits is =
     let rest : take (length slice - at) (drop at slice) ≡ drop at bytes = take_rest slice at ∙ ap (λ whole. drop at whole) same in
@@ -132,30 +132,30 @@ openings_first None opening others = refl
 openings_first (Some before) opening others = ap (λ openings. Some openings) (append_assoc before (opening ∷ []) others)
 
 -- none of these was asked for
-pub asks_nothing : (openings : List Opening) (before now : Option (List Opening)) → now ≡ before → AsksFront openings before now
+pub asks_nothing : (openings : List Opening) (before now : Option (List Opening)) → now ≡ before → AsksPrefix openings before now
 asks_nothing openings before now same = (0, same ∙ openings_none before)
 
 -- the first of these was asked for
-pub asks_first : (opening : Opening) (others : List Opening) (before now : Option (List Opening)) → now ≡ with_opening before opening → AsksFront (opening ∷ others) before now
+pub asks_first : (opening : Opening) (others : List Opening) (before now : Option (List Opening)) → now ≡ with_opening before opening → AsksPrefix (opening ∷ others) before now
 asks_first opening others before now asked = (1, asked ∙ openings_none (with_opening before opening) ∙ openings_first before opening [])
 
 -- the first of these was tried
-pub asks_tried : {A : Type 0} (opening : Opening) (others : List Opening) (result : Result A OpenRefusal) (before now : Option (List Opening)) → now ≡ after_opening opening result before → AsksFront (opening ∷ others) before now
+pub asks_tried : {A : Type 0} (opening : Opening) (others : List Opening) (result : Result A OpenRefusal) (before now : Option (List Opening)) → now ≡ after_opening opening result before → AsksPrefix (opening ∷ others) before now
 asks_tried opening others (Ok it) before now asked = asks_first opening others before now asked
 asks_tried opening others (Err refusals.Failed) before now asked = asks_first opening others before now asked
 asks_tried opening others (Err refusals.NoMemory) before now asked = asks_nothing (opening ∷ others) before now asked
 
--- the first of these was asked for, and then a front of the others
-pub asks_then : (opening : Opening) (others : List Opening) (before mid now : Option (List Opening)) → mid ≡ with_opening before opening → AsksFront others mid now → AsksFront (opening ∷ others) before now
+-- the first of these was asked for, and then a prefix of the others
+pub asks_then : (opening : Opening) (others : List Opening) (before mid now : Option (List Opening)) → mid ≡ with_opening before opening → AsksPrefix others mid now → AsksPrefix (opening ∷ others) before now
 asks_then opening others before mid now asked front =
     (suc front.0, front.1 ∙ ap (λ told. with_openings told (take front.0 others)) asked ∙ openings_first before opening (take front.0 others))
 
--- a front of openings is one of more openings
-pub asks_longer : (openings more : List Opening) (before now : Option (List Opening)) → AsksFront openings before now → AsksFront (openings ++ more) before now
+-- a prefix of openings is one of more openings
+pub asks_longer : (openings more : List Opening) (before now : Option (List Opening)) → AsksPrefix openings before now → AsksPrefix (openings ++ more) before now
 asks_longer openings more before now front =
     let n = min front.0 (length openings) in
     (n, front.1 ∙ ap (λ asked. with_openings before asked) (sym (take_min front.0 openings) ∙ sym (take-append-le n openings more (omega arith))))
 
 -- what asks for nothing leaves what was asked for
-pub asks_same : (openings : List Opening) (before mid now : Option (List Opening)) → now ≡ mid → AsksFront openings before mid → AsksFront openings before now
+pub asks_same : (openings : List Opening) (before mid now : Option (List Opening)) → now ≡ mid → AsksPrefix openings before mid → AsksPrefix openings before now
 asks_same openings before mid now same front = (front.0, same ∙ front.1)

@@ -1,4 +1,4 @@
--- Counts of faults: they never fall, they stand still at the end of their type, and a failure is answered only where one rose.
+-- Counts of faults: they never fall, they stand still at the end of their type, and a failure is answered exactly where one rose.
 use Rattle.std.specs.Prelude.{◌≡◌, ◌⊎◌, ℕ, ◌+◌, ◌-◌, ◌^◌, ◌<◌, ◌≤◌, if◌then◌else◌, nat_lt}
 
 -- a count after one fault more: it stands still at the end of its type
@@ -13,10 +13,17 @@ raised_where_failed faults n = if nat_lt 0 faults then raised n else n
 abbrev pub Rose : ℕ → ℕ → Type 0
 Rose before now = (before < now) ⊎ (2 ^ 64 - 1 ≤ before)
 
--- the count has not fallen, and where the call failed it rose
+-- the count has not fallen; where the call failed it rose, and else it is as before
 pub record HasCause (before now : ℕ) (failed : Type 0) : Type 0 where
   pub stays : before ≤ now
   pub rose : failed → Rose before now
+  pub still : (failed → ⊥) → now ≡ before
+
+-- the same of a call behind which another failure may stand that isn't told
+pub record HasCauseBeside (hidden : Type 0) (before now : ℕ) (failed : Type 0) : Type 0 where
+  pub stays : before ≤ now
+  pub rose : failed → Rose before now
+  pub still : (failed → ⊥) → (hidden → ⊥) → now ≡ before
 
 -- how many sources, sinks and openings of a desk failed
 pub record Faults : Type 0 where
@@ -42,8 +49,8 @@ after_source before faults = record before { reads = raised_where_failed faults 
 abbrev pub after_sink : Faults → ℕ → Faults
 after_sink before faults = record before { writes = raised_where_failed faults before.writes }
 
--- no count of a desk fell, and each failure has its cause
+-- each failure that is told raised its count, and no count rose but for one; only that behind a failed read a write may have failed too
 pub record HasCauses (before now : Faults) (read write opening : Type 0) : Type 0 where
   pub reads : HasCause before.reads now.reads read
-  pub writes : HasCause before.writes now.writes write
+  pub writes : HasCauseBeside read before.writes now.writes write
   pub openings : HasCause before.openings now.openings opening

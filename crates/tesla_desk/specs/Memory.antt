@@ -1,23 +1,33 @@
 -- What the forms in memory of a source, a sink and a desk hold.
-use Rattle.std.specs.Prelude.{◌≡◌, ℕ, min, Bool, true, false, Result, Ok, Err, List, [], ◌∷◌, ◌++◌, drop, length, ◌==◌, ◌&&◌, ◌||◌, nat_lt, if◌then◌else◌, Option, Some, None}
+use Rattle.std.specs.Prelude.{◌≡◌, ℕ, min, Bool, true, false, Result, Ok, Err, List, [], ◌∷◌, ◌++◌, length, ◌==◌, ◌&&◌, ◌||◌, nat_lt, if◌then◌else◌, Option, Some, None}
 use Rattle.tesla_desk.specs.Calls.{CallNumbers, new_calls, next_fails, after_call}
 use Rattle.tesla_desk.specs.Faults.{Faults, no_faults, raised}
 use Rattle.tesla_desk.specs.Outside.{Page, Untold, Absent, Holds, Opening, Opened, Told}
 use Rattle.tesla_desk.specs.Settings.{NamedSettings, no_settings, room_for, piece_for, failing_for, within_piece}
-use Rattle.tesla_desk.specs.Stored.{entries_in, page_in, openings_in}
+use Rattle.tesla_desk.specs.Stored.{entries_in, page_in, left_in, left_stored, openings_in}
 use Rattle.tesla_desk.specs.declared.desk.OpenRefusal.{OpenRefusal}
 use Rattle.tesla_desk.specs.declared.desk.OpenRefusal.TheVariants as refusals
 use Rattle.tesla_desk.specs.declared.source.ReadStep.{ReadStep}
 use Rattle.tesla_desk.specs.declared.source.ReadStep.TheVariants.{Got, End, Failed as ReadFailed}
 use Rattle.tesla_desk.specs.declared.sink.WriteStep.{WriteStep}
 use Rattle.tesla_desk.specs.declared.sink.WriteStep.TheVariants.{Took, Failed as WriteFailed}
+use Rattle.tesla_desk.specs.declared.entries.Named.{Named}
+use Rattle.tesla_desk.specs.declared.stored.StoredRest.{StoredRest}
 use Rattle.tesla_desk.specs.declared.pages.Pages.{Pages}
 use Rattle.tesla_desk.specs.declared.heap.Heap.{Heap}
 use Rattle.tesla_desk.specs.declared.memory.MemoryDesk.{MemoryDesk}
 
 -- the bytes that weren't read yet
 abbrev pub unread : Pages → List ℕ
-unread pages = drop pages.at pages.bytes.items
+unread pages = left_stored pages.rest.value
+
+-- the name that a source was opened under
+abbrev pub source_name_of : Pages → List ℕ
+source_name_of pages = pages.rest.name
+
+-- what is kept of a source when it is closed
+abbrev pub stored_of : Pages → Named StoredRest
+stored_of pages = pages.rest
 
 -- how often a read of a source in memory failed
 abbrev pub read_faults_of : Pages → ℕ
@@ -84,6 +94,10 @@ faults_after piece step before = if stalls piece step then raised before else be
 abbrev pub page_under : MemoryDesk → List ℕ → Page
 page_under desk name = page_in (entries_in desk.pages) name
 
+-- what was left of the source that a desk closed last under a name
+abbrev pub left_under : MemoryDesk → List ℕ → Option (List ℕ)
+left_under desk name = left_in (entries_in desk.rests) name
+
 -- the bytes of a page, where there are any
 abbrev pub bytes_in : Page → Option (List ℕ)
 bytes_in Untold = None
@@ -106,7 +120,7 @@ openings_of desk = openings_in (entries_in desk.asked)
 
 -- what a desk tells: all of it
 abbrev pub told_by : MemoryDesk → Told
-told_by desk = record { page = page_under desk; faults = counts_of desk; openings = Some (openings_of desk) }
+told_by desk = record { page = page_under desk; left = left_under desk; faults = counts_of desk; openings = Some (openings_of desk) }
 
 -- what a desk was told of the objects that it opens
 abbrev pub settings_of : MemoryDesk → NamedSettings
@@ -118,17 +132,22 @@ opening_calls_of desk = desk.calls
 
 -- what a desk has beside its pages
 pub record Rest : Type 0 where
+  pub closed : List (Named StoredRest)
   pub counts : Faults
   pub openings : List Opening
   pub settings : NamedSettings
   pub calls : CallNumbers
 
 abbrev pub rest_of : MemoryDesk → Rest
-rest_of desk = record { counts = counts_of desk; openings = openings_of desk; settings = settings_of desk; calls = opening_calls_of desk }
+rest_of desk = record { closed = entries_in desk.rests; counts = counts_of desk; openings = openings_of desk; settings = settings_of desk; calls = opening_calls_of desk }
 
--- no faults, no opening, nothing set, and each sink takes this many bytes
+-- nothing closed, no faults, no opening, nothing set, and each sink takes this many bytes
 abbrev pub new_rest : ℕ → Rest
-new_rest room = record { counts = no_faults; openings = []; settings = no_settings room; calls = new_calls [] }
+new_rest room = record { closed = []; counts = no_faults; openings = []; settings = no_settings room; calls = new_calls [] }
+
+-- the same after the closing of a source
+abbrev pub after_closed : Named StoredRest → Faults → Rest → Rest
+after_closed rest counts before = record before { closed = rest ∷ before.closed; counts = counts }
 
 -- the same with other settings
 abbrev pub with_settings : (NamedSettings → NamedSettings) → Rest → Rest
@@ -164,6 +183,7 @@ refuses_source desk name = next_fails (opening_calls_of desk) || is_absent (page
 
 -- a new source has the bytes of the page, and what was set for the name
 pub record NewSource (desk : MemoryDesk) (name : List ℕ) (it : Pages) : Type 0 where
+  pub named : source_name_of it ≡ name
   pub opened : Opened (page_under desk name) (Some (unread it))
   pub faults : read_faults_of it ≡ 0
   pub calls : read_calls_of it ≡ new_calls (failing_for (settings_of desk) name)

@@ -61,8 +61,8 @@ Stalls piece (Took n) = (n ≡ 0) × (0 < length piece)
 Stalls piece WriteFailed = Unit {0}
 
 -- some front of the piece was appended
-abbrev pub AppendsFront : Option (List ℕ) → Option (List ℕ) → List ℕ → Type 0
-AppendsFront old new piece = (n : ℕ) × Appends n old new piece
+abbrev pub AppendsPrefix : Option (List ℕ) → Option (List ℕ) → List ℕ → Type 0
+AppendsPrefix old new piece = (n : ℕ) × Appends n old new piece
 
 -- a new source has what its desk tells under the name
 abbrev pub Opened : Page → Option (List ℕ) → Type 0
@@ -90,18 +90,20 @@ abbrev pub with_openings : Option (List Opening) → List Opening → Option (Li
 with_openings told openings = option_map (λ before. before ++ openings) told
 
 -- of these openings a front was asked for, in order
-abbrev pub AsksFront : List Opening → Option (List Opening) → Option (List Opening) → Type 0
-AsksFront openings before now = (n : ℕ) × (now ≡ with_openings before (take n openings))
+abbrev pub AsksPrefix : List Opening → Option (List Opening) → Option (List Opening) → Type 0
+AsksPrefix openings before now = (n : ℕ) × (now ≡ with_openings before (take n openings))
 
--- what a desk tells: the page under each name, its counts of faults, and the openings that it was asked for
+-- what a desk tells: the page under each name, what was left of the source that was closed last under it, its counts of faults, and the openings that it was asked for
 pub record Told : Type 0 where
   pub page : List ℕ → Page
+  pub left : List ℕ → Option (List ℕ)
   pub faults : Faults
   pub openings : Option (List Opening)
 
 -- what an opening of a source does to what its desk tells
 pub record OpensSource {A : Type 0} (name : List ℕ) (result : Result A OpenRefusal) (before now : Told) : Type 0 where
   pub pages : (n : List ℕ) → now.page n ≡ before.page n
+  pub lefts : (n : List ℕ) → now.left n ≡ before.left n
   pub counts : CountsOpening before.faults now.faults (result ≡ Err refusals.Failed)
   pub asked : now.openings ≡ after_opening (OfSource name) result before.openings
 
@@ -109,12 +111,15 @@ pub record OpensSource {A : Type 0} (name : List ℕ) (result : Result A OpenRef
 pub record OpensSink {A : Type 0} (name : List ℕ) (result : Result A OpenRefusal) (before now : Told) : Type 0 where
   pub refused : OnErr result (now.page name ≡ before.page name)
   pub pages : (n : List ℕ) → n ≢ name → now.page n ≡ before.page n
+  pub lefts : (n : List ℕ) → now.left n ≡ before.left n
   pub counts : CountsOpening before.faults now.faults (result ≡ Err refusals.Failed)
   pub asked : now.openings ≡ after_opening (OfSink name) result before.openings
 
--- what the closing of a source with this many faults does to what its desk tells
-pub record ClosesSource (faults : ℕ) (before now : Told) : Type 0 where
+-- what the closing of a source with this name, this left and this many faults does to what its desk tells
+pub record ClosesSource (name : List ℕ) (left : Option (List ℕ)) (faults : ℕ) (before now : Told) : Type 0 where
   pub pages : (n : List ℕ) → now.page n ≡ before.page n
+  pub own : now.left name ≡ left
+  pub lefts : (n : List ℕ) → n ≢ name → now.left n ≡ before.left n
   pub counts : now.faults ≡ after_source before.faults faults
   pub asked : now.openings ≡ before.openings
 
@@ -122,5 +127,6 @@ pub record ClosesSource (faults : ℕ) (before now : Told) : Type 0 where
 pub record ClosesSink (name : List ℕ) (written : Option (List ℕ)) (faults : ℕ) (before now : Told) : Type 0 where
   pub own : now.page name ≡ page_of written faults
   pub pages : (n : List ℕ) → n ≢ name → now.page n ≡ before.page n
+  pub lefts : (n : List ℕ) → now.left n ≡ before.left n
   pub counts : now.faults ≡ after_sink before.faults faults
   pub asked : now.openings ≡ before.openings

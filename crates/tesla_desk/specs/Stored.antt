@@ -1,9 +1,10 @@
 -- What a desk in memory keeps.
-use Rattle.std.specs.Prelude.{ℕ, List, [], ◌∷◌, ◌++◌, Option, Some, None, bytes_eq, if◌then◌else◌}
+use Rattle.std.specs.Prelude.{ℕ, List, [], ◌∷◌, ◌++◌, Option, Some, None, option_map, drop, bytes_eq, if◌then◌else◌}
 use Rattle.tesla_desk.specs.Outside.{Page, Absent, Holds, Opening, OfSource, OfSink}
 use Rattle.tesla_desk.specs.declared.entries.Entries.{Entries, Empty, Newest'}
 use Rattle.tesla_desk.specs.declared.entries.Named.{Named}
 use Rattle.tesla_desk.specs.declared.stored.StoredPage.{StoredPage}
+use Rattle.tesla_desk.specs.declared.stored.StoredRest.{StoredRest}
 use Rattle.tesla_desk.specs.declared.stored.AskedOpening.{AskedOpening}
 use Rattle.tesla_desk.specs.declared.stored.AskedOpening.TheVariants.{Source, Sink}
 
@@ -30,6 +31,14 @@ page_stored (Some stored) = Holds stored.bytes.items stored.failed
 -- the page under a name
 abbrev pub page_in : List (Named StoredPage) → List ℕ → Page
 page_in pages name = page_stored (newest pages name)
+
+-- what was left of a closed source
+abbrev pub left_stored : StoredRest → List ℕ
+left_stored rest = drop rest.at rest.bytes.items
+
+-- what was left of the source that was closed last under a name
+abbrev pub left_in : List (Named StoredRest) → List ℕ → Option (List ℕ)
+left_in rests name = option_map left_stored (newest rests name)
 
 -- an opening as a desk tells it
 abbrev pub opening_of : AskedOpening → Opening

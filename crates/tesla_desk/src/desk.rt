@@ -38,22 +38,23 @@ pub trait Desk {
 
     type Out: Sink;
 
-    /// What the desk tells: the page under each name, how many sources, sinks and openings failed, and
-    /// the openings asked for, in order.
+    /// What the desk tells: the page under each name, what was left of the source that was closed last
+    /// under it, how many sources, sinks and openings failed, and the openings asked for, in order.
     ///
     /// A source or a sink that failed counts when it is closed. Each count stands still at 2^64 - 1. The
     /// openings are `None` where the desk does not tell them; one that does not tell stays so. An
     /// opening that found no memory is not among them.
     ghost told: { Self → Told };
 
-    /// A source of the bytes under the name. `Failed` is answered only where the count of openings rose.
+    /// A source of the bytes under the name. `Failed` is answered exactly where the count of openings rose.
     fn open_source(&mut self, name: &str) -> Result<Self::In, OpenRefusal>
         ensures opened { IfOk result (λ it. Opened ((told self.old).page name.now) (Self.In.left it)) }
         ensures fresh { IfOk result (λ it. Self.In.faults it ≡ 0) }
+        ensures named { IfOk result (λ it. Self.In.name it ≡ name.now) }
         ensures desk { OpensSource name.now result (told self.old) (told self.new) };
 
-    /// A sink for bytes under the name, which holds none yet. `Failed` is answered only where the count
-    /// of openings rose. Where the desk tells its pages, a refused opening leaves
+    /// A sink for bytes under the name, which holds none yet. `Failed` is answered exactly where the
+    /// count of openings rose. Where the desk tells its pages, a refused opening leaves
     /// the bytes under the name as they were.
     fn open_sink(&mut self, name: &str) -> Result<Self::Out, OpenRefusal>
         ensures empty { IfOk result (λ it. IfSome (Self.Out.written it) (λ bytes. bytes ≡ [])) }
@@ -61,10 +62,10 @@ pub trait Desk {
         ensures named { IfOk result (λ it. Self.Out.name it ≡ name.now) }
         ensures desk { OpensSink name.now result (told self.old) (told self.new) };
 
-    /// Closes a source. The count of sources that failed rises exactly where this one did. It takes no
-    /// memory and cannot fail.
+    /// Closes a source. The desk has what was left of it under its name, and the count of sources that
+    /// failed rises exactly where this one did. It takes no memory and cannot fail.
     fn close_source(&mut self, it: Self::In)
-        ensures desk { ClosesSource (Self.In.faults it) (told self.old) (told self.new) };
+        ensures desk { ClosesSource (Self.In.name it) (Self.In.left it) (Self.In.faults it) (told self.old) (told self.new) };
 
     /// Closes a sink. The desk has its bytes under its name, and the count of sinks that failed rises
     /// exactly where this one did. It takes no memory and cannot fail.

@@ -4,7 +4,7 @@ ghost use Rattle.std.specs.Prelude.{◌≡◌, ◌≢◌, ◌≤◌, ◌∷◌, 
 ghost use Rattle.std.specs.Option.{option_map};
 ghost use Rattle.tesla_desk.specs.Calls.{next_fails, with_failing};
 ghost use Rattle.tesla_desk.specs.Faults.{after_source, after_sink};
-ghost use Rattle.tesla_desk.specs.Memory.{bytes_in, unread, read_faults_of, name_of, bytes_of, write_faults_of, page_under, counts_of, told_by, settings_of, opening_calls_of, rest_of, new_rest, with_settings, with_opening_calls, after_counted, after_failed, after_asked, Refuses, refuses_source, NewSource, NewSink, MakesSource, MakesSink};
+ghost use Rattle.tesla_desk.specs.Memory.{bytes_in, unread, source_name_of, stored_of, read_faults_of, name_of, bytes_of, write_faults_of, page_under, counts_of, told_by, settings_of, opening_calls_of, rest_of, new_rest, with_settings, with_opening_calls, after_closed, after_counted, after_failed, after_asked, Refuses, refuses_source, NewSource, NewSink, MakesSource, MakesSink};
 ghost use Rattle.tesla_desk.specs.Outside.{Untold, Absent, Holds, Opened, OfSource, OfSink, OpensSource, OpensSink, ClosesSource, ClosesSink};
 ghost use Rattle.tesla_desk.specs.Settings.{with_room, with_piece, with_failing_call, room_for, piece_for, failing_for};
 ghost use Rattle.tesla_desk.specs.Stored.{opening_of};
@@ -12,7 +12,7 @@ ghost use Rattle.tesla_desk.specs.Stored.{opening_of};
 use crate::calls::Calls;
 use crate::entries::{Entries, Named, newest_under};
 use crate::settings::Settings;
-use crate::stored::{AskedOpening, StoredPage, StoredPages};
+use crate::stored::{AskedOpening, StoredPage, StoredPages, StoredRests};
 use crate::{Desk, Heap, OpenRefusal, Pages};
 use std::alloc::Global;
 use tesla_base::{NoMemory, Text};
@@ -23,6 +23,7 @@ pub struct MemoryDesk {
     alloc: Global,
     settings: Settings,
     pages: StoredPages,
+    rests: StoredRests,
     asked: Entries<AskedOpening>,
     calls: Calls,
     reads: u64,
@@ -40,6 +41,7 @@ impl MemoryDesk {
             alloc,
             settings: Settings::new(room),
             pages: Entries::Empty,
+            rests: Entries::Empty,
             asked: Entries::Empty,
             calls: Calls::new(Vec::new(alloc)),
             reads: 0,
@@ -132,7 +134,8 @@ impl MemoryDesk {
         };
         let calls = self.settings.calls(self.alloc, name)?;
         let piece = self.settings.piece(name);
-        Ok(Some(Pages::new(self.alloc, stored.bytes.as_slice(), piece, calls)?))
+        let bytes = stored.bytes.as_slice();
+        Ok(Some(Pages::new(self.alloc, name, bytes, piece, calls)?))
     }
 
     // A sink under the name, unless the next opening fails.
@@ -178,6 +181,7 @@ impl Desk for MemoryDesk {
     fn open_source(&mut self, name: &str) -> Result<Pages, OpenRefusal>
         ensures opened { IfOk result (λ it. Opened (page_under self.old name.now) (Some (unread it))) }
         ensures fresh { IfOk result (λ it. read_faults_of it ≡ 0) }
+        ensures named { IfOk result (λ it. source_name_of it ≡ name.now) }
         ensures desk { OpensSource name.now result (told_by self.old) (told_by self.new) }
         ensures exact { Refuses (refuses_source self.old name.now) result }
         ensures set { IfOk result (λ it. NewSource self.old name.now it) }
@@ -215,12 +219,14 @@ impl Desk for MemoryDesk {
     }
 
     fn close_source(&mut self, it: Pages)
-        ensures desk { ClosesSource (read_faults_of it) (told_by self.old) (told_by self.new) }
-        ensures rest { rest_of self.new ≡ record (rest_of self.old) { counts = after_source (counts_of self.old) (read_faults_of it) } }
+        ensures desk { ClosesSource (source_name_of it) (Some (unread it)) (read_faults_of it) (told_by self.old) (told_by self.new) }
+        ensures rest { rest_of self.new ≡ after_closed (stored_of it) (after_source (counts_of self.old) (read_faults_of it)) (rest_of self.old) }
     {
-        if 0 < it.close() {
+        let (rest, spare, faults) = it.close();
+        if 0 < faults {
             self.reads = self.reads.saturating_add(1);
         }
+        self.rests.put(rest, spare);
     }
 
     fn close_sink(&mut self, it: Heap)

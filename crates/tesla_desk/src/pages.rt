@@ -6,69 +6,84 @@ ghost use Rattle.tesla_desk.specs.Faults.{HasCause, raised};
 ghost use Rattle.tesla_desk.specs.Outside.{Reads};
 
 use crate::calls::Calls;
+use crate::entries::{Entries, Named};
 use crate::settings::within_piece;
+use crate::stored::{StoredRest, StoredRests};
 use crate::{ReadStep, Source};
 use std::alloc::Global;
-use tesla_base::NoMemory;
+use tesla_base::{NoMemory, Text};
 
 /// The bytes that a page held when it was opened. A read fails exactly where its number is listed.
 pub struct Pages {
-    bytes: Vec<u8>,
-    at: usize,
+    rest: Named<StoredRest>,
     piece: Option<usize>,
     calls: Calls,
     faults: u64,
-    ghost within: { at ≤ length bytes.items },
+    spare: Box<StoredRests>,
+    ghost within: { rest.value.at ≤ length rest.value.bytes.items },
     ghost moves: { ForSome piece (λ most. 1 ≤ most) },
 }
 
 impl Pages {
-    ghost use Rattle.tesla_desk.specs.Memory.{unread, read_faults_of, read_calls_of, read_piece_of};
+    ghost use Rattle.tesla_desk.specs.Memory.{unread, read_faults_of, read_calls_of, read_piece_of, source_name_of, stored_of};
 
-    /// A source of a copy of these bytes, which has not failed yet.
+    /// A source under this name of a copy of these bytes, which has not failed yet.
     pub(crate) fn new(
         alloc: Global,
+        name: &str,
         bytes: &[u8],
         piece: Option<usize>,
         calls: Calls,
     ) -> Result<Pages, NoMemory>
         requires { ForSome piece (λ most. 1 ≤ most) }
+        ensures name { IfOk result (λ it. source_name_of it ≡ name.now) }
         ensures bytes { IfOk result (λ it. unread it ≡ bytes.now) }
         ensures faults { IfOk result (λ it. read_faults_of it ≡ 0) }
         ensures calls { IfOk result (λ it. read_calls_of it ≡ calls) }
         ensures piece { IfOk result (λ it. read_piece_of it ≡ piece) }
     {
+        let spare = Entries::spare(alloc)?;
+        let rest = Named {
+            name: Text::new(alloc, name.as_bytes())?,
+            value: StoredRest {
+                bytes: Vec::from_slice(alloc, bytes)?,
+                at: 0,
+            },
+        };
         Ok(Pages {
-            bytes: Vec::from_slice(alloc, bytes)?,
-            at: 0,
+            rest,
             piece,
             calls,
             faults: 0,
+            spare,
         })
     }
 
-    /// How often its reads failed. The bytes are let go.
-    pub(crate) fn close(self) -> u64
-        ensures { result ≡ read_faults_of self }
+    /// What is left, the box that puts it before others, and how often its reads failed.
+    pub(crate) fn close(self) -> (Named<StoredRest>, Box<StoredRests>, u64)
+        ensures rest { result.0 ≡ stored_of self }
+        ensures faults { result.2 ≡ read_faults_of self }
     {
         let Pages {
-            bytes: _,
-            at: _,
+            rest,
             piece: _,
             calls: _,
             faults,
+            spare,
         } = self;
-        faults
+        (rest, spare, faults)
     }
 }
 
 impl Source for Pages {
     ghost use Rattle.tesla_desk.specs.Calls.{next_fails, after_call};
-    ghost use Rattle.tesla_desk.specs.Memory.{unread, read_faults_of, read_calls_of, read_piece_of, read_answer};
+    ghost use Rattle.tesla_desk.specs.Memory.{unread, read_faults_of, read_calls_of, read_piece_of, read_answer, source_name_of};
 
     ghost left = { λ it. Some (unread it) };
 
     ghost faults = { read_faults_of };
+
+    ghost name = { source_name_of };
 
     /// Moves the least of the slice's length, the greatest piece where one was set, and what is left.
     /// `Failed` exactly where the number of the call is listed.
@@ -76,6 +91,7 @@ impl Source for Pages {
         requires { 0 < length into.old }
         ensures step { Reads (Some (unread self.old)) (Some (unread self.new)) into.new result }
         ensures cause { HasCause (read_faults_of self.old) (read_faults_of self.new) (result ≡ ReadStep.Failed) }
+        ensures name { source_name_of self.new ≡ source_name_of self.old }
         ensures exact { result ≡ read_answer (length into.old) self.old }
         ensures counted { read_faults_of self.new ≡ (if next_fails (read_calls_of self.old) then raised (read_faults_of self.old) else read_faults_of self.old) }
         ensures calls { read_calls_of self.new ≡ after_call (read_calls_of self.old) }
@@ -87,13 +103,13 @@ impl Source for Pages {
             self.faults = self.faults.saturating_add(1);
             return ReadStep::Failed;
         }
-        let rest = &self.bytes[self.at..];
+        let rest = &self.rest.value.bytes[self.rest.value.at..];
         if rest.is_empty() {
             return ReadStep::End;
         }
         let count = within_piece(self.piece, into.len().min(rest.len()));
         into[..count].copy_from_slice(&rest[..count]);
-        self.at += count;
+        self.rest.value.at += count;
         ReadStep::Got(count)
     }
 }

@@ -24,10 +24,14 @@ pub trait Source {
     /// How often a read failed. The count stands still at 2^64 - 1.
     ghost faults: { Self → ℕ };
 
+    /// The name that the source was opened under.
+    ghost name: { Self → List ℕ };
+
     /// Reads the next bytes into the front of the slice, at least one and at most as many as it has
-    /// room for. `Failed` is answered only where the count of faults rose.
+    /// room for. `Failed` is answered exactly where the count of faults rose.
     fn read(&mut self, into: &mut [u8]) -> ReadStep
         requires { 0 < length into.old }
         ensures step { Reads (left self.old) (left self.new) into.new result }
-        ensures cause { HasCause (faults self.old) (faults self.new) (result ≡ ReadStep.Failed) };
+        ensures cause { HasCause (faults self.old) (faults self.new) (result ≡ ReadStep.Failed) }
+        ensures name { name self.new ≡ name self.old };
 }

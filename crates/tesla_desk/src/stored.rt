@@ -10,6 +10,16 @@ pub struct StoredPage {
     pub failed: bool,
 }
 
+/// The bytes of a source that was closed, and how many of them had been read.
+#[derive(Drop)]
+pub struct StoredRest {
+    pub bytes: Vec<u8>,
+    pub at: usize,
+}
+
+/// What was left of closed sources, by name. Of those with one name the newest counts.
+pub type StoredRests = Entries<Named<StoredRest>>;
+
 /// Pages by name. Of those with one name the newest counts.
 pub type StoredPages = Entries<Named<StoredPage>>;
 

@@ -2,7 +2,7 @@
 
 ghost use Rattle.std.specs.Prelude.{◌≡◌, ◌≢◌, ◌∷◌, [], true, List, ℕ, Some, Bool};
 ghost use Rattle.tesla_desk.specs.Faults.{HasCause, HasCauses};
-ghost use Rattle.tesla_desk.specs.Outside.{AsksFront, Holds, OfSource, OfSink, with_bytes};
+ghost use Rattle.tesla_desk.specs.Outside.{AsksPrefix, Holds, OfSource, OfSink, with_bytes};
 
 use super::*;
 use std::test::Fail;
@@ -46,7 +46,7 @@ fn copy_page<D: Desk>(desk: &mut D, from: &str, to: &str) -> Copied
     ensures whole { (bytes written : List ℕ) (failed other : Bool) → (D.told desk.old).page from.now ≡ Holds bytes failed → result ≡ Copied.Whole → (D.told desk.new).page to.now ≡ Holds written other → written ≡ bytes }
     ensures pages { (n : List ℕ) → n ≢ to.now → (D.told desk.new).page n ≡ (D.told desk.old).page n }
     ensures causes { HasCauses (D.told desk.old).faults (D.told desk.new).faults (result ≡ Copied.ReadFault) (result ≡ Copied.WriteFault) (result ≡ Copied.OpenFault) }
-    ensures asked { AsksFront (OfSource from.now ∷ OfSink to.now ∷ []) (D.told desk.old).openings (D.told desk.new).openings }
+    ensures asked { AsksPrefix (OfSource from.now ∷ OfSink to.now ∷ []) (D.told desk.old).openings (D.told desk.new).openings }
 {
     let mut source = match desk.open_source(from) {
         Ok(source) => source,

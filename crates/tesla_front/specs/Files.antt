@@ -22,9 +22,9 @@ abbrev pub IsRefusedIn : Page → (List ℕ → Stop → Type 0) → Stop → Ty
 IsRefusedIn page Why (Refused refusal) = HoldsWhere page (λ text. Why text (Refused refusal))
 IsRefusedIn page Why (Failed fault) = fault ≢ Write
 
--- the bytes are a front of the text
-abbrev pub IsFront : List ℕ → List ℕ → Type 0
-IsFront text bytes = (n : ℕ) × (bytes ≡ take n text)
+-- the bytes are a prefix of the text
+abbrev pub IsPrefix : List ℕ → List ℕ → Type 0
+IsPrefix text bytes = (n : ℕ) × (bytes ≡ take n text)
 
 -- what was read of a file is its front, up to so many bytes
 abbrev pub ReadsFile : ℕ → Page → List ℕ → Type 0

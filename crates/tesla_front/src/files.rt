@@ -2,7 +2,7 @@
 
 ghost use Rattle.std.specs.Prelude.{◌≡◌, ◌<◌, ◌≤◌, ℕ, List, [], ◌∷◌, length, take, vec_len, Some, Err, IfOk};
 ghost use Rattle.tesla_desk.specs.Faults.{HasCause};
-ghost use Rattle.tesla_desk.specs.Outside.{OfSource, with_opening, after_bytes, AsksFront};
+ghost use Rattle.tesla_desk.specs.Outside.{OfSource, with_opening, after_bytes, AsksPrefix};
 ghost use Rattle.tesla_front.specs.Fault.{Causes};
 ghost use Rattle.tesla_front.specs.Files.{ReadsOn, ReadsFile};
 
@@ -69,7 +69,7 @@ pub fn read_file<D: Desk>(
 ) -> Result<Vec<u8>, Fault>
     ensures told { IfOk result (λ read. ReadsFile most ((D.told desk.old).page name.now) read.items) }
     ensures opened { IfOk result (λ read. (D.told desk.new).openings ≡ with_opening (D.told desk.old).openings (OfSource name.now)) }
-    ensures asked { AsksFront (OfSource name.now ∷ []) (D.told desk.old).openings (D.told desk.new).openings }
+    ensures asked { AsksPrefix (OfSource name.now ∷ []) (D.told desk.old).openings (D.told desk.new).openings }
     ensures pages { (n : List ℕ) → (D.told desk.new).page n ≡ (D.told desk.old).page n }
     ensures causes { Causes result (D.told desk.old).faults (D.told desk.new).faults }
     ensures kind { result ≡ Err Fault.Write → ⊥ }

@@ -1,7 +1,7 @@
 //! The seeds that a command makes key chains from.
 
 ghost use Rattle.std.specs.Prelude.{◌≡◌, ℕ, List, [], ◌∷◌, length, IfOk, IfErr};
-ghost use Rattle.tesla_desk.specs.Outside.{OfSource, with_opening, AsksFront};
+ghost use Rattle.tesla_desk.specs.Outside.{OfSource, with_opening, AsksPrefix};
 ghost use Rattle.tesla_front.specs.Refusal.{StopCauses};
 ghost use Rattle.tesla_front.specs.Seeds.{IsSeedsIn, IsSeedsText, IsNoSeeds, IsNoSeedsText};
 
@@ -39,7 +39,7 @@ pub fn seeds_under<D: Desk>(
     ensures count { IfOk result (λ seeds. length seeds ≡ count) }
     ensures refused { IfErr result (IsNoSeeds count ((D.told desk.old).page name.now)) }
     ensures opened { IfOk result (λ seeds. (D.told desk.new).openings ≡ with_opening (D.told desk.old).openings (OfSource name.now)) }
-    ensures asked { AsksFront (OfSource name.now ∷ []) (D.told desk.old).openings (D.told desk.new).openings }
+    ensures asked { AsksPrefix (OfSource name.now ∷ []) (D.told desk.old).openings (D.told desk.new).openings }
     ensures pages { (n : List ℕ) → (D.told desk.new).page n ≡ (D.told desk.old).page n }
     ensures causes { StopCauses result (D.told desk.old).faults (D.told desk.new).faults }
 {

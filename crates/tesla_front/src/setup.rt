@@ -1,7 +1,7 @@
 //! The setup that a command trusts.
 
 ghost use Rattle.std.specs.Prelude.{◌≡◌, ℕ, List, [], ◌∷◌, IfOk, IfErr};
-ghost use Rattle.tesla_desk.specs.Outside.{OfSource, with_opening, AsksFront};
+ghost use Rattle.tesla_desk.specs.Outside.{OfSource, with_opening, AsksPrefix};
 ghost use Rattle.tesla_front.specs.Refusal.{StopCauses};
 ghost use Rattle.tesla_front.specs.Setup.{IsSetupIn, IsSetupText, IsNoSetup, IsNoSetupText};
 
@@ -33,7 +33,7 @@ pub fn setup_under<D: Desk>(alloc: Global, name: &str, desk: &mut D) -> Result<S
     ensures found { IfOk result (λ setup. IsSetupIn ((D.told desk.old).page name.now) setup) }
     ensures refused { IfErr result (IsNoSetup ((D.told desk.old).page name.now)) }
     ensures opened { IfOk result (λ setup. (D.told desk.new).openings ≡ with_opening (D.told desk.old).openings (OfSource name.now)) }
-    ensures asked { AsksFront (OfSource name.now ∷ []) (D.told desk.old).openings (D.told desk.new).openings }
+    ensures asked { AsksPrefix (OfSource name.now ∷ []) (D.told desk.old).openings (D.told desk.new).openings }
     ensures pages { (n : List ℕ) → (D.told desk.new).page n ≡ (D.told desk.old).page n }
     ensures causes { StopCauses result (D.told desk.old).faults (D.told desk.new).faults }
 {

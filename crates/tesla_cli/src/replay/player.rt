@@ -6,7 +6,7 @@ ghost use Rattle.tesla_capture.specs.Gathering.{gathered};
 ghost use Rattle.tesla_capture.specs.Reader.{ahead};
 ghost use Rattle.tesla_desk.specs.Faults.{HasCause};
 ghost use Rattle.tesla_receiver.specs.History.{Event, Arrives, Takes};
-ghost use Rattle.tesla_cli.specs.Held.{HoldsText, HoldsFront};
+ghost use Rattle.tesla_cli.specs.Held.{HoldsText, HoldsPrefix};
 ghost use Rattle.tesla_cli.specs.Playing.{Adds, IsAt, GoesUp, PlaysNext, PlaysRecords, PlaysTo, PlaysAll, Plays, event_of, events_in, more_after, events_text, with_end};
 
 use crate::replay::{PlayedEvent, Target};

@@ -3,7 +3,7 @@
 ghost use Rattle.std.specs.Prelude.{◌≡◌, ◌+◌, ◌^◌, ◌<◌, ◌≤◌, ◌++◌, ◌∷◌, [], ℕ, List, true, false, OnOk, IfErr, Ok, Err};
 ghost use Rattle.tesla_capture.specs.Gathering.{gathered, Gathers};
 ghost use Rattle.tesla_desk.specs.Faults.{HasCause};
-ghost use Rattle.tesla_desk.specs.Outside.{AppendsFront};
+ghost use Rattle.tesla_desk.specs.Outside.{AppendsPrefix};
 ghost use Rattle.tesla_receiver.specs.History.{Event, Takes, entry_of, reply_to};
 ghost use Rattle.tesla_receiver.specs.Stands.{Stands};
 ghost use Rattle.tesla_receiver.specs.Played.{after_events};
@@ -43,7 +43,7 @@ pub trait Target {
 
     /// Plays an event. What is written of it is put behind what is gathered.
     ///
-    /// `Write`: a front of what was gathered was written, and the sink's count of faults rose. No other fault comes: no
+    /// `Write`: a prefix of what was gathered was written, and the sink's count of faults rose. No other fault comes: no
     /// memory is taken.
     fn play<L: Ledger, O: Sink>(
         &mut self,
@@ -109,7 +109,7 @@ fn take_once<O: Sink>(
     ensures stands { (h : List Entry) → Stands receiver.old h → Stands receiver.new (h ++ entry_of receiver.old.config h (Takes 0) ∷ []) }
     ensures writes { result ≡ true → (h : List Entry) → Stands receiver.old h →
         Gathers (O.written out.old) (O.written out.new) (gathered gatherer.new) (gathered gatherer.old ++ text_given (reply_to receiver.old.config h)) }
-    ensures front { result ≡ false → AppendsFront (O.written out.old) (O.written out.new) (gathered gatherer.old) }
+    ensures prefix { result ≡ false → AppendsPrefix (O.written out.old) (O.written out.new) (gathered gatherer.old) }
     ensures cause { HasCause (O.faults out.old) (O.faults out.new) (result ≡ false) }
     ensures name { O.name out.new ≡ O.name out.old }
 {

@@ -6,7 +6,7 @@ ghost use Rattle.tesla_capture.specs.Capture.{head};
 ghost use Rattle.tesla_capture.specs.Script.{Discloses, Sends};
 ghost use Rattle.tesla_capture.specs.Steps.{ahead};
 ghost use Rattle.tesla_desk.specs.Faults.{HasCause};
-ghost use Rattle.tesla_desk.specs.Outside.{AppendsFront};
+ghost use Rattle.tesla_desk.specs.Outside.{AppendsPrefix};
 ghost use Rattle.tesla_front.specs.declared.fault.Fault.{Fault as TheFault};
 ghost use Rattle.tesla_sender.specs.Made.{Call, Stream};
 ghost use Rattle.tesla_sender.specs.Stands.{Stands};
@@ -88,7 +88,7 @@ fn came_with(ended: Result<ScriptEnding, Fault>, frames: u64) -> Result<Summary,
 fn put_records<O: Sink>(gatherer: &mut Gatherer, reading: u64, frame: &[u8], out: &mut O) -> bool
     requires { length frame.now ≤ 2048 }
     ensures all { result ≡ true → Gathers (O.written out.old) (O.written out.new) (gathered gatherer.new) (gathered gatherer.old ++ frame_records reading frame.now) }
-    ensures front { result ≡ false → AppendsFront (O.written out.old) (O.written out.new) (gathered gatherer.old ++ frame_records reading frame.now) }
+    ensures prefix { result ≡ false → AppendsPrefix (O.written out.old) (O.written out.new) (gathered gatherer.old ++ frame_records reading frame.now) }
     ensures cause { HasCause (O.faults out.old) (O.faults out.new) (result ≡ false) }
     ensures name { O.name out.new ≡ O.name out.old }
 {

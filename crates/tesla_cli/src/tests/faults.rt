@@ -176,7 +176,7 @@ pub const FAULTS: &[Fault] = &[
         ..WRITE
     },
     Fault {
-        name: "room for a front of a report",
+        name: "room for a prefix of a report",
         settings: &[Setting::Room(CONSOLE, 20)],
         told: Told::Text("arrivals 2\nmalformed"),
         ..WRITE

@@ -1,7 +1,7 @@
 use Rattle.std.proofs.Common.{◌∙◌, refl, sym, ap, []}
 use Rattle.tesla_desk.specs.Outside.{OfSink}
 use Rattle.tesla_cli.proofs.Openings.{not_first, opens_first, opens_tried, pages_tried}
-use Rattle.tesla_cli.proofs.Texts.{text_whole, text_front, text_unopened}
+use Rattle.tesla_cli.proofs.Texts.{text_whole, text_prefix, text_unopened}
 use Rattle.tesla_cli.proofs.chain.write_text.Goals as goal
 
 pub returns-then-whole-clause-writes : goal.returns-then-whole-clause-writes
@@ -25,7 +25,7 @@ returns-else-whole-clause-writes g c =
       opens = opens_first (OfSink c.args.name.now) [] (g.D.Desk.told c.args.desk.now) page
           (c.close_sink.ensures.desk.asked ∙ c.in-Ok.ensures.desk.asked)
           (λ name none. c.close_sink.ensures.desk.pages name (λ e. not_first name c.args.name.now [] none (e ∙ named)) ∙ c.in-Ok.ensures.desk.pages name (not_first name c.args.name.now [] none));
-      puts = text_front _ _ _ _ _ ((g.D.Desk.told c.args.desk.now).page c.args.name.now) _ c.in-Ok.ensures.empty c.write_all-whole.ensures.front c.in-Ok.ensures.fresh (c.write_all-whole.ensures.cause.rose c.if-whole.false) (ap page.page (sym named) ∙ c.close_sink.ensures.desk.own);
+      puts = text_prefix _ _ _ _ _ ((g.D.Desk.told c.args.desk.now).page c.args.name.now) _ c.in-Ok.ensures.empty c.write_all-whole.ensures.prefix c.in-Ok.ensures.fresh (c.write_all-whole.ensures.cause.rose c.if-whole.false) (ap page.page (sym named) ∙ c.close_sink.ensures.desk.own);
     }
 
 pub returns-in-Err-clause-writes : goal.returns-in-Err-clause-writes

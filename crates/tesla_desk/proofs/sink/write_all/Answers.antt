@@ -6,6 +6,6 @@ pub loop-done-preserved : goal.loop-done-preserved
 loop-done-preserved g c = record {
   fits = omega (arith, c.in-Took.ensures.step.fits);
   written = appends_more _ _ _ _ _ _ c.loop-done.invariant.written c.in-Took.ensures.step.written;
-  faults = omega (arith, c.in-Took.ensures.cause.stays);
+  faults = c.in-Took.ensures.cause.still (λ stalls. c.if-count-eq0.false stalls.0) ∙ c.loop-done.invariant.faults;
   name = c.write.ensures.name ∙ c.loop-done.invariant.name;
 }

@@ -6,7 +6,7 @@ abbrev pub invariant-loop-done : goal.invariant-loop-done
 invariant-loop-done g l = record {
   fits : l.done ≤ length l.piece;
   written : g.S.Sink.written l.sink ≡ with_bytes (g.S.Sink.written l.initial.sink) (take l.done l.piece);
-  faults : g.S.Sink.faults l.initial.sink ≤ g.S.Sink.faults l.sink;
+  faults : g.S.Sink.faults l.sink ≡ g.S.Sink.faults l.initial.sink;
   name : g.S.Sink.name l.sink ≡ g.S.Sink.name l.initial.sink;
 }
 

@@ -5,8 +5,8 @@ use Rattle.tesla_desk.proofs.tests.copy_all.Goals as goal
 pub loop-preserved : goal.loop-preserved
 loop-preserved g c = record {
   size = c.read.auto.into ∙ c.loop.invariant.size;
-  reads = omega (arith, c.in-Got.ensures.cause.stays);
-  writes = omega (arith, c.if-not-write_all.ensures.cause.stays);
+  reads = c.in-Got.ensures.cause.still (λ e. absurd cc) ∙ c.loop.invariant.reads;
+  writes = c.if-not-write_all.ensures.cause.still (λ e. absurd cc) ∙ c.loop.invariant.writes;
   name = c.write_all.ensures.name ∙ c.loop.invariant.name;
   moved =
       let before = c.loop.invariant.moved in

@@ -3,13 +3,13 @@ use Rattle.tesla_capture.specs.Capture.{record_text, Arrives, Takes}
 use Rattle.tesla_cli.proofs.Frames.{gathers_both, front_first, front_second}
 use Rattle.tesla_cli.proofs.send.sending.put_records.Goals as goal
 
-pub returns-then-not-put_arrival-clause-front : goal.returns-then-not-put_arrival-clause-front
-returns-then-not-put_arrival-clause-front g c lost = front_first _ _ _ _ (c.if-not-put_arrival.ensures.front refl)
+pub returns-then-not-put_arrival-clause-prefix : goal.returns-then-not-put_arrival-clause-prefix
+returns-then-not-put_arrival-clause-prefix g c lost = front_first _ _ _ _ (c.if-not-put_arrival.ensures.prefix refl)
 
 pub returns-clause-all : goal.returns-clause-all
 returns-clause-all g c whole =
     gathers_both _ _ _ _ _ _ (record_text (Arrives c.args.reading c.args.frame.now)) (record_text Takes) (c.if-not-put_arrival.ensures.all refl) (c.put_take.ensures.all whole)
 
-pub returns-clause-front : goal.returns-clause-front
-returns-clause-front g c lost =
-    front_second _ _ _ _ _ (record_text (Arrives c.args.reading c.args.frame.now)) (record_text Takes) (c.if-not-put_arrival.ensures.all refl) (c.put_take.ensures.front lost)
+pub returns-clause-prefix : goal.returns-clause-prefix
+returns-clause-prefix g c lost =
+    front_second _ _ _ _ _ (record_text (Arrives c.args.reading c.args.frame.now)) (record_text Takes) (c.if-not-put_arrival.ensures.all refl) (c.put_take.ensures.prefix lost)
