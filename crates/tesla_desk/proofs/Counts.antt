@@ -1,7 +1,7 @@
 -- Laws of counts of faults, for callers that make several calls one after another.
 use Rattle.std.proofs.Common.{◌≡◌, ◌∙◌, ◌⊎◌, ℕ, ◌-◌, ◌^◌, ◌<◌, ◌≤◌, refl, sym, subst, ap, arith, inl, inr, nat_lt, true, false, if◌then◌else◌}
 use Rattle.std.proofs.lemmas.Bool.Decides.{nat_tests}
-use Rattle.tesla_desk.specs.Faults.{Faults, Rose, HasCause, HasCauseBeside, HasCauses, CountsOpening, after_source, after_sink, raised, raised_where_failed}
+use Rattle.tesla_desk.specs.Faults.{Faults, Rose, HasCause, HasCauseBeside, HasCauses, HasCausesBeside, CountsOpening, after_source, after_sink, raised, raised_where_failed}
 
 -- a count that rose within a longer time rose in that time too
 pub rose_within : (a b c d : ℕ) → a ≤ b → b ≤ c → c ≤ d → Rose b c → Rose a d
@@ -73,25 +73,58 @@ not_rose before now same below rose = grind arith
 pub causes_both : {read0 write0 opening0 read1 write1 opening1 read write opening : Type 0} (a b c : Faults) → HasCauses a b read0 write0 opening0 → HasCauses b c read1 write1 opening1 → (read → read0 ⊎ read1) → (read0 ⊎ read1 → read) → (write → write0 ⊎ write1) → (write0 ⊎ write1 → write) → (opening → opening0 ⊎ opening1) → (opening0 ⊎ opening1 → opening) → HasCauses a c read write opening
 causes_both a b c one two reads of_reads writes of_writes openings of_openings = record {
   reads = cause_both a.reads b.reads c.reads one.reads two.reads reads of_reads;
-  writes = cause_beside a.writes b.writes c.writes (cause_beside_as a.writes b.writes one.writes (λ h. of_reads (inl h)) (λ f. f) (λ f. f)) (cause_beside_as b.writes c.writes two.writes (λ h. of_reads (inr h)) (λ f. f) (λ f. f)) writes of_writes;
+  writes = cause_both a.writes b.writes c.writes one.writes two.writes writes of_writes;
   openings = cause_both a.openings b.openings c.openings one.openings two.openings openings of_openings;
 }
 
+-- nothing failed in the first of two calls
+pub causes_then : {hidden read write opening : Type 0} (a b c : Faults) → b ≡ a → HasCausesBeside hidden b c read write opening → HasCausesBeside hidden a c read write opening
+causes_then {hidden = hidden} {read = read} {write = write} {opening = opening} a b c same causes = subst (λ (f : Faults). HasCausesBeside hidden f c read write opening) same causes
+
+-- calls whose writes all are told
+pub causes_plain : {hidden read write opening : Type 0} (a b : Faults) → HasCauses a b read write opening → HasCausesBeside hidden a b read write opening
+causes_plain a b causes = record { reads = causes.reads; writes = cause_plain a.writes b.writes causes.writes; openings = causes.openings }
+
 -- the same failures in other words
-pub causes_as : {read0 write0 opening0 read write opening : Type 0} (a b : Faults) → HasCauses a b read0 write0 opening0 → (read → read0) → (read0 → read) → (write → write0) → (write0 → write) → (opening → opening0) → (opening0 → opening) → HasCauses a b read write opening
-causes_as a b causes read of_read write of_write opening of_opening = record {
+pub causes_as : {hidden read0 write0 opening0 wider read write opening : Type 0} (a b : Faults) → HasCausesBeside hidden a b read0 write0 opening0 → (hidden → wider) → (read → read0) → (read0 → read) → (write → write0) → (write0 → write) → (opening → opening0) → (opening0 → opening) → HasCausesBeside wider a b read write opening
+causes_as a b causes wide read of_read write of_write opening of_opening = record {
   reads = cause_as a.reads b.reads causes.reads read of_read;
-  writes = cause_beside_as a.writes b.writes causes.writes of_read write of_write;
+  writes = cause_beside_as a.writes b.writes causes.writes wide write of_write;
   openings = cause_as a.openings b.openings causes.openings opening of_opening;
 }
+
+counts_of : ℕ → ℕ → ℕ → Faults
+counts_of reads writes openings = record { reads = reads; writes = writes; openings = openings }
+
+-- counts are the same where each is
+same_counts : (a b : Faults) → b.reads ≡ a.reads → b.writes ≡ a.writes → b.openings ≡ a.openings → b ≡ a
+unfolding counts_of
+same_counts a b reads writes openings =
+    ap (λ n. counts_of n b.writes b.openings) reads ∙ ap (λ n. counts_of a.reads n b.openings) writes ∙ ap (λ n. counts_of a.reads a.writes n) openings
+
+-- where none of these failures came, the counts are as before
+pub causes_none : {read write opening : Type 0} (a b : Faults) → HasCauses a b read write opening → (read → ⊥) → (write → ⊥) → (opening → ⊥) → b ≡ a
+causes_none a b causes read write opening =
+    let reads = causes.reads.still read in
+    let writes = causes.writes.still write in
+    let openings = causes.openings.still opening in
+    same_counts a b reads writes openings
 
 -- an opening fails as an opening
 pub causes_opening : {failed read write opening : Type 0} (a b : Faults) → CountsOpening a b failed → (read → ⊥) → (write → ⊥) → (opening → failed) → (failed → opening) → HasCauses a b read write opening
 causes_opening a b counts read write opening of_opening = record {
   reads = cause_none a.reads b.reads counts.reads read;
-  writes = cause_plain a.writes b.writes (cause_none a.writes b.writes counts.writes write);
+  writes = cause_none a.writes b.writes counts.writes write;
   openings = cause_as a.openings b.openings counts.openings opening of_opening;
 }
+
+-- an opening that did not fail leaves the counts
+pub counts_stay : {failed : Type 0} (a b : Faults) → CountsOpening a b failed → (failed → ⊥) → b ≡ a
+counts_stay a b counts none =
+    let reads = counts.reads in
+    let writes = counts.writes in
+    let openings = counts.openings.still none in
+    same_counts a b reads writes openings
 
 -- an object that failed since its opening, or not, is counted so when it is closed
 closed_cause : {failed : Type 0} (n faults : ℕ) → HasCause 0 faults failed → HasCause n (raised_where_failed faults n) failed
@@ -114,7 +147,7 @@ causes_source {read = read} a b faults closed cause from to write opening =
     let reads : b.reads ≡ raised_where_failed faults a.reads = ap (λ (f : Faults). f.reads) closed in
     record {
       reads = subst (λ (n : ℕ). HasCause a.reads n read) (sym reads) (closed_cause a.reads faults (cause_as 0 faults cause from to));
-      writes = cause_plain a.writes b.writes (cause_none a.writes b.writes (ap (λ (f : Faults). f.writes) closed) write);
+      writes = cause_none a.writes b.writes (ap (λ (f : Faults). f.writes) closed) write;
       openings = cause_none a.openings b.openings (ap (λ (f : Faults). f.openings) closed) opening;
     }
 
@@ -124,17 +157,17 @@ causes_sink {write = write} a b faults closed cause read from to opening =
     let writes : b.writes ≡ raised_where_failed faults a.writes = ap (λ (f : Faults). f.writes) closed in
     record {
       reads = cause_none a.reads b.reads (ap (λ (f : Faults). f.reads) closed) read;
-      writes = cause_plain a.writes b.writes (subst (λ (n : ℕ). HasCause a.writes n write) (sym writes) (closed_cause a.writes faults (cause_as 0 faults cause from to)));
+      writes = subst (λ (n : ℕ). HasCause a.writes n write) (sym writes) (closed_cause a.writes faults (cause_as 0 faults cause from to));
       openings = cause_none a.openings b.openings (ap (λ (f : Faults). f.openings) closed) opening;
     }
 
--- a source and then a sink are closed: each that failed since its opening is counted, and behind a failed read a write may have failed too
-pub causes_closed : {read write opening : Type 0} (a b c : Faults) (taken given : ℕ) → b ≡ after_source a taken → c ≡ after_sink b given → HasCause 0 taken read → HasCauseBeside read 0 given write → (opening → ⊥) → HasCauses a c read write opening
-causes_closed {read = read} {write = write} a b c taken given source sink reading writing opening =
+-- a source and then a sink are closed: each that failed since its opening is counted
+pub causes_closed : {hidden read write opening : Type 0} (a b c : Faults) (taken given : ℕ) → b ≡ after_source a taken → c ≡ after_sink b given → HasCause 0 taken read → HasCauseBeside hidden 0 given write → (opening → ⊥) → HasCausesBeside hidden a c read write opening
+causes_closed {hidden = hidden} {read = read} {write = write} a b c taken given source sink reading writing opening =
     let reads : c.reads ≡ raised_where_failed taken a.reads = ap (λ (f : Faults). f.reads) sink ∙ ap (λ (f : Faults). f.reads) source in
     let writes : c.writes ≡ raised_where_failed given a.writes = ap (λ (f : Faults). f.writes) sink ∙ ap (λ (f : Faults). raised_where_failed given f.writes) source in
     record {
       reads = subst (λ (n : ℕ). HasCause a.reads n read) (sym reads) (closed_cause a.reads taken reading);
-      writes = subst (λ (n : ℕ). HasCauseBeside read a.writes n write) (sym writes) (closed_beside a.writes given writing);
+      writes = subst (λ (n : ℕ). HasCauseBeside hidden a.writes n write) (sym writes) (closed_beside a.writes given writing);
       openings = cause_none a.openings c.openings (ap (λ (f : Faults). f.openings) sink ∙ ap (λ (f : Faults). f.openings) source) opening;
     }

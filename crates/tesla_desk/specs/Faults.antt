@@ -49,8 +49,14 @@ after_source before faults = record before { reads = raised_where_failed faults 
 abbrev pub after_sink : Faults → ℕ → Faults
 after_sink before faults = record before { writes = raised_where_failed faults before.writes }
 
--- each failure that is told raised its count, and no count rose but for one; only that behind a failed read a write may have failed too
+-- each failure raised its count, and no other count rose
 pub record HasCauses (before now : Faults) (read write opening : Type 0) : Type 0 where
   pub reads : HasCause before.reads now.reads read
-  pub writes : HasCauseBeside read before.writes now.writes write
+  pub writes : HasCause before.writes now.writes write
+  pub openings : HasCause before.openings now.openings opening
+
+-- the same of calls among which a write may have failed that isn't told
+pub record HasCausesBeside (hidden : Type 0) (before now : Faults) (read write opening : Type 0) : Type 0 where
+  pub reads : HasCause before.reads now.reads read
+  pub writes : HasCauseBeside hidden before.writes now.writes write
   pub openings : HasCause before.openings now.openings opening
