@@ -1,3 +1,6 @@
-pub mod Slashes
 pub mod SmallTexts
-pub mod Streams
+pub mod Openings
+pub mod Told
+pub mod Consoles
+mod Streams
+mod Slashes

@@ -1,20 +1,22 @@
 -- Texts of at most 4,096 bytes, read up to a higher limit.
-use Rattle.std.proofs.Common.{◌≡◌, ◌∙◌, ◌<◌, ◌≤◌, ℕ, Bool, true, false, Result, Ok, Err, IfOk, IfErr, List, length, take, nat_lt, refl, sym, subst, arith}
+use Rattle.std.proofs.Common.{◌≡◌, ◌∙◌, inl, inr, ◌<◌, ◌≤◌, ℕ, Bool, true, false, Result, Ok, Err, IfOk, IfErr, List, length, take, nat_lt, refl, sym, ap, subst, arith}
 use Rattle.std.proofs.lemmas.List.{take_all, length-take}
 use Rattle.std.proofs.lemmas.Bool.Decides.{nat_tests}
 use Rattle.tesla_commit.specs.Parsing.{judged}
 use Rattle.tesla_commit.specs.SeedsJudged.{seeds_judged}
 use Rattle.tesla_desk.specs.Faults.{Faults}
 use Rattle.tesla_desk.specs.Outside.{Page, Untold, Absent, Holds}
+use Rattle.tesla_desk.proofs.Counts.{cause_none, causes_none}
+use Rattle.tesla_front.specs.Came.{Came, Refused, Failed, stop_came}
+use Rattle.tesla_front.specs.Fault.{Causes}
 use Rattle.tesla_front.specs.Files.{HoldsWhere, IsRefusedIn, ReadsFile}
 use Rattle.tesla_front.specs.Refusal.{StopCauses}
 use Rattle.tesla_front.specs.Seeds.{IsSeedsText, IsNoSeedsText}
 use Rattle.tesla_front.specs.Setup.{IsSetupText, IsNoSetupText}
 use Rattle.tesla_front.specs.declared.fault.Fault.{Fault}
-use Rattle.tesla_front.specs.declared.fault.Fault.TheVariants.{NoMemory}
-use Rattle.tesla_front.specs.declared.refusal.Refusal.TheVariants as refusals
+use Rattle.tesla_front.specs.declared.fault.Fault.TheVariants.{Read, Write, NoMemory, Open}
 use Rattle.tesla_front.specs.declared.refusal.Stop.{Stop}
-use Rattle.tesla_front.specs.declared.refusal.Stop.TheVariants.{Refused, Failed}
+use Rattle.tesla_front.specs.declared.refusal.Stop.TheVariants as stops
 
 -- ---- for any texts
 
@@ -23,7 +25,7 @@ abbrev pub IsToldBy : {A : Type 0} → ℕ → (List ℕ → A → Type 0) → T
 IsToldBy {A} most Fact = (text : List ℕ) (x : A) → Fact (take most text) x → Fact text x
 
 -- the one fault of a text is want of memory
-abbrev pub WantsMemory : (List ℕ → Stop → Type 0) → Type 0
+abbrev pub WantsMemory : (List ℕ → Came → Type 0) → Type 0
 WantsMemory Why = (text : List ℕ) (fault : Fault) → Why text (Failed fault) → fault ≡ NoMemory
 
 -- what is read spells what the file spells
@@ -33,28 +35,35 @@ found_in Spells most Absent read (Ok x) told front is = front
 found_in {A} Spells most (Holds text failed) read (Ok x) told front is = told text x (subst (λ (r : List ℕ). Spells r x) front is)
 found_in Spells most page read (Err stop) told front is = tt
 
+refused_by : (Why : List ℕ → Came → Type 0) (most : ℕ) (page : Page) (read : List ℕ) (stop : Stop) → IsToldBy most Why → WantsMemory Why → ReadsFile most page read → Why read (stop_came stop) → IsRefusedIn page Why (stop_came stop)
+refused_by Why most Untold read (stops.Refused refusal) told memory front is = tt
+refused_by Why most Absent read (stops.Refused refusal) told memory front is = front
+refused_by Why most (Holds text failed) read (stops.Refused refusal) told memory front is = told text (Refused refusal.status refusal.line.bytes) (subst (λ (r : List ℕ). Why r (Refused refusal.status refusal.line.bytes)) front is)
+refused_by Why most page read (stops.Failed fault) told memory front is = λ e. let one : fault ≡ NoMemory = memory read fault is in cc
+
 -- why what was read is refused is why the file is
-pub refused_in : {A : Type 0} (Why : List ℕ → Stop → Type 0) (most : ℕ) (page : Page) (read : List ℕ) (result : Result A Stop) → IsToldBy most Why → WantsMemory Why → ReadsFile most page read → IfErr result (Why read) → IfErr result (IsRefusedIn page Why)
+pub refused_in : {A : Type 0} (Why : List ℕ → Came → Type 0) (most : ℕ) (page : Page) (read : List ℕ) (result : Result A Stop) → IsToldBy most Why → WantsMemory Why → ReadsFile most page read → IfErr result (λ stop. Why read (stop_came stop)) → IfErr result (λ stop. IsRefusedIn page Why (stop_came stop))
 refused_in Why most page read (Ok x) told memory front is = tt
-refused_in Why most Untold read (Err (Refused refusal)) told memory front is = tt
-refused_in Why most Absent read (Err (Refused refusal)) told memory front is = front
-refused_in Why most (Holds text failed) read (Err (Refused refusal)) told memory front is = told text (Refused refusal) (subst (λ (r : List ℕ). Why r (Refused refusal)) front is)
-refused_in Why most page read (Err (Failed fault)) told memory front is = λ e. let one : fault ≡ NoMemory = memory read fault is in cc
+refused_in Why most page read (Err stop) told memory front is = refused_by Why most page read stop told memory front is
 
-stops_of : {A : Type 0} (result : Result A Stop) (old new : Faults) → old.reads ≤ new.reads → old.writes ≤ new.writes → old.openings ≤ new.openings → ((fault : Fault) → result ≡ Err (Failed fault) → fault ≡ NoMemory) → StopCauses result old new
-stops_of result old new r w o memory = record {
-  reads = record { stays = r; rose = λ e. let one = memory _ e in cc };
-  writes = record { stays = w; rose = λ e. let one = memory _ e in cc };
-  openings = record { stays = o; rose = λ e. let one = memory _ e in cc };
-}
+memory_alone : (Why : List ℕ → Came → Type 0) (read : List ℕ) (stop : Stop) (fault : Fault) → WantsMemory Why → Why read (stop_came stop) → stop ≡ stops.Failed fault → fault ≡ NoMemory
+memory_alone Why read stop fault memory is e = memory read fault (subst (λ (s : Stop). Why read (stop_came s)) e is)
 
-stop_is : {A : Type 0} (Why : List ℕ → Stop → Type 0) (read : List ℕ) (result : Result A Stop) (fault : Fault) → IfErr result (Why read) → result ≡ Err (Failed fault) → Why read (Failed fault)
-stop_is Why read (Ok x) fault is e = absurd cc
-stop_is Why read (Err stop) fault is e = let same : stop ≡ Failed fault = cc in subst (λ (s : Stop). Why read s) same is
+no_fault : {A : Type 0} (Why : List ℕ → Came → Type 0) (read : List ℕ) (result : Result A Stop) (fault : Fault) → WantsMemory Why → IfErr result (λ stop. Why read (stop_came stop)) → result ≡ Err (stops.Failed fault) → fault ≡ NoMemory
+no_fault Why read (Ok x) fault memory is e = absurd cc
+no_fault Why read (Err stop) fault memory is e = memory_alone Why read stop fault memory is cc
 
 -- judging a text raises no count, and answers no fault but want of memory
-pub text_causes : {A : Type 0} (Why : List ℕ → Stop → Type 0) (read : List ℕ) (result : Result A Stop) (old new : Faults) → WantsMemory Why → old.reads ≤ new.reads → old.writes ≤ new.writes → old.openings ≤ new.openings → IfErr result (Why read) → StopCauses result old new
-text_causes Why read result old new memory r w o is = stops_of result old new r w o (λ fault e. memory read fault (stop_is Why read result fault is e))
+pub text_causes : {A : Type 0} (Why : List ℕ → Came → Type 0) (read : List ℕ) (result : Result A Stop) (old new : Faults) → WantsMemory Why → new ≡ old → IfErr result (λ stop. Why read (stop_came stop)) → StopCauses result old new
+text_causes Why read result old new memory same is = record {
+  reads = cause_none old.reads new.reads (ap (λ (f : Faults). f.reads) same) (λ e. let one = no_fault Why read result Read memory is e in cc);
+  writes = cause_none old.writes new.writes (ap (λ (f : Faults). f.writes) same) (λ e. let one = no_fault Why read result Write memory is e in cc);
+  openings = cause_none old.openings new.openings (ap (λ (f : Faults). f.openings) same) (λ e. let one = no_fault Why read result Open memory is e in cc);
+}
+
+-- reading a file that came to its end raised no count
+pub read_causes : {A : Type 0} (x : A) (old new : Faults) → Causes {A = A} (Ok x) old new → new ≡ old
+read_causes x old new causes = causes_none old new causes (λ e. absurd cc) (λ e. absurd cc) (λ e. absurd cc)
 
 -- ---- setups
 
@@ -74,12 +83,12 @@ pub setup_told : (most : ℕ) → 4096 < most → IsToldBy most IsSetupText
 setup_told most above text setup is = sym (judged_where most text (nat_lt most (length text)) refl above) ∙ is
 
 pub no_setup_told : (most : ℕ) → 4096 < most → IsToldBy most IsNoSetupText
-no_setup_told most above text (Refused (refusals.Setup line kind)) is = sym (judged_where most text (nat_lt most (length text)) refl above) ∙ is
-no_setup_told most above text (Refused _) is = is
-no_setup_told most above text (Failed fault) is = is
+no_setup_told most above text came (inl why) = inl (why.0, sym (judged_where most text (nat_lt most (length text)) refl above) ∙ why.1, why.2)
+no_setup_told most above text came (inr memory) = inr memory
 
 pub setup_memory : WantsMemory IsNoSetupText
-setup_memory text fault is = is
+setup_memory text fault (inl why) = absurd (let no = why.2 in cc)
+setup_memory text fault (inr memory) = cc
 
 -- ---- seeds
 
@@ -98,9 +107,9 @@ pub seeds_told : (count most : ℕ) → 4096 < most → IsToldBy most (IsSeedsTe
 seeds_told count most above text seeds is = sym (seeds_where count most text (nat_lt most (length text)) refl above) ∙ is
 
 pub no_seeds_told : (count most : ℕ) → 4096 < most → IsToldBy most (IsNoSeedsText count)
-no_seeds_told count most above text (Refused (refusals.Seeds line kind)) is = sym (seeds_where count most text (nat_lt most (length text)) refl above) ∙ is
-no_seeds_told count most above text (Refused _) is = is
-no_seeds_told count most above text (Failed fault) is = is
+no_seeds_told count most above text came (inl why) = inl (why.0, sym (seeds_where count most text (nat_lt most (length text)) refl above) ∙ why.1, why.2)
+no_seeds_told count most above text came (inr memory) = inr memory
 
 pub seeds_memory : (count : ℕ) → WantsMemory (IsNoSeedsText count)
-seeds_memory count text fault is = is
+seeds_memory count text fault (inl why) = absurd (let no = why.2 in cc)
+seeds_memory count text fault (inr memory) = cc

@@ -25,6 +25,6 @@ abbrev pub unopened : OpenRefusal → Fault
 unopened refusals.Failed = Open
 unopened refusals.NoMemory = NoMemory
 
--- no count of faults fell, and a fault that is answered has its cause: want of memory alone needs none
+-- each fault that is answered raised its count, and no other count rose: want of memory raises none
 abbrev pub Causes : {A : Type 0} → Result A Fault → Faults → Faults → Type 0
 Causes result old new = HasCauses old new (result ≡ Err Read) (result ≡ Err Write) (result ≡ Err Open)

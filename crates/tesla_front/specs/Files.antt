@@ -1,9 +1,9 @@
 -- Files that are opened and read.
-use Rattle.std.specs.Prelude.{◌≡◌, ◌≢◌, ℕ, ◌+◌, ◌≤◌, true, Option, IfSome, List, [], ◌++◌, length, take}
+use Rattle.std.specs.Prelude.{◌≡◌, ◌≢◌, ℕ, ◌+◌, ◌≤◌, true, Option, IfSome, Result, Ok, Err, List, [], ◌++◌, length, take}
 use Rattle.tesla_desk.specs.Outside.{Page, Untold, Absent, Holds, after_bytes}
-use Rattle.tesla_front.specs.declared.fault.Fault.TheVariants.{Write}
-use Rattle.tesla_front.specs.declared.refusal.Stop.{Stop}
-use Rattle.tesla_front.specs.declared.refusal.Stop.TheVariants.{Refused, Failed}
+use Rattle.tesla_front.specs.Came.{Came, Refused, Failed}
+use Rattle.tesla_front.specs.declared.fault.Fault.{Fault}
+use Rattle.tesla_front.specs.declared.fault.Fault.TheVariants.{Read, Write, NoMemory, Open}
 
 -- there are bytes under a name, and the fact holds of them where they are told
 abbrev pub HoldsWhere : Page → (List ℕ → Type 0) → Type 0
@@ -18,9 +18,10 @@ HasFailed Absent = ⊥
 HasFailed (Holds bytes failed) = failed ≡ true
 
 -- why a file isn't taken: there is one, and where its text is told this is why; or something else went wrong, but no write
-abbrev pub IsRefusedIn : Page → (List ℕ → Stop → Type 0) → Stop → Type 0
-IsRefusedIn page Why (Refused refusal) = HoldsWhere page (λ text. Why text (Refused refusal))
+abbrev pub IsRefusedIn : Page → (List ℕ → Came → Type 0) → Came → Type 0
+IsRefusedIn page Why (Refused status line) = HoldsWhere page (λ text. Why text (Refused status line))
 IsRefusedIn page Why (Failed fault) = fault ≢ Write
+IsRefusedIn page Why _ = ⊥
 
 -- the bytes are a prefix of the text
 abbrev pub IsPrefix : List ℕ → List ℕ → Type 0
@@ -36,3 +37,11 @@ pub record ReadsOn (n most : ℕ) (before now : Option (List ℕ)) (old new : Li
   pub grown : length new ≡ length old + n
   pub read : (piece : List ℕ) × (new ≡ old ++ piece) × (before ≡ after_bytes piece now)
   pub ended : n ≡ 0 → IfSome now (λ rest. rest ≡ [])
+
+-- what writing a text to a file comes to, with its page before and afterwards
+abbrev pub WritesFile : List ℕ → Page → Page → Result (Unit {0}) Fault → Type 0
+WritesFile text before now (Ok x) = HoldsWhere now (λ written. written ≡ text)
+WritesFile text before now (Err Write) = HoldsWhere now (IsPrefix text) × HasFailed now
+WritesFile text before now (Err Read) = ⊥
+WritesFile text before now (Err NoMemory) = now ≡ before
+WritesFile text before now (Err Open) = now ≡ before

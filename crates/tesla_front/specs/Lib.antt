@@ -1,8 +1,13 @@
+pub mod Command
+pub mod Run
+pub mod Came
+pub mod Console
+pub mod Usage
+pub mod Words
+pub mod Openings
+pub mod Files
 pub mod Fault
 pub mod Refusal
-pub mod ScriptKind
-pub mod Files
 pub mod Lines
-pub mod Words
 pub mod Setup
 pub mod Seeds

@@ -2,13 +2,14 @@
 
 ghost use Rattle.std.specs.Prelude.{◌≡◌, ◌<◌, ◌≤◌, ℕ, List, [], ◌∷◌, length, take, vec_len, Some, Err, IfOk};
 ghost use Rattle.tesla_desk.specs.Faults.{HasCause};
-ghost use Rattle.tesla_desk.specs.Outside.{OfSource, with_opening, after_bytes, AsksPrefix};
+ghost use Rattle.tesla_desk.specs.Outside.{OfSink, OfSource, after_bytes};
+ghost use Rattle.tesla_front.specs.Openings.{Opens, OpensSome};
 ghost use Rattle.tesla_front.specs.Fault.{Causes};
-ghost use Rattle.tesla_front.specs.Files.{ReadsOn, ReadsFile};
+ghost use Rattle.tesla_front.specs.Files.{ReadsOn, ReadsFile, WritesFile};
 
 use crate::Fault;
 use std::alloc::Global;
-use tesla_desk::{Desk, ReadStep, Source};
+use tesla_desk::{Desk, ReadStep, Source, write_all};
 
 /// How many bytes one read asks for at most.
 const PIECE: usize = 4096;
@@ -23,6 +24,7 @@ pub fn read_up_to<S: Source>(alloc: Global, source: &mut S, most: usize) -> Resu
     ensures left { IfOk result (λ read. S.left source.old ≡ after_bytes read.items (S.left source.new)) }
     ensures most { IfOk result (λ read. vec_len read ≤ most) }
     ensures cause { HasCause (S.faults source.old) (S.faults source.new) (result ≡ Err Fault.Read) }
+    ensures name { S.name source.new ≡ S.name source.old }
     ensures kind { (result ≡ Err Fault.Write → ⊥) × (result ≡ Err Fault.Open → ⊥) }
 {
     let mut bytes = Vec::new(alloc);
@@ -42,6 +44,7 @@ fn read_on<S: Source>(source: &mut S, room: &mut [u8], bytes: &mut Vec<u8>) -> R
     requires { 0 < length room.old }
     ensures reads { IfOk result (λ n. ReadsOn n (length room.old) (S.left source.old) (S.left source.new) bytes.old.items bytes.new.items) }
     ensures cause { HasCause (S.faults source.old) (S.faults source.new) (result ≡ Err Fault.Read) }
+    ensures name { S.name source.new ≡ S.name source.old }
     ensures kind { (result ≡ Err Fault.Write → ⊥) × (result ≡ Err Fault.Open → ⊥) }
 {
     match source.read(room) {
@@ -60,7 +63,6 @@ fn read_on<S: Source>(source: &mut S, room: &mut [u8], bytes: &mut Vec<u8>) -> R
 ///
 /// `Open` only where the desk's count of openings rose, as where there is no such file, `Read` only where that
 /// of reads rose, and `NoMemory` where there was no memory. Where it was opened it is closed in any case.
-#[tactic(auto, using(tesla_desk::proofs::Told::asks_first, tesla_desk::proofs::Told::asks_tried))]
 pub fn read_file<D: Desk>(
     alloc: Global,
     name: &str,
@@ -68,8 +70,8 @@ pub fn read_file<D: Desk>(
     desk: &mut D,
 ) -> Result<Vec<u8>, Fault>
     ensures told { IfOk result (λ read. ReadsFile most ((D.told desk.old).page name.now) read.items) }
-    ensures opened { IfOk result (λ read. (D.told desk.new).openings ≡ with_opening (D.told desk.old).openings (OfSource name.now)) }
-    ensures asked { AsksPrefix (OfSource name.now ∷ []) (D.told desk.old).openings (D.told desk.new).openings }
+    ensures opened { IfOk result (λ _. Opens (OfSource name.now ∷ []) 1 (D.told desk.old) (D.told desk.new)) }
+    ensures opens { OpensSome (OfSource name.now ∷ []) (D.told desk.old) (D.told desk.new) }
     ensures pages { (n : List ℕ) → (D.told desk.new).page n ≡ (D.told desk.old).page n }
     ensures causes { Causes result (D.told desk.old).faults (D.told desk.new).faults }
     ensures kind { result ≡ Err Fault.Write → ⊥ }
@@ -78,4 +80,24 @@ pub fn read_file<D: Desk>(
     let read = read_up_to(alloc, &mut source, most);
     desk.close_source(source);
     read
+}
+
+/// Writes a text to a file under a name, which is opened before and closed afterwards. It takes no memory but for the
+/// opening.
+///
+/// `Open` exactly where the desk's count of openings rose, `Write` exactly where that of writes rose: then the file holds
+/// a prefix of the text. `NoMemory` comes only before the file is opened, and it is as before then.
+pub fn write_file<D: Desk>(name: &str, text: &[u8], desk: &mut D) -> Result<(), Fault>
+    ensures writes { WritesFile text.now ((D.told desk.old).page name.now) ((D.told desk.new).page name.now) result }
+    ensures opens { OpensSome (OfSink name.now ∷ []) (D.told desk.old) (D.told desk.new) }
+    ensures causes { Causes result (D.told desk.old).faults (D.told desk.new).faults }
+{
+    match desk.open_sink(name) {
+        Ok(mut out) => {
+            let whole = write_all(&mut out, text);
+            desk.close_sink(out);
+            if whole { Ok(()) } else { Err(Fault::Write) }
+        }
+        Err(refusal) => Err(Fault::from(refusal)),
+    }
 }

@@ -1,21 +1,24 @@
-//! What all commands share: their words and names, files that are opened and read, the setup, seeds, faults and
-//! refusals, and the lines of the console.
+//! What all commands share: what a command is and comes to, its words and files, the setup and the seeds, and the console.
 #![tactic(auto)]
 
+mod console;
 mod fault;
 mod files;
+mod forms;
 mod lines;
+mod outcome;
 mod refusal;
-mod script_kind;
 mod seeds;
 mod setup;
 mod words;
 
+pub use console::tell;
 pub use fault::Fault;
-pub use files::{read_file, read_up_to};
-pub use lines::{Lines, add_count, refusal_lines};
+pub use files::{read_file, read_up_to, write_file};
+pub use forms::FormText;
+pub use lines::{Lines, add_count, refused};
+pub use outcome::{Outcome, outcome_of};
 pub use refusal::{Refusal, Stop};
-pub use script_kind::ScriptKind;
 pub use seeds::seeds_under;
 pub use setup::setup_under;
 pub use words::{Places, is_name, number_in, places_in, stream_in};

@@ -1,45 +1,17 @@
-//! Why a command refuses its input.
+//! Why a command doesn't come to its end.
 
-ghost use Rattle.std.specs.Prelude.{◌≡◌};
-ghost use Rattle.tesla_front.specs.Refusal.{refusal_status};
+use crate::{Fault, Lines};
 
-use crate::{Fault, ScriptKind};
-use tesla_capture::RecordKind;
-use tesla_commit::{SeedsKind, SetupKind};
-
-/// The input that a command refuses, with the place and the kind of what is wrong there.
-#[derive(Clone, Copy, Debug, PartialEq, Eq)]
-pub enum Refusal {
-    /// The file of the setup isn't one, by this line, counted from 1, or 0 for the whole text.
-    Setup { line: u32, kind: SetupKind },
-    /// The file of the capture isn't one, by the record at this place, in bytes from its begin.
-    Capture { place: u64, kind: RecordKind },
-    /// The file of the seeds doesn't have those that are wanted, by this line, counted from 1, or 0 for the whole
-    /// text.
-    Seeds { line: u32, kind: SeedsKind },
-    /// The seed in this line of its file, counted from 1, doesn't give the key of the setup.
-    WrongSeed { line: u32 },
-    /// The file of the script isn't one, or the sender refuses its record, at this place, in bytes from its begin.
-    Script { place: u64, kind: ScriptKind },
-}
-
-impl Refusal {
-    /// The status that a program ends with: 2 for a setup, 3 for any other input.
-    pub fn status(&self) -> u8
-        ensures { result ≡ refusal_status self.now }
-    {
-        match self {
-            Refusal::Setup { .. } => 2,
-            Refusal::Capture { .. }
-            | Refusal::Seeds { .. }
-            | Refusal::WrongSeed { .. }
-            | Refusal::Script { .. } => 3,
-        }
-    }
+/// An input that a command refuses: the status that the program ends with, 2 for a setup and 3 for any other input, and
+/// the line that tells the file, the line or the offset in it, and the kind of what is wrong there.
+#[derive(Debug, Drop)]
+pub struct Refusal {
+    pub status: u8,
+    pub line: Lines,
 }
 
 /// Why a command doesn't come to its end.
-#[derive(Clone, Copy, Debug, PartialEq, Eq)]
+#[derive(Debug, Drop)]
 pub enum Stop {
     /// An input is refused.
     Refused(Refusal),

@@ -1,13 +1,16 @@
 //! The seeds that a command makes key chains from.
 
 ghost use Rattle.std.specs.Prelude.{◌≡◌, ℕ, List, [], ◌∷◌, length, IfOk, IfErr};
-ghost use Rattle.tesla_desk.specs.Outside.{OfSource, with_opening, AsksPrefix};
+ghost use Rattle.tesla_desk.specs.Outside.{OfSource};
+ghost use Rattle.tesla_front.specs.Came.{stop_came};
+ghost use Rattle.tesla_front.specs.Openings.{Opens, OpensSome};
 ghost use Rattle.tesla_front.specs.Refusal.{StopCauses};
 ghost use Rattle.tesla_front.specs.Seeds.{IsSeedsIn, IsSeedsText, IsNoSeeds, IsNoSeedsText};
 
 use crate::setup::MOST;
-use crate::{Fault, Refusal, Stop, read_file};
+use crate::{Fault, Stop, read_file, refused};
 use std::alloc::Global;
+use tesla_base::Kind;
 use tesla_commit::{Seeds, SeedsRefusal, read_seeds};
 use tesla_desk::Desk;
 
@@ -15,11 +18,13 @@ use tesla_desk::Desk;
 fn seeds_of(alloc: Global, text: &[u8], count: u8) -> Result<Seeds, Stop>
     ensures found { IfOk result (λ seeds. IsSeedsText count text.now seeds) }
     ensures count { IfOk result (λ seeds. length seeds ≡ count) }
-    ensures refused { IfErr result (IsNoSeedsText count text.now) }
+    ensures refused { IfErr result (λ stop. IsNoSeedsText count text.now (stop_came stop)) }
 {
     match read_seeds(alloc, text, count) {
         Ok(seeds) => Ok(seeds),
-        Err(SeedsRefusal::At { line, kind }) => Err(Stop::Refused(Refusal::Seeds { line, kind })),
+        Err(SeedsRefusal::At { line, kind }) => {
+            Err(Stop::Refused(refused(3, "seeds", u64::from(line), kind.name())))
+        }
         Err(SeedsRefusal::NoMemory) => Err(Stop::Failed(Fault::NoMemory)),
     }
 }
@@ -37,9 +42,9 @@ pub fn seeds_under<D: Desk>(
 ) -> Result<Seeds, Stop>
     ensures found { IfOk result (λ seeds. IsSeedsIn count ((D.told desk.old).page name.now) seeds) }
     ensures count { IfOk result (λ seeds. length seeds ≡ count) }
-    ensures refused { IfErr result (IsNoSeeds count ((D.told desk.old).page name.now)) }
-    ensures opened { IfOk result (λ seeds. (D.told desk.new).openings ≡ with_opening (D.told desk.old).openings (OfSource name.now)) }
-    ensures asked { AsksPrefix (OfSource name.now ∷ []) (D.told desk.old).openings (D.told desk.new).openings }
+    ensures refused { IfErr result (λ stop. IsNoSeeds count ((D.told desk.old).page name.now) (stop_came stop)) }
+    ensures opened { IfOk result (λ _. Opens (OfSource name.now ∷ []) 1 (D.told desk.old) (D.told desk.new)) }
+    ensures opens { OpensSome (OfSource name.now ∷ []) (D.told desk.old) (D.told desk.new) }
     ensures pages { (n : List ℕ) → (D.told desk.new).page n ≡ (D.told desk.old).page n }
     ensures causes { StopCauses result (D.told desk.old).faults (D.told desk.new).faults }
 {

@@ -1,12 +1,15 @@
 //! The setup that a command trusts.
 
 ghost use Rattle.std.specs.Prelude.{◌≡◌, ℕ, List, [], ◌∷◌, IfOk, IfErr};
-ghost use Rattle.tesla_desk.specs.Outside.{OfSource, with_opening, AsksPrefix};
+ghost use Rattle.tesla_desk.specs.Outside.{OfSource};
+ghost use Rattle.tesla_front.specs.Came.{stop_came};
+ghost use Rattle.tesla_front.specs.Openings.{Opens, OpensSome};
 ghost use Rattle.tesla_front.specs.Refusal.{StopCauses};
 ghost use Rattle.tesla_front.specs.Setup.{IsSetupIn, IsSetupText, IsNoSetup, IsNoSetupText};
 
-use crate::{Fault, Refusal, Stop, read_file};
+use crate::{Fault, Stop, read_file, refused};
 use std::alloc::Global;
+use tesla_base::Kind;
 use tesla_commit::{Setup, SetupRefusal, read_setup};
 use tesla_desk::Desk;
 
@@ -16,11 +19,13 @@ pub const MOST: usize = 4097;
 // The setup that a text spells.
 fn setup_of(alloc: Global, text: &[u8]) -> Result<Setup, Stop>
     ensures found { IfOk result (λ setup. IsSetupText text.now setup) }
-    ensures refused { IfErr result (IsNoSetupText text.now) }
+    ensures refused { IfErr result (λ stop. IsNoSetupText text.now (stop_came stop)) }
 {
     match read_setup(alloc, text) {
         Ok(setup) => Ok(setup),
-        Err(SetupRefusal::At { line, kind }) => Err(Stop::Refused(Refusal::Setup { line, kind })),
+        Err(SetupRefusal::At { line, kind }) => {
+            Err(Stop::Refused(refused(2, "setup", u64::from(line), kind.name())))
+        }
         Err(SetupRefusal::NoMemory) => Err(Stop::Failed(Fault::NoMemory)),
     }
 }
@@ -31,9 +36,9 @@ fn setup_of(alloc: Global, text: &[u8]) -> Result<Setup, Stop>
 /// `Refused` with the first refused line where the file's text is no setup, and `Failed` as `read_file` fails.
 pub fn setup_under<D: Desk>(alloc: Global, name: &str, desk: &mut D) -> Result<Setup, Stop>
     ensures found { IfOk result (λ setup. IsSetupIn ((D.told desk.old).page name.now) setup) }
-    ensures refused { IfErr result (IsNoSetup ((D.told desk.old).page name.now)) }
-    ensures opened { IfOk result (λ setup. (D.told desk.new).openings ≡ with_opening (D.told desk.old).openings (OfSource name.now)) }
-    ensures asked { AsksPrefix (OfSource name.now ∷ []) (D.told desk.old).openings (D.told desk.new).openings }
+    ensures refused { IfErr result (λ stop. IsNoSetup ((D.told desk.old).page name.now) (stop_came stop)) }
+    ensures opened { IfOk result (λ _. Opens (OfSource name.now ∷ []) 1 (D.told desk.old) (D.told desk.new)) }
+    ensures opens { OpensSome (OfSource name.now ∷ []) (D.told desk.old) (D.told desk.new) }
     ensures pages { (n : List ℕ) → (D.told desk.new).page n ≡ (D.told desk.old).page n }
     ensures causes { StopCauses result (D.told desk.old).faults (D.told desk.new).faults }
 {

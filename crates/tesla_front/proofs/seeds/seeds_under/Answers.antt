@@ -2,7 +2,7 @@ use Rattle.std.proofs.Common.{ℕ, List, lit<, sym, subst}
 use Rattle.tesla_front.specs.Files.{ReadsFile}
 use Rattle.tesla_front.specs.Seeds.{IsSeedsText, IsNoSeedsText}
 use Rattle.tesla_front.specs.declared.setup.TheConstants.{MOST}
-use Rattle.tesla_front.proofs.SmallTexts.{found_in, refused_in, text_causes, seeds_told, no_seeds_told, seeds_memory}
+use Rattle.tesla_front.proofs.SmallTexts.{found_in, refused_in, text_causes, read_causes, seeds_told, no_seeds_told, seeds_memory}
 use Rattle.tesla_front.proofs.seeds.seeds_under.Goals as goal
 
 pub returns-in-Ok-clause-found : goal.returns-in-Ok-clause-found
@@ -15,4 +15,4 @@ returns-in-Ok-clause-refused g c =
 
 pub returns-in-Ok-clause-causes : goal.returns-in-Ok-clause-causes
 returns-in-Ok-clause-causes g c =
-    text_causes (IsNoSeedsText c.args.count) _ _ _ _ (seeds_memory c.args.count) c.in-Ok.ensures.causes.reads.stays c.in-Ok.ensures.causes.writes.stays c.in-Ok.ensures.causes.openings.stays c.seeds_of.ensures.refused
+    text_causes (IsNoSeedsText c.args.count) _ _ _ _ (seeds_memory c.args.count) (read_causes c.in-Ok.text _ _ c.in-Ok.ensures.causes) c.seeds_of.ensures.refused

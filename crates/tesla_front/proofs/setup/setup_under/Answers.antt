@@ -2,7 +2,7 @@ use Rattle.std.proofs.Common.{ℕ, List, lit<, sym, subst}
 use Rattle.tesla_front.specs.Files.{ReadsFile}
 use Rattle.tesla_front.specs.Setup.{IsSetupText, IsNoSetupText}
 use Rattle.tesla_front.specs.declared.setup.TheConstants.{MOST}
-use Rattle.tesla_front.proofs.SmallTexts.{found_in, refused_in, text_causes, setup_told, no_setup_told, setup_memory}
+use Rattle.tesla_front.proofs.SmallTexts.{found_in, refused_in, text_causes, read_causes, setup_told, no_setup_told, setup_memory}
 use Rattle.tesla_front.proofs.setup.setup_under.Goals as goal
 
 pub returns-in-Ok-clause-found : goal.returns-in-Ok-clause-found
@@ -15,4 +15,4 @@ returns-in-Ok-clause-refused g c =
 
 pub returns-in-Ok-clause-causes : goal.returns-in-Ok-clause-causes
 returns-in-Ok-clause-causes g c =
-    text_causes IsNoSetupText _ _ _ _ setup_memory c.in-Ok.ensures.causes.reads.stays c.in-Ok.ensures.causes.writes.stays c.in-Ok.ensures.causes.openings.stays c.setup_of.ensures.refused
+    text_causes IsNoSetupText _ _ _ _ setup_memory (read_causes c.in-Ok.text _ _ c.in-Ok.ensures.causes) c.setup_of.ensures.refused

@@ -6,29 +6,32 @@ use Rattle.tesla_desk.specs.Outside.{AppendsPrefix, with_bytes}
 use Rattle.tesla_desk.proofs.Told.{with_bytes_twice, prefix_longer, prefix_after}
 use Rattle.tesla_front.specs.Fault.{fault_line}
 use Rattle.tesla_front.specs.declared.fault.Fault.TheVariants.{Write}
-use Rattle.tesla_cli.specs.Outcome.{outcome_text, usage_line, usage_of, IsDone, Tells}
-use Rattle.tesla_cli.specs.declared.usage.FormText.{FormText}
-use Rattle.tesla_cli.specs.declared.outcome.Outcome.{Outcome}
-use Rattle.tesla_cli.specs.declared.outcome.Outcome.TheVariants.{Done, Failed}
-use Rattle.tesla_cli.specs.declared.outcome.Summary.{Summary}
+use Rattle.tesla_front.specs.Came.{Came, Done, Failed, IsDone, text_of}
+use Rattle.tesla_front.specs.Console.{Tells}
+use Rattle.tesla_front.specs.Usage.{usage_line, usage_of}
+use Rattle.tesla_front.specs.declared.forms.FormText.{FormText}
 
 -- a count that rose from nothing is above it
 pub rose_some : (before now : ℕ) → before ≡ 0 → Rose before now → 0 < now
 rose_some before now e (inl above) = omega (arith, e, above)
 rose_some before now e (inr full) = absurd (omega (arith, e, full))
 
+-- a summary was told whole
+pub tells_done : (usage lines : List ℕ) (before now : Option (List ℕ)) (old new : ℕ) (text : List ℕ) → text ≡ lines → now ≡ with_bytes before text → HasCause old new (true ≡ false) → old ≡ 0 → Tells usage (Done lines) (Done lines) before now new
+tells_done usage lines before now old new text text_is written cause e = inl (refl, cause.still (λ f. absurd cc) ∙ e, written ∙ ap (with_bytes before) text_is)
+
 -- a summary was lost, and a write fault told behind it
-pub tells_lost : (summary : Summary) (before mid now : Option (List ℕ)) (old between new : ℕ) (line : List ℕ) (text : List ℕ) → text ≡ outcome_text (Done summary) → line ≡ fault_line Write → AppendsPrefix before mid text → AppendsPrefix mid now line → old ≡ 0 → Rose old between → between ≤ new → Tells (Done summary) (Failed Write) before now new
-tells_lost summary before mid now old between new line text text_is line_is first second e rose stays =
+pub tells_lost : (usage lines : List ℕ) (before mid now : Option (List ℕ)) (old between new : ℕ) (line : List ℕ) (text : List ℕ) → text ≡ lines → line ≡ fault_line Write → AppendsPrefix before mid text → AppendsPrefix mid now line → old ≡ 0 → Rose old between → between ≤ new → Tells usage (Done lines) (Failed Write) before now new
+tells_lost usage lines before mid now old between new line text text_is line_is first second e rose stays =
     let some : 0 < between = rose_some old between e rose in
     let written : now ≡ with_bytes before (take first.0 text ++ take second.0 line) = second.1.written ∙ ap (λ w. with_bytes w (take second.0 line)) first.1.written ∙ with_bytes_twice before (take first.0 text) (take second.0 line) in
-    let parts : take first.0 text ++ take second.0 line ≡ take first.0 (outcome_text (Done summary)) ++ take second.0 (fault_line Write) = ap (λ t. take first.0 t ++ take second.0 line) text_is ∙ ap (λ l. take first.0 (outcome_text (Done summary)) ++ take second.0 l) line_is in
+    let parts : take first.0 text ++ take second.0 line ≡ take first.0 lines ++ take second.0 (fault_line Write) = ap (λ t. take first.0 t ++ take second.0 line) text_is ∙ ap (λ l. take first.0 lines ++ take second.0 l) line_is in
     inr (inr (refl, tt, omega (arith, some, stays), (take first.0 text ++ take second.0 line, (first.0, second.0, parts), written)))
 
 -- the lines of an outcome without a summary were told, or a prefix of them
-pub tells_lines : (came : Outcome) (whole : Bool) (before now : Option (List ℕ)) (old new : ℕ) → (IsDone came → ⊥) → (whole ≡ true → now ≡ with_bytes before (outcome_text came)) → AppendsPrefix before now (outcome_text came) → HasCause old new (whole ≡ false) → old ≡ 0 → Tells came came before now new
-tells_lines came true before now old new none all front cause e = inl (refl, all refl)
-tells_lines came false before now old new none all front cause e = inr (inl (refl, none, rose_some old new e (cause.rose refl), front))
+pub tells_lines : (usage : List ℕ) (came : Came) (whole : Bool) (before now : Option (List ℕ)) (old new : ℕ) → (IsDone came → ⊥) → (whole ≡ true → now ≡ with_bytes before (text_of usage came)) → AppendsPrefix before now (text_of usage came) → HasCause old new (whole ≡ false) → old ≡ 0 → Tells usage came came before now new
+tells_lines usage came true before now old new none all prefix cause e = inl (refl, cause.still (λ f. absurd cc) ∙ e, all refl)
+tells_lines usage came false before now old new none all prefix cause e = inr (inl (refl, none, rose_some old new e (cause.rose refl), prefix))
 
 -- the second of three pieces was written in part
 pub second_prefix : (before mid now : Option (List ℕ)) (a b c piece : List ℕ) → mid ≡ with_bytes before a → piece ≡ b → AppendsPrefix mid now piece → AppendsPrefix before now (a ++ b ++ c)

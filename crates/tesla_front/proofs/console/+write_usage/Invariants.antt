@@ -1,5 +1,5 @@
 use Rattle.std.proofs.Common.{length}
-use Rattle.tesla_cli.proofs.outcome.+write_usage.Given as goal
+use Rattle.tesla_front.proofs.console.+write_usage.Given as goal
 
 -- proposed from what the function passes where it calls itself
 abbrev pub decreases-write_usage : goal.decreases-write_usage

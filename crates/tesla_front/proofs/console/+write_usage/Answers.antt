@@ -1,6 +1,6 @@
 use Rattle.std.proofs.Common.{refl}
-use Rattle.tesla_cli.proofs.Told.{usage_stops, usage_prefix, usage_whole}
-use Rattle.tesla_cli.proofs.outcome.+write_usage.Goals as goal
+use Rattle.tesla_front.proofs.Told.{usage_stops, usage_prefix, usage_whole}
+use Rattle.tesla_front.proofs.console.+write_usage.Goals as goal
 
 pub returns-then-not-write_form-clause-prefix : goal.returns-then-not-write_form-clause-prefix
 returns-then-not-write_form-clause-prefix g t c = usage_stops c.args.forms.now _ _ _ c.in-len1-up.len_at_least c.write_form.ensures.prefix

@@ -1,6 +1,6 @@
 use Rattle.std.proofs.Common.{codes, refl}
-use Rattle.tesla_cli.proofs.Told.{second_prefix, third_prefix}
-use Rattle.tesla_cli.proofs.outcome.write_form.Goals as goal
+use Rattle.tesla_front.proofs.Told.{second_prefix, third_prefix}
+use Rattle.tesla_front.proofs.console.write_form.Goals as goal
 
 pub returns-then-not-write_all-2-clause-prefix : goal.returns-then-not-write_all-2-clause-prefix
 returns-then-not-write_all-2-clause-prefix g c =

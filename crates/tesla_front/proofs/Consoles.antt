@@ -1,0 +1,135 @@
+-- A console that was opened before, told what came, and closed.
+use Rattle.std.proofs.Common.{◌≡◌, ◌∙◌, ◌≢◌, ◌⊎◌, inl, inr, ◌<◌, ℕ, Bool, true, false, nat_lt, Option, Some, None, IfSome, Result, Err, List, [], ◌∷◌, take, codes, refl, sym, ap, subst, arith}
+use Rattle.std.proofs.lemmas.Bool.Decides.{nat_tests}
+use Rattle.tesla_desk.specs.Faults.{Faults, HasCausesBeside, after_sink}
+use Rattle.tesla_desk.specs.Outside.{Page, Holds, Told, Opening, OfSink, OpensSink, ClosesSink, with_opening, with_openings, page_of}
+use Rattle.tesla_desk.specs.declared.desk.OpenRefusal.{OpenRefusal}
+use Rattle.tesla_desk.specs.declared.desk.OpenRefusal.TheVariants as refused
+use Rattle.tesla_desk.proofs.Counts.{cause_as}
+use Rattle.tesla_desk.proofs.Told.{first_written, openings_none, openings_first, asks_tried}
+use Rattle.tesla_front.specs.Came.{Came, Usage, Failed, text_of}
+use Rattle.tesla_front.specs.Command.{Command, Performs, RunsAs}
+use Rattle.tesla_front.specs.Console.{Shows, Tells}
+use Rattle.tesla_front.specs.Fault.{unopened}
+use Rattle.tesla_front.specs.Files.{HasFailed}
+use Rattle.tesla_front.specs.Openings.{AnyFailed, AreFiles, File, files_told}
+use Rattle.tesla_front.specs.Run.{HasConsole, IsDoneAs, Runs, TellsUsage, console}
+use Rattle.tesla_front.specs.declared.fault.Fault.TheVariants as faults
+use Rattle.tesla_front.proofs.Openings.{files_same, stays_all}
+
+-- ---- what the console shows
+
+held_by : (usage : List ℕ) (came told : Came) (before : Option (List ℕ)) (text : List ℕ) (count : ℕ) (failed : Bool) → (0 < count → failed ≡ true) → (count ≡ 0 → failed ≡ false) → IfSome before (λ bytes. bytes ≡ []) → Tells usage came told before (Some text) count → Shows usage came told count (Holds text failed)
+held_by usage came told before text count false some none empty (inl it) = (it.0, it.1, first_written before (Some text) (text_of usage came) text empty it.2 refl)
+held_by usage came told before text count false some none empty (inr (inl it)) = absurd (let no : false ≡ true = some it.2 in cc)
+held_by usage came told before text count false some none empty (inr (inr it)) = absurd (let no : false ≡ true = some it.2 in cc)
+held_by usage came told before text count true some none empty (inl it) = absurd (let no : true ≡ false = none it.1 in cc)
+held_by usage came told before text count true some none empty (inr (inl it)) =
+    inl (it.0, it.1, it.2, (it.3.0, first_written before (Some text) (take it.3.0 (text_of usage came)) text empty it.3.1.written refl))
+held_by usage came told before text count true some none empty (inr (inr it)) =
+    let same : text ≡ it.3.0 = first_written before (Some text) it.3.0 text empty it.3.2 refl in
+    inr (it.0, it.1, it.2, (it.3.1.0, it.3.1.1, same ∙ it.3.1.2))
+
+shows_by : (usage : List ℕ) (came told : Came) (before now : Option (List ℕ)) (count : ℕ) → IfSome before (λ bytes. bytes ≡ []) → Tells usage came told before now count → Shows usage came told count (page_of now count)
+shows_by usage came told before None count empty (inl it) = inl it.0
+shows_by usage came told before None count empty (inr (inl it)) = inl it.0
+shows_by usage came told before None count empty (inr (inr it)) = inr (it.0, it.1, it.2)
+shows_by usage came told before (Some text) count empty tells = held_by usage came told before text count (nat_lt 0 count) (λ some. grind (arith, nat_tests, some)) (λ none. grind (arith, nat_tests, none)) empty tells
+
+-- ---- the console wasn't opened
+
+no_console : (refusal : OpenRefusal) → (Failed (unopened refusal) ≡ Failed faults.Open) ⊎ (Failed (unopened refusal) ≡ Failed faults.NoMemory)
+no_console refused.Failed = inl refl
+no_console refused.NoMemory = inr refl
+
+failed_open : (A : Type 0) (refusal : OpenRefusal) → Failed (unopened refusal) ≡ Failed faults.Open → ◌≡◌ {A = Result A OpenRefusal} (Err refusal) (Err refused.Failed)
+failed_open A refused.Failed e = refl
+failed_open A refused.NoMemory e = absurd cc
+
+open_failed : (A : Type 0) (refusal : OpenRefusal) → ◌≡◌ {A = Result A OpenRefusal} (Err refusal) (Err refused.Failed) → Failed (unopened refusal) ≡ Failed faults.Open
+open_failed A refused.Failed e = refl
+open_failed A refused.NoMemory e = absurd cc
+
+-- nothing else was opened then
+pub console_unopened : (A : Type 0) (command : Command) (usage : List ℕ) (words : List (List ℕ)) (refusal : OpenRefusal) (old new : Told) → OpensSink {A = A} (codes "-") (Err refusal) old new → Runs command usage words old new (Failed (unopened refusal))
+console_unopened A command usage words refusal old new opens = inl (record {
+  fault = no_console refusal;
+  asked = asks_tried {A = A} console [] (Err refusal) old.openings new.openings opens.asked;
+  pages = stays_all (codes "-") old.page new.page opens.refused opens.pages;
+  lefts = opens.lefts;
+  counts = record { reads = opens.counts.reads; writes = opens.counts.writes; openings = cause_as old.faults.openings new.faults.openings opens.counts.openings (failed_open A refusal) (open_failed A refusal) };
+})
+
+-- ---- the console was opened
+
+-- it was opened before what was done, told what came, and closed
+pub record Tolds (usage : List ℕ) (old opened done new : Told) (came told : Came) (written : Option (List ℕ)) (failed : ℕ) : Type 0 where
+  pub asked : opened.openings ≡ with_opening old.openings console
+  pub pages : (name : List ℕ) → name ≢ codes "-" → opened.page name ≡ old.page name
+  pub lefts : (name : List ℕ) → opened.left name ≡ old.left name
+  pub counts : opened.faults ≡ old.faults
+  pub before : Option (List ℕ)
+  pub empty : IfSome before (λ bytes. bytes ≡ [])
+  pub tells : Tells usage came told before written failed
+  pub closes : ClosesSink (codes "-") written failed done new
+
+shown : (usage : List ℕ) (old opened done new : Told) (came told : Came) (written : Option (List ℕ)) (failed : ℕ) → Tolds usage old opened done new came told written failed → Shows usage came told failed (new.page (codes "-"))
+shown usage old opened done new came told written failed it = subst (λ (p : Page). Shows usage came told failed p) (sym it.closes.own) (shows_by usage came told it.before written failed it.empty it.tells)
+
+usage_stays : (usage : List ℕ) (told : Came) (before now : Option (List ℕ)) (failed : ℕ) → Tells usage Usage told before now failed → told ≡ Usage
+usage_stays usage told before now failed (inl it) = it.0
+usage_stays usage told before now failed (inr (inl it)) = it.0
+usage_stays usage told before now failed (inr (inr it)) = absurd it.1
+
+refused_run : (usage : List ℕ) (old opened done new : Told) (came told : Came) (written : Option (List ℕ)) (failed : ℕ) → Tolds usage old opened done new came told written failed → came ≡ Usage → done ≡ opened → TellsUsage usage old new told
+refused_run usage old opened done new came told written failed it is still =
+    let one : Tolds usage old opened opened new Usage told written failed = subst (λ (c : Came). Tolds usage old opened opened new c told written failed) is (subst (λ (t : Told). Tolds usage old opened t new came told written failed) still it) in
+    record {
+      asked = one.closes.asked ∙ one.asked ∙ openings_none (with_opening old.openings console) ∙ openings_first old.openings console [];
+      pages = λ name other. one.closes.pages name other ∙ one.pages name other;
+      lefts = λ name. one.closes.lefts name ∙ one.lefts name;
+      is_usage = usage_stays usage told one.before written failed one.tells;
+      failed = failed;
+      counts = one.closes.counts ∙ ap (λ f. after_sink f failed) one.counts;
+      shows = shown usage old opened opened new Usage told written failed one;
+    }
+
+-- an output that failed is none whose page the console's closing changes
+failed_stays : (files : List Opening) (done new : Told) → AreFiles files → ((name : List ℕ) → name ≢ codes "-" → new.page name ≡ done.page name) → AnyFailed files done → AnyFailed files new
+failed_stays [] done new named pages failed = failed
+failed_stays (OfSink name ∷ files) done new named pages (inl own) = inl (subst (λ (p : Page). HasFailed p) (sym (pages name named.0)) own)
+failed_stays (OfSink name ∷ files) done new named pages (inr others) = inr (failed_stays files done new named.1 pages others)
+failed_stays (opening ∷ files) done new named pages failed = failed_stays files done new named.1 pages failed
+
+wider : (files : List Opening) (came : Came) (old counts : Faults) (done new : Told) → (AnyFailed files done → AnyFailed files new)
+    → HasCausesBeside ((came ≡ Failed faults.Read) × AnyFailed files done) old counts (came ≡ Failed faults.Read) (came ≡ Failed faults.Write) (came ≡ Failed faults.Open)
+    → HasCausesBeside ((came ≡ Failed faults.Read) × AnyFailed files new) old counts (came ≡ Failed faults.Read) (came ≡ Failed faults.Write) (came ≡ Failed faults.Open)
+wider files came old counts done new to causes = record {
+  reads = causes.reads;
+  writes = record { stays = causes.writes.stays; rose = causes.writes.rose; still = λ none clear. causes.writes.still none (λ hidden. clear (hidden.0, to hidden.1)) };
+  openings = causes.openings;
+}
+
+done_run : (command : Command) (usage : List ℕ) (arguments : command.Arguments) (old opened done new : Told) (came told : Came) (written : Option (List ℕ)) (failed : ℕ) → Tolds usage old opened done new came told written failed → Performs command arguments opened done came → IsDoneAs command arguments usage old new told
+done_run command usage arguments old opened done new came told written failed it performs = record {
+  opened = performs.opened;
+  asked = it.closes.asked ∙ performs.opens.asked ∙ ap (λ asked. with_openings asked (take performs.opened (command.files arguments))) it.asked ∙ openings_first old.openings console (take performs.opened (command.files arguments));
+  pages = λ name other none. it.closes.pages name other ∙ performs.opens.pages name none ∙ it.pages name other;
+  lefts = λ name none. it.closes.lefts name ∙ performs.opens.lefts name none ∙ it.lefts name;
+  came = came;
+  does = subst (λ (files : List File). command.Does arguments performs.opened files (files_told new (command.files arguments)) came) (files_same (command.files arguments) old opened performs.named it.pages it.lefts)
+      (subst (λ (files : List File). command.Does arguments performs.opened (files_told opened (command.files arguments)) files came) (sym (files_same (command.files arguments) done new performs.named it.closes.pages it.closes.lefts)) performs.does);
+  before_console = done.faults;
+  counts = wider (command.files arguments) came old.faults done.faults done new (failed_stays (command.files arguments) done new performs.named it.closes.pages)
+      (subst (λ (f : Faults). HasCausesBeside ((came ≡ Failed faults.Read) × AnyFailed (command.files arguments) done) f done.faults (came ≡ Failed faults.Read) (came ≡ Failed faults.Write) (came ≡ Failed faults.Open)) it.counts performs.counts);
+  failed = failed;
+  closed = it.closes.counts;
+  shows = shown usage old opened done new came told written failed it;
+}
+
+-- a run with the console opened
+pub console_opened : (command : Command) (usage : List ℕ) (words : List (List ℕ)) (old opened done new : Told) (came told : Came) (written : Option (List ℕ)) (failed : ℕ) → Tolds usage old opened done new came told written failed → RunsAs command words opened done came → HasConsole command usage words old new told
+console_opened command usage words old opened done new came told written failed it runs = record {
+  no_form = λ none. let usage_is = runs.usage none in refused_run usage old opened done new came told written failed it usage_is.0 usage_is.1;
+  form = λ arguments spelled. done_run command usage arguments old opened done new came told written failed it (runs.form arguments spelled);
+}

@@ -1,0 +1,65 @@
+-- What a run of words is, for all words and desks, told the command that the first word names and the usage lines of all.
+use Rattle.std.specs.Prelude.{◌≡◌, ◌≢◌, ◌⊎◌, ℕ, ◌-◌, ◌^◌, ◌<◌, List, [], ◌∷◌, take, codes}
+use Rattle.tesla_desk.specs.Faults.{Faults, CountsOpening, HasCausesBeside, after_sink}
+use Rattle.tesla_desk.specs.Outside.{Opening, OfSource, OfSink, Told, with_openings, AsksPrefix}
+use Rattle.tesla_front.specs.Came.{Came, Usage, Failed}
+use Rattle.tesla_front.specs.Command.{Command, IsNoForm}
+use Rattle.tesla_front.specs.Console.{Shows}
+use Rattle.tesla_front.specs.Openings.{AnyFailed, IsAmong, files_told}
+use Rattle.tesla_front.specs.declared.fault.Fault.TheVariants as faults
+
+-- the console, which is opened first
+abbrev pub console : Opening
+console = OfSink (codes "-")
+
+-- the console wasn't opened: nothing else was, and nothing is written
+pub record HasNoConsole (old new : Told) (told : Came) : Type 0 where
+  pub fault : (told ≡ Failed faults.Open) ⊎ (told ≡ Failed faults.NoMemory)
+  pub asked : AsksPrefix (console ∷ []) old.openings new.openings
+  pub pages : (name : List ℕ) → new.page name ≡ old.page name
+  pub lefts : (name : List ℕ) → new.left name ≡ old.left name
+  pub counts : CountsOpening old.faults new.faults (told ≡ Failed faults.Open)
+
+-- words that are no form: the console alone was opened, and told so
+pub record TellsUsage (usage : List ℕ) (old new : Told) (told : Came) : Type 0 where
+  pub asked : new.openings ≡ with_openings old.openings (console ∷ [])
+  pub pages : (name : List ℕ) → name ≢ codes "-" → new.page name ≡ old.page name
+  pub lefts : (name : List ℕ) → new.left name ≡ old.left name
+  pub is_usage : told ≡ Usage
+  -- so many writes to the console failed, and nothing else did
+  pub failed : ℕ
+  pub counts : new.faults ≡ after_sink old.faults failed
+  pub shows : Shows usage Usage told failed (new.page (codes "-"))
+
+-- words that are a form: the console was opened, the command did what it does, and the console is told what it came to
+pub record IsDoneAs (command : Command) (arguments : command.Arguments) (usage : List ℕ) (old new : Told) (told : Came) : Type 0 where
+  -- after the console so many of its files were asked to be opened, in order
+  pub opened : ℕ
+  pub asked : new.openings ≡ with_openings old.openings (console ∷ take opened (command.files arguments))
+  -- what is neither the console nor an output that was asked for is as before, and of what isn't an input that was asked for nothing was read
+  pub pages : (name : List ℕ) → name ≢ codes "-" → (IsAmong (OfSink name) (take opened (command.files arguments)) → ⊥) → new.page name ≡ old.page name
+  pub lefts : (name : List ℕ) → (IsAmong (OfSource name) (take opened (command.files arguments)) → ⊥) → new.left name ≡ old.left name
+  -- the command did what it does, and came to the first thing that failed
+  pub came : Came
+  pub does : command.Does arguments opened (files_told old (command.files arguments)) (files_told new (command.files arguments)) came
+  pub before_console : Faults
+  pub counts : HasCausesBeside ((came ≡ Failed faults.Read) × AnyFailed (command.files arguments) new) old.faults before_console (came ≡ Failed faults.Read) (came ≡ Failed faults.Write) (came ≡ Failed faults.Open)
+  -- and the console is told that, on which so many writes failed
+  pub failed : ℕ
+  pub closed : new.faults ≡ after_sink before_console failed
+  pub shows : Shows usage came told failed (new.page (codes "-"))
+
+-- a run with the console opened
+pub record HasConsole (command : Command) (usage : List ℕ) (words : List (List ℕ)) (old new : Told) (told : Came) : Type 0 where
+  pub no_form : IsNoForm command words → TellsUsage usage old new told
+  pub form : (arguments : command.Arguments) → command.IsForm arguments words → IsDoneAs command arguments usage old new told
+
+-- one run of the words over a desk: what it tells before and after, and what the run came to, as it was told
+abbrev pub Runs : Command → List ℕ → List (List ℕ) → Told → Told → Came → Type 0
+Runs command usage words old new told = HasNoConsole old new told ⊎ HasConsole command usage words old new told
+
+-- no count of faults rose, and none stands at the end of its type
+pub record NothingFailed (old new : Faults) : Type 0 where
+  pub reads : (new.reads ≡ old.reads) × (old.reads < 2 ^ 64 - 1)
+  pub writes : (new.writes ≡ old.writes) × (old.writes < 2 ^ 64 - 1)
+  pub openings : (new.openings ≡ old.openings) × (old.openings < 2 ^ 64 - 1)

@@ -1,0 +1,44 @@
+//! What a run of words comes to.
+
+ghost use Rattle.std.specs.Prelude.{◌≡◌};
+ghost use Rattle.tesla_front.specs.Came.{came_of, outcome_came, status_of};
+
+use crate::{Fault, Lines, Refusal, Stop};
+
+/// What a run of words comes to.
+#[derive(Debug, Drop)]
+pub enum Outcome {
+    /// The input was read to its end, and all output is written. These lines are printed.
+    Done(Lines),
+    /// The words are no form of a command.
+    Usage,
+    /// An input is refused. What stands before was done.
+    Refused(Refusal),
+    /// Something went wrong outside.
+    Failed(Fault),
+}
+
+/// What a command answers as an outcome.
+pub fn outcome_of(end: Result<Lines, Stop>) -> Outcome
+    ensures { outcome_came result ≡ came_of end }
+{
+    match end {
+        Ok(lines) => Outcome::Done(lines),
+        Err(Stop::Refused(refusal)) => Outcome::Refused(refusal),
+        Err(Stop::Failed(fault)) => Outcome::Failed(fault),
+    }
+}
+
+impl Outcome {
+    /// The status that a program ends with.
+    pub fn status(&self) -> u8
+        ensures { result ≡ status_of (outcome_came self.now) }
+    {
+        match self {
+            Outcome::Done(_) => 0,
+            Outcome::Usage => 1,
+            Outcome::Refused(refusal) => refusal.status,
+            Outcome::Failed(fault) => fault.status(),
+        }
+    }
+}
