@@ -1,6 +1,6 @@
 //! A file of records of any format, read from a source in pieces, record after record.
 
-ghost use Rattle.std.specs.Prelude.{◌≡◌, ◌<◌, ◌≤◌, ◌+◌, ◌-◌, ◌^◌, [], List, ℕ, Option, true, None, Some, IfSome, length, take, drop};
+ghost use Rattle.std.specs.Prelude.{◌≡◌, ◌↔◌, ◌<◌, ◌≤◌, ◌+◌, ◌-◌, ◌^◌, [], List, ℕ, Option, true, None, Some, IfSome, length, take, drop};
 ghost use Rattle.tesla_desk.specs.Faults.{HasCause};
 ghost use Rattle.tesla_capture.specs.Grammar.{limit};
 
@@ -73,6 +73,7 @@ impl PieceReader {
         ensures limited { self.new.place ≤ limit }
         ensures goes { self.new.going ≡ goes_on result }
         ensures cause { HasCause (S.faults source.old) (S.faults source.new) (result ≡ RecordStep.ReadFault) }
+        ensures name { S.name source.new ≡ S.name source.old }
     {
         let step = self.step::<F, S>(source, into);
         self.going = matches!(step, RecordStep::Carrying { .. } | RecordStep::Bare { .. });
@@ -86,6 +87,7 @@ impl PieceReader {
         ensures moves { Moves F.grammar result self.old.place self.new.place }
         ensures behind { drop (length_given result) into.new ≡ drop (length_given result) into.old }
         ensures cause { HasCause (S.faults source.old) (S.faults source.new) (result ≡ RecordStep.ReadFault) }
+        ensures name { S.name source.new ≡ S.name source.old }
     {
         if self.place != 0 {
             return self.next_record::<F, S>(source, into);
@@ -111,6 +113,7 @@ impl PieceReader {
         ensures moves { Moves F.grammar result self.old.place self.new.place }
         ensures behind { drop (length_given result) into.new ≡ drop (length_given result) into.old }
         ensures cause { HasCause (S.faults source.old) (S.faults source.new) (result ≡ RecordStep.ReadFault) }
+        ensures name { S.name source.new ≡ S.name source.old }
     {
         let found = self.find_record::<F, S>(source);
         self.take_record::<F>(found, into)
@@ -124,7 +127,7 @@ impl PieceReader {
         ensures gives { (rest : List ℕ) (left : Option (List ℕ)) → Finds F.grammar found self.old.place (pending self.old) rest left → Gives F.grammar result self.old.place rest self.new.place (ahead self.new left) into.new }
         ensures moves { Moves F.grammar result self.old.place self.new.place }
         ensures behind { drop (length_given result) into.new ≡ drop (length_given result) into.old }
-        ensures failed { result ≡ RecordStep.ReadFault → found ≡ Found.Failed }
+        ensures failed { result ≡ RecordStep.ReadFault ↔ (found ≡ Found.Failed) }
     {
         match found {
             Found::Carrying { reading, length } => {
@@ -164,6 +167,7 @@ impl PieceReader {
         ensures whole { HeadIsPending result (pending self.new) }
         ensures finds { (rest : List ℕ) → ahead self.old (S.left source.old) ≡ Some rest → FindsHead F.grammar result (pending self.new) rest (S.left source.new) }
         ensures cause { HasCause (S.faults source.old) (S.faults source.new) (result ≡ HeadFound.Failed) }
+        ensures name { S.name source.new ≡ S.name source.old }
     {
         loop {
             if let Some(found) = head_found::<F>(self.pending()) {
@@ -183,6 +187,7 @@ impl PieceReader {
         ensures whole { IsPending F.grammar result (pending self.new) }
         ensures finds { (rest : List ℕ) → ahead self.old (S.left source.old) ≡ Some rest → Finds F.grammar result self.new.place (pending self.new) rest (S.left source.new) }
         ensures cause { HasCause (S.faults source.old) (S.faults source.new) (result ≡ Found.Failed) }
+        ensures name { S.name source.new ≡ S.name source.old }
     {
         loop {
             if let Some(found) = record_found::<F>(self.pending()) {
@@ -203,6 +208,7 @@ impl PieceReader {
         ensures whole { IfSome result (λ found. IsPending F.grammar found (pending self.new)) }
         ensures finds { IfSome result (λ found. (rest : List ℕ) → ahead self.old (S.left source.old) ≡ Some rest → Finds F.grammar found self.new.place (pending self.new) rest (S.left source.new)) }
         ensures cause { HasCause (S.faults source.old) (S.faults source.new) (result ≡ Some Found.Failed) }
+        ensures name { S.name source.new ≡ S.name source.old }
     {
         if self.place + self.held() as u64 == LIMIT {
             return Some(self.find_past::<F, S>(source));
@@ -222,6 +228,7 @@ impl PieceReader {
         ensures whole { IsPending F.grammar result (pending self.now) }
         ensures finds { (rest : List ℕ) → ahead self.now (S.left source.old) ≡ Some rest → Finds F.grammar result self.now.place (pending self.now) rest (S.left source.new) }
         ensures cause { HasCause (S.faults source.old) (S.faults source.new) (result ≡ Found.Failed) }
+        ensures name { S.name source.new ≡ S.name source.old }
     {
         if 0 < self.held() {
             return Found::Refused(RecordKind::TooLarge);
@@ -240,6 +247,7 @@ impl PieceReader {
         ensures place { self.new.place ≡ self.old.place }
         ensures reads { ReadsOn result (pending self.old) (S.left source.old) (pending self.new) (S.left source.new) }
         ensures cause { HasCause (S.faults source.old) (S.faults source.new) (result ≡ ReadStep.Failed) }
+        ensures name { S.name source.new ≡ S.name source.old }
     {
         self.move_to_front();
         let most = LIMIT - self.place;

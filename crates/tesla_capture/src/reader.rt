@@ -69,7 +69,7 @@ impl Reader {
     /// behind the first 2^40 but the one that tells whether the file goes on there. It takes no memory.
     ///
     /// `Refused` comes exactly where the file is no capture by the record at that place, `End` exactly where
-    /// it ends after a whole record or the head, and `ReadFault` only where the source's count of faults
+    /// it ends after a whole record or the head, and `ReadFault` exactly where the source's count of faults
     /// rose.
     ///
     /// No byte is dropped: what isn't taken is pending, or left in the source. After a record that is all
@@ -84,6 +84,7 @@ impl Reader {
         ensures limited { self.new.place ≤ limit }
         ensures goes { self.new.going ≡ goes_on (step_of result) }
         ensures cause { HasCause (S.faults source.old) (S.faults source.new) (result ≡ Step.ReadFault) }
+        ensures name { S.name source.new ≡ S.name source.old }
     {
         match self.records.next::<CaptureFormat, S>(source, into) {
             RecordStep::Carrying { reading, length } => Step::Arrival { reading, length },
