@@ -311,7 +311,7 @@ module _ (G : Grammar) (is : IsGrammar G) where
 
   -- a part of the head
   pub head_part_tells : (bytes : List ℕ) → length bytes < 5 → bytes_eq bytes (take (length bytes) G.head) ≡ true → TellsHead G None bytes
-  head_part_tells bytes few same = (few, (bytes_eq-Decides bytes (take (length bytes) G.head)).0 same, head_short bytes few)
+  head_part_tells bytes few same = ((few, (bytes_eq-Decides bytes (take (length bytes) G.head)).0 same), head_short bytes few)
 
   body_is : (bytes left : List ℕ) (b : Bool) → 5 ≤ length bytes → bytes_eq (take 5 bytes) G.head ≡ b → body_of G (bytes ++ left) ≡ cond b (Some (drop 5 bytes ++ left)) None
   unfolding body_of

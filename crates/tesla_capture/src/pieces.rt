@@ -31,7 +31,7 @@ pub struct PieceReader {
 impl PieceReader {
     ghost use Rattle.tesla_capture.specs.Pieces.{pending, ahead};
     ghost use Rattle.tesla_capture.specs.Steps.{Gives, Moves, length_given, goes_on};
-    ghost use Rattle.tesla_capture.specs.Found.{Finds, IsPending, Awaits, FindsHead, HeadIsPending, ReadsOn};
+    ghost use Rattle.tesla_capture.specs.Found.{Finds, IsPending, Awaits, AwaitsHead, AwaitsRecord, AwaitsAt, FindsHead, HeadIsPending, ReadsOn};
 
     /// A reader that has nothing pending at a place.
     pub fn at(place: u64) -> PieceReader
@@ -72,6 +72,7 @@ impl PieceReader {
         ensures behind { drop (length_given result) into.new ≡ drop (length_given result) into.old }
         ensures limited { self.new.place ≤ limit }
         ensures goes { self.new.going ≡ goes_on result }
+        ensures cut { result ≡ RecordStep.ReadFault → AwaitsAt F.grammar self.new.place (pending self.new) }
         ensures cause { HasCause (S.faults source.old) (S.faults source.new) (result ≡ RecordStep.ReadFault) }
         ensures name { S.name source.new ≡ S.name source.old }
     {
@@ -86,6 +87,7 @@ impl PieceReader {
         ensures gives { (rest : List ℕ) → ahead self.old (S.left source.old) ≡ Some rest → Gives F.grammar result self.old.place rest self.new.place (ahead self.new (S.left source.new)) into.new }
         ensures moves { Moves F.grammar result self.old.place self.new.place }
         ensures behind { drop (length_given result) into.new ≡ drop (length_given result) into.old }
+        ensures cut { result ≡ RecordStep.ReadFault → AwaitsAt F.grammar self.new.place (pending self.new) }
         ensures cause { HasCause (S.faults source.old) (S.faults source.new) (result ≡ RecordStep.ReadFault) }
         ensures name { S.name source.new ≡ S.name source.old }
     {
@@ -112,6 +114,7 @@ impl PieceReader {
         ensures gives { (rest : List ℕ) → ahead self.old (S.left source.old) ≡ Some rest → Gives F.grammar result self.old.place rest self.new.place (ahead self.new (S.left source.new)) into.new }
         ensures moves { Moves F.grammar result self.old.place self.new.place }
         ensures behind { drop (length_given result) into.new ≡ drop (length_given result) into.old }
+        ensures cut { result ≡ RecordStep.ReadFault → AwaitsAt F.grammar self.new.place (pending self.new) }
         ensures cause { HasCause (S.faults source.old) (S.faults source.new) (result ≡ RecordStep.ReadFault) }
         ensures name { S.name source.new ≡ S.name source.old }
     {
@@ -128,6 +131,7 @@ impl PieceReader {
         ensures moves { Moves F.grammar result self.old.place self.new.place }
         ensures behind { drop (length_given result) into.new ≡ drop (length_given result) into.old }
         ensures failed { result ≡ RecordStep.ReadFault ↔ (found ≡ Found.Failed) }
+        ensures kept { result ≡ RecordStep.ReadFault → self.new ≡ self.old }
     {
         match found {
             Found::Carrying { reading, length } => {
@@ -166,6 +170,7 @@ impl PieceReader {
         ensures place { self.new.place ≡ 0 }
         ensures whole { HeadIsPending result (pending self.new) }
         ensures finds { (rest : List ℕ) → ahead self.old (S.left source.old) ≡ Some rest → FindsHead F.grammar result (pending self.new) rest (S.left source.new) }
+        ensures cut { result ≡ HeadFound.Failed → AwaitsHead F.grammar (pending self.new) }
         ensures cause { HasCause (S.faults source.old) (S.faults source.new) (result ≡ HeadFound.Failed) }
         ensures name { S.name source.new ≡ S.name source.old }
     {
@@ -186,6 +191,7 @@ impl PieceReader {
         ensures place { self.new.place ≡ self.old.place }
         ensures whole { IsPending F.grammar result (pending self.new) }
         ensures finds { (rest : List ℕ) → ahead self.old (S.left source.old) ≡ Some rest → Finds F.grammar result self.new.place (pending self.new) rest (S.left source.new) }
+        ensures cut { result ≡ Found.Failed → AwaitsRecord F.grammar self.new.place (pending self.new) }
         ensures cause { HasCause (S.faults source.old) (S.faults source.new) (result ≡ Found.Failed) }
         ensures name { S.name source.new ≡ S.name source.old }
     {
@@ -207,6 +213,7 @@ impl PieceReader {
         ensures ahead { result ≡ None → ahead self.new (S.left source.new) ≡ ahead self.old (S.left source.old) }
         ensures whole { IfSome result (λ found. IsPending F.grammar found (pending self.new)) }
         ensures finds { IfSome result (λ found. (rest : List ℕ) → ahead self.old (S.left source.old) ≡ Some rest → Finds F.grammar found self.new.place (pending self.new) rest (S.left source.new)) }
+        ensures cut { result ≡ Some Found.Failed → AwaitsRecord F.grammar self.new.place (pending self.new) }
         ensures cause { HasCause (S.faults source.old) (S.faults source.new) (result ≡ Some Found.Failed) }
         ensures name { S.name source.new ≡ S.name source.old }
     {
@@ -227,6 +234,7 @@ impl PieceReader {
         requires full { self.now.place + length (pending self.now) ≡ limit }
         ensures whole { IsPending F.grammar result (pending self.now) }
         ensures finds { (rest : List ℕ) → ahead self.now (S.left source.old) ≡ Some rest → Finds F.grammar result self.now.place (pending self.now) rest (S.left source.new) }
+        ensures cut { result ≡ Found.Failed → AwaitsRecord F.grammar self.now.place (pending self.now) }
         ensures cause { HasCause (S.faults source.old) (S.faults source.new) (result ≡ Found.Failed) }
         ensures name { S.name source.new ≡ S.name source.old }
     {

@@ -4,6 +4,7 @@ ghost use Rattle.std.specs.Prelude.{◌≡◌, ◌≤◌, [], List, ℕ, true, S
 ghost use Rattle.tesla_desk.specs.Faults.{HasCause};
 ghost use Rattle.tesla_capture.specs.Capture.{capture, limit};
 ghost use Rattle.tesla_capture.specs.Reader.{pending, ahead, step_of};
+ghost use Rattle.tesla_capture.specs.Found.{AwaitsAt};
 ghost use Rattle.tesla_capture.specs.Steps.{Gives, Moves, length_given, goes_on};
 
 use crate::format::CaptureFormat;
@@ -83,6 +84,7 @@ impl Reader {
         ensures behind { drop (length_given (step_of result)) into.new ≡ drop (length_given (step_of result)) into.old }
         ensures limited { self.new.place ≤ limit }
         ensures goes { self.new.going ≡ goes_on (step_of result) }
+        ensures cut { result ≡ Step.ReadFault → AwaitsAt capture self.new.place (pending self.new) }
         ensures cause { HasCause (S.faults source.old) (S.faults source.new) (result ≡ Step.ReadFault) }
         ensures name { S.name source.new ≡ S.name source.old }
     {

@@ -5,6 +5,7 @@ ghost use Rattle.tesla_desk.specs.Faults.{HasCause};
 ghost use Rattle.tesla_capture.specs.Grammar.{limit};
 ghost use Rattle.tesla_capture.specs.Script.{script};
 ghost use Rattle.tesla_capture.specs.Reader.{pending, ahead, script_step_of};
+ghost use Rattle.tesla_capture.specs.Found.{AwaitsAt};
 ghost use Rattle.tesla_capture.specs.Steps.{Gives, Moves, length_given, goes_on};
 
 use crate::format::ScriptFormat;
@@ -85,6 +86,7 @@ impl ScriptReader {
         ensures behind { drop (length_given (script_step_of result)) into.new ≡ drop (length_given (script_step_of result)) into.old }
         ensures limited { self.new.place ≤ limit }
         ensures goes { self.new.going ≡ goes_on (script_step_of result) }
+        ensures cut { result ≡ ScriptStep.ReadFault → AwaitsAt script self.new.place (pending self.new) }
         ensures cause { HasCause (S.faults source.old) (S.faults source.new) (result ≡ ScriptStep.ReadFault) }
         ensures name { S.name source.new ≡ S.name source.old }
     {
