@@ -7,3 +7,5 @@ pub mod OutlineStep
 pub mod RefusalHasCause
 pub mod OutlineIsFile
 pub mod CauseRefuses
+pub mod FrontAgain
+pub mod Taken

@@ -133,7 +133,7 @@ module _ (G : Grammar) (sound : IsGrammar G) where
 
   -- ---- the outline of a file in its grammar
 
-  record_is_next : (place : ℕ) (rest : List ℕ) (x : G.Record × List ℕ) → record_at G rest ≡ Some x → place + length (G.record_text x.0) ≤ limit → record_next G place rest ≡ Recorded x.0 (place + length (G.record_text x.0)) x.1
+  pub record_is_next : (place : ℕ) (rest : List ℕ) (x : G.Record × List ℕ) → record_at G rest ≡ Some x → place + length (G.record_text x.0) ≤ limit → record_next G place rest ≡ Recorded x.0 (place + length (G.record_text x.0)) x.1
   unfolding record_next
   record_is_next place [] x e close = absurd (let s = record_shorter G sound [] x e in omega (arith, s))
   record_is_next place (b ∷ rest) x e close =
@@ -166,7 +166,7 @@ module _ (G : Grammar) (sound : IsGrammar G) where
       ap (outline_by (outline_within G n)) one
       ∙ ap (with_record first) (again_within n now records left fault (omega (arith, short, enough)) (omega (arith, some)) (omega (arith, size, close)) are.1 (ap (λ (k : ℕ). record_next G k left) sum ∙ next))
 
-  body_again : (rest : List ℕ) → body_of G (G.head ++ rest) ≡ Some rest
+  pub body_again : (rest : List ℕ) → body_of G (G.head ++ rest) ≡ Some rest
   unfolding body_of
   body_again rest = (let front : bytes_front 5 (G.head ++ rest) ≡ Some (G.head, rest) = bytes_again 5 G.head rest sound.five in rw (front, bytes_eq-same G.head) refl)
 

@@ -79,7 +79,7 @@ other_tells G (b ∷ rest) some one two = (
 -- ---- records of kind 1
 
 -- what a record of kind 1 was read from
-record IsCarrying (G : Grammar) (bytes : List ℕ) (x : G.Record × List ℕ) : Type 0 where
+pub record IsCarrying (G : Grammar) (bytes : List ℕ) (x : G.Record × List ℕ) : Type 0 where
   pub reading : ℕ × List ℕ
   pub size : ℕ × List ℕ
   pub is_reading : number_front w64 bytes ≡ Some reading
@@ -92,7 +92,7 @@ carrying_made : (G : Grammar) (reading : ℕ) (parts carried : List ℕ × List 
 carrying_made G reading parts carried made x e f g =
     sym (some_is made x f) ∙ e ∙ ap (λ (y : List ℕ × List ℕ). (G.carrying reading y.0, y.1)) (sym (some_is parts carried g))
 
-carrying_parts : (G : Grammar) (bytes : List ℕ) (x : G.Record × List ℕ) → carrying_at G bytes ≡ Some x → IsCarrying G bytes x
+pub carrying_parts : (G : Grammar) (bytes : List ℕ) (x : G.Record × List ℕ) → carrying_at G bytes ≡ Some x → IsCarrying G bytes x
 unfolding carrying_at carried_at
 carrying_parts G bytes x e =
     let a = bind_some (number_front w64 bytes) (λ reading. carried_at G.longest reading.1 >>= λ carried. Some (G.carrying reading.0 carried.0, carried.1)) x e in
@@ -111,7 +111,7 @@ carrying_parts G bytes x e =
     }
 
 -- a record of kind 1 that is whole is read so, whatever follows
-carrying_is : (G : Grammar) (rest left r1 r2 : List ℕ) (reading n : ℕ) → number_front w64 rest ≡ Some (reading, r1) → number_front w16 r1 ≡ Some (n, r2) → n ≤ G.longest → n ≤ length r2
+pub carrying_is : (G : Grammar) (rest left r1 r2 : List ℕ) (reading n : ℕ) → number_front w64 rest ≡ Some (reading, r1) → number_front w16 r1 ≡ Some (n, r2) → n ≤ G.longest → n ≤ length r2
     → record_at G (1 ∷ (rest ++ left)) ≡ Some (G.carrying reading (take n r2), drop n r2 ++ left)
 unfolding record_at carrying_at carried_at
 carrying_is G rest left r1 r2 reading n e f few whole =
@@ -120,7 +120,7 @@ carrying_is G rest left r1 r2 reading n e f few whole =
     rw (number_more w64 rest left (reading, r1) e, number_more w16 r1 left (n, r2) f, short, there, take-append-le n r2 left whole, drop-append-le n r2 left whole) refl
 
 -- the bytes after the length of a record of kind 1
-behind_length : (rest r1 r2 : List ℕ) (reading n : ℕ) → number_front w64 rest ≡ Some (reading, r1) → number_front w16 r1 ≡ Some (n, r2) → (r2 ≡ drop 10 rest) × (length rest ≡ 10 + length r2) × (r1 ≡ drop 8 rest)
+pub behind_length : (rest r1 r2 : List ℕ) (reading n : ℕ) → number_front w64 rest ≡ Some (reading, r1) → number_front w16 r1 ≡ Some (n, r2) → (r2 ≡ drop 10 rest) × (length rest ≡ 10 + length r2) × (r1 ≡ drop 8 rest)
 behind_length rest r1 r2 reading n e f =
     let a = number_parts w64 rest (reading, r1) e in
     let b = number_parts w16 r1 (n, r2) f in
@@ -175,7 +175,7 @@ module _ (G : Grammar) (is : IsGrammar G) where
   carrying_size reading bytes = ap length (is.carrying_spelled reading bytes) ∙ omega arith
 
   -- the same of one that was read
-  carried_size : (bytes : List ℕ) (x : G.Record × List ℕ) (a : IsCarrying G bytes x) → length (G.record_text x.0) ≡ 11 + a.size.0
+  pub carried_size : (bytes : List ℕ) (x : G.Record × List ℕ) (a : IsCarrying G bytes x) → length (G.record_text x.0) ≡ 11 + a.size.0
   carried_size bytes x a =
       let size : length (take a.size.0 a.size.1) ≡ a.size.0 = length-take-le a.size.0 a.size.1 a.whole in
       ap (λ (y : G.Record × List ℕ). length (G.record_text y.0)) a.is ∙ carrying_size a.reading.0 (take a.size.0 a.size.1) ∙ omega (arith, size)
@@ -277,13 +277,13 @@ module _ (G : Grammar) (is : IsGrammar G) where
       )
 
   -- a record of kind 2 that was read has a reading there
-  bare_parts : (rest : List ℕ) (x : G.Record × List ℕ) → bare_at G rest ≡ Some x → (reading : ℕ × List ℕ) × (reading_at G.timed rest ≡ Some reading) × (x ≡ (G.bare reading.0, reading.1))
+  pub bare_parts : (rest : List ℕ) (x : G.Record × List ℕ) → bare_at G rest ≡ Some x → (reading : ℕ × List ℕ) × (reading_at G.timed rest ≡ Some reading) × (x ≡ (G.bare reading.0, reading.1))
   unfolding bare_at
   bare_parts rest x e =
       let a = bind_some (reading_at G.timed rest) (λ reading. Some (G.bare reading.0, reading.1)) x e in
       (a.0, a.1, sym (some_is (G.bare a.0.0, a.0.1) x a.2))
 
-  bare_read_size : (rest : List ℕ) (x : G.Record × List ℕ) → bare_at G rest ≡ Some x → length (G.record_text x.0) ≡ bare_size G.timed
+  pub bare_read_size : (rest : List ℕ) (x : G.Record × List ℕ) → bare_at G rest ≡ Some x → length (G.record_text x.0) ≡ bare_size G.timed
   bare_read_size rest x e = (let a = bare_parts rest x e in ap (λ (y : G.Record × List ℕ). length (G.record_text y.0)) a.2 ∙ bare_length a.0.0)
 
   -- a part of a record of kind 2
@@ -305,13 +305,13 @@ module _ (G : Grammar) (is : IsGrammar G) where
   -- ---- what pending bytes tell of the head
 
   -- fewer bytes than the head has
-  head_short : (bytes : List ℕ) → length bytes < 5 → body_of G bytes ≡ None
+  pub head_short : (bytes : List ℕ) → length bytes < 5 → body_of G bytes ≡ None
   unfolding body_of
   head_short bytes few = (let test : ltb (length bytes) 5 ≡ true = lt-ltb _ _ few in rw test refl)
 
   -- a part of the head
   pub head_part_tells : (bytes : List ℕ) → length bytes < 5 → bytes_eq bytes (take (length bytes) G.head) ≡ true → TellsHead G None bytes
-  head_part_tells bytes few same = (few, (bytes_eq-Decides bytes (take (length bytes) G.head)).0 same, head_short bytes few)
+  head_part_tells bytes few same = ((few, (bytes_eq-Decides bytes (take (length bytes) G.head)).0 same), head_short bytes few)
 
   body_is : (bytes left : List ℕ) (b : Bool) → 5 ≤ length bytes → bytes_eq (take 5 bytes) G.head ≡ b → body_of G (bytes ++ left) ≡ cond b (Some (drop 5 bytes ++ left)) None
   unfolding body_of

@@ -17,7 +17,7 @@ use Rattle.tesla_capture.proofs.PendingTells.{head_before}
 
 module _ (G : Grammar) where
   -- after a whole head the first record comes next
-  next_head : (rest after : List ℕ) → body_of G rest ≡ Some after → next_at G 0 rest ≡ next_at G 5 after
+  pub next_head : (rest after : List ℕ) → body_of G rest ≡ Some after → next_at G 0 rest ≡ next_at G 5 after
   unfolding next_at
   next_head rest after e = rw e refl
 

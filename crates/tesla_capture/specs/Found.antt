@@ -1,5 +1,5 @@
 -- What is found at a place of a file from the bytes that are pending there.
-use Rattle.std.specs.Prelude.{◌≡◌, ◌≢◌, ℕ, ◌+◌, ◌<◌, ◌≤◌, Bool, true, false, List, [], ◌++◌, length, take, drop, Option, Some, None, if◌then◌else◌}
+use Rattle.std.specs.Prelude.{◌≡◌, ◌≢◌, ℕ, zero, suc, ◌+◌, ◌<◌, ◌≤◌, Bool, true, false, List, [], ◌++◌, length, take, drop, Option, Some, None, if◌then◌else◌}
 use Rattle.tesla_desk.specs.Outside.{after_bytes, Ends}
 use Rattle.tesla_desk.specs.declared.source.ReadStep.{ReadStep}
 use Rattle.tesla_desk.specs.declared.source.ReadStep.TheVariants as reads
@@ -46,9 +46,23 @@ Tells G None bytes = Awaits G bytes
 Tells G (Some found) bytes =
     (found ≢ Failed) × IsPending G found bytes × ((place : ℕ) (left : List ℕ) → place + length bytes ≤ limit → Finds G found place bytes (bytes ++ left) (Some left))
 
--- what these bytes alone tell of the head: a part of it that is shorter tells nothing yet
+-- a part of the head stands at the front of a file, and not all of it
+abbrev pub AwaitsHead : Grammar → List ℕ → Type 0
+AwaitsHead G bytes = (length bytes < 5) × (bytes ≡ take (length bytes) G.head)
+
+-- neither a whole record nor a refused one stands at a place behind the head, whatever follows, and a part of a record ends before the limit
+pub record AwaitsRecord (G : Grammar) (place : ℕ) (bytes : List ℕ) : Type 0 where
+  pub awaits : Awaits G bytes
+  pub within : 0 < length bytes → place + length bytes < limit
+
+-- only what follows these bytes tells what comes next at a place; at place 0 the head comes first
+abbrev pub AwaitsAt : Grammar → ℕ → List ℕ → Type 0
+AwaitsAt G zero bytes = AwaitsHead G bytes
+AwaitsAt G (suc place) bytes = AwaitsRecord G (suc place) bytes
+
+-- what these bytes alone tell of the head: a part of it tells nothing yet
 abbrev pub TellsHead : Grammar → Option HeadFound → List ℕ → Type 0
-TellsHead G None bytes = (length bytes < 5) × (bytes ≡ take (length bytes) G.head) × (body_of G bytes ≡ None)
+TellsHead G None bytes = AwaitsHead G bytes × (body_of G bytes ≡ None)
 TellsHead G (Some heads.Whole) bytes = (5 ≤ length bytes) × ((left : List ℕ) → body_of G (bytes ++ left) ≡ Some (drop 5 bytes ++ left))
 TellsHead G (Some heads.Bad) bytes = (left : List ℕ) → body_of G (bytes ++ left) ≡ None
 TellsHead G (Some heads.Failed) bytes = ⊥

@@ -9,6 +9,7 @@ pub mod Steps
 pub mod Pieces
 pub mod Reader
 pub mod Found
+pub mod Taken
 pub mod Names
 pub mod Release
 pub mod Gathering

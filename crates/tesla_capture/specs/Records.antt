@@ -1,5 +1,5 @@
 -- Files of records read from left to right, record after record.
-use Rattle.std.specs.Prelude.{ℕ, ◌+◌, ◌-◌, zero, suc, Bool, false, List, [], ◌∷◌, length, take, drop, Option, Some, None, nat_lt, nat_le, nat_eq, bytes_eq, if◌then◌else◌}
+use Rattle.std.specs.Prelude.{ℕ, ◌+◌, ◌-◌, zero, suc, Bool, false, List, [], ◌∷◌, ◌++◌, length, take, drop, Option, Some, None, nat_lt, nat_le, nat_eq, bytes_eq, if◌then◌else◌}
 use Rattle.std.specs.Int.{w16, w64}
 use Rattle.tesla_base.specs.Front.{◌>>=◌, bytes_front, number_front}
 use Rattle.tesla_capture.specs.Grammar.{Grammar, limit}
@@ -111,6 +111,10 @@ pub record Outline (R : Type 0) : Type 0 where
 -- an outline with one record before it
 abbrev pub with_record : {R : Type 0} → R → Outline R → Outline R
 with_record first outline = record { records = first ∷ outline.records; fault = outline.fault }
+
+-- an outline with these records before it
+abbrev pub with_records : {R : Type 0} → List R → Outline R → Outline R
+with_records records outline = record { records = records ++ outline.records; fault = outline.fault }
 
 -- the outline of what comes next, told that of what stands after a record
 abbrev pub outline_by : {R : Type 0} → (ℕ → List ℕ → Outline R) → Next R → Outline R

@@ -26,6 +26,7 @@ pub trait Format {
 }
 
 /// The format of captures: arrivals are of kind 1, takes of kind 2.
+#[derive(Drop)]
 pub struct CaptureFormat;
 
 impl Format for CaptureFormat {
@@ -47,6 +48,7 @@ impl Format for CaptureFormat {
 }
 
 /// The format of scripts: messages are of kind 1, disclosures of kind 2.
+#[derive(Drop)]
 pub struct ScriptFormat;
 
 impl Format for ScriptFormat {

@@ -8,12 +8,15 @@ pub mod laws;
 mod pieces;
 mod reader;
 mod record;
+mod record_reader;
 mod script;
 mod writing;
 
+pub use format::{CaptureFormat, Format, ScriptFormat};
 pub use gathering::Gatherer;
 pub use reader::Reader;
-pub use record::{RecordKind, ScriptStep, Step};
+pub use record::{RecordKind, RecordStep, ScriptStep, Step};
+pub use record_reader::RecordReader;
 pub use script::ScriptReader;
 pub use tesla_base::Head;
 pub use writing::{write_arrival, write_head, write_record, write_take};

@@ -1,6 +1,6 @@
 //! A file of records of any format, read from a source in pieces, record after record.
 
-ghost use Rattle.std.specs.Prelude.{◌≡◌, ◌<◌, ◌≤◌, ◌+◌, ◌-◌, ◌^◌, [], List, ℕ, Option, true, None, Some, IfSome, length, take, drop};
+ghost use Rattle.std.specs.Prelude.{◌≡◌, ◌↔◌, ◌<◌, ◌≤◌, ◌+◌, ◌-◌, ◌^◌, [], List, ℕ, Option, true, None, Some, IfSome, length, take, drop};
 ghost use Rattle.tesla_desk.specs.Faults.{HasCause};
 ghost use Rattle.tesla_capture.specs.Grammar.{limit};
 
@@ -31,7 +31,7 @@ pub struct PieceReader {
 impl PieceReader {
     ghost use Rattle.tesla_capture.specs.Pieces.{pending, ahead};
     ghost use Rattle.tesla_capture.specs.Steps.{Gives, Moves, length_given, goes_on};
-    ghost use Rattle.tesla_capture.specs.Found.{Finds, IsPending, Awaits, FindsHead, HeadIsPending, ReadsOn};
+    ghost use Rattle.tesla_capture.specs.Found.{Finds, IsPending, Awaits, AwaitsHead, AwaitsRecord, AwaitsAt, FindsHead, HeadIsPending, ReadsOn};
 
     /// A reader that has nothing pending at a place.
     pub fn at(place: u64) -> PieceReader
@@ -72,7 +72,9 @@ impl PieceReader {
         ensures behind { drop (length_given result) into.new ≡ drop (length_given result) into.old }
         ensures limited { self.new.place ≤ limit }
         ensures goes { self.new.going ≡ goes_on result }
+        ensures cut { result ≡ RecordStep.ReadFault → AwaitsAt F.grammar self.new.place (pending self.new) }
         ensures cause { HasCause (S.faults source.old) (S.faults source.new) (result ≡ RecordStep.ReadFault) }
+        ensures name { S.name source.new ≡ S.name source.old }
     {
         let step = self.step::<F, S>(source, into);
         self.going = matches!(step, RecordStep::Carrying { .. } | RecordStep::Bare { .. });
@@ -85,7 +87,9 @@ impl PieceReader {
         ensures gives { (rest : List ℕ) → ahead self.old (S.left source.old) ≡ Some rest → Gives F.grammar result self.old.place rest self.new.place (ahead self.new (S.left source.new)) into.new }
         ensures moves { Moves F.grammar result self.old.place self.new.place }
         ensures behind { drop (length_given result) into.new ≡ drop (length_given result) into.old }
+        ensures cut { result ≡ RecordStep.ReadFault → AwaitsAt F.grammar self.new.place (pending self.new) }
         ensures cause { HasCause (S.faults source.old) (S.faults source.new) (result ≡ RecordStep.ReadFault) }
+        ensures name { S.name source.new ≡ S.name source.old }
     {
         if self.place != 0 {
             return self.next_record::<F, S>(source, into);
@@ -110,7 +114,9 @@ impl PieceReader {
         ensures gives { (rest : List ℕ) → ahead self.old (S.left source.old) ≡ Some rest → Gives F.grammar result self.old.place rest self.new.place (ahead self.new (S.left source.new)) into.new }
         ensures moves { Moves F.grammar result self.old.place self.new.place }
         ensures behind { drop (length_given result) into.new ≡ drop (length_given result) into.old }
+        ensures cut { result ≡ RecordStep.ReadFault → AwaitsAt F.grammar self.new.place (pending self.new) }
         ensures cause { HasCause (S.faults source.old) (S.faults source.new) (result ≡ RecordStep.ReadFault) }
+        ensures name { S.name source.new ≡ S.name source.old }
     {
         let found = self.find_record::<F, S>(source);
         self.take_record::<F>(found, into)
@@ -124,7 +130,8 @@ impl PieceReader {
         ensures gives { (rest : List ℕ) (left : Option (List ℕ)) → Finds F.grammar found self.old.place (pending self.old) rest left → Gives F.grammar result self.old.place rest self.new.place (ahead self.new left) into.new }
         ensures moves { Moves F.grammar result self.old.place self.new.place }
         ensures behind { drop (length_given result) into.new ≡ drop (length_given result) into.old }
-        ensures failed { result ≡ RecordStep.ReadFault → found ≡ Found.Failed }
+        ensures failed { result ≡ RecordStep.ReadFault ↔ (found ≡ Found.Failed) }
+        ensures kept { result ≡ RecordStep.ReadFault → self.new ≡ self.old }
     {
         match found {
             Found::Carrying { reading, length } => {
@@ -163,7 +170,9 @@ impl PieceReader {
         ensures place { self.new.place ≡ 0 }
         ensures whole { HeadIsPending result (pending self.new) }
         ensures finds { (rest : List ℕ) → ahead self.old (S.left source.old) ≡ Some rest → FindsHead F.grammar result (pending self.new) rest (S.left source.new) }
+        ensures cut { result ≡ HeadFound.Failed → AwaitsHead F.grammar (pending self.new) }
         ensures cause { HasCause (S.faults source.old) (S.faults source.new) (result ≡ HeadFound.Failed) }
+        ensures name { S.name source.new ≡ S.name source.old }
     {
         loop {
             if let Some(found) = head_found::<F>(self.pending()) {
@@ -182,7 +191,9 @@ impl PieceReader {
         ensures place { self.new.place ≡ self.old.place }
         ensures whole { IsPending F.grammar result (pending self.new) }
         ensures finds { (rest : List ℕ) → ahead self.old (S.left source.old) ≡ Some rest → Finds F.grammar result self.new.place (pending self.new) rest (S.left source.new) }
+        ensures cut { result ≡ Found.Failed → AwaitsRecord F.grammar self.new.place (pending self.new) }
         ensures cause { HasCause (S.faults source.old) (S.faults source.new) (result ≡ Found.Failed) }
+        ensures name { S.name source.new ≡ S.name source.old }
     {
         loop {
             if let Some(found) = record_found::<F>(self.pending()) {
@@ -202,7 +213,9 @@ impl PieceReader {
         ensures ahead { result ≡ None → ahead self.new (S.left source.new) ≡ ahead self.old (S.left source.old) }
         ensures whole { IfSome result (λ found. IsPending F.grammar found (pending self.new)) }
         ensures finds { IfSome result (λ found. (rest : List ℕ) → ahead self.old (S.left source.old) ≡ Some rest → Finds F.grammar found self.new.place (pending self.new) rest (S.left source.new)) }
+        ensures cut { result ≡ Some Found.Failed → AwaitsRecord F.grammar self.new.place (pending self.new) }
         ensures cause { HasCause (S.faults source.old) (S.faults source.new) (result ≡ Some Found.Failed) }
+        ensures name { S.name source.new ≡ S.name source.old }
     {
         if self.place + self.held() as u64 == LIMIT {
             return Some(self.find_past::<F, S>(source));
@@ -221,7 +234,9 @@ impl PieceReader {
         requires full { self.now.place + length (pending self.now) ≡ limit }
         ensures whole { IsPending F.grammar result (pending self.now) }
         ensures finds { (rest : List ℕ) → ahead self.now (S.left source.old) ≡ Some rest → Finds F.grammar result self.now.place (pending self.now) rest (S.left source.new) }
+        ensures cut { result ≡ Found.Failed → AwaitsRecord F.grammar self.now.place (pending self.now) }
         ensures cause { HasCause (S.faults source.old) (S.faults source.new) (result ≡ Found.Failed) }
+        ensures name { S.name source.new ≡ S.name source.old }
     {
         if 0 < self.held() {
             return Found::Refused(RecordKind::TooLarge);
@@ -240,6 +255,7 @@ impl PieceReader {
         ensures place { self.new.place ≡ self.old.place }
         ensures reads { ReadsOn result (pending self.old) (S.left source.old) (pending self.new) (S.left source.new) }
         ensures cause { HasCause (S.faults source.old) (S.faults source.new) (result ≡ ReadStep.Failed) }
+        ensures name { S.name source.new ≡ S.name source.old }
     {
         self.move_to_front();
         let most = LIMIT - self.place;

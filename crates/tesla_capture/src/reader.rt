@@ -1,81 +1,22 @@
 //! A capture read from a source, record after record.
 
-ghost use Rattle.std.specs.Prelude.{◌≡◌, ◌≤◌, [], List, ℕ, true, Some, drop};
+ghost use Rattle.std.specs.Prelude.{◌≡◌, ◌≤◌, List, ℕ, true, Some, drop};
 ghost use Rattle.tesla_desk.specs.Faults.{HasCause};
 ghost use Rattle.tesla_capture.specs.Capture.{capture, limit};
 ghost use Rattle.tesla_capture.specs.Reader.{pending, ahead, step_of};
+ghost use Rattle.tesla_capture.specs.Found.{AwaitsAt};
 ghost use Rattle.tesla_capture.specs.Steps.{Gives, Moves, length_given, goes_on};
 
 use crate::format::CaptureFormat;
-use crate::pieces::PieceReader;
 use crate::record::{RecordStep, Step};
-use std::marker::Model;
+use crate::record_reader::RecordReader;
 use tesla_desk::Source;
 
-/// Reads a capture of at most 2^40 bytes. It holds at most 4,096 bytes that it has read ahead.
-#[derive(Drop)]
-pub struct Reader {
-    records: PieceReader,
-}
+/// Reads a capture.
+pub type Reader = RecordReader<CaptureFormat>;
 
-impl Model for Reader {
-    ghost use Rattle.tesla_capture.specs.Steps.{Progress};
-    ghost use Rattle.tesla_capture.specs.Pieces.{progress};
-
-    ghost Value = { Progress };
-
-    ghost view = { λ reader. progress reader.records };
-}
-
-impl Reader {
-    /// A reader that has read nothing. It takes no memory.
-    pub fn new() -> Reader
-        ensures pending { pending result ≡ [] }
-        ensures place { result.place ≡ 0 }
-        ensures going { result.going ≡ true }
-    {
-        Reader {
-            records: PieceReader::at(0),
-        }
-    }
-
-    /// A reader that has nothing pending at a place.
-    #[cfg(test)]
-    pub(crate) fn at(place: u64) -> Reader
-        requires { place ≤ limit }
-    {
-        Reader {
-            records: PieceReader::at(place),
-        }
-    }
-
-    /// Whether the last step gave a record, or there was none yet.
-    pub fn going(&self) -> bool
-        ensures { result ≡ self.now.going }
-    {
-        self.records.going()
-    }
-
-    /// How many bytes were taken as whole records, with the head; 0 before the first step.
-    pub fn place(&self) -> u64
-        ensures value { result ≡ self.now.place }
-        ensures limited { result ≤ limit }
-    {
-        self.records.place()
-    }
-
-    /// The next record, whose datagram is put at the front of `into`, or why there is none. The source is
-    /// asked for more only while neither a whole record nor a refused place is pending, and for no byte
-    /// behind the first 2^40 but the one that tells whether the file goes on there. It takes no memory.
-    ///
-    /// `Refused` comes exactly where the file is no capture by the record at that place, `End` exactly where
-    /// it ends after a whole record or the head, and `ReadFault` only where the source's count of faults
-    /// rose.
-    ///
-    /// No byte is dropped: what isn't taken is pending, or left in the source. After a record that is all
-    /// behind it, after `End` nothing, and after `Refused` all from its place on, but for the byte that told
-    /// that the file goes on behind the limit. After `ReadFault` it is all that was ahead, less the head
-    /// where that was taken, as `place` tells. The bytes of `into` behind the datagram stay as they were.
+impl RecordReader<CaptureFormat> {
+    /// The next record, as `next_record` gives it: the datagram of an arrival is put at the front of `into`.
     pub fn next<S: Source>(&mut self, source: &mut S, into: &mut [u8; 2048]) -> Step
         requires going { self.old.going ≡ true }
         ensures gives { (rest : List ℕ) → ahead self.old (S.left source.old) ≡ Some rest → Gives capture (step_of result) self.old.place rest self.new.place (ahead self.new (S.left source.new)) into.new }
@@ -83,9 +24,11 @@ impl Reader {
         ensures behind { drop (length_given (step_of result)) into.new ≡ drop (length_given (step_of result)) into.old }
         ensures limited { self.new.place ≤ limit }
         ensures goes { self.new.going ≡ goes_on (step_of result) }
+        ensures cut { result ≡ Step.ReadFault → AwaitsAt capture self.new.place (pending self.new) }
         ensures cause { HasCause (S.faults source.old) (S.faults source.new) (result ≡ Step.ReadFault) }
+        ensures name { S.name source.new ≡ S.name source.old }
     {
-        match self.records.next::<CaptureFormat, S>(source, into) {
+        match self.next_record(source, into) {
             RecordStep::Carrying { reading, length } => Step::Arrival { reading, length },
             RecordStep::Bare { reading: _ } => Step::Take,
             RecordStep::End => Step::End,

@@ -1,6 +1,6 @@
 //! A capture made by hand, read, cut and damaged; beside it scripts, and what is written.
 
-ghost use Rattle.std.specs.Prelude.{◌<◌, Some};
+ghost use Rattle.std.specs.Prelude.{◌<◌, [], Some};
 
 use super::*;
 use tesla_desk::{ReadStep, Source};
@@ -45,6 +45,8 @@ impl<'a> Source for Pieces<'a> {
     ghost left = { λ it. Some it.bytes.now };
 
     ghost faults = { λ it. it.faults };
+
+    ghost name = { λ it. [] };
 
     fn read(&mut self, into: &mut [u8]) -> ReadStep {
         self.calls = self.calls.saturating_add(1);

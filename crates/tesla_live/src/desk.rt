@@ -45,24 +45,23 @@ impl<'a, R: Files + Print + AllocGlobal> Desk for LiveDesk<'a, R> {
 
     type Out = FileSink<'a, R>;
 
-    ghost told = { λ desk. record { page = λ _. Untold; faults = record { reads = desk.reads; writes = desk.writes; openings = desk.openings }; openings = None } };
+    ghost told = { λ desk. record { page = λ _. Untold; left = λ _. None; faults = record { reads = desk.reads; writes = desk.writes; openings = desk.openings }; openings = None } };
 
     fn open_source(&mut self, name: &str) -> Result<FileSource<R::File>, OpenRefusal> {
+        let source_name = Text::new(self.rt.alloc(), name.as_bytes())?;
         match self.opened.open(self.rt, name) {
-            Ok(file) => Ok(FileSource::new(file)),
+            Ok(file) => Ok(FileSource::new(source_name, file)),
             Err(error) => Err(refusal_of(&mut self.openings, error)),
         }
     }
 
     fn open_sink(&mut self, name: &str) -> Result<FileSink<'a, R>, OpenRefusal> {
-        let Ok(own_name) = Text::new(self.rt.alloc(), name.as_bytes()) else {
-            return Err(OpenRefusal::NoMemory);
-        };
+        let sink_name = Text::new(self.rt.alloc(), name.as_bytes())?;
         if name == CONSOLE {
-            return Ok(FileSink::new(own_name, Target::Console(self.rt)));
+            return Ok(FileSink::new(sink_name, Target::Console(self.rt)));
         }
         match self.opened.create(self.rt, name) {
-            Ok(file) => Ok(FileSink::new(own_name, Target::File(file))),
+            Ok(file) => Ok(FileSink::new(sink_name, Target::File(file))),
             Err(error) => Err(refusal_of(&mut self.openings, error)),
         }
     }
