@@ -1,0 +1,4 @@
+pub mod Rule
+pub mod Records
+pub mod Held
+pub mod Steps

@@ -1,0 +1,114 @@
+-- What the inner steps of a conversion come to.
+use Rattle.std.specs.Prelude.{◌≡◌, ◌⊎◌, ℕ, ◌<◌, ◌≤◌, true, Option, Some, None, Result, Ok, Err, List, [], ◌∷◌, ◌++◌}
+use Rattle.tesla_capture.specs.Grammar.{Grammar, limit}
+use Rattle.tesla_capture.specs.Records.{outline_of, record_place}
+use Rattle.tesla_capture.specs.Steps.{Progress}
+use Rattle.tesla_capture.specs.Taken.{HoldsNoRefusal, IsTaken}
+use Rattle.tesla_desk.specs.Outside.{AppendsPrefix, with_bytes}
+use Rattle.tesla_convert.specs.Held.{HoldsText, HoldsPrefix}
+use Rattle.tesla_convert.specs.Rule.{Behind, Made, Rule, made, made_of, made_so_far, with_text}
+use Rattle.tesla_convert.specs.declared.converter.Converted.{Converted}
+use Rattle.tesla_convert.specs.declared.converter.Converted.TheVariants as conversions
+use Rattle.tesla_convert.specs.declared.converter.Converted.TheVariants.{Whole, WriteFault}
+use Rattle.tesla_convert.specs.declared.conversion.Ending.{Ending}
+use Rattle.tesla_convert.specs.declared.conversion.Ending.TheVariants.{End, Refused}
+use Rattle.tesla_convert.specs.declared.conversion.Stopped.{Stopped}
+use Rattle.tesla_convert.specs.declared.conversion.Stopped.TheVariants.{Read, Write}
+
+-- these first records of a file were converted, and the rest of it isn't taken yet
+pub record IsAt (G : Grammar) (Kind : Type 0) (rule : Rule G Kind) (Has : List G.Record → Type 0) (bytes : List ℕ) (place : ℕ) (ahead written : Option (List ℕ)) (held : List ℕ) : Type 0 where
+  pub records : List G.Record
+  pub rest : List ℕ
+  pub text : List ℕ
+  pub ahead_is : ahead ≡ Some rest
+  pub taken : IsTaken G bytes records place rest
+  -- none of them is refused, and this is written of them
+  pub passed : (behind : Behind Kind) (more : List G.Record) → made_of G Kind rule behind 5 [] (records ++ more) ≡ with_text text (made_of G Kind rule behind (record_place place) records more)
+  pub has : Has records
+  pub holds : HoldsText written held (rule.begins ++ text)
+
+-- the offset rose, within the limit, and the reader goes on
+pub record GoesUp (old new : Progress) : Type 0 where
+  pub rises : old.place < new.place
+  pub limited : new.place ≤ limit
+  pub going : new.going ≡ true
+
+-- the records of the file were converted to its end, and its end isn't taken yet
+pub record IsAtEnd (G : Grammar) (Kind : Type 0) (rule : Rule G Kind) (Has : List G.Record → Type 0) (bytes : List ℕ) (written : Option (List ℕ)) (held : List ℕ) : Type 0 where
+  pub text : List ℕ
+  pub has : Has (outline_of G bytes).records
+  pub made_is : made G Kind rule bytes ≡ record { text = text ++ rule.ends (outline_of G bytes).records; refused = None }
+  pub holds : HoldsText written held text
+
+-- the records of the file were converted, and this is the first place that is refused, or none is and its end was taken
+pub record IsMade (G : Grammar) (Kind : Type 0) (rule : Rule G Kind) (refused : Option (ℕ × Kind)) (bytes : List ℕ) (written : Option (List ℕ)) (held : List ℕ) : Type 0 where
+  pub refused_is : (made G Kind rule bytes).refused ≡ refused
+  pub holds : HoldsText written held (made G Kind rule bytes).text
+
+-- a read failed: what was read of the file before holds no refused place, no record of that is refused, and all of it was converted
+pub record IsCutOff (G : Grammar) (Kind : Type 0) (rule : Rule G Kind) (bytes : List ℕ) (left written : Option (List ℕ)) (held : List ℕ) : Type 0 where
+  pub read : List ℕ
+  pub rest : List ℕ
+  pub left_is : left ≡ Some rest
+  pub parts : bytes ≡ read ++ rest
+  pub none : HoldsNoRefusal G read
+  pub taken : (made_so_far G Kind rule read).refused ≡ None
+  pub holds : HoldsText written held (made_so_far G Kind rule read).text
+
+-- the next record was converted, or there was none, or it is refused, or the conversion stopped
+abbrev pub StepsTo : (G : Grammar) (Kind : Type 0) → Rule G Kind → (List G.Record → Type 0) → Result (Option (Ending Kind)) Stopped → List ℕ → ℕ → Option (List ℕ) → Option (List ℕ) → Option (List ℕ) → List ℕ → Type 0
+StepsTo G Kind rule Has (Ok None) bytes place ahead left written held = IsAt G Kind rule Has bytes place ahead written held
+StepsTo G Kind rule Has (Ok (Some End)) bytes place ahead left written held = IsAtEnd G Kind rule Has bytes written held
+StepsTo G Kind rule Has (Ok (Some (Refused place kind))) bytes now ahead left written held = IsMade G Kind rule (Some (place, kind)) bytes written held
+StepsTo G Kind rule Has (Err Read) bytes place ahead left written held = IsCutOff G Kind rule bytes left written held
+StepsTo G Kind rule Has (Err Write) bytes place ahead left written held = HoldsPrefix written [] (made G Kind rule bytes).text
+
+-- all records were converted
+abbrev pub RecordsTo : (G : Grammar) (Kind : Type 0) → Rule G Kind → (List G.Record → Type 0) → Result (Ending Kind) Stopped → List ℕ → Option (List ℕ) → Option (List ℕ) → List ℕ → Type 0
+RecordsTo G Kind rule Has (Ok End) bytes left written held = IsAtEnd G Kind rule Has bytes written held
+RecordsTo G Kind rule Has (Ok (Refused place kind)) bytes left written held = IsMade G Kind rule (Some (place, kind)) bytes written held
+RecordsTo G Kind rule Has (Err Read) bytes left written held = IsCutOff G Kind rule bytes left written held
+RecordsTo G Kind rule Has (Err Write) bytes left written held = HoldsPrefix written [] (made G Kind rule bytes).text
+
+-- the file was converted to its end
+abbrev pub AllTo : (G : Grammar) (Kind : Type 0) → Rule G Kind → (List G.Record → Type 0) → Result (Ending Kind) Stopped → List ℕ → Option (List ℕ) → Option (List ℕ) → List ℕ → Type 0
+AllTo G Kind rule Ended (Ok End) bytes left written held = Ended (outline_of G bytes).records × IsMade G Kind rule None bytes written held
+AllTo G Kind rule Ended (Ok (Refused place kind)) bytes left written held = IsMade G Kind rule (Some (place, kind)) bytes written held
+AllTo G Kind rule Ended (Err Read) bytes left written held = IsCutOff G Kind rule bytes left written held
+AllTo G Kind rule Ended (Err Write) bytes left written held = HoldsPrefix written [] (made G Kind rule bytes).text
+
+-- what is held was written at last, to a sink on which so many writes failed then: a failed read stays, and what was held is written or the sink failed; else a failed write is one, and after one nothing more is written
+abbrev pub Settles : {A : Type 0} → Result A Stopped → Result A Stopped → Option (List ℕ) → Option (List ℕ) → List ℕ → ℕ → Type 0
+Settles (Ok ending) (Ok other) before now held failed = (other ≡ ending) × (now ≡ with_bytes before held)
+Settles (Ok ending) (Err stopped) before now held failed = (stopped ≡ Write) × AppendsPrefix before now held
+Settles (Err Read) settled before now held failed = (settled ≡ Err Read) × ((now ≡ with_bytes before held) ⊎ ((0 < failed) × AppendsPrefix before now held))
+Settles (Err Write) settled before now held failed = (settled ≡ Err Write) × (now ≡ before)
+
+-- a read failed, and what was made before is written, or the output failed
+pub record IsWrittenSoFar (G : Grammar) (Kind : Type 0) (rule : Rule G Kind) (bytes : List ℕ) (left written : Option (List ℕ)) (failed : ℕ) : Type 0 where
+  pub read : List ℕ
+  pub rest : List ℕ
+  pub left_is : left ≡ Some rest
+  pub parts : bytes ≡ read ++ rest
+  pub none : HoldsNoRefusal G read
+  pub taken : (made_so_far G Kind rule read).refused ≡ None
+  pub written_is : HoldsText written [] (made_so_far G Kind rule read).text ⊎ ((0 < failed) × HoldsPrefix written [] (made_so_far G Kind rule read).text)
+
+-- the file was converted, and what was made of it is written
+abbrev pub Converts : (G : Grammar) (Kind : Type 0) → Rule G Kind → (List G.Record → Type 0) → Result (Ending Kind) Stopped → List ℕ → Option (List ℕ) → Option (List ℕ) → ℕ → Type 0
+Converts G Kind rule Ended (Ok End) bytes left written failed = Ended (outline_of G bytes).records × IsMade G Kind rule None bytes written []
+Converts G Kind rule Ended (Ok (Refused place kind)) bytes left written failed = IsMade G Kind rule (Some (place, kind)) bytes written []
+Converts G Kind rule Ended (Err Read) bytes left written failed = IsWrittenSoFar G Kind rule bytes left written failed
+Converts G Kind rule Ended (Err Write) bytes left written failed = HoldsPrefix written [] (made G Kind rule bytes).text
+
+-- on a sink so many writes failed: none did, unless a failed write is what came
+abbrev pub SoundFor : {A : Type 0} → Result A Stopped → ℕ → Type 0
+SoundFor (Ok x) failed = failed ≡ 0
+SoundFor (Err Read) failed = failed ≡ 0
+SoundFor (Err Write) failed = 0 < failed
+
+-- after a record that was converted there may be more; one that is refused ends the file at its offset
+abbrev pub ending_at : {Kind : Type 0} → ℕ → Converted Kind → Result (Option (Ending Kind)) Stopped
+ending_at place Whole = Ok None
+ending_at place (conversions.Refused kind) = Ok (Some (Refused place kind))
+ending_at place WriteFault = Err Write
