@@ -70,6 +70,24 @@ fn a_file_that_was_opened_is_not_written_under_any_name(rt: HostRuntime) -> Resu
 }
 
 #[test]
+fn a_copy_of_an_opened_file_is_another_file_and_is_emptied(rt: HostRuntime) -> Result<(), Fail> {
+    let (name, copy) = ("copied_by_a_test", "copy_by_a_test");
+    fs::write(&rt, name, "the capture")?;
+    fs::write(&rt, copy, "the capture")?;
+    let mut desk = LiveDesk::new(&rt);
+    let mut buffer = [0u8; 8];
+    let read = read_once(&mut desk, name, &mut buffer);
+    let written = write_page(&mut desk, copy, b"");
+    let held = fs::read(&rt, copy);
+    fs::remove_file(&rt, copy)?;
+    fs::remove_file(&rt, name)?;
+    assert_eq!(rt; read, Ok(ReadStep::Got(8)));
+    assert_eq!(rt; written, Ok(true));
+    assert_eq!(rt; held?.as_slice(), b"".as_slice());
+    Ok(())
+}
+
+#[test]
 fn the_console_prints_what_is_written(rt: HostRuntime) -> Result<(), Fail> {
     let recording = Recording::new(&rt);
     let mut desk = LiveDesk::new(&recording);
