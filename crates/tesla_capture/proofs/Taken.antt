@@ -1,12 +1,14 @@
 -- Records that are taken from the front of a file one after another, and the place where a read fails.
-use Rattle.std.proofs.Common.{◌≡◌, ◌∙◌, ℕ, zero, suc, ◌+◌, ◌<◌, List, [], ◌∷◌, ◌++◌, length, Option, refl, sym, ap, subst, arith, append_assoc, append-nil, length-append, inl, inr}
+use Rattle.std.proofs.Common.{◌≡◌, ◌∙◌, ℕ, zero, suc, ◌+◌, ◌<◌, List, [], ◌∷◌, ◌++◌, length, Option, Some, refl, sym, ap, subst, arith, append_assoc, append-nil, length-append, inl, inr}
 use Rattle.std.proofs.lemmas.List.{append_cancel_right, nil_from_length}
+use Rattle.tesla_base.proofs.Fronts.{some_is}
+use Rattle.tesla_desk.specs.Outside.{after_bytes}
 use Rattle.tesla_capture.specs.Grammar.{Grammar}
 use Rattle.tesla_capture.specs.Formats.{IsGrammar}
 use Rattle.tesla_capture.specs.Found.{AwaitsHead, AwaitsRecord, AwaitsAt}
 use Rattle.tesla_capture.specs.Records.{AtEnd, Recorded, Refuses, Outline, next_at, outline_of, outline_at, with_records}
-use Rattle.tesla_capture.specs.Steps.{GivesRecord, TakesNoRecord}
-use Rattle.tesla_capture.specs.Taken.{IsTaken, IsAtMostCut, HoldsNoRefusal}
+use Rattle.tesla_capture.specs.Steps.{GivesRecord, LeavesFrom, TakesNoRecord}
+use Rattle.tesla_capture.specs.Taken.{IsTaken, IsAtMostCut, HoldsNoRefusal, IsReadUpTo}
 use Rattle.tesla_capture.specs.declared.record.RecordKind.TheVariants.{Truncated}
 use Rattle.tesla_capture.proofs.NextRecord.{next_from, none_ends}
 use Rattle.tesla_capture.proofs.OutlineStep.{one_step}
@@ -101,3 +103,12 @@ module _ (G : Grammar) (is : IsGrammar G) where
       let same : read ≡ taken.front ++ pending =
       append_cancel_right read (taken.front ++ pending) left (sym whole ∙ taken.whole ∙ ap (λ (r : List ℕ). taken.front ++ r) parts ∙ sym (append_assoc taken.front pending left)) in
       subst (λ (b : List ℕ). HoldsNoRefusal G b × ((outline_of G b).records ≡ records)) (sym same) (front_cut bytes records place rest pending taken awaits)
+
+  -- where a step found that a read failed, the file was read up to what its source has left
+  pub fault_taken : (bytes : List ℕ) (records : List G.Record) (place : ℕ) (rest : List ℕ) (now : ℕ) (pending : List ℕ) (left : Option (List ℕ)) (behind : List ℕ) → IsTaken G bytes records place rest → LeavesFrom G 0 place rest now (after_bytes pending left) → AwaitsAt G now pending → left ≡ Some behind → IsReadUpTo G bytes behind records
+  fault_taken bytes records place rest now pending left behind taken (after, told, none) awaits is =
+      let here = head_taken bytes records place rest now after taken none in
+      let parts : after ≡ pending ++ behind = some_is after (pending ++ behind) (sym told ∙ ap (after_bytes pending) is) in
+      let whole : bytes ≡ (here.front ++ pending) ++ behind = here.whole ∙ ap (λ (r : List ℕ). here.front ++ r) parts ∙ sym (append_assoc here.front pending behind) in
+      let cut = cut_taken bytes records now after pending (here.front ++ pending) behind here awaits parts whole in
+      record { read = here.front ++ pending; whole = whole; unrefused = cut.0; records_are = cut.1 }

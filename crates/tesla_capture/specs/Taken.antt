@@ -21,3 +21,10 @@ IsAtMostCut (Some fault) = fault.1 ≡ Truncated
 -- the bytes hold no refused place: they are a part of the head, or at most their last record isn't whole, so that a longer file may go on
 abbrev pub HoldsNoRefusal : Grammar → List ℕ → Type 0
 HoldsNoRefusal G bytes = AwaitsHead G bytes ⊎ IsAtMostCut (outline_of G bytes).fault
+
+-- the file was read up to what is left of it: what was read holds no refused place, and its whole records are these
+pub record IsReadUpTo (G : Grammar) (bytes left : List ℕ) (records : List G.Record) : Type 0 where
+  pub read : List ℕ
+  pub whole : bytes ≡ read ++ left
+  pub unrefused : HoldsNoRefusal G read
+  pub records_are : (outline_of G read).records ≡ records

@@ -6,12 +6,14 @@ ghost use Rattle.tesla_capture.specs.Capture.{capture};
 ghost use Rattle.tesla_capture.specs.Script.{script};
 ghost use Rattle.tesla_capture.specs.Formats.{IsGrammar, capture_is, script_is};
 
+use crate::sizes::{HEAD_SIZE, LONGEST_DATAGRAM, LONGEST_PAYLOAD};
+
 /// What one format has of its own.
 pub trait Format {
     ghost grammar: { Grammar };
 
     /// The first bytes of every file: the magic, and the version.
-    fn head() -> [u8; 5]
+    fn head() -> [u8; HEAD_SIZE]
         ensures { result ≡ grammar.head };
 
     /// How many bytes a record of kind 1 carries at most.
@@ -34,12 +36,12 @@ impl Format for CaptureFormat {
 
     ghost is = { capture_is };
 
-    fn head() -> [u8; 5] {
+    fn head() -> [u8; HEAD_SIZE] {
         *b"TCAP\x01"
     }
 
     fn longest() -> u16 {
-        2048
+        LONGEST_DATAGRAM as u16
     }
 
     fn timed() -> bool {
@@ -56,12 +58,12 @@ impl Format for ScriptFormat {
 
     ghost is = { script_is };
 
-    fn head() -> [u8; 5] {
+    fn head() -> [u8; HEAD_SIZE] {
         *b"TSCR\x01"
     }
 
     fn longest() -> u16 {
-        1200
+        LONGEST_PAYLOAD as u16
     }
 
     fn timed() -> bool {

@@ -5,6 +5,7 @@ ghost use Rattle.tesla_capture.specs.Found.{Tells, TellsHead, bare_size};
 
 use crate::format::Format;
 use crate::record::RecordKind;
+use crate::sizes::{HEAD_SIZE, TIMED_SIZE};
 use tesla_base::{take_u16, take_u64};
 
 /// What was found at the place of a record.
@@ -38,13 +39,13 @@ pub fn head_found<F: Format>(bytes: &[u8]) -> Option<HeadFound>
     ensures { TellsHead F.grammar result bytes.now }
 {
     let head = F::head();
-    if bytes.len() < 5 {
+    if bytes.len() < HEAD_SIZE {
         if bytes == &head[..bytes.len()] {
             None
         } else {
             Some(HeadFound::Bad)
         }
-    } else if &bytes[..5] == head.as_slice() {
+    } else if &bytes[..HEAD_SIZE] == head.as_slice() {
         Some(HeadFound::Whole)
     } else {
         Some(HeadFound::Bad)
@@ -74,7 +75,7 @@ fn carrying_found<F: Format>(rest: &[u8]) -> Option<Found>
 pub fn size_of_bare<F: Format>() -> usize
     ensures { result ≡ bare_size F.grammar.timed }
 {
-    if F::timed() { 9 } else { 1 }
+    if F::timed() { TIMED_SIZE } else { 1 }
 }
 
 /// A record of kind 2 behind its kind.

@@ -17,7 +17,7 @@ const PIECE: usize = 8192;
 /// Whole records that aren't written yet, at most 8,192 bytes of them.
 #[derive(Drop)]
 pub struct Gatherer {
-    piece: [u8; 8192],
+    piece: [u8; PIECE],
     length: usize,
     ghost within: { length ≤ 8192 },
 }
@@ -30,7 +30,7 @@ impl Gatherer {
         ensures { gathered result ≡ [] }
     {
         Gatherer {
-            piece: [0; 8192],
+            piece: [0; PIECE],
             length: 0,
         }
     }

@@ -2,15 +2,16 @@
 
 ghost use Rattle.std.specs.Prelude.{◌≡◌, [], ◌∷◌, ◌++◌, List, ℕ, Option, Some, None};
 ghost use Rattle.tesla_base.specs.Front.{AreBytes};
+ghost use Rattle.tesla_desk.specs.Outside.{after_bytes};
 ghost use Rattle.tesla_capture.specs.Grammar.{IsFile};
 ghost use Rattle.tesla_capture.specs.Capture.{Record, IsCapture, capture};
 ghost use Rattle.tesla_capture.specs.Script.{Record as ScriptRecord, IsScript, script};
 ghost use Rattle.tesla_capture.specs.Outline.{AtEnd, Recorded, Refuses, next_at, outline_of, outline_at, with_record};
 ghost use Rattle.tesla_capture.specs.Records as files;
 ghost use Rattle.tesla_capture.specs.Refused.{IsRefused};
-ghost use Rattle.tesla_capture.specs.Steps.{GivesRecord, TakesNoRecord};
+ghost use Rattle.tesla_capture.specs.Steps.{GivesRecord, LeavesFrom, TakesNoRecord};
 ghost use Rattle.tesla_capture.specs.Found.{AwaitsAt};
-ghost use Rattle.tesla_capture.specs.Taken.{IsTaken, HoldsNoRefusal};
+ghost use Rattle.tesla_capture.specs.Taken.{IsTaken, HoldsNoRefusal, IsReadUpTo};
 ghost use Rattle.tesla_capture.specs.declared.record.RecordKind.{RecordKind};
 
 use crate::format::{CaptureFormat, Format, ScriptFormat};
@@ -50,6 +51,8 @@ pub fn taken<F: Format>()
     ensures outline { (bytes : List ℕ) (records : List F.grammar.Record) (place : ℕ) (rest : List ℕ) → IsTaken F.grammar bytes records place rest → files.outline_of F.grammar bytes ≡ files.with_records records (files.outline_at F.grammar place rest) }
     // Where a read failed, what was read holds no refused place, and its whole records are those that were taken.
     ensures cut { (bytes : List ℕ) (records : List F.grammar.Record) (place : ℕ) (rest pending read left : List ℕ) → IsTaken F.grammar bytes records place rest → AwaitsAt F.grammar place pending → rest ≡ pending ++ left → bytes ≡ read ++ left → HoldsNoRefusal F.grammar read × ((files.outline_of F.grammar read).records ≡ records) }
+    // So it is where a step tells that a read failed.
+    ensures fault { (bytes : List ℕ) (records : List F.grammar.Record) (place : ℕ) (rest : List ℕ) (now : ℕ) (pending : List ℕ) (left : Option (List ℕ)) (behind : List ℕ) → IsTaken F.grammar bytes records place rest → LeavesFrom F.grammar 0 place rest now (after_bytes pending left) → AwaitsAt F.grammar now pending → left ≡ Some behind → IsReadUpTo F.grammar bytes behind records }
 {}
 
 /// The outline of a file is its capture, and each capture has one spelling; of a file that is none it has

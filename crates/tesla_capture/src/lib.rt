@@ -10,6 +10,7 @@ mod reader;
 mod record;
 mod record_reader;
 mod script;
+mod sizes;
 mod writing;
 
 pub use format::{CaptureFormat, Format, ScriptFormat};
@@ -18,6 +19,7 @@ pub use reader::Reader;
 pub use record::{RecordKind, RecordStep, ScriptStep, Step};
 pub use record_reader::RecordReader;
 pub use script::ScriptReader;
+pub use sizes::{LONGEST_DATAGRAM, LONGEST_PAYLOAD};
 pub use tesla_base::Head;
 pub use writing::{write_arrival, write_head, write_record, write_take};
 

@@ -7,6 +7,7 @@ ghost use Rattle.tesla_capture.specs.Grammar.{limit};
 use crate::format::Format;
 use crate::found::{Found, HeadFound, head_found, record_found, size_of_bare};
 use crate::record::{RecordKind, RecordStep};
+use crate::sizes::{CARRYING_SIZE, HEAD_SIZE};
 use tesla_desk::{ReadStep, Source};
 
 /// How many bytes a reader holds at most, and asks for at once.
@@ -18,7 +19,7 @@ const LIMIT: u64 = 1 << 40;
 /// Reads a file of at most 2^40 bytes. It holds at most 4,096 bytes that it has read ahead.
 #[derive(Drop)]
 pub struct PieceReader {
-    piece: [u8; 4096],
+    piece: [u8; PIECE],
     from: usize,
     until: usize,
     place: u64,
@@ -41,7 +42,7 @@ impl PieceReader {
         ensures going { result.going ≡ true }
     {
         PieceReader {
-            piece: [0; 4096],
+            piece: [0; PIECE],
             from: 0,
             until: 0,
             place,
@@ -96,7 +97,7 @@ impl PieceReader {
         }
         match self.find_head::<F, S>(source) {
             HeadFound::Whole => {
-                self.advance(5);
+                self.advance(HEAD_SIZE);
                 self.next_record::<F, S>(source, into)
             }
             HeadFound::Bad => RecordStep::Refused {
@@ -160,8 +161,8 @@ impl PieceReader {
         ensures behind { drop count into.new ≡ drop count into.old }
         ensures place { self.new.place ≡ self.old.place + (11 + count) }
     {
-        into[..count].copy_from_slice(&self.pending()[11..11 + count]);
-        self.advance(11 + count);
+        into[..count].copy_from_slice(&self.pending()[CARRYING_SIZE..CARRYING_SIZE + count]);
+        self.advance(CARRYING_SIZE + count);
     }
 
     /// Reads on until it is known whether the head is there.
@@ -259,7 +260,11 @@ impl PieceReader {
     {
         self.move_to_front();
         let most = LIMIT - self.place;
-        let end = if most < 4096 { most as usize } else { PIECE };
+        let end = if most < PIECE as u64 {
+            most as usize
+        } else {
+            PIECE
+        };
         let until = self.until;
         let step = source.read(&mut self.piece[until..end]);
         if let ReadStep::Got(count) = step {

@@ -11,6 +11,7 @@ ghost use Rattle.tesla_capture.specs.Steps.{Gives, Moves, length_given, goes_on}
 use crate::format::ScriptFormat;
 use crate::record::{RecordStep, ScriptStep};
 use crate::record_reader::RecordReader;
+use crate::sizes::LONGEST_PAYLOAD;
 use tesla_desk::Source;
 
 /// Reads a script.
@@ -18,7 +19,11 @@ pub type ScriptReader = RecordReader<ScriptFormat>;
 
 impl RecordReader<ScriptFormat> {
     /// The next record, as `next_record` gives it: the payload of a message is put at the front of `into`.
-    pub fn next<S: Source>(&mut self, source: &mut S, into: &mut [u8; 1200]) -> ScriptStep
+    pub fn next<S: Source>(
+        &mut self,
+        source: &mut S,
+        into: &mut [u8; LONGEST_PAYLOAD],
+    ) -> ScriptStep
         requires going { self.old.going ≡ true }
         ensures gives { (rest : List ℕ) → ahead self.old (S.left source.old) ≡ Some rest → Gives script (script_step_of result) self.old.place rest self.new.place (ahead self.new (S.left source.new)) into.new }
         ensures moves { Moves script (script_step_of result) self.old.place self.new.place }

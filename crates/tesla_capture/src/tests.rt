@@ -71,7 +71,7 @@ impl<'a> Source for Pieces<'a> {
 /// The step after the first `count` ones, or the first that is no record.
 fn step_after<S: Source>(source: &mut S, count: usize) -> Step {
     let mut reader = Reader::new();
-    let mut into = [0; 2048];
+    let mut into = [0; LONGEST_DATAGRAM];
     let mut step = reader.next(source, &mut into);
     for _ in 0..count {
         if reader.going() {
@@ -94,7 +94,7 @@ fn refused(place: u64, kind: RecordKind) -> Step {
 /// Whether the reader gives the records of the capture, and its end.
 fn reads_capture<S: Source>(source: &mut S) -> bool {
     let mut reader = Reader::new();
-    let mut into = [0; 2048];
+    let mut into = [0; LONGEST_DATAGRAM];
     let first = reader.next(source, &mut into);
     if first
         != (Step::Arrival {
@@ -201,7 +201,7 @@ fn few_reads(rt: HostRuntime) {
 fn step_before_limit(gap: u64, count: usize, bytes: &[u8]) -> (Step, usize) {
     let mut source = Pieces::new(bytes);
     let mut reader = Reader::at(LIMIT.saturating_sub(gap));
-    let mut into = [0; 2048];
+    let mut into = [0; LONGEST_DATAGRAM];
     let mut step = Step::End;
     for _ in 0..count {
         if reader.going() {

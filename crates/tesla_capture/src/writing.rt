@@ -8,6 +8,7 @@ ghost use Rattle.tesla_capture.specs.Capture.{head as capture_head, record_text,
 ghost use Rattle.tesla_capture.specs.Release.{head_text, release_text};
 
 use crate::format::{CaptureFormat, Format};
+use crate::sizes::{CARRYING_SIZE, RELEASE_HEAD_SIZE};
 use tesla_base::Head;
 use tesla_desk::{Sink, write_all};
 
@@ -25,10 +26,10 @@ fn write_both<S: Sink>(sink: &mut S, front: &[u8], back: &[u8]) -> bool
 }
 
 /// The fields of a record of a released packet before its payload.
-pub(crate) fn head_bytes(head: &Head) -> [u8; 17]
+pub(crate) fn head_bytes(head: &Head) -> [u8; RELEASE_HEAD_SIZE]
     ensures { result ≡ head_text head.now }
 {
-    let mut bytes = [0; 17];
+    let mut bytes = [0; RELEASE_HEAD_SIZE];
     bytes[..8].copy_from_slice(&head.position.to_be_bytes());
     bytes[8..12].copy_from_slice(&head.interval.to_be_bytes());
     bytes[12..14].copy_from_slice(&head.number.to_be_bytes());
@@ -38,10 +39,10 @@ pub(crate) fn head_bytes(head: &Head) -> [u8; 17]
 }
 
 /// The fields of an arrival before its bytes.
-pub(crate) fn arrival_bytes(reading: u64, length: u16) -> [u8; 11]
+pub(crate) fn arrival_bytes(reading: u64, length: u16) -> [u8; CARRYING_SIZE]
     ensures { result ≡ 1 ∷ [] ++ to_be_bytes w64 reading ++ to_be_bytes w16 length }
 {
-    let mut bytes = [1; 11];
+    let mut bytes = [1; CARRYING_SIZE];
     bytes[1..9].copy_from_slice(&reading.to_be_bytes());
     bytes[9..].copy_from_slice(&length.to_be_bytes());
     bytes

@@ -1,7 +1,7 @@
 //! A script, read, cut and damaged.
 
 use super::{LIMIT, Pieces};
-use crate::{RecordKind, ScriptReader, ScriptStep};
+use crate::{LONGEST_PAYLOAD, RecordKind, ScriptReader, ScriptStep};
 use tesla_desk::Source;
 
 /// A message "e" at 1,850,000, and a disclosure at 2,350,000.
@@ -14,7 +14,7 @@ const SCRIPT: [u8; 26] = [
 /// Whether the reader gives the records of the script, and its end.
 fn reads_script<S: Source>(source: &mut S) -> bool {
     let mut reader = ScriptReader::new();
-    let mut into = [0; 1200];
+    let mut into = [0; LONGEST_PAYLOAD];
     let message = ScriptStep::Message {
         reading: 1_850_000,
         length: 1,
@@ -42,7 +42,7 @@ fn records_of_a_script(rt: HostRuntime) {
 /// The first step from a place on that is no record.
 fn last(mut reader: ScriptReader, bytes: &[u8]) -> ScriptStep {
     let mut source = Pieces::new(bytes);
-    let mut into = [0; 1200];
+    let mut into = [0; LONGEST_PAYLOAD];
     let mut step = ScriptStep::End;
     for _ in 0..3 {
         if reader.going() {

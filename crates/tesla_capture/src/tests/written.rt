@@ -4,7 +4,8 @@ ghost use Rattle.std.specs.Prelude.{◌≤◌, [], Some, take};
 
 use super::CAPTURE;
 use crate::{
-    Gatherer, Head, RecordKind, laws, write_arrival, write_head, write_record, write_take,
+    CaptureFormat, Gatherer, Head, RecordKind, ScriptFormat, laws, write_arrival, write_head,
+    write_record, write_take,
 };
 use std::test::Fail;
 use tesla_base::Kind;
@@ -30,6 +31,8 @@ fn laws_are_called(_rt: HostRuntime) {
     laws::outlines();
     laws::scripts();
     laws::script_outlines();
+    laws::taken::<CaptureFormat>();
+    laws::taken::<ScriptFormat>();
 }
 
 #[test]

@@ -1,4 +1,4 @@
-use Rattle.tesla_capture.proofs.Taken.{none_taken, given_taken, head_taken, taken_outline, cut_taken}
+use Rattle.tesla_capture.proofs.Taken.{none_taken, given_taken, head_taken, taken_outline, cut_taken, fault_taken}
 use Rattle.tesla_capture.proofs.laws.taken.Goals as goal
 
 pub returns-clause-none : goal.returns-clause-none
@@ -15,3 +15,6 @@ returns-clause-outline g c = taken_outline g.F.Format.grammar g.met.F.Format.is
 
 pub returns-clause-cut : goal.returns-clause-cut
 returns-clause-cut g c = cut_taken g.F.Format.grammar g.met.F.Format.is
+
+pub returns-clause-fault : goal.returns-clause-fault
+returns-clause-fault g c = fault_taken g.F.Format.grammar g.met.F.Format.is

@@ -1,0 +1,19 @@
+//! How many bytes the parts of files have.
+
+/// The head of every file: the magic, and the version.
+pub const HEAD_SIZE: usize = 5;
+
+/// The fields of a record of kind 1 before the bytes that it carries: its kind, its reading, and their number.
+pub const CARRYING_SIZE: usize = 11;
+
+/// A record of kind 2 that has a reading: its kind, and the reading.
+pub const TIMED_SIZE: usize = 9;
+
+/// The fields of a release record before its payload.
+pub const RELEASE_HEAD_SIZE: usize = 17;
+
+/// The datagram of an arrival, at most.
+pub const LONGEST_DATAGRAM: usize = 2048;
+
+/// The payload of a message, at most.
+pub const LONGEST_PAYLOAD: usize = 1200;
