@@ -3,7 +3,9 @@
 
 mod conversion;
 mod converter;
+mod files;
 mod settling;
 
 pub use conversion::{Conversion, Ending, Stopped};
 pub use converter::{Converted, Converter, TakenRecord};
+pub use files::{close_files, open_files};

@@ -1,0 +1,83 @@
+-- What a command that makes one file of another comes to, and what it writes, told as functions of the input's bytes.
+use Rattle.std.specs.Prelude.{◌≡◌, ◌≢◌, ◌⊎◌, ℕ, ◌<◌, ◌≤◌, Option, Some, IfSome, List, [], ◌++◌}
+use Rattle.tesla_desk.specs.Outside.{Page, Absent, Holds}
+use Rattle.tesla_front.specs.Came.{Came, Done, Refused, Failed}
+use Rattle.tesla_front.specs.Files.{HoldsWhere, HasFailed, IsPrefix}
+use Rattle.tesla_front.specs.Openings.{File}
+use Rattle.tesla_front.specs.Setup.{IsNoSetup}
+use Rattle.tesla_front.specs.declared.fault.Fault.TheVariants as faults
+
+pub record Meaning : Type 1 where
+  -- what it comes to where nothing fails: its end, or the first place that is refused
+  pub comes : List ℕ → Came
+  -- what is written then
+  pub makes : List ℕ → List ℕ
+  -- what is written of the first bytes of an input, where a read fails behind them
+  pub so_far : List ℕ → List ℕ
+  -- no place of these first bytes is refused
+  pub IsUnrefused : List ℕ → Type 0
+
+-- the fact holds of the bytes of a page, where they are told
+abbrev pub Where : Page → (List ℕ → Type 0) → Type 0
+Where page Fact = (bytes : List ℕ) (failed : _) → page ≡ Holds bytes failed → Fact bytes
+
+-- the input was taken as far as it goes: the command came to its end or to a refused place, and the output holds its text
+pub record ComesToEnd (meaning : Meaning) (input out : Page) (came : Came) : Type 0 where
+  pub there : input ≢ Absent
+  pub end : Where input (λ bytes. came ≡ meaning.comes bytes)
+  pub text : HoldsWhere out (λ written. Where input (λ bytes. written ≡ meaning.makes bytes))
+
+-- a write failed: the output holds a prefix of its text
+pub record BreaksOff (meaning : Meaning) (input out : Page) : Type 0 where
+  pub there : input ≢ Absent
+  pub prefix : HoldsWhere out (λ written. Where input (λ bytes. IsPrefix (meaning.makes bytes) written))
+  pub failed : HasFailed out
+
+-- a read failed: the bytes that had left the input hold no refused place, and what is made of them is written, or the output failed too
+pub record StopsReading (meaning : Meaning) (input : Page) (left : Option (List ℕ)) (out : Page) : Type 0 where
+  pub there : input ≢ Absent
+  pub stops : Where input (λ bytes. (read : List ℕ) × (rest : List ℕ) × (left ≡ Some rest) × (bytes ≡ read ++ rest) × meaning.IsUnrefused read
+      × HoldsWhere out (λ written. (written ≡ meaning.so_far read) ⊎ (HasFailed out × IsPrefix (meaning.so_far read) written)))
+
+-- there was no memory before any of the input was read: the output was opened, and holds nothing
+pub record HoldsNothing (input : Page) (left : Option (List ℕ)) (out : Page) : Type 0 where
+  pub there : input ≢ Absent
+  pub unread : Where input (λ bytes. left ≡ Some bytes)
+  pub nothing : HoldsWhere out (λ written. written ≡ [])
+
+-- what converting the input comes to, with what was left of it, and what the output is before and afterwards
+abbrev pub Converts : Meaning → Page → Option (List ℕ) → Page → Page → Came → Type 0
+Converts meaning input left before out (Done lines) = ComesToEnd meaning input out (Done lines)
+Converts meaning input left before out (Refused status line) = ComesToEnd meaning input out (Refused status line)
+Converts meaning input left before out (Failed faults.Write) = BreaksOff meaning input out
+Converts meaning input left before out (Failed faults.Read) = StopsReading meaning input left out
+-- memory is wanting only before the output is opened, or before the first byte of the input is read
+Converts meaning input left before out (Failed faults.NoMemory) = (out ≡ before) ⊎ HoldsNothing input left out
+-- the input or the output wasn't opened
+Converts meaning input left before out (Failed faults.Open) = out ≡ before
+Converts meaning input left before out _ = ⊥
+
+-- the same between a source and a sink that are open, told what the source had left before and afterwards, what was written, and how often a write failed
+pub record EndsBetween (meaning : Meaning) (before written : Option (List ℕ)) (came : Came) : Type 0 where
+  pub end : (bytes : List ℕ) → before ≡ Some bytes → came ≡ meaning.comes bytes
+  pub text : (bytes done : List ℕ) → before ≡ Some bytes → written ≡ Some done → done ≡ meaning.makes bytes
+
+abbrev pub StopsBetween : Meaning → Option (List ℕ) → Option (List ℕ) → Option (List ℕ) → ℕ → Type 0
+StopsBetween meaning before left written failed = (bytes : List ℕ) → before ≡ Some bytes →
+    (read : List ℕ) × (rest : List ℕ) × (left ≡ Some rest) × (bytes ≡ read ++ rest) × meaning.IsUnrefused read
+    × ((done : List ℕ) → written ≡ Some done → (done ≡ meaning.so_far read) ⊎ ((0 < failed) × IsPrefix (meaning.so_far read) done))
+
+abbrev pub ConvertsBetween : Meaning → Option (List ℕ) → Option (List ℕ) → Option (List ℕ) → ℕ → Came → Type 0
+ConvertsBetween meaning before left written failed (Done lines) = EndsBetween meaning before written (Done lines)
+ConvertsBetween meaning before left written failed (Refused status line) = EndsBetween meaning before written (Refused status line)
+ConvertsBetween meaning before left written failed (Failed faults.Write) = (0 < failed) × ((bytes done : List ℕ) → before ≡ Some bytes → written ≡ Some done → IsPrefix (meaning.makes bytes) done)
+ConvertsBetween meaning before left written failed (Failed faults.Read) = StopsBetween meaning before left written failed
+ConvertsBetween meaning before left written failed (Failed faults.NoMemory) = (left ≡ before) × IfSome written (λ bytes. bytes ≡ [])
+ConvertsBetween meaning before left written failed _ = ⊥
+
+-- ---- the setup, which such a command reads first
+
+-- there is no setup under the name, and no other file was asked for
+pub record StopsAtSetup (setup : File) (opened : ℕ) (came : Came) : Type 0 where
+  pub alone : opened ≤ 1
+  pub why : IsNoSetup setup.page came
