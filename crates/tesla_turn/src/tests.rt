@@ -9,7 +9,6 @@ use super::*;
 use crate::examples::{Add, Append, Numbers, Sum};
 use crate::laws::one_history;
 use std::alloc::Global;
-use std::hint::spin_loop;
 use std::process::Abort;
 use std::sync::Wait;
 use std::sync::atomic::AtomicU64;
@@ -121,7 +120,7 @@ fn a_dropped_pass_takes_nothing_along(rt: HostRuntime) -> Result<(), Fail> {
 }
 
 // How often one thread keeps the turn while others want it.
-const ROUNDS: u64 = 20;
+const ROUNDS: u64 = 10;
 
 // What the threads tell one another: the rounds that have begun, and the calls of the others in this round.
 #[derive(Drop)]
@@ -150,15 +149,22 @@ fn comes_to(count: &AtomicU64, number: u64) -> bool {
     false
 }
 
+// Lets some milliseconds pass.
+fn rest() {
+    for _ in 0..5_000 {
+        yield_now();
+    }
+}
+
 // Begins a round, and adds 1 once so many threads are counted as parked. The reply is whether they were.
 #[derive(Drop)]
-struct Keep<'a> {
-    begun: &'a AtomicU64,
-    parked: &'a AtomicU64,
+struct KeepTurn<'a> {
+    turn: &'a Turn<Sum>,
+    rounds: &'a Rounds,
     others: u64,
 }
 
-impl Act<Sum> for Keep<'_> {
+impl Act<Sum> for KeepTurn<'_> {
     ghost use Rattle.std.specs.Prelude.{◌≡◌};
 
     type Reply = bool;
@@ -168,19 +174,20 @@ impl Act<Sum> for Keep<'_> {
     ghost relation = { λ before after _. after.others ≡ before.others };
 
     fn run(&mut self, value: &mut Sum) -> bool {
-        self.begun.fetch_add(1, SeqCst);
-        let seen = comes_to(self.parked, self.others);
-        // A thread is counted a little before it sleeps.
-        for _ in 0..100_000 {
-            spin_loop();
-        }
+        self.rounds.begun.fetch_add(1, SeqCst);
+        let seen = comes_to(&self.turn.parked, self.others);
+        // Who is counted sleeps a little later.
+        rest();
+        // A thread may wake for no reason. It then sleeps again, behind the others.
+        self.turn.table.shared.wake_one(1);
+        rest();
         value.total = value.total.wrapping_add(1);
         seen
     }
 }
 
-// In each round it keeps the turn until the others are counted as parked, and then all of them have their turns.
-fn keep<R: Abort + Wait>(
+// In each round it keeps the turn until the others are counted as parked, and then each of them has its turn.
+fn lead<R: Abort + Wait>(
     rt: &R,
     turn: &Turn<Sum>,
     mut pass: Pass<Sum>,
@@ -191,9 +198,9 @@ fn keep<R: Abort + Wait>(
     ensures { OnlyCalls pass result }
 {
     for _ in 0..ROUNDS {
-        let mut act = Keep {
-            begun: &rounds.begun,
-            parked: &turn.parked,
+        let mut act = KeepTurn {
+            turn,
+            rounds,
             others,
         };
         assert!(rt; turn.perform(rt, &mut pass, &mut act) == Ok(true));
@@ -225,7 +232,7 @@ fn a_thread_parks_while_another_acts(rt: HostRuntime) -> Result<(), Fail> {
         || -> Pass<Sum>
             requires { first.turn ≡ turn }
             ensures { OnlyCalls first result }
-        { keep(&rt, &turn, first, &rounds, 1) },
+        { lead(&rt, &turn, first, &rounds, 1) },
         ||
             requires { second.turn ≡ turn }
         { follow(&rt, &turn, second, &rounds) },
@@ -235,7 +242,7 @@ fn a_thread_parks_while_another_acts(rt: HostRuntime) -> Result<(), Fail> {
     Ok(())
 }
 
-// Of the threads that park, the one that was woken alone would mostly not be the next, and then none goes on.
+// If only one were woken, it would be one whose turn hasn't come, and nobody would go on.
 #[test]
 fn all_that_park_are_woken(rt: HostRuntime) -> Result<(), Fail> {
     let (turn, mut first) = Turn::open(rt.alloc(), Sum { total: 0 }, 4, ROUNDS)?;
@@ -248,7 +255,7 @@ fn all_that_park_are_woken(rt: HostRuntime) -> Result<(), Fail> {
         || -> Pass<Sum>
             requires { first.turn ≡ turn }
             ensures { OnlyCalls first result }
-        { keep(&rt, &turn, first, &rounds, 3) },
+        { lead(&rt, &turn, first, &rounds, 3) },
         ||
             requires { (second.turn ≡ turn) × (third.turn ≡ turn) × (fourth.turn ≡ turn) }
         {
