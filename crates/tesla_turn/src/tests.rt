@@ -174,12 +174,13 @@ impl Act<Sum> for KeepTurn<'_> {
     ghost relation = { λ before after _. after.others ≡ before.others };
 
     fn run(&mut self, value: &mut Sum) -> bool {
+        let turn = self.turn;
         self.rounds.begun.fetch_add(1, SeqCst);
-        let seen = comes_to(&self.turn.parked, self.others);
+        let seen = comes_to(&turn.parked, self.others);
         // Who is counted sleeps a little later.
         rest();
         // A thread may wake for no reason. It then sleeps again, behind the others.
-        self.turn.table.shared.wake_one(1);
+        turn.table.shared.wake_one(1);
         rest();
         value.total = value.total.wrapping_add(1);
         seen
