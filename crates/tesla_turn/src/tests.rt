@@ -33,9 +33,7 @@ fn append_all<R: Wait>(
 {
     for i in 0..count {
         let mut act = Append { number: first + i };
-        let Ok(_) = turn.perform(rt, &mut pass, &mut act) else {
-            unreachable!()
-        };
+        let _ = turn.take_turn(rt, &mut pass, &mut act);
     }
     pass
 }
@@ -51,6 +49,7 @@ fn turn_of_two_passes(rt: HostRuntime) -> Result<(), Fail> {
     let mut act = Append { number: 7 };
     assert!(rt; turn.perform(&rt, &mut second, &mut act) == Ok(Some(0)));
     assert!(rt; turn.perform(&rt, &mut second, &mut act) == Ok(Some(1)));
+    assert!(rt; second.spent() && !first.spent());
     assert!(rt; turn.perform(&rt, &mut second, &mut act) == Err(SeatSpent));
     turn.join(&mut first, second);
     let (numbers, last) = turn.close(&rt, first);
@@ -140,7 +139,7 @@ impl Rounds {
 
 // Waits until the count is this number. It gives up after some seconds.
 fn comes_to(count: &AtomicU64, number: u64) -> bool {
-    for _ in 0..10_000_000 {
+    for _ in 0..20_000_000 {
         if count.load(SeqCst) == number {
             return true;
         }
@@ -156,7 +155,7 @@ fn rest() {
     }
 }
 
-// Begins a round, and adds 1 once so many threads are counted as parked. The reply is whether they were.
+// Begins a round, and adds 1 once so many threads are counted as parked. The reply says whether they were.
 #[derive(Drop)]
 struct KeepTurn<'a> {
     turn: &'a Turn<Sum>,
@@ -187,7 +186,7 @@ impl Act<Sum> for KeepTurn<'_> {
     }
 }
 
-// In each round it keeps the turn until the others are counted as parked, and then each of them has its turn.
+// In each round it keeps the turn until the others are counted as parked, and then sees that each has had its turn.
 fn lead<R: Abort + Wait>(
     rt: &R,
     turn: &Turn<Sum>,
@@ -243,7 +242,7 @@ fn a_thread_parks_while_another_acts(rt: HostRuntime) -> Result<(), Fail> {
     Ok(())
 }
 
-// If only one were woken, it would be one whose turn hasn't come, and nobody would go on.
+// If only one were woken, it would be one whose turn hasn't come, and it would sleep again.
 #[test]
 fn all_that_park_are_woken(rt: HostRuntime) -> Result<(), Fail> {
     let (turn, mut first) = Turn::open(rt.alloc(), Sum { total: 0 }, 4, ROUNDS)?;
