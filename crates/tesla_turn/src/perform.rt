@@ -1,5 +1,5 @@
 //! An act in its turn.
-ghost use Rattle.std.specs.Prelude.{◌≡◌, ◌↔◌, IsErr, IfOk, IfErr, IsTrue, is_err};
+ghost use Rattle.std.specs.Prelude.{◌≡◌, ◌<◌, ◌↔◌, IsErr, IfOk, IfErr, IsTrue, is_err};
 ghost use Rattle.tesla_turn.specs.Held.{Made, Stood, left_of};
 
 use crate::chronicle::{Act, Chronicle};
@@ -14,11 +14,21 @@ use std::sync::Wait;
 #[derive(Clone, Copy, Debug, PartialEq, Eq)]
 pub struct SeatSpent;
 
+impl<V: Chronicle> Pass<V> {
+    /// Whether it has made all its calls. It takes no handle, so it can't wait.
+    pub fn spent(&self) -> bool
+        ensures { IsTrue result ↔ (left_of self.now ≡ 0) }
+    {
+        self.left == 0
+    }
+}
+
 impl<V: Chronicle + Drop> Turn<V> {
     /// Waits for the pass's turn, runs the act on the value, and passes the turn on.
     ///
     /// The call stands in the history once, behind all that the pass had seen. `SeatSpent` comes exactly
-    /// where the pass has no call left: then nothing was waited for, and nothing has changed.
+    /// where the pass has no call left: then nothing has changed. That is decided by `Pass::spent`, which
+    /// takes no handle and so can't wait; what waits is `take_turn`, which requires that a call is left.
     pub fn perform<R: Wait, A: Act<V>>(
         &self,
         rt: &R,
@@ -32,9 +42,22 @@ impl<V: Chronicle + Drop> Turn<V> {
         ensures history { IfOk result (λ reply. Made pass.old pass.new (A.entry act.new reply)) }
         ensures value { IfOk result (λ _. Stood V.config V.stands pass.new) }
     {
-        if pass.left == 0 {
+        if pass.spent() {
             return Err(SeatSpent);
         }
+        Ok(self.take_turn(rt, pass, act))
+    }
+
+    /// Waits for the turn of a pass that has a call left, runs the act on the value, and passes the turn on.
+    ///
+    /// The call stands in the history once, behind all that the pass had seen. Nothing is refused.
+    pub fn take_turn<R: Wait, A: Act<V>>(&self, rt: &R, pass: &mut Pass<V>, act: &mut A) -> A::Reply
+        requires own { pass.old.turn ≡ self.now }
+        requires left { 0 < left_of pass.old }
+        ensures act { A.relation act.old act.new result }
+        ensures history { Made pass.old pass.new (A.entry act.new result) }
+        ensures value { Stood V.config V.stands pass.new }
+    {
         let top = &self.table.shared;
         let mut value = enter(rt, top, &self.parked, &mut pass.seat);
         let reply = act.run(&mut value);
@@ -42,6 +65,6 @@ impl<V: Chronicle + Drop> Turn<V> {
         hand_on::<V, A, Brand>(top, &mut pass.seat, act, &reply);
         pass.left -= 1;
         wake(top, &self.parked);
-        Ok(reply)
+        reply
     }
 }

@@ -6,13 +6,15 @@ ghost use Rattle.tesla_turn.specs.Held.{OnlyCalls, left_of};
 ghost use Rattle.tesla_turn.specs.History.{entries};
 
 use super::*;
-use crate::examples::{Append, Numbers, Sum};
+use crate::examples::{Add, Append, Numbers, Sum};
 use crate::laws::one_history;
 use std::alloc::Global;
-use std::hint::spin_loop;
+use std::process::Abort;
 use std::sync::Wait;
+use std::sync::atomic::AtomicU64;
+use std::sync::atomic::Ordering::SeqCst;
 use std::test::*;
-use std::thread::{Threads, join};
+use std::thread::{Threads, join, yield_now};
 use tesla_base::NoMemory;
 
 // Appends `count` numbers, from `first` on.
@@ -31,9 +33,7 @@ fn append_all<R: Wait>(
 {
     for i in 0..count {
         let mut act = Append { number: first + i };
-        let Ok(_) = turn.perform(rt, &mut pass, &mut act) else {
-            unreachable!()
-        };
+        let _ = turn.take_turn(rt, &mut pass, &mut act);
     }
     pass
 }
@@ -49,6 +49,7 @@ fn turn_of_two_passes(rt: HostRuntime) -> Result<(), Fail> {
     let mut act = Append { number: 7 };
     assert!(rt; turn.perform(&rt, &mut second, &mut act) == Ok(Some(0)));
     assert!(rt; turn.perform(&rt, &mut second, &mut act) == Ok(Some(1)));
+    assert!(rt; second.spent() && !first.spent());
     assert!(rt; turn.perform(&rt, &mut second, &mut act) == Err(SeatSpent));
     turn.join(&mut first, second);
     let (numbers, last) = turn.close(&rt, first);
@@ -117,57 +118,169 @@ fn a_dropped_pass_takes_nothing_along(rt: HostRuntime) -> Result<(), Fail> {
     Ok(())
 }
 
-// Adds a number, and takes a while.
+// How often one thread keeps the turn while others want it.
+const ROUNDS: u64 = 10;
+
+// What the threads tell one another: the rounds that have begun, and the calls of the others in this round.
 #[derive(Drop)]
-struct SlowAdd {
-    number: u64,
+struct Rounds {
+    begun: AtomicU64,
+    ended: AtomicU64,
 }
 
-impl Act<Sum> for SlowAdd {
-    ghost use Rattle.std.specs.Prelude.{◌≡◌};
-
-    type Reply = ();
-
-    ghost entry = { λ act _. act.number };
-
-    ghost relation = { λ before after _. after ≡ before };
-
-    fn run(&mut self, value: &mut Sum) {
-        for _ in 0..2_000_000 {
-            spin_loop();
+impl Rounds {
+    fn new() -> Rounds {
+        Rounds {
+            begun: AtomicU64::new(0),
+            ended: AtomicU64::new(0),
         }
-        value.total = value.total.wrapping_add(self.number);
     }
 }
 
-// Adds a number twenty times.
-fn add_slowly<R: Wait>(rt: &R, turn: &Turn<Sum>, mut pass: Pass<Sum>, number: u64) -> Pass<Sum>
+// Waits until the count is this number. It gives up after some seconds.
+fn comes_to(count: &AtomicU64, number: u64) -> bool {
+    for _ in 0..20_000_000 {
+        if count.load(SeqCst) == number {
+            return true;
+        }
+        yield_now();
+    }
+    false
+}
+
+// Lets some milliseconds pass.
+fn rest() {
+    for _ in 0..5_000 {
+        yield_now();
+    }
+}
+
+// Begins a round, and adds 1 once so many threads are counted as parked. The reply says whether they were.
+#[derive(Drop)]
+struct KeepTurn<'a> {
+    turn: &'a Turn<Sum>,
+    rounds: &'a Rounds,
+    others: u64,
+}
+
+impl Act<Sum> for KeepTurn<'_> {
+    ghost use Rattle.std.specs.Prelude.{◌≡◌};
+
+    type Reply = bool;
+
+    ghost entry = { λ _ _. 1 };
+
+    ghost relation = { λ before after _. after.others ≡ before.others };
+
+    fn run(&mut self, value: &mut Sum) -> bool {
+        let turn = self.turn;
+        self.rounds.begun.fetch_add(1, SeqCst);
+        let seen = comes_to(&turn.parked, self.others);
+        // Who is counted sleeps a little later.
+        rest();
+        // A thread may wake for no reason. It then sleeps again, behind the others.
+        turn.table.shared.wake_one(1);
+        rest();
+        value.total = value.total.wrapping_add(1);
+        seen
+    }
+}
+
+// In each round it keeps the turn until the others are counted as parked, and then sees that each has had its turn.
+fn lead<R: Abort + Wait>(
+    rt: &R,
+    turn: &Turn<Sum>,
+    mut pass: Pass<Sum>,
+    rounds: &Rounds,
+    others: u64,
+) -> Pass<Sum>
     requires { pass.turn ≡ turn.now }
     ensures { OnlyCalls pass result }
 {
-    for _ in 0..20 {
-        let _ = turn.perform(rt, &mut pass, &mut SlowAdd { number });
+    for _ in 0..ROUNDS {
+        let mut act = KeepTurn {
+            turn,
+            rounds,
+            others,
+        };
+        assert!(rt; turn.perform(rt, &mut pass, &mut act) == Ok(true));
+        assert!(rt; comes_to(&rounds.ended, others));
+        assert!(rt; turn.parked.load(SeqCst) == 0);
+        rounds.ended.store(0, SeqCst);
     }
     pass
 }
 
+// Adds 1 in each round, while another keeps the turn.
+fn follow<R: Abort + Wait>(rt: &R, turn: &Turn<Sum>, mut pass: Pass<Sum>, rounds: &Rounds)
+    requires { pass.turn ≡ turn.now }
+{
+    for round in 0..ROUNDS {
+        assert!(rt; comes_to(&rounds.begun, round + 1));
+        assert!(rt; turn.perform(rt, &mut pass, &mut Add { number: 1 }) == Ok(()));
+        rounds.ended.fetch_add(1, SeqCst);
+    }
+}
+
 #[test]
-fn threads_park_and_are_woken(rt: HostRuntime) -> Result<(), Fail> {
-    let (turn, mut first) = Turn::open(rt.alloc(), Sum { total: 0 }, 2, 20)?;
+fn a_thread_parks_while_another_acts(rt: HostRuntime) -> Result<(), Fail> {
+    let (turn, mut first) = Turn::open(rt.alloc(), Sum { total: 0 }, 2, ROUNDS)?;
     let second = turn.split(&mut first).ok().ok_or("room for a second pass")?;
-    let (mut first, second) = join(
+    let rounds = Rounds::new();
+    let (first, ()) = join(
         &rt,
         || -> Pass<Sum>
             requires { first.turn ≡ turn }
             ensures { OnlyCalls first result }
-        { add_slowly(&rt, &turn, first, 1) },
-        || -> Pass<Sum>
+        { lead(&rt, &turn, first, &rounds, 1) },
+        ||
             requires { second.turn ≡ turn }
-            ensures { OnlyCalls second result }
-        { add_slowly(&rt, &turn, second, 100) },
+        { follow(&rt, &turn, second, &rounds) },
     );
-    turn.join(&mut first, second);
     let (sum, _last) = turn.close(&rt, first);
-    assert!(rt; sum.total == 2020);
+    assert!(rt; sum.total == 2 * ROUNDS);
+    Ok(())
+}
+
+// If only one were woken, it would be one whose turn hasn't come, and it would sleep again.
+#[test]
+fn all_that_park_are_woken(rt: HostRuntime) -> Result<(), Fail> {
+    let (turn, mut first) = Turn::open(rt.alloc(), Sum { total: 0 }, 4, ROUNDS)?;
+    let second = turn.split(&mut first).ok().ok_or("room for a second pass")?;
+    let third = turn.split(&mut first).ok().ok_or("room for a third pass")?;
+    let fourth = turn.split(&mut first).ok().ok_or("room for a fourth pass")?;
+    let rounds = Rounds::new();
+    let (first, ()) = join(
+        &rt,
+        || -> Pass<Sum>
+            requires { first.turn ≡ turn }
+            ensures { OnlyCalls first result }
+        { lead(&rt, &turn, first, &rounds, 3) },
+        ||
+            requires { (second.turn ≡ turn) × (third.turn ≡ turn) × (fourth.turn ≡ turn) }
+        {
+            let (_, ((), ())) = join(
+                &rt,
+                ||
+                    requires { second.turn ≡ turn }
+                { follow(&rt, &turn, second, &rounds) },
+                ||
+                    requires { (third.turn ≡ turn) × (fourth.turn ≡ turn) }
+                {
+                    join(
+                        &rt,
+                        ||
+                            requires { third.turn ≡ turn }
+                        { follow(&rt, &turn, third, &rounds) },
+                        ||
+                            requires { fourth.turn ≡ turn }
+                        { follow(&rt, &turn, fourth, &rounds) },
+                    )
+                },
+            );
+        },
+    );
+    let (sum, _last) = turn.close(&rt, first);
+    assert!(rt; sum.total == 4 * ROUNDS);
     Ok(())
 }

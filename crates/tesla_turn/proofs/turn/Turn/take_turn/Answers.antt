@@ -2,7 +2,7 @@ use Rattle.std.proofs.Common.{sym, subst, ap, ◌∙◌, []}
 use Rattle.tesla_turn.specs.Held.{Held, held, Made}
 use Rattle.tesla_turn.specs.Steps.{Mine, with_call}
 use Rattle.tesla_turn.proofs.Calling.{made_by}
-use Rattle.tesla_turn.proofs.turn.Turn.perform.Goals as goal
+use Rattle.tesla_turn.proofs.turn.Turn.take_turn.Goals as goal
 
 pub returns-clause-history : goal.returns-clause-history
 returns-clause-history g c = let now = c.hand_on.ensures in let back = c.put_back.ensures in let entered = c.enter-value.ensures in let v = c.pass.inside.seat in let e = g.A.Act.entry c.run-reply.new.self c.run-reply.result in

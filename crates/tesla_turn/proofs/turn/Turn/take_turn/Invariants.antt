@@ -1,5 +1,5 @@
 use Rattle.std.proofs.Common.{[], ◌∷◌}
-use Rattle.tesla_turn.proofs.turn.Turn.perform.Given as goal
+use Rattle.tesla_turn.proofs.turn.Turn.take_turn.Given as goal
 
 -- the entry of the act
 abbrev pub ghosts-hand_on : goal.ghosts-hand_on
