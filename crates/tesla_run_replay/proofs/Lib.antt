@@ -1,0 +1,5 @@
+pub mod Histories
+pub mod Made
+mod Takes
+mod SixWords
+mod Targets

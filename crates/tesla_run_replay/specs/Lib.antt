@@ -1,0 +1,5 @@
+pub mod Replay
+pub mod Arguments
+pub mod ReportText
+pub mod Playing
+pub mod Steps
