@@ -1,5 +1,8 @@
 pub mod Histories
 pub mod Made
-mod Takes
-mod SixWords
-mod Targets
+pub mod Takes
+pub mod Targets
+pub mod Ended
+pub mod Files
+pub mod Performed
+pub mod SixWords
