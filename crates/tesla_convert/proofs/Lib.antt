@@ -1,0 +1,4 @@
+pub mod Held
+mod Made
+mod Places
+mod Opened
