@@ -2,3 +2,4 @@ pub mod Held
 mod Made
 mod Places
 mod Opened
+pub mod Closed
