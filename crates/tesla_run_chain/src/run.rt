@@ -22,9 +22,9 @@ use tesla_front::{Fault, Lines, Outcome, Stop, add_count, outcome_of, seeds_unde
 ///
 /// `Done` with the line of how many chains there are: SETUP-OUT holds the one spelling of the setup. `Usage` exactly
 /// where the words are no form, and then nothing was opened. `Refused` with the first refused line of SECRET, where its
-/// text doesn't spell a seed for each delay: SETUP-OUT wasn't opened. `Failed` with what went wrong first: `Read` and
-/// `Open` only where their count rose, `Write` where a write failed, and SETUP-OUT holds a prefix of the text then; it
-/// is as before where it is `Read`, `Open` or `NoMemory`.
+/// text doesn't spell a seed for each delay: SETUP-OUT wasn't opened. `Failed` with what went wrong first, `Read`,
+/// `Write` and `Open` exactly where the desk's count of that rose: behind a failed write SETUP-OUT holds a prefix of the
+/// setup, and else it is as before. So there is no memory only before SETUP-OUT was opened.
 pub fn run_chain<D: Desk>(alloc: Global, words: &[String], desk: &mut D) -> Outcome
     ensures { RunsAs chain (map string_bytes words.now) (D.told desk.old) (D.told desk.new) (outcome_came result) }
 {
