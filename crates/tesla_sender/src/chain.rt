@@ -31,6 +31,7 @@ pub struct SendingChain {
 }
 
 impl Model for SendingChain {
+    ghost use Rattle.std.specs.Prelude.{◌+◌};
     ghost use Rattle.tesla_sender.specs.Chains.{Progress, IsUsed};
 
     ghost Value = { Progress };
@@ -40,6 +41,7 @@ impl Model for SendingChain {
       reached = c.reached;
       tagging = c.tagging;
       left = c.walker.left;
+      reserved = c.walker.reserved + c.kept.capacity;
     } };
 
     ghost invariant = { λ c. IsUsed c.row.delay c.last c.walker c.kept c.reached c.tagging c.mac };
@@ -111,6 +113,7 @@ impl SendingChain {
         ensures reached { self.new.reached ≡ self.old.reached + 1 }
         ensures tagging { self.new.tagging ≡ self.old.tagging }
         ensures left { steps.new + self.new.left ≤ steps.old + self.old.left }
+        ensures reserved { self.new.reserved ≡ self.old.reserved }
     {
         let Some(key) = self.walker.next(steps) else {
             unreachable!()
@@ -127,6 +130,7 @@ impl SendingChain {
         ensures reached { self.new.reached ≡ interval }
         ensures tagging { self.new.tagging ≡ self.old.tagging }
         ensures left { steps.new + self.new.left ≤ steps.old + self.old.left }
+        ensures reserved { self.new.reserved ≡ self.old.reserved }
     {
         for _ in self.reached..interval {
             self.step(steps);
@@ -153,6 +157,7 @@ impl SendingChain {
         ensures reached { self.new.reached ≡ self.old.reached }
         ensures tagging { self.new.tagging ≡ self.old.reached }
         ensures left { self.new.left ≡ self.old.left }
+        ensures reserved { self.new.reserved ≡ self.old.reserved }
         ensures cost { steps.new ≤ steps.old + 1 }
     {
         if self.tagging == self.reached {
@@ -172,6 +177,7 @@ impl SendingChain {
         ensures reached { self.new.reached ≡ interval }
         ensures tagging { self.new.tagging ≡ interval }
         ensures left { steps.new + self.new.left ≤ steps.old + self.old.left + 1 }
+        ensures reserved { self.new.reserved ≡ self.old.reserved }
     {
         self.advance(interval, steps);
         self.make_mac(steps);

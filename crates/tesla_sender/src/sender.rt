@@ -35,13 +35,20 @@ pub struct Sender {
 
 impl Model for Sender {
     ghost use Rattle.std.specs.List.{sum_by};
-    ghost use Rattle.tesla_sender.specs.Chains.{left_in};
+    ghost use Rattle.std.specs.Prelude.{vec_capacity};
+    ghost use Rattle.tesla_sender.specs.Chains.{left_in, reserved_by};
     ghost use Rattle.tesla_sender.specs.Stands.{State};
     ghost use Rattle.tesla_sender.specs.Senders.{IsSender, stream_of};
 
     ghost Value = { State };
 
-    ghost view = { λ s. record { stream = stream_of s.setup s.chains.items; latest = s.latest; used = s.used; left = sum_by left_in s.chains.items } };
+    ghost view = { λ s. record {
+      stream = stream_of s.setup s.chains.items;
+      latest = s.latest;
+      used = s.used;
+      left = sum_by left_in s.chains.items;
+      reserved = reserved_by (vec_capacity s.chains) s.chains.items;
+    } };
 
     ghost invariant = { λ s. IsSender s.setup s.chains.items s.latest s.used };
 }
@@ -91,7 +98,7 @@ impl Sender {
         requires number { name.number < 2 ^ 16 }
         requires limit { length payload.now ≤ 1200 }
         ensures written { IsWritten (message_frame self.old.stream.setup (chains_of self.old.stream) name payload.now) result into.old into.new }
-        ensures after { self.new ≡ record { stream = self.old.stream; latest = name.interval; used = name.number + 1; left = self.new.left } }
+        ensures after { self.new ≡ record { stream = self.old.stream; latest = name.interval; used = name.number + 1; left = self.new.left; reserved = self.old.reserved } }
         ensures cost { steps.new + self.new.left ≤ steps.old + self.old.left + 2 * length self.old.stream.setup.rows }
     {
         prepare_all(&mut self.chains, name.interval, steps);
@@ -132,6 +139,7 @@ impl Sender {
         ensures cost { steps.new + self.new.left ≤ steps.old + self.old.left + 2 * length self.old.stream.setup.rows }
         ensures refused { OnErr result ((self.new ≡ self.old) × (into.new ≡ into.old) × (steps.new ≡ steps.old)) }
         ensures room { IfOk result (λ length. length ≤ 2048) }
+        ensures reserved { self.new.reserved ≡ self.old.reserved }
     {
         match self.name_of(reading, payload) {
             Ok(name) => Ok(self.send(name, payload, into, steps)),
@@ -149,7 +157,7 @@ impl Sender {
         requires later { self.old.latest ≤ interval }
         requires due { any_due interval (chains_of self.old.stream) ≡ true }
         ensures written { IsWritten (disclosure_frame self.old.stream.setup (chains_of self.old.stream) interval) result into.old into.new }
-        ensures after { self.new ≡ record { stream = self.old.stream; latest = interval; used = number_at self.old.latest self.old.used interval; left = self.new.left } }
+        ensures after { self.new ≡ record { stream = self.old.stream; latest = interval; used = number_at self.old.latest self.old.used interval; left = self.new.left; reserved = self.old.reserved } }
         ensures cost { steps.new + self.new.left ≤ steps.old + self.old.left }
     {
         let last = u64::from(self.setup.schedule().last());
@@ -184,6 +192,7 @@ impl Sender {
         ensures cost { steps.new + self.new.left ≤ steps.old + self.old.left }
         ensures refused { OnErr result ((self.new ≡ self.old) × (into.new ≡ into.old) × (steps.new ≡ steps.old)) }
         ensures room { IfOk result (λ length. length ≤ 2048) }
+        ensures reserved { self.new.reserved ≡ self.old.reserved }
     {
         match self.interval_of(reading) {
             Ok(interval) => Ok(self.disclose_in(interval, into, steps)),
