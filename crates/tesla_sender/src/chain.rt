@@ -70,7 +70,8 @@ fn key_made<L: Ledger>(
 
 impl SendingChain {
     /// The chain of this number, row of the setup and seed, whose key of index `last` the seed is. All memory
-    /// is taken here. `WrongSeed` where the seed doesn't give the key of the row.
+    /// is taken here. `WrongSeed` where the seed doesn't give the key of the row. Beside the counted steps it
+    /// prepares one key, the seed, which stands there until the first MAC key; none where it is refused.
     pub fn open<L: Ledger>(
         alloc: Global,
         number: ChainNo,
@@ -122,7 +123,7 @@ impl SendingChain {
         self.reached += 1;
     }
 
-    /// Makes the keys up to that of an interval.
+    /// Makes the keys up to that of an interval. No key is prepared.
     pub fn advance<L: Ledger>(&mut self, interval: u32, steps: &mut Steps<L>)
         requires later { self.old.reached ≤ interval }
         requires within { interval ≤ self.old.chain.last }
@@ -150,7 +151,8 @@ impl SendingChain {
         }
     }
 
-    /// Makes the MAC key of the interval reached, where it isn't there.
+    /// Makes the MAC key of the interval reached, where it isn't there: then one key is prepared beside the
+    /// counted step.
     fn make_mac<L: Ledger>(&mut self, steps: &mut Steps<L>)
         requires { 1 ≤ self.old.reached }
         ensures same { self.new.chain ≡ self.old.chain }
@@ -168,7 +170,8 @@ impl SendingChain {
         self.tagging = self.reached;
     }
 
-    /// Makes the keys up to that of an interval, and its MAC key.
+    /// Makes the keys up to that of an interval, and its MAC key. Beside the counted steps it prepares at most one
+    /// key.
     pub fn prepare<L: Ledger>(&mut self, interval: u32, steps: &mut Steps<L>)
         requires some { 1 ≤ interval }
         requires later { self.old.reached ≤ interval }
@@ -196,7 +199,7 @@ impl SendingChain {
         }
     }
 
-    /// The tag of a message of the interval whose MAC key is there: one counted step.
+    /// The tag of a message of the interval whose MAC key is there: one counted step. No key is prepared.
     pub fn tag<L: Ledger>(
         &self,
         setup: &Setup,

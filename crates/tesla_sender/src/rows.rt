@@ -12,7 +12,8 @@ use tesla_base::{Key, Name, Steps, WideTag};
 use tesla_commit::Setup;
 use tesla_frame::KeyRow;
 
-/// Makes the keys of each chain up to that of an interval, and its MAC key.
+/// Makes the keys of each chain up to that of an interval, and its MAC key. Beside the counted steps it prepares at
+/// most one key a chain.
 pub fn prepare_all<L: Ledger>(chains: &mut Vec<SendingChain>, interval: u32, steps: &mut Steps<L>)
     requires some { 1 ≤ interval }
     requires ready { All (IsReady interval) chains.old.items }
@@ -26,7 +27,7 @@ pub fn prepare_all<L: Ledger>(chains: &mut Vec<SendingChain>, interval: u32, ste
     }
 }
 
-/// Makes the keys of each chain up to that of an interval.
+/// Makes the keys of each chain up to that of an interval. No key is prepared.
 pub fn advance_all<L: Ledger>(chains: &mut Vec<SendingChain>, interval: u32, steps: &mut Steps<L>)
     requires { All (IsReady interval) chains.old.items }
     ensures same { map chain_in chains.new.items ≡ map chain_in chains.old.items }
@@ -39,7 +40,7 @@ pub fn advance_all<L: Ledger>(chains: &mut Vec<SendingChain>, interval: u32, ste
     }
 }
 
-/// Puts the tags of a message from a place on, one for each chain: so many counted steps.
+/// Puts the tags of a message from a place on, one for each chain: so many counted steps. No key is prepared.
 pub fn put_tags<L: Ledger>(
     chains: &[SendingChain],
     setup: &Setup,

@@ -24,7 +24,9 @@ use tesla_commit::{Seeds, Setup};
 ///
 /// Contracts see its stream, which is its setup with a seed for each chain, and the logs that it stands for: the
 /// calls that it accepted, in order. It keeps the last `delay + 1` keys of each chain, and nothing of the log but
-/// the interval and the number of the last calls. Its `Debug` text shows no byte of a key.
+/// the interval and the number of the last calls. Contracts also see how many entries its tables have room for,
+/// the table of its chains and those of each chain; the setup's own table, which no call changes, isn't among
+/// them. Its `Debug` text shows no byte of a key.
 #[derive(Drop)]
 pub struct Sender {
     setup: Setup,
@@ -59,7 +61,10 @@ impl Sender {
     /// the setup's index that it gives isn't the setup's key.
     ///
     /// Over a sender's whole life, its opening included, it takes at most `C * (W(N) + N + 2 m)` counted steps for
-    /// `C` chains of `N` keys and `m` accepted messages, with `W(N)` as for a walker.
+    /// `C` chains of `N` keys and `m` accepted messages, with `W(N)` as for a walker. Beside the counted steps,
+    /// opening prepares one key for each chain that it opens, so at most `C`, and an accepted message one for each
+    /// chain where it is the first of its interval, so at most `C` too; no other call prepares a key. To prepare a
+    /// key takes two compressions of SHA-256.
     pub fn open<L: Ledger>(
         alloc: Global,
         setup: Setup,
@@ -98,8 +103,9 @@ impl Sender {
         requires number { name.number < 2 ^ 16 }
         requires limit { length payload.now ≤ 1200 }
         ensures written { IsWritten (message_frame self.old.stream.setup (chains_of self.old.stream) name payload.now) result into.old into.new }
-        ensures after { self.new ≡ record { stream = self.old.stream; latest = name.interval; used = name.number + 1; left = self.new.left; reserved = self.old.reserved } }
+        ensures after { self.new ≡ record { stream = self.old.stream; latest = name.interval; used = name.number + 1; left = self.new.left; reserved = self.new.reserved } }
         ensures cost { steps.new + self.new.left ≤ steps.old + self.old.left + 2 * length self.old.stream.setup.rows }
+        ensures reserved { self.new.reserved ≡ self.old.reserved }
     {
         prepare_all(&mut self.chains, name.interval, steps);
         self.latest = u64::from(name.interval);
@@ -125,7 +131,10 @@ impl Sender {
     /// the tags of all chains, and of each chain the key that is due (RFC 4082, sections 3.3 and 3.4).
     ///
     /// The refusals are those of [`SendRefusal`], in its order. After a refusal nothing has changed. It takes no
-    /// memory.
+    /// memory: what was reserved at opening stays as it was.
+    ///
+    /// Beside the counted steps, the first message of an interval prepares one key for each chain, of two
+    /// compressions of SHA-256 each; a later one, or one that is refused, prepares none.
     pub fn message<L: Ledger>(
         &mut self,
         reading: u64,
@@ -157,8 +166,9 @@ impl Sender {
         requires later { self.old.latest ≤ interval }
         requires due { any_due interval (chains_of self.old.stream) ≡ true }
         ensures written { IsWritten (disclosure_frame self.old.stream.setup (chains_of self.old.stream) interval) result into.old into.new }
-        ensures after { self.new ≡ record { stream = self.old.stream; latest = interval; used = number_at self.old.latest self.old.used interval; left = self.new.left; reserved = self.old.reserved } }
+        ensures after { self.new ≡ record { stream = self.old.stream; latest = interval; used = number_at self.old.latest self.old.used interval; left = self.new.left; reserved = self.new.reserved } }
         ensures cost { steps.new + self.new.left ≤ steps.old + self.old.left }
+        ensures reserved { self.new.reserved ≡ self.old.reserved }
     {
         let last = u64::from(self.setup.schedule().last());
         advance_all(&mut self.chains, interval.min(last) as u32, steps);
@@ -179,7 +189,8 @@ impl Sender {
     /// delay is below `x`: the key of index `x - delay`, or the last one.
     ///
     /// The refusals are those of [`DiscloseRefusal`], in its order. After a refusal nothing has changed. It takes
-    /// no memory.
+    /// no memory: what was reserved at opening stays as it was. It prepares no key, so no compressions of SHA-256
+    /// stand beside the counted steps.
     pub fn disclose<L: Ledger>(
         &mut self,
         reading: u64,

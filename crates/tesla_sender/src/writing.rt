@@ -13,7 +13,8 @@ use tesla_base::{ChainNo, Key, Name, Steps, WideTag};
 use tesla_commit::Setup;
 use tesla_frame::{KeyRow, write_data, write_disclosure};
 
-/// Writes the data frame of a message of that name, and gives its length: as many counted steps as chains.
+/// Writes the data frame of a message of that name, and gives its length: as many counted steps as chains. No key is
+/// prepared.
 pub fn write_message<L: Ledger>(
     chains: &[SendingChain],
     setup: &Setup,
