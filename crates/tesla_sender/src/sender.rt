@@ -9,6 +9,7 @@ ghost use Rattle.tesla_sender.specs.Stands.{Answers, IsWritten, Stands, log_afte
 
 use crate::chain::SendingChain;
 use crate::judging::{judge_disclosure, judge_message, number_at};
+use crate::limits::FRAME_ROOM;
 use crate::opening::open_chains;
 use crate::rows::{advance_all, prepare_all};
 use crate::writing::{write_due, write_message};
@@ -94,7 +95,7 @@ impl Sender {
         &mut self,
         name: Name,
         payload: &[u8],
-        into: &mut [u8; 2048],
+        into: &mut [u8; FRAME_ROOM],
         steps: &mut Steps<L>,
     ) -> usize
         requires some { 1 ≤ name.interval }
@@ -139,7 +140,7 @@ impl Sender {
         &mut self,
         reading: u64,
         payload: &[u8],
-        into: &mut [u8; 2048],
+        into: &mut [u8; FRAME_ROOM],
         steps: &mut Steps<L>,
     ) -> Result<usize, SendRefusal>
         ensures answer { (log : List Call) → Stands self.old log → Answers result (made_message self.old.stream log reading payload.now) into.old into.new }
@@ -160,7 +161,7 @@ impl Sender {
     fn disclose_in<L: Ledger>(
         &mut self,
         interval: u64,
-        into: &mut [u8; 2048],
+        into: &mut [u8; FRAME_ROOM],
         steps: &mut Steps<L>,
     ) -> usize
         requires later { self.old.latest ≤ interval }
@@ -194,7 +195,7 @@ impl Sender {
     pub fn disclose<L: Ledger>(
         &mut self,
         reading: u64,
-        into: &mut [u8; 2048],
+        into: &mut [u8; FRAME_ROOM],
         steps: &mut Steps<L>,
     ) -> Result<usize, DiscloseRefusal>
         ensures answer { (log : List Call) → Stands self.old log → Answers result (made_disclosure self.old.stream log reading) into.old into.new }
