@@ -13,6 +13,9 @@ use tesla_base::Steps;
 /// The bytes of a block of SHA-256.
 const BLOCK: usize = 64;
 
+/// The bytes of a digest of SHA-256, and so of HMAC.
+pub const DIGEST: usize = 32;
+
 /// What each byte of the key's block is combined with before the text, and before the inner digest.
 const INNER_PAD: u8 = 0x36;
 
@@ -53,7 +56,7 @@ fn padded(block: &[u8; BLOCK], pad: u8) -> [u8; BLOCK]
 // Each move of a hash copies its 104 bytes, so the functions below make, feed and end a hash in one place.
 
 /// The digest of the block, combined with the pad, and the text after it.
-fn digest_under(block: &[u8; BLOCK], pad: u8, text: &[u8]) -> [u8; 32]
+fn digest_under(block: &[u8; BLOCK], pad: u8, text: &[u8]) -> [u8; DIGEST]
     ensures { result ≡ sha256 (padded_with pad block.now ++ text.now) }
 {
     let mut hash = Sha256::new();
@@ -64,7 +67,7 @@ fn digest_under(block: &[u8; BLOCK], pad: u8, text: &[u8]) -> [u8; 32]
 
 /// The digest of what the hash has taken in and the text after it. The hash stays as it is; its copy needs no memory,
 /// and so cannot fail.
-fn digest_after(begun: &Sha256, text: &[u8]) -> [u8; 32]
+fn digest_after(begun: &Sha256, text: &[u8]) -> [u8; DIGEST]
     ensures { (taken : List ℕ) → Holds256 begun.now taken → result ≡ sha256 (taken ++ text.now) }
 {
     let mut hash = begun.clone().unwrap();
@@ -73,7 +76,7 @@ fn digest_after(begun: &Sha256, text: &[u8]) -> [u8; 32]
 }
 
 /// The digest of what the hash has taken in and both pieces after it, as by `digest_after`.
-fn digest_after_two(begun: &Sha256, first: &[u8], second: &[u8]) -> [u8; 32]
+fn digest_after_two(begun: &Sha256, first: &[u8], second: &[u8]) -> [u8; DIGEST]
     ensures { (taken : List ℕ) → Holds256 begun.now taken → result ≡ sha256 (taken ++ (first.now ++ second.now)) }
 {
     let mut hash = begun.clone().unwrap();
@@ -91,7 +94,8 @@ pub struct Begun {
 }
 
 impl Begun {
-    /// The beginning of each evaluation under the key: two compressions of SHA-256.
+    /// The beginning of each evaluation under the key: two compressions of SHA-256, where the key is no longer than
+    /// a block, and no counted step.
     pub fn new(key: &[u8]) -> Begun
         ensures { BegunUnder result key.now }
     {
@@ -105,9 +109,9 @@ impl Begun {
         begun
     }
 
-    /// HMAC of a text: one counted step.
+    /// HMAC of a text: one counted step, which hashes neither block of the key.
     #[tactic(auto, unfolding(crate::specs::Hmac::hmac_of))]
-    pub fn hmac<L: Ledger>(&self, text: &[u8], steps: &mut Steps<L>) -> [u8; 32]
+    pub fn hmac<L: Ledger>(&self, text: &[u8], steps: &mut Steps<L>) -> [u8; DIGEST]
         ensures value { (key : List ℕ) → BegunUnder self.now key → result ≡ hmac_of key text.now }
         ensures cost { steps.new ≡ steps.old + 1 }
     {
@@ -116,14 +120,14 @@ impl Begun {
         digest_after(&self.outer, &digest)
     }
 
-    /// HMAC of a text in two pieces: one counted step.
+    /// HMAC of a text in two pieces, as by `hmac`: one counted step.
     #[tactic(auto, unfolding(crate::specs::Hmac::hmac_of))]
     pub fn hmac_of_two<L: Ledger>(
         &self,
         first: &[u8],
         second: &[u8],
         steps: &mut Steps<L>,
-    ) -> [u8; 32]
+    ) -> [u8; DIGEST]
         ensures value { (key : List ℕ) → BegunUnder self.now key → result ≡ hmac_of key (first.now ++ second.now) }
         ensures cost { steps.new ≡ steps.old + 1 }
     {
@@ -133,9 +137,10 @@ impl Begun {
     }
 }
 
-/// HMAC-SHA-256 of a text under a key (RFC 2104): one counted step.
+/// HMAC-SHA-256 of a text under a key (RFC 2104): one counted step, which hashes both blocks of the key too. No key is
+/// prepared.
 #[tactic(auto, unfolding(crate::specs::Hmac::hmac_of))]
-pub fn hmac<L: Ledger>(key: &[u8], text: &[u8], steps: &mut Steps<L>) -> [u8; 32]
+pub fn hmac_sha256<L: Ledger>(key: &[u8], text: &[u8], steps: &mut Steps<L>) -> [u8; DIGEST]
     ensures value { result ≡ hmac_of key.now text.now }
     ensures cost { steps.new ≡ steps.old + 1 }
 {
