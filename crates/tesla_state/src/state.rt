@@ -54,12 +54,12 @@ pub struct ReceiverState {
 
 impl Model for ReceiverState {
     ghost use Rattle.std.specs.Prelude.{vec_capacity};
-    ghost use Rattle.tesla_state.specs.Kept.{state_of, IsKept};
+    ghost use Rattle.tesla_state.specs.Kept.{reserved_in, state_of, IsKept};
     ghost use Rattle.tesla_state.specs.State.{State};
 
     ghost Value = { State };
 
-    ghost view = { λ k. state_of k.config k.tips.items k.store k.ended.items k.counts k.calls };
+    ghost view = { λ k. state_of k.config k.tips.items k.store k.ended.items k.counts k.calls (reserved_in (vec_capacity k.tips) k.store (vec_capacity k.walks) (vec_capacity k.batch) (vec_capacity k.ended)) };
 
     ghost invariant = { λ k. IsKept k.config k.tips.items k.store (vec_capacity k.walks) (vec_capacity k.batch) k.counts k.calls };
 }
@@ -81,7 +81,7 @@ impl ReceiverState {
         requires within { quota ≤ capacity }
         requires few { capacity ≤ 65536 }
         requires ingests { 1 ≤ ingests }
-        ensures { IfOk result (λ k. k ≡ opened (record { setup = setup; lag = lag; capacity = capacity; quota = quota; ingests = ingests })) }
+        ensures { IfOk result (λ k. k ≡ opened (record { setup = setup; lag = lag; capacity = capacity; quota = quota; ingests = ingests }) k.reserved) }
     {
         let ended = vec![in alloc; false; ingests as usize]?;
         let config = Config {
@@ -119,6 +119,7 @@ impl ReceiverState {
         requires { self.old.calls + 1 < 2 ^ 64 }
         ensures verdict { result ≡ judged self.old reading bytes.now }
         ensures state { self.new ≡ after_arrival self.old reading bytes.now }
+        ensures reserved { self.new.reserved ≡ self.old.reserved }
         ensures cost { steps.new ≤ steps.old + most_by self.old reading bytes.now }
     {
         let verdict = receive(
@@ -143,6 +144,7 @@ impl ReceiverState {
         requires { self.old.calls + 1 < 2 ^ 64 }
         ensures answer { reply_shown result into.new ≡ reply_by self.old }
         ensures state { self.new ≡ after_take self.old }
+        ensures reserved { self.new.reserved ≡ self.old.reserved }
         ensures behind { KeepsBehind result into.old into.new }
     {
         self.calls += 1;
@@ -161,7 +163,8 @@ impl ReceiverState {
     /// Ends an ingest. One at or above the number of ingests counts for nothing. It takes no memory.
     pub fn end(&mut self, ingest: u8)
         requires { self.old.calls + 1 < 2 ^ 64 }
-        ensures { self.new ≡ after_end self.old ingest }
+        ensures state { self.new ≡ after_end self.old ingest }
+        ensures reserved { self.new.reserved ≡ self.old.reserved }
     {
         mark(&mut self.ended, ingest as usize);
         self.calls += 1;
