@@ -1,23 +1,19 @@
 -- How many evaluations of HMAC an arrival may take, by the history.
-use Rattle.std.specs.Prelude.{ℕ, ◌+◌, ◌-◌, ◌*◌, Bool, not, ◌&&◌, ◌||◌, List, Option, Some, None, nat_lt, nat_le, ◌==◌, if◌then◌else◌, filter, count_by}
-use Rattle.std.specs.List.{list_any, enumerate_from, sum_by}
+use Rattle.std.specs.Prelude.{ℕ, ◌+◌, ◌-◌, ◌*◌, Bool, ◌&&◌, List, Option, Some, None, nat_lt, if◌then◌else◌, filter, count_by}
+use Rattle.std.specs.List.{enumerate_from, sum_by}
 use Rattle.tesla_clock.specs.Safe.{has_chain}
 use Rattle.tesla_clock.specs.Schedule.{bound_of}
 use Rattle.tesla_frame.specs.declared.row.KeyRow.{KeyRow}
 use Rattle.tesla_frame.specs.Frame.{Frame}
 use Rattle.tesla_frame.specs.Reading.{frame_of}
-use Rattle.tesla_keys.specs.Tip.{Tip}
 use Rattle.tesla_fitting.specs.declared.config.Config.{Config}
 use Rattle.tesla_receiver.specs.declared.history.Arrival.{Arrival}
 use Rattle.tesla_receiver.specs.declared.packet.Packet.{Packet}
-use Rattle.tesla_fitting.specs.Fitting.{stream_of, is_misfit, is_future}
 use Rattle.tesla_fitting.specs.Config.{chains}
 use Rattle.tesla_receiver.specs.Held.{is_settled}
-use Rattle.tesla_fitting.specs.Rows.{is_of, keys_of}
+use Rattle.tesla_fitting.specs.Rows.{keys_of}
 use Rattle.tesla_receiver.specs.Keys.{newest}
 use Rattle.tesla_receiver.specs.Packets.{packet_of}
-use Rattle.tesla_state.specs.State.{Holding, State}
-use Rattle.tesla_state.specs.Steps.{tip_at, new_rows, bound_at}
 use Rattle.tesla_state.specs.Costs.{is_unread, has_reaching}
 
 -- the keys of a frame that are newer than those taken before

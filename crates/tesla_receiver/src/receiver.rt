@@ -77,6 +77,7 @@ impl Receiver {
         ensures evaluations { (h : List Entry) → Stands self.old h → steps.new ≤ steps.old + most_evaluations self.old.config (arrivals_in h) reading bytes.now }
         ensures config { self.new.config ≡ self.old.config }
         ensures calls { self.new.calls ≡ self.old.calls + 1 }
+        ensures reserved { self.new.reserved ≡ self.old.reserved }
     {
         self.kept.arrive(ingest, reading, bytes, steps)
     }
@@ -90,6 +91,7 @@ impl Receiver {
         ensures behind { KeepsBehind result into.old into.new }
         ensures config { self.new.config ≡ self.old.config }
         ensures calls { self.new.calls ≡ self.old.calls + 1 }
+        ensures reserved { self.new.reserved ≡ self.old.reserved }
     {
         let _ = releaser;
         self.kept.take(into)
@@ -101,6 +103,7 @@ impl Receiver {
         ensures stands { (h : List Entry) → Stands self.old h → Stands self.new (h ++ entry_of self.old.config h (Ends ingest) ∷ []) }
         ensures config { self.new.config ≡ self.old.config }
         ensures calls { self.new.calls ≡ self.old.calls + 1 }
+        ensures reserved { self.new.reserved ≡ self.old.reserved }
     {
         self.kept.end(ingest);
     }

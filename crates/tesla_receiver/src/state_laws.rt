@@ -16,13 +16,13 @@ ghost use Rattle.tesla_state.specs.Steps.{in_interval, opened, judged, after_arr
 
 /// The state with the commitments alone stands for the empty history.
 pub fn openings()
-    ensures { (cfg : Config) → Stands (opened cfg) [] }
+    ensures { (cfg : Config) (reserved : ℕ) → Stands (opened cfg reserved) [] }
 {}
 
-/// A legal history has one state that stands for it.
+/// A legal history has one state that stands for it. How much room its tables have is no part of the history.
 pub fn states()
     ensures some { (cfg : Config) (h : List Entry) → IsLegal cfg h → (s : State) × (s.config ≡ cfg) × Stands s h }
-    ensures one { (s t : State) (h : List Entry) → Stands s h → Stands t h → s.config ≡ t.config → s ≡ t }
+    ensures one { (s t : State) (h : List Entry) → Stands s h → Stands t h → s.config ≡ t.config → s.reserved ≡ t.reserved → s ≡ t }
 {}
 
 /// The numbers that a state tells are those of the history.
