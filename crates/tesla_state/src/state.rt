@@ -2,7 +2,8 @@
 
 ghost use Rattle.std.specs.Prelude.{◌≡◌, ◌+◌, ◌^◌, ◌<◌, ◌≤◌, [], IfOk, length, map, replicate, false};
 ghost use Rattle.tesla_fitting.specs.Config.{chains};
-ghost use Rattle.tesla_state.specs.Costs.{most_by};
+ghost use Rattle.tesla_base.specs.declared.names.ChainNo.{ChainNo};
+ghost use Rattle.tesla_state.specs.Costs.{most_by, most_offers};
 ghost use Rattle.tesla_state.specs.Replies.{reply_shown, KeepsBehind};
 ghost use Rattle.tesla_state.specs.Steps.{opened, judged, after_arrival, reply_by, after_take, after_end};
 ghost use Rattle.tesla_state.specs.Tips.{first_tip};
@@ -108,7 +109,8 @@ impl ReceiverState {
     /// Judges a datagram of an ingest, with the reading of the receiver's clock in microseconds. It takes no memory.
     /// No step is counted where a datagram is refused before its keys are looked at; else at most two for each interval
     /// from a newer key down to the newest of its chain, and two for each held packet that isn't released and each chain
-    /// on which the new keys reach it.
+    /// on which the new keys reach it. Where a key is bad, they are at most one for each interval from a newer key down to
+    /// the newest of its chain.
     pub fn arrive<L: Ledger>(
         &mut self,
         _ingest: u8,
@@ -121,6 +123,7 @@ impl ReceiverState {
         ensures state { self.new ≡ after_arrival self.old reading bytes.now }
         ensures reserved { self.new.reserved ≡ self.old.reserved }
         ensures cost { steps.new ≤ steps.old + most_by self.old reading bytes.now }
+        ensures badkey { (chain : ChainNo) → result ≡ Verdict.BadKey chain → steps.new ≤ steps.old + most_offers self.old bytes.now }
     {
         let verdict = receive(
             &self.config,

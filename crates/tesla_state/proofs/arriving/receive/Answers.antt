@@ -13,7 +13,7 @@ use Rattle.tesla_state.specs.Steps.{judged_taken, refused, entered_as, entered_f
 use Rattle.tesla_state.specs.Stored.{holding_at, AreNeeded}
 use Rattle.tesla_state.specs.Walking.{Walking, rows_of, left, pairs}
 use Rattle.tesla_fitting.specs.Fitting.{unfit}
-use Rattle.tesla_state.proofs.Evaluations.{refused_cost, taken_cost}
+use Rattle.tesla_state.proofs.Evaluations.{bad_cost, refused_cost, taken_cost, taken_not_bad}
 use Rattle.tesla_state.proofs.StaysKept.{before_later}
 use Rattle.tesla_state.proofs.Arrived.{judged_at, after_at, rows_fit, tips_back}
 use Rattle.tesla_state.proofs.arriving.receive.Goals as goal
@@ -120,6 +120,19 @@ returns-in-Some-refused-clause-cost g c ended counts calls reserved =
     refused_cost s c.args.reading c.args.bytes.now fr (sym c.read_frame.ensures.exact ∙ ap (option_map shown) c.in-Some.is) c.args.steps.now c.refused.new.steps
     (λ e. c.refused.ensures.free (ap (λ (b : Option ℕ). is_some (unfit c.args.config.now b fr)) bound ∙ e))
     (subst (λ (ts : List Tip). c.refused.new.steps ≤ c.args.steps.now + gaps ts (keys_of c.args.config.now fr)) c.as_slice.ensures.value c.refused.ensures.most)
+
+pub returns-in-Some-refused-clause-badkey : goal.returns-in-Some-refused-clause-badkey
+returns-in-Some-refused-clause-badkey g c ended counts calls reserved chain e =
+    let s : State = state_of c.args.config.now c.args.tips.now.items c.args.store.now ended counts calls reserved in
+    let fr : Frame = shown c.in-Some.frame in
+    bad_cost s c.args.reading c.args.bytes.now fr (sym c.read_frame.ensures.exact ∙ ap (option_map shown) c.in-Some.is) c.args.steps.now c.refused.new.steps
+    (subst (λ (ts : List Tip). c.refused.new.steps ≤ c.args.steps.now + gaps ts (keys_of c.args.config.now fr)) c.as_slice.ensures.value c.refused.ensures.most)
+
+pub returns-clause-badkey : goal.returns-clause-badkey
+returns-clause-badkey g c ended counts calls reserved chain e =
+    let fr : Frame = shown c.in-Some.frame in
+    let t : State = state_of c.args.config.now c.deref_mut.result.now c.args.store.now ended counts calls reserved in
+    absurd (taken_not_bad (with_keys t (new_rows t fr)) c.bound_at-bound.result fr chain (sym (c.accept.ensures.verdict ended counts calls reserved) ∙ e))
 
 pub returns-clause-cost : goal.returns-clause-cost
 returns-clause-cost g c ended counts calls reserved =
