@@ -39,6 +39,14 @@ reached_on cfg arrivals new place (Some packet) =
 abbrev pub pairs : Config → List Arrival → Frame → ℕ
 pairs cfg arrivals frame = sum_by (λ (p : ℕ × Arrival). reached_on cfg arrivals (newer_rows cfg arrivals frame) p.0 (packet_of p.1)) (enumerate_from 0 arrivals)
 
+abbrev pub gaps_of : Config → List Arrival → Option Frame → ℕ
+gaps_of cfg arrivals None = 0
+gaps_of cfg arrivals (Some frame) = gaps cfg arrivals frame
+
+-- the most evaluations that the offers of an arrival's keys may take, of which the first bad one is the last
+unfoldable pub most_offers : Config → List Arrival → List ℕ → ℕ
+most_offers cfg arrivals bytes = gaps_of cfg arrivals (frame_of bytes)
+
 abbrev pub most_of : Config → List Arrival → Option ℕ → Option Frame → ℕ
 most_of cfg arrivals bound None = 0
 most_of cfg arrivals bound (Some frame) = if is_unread cfg bound frame then 0 else 2 * gaps cfg arrivals frame + 2 * pairs cfg arrivals frame

@@ -17,7 +17,7 @@ use Rattle.tesla_state.specs.declared.ordering.Proved.{Proved}
 use Rattle.tesla_fitting.specs.declared.verdict.Verdict.{Verdict}
 use Rattle.tesla_fitting.specs.declared.verdict.Verdict.TheVariants.{Foreign, Misfit, Future, BadKey, Late, Repeat, Full, Kept}
 use Rattle.tesla_fitting.specs.Fitting.{stream_of, is_misfit, is_future, unfit}
-use Rattle.tesla_state.specs.Costs.{is_unread, gaps_by, gaps_on, pairs_by, most_on, most_by, most_offers}
+use Rattle.tesla_state.specs.Costs.{is_unread, gaps_by, gaps_on, pairs_by, most_on, most_by, offers_by}
 use Rattle.tesla_fitting.specs.Rows.{keys_of}
 use Rattle.tesla_state.specs.Offered.{HaveBegun, gap_of, gaps}
 use Rattle.tesla_state.specs.State.{Holding, State}
@@ -153,12 +153,12 @@ module _ (s : State) (reading : ℕ) (bytes : List ℕ) (frame : Frame) (is : fr
   most_read = ap (most_on s (bound_at s reading)) is
 
   -- what its offers may take
-  most_offered : most_offers s bytes ≡ gaps_by s frame
-  unfolding most_offers
+  most_offered : offers_by s bytes ≡ gaps_by s frame
+  unfolding offers_by
   most_offered = ap (gaps_on s) is
 
   -- a frame that is refused takes no more than its offers
-  pub bad_cost : (before after : ℕ) → after ≤ before + gaps s.tips (keys_of s.config frame) → after ≤ before + most_offers s bytes
+  pub bad_cost : (before after : ℕ) → after ≤ before + gaps s.tips (keys_of s.config frame) → after ≤ before + offers_by s bytes
   bad_cost before after most = let far = gaps_are s frame in subst (λ (n : ℕ). after ≤ before + n) (sym most_offered) (omega (arith, far, most))
 
   -- a frame that is refused takes no more

@@ -39,8 +39,8 @@ gaps_on s None = 0
 gaps_on s (Some frame) = gaps_by s frame
 
 -- the most evaluations that the offers of an arrival's keys may take, of which the first bad one is the last
-unfoldable pub most_offers : State → List ℕ → ℕ
-most_offers s bytes = gaps_on s (frame_of bytes)
+unfoldable pub offers_by : State → List ℕ → ℕ
+offers_by s bytes = gaps_on s (frame_of bytes)
 
 abbrev pub most_on : State → Option ℕ → Option Frame → ℕ
 most_on s bound None = 0

@@ -7,7 +7,7 @@ ghost use Rattle.tesla_frame.specs.Shown.{shown};
 ghost use Rattle.tesla_state.specs.declared.report.Report.{Report};
 ghost use Rattle.tesla_base.specs.declared.names.ChainNo.{ChainNo};
 ghost use Rattle.tesla_fitting.specs.declared.verdict.Verdict.TheVariants.{BadKey};
-ghost use Rattle.tesla_state.specs.Costs.{most_by, most_offers};
+ghost use Rattle.tesla_state.specs.Costs.{most_by, offers_by};
 ghost use Rattle.tesla_state.specs.Gathering.{RiseBy, order_of};
 ghost use Rattle.tesla_fitting.specs.Rows.{keys_of};
 ghost use Rattle.tesla_state.specs.Kept.{state_of, IsBefore};
@@ -119,7 +119,7 @@ pub fn receive<L: Ledger>(
     ensures cost { (ended : List Bool) (counts : Report) (calls reserved : ℕ) →
         steps.new ≤ steps.old + most_by (state_of config.now tips.old.items store.old ended counts calls reserved) reading bytes.now }
     ensures badkey { (ended : List Bool) (counts : Report) (calls reserved : ℕ) (chain : ChainNo) → result ≡ BadKey chain →
-        steps.new ≤ steps.old + most_offers (state_of config.now tips.old.items store.old ended counts calls reserved) bytes.now }
+        steps.new ≤ steps.old + offers_by (state_of config.now tips.old.items store.old ended counts calls reserved) bytes.now }
 {
     let Some(frame) = read_frame(bytes) else {
         return Verdict::Malformed;

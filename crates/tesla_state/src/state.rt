@@ -3,7 +3,7 @@
 ghost use Rattle.std.specs.Prelude.{◌≡◌, ◌+◌, ◌^◌, ◌<◌, ◌≤◌, [], IfOk, length, map, replicate, false};
 ghost use Rattle.tesla_fitting.specs.Config.{chains};
 ghost use Rattle.tesla_base.specs.declared.names.ChainNo.{ChainNo};
-ghost use Rattle.tesla_state.specs.Costs.{most_by, most_offers};
+ghost use Rattle.tesla_state.specs.Costs.{most_by, offers_by};
 ghost use Rattle.tesla_state.specs.Replies.{reply_shown, KeepsBehind};
 ghost use Rattle.tesla_state.specs.Steps.{opened, judged, after_arrival, reply_by, after_take, after_end};
 ghost use Rattle.tesla_state.specs.Tips.{first_tip};
@@ -123,7 +123,7 @@ impl ReceiverState {
         ensures state { self.new ≡ after_arrival self.old reading bytes.now }
         ensures reserved { self.new.reserved ≡ self.old.reserved }
         ensures cost { steps.new ≤ steps.old + most_by self.old reading bytes.now }
-        ensures badkey { (chain : ChainNo) → result ≡ Verdict.BadKey chain → steps.new ≤ steps.old + most_offers self.old bytes.now }
+        ensures badkey { (chain : ChainNo) → result ≡ Verdict.BadKey chain → steps.new ≤ steps.old + offers_by self.old bytes.now }
     {
         let verdict = receive(
             &self.config,
