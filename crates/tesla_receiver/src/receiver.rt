@@ -38,7 +38,8 @@ impl Receiver {
     /// A receiver that stands for the empty history. The lag is in microseconds; the capacity is a
     /// number of packets, at most 65,536, and the quota one of packets of an interval, from 1 to the
     /// capacity; each ingest below `ingests`, of which there is one at least, has to end before a take
-    /// answers `Over`. All memory is taken here. `NoMemory`: there wasn't enough.
+    /// answers `Over`. All memory is taken here: `reserved` tells for how many entries all tables have room, and no other
+    /// call changes it. `NoMemory`: there wasn't enough.
     pub fn open(
         alloc: Global,
         setup: Setup,

@@ -433,7 +433,7 @@ module _ (met : ℕ → Bool) (over : Placed → Bool) (low most high : ℕ) whe
       → then.held ≡ filter (λ x. not (is_of interval x && over x)) new.held → Spanned old then met over low (interval - 1) high
   spanned_more old new then interval is s capacity reserved chains waiting given held = record {
     capacity = capacity ∙ s.capacity;
-      reserved = reserved ∙ s.reserved;
+    reserved = reserved ∙ s.reserved;
     chains = chains ∙ s.chains;
     waiting = waiting ∙ s.waiting;
     given = given ∙ s.given;

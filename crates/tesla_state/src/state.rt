@@ -68,8 +68,9 @@ impl Model for ReceiverState {
 impl ReceiverState {
     /// A receiver to which nothing has happened. The lag is in microseconds; the capacity is a number of packets, at
     /// most 65,536, and the quota one of packets of an interval, from 1 to the capacity; each ingest below `ingests`,
-    /// of which there is one at least, has to end before a take answers `Over`. All memory is taken here. `NoMemory`:
-    /// there was none for the packets that may be held, or for a flag of each ingest.
+    /// of which there is one at least, has to end before a take answers `Over`. All memory is taken here: `reserved` tells
+    /// for how many entries all tables have room, and no other call changes it. `NoMemory`: there was none for the packets
+    /// that may be held, or for a flag of each ingest.
     pub fn open(
         alloc: Global,
         setup: Setup,

@@ -25,8 +25,7 @@ pub invariant_of-self : goal.invariant_of-self
 invariant_of-self c =
     let i = c.self.inside in
     let h = c.self.invariant.0 in
-    let live : is_in c.args.place (places_of i.index.entries) ≡ true = live_seen i.capacity i.slots.items i.index c.args.self.now c.self.view_is c.args.place c.requires in
-    (
+    let live : is_in c.args.place (places_of i.index.entries) ≡ true = live_seen i.capacity i.slots.items i.index c.args.self.now c.self.view_is c.args.place c.requires in (
       stored_gone i.capacity i.slots.items i.free.items c.push_reserved.new.self.items i.index c.remove.new.self i.released.slots c.clear.new.self.slots c.args.place h live c.remove.ensures.entries c.remove.ensures.capacity c.push_reserved.ensures.items c.clear.ensures.slots,
       c.self.invariant.1,
       omega (arith, c.self.invariant.2, c.push_reserved.ensures.capacity),
