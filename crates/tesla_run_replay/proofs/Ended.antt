@@ -10,7 +10,8 @@ use Rattle.tesla_front.specs.Files.{IsPrefix}
 use Rattle.tesla_front.specs.declared.fault.Fault.TheVariants as faults
 use Rattle.tesla_receiver.specs.History.{Event}
 use Rattle.tesla_receiver.specs.declared.history.Entry.{Entry}
-use Rattle.tesla_receiver.specs.Played.{played}
+use Rattle.tesla_receiver.specs.Played.{after_events, played}
+use Rattle.tesla_receiver.specs.Stands.{Stands}
 use Rattle.tesla_receiver.specs.Report.{report_of}
 use Rattle.tesla_convert.specs.Held.{HoldsText, HoldsPrefix}
 use Rattle.tesla_convert.specs.Meaning.{ConvertsBetween}
@@ -24,30 +25,39 @@ use Rattle.tesla_run_replay.specs.Playing.{EventRule, events_in, record_rule, ru
 use Rattle.tesla_run_replay.specs.Replay.{end_by, end_of, history_of, meaning, out_text, text_so_far}
 use Rattle.tesla_run_replay.specs.ReportText.{report_text}
 use Rattle.tesla_run_replay.specs.Steps.{TellsEnd}
+use Rattle.tesla_run_replay.specs.declared.target.ReceiverTarget.{ReceiverTarget}
 use Rattle.tesla_run_replay.proofs.Histories.{history_ended}
 use Rattle.tesla_run_replay.proofs.Made.{refused_is, so_far_is, text_is}
 
 -- ---- what is told is the fault that came
 
-module _ (rule : EventRule) (Ended : List Record → Type 0) (came : Came) where
-  pub read_from : (ended : Result (Ending RecordKind) Stopped) → TellsEnd rule Ended ended came → came ≡ Failed faults.Read → ended ≡ Err Read
+-- what is told of a receiver to which a capture was played
+abbrev pub Tells : ReceiverTarget → Result (Ending RecordKind) Stopped → Came → Type 0
+Tells target ended came = TellsEnd (rule_of target.receiver.config) (λ records. Stands target.receiver (after_events target.receiver.config [] (with_end (rule_of target.receiver.config) (events_in records)))) ended came
+
+-- it is told of the same one
+pub tells_same : (ended : Result (Ending RecordKind) Stopped) (came : Came) (target same : ReceiverTarget) → same ≡ target → Tells same ended came → Tells target ended came
+tells_same ended came target same e tells = subst (λ (t : ReceiverTarget). Tells t ended came) e tells
+
+module _ (target : ReceiverTarget) (came : Came) where
+  pub read_from : (ended : Result (Ending RecordKind) Stopped) → Tells target ended came → came ≡ Failed faults.Read → ended ≡ Err Read
   read_from (Ok endings.End) tells e = absurd (let no = tells.1 in cc)
   read_from (Ok (endings.Refused place kind)) tells e = absurd cc
   read_from (Err Read) tells e = refl
   read_from (Err Write) tells e = absurd cc
 
-  pub read_to : (ended : Result (Ending RecordKind) Stopped) → TellsEnd rule Ended ended came → ended ≡ Err Read → came ≡ Failed faults.Read
+  pub read_to : (ended : Result (Ending RecordKind) Stopped) → Tells target ended came → ended ≡ Err Read → came ≡ Failed faults.Read
   read_to (Ok ending) tells e = absurd cc
   read_to (Err Read) tells e = tells
   read_to (Err Write) tells e = absurd cc
 
-  pub write_from : (ended : Result (Ending RecordKind) Stopped) → TellsEnd rule Ended ended came → came ≡ Failed faults.Write → ended ≡ Err Write
+  pub write_from : (ended : Result (Ending RecordKind) Stopped) → Tells target ended came → came ≡ Failed faults.Write → ended ≡ Err Write
   write_from (Ok endings.End) tells e = absurd (let no = tells.1 in cc)
   write_from (Ok (endings.Refused place kind)) tells e = absurd cc
   write_from (Err Read) tells e = absurd cc
   write_from (Err Write) tells e = refl
 
-  pub write_to : (ended : Result (Ending RecordKind) Stopped) → TellsEnd rule Ended ended came → ended ≡ Err Write → came ≡ Failed faults.Write
+  pub write_to : (ended : Result (Ending RecordKind) Stopped) → Tells target ended came → ended ≡ Err Write → came ≡ Failed faults.Write
   write_to (Ok ending) tells e = absurd cc
   write_to (Err Read) tells e = absurd cc
   write_to (Err Write) tells e = tells

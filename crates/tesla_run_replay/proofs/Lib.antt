@@ -3,6 +3,7 @@ pub mod Made
 pub mod Takes
 pub mod Targets
 pub mod Ended
-pub mod Files
+pub mod Commands
 pub mod Performed
+pub mod Complete
 pub mod SixWords

@@ -17,11 +17,11 @@ use Rattle.tesla_receiver.specs.History.{arrivals_in}
 use Rattle.tesla_receiver.specs.Played.{played}
 use Rattle.tesla_receiver.specs.Report.{report_of, records_of, released_text}
 use Rattle.tesla_convert.specs.Meaning.{Converts, Meaning, StopsAtSetup}
-use Rattle.tesla_run_replay.specs.Arguments.{Arguments, IsReplay, files_of}
+use Rattle.tesla_run_replay.specs.Arguments.{ReplayArguments, IsReplay, files_of_replay}
 use Rattle.tesla_run_replay.specs.ReportText.{report_text}
 
 -- the configuration of the receiver: that of the words, with one ingest
-abbrev pub config_of : Arguments → Parts → Config
+abbrev pub config_of : ReplayArguments → Parts → Config
 config_of arguments setup =
     record { setup = setup; lag = arguments.lag; capacity = arguments.places.capacity; quota = arguments.places.quota; ingests = 1 }
 
@@ -54,17 +54,17 @@ abbrev pub meaning : Config → Meaning
 meaning cfg = record { comes = end_of cfg; makes = out_text cfg; so_far = text_so_far cfg; IsUnrefused = HoldsNoRefusal capture }
 
 -- under the setup the capture was played, told what there was of each file before, and of the capture and the output afterwards
-pub record PlaysUnder (arguments : Arguments) (setup capture capture_now out out_now : File) (came : Came) : Type 0 where
+pub record PlaysUnder (arguments : ReplayArguments) (setup capture capture_now out out_now : File) (came : Came) : Type 0 where
   pub parts : Parts
   pub found : IsSetupIn setup.page parts
   pub converts : Converts (meaning (config_of arguments parts)) capture.page capture_now.left out.page out_now.page came
 
 -- what a replay does: there is no setup, or the capture was played under it
-abbrev pub DoesReplay : Arguments → ℕ → List File → List File → Came → Type 0
+abbrev pub DoesReplay : ReplayArguments → ℕ → List File → List File → Came → Type 0
 DoesReplay arguments opened (setup ∷ capture ∷ out ∷ []) (setup_now ∷ capture_now ∷ out_now ∷ []) came =
     StopsAtSetup setup opened came ⊎ PlaysUnder arguments setup capture capture_now out out_now came
 DoesReplay arguments opened before after came = ⊥
 
 -- the command: its words, its files and what it does
 abbrev pub replay : Command
-replay = record { Arguments = Arguments; IsForm = IsReplay; files = files_of; Does = DoesReplay }
+replay = record { Arguments = ReplayArguments; IsForm = IsReplay; files = files_of_replay; Does = DoesReplay }

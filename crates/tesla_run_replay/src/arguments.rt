@@ -6,7 +6,7 @@ use tesla_front::Places;
 
 /// What the words `replay SETUP LAG CAPACITY CAPTURE OUT` ask for.
 #[derive(Clone, Copy, Debug)]
-pub struct ReplayArguments<'a> {
+pub struct Arguments<'a> {
     /// The name of the setup.
     pub setup: &'a str,
     /// How many microseconds the sender's clock is ahead of the receiver's at most (RFC 4082, section 3.3: `D_t`).

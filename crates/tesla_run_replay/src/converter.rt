@@ -151,7 +151,13 @@ impl<L: ReplayLedger, T: Target> Converter for ReplayConverter<L, T> {
         {
             return false;
         }
-        take_times(&mut self.target, waiting + 1, &mut self.steps, gatherer, out)
+        take_times(
+            &mut self.target,
+            waiting + 1,
+            &mut self.steps,
+            gatherer,
+            out,
+        )
     }
 
     ghost is = { capture_is };

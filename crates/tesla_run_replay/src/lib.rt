@@ -3,7 +3,7 @@
 
 mod arguments;
 mod converter;
-mod form;
+mod forms;
 pub mod laws;
 mod report;
 mod run;
@@ -11,7 +11,7 @@ mod target;
 mod words;
 
 pub use converter::{ReplayConverter, ReplayLedger};
-pub use form::REPLAY;
+pub use forms::REPLAY;
 pub use report::report_lines;
 pub use run::run_replay;
 pub use target::{PlayedEvent, ReceiverTarget, Target};

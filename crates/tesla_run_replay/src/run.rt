@@ -4,16 +4,17 @@ ghost use Rattle.std.specs.Prelude.{◌≡◌, ◌<◌, [], IfSome, Err, map, st
 ghost use Rattle.tesla_desk.specs.Faults.{HasCause, HasCauseBeside};
 ghost use Rattle.tesla_front.specs.Came.{Failed, came_of, outcome_came};
 ghost use Rattle.tesla_front.specs.Command.{Performs, RunsAs};
+ghost use Rattle.tesla_front.specs.Openings.{AreFiles};
 ghost use Rattle.tesla_front.specs.declared.fault.Fault.TheVariants as faults;
 ghost use Rattle.tesla_receiver.specs.Stands.{Stands};
 ghost use Rattle.tesla_convert.specs.Files.{ConvertsFiles};
 ghost use Rattle.tesla_convert.specs.Meaning.{ConvertsBetween};
-ghost use Rattle.tesla_run_replay.specs.Arguments.{AreNames, arguments_of};
+ghost use Rattle.tesla_run_replay.specs.Arguments.{arguments_of, files_of_replay};
 ghost use Rattle.tesla_run_replay.specs.Playing.{events_in, rule_of, with_end};
 ghost use Rattle.tesla_run_replay.specs.Replay.{config_of, meaning, replay};
 ghost use Rattle.tesla_run_replay.specs.Steps.{TellsEnd};
 
-use crate::arguments::ReplayArguments;
+use crate::arguments::Arguments;
 use crate::converter::{ReplayConverter, ReplayLedger};
 use crate::target::{ReceiverTarget, Target};
 use crate::words::arguments_in;
@@ -43,12 +44,8 @@ pub fn run_replay<D: Desk>(alloc: Global, words: &[String], desk: &mut D) -> Out
 }
 
 // Does what the words of a replay ask for.
-fn perform<D: Desk>(
-    alloc: Global,
-    arguments: &ReplayArguments<'_>,
-    desk: &mut D,
-) -> Result<Lines, Stop>
-    requires { AreNames arguments.now.setup.now arguments.now.capture.now arguments.now.out.now }
+fn perform<D: Desk>(alloc: Global, arguments: &Arguments<'_>, desk: &mut D) -> Result<Lines, Stop>
+    requires { AreFiles (files_of_replay (arguments_of arguments.now)) }
     ensures { Performs replay (arguments_of arguments.now) (D.told desk.old) (D.told desk.new) (came_of result) }
 {
     match setup_under(alloc, arguments.setup, desk) {
@@ -61,7 +58,7 @@ fn perform<D: Desk>(
 fn play_files<D: Desk>(
     alloc: Global,
     setup: Setup,
-    arguments: &ReplayArguments<'_>,
+    arguments: &Arguments<'_>,
     desk: &mut D,
 ) -> Result<Lines, Stop>
     ensures { ConvertsFiles (meaning (config_of (arguments_of arguments.now) setup)) arguments.now.capture.now arguments.now.out.now (D.told desk.old) (D.told desk.new) (came_of result) }
@@ -80,7 +77,7 @@ fn play_files<D: Desk>(
 fn play<S: Source, O: Sink>(
     alloc: Global,
     setup: Setup,
-    arguments: &ReplayArguments<'_>,
+    arguments: &Arguments<'_>,
     source: &mut S,
     out: &mut O,
 ) -> Result<Lines, Stop>
@@ -94,7 +91,14 @@ fn play<S: Source, O: Sink>(
     ensures output { O.name out.new ≡ O.name out.old }
 {
     let places = arguments.places;
-    match Receiver::open(alloc, setup, arguments.lag, places.capacity, places.quota, 1) {
+    match Receiver::open(
+        alloc,
+        setup,
+        arguments.lag,
+        places.capacity,
+        places.quota,
+        1,
+    ) {
         Ok(receiver) => play_counted::<Brand, S, O>(receiver, Blank::new(1), source, out),
         Err(_) => Err(Stop::Failed(Fault::NoMemory)),
     }

@@ -1,9 +1,9 @@
 //! The words of the command `replay`.
 
 ghost use Rattle.std.specs.Prelude.{◌≡◌, [], ◌∷◌, Some, None, IfSome, true, false, map, string_bytes, option_map, codes};
-ghost use Rattle.tesla_run_replay.specs.Arguments.{Arguments, AreNames, IsReplay, arguments_of};
+ghost use Rattle.tesla_run_replay.specs.Arguments.{ReplayArguments, AreNames, IsReplay, arguments_of};
 
-use crate::arguments::ReplayArguments;
+use crate::arguments::Arguments;
 use tesla_base::read_signed;
 use tesla_front::{is_name, places_in};
 
@@ -31,15 +31,15 @@ fn are_names(setup: &str, capture: &str, out: &str) -> bool
 }
 
 // What the words after the command ask for.
-fn arguments<'a>(
+fn read_words<'a>(
     setup: &'a str,
     lag: &[u8],
     capacity: &[u8],
     capture: &'a str,
     out: &'a str,
-) -> Option<ReplayArguments<'a>>
+) -> Option<Arguments<'a>>
     ensures found { IfSome result (λ arguments. IsReplay (arguments_of arguments) (codes "replay" ∷ setup.now ∷ lag.now ∷ capacity.now ∷ capture.now ∷ out.now ∷ [])) }
-    ensures only { (arguments : Arguments) → IsReplay arguments (codes "replay" ∷ setup.now ∷ lag.now ∷ capacity.now ∷ capture.now ∷ out.now ∷ []) → option_map arguments_of result ≡ Some arguments }
+    ensures only { (arguments : ReplayArguments) → IsReplay arguments (codes "replay" ∷ setup.now ∷ lag.now ∷ capacity.now ∷ capture.now ∷ out.now ∷ []) → option_map arguments_of result ≡ Some arguments }
 {
     let Ok(lag) = read_signed(lag) else {
         return None;
@@ -50,7 +50,7 @@ fn arguments<'a>(
     if !are_names(setup, capture, out) {
         return None;
     }
-    Some(ReplayArguments {
+    Some(Arguments {
         setup,
         lag,
         places,
@@ -63,11 +63,11 @@ fn arguments<'a>(
 /// `replay SETUP LAG CAPACITY CAPTURE OUT`: each word is there, LAG is a signed decimal of 64 bits, CAPACITY is a
 /// decimal from 1 to 65,536 or two with a slash between them of which the second is from 1 to the first, no name is
 /// empty or the console's, and OUT is neither SETUP nor CAPTURE.
-pub fn arguments_in(words: &[String]) -> Option<ReplayArguments<'_>>
+pub fn arguments_in(words: &[String]) -> Option<Arguments<'_>>
     // What is found is spelled so.
     ensures found { IfSome result (λ arguments. IsReplay (arguments_of arguments) (map string_bytes words.now)) }
     // What is spelled so is found.
-    ensures only { (arguments : Arguments) → IsReplay arguments (map string_bytes words.now) → option_map arguments_of result ≡ Some arguments }
+    ensures only { (arguments : ReplayArguments) → IsReplay arguments (map string_bytes words.now) → option_map arguments_of result ≡ Some arguments }
 {
     let [command, setup, lag, capacity, capture, out] = words else {
         return None;
@@ -75,7 +75,7 @@ pub fn arguments_in(words: &[String]) -> Option<ReplayArguments<'_>>
     if command.as_str() != NAME {
         return None;
     }
-    arguments(
+    read_words(
         setup.as_str(),
         lag.as_bytes(),
         capacity.as_bytes(),

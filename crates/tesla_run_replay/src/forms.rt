@@ -1,4 +1,4 @@
-//! The form of the command `replay`, as it is told.
+//! The form of the command, as it is told.
 
 use tesla_front::FormText;
 
