@@ -1,0 +1,3 @@
+mod FiveWords
+mod Frames
+mod Scripts

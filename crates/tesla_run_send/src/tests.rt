@@ -1,0 +1,1 @@
+//! Runs of `send` over a desk in memory.
