@@ -339,7 +339,7 @@ module _ (capacity : ℕ) (slots : List Item) (free : List ℕ) (index : Entries
 -- ---- at the opening
 
 pub stored_open : (capacity : ℕ) (slots : List Item) (free : List ℕ) (index : Entries) (released : List (Option ℕ)) → 1 ≤ capacity → capacity ≤ 65536
-    → slots ≡ [] → free ≡ [] → ◌≡◌ {A = Entries} index (record { capacity = capacity; entries = [] }) → released ≡ replicate capacity None → IsStored capacity slots free index released
+    → slots ≡ [] → free ≡ [] → ◌≡◌ {A = Entries} index (record { capacity = capacity; entries = []; reserved = index.reserved }) → released ≡ replicate capacity None → IsStored capacity slots free index released
 stored_open capacity slots free index released some most es ef ei er =
     let entries : index.entries ≡ [] = ap (λ (v : Entries). v.entries) ei in
     let none : places_of index.entries ≡ [] = ap places_of entries in
@@ -362,7 +362,7 @@ stored_open capacity slots free index released some most es ef ei er =
 
 -- ---- what a caller sees
 
-module _ (capacity : ℕ) (slots : List Item) (index : Entries) (seen : Holding) (view : ◌≡◌ {A = Holding} (record { capacity = capacity; held = map (held_at slots) index.entries }) seen) where
+module _ (capacity : ℕ) (slots : List Item) (index : Entries) (seen : Holding) {room : ℕ} (view : ◌≡◌ {A = Holding} (record { capacity = capacity; held = map (held_at slots) index.entries; reserved = room }) seen) where
   pub seen_held : map (held_at slots) index.entries ≡ seen.held
   seen_held = ap (λ (v : Holding). v.held) view
 

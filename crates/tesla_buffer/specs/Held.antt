@@ -15,10 +15,12 @@ pub record Held : Type 0 where
   pub place : ℕ
   pub item : Item
 
--- the packets that are held, in the order in which they came, and how many can be
+-- the packets that are held, in the order in which they came, and how many can be; `reserved` is how many entries the
+-- tables have room for, together
 pub record Holding : Type 0 where
   pub capacity : ℕ
   pub held : List Held
+  pub reserved : ℕ
 
 -- whether a packet is at a place
 abbrev pub is_at : ℕ → Held → Bool

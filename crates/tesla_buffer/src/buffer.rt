@@ -31,16 +31,20 @@ pub struct Buffer {
 }
 
 impl Model for Buffer {
-    ghost use Rattle.std.specs.Prelude.{◌≤◌, map};
+    ghost use Rattle.std.specs.Prelude.{◌≤◌, ◌+◌, map};
     ghost use Rattle.std.specs.Vec.{vec_capacity};
     ghost use Rattle.tesla_buffer.specs.Held.{Holding};
     ghost use Rattle.tesla_buffer.specs.Stored.{IsBeside, IsStored, held_at};
 
     ghost Value = { Holding };
 
-    ghost view = { λ b. record { capacity = b.capacity; held = map (held_at b.slots.items) b.index.entries } };
+    ghost view = { λ b. record {
+      capacity = b.capacity;
+      held = map (held_at b.slots.items) b.index.entries;
+      reserved = vec_capacity b.slots + vec_capacity b.free + b.index.reserved + b.released.reserved + vec_capacity b.resting;
+    } };
 
-    ghost invariant = { λ b. IsStored b.capacity b.slots.items b.free.items b.index b.released × (b.capacity ≤ vec_capacity b.slots) × (b.capacity ≤ vec_capacity b.free) × IsBeside b.capacity b.slots.items b.resting.items };
+    ghost invariant = { λ b. IsStored b.capacity b.slots.items b.free.items b.index b.released.slots × (b.capacity ≤ vec_capacity b.slots) × (b.capacity ≤ vec_capacity b.free) × IsBeside b.capacity b.slots.items b.resting.items };
 }
 
 impl Buffer {
@@ -48,7 +52,7 @@ impl Buffer {
     pub fn open(alloc: Global, capacity: u32) -> Result<Buffer, NoMemory>
         requires some { 1 ≤ capacity }
         requires most { capacity ≤ 65536 }
-        ensures { IfOk result (λ b. b ≡ record { capacity = capacity; held = [] }) }
+        ensures { IfOk result (λ b. b ≡ record { capacity = capacity; held = []; reserved = b.reserved }) }
     {
         Ok(Buffer {
             capacity,
@@ -67,6 +71,7 @@ impl Buffer {
         ensures vacant { is_live result.0 self.old.held ≡ false }
         ensures within { result.0 < self.old.capacity }
         ensures capacity { self.new.capacity ≡ self.old.capacity }
+        ensures reserved { self.new.reserved ≡ self.old.reserved }
     {
         let place = vacant_slot(&mut self.slots, &mut self.free);
         self.slots[place as usize] = *item;
@@ -88,6 +93,7 @@ impl Buffer {
         ensures vacant { is_live result.0 self.old.held ≡ false }
         ensures within { result.0 < self.old.capacity }
         ensures capacity { self.new.capacity ≡ self.old.capacity }
+        ensures reserved { self.new.reserved ≡ self.old.reserved }
         ensures few { length frame.now.rows ≤ 8 }
         ensures payload { length frame.now.payload ≤ 1200 }
     {
@@ -213,6 +219,7 @@ impl Buffer {
         requires { is_live place self.old.held ≡ true }
         ensures held { self.new.held ≡ settled place Fate.Released self.old.held }
         ensures capacity { self.new.capacity ≡ self.old.capacity }
+        ensures reserved { self.new.reserved ≡ self.old.reserved }
     {
         let item = &mut self.slots[place as usize];
         item.released = true;
@@ -227,6 +234,7 @@ impl Buffer {
         requires { is_live place self.old.held ≡ true }
         ensures held { self.new.held ≡ settled place Fate.Taken self.old.held }
         ensures capacity { self.new.capacity ≡ self.old.capacity }
+        ensures reserved { self.new.reserved ≡ self.old.reserved }
     {
         self.slots[place as usize].taken = true;
         self.resting[place as usize] = true;
@@ -237,12 +245,11 @@ impl Buffer {
         requires { is_live place self.old.held ≡ true }
         ensures held { self.new.held ≡ settled place Fate.Gone self.old.held }
         ensures capacity { self.new.capacity ≡ self.old.capacity }
+        ensures reserved { self.new.reserved ≡ self.old.reserved }
     {
         self.index.remove(place);
         self.released.clear(place);
-        if self.free.push(place).is_err() {
-            unreachable!()
-        }
+        self.free.push_reserved(place);
     }
 
     /// Settles what becomes of the packet at a place: it is marked as released or as taken, or is held no longer.
@@ -251,6 +258,7 @@ impl Buffer {
         requires { is_live place.0 self.old.held ≡ true }
         ensures held { self.new.held ≡ settled place.0 fate self.old.held }
         ensures capacity { self.new.capacity ≡ self.old.capacity }
+        ensures reserved { self.new.reserved ≡ self.old.reserved }
     {
         match fate {
             Fate::Released => self.mark_released(place.0),

@@ -42,30 +42,19 @@ pub fn rests(item: &Item) -> bool
     !item.released || item.taken
 }
 
-/// One more slot, where there is room for it.
-fn grow(slots: &mut Vec<Item>)
-    requires { vec_len slots.old < vec_capacity slots.old }
-    ensures slots { slots.new.items ≡ slots.old.items ++ EMPTY ∷ [] }
-    ensures capacity { vec_capacity slots.old ≤ vec_capacity slots.new }
-{
-    if slots.push(EMPTY).is_err() {
-        unreachable!()
-    }
-}
-
 /// A slot that isn't in use: the free one that was given back last, or else a new one.
 pub fn vacant_slot(slots: &mut Vec<Item>, free: &mut Vec<u32>) -> u32
     requires room { free.old.items ≡ [] → vec_len slots.old < vec_capacity slots.old }
     requires few { vec_len slots.old < 2 ^ 32 }
     ensures slot { ((free.old.items ≡ free.new.items ++ result ∷ []) × (slots.new.items ≡ slots.old.items)) ⊎ ((free.old.items ≡ []) × (free.new.items ≡ []) × (result ≡ length slots.old.items) × (slots.new.items ≡ slots.old.items ++ EMPTY ∷ [])) }
-    ensures slots_capacity { vec_capacity slots.old ≤ vec_capacity slots.new }
+    ensures slots_capacity { vec_capacity slots.new ≡ vec_capacity slots.old }
     ensures free_capacity { vec_capacity free.new ≡ vec_capacity free.old }
 {
     if let Some(place) = free.pop() {
         return place;
     }
     let place = slots.len() as u32;
-    grow(slots);
+    slots.push_reserved(EMPTY);
     place
 }
 

@@ -56,7 +56,7 @@ sums last after before left whole cost life walked saved same within = omega ari
 
 -- what a caller is told of it
 pub is_opened : (seed : Key) (last : ℕ) (nearest : Mark) (above : List Mark) (commitment : Key) (capacity before after : ℕ) → 0 < last → IsKept last 0 commitment nearest above capacity → nearest.index ≡ 1 → highest nearest above ≡ (record { index = last; key = seed }) → after + 1 ≡ before + last → after + left_above 0 (nearest ∷ reverse above) ≤ before + (halving_cost (last - 0) + 0) →
-    IsOpened seed last (record { seed = (highest nearest above).key; last = last; given = 0; nearest = nearest.index; kept = length above + 2; left = left_above 0 (nearest ∷ reverse above) })
+    IsOpened seed last (record { seed = (highest nearest above).key; last = last; given = 0; nearest = nearest.index; kept = length above + 2; left = left_above 0 (nearest ∷ reverse above); reserved = capacity })
 is_opened seed last nearest above commitment capacity before after some is index top walked left = record {
   seed = ap (λ (mark : Mark). mark.key) top;
   last = refl;

@@ -5,8 +5,8 @@ use Rattle.tesla_prf.specs.Keys.{walk}
 use Rattle.tesla_chain.specs.Cost.{W, bits}
 
 -- the seed is the key of index `last`; the keys of index 1 to `given` were given; `nearest` is the least
--- index above them whose key is kept, `kept` the number of keys that are kept, and `left` the most steps
--- that the other keys still take
+-- index above them whose key is kept, `kept` the number of keys that are kept, `left` the most steps that
+-- the other keys still take, and `reserved` the number of entries that its table has room for
 pub record Walking : Type 0 where
   pub seed : Key
   pub last : ℕ
@@ -14,6 +14,7 @@ pub record Walking : Type 0 where
   pub nearest : ℕ
   pub kept : ℕ
   pub left : ℕ
+  pub reserved : ℕ
 
 -- the next key; there is none after the seed
 abbrev pub next_given : Walking → Option Key

@@ -42,12 +42,10 @@ fn halve<L: Ledger>(nearest: Mark, given: u32, above: &mut Vec<Mark>, steps: &mu
     ensures highest { highest result above.new.items ≡ highest nearest above.old.items }
     ensures cost { steps.new + result.index ≡ steps.old + nearest.index }
     ensures left { steps.new + left_above given (result ∷ reverse above.new.items) ≤ steps.old + left_above given (nearest ∷ reverse above.old.items) }
-    ensures capacity { vec_capacity above.old ≤ vec_capacity above.new }
+    ensures reserved { vec_capacity above.new ≡ vec_capacity above.old }
 {
     let lower = half_way(nearest, given, steps);
-    let Ok(()) = above.push(nearest) else {
-        unreachable!()
-    };
+    above.push_reserved(nearest);
     lower
 }
 
@@ -65,7 +63,7 @@ pub fn descend<L: Ledger>(
     ensures highest { highest result above.new.items ≡ highest nearest above.old.items }
     ensures cost { steps.new + (given + 1) ≡ steps.old + nearest.index }
     ensures left { steps.new + left_above given (result ∷ reverse above.new.items) ≤ steps.old + left_above given (nearest ∷ reverse above.old.items) }
-    ensures capacity { vec_capacity above.old ≤ vec_capacity above.new }
+    ensures reserved { vec_capacity above.new ≡ vec_capacity above.old }
 {
     if nearest.index - given == 1 {
         return nearest;

@@ -170,3 +170,42 @@ fn text_without_keys(rt: HostRuntime) -> Result<(), NoMemory> {
     assert_eq!(rt; text.as_str(), "Walker { .. }");
     Ok(())
 }
+
+/// The most keys that a chain has.
+const MOST: u32 = 1_048_576;
+
+/// The keys of index 0 to 3 of a chain of as many keys as there may be, with the same seed.
+const LONGEST: [Key; 4] = [
+    Key(
+        *b"\xd9\x3d\x30\xc0\x20\xe8\x6b\x1b\x1c\x5e\xe1\x3a\x2a\x5d\x00\x33\x11\x88\x15\x6a\xd2\xa4\x3a\xed\x07\xd0\xaa\x5d\x26\xb2\xd2\xef",
+    ),
+    Key(
+        *b"\x0a\xe2\x68\xcd\x58\x5a\x8b\x9b\x9a\xb1\xc3\xf2\x55\xb8\xdc\x18\x3f\xfb\x61\x04\xb9\xbc\xfa\xa3\x2f\xfd\xbb\xe4\xf1\xdc\xd7\x0b",
+    ),
+    Key(
+        *b"\xf1\xa2\x34\x39\xc5\x75\x96\x4a\xd8\x5d\x4f\xc0\x76\xde\x6e\xdd\x6d\xc2\xa6\xaa\x75\x21\x79\xf1\x4d\x5f\x5f\xd8\x95\xfd\xce\x8c",
+    ),
+    Key(
+        *b"\xd2\x1d\x54\x02\x46\x69\xbe\xff\xc1\x8c\xa0\xd4\x45\xb4\x8a\x8a\xc4\x95\xe0\x0c\x0f\x2f\x3a\x96\x1e\x95\x15\xf5\x70\x65\x4c\x52",
+    ),
+];
+
+fn begins_longest<L: Ledger>(alloc: Global, blank: Blank) -> Result<bool, NoMemory>
+    requires name { blank.name ≡ L.name }
+    requires parts { blank.parts ≡ L.parts }
+    requires some { 0 < L.parts }
+{
+    let mut steps = Steps::<L>::new(blank);
+    let mut walker = Walker::open(alloc, CHAIN[8], MOST, &mut steps)?;
+    let mut met = walker.commitment() == LONGEST[0];
+    for key in &LONGEST[1..] {
+        met &= walker.next(&mut steps) == Some(*key);
+    }
+    Ok(met)
+}
+
+#[test]
+fn longest_chain(rt: HostRuntime) -> Result<(), NoMemory> {
+    assert!(rt; begins_longest::<Brand>(rt.alloc(), Blank::new(1))?);
+    Ok(())
+}

@@ -45,14 +45,15 @@ impl Model for Walker {
       nearest = w.nearest.index;
       kept = length w.above.items + 2;
       left = left_above w.given (w.nearest ∷ reverse w.above.items);
+      reserved = vec_capacity w.above;
     } };
 
     ghost invariant = { λ w. IsKept w.last w.given w.commitment w.nearest w.above.items (vec_capacity w.above) };
 }
 
 impl Walker {
-    /// A walker of the chain whose key of index `last`, 1 to 1,048,576, is the seed: `last` counted steps.
-    /// All its memory is taken here. `Err` where there is none; then nothing was walked.
+    /// A walker of the chain whose key of index `last`, 1 to 1,048,576, is the seed: `last` counted steps. No key
+    /// is prepared. All its memory is taken here. `Err` where there is none; then nothing was walked.
     pub fn open<L: Ledger>(
         alloc: Global,
         seed: Key,
@@ -85,13 +86,15 @@ impl Walker {
     }
 
     /// The next key: the first call gives the key of index 1, and the last one the seed. `None` exactly after
-    /// the seed; then nothing changes. It takes no memory.
+    /// the seed; then nothing changes. It takes no memory: what was reserved at opening stays as it was. No key
+    /// is prepared.
     pub fn next<L: Ledger>(&mut self, steps: &mut Steps<L>) -> Option<Key>
         ensures key { result ≡ next_given self.old }
         ensures given { self.old.given < self.old.last → HasGiven self.old self.new }
         ensures walked { self.old.given < self.old.last → steps.new + (self.old.given + 1) ≡ steps.old + self.old.nearest }
         ensures left { steps.new + self.new.left ≤ steps.old + self.old.left }
         ensures over { self.old.given ≡ self.old.last → (self.new ≡ self.old) × (steps.new ≡ steps.old) }
+        ensures reserved { self.new.reserved ≡ self.old.reserved }
     {
         if self.given == self.last {
             return None;

@@ -1,0 +1,5 @@
+pub mod Held
+mod Made
+mod Places
+mod Opened
+pub mod Closed

@@ -1,12 +1,12 @@
 -- What the inner steps of a conversion come to.
-use Rattle.std.specs.Prelude.{◌≡◌, ◌⊎◌, ℕ, ◌<◌, ◌≤◌, true, Option, Some, None, Result, Ok, Err, List, [], ◌∷◌, ◌++◌}
+use Rattle.std.specs.Prelude.{◌≡◌, ◌⊎◌, ℕ, ◌<◌, ◌≤◌, true, Option, Some, None, Result, Ok, Err, List, [], ◌++◌}
 use Rattle.tesla_capture.specs.Grammar.{Grammar, limit}
 use Rattle.tesla_capture.specs.Records.{outline_of, record_place}
 use Rattle.tesla_capture.specs.Steps.{Progress}
 use Rattle.tesla_capture.specs.Taken.{HoldsNoRefusal, IsTaken}
 use Rattle.tesla_desk.specs.Outside.{AppendsPrefix, with_bytes}
 use Rattle.tesla_convert.specs.Held.{HoldsText, HoldsPrefix}
-use Rattle.tesla_convert.specs.Rule.{Behind, Made, Rule, made, made_of, made_so_far, with_text}
+use Rattle.tesla_convert.specs.Rule.{Behind, Rule, made, made_of, made_so_far, with_text}
 use Rattle.tesla_convert.specs.declared.converter.Converted.{Converted}
 use Rattle.tesla_convert.specs.declared.converter.Converted.TheVariants as conversions
 use Rattle.tesla_convert.specs.declared.converter.Converted.TheVariants.{Whole, WriteFault}

@@ -6,9 +6,7 @@ use super::*;
 use std::alloc::Global;
 use std::test::Fail;
 use tesla_base::{NoMemory, StreamId};
-use tesla_capture::RecordKind;
-use tesla_commit::{SeedsKind, SetupKind};
-use tesla_desk::{Desk, MemoryDesk, OpenRefusal, Source};
+use tesla_desk::{CONSOLE, Desk, MemoryDesk, OpenRefusal, Source};
 use tesla_examples::SETUP;
 
 const FALLING: &str =
@@ -43,8 +41,46 @@ fn capacities(rt: HostRuntime) {
     }
 }
 
+const FORMS: [FormText; 2] = [
+    FormText {
+        words: "first A",
+        about: "",
+    },
+    FormText {
+        words: "second A [B]",
+        about: "",
+    },
+];
+
+// Tells a console, of which one write may fail and which takes so many bytes, what a run came to: the status, a space
+// and what the console holds then.
+fn told(
+    alloc: Global,
+    came: Outcome,
+    failing: Option<u64>,
+    room: usize,
+) -> Result<String, Fail> {
+    let mut desk = MemoryDesk::new(alloc, room)?;
+    if let Some(call) = failing {
+        desk.fail_call(CONSOLE, call)?;
+    }
+    let Ok(mut console) = desk.open_sink(CONSOLE) else {
+        return Err("no console".into());
+    };
+    let told = tell(&mut console, &FORMS, came);
+    desk.close_sink(console);
+    let status = told.status();
+    let text = std::str::from_utf8(desk.page(CONSOLE).unwrap_or(b""))?;
+    Ok(format!(in alloc; "{status} {text}")?)
+}
+
+// The same of why a command stopped, on a console that fails in nothing.
+fn stopped(alloc: Global, stop: Stop) -> Result<String, Fail> {
+    told(alloc, outcome_of(Err(stop)), None, 1_000)
+}
+
 #[test]
-fn faults(rt: HostRuntime) {
+fn faults(rt: HostRuntime) -> Result<(), Fail> {
     for (fault, status, line) in [
         (Fault::Read, 4, "read fault\n"),
         (Fault::Write, 5, "write fault\n"),
@@ -54,78 +90,75 @@ fn faults(rt: HostRuntime) {
     ] {
         assert_eq!(rt; fault.status(), status, "at {line}");
         assert_eq!(rt; fault.line(), line.as_bytes());
-        assert_eq!(rt; Stop::from(fault), Stop::Failed(fault));
+        let want = format!(in rt.alloc(); "{status} {line}")?;
+        let came = stopped(rt.alloc(), Stop::from(fault))?;
+        assert_eq!(rt; came.as_str(), want.as_str());
     }
-}
-
-// The refusal of a setup at a line.
-fn of_setup(line: u32, kind: SetupKind) -> Refusal {
-    Refusal::Setup { line, kind }
-}
-
-// The refusal of a capture at a place.
-fn of_capture(place: u64, kind: RecordKind) -> Refusal {
-    Refusal::Capture { place, kind }
-}
-
-// The refusal of seeds at a line.
-fn of_seeds(line: u32, kind: SeedsKind) -> Refusal {
-    Refusal::Seeds { line, kind }
-}
-
-// The refusal of a script at a place.
-fn of_script(place: u64, kind: ScriptKind) -> Refusal {
-    Refusal::Script { place, kind }
+    Ok(())
 }
 
 #[test]
-fn refusals(rt: HostRuntime) {
-    for (refusal, status, line) in [
+fn refusals(rt: HostRuntime) -> Result<(), Fail> {
+    for (status, file, place, kind, line) in [
+        (2, "setup", 0, "TooLong", "refused setup 0 TooLong\n"),
         (
-            of_setup(0, SetupKind::TooLong),
             2,
-            "refused setup 0 TooLong\n",
-        ),
-        (
-            of_setup(7, SetupKind::DelaysNotRising),
-            2,
+            "setup",
+            7,
+            "DelaysNotRising",
             "refused setup 7 DelaysNotRising\n",
         ),
+        (3, "capture", 0, "BadHead", "refused capture 0 BadHead\n"),
         (
-            of_capture(0, RecordKind::BadHead),
             3,
-            "refused capture 0 BadHead\n",
-        ),
-        (
-            of_capture(178, RecordKind::Truncated),
-            3,
+            "capture",
+            178,
+            "Truncated",
             "refused capture 178 Truncated\n",
         ),
+        (3, "seeds", 3, "WrongCount", "refused seeds 3 WrongCount\n"),
+        (3, "seeds", 3, "WrongSeed", "refused seeds 3 WrongSeed\n"),
+        (3, "script", 17, "Backward", "refused script 17 Backward\n"),
+        (3, "script", 0, "BadHead", "refused script 0 BadHead\n"),
         (
-            of_seeds(3, SeedsKind::WrongCount),
             3,
-            "refused seeds 3 WrongCount\n",
-        ),
-        (
-            Refusal::WrongSeed { line: 3 },
-            3,
-            "refused seeds 3 WrongSeed\n",
-        ),
-        (
-            of_script(17, ScriptKind::Backward),
-            3,
-            "refused script 17 Backward\n",
-        ),
-        (
-            of_script(0, ScriptKind::from(RecordKind::BadHead)),
-            3,
-            "refused script 0 BadHead\n",
+            "ninebytes",
+            u64::MAX,
+            "twenty-bytes-of-kind",
+            "refused ninebytes 18446744073709551615 twenty-bytes-of-kind\n",
         ),
     ] {
-        assert_eq!(rt; refusal.status(), status, "at {line}");
-        assert_eq!(rt; refusal_lines(&refusal).as_str(), line);
-        assert_eq!(rt; Stop::from(refusal), Stop::Refused(refusal));
+        let refusal = refused(status, file, place, kind);
+        assert_eq!(rt; refusal.status, status, "at {line}");
+        assert_eq!(rt; refusal.line.as_str(), line);
+        let want = format!(in rt.alloc(); "{status} {line}")?;
+        let came = stopped(rt.alloc(), Stop::from(refusal))?;
+        assert_eq!(rt; came.as_str(), want.as_str());
     }
+    Ok(())
+}
+
+/// A summary and the usage lines, on consoles that take all, that fail in the first write, and that take ten bytes.
+#[test]
+fn a_console_is_told(rt: HostRuntime) -> Result<(), Fail> {
+    for (failing, room, summary, usage) in [
+        (
+            None,
+            1_000,
+            "0 malformed 2\n",
+            "1 usage: first A\nusage: second A [B]\n",
+        ),
+        (Some(0), 1_000, "5 write fault\n", "1 "),
+        (None, 10, "5 malformed ", "1 usage: fir"),
+    ] {
+        let mut lines = Lines::new();
+        add_count(&mut lines, "malformed", 2);
+        let came = told(rt.alloc(), Outcome::Done(lines), failing, room)?;
+        assert_eq!(rt; came.as_str(), summary);
+        let came = told(rt.alloc(), Outcome::Usage, failing, room)?;
+        assert_eq!(rt; came.as_str(), usage);
+    }
+    Ok(())
 }
 
 #[test]
@@ -191,6 +224,31 @@ fn a_file_is_read_up_to_a_limit(rt: HostRuntime) -> Result<(), Fail> {
     Ok(())
 }
 
+/// A text is written as a whole, up to the room of the file, not behind a failed write, and not where the file isn't
+/// opened.
+#[test]
+fn a_file_is_written(rt: HostRuntime) -> Result<(), Fail> {
+    for (room, fails, opens, fault, held) in [
+        (100, None, true, None, "first to last"),
+        (5, None, true, Some(Fault::Write), "first"),
+        (100, Some(1), true, Some(Fault::Write), "fir"),
+        (100, None, false, Some(Fault::Open), "before"),
+    ] {
+        let mut desk = desk_with(rt.alloc(), b"before")?;
+        desk.set_room("file", room)?;
+        if let Some(call) = fails {
+            desk.fail_call("file", call)?;
+        }
+        if !opens {
+            desk.fail_open(0)?;
+        }
+        let written = write_file("file", b"first to last", &mut desk);
+        assert_eq!(rt; written.err(), fault);
+        assert_eq!(rt; desk.page("file").unwrap_or(b""), held.as_bytes());
+    }
+    Ok(())
+}
+
 #[test]
 fn the_base_setup(rt: HostRuntime) -> Result<(), Fail> {
     let mut desk = desk_with(rt.alloc(), SETUP.as_bytes())?;
@@ -198,10 +256,8 @@ fn the_base_setup(rt: HostRuntime) -> Result<(), Fail> {
     assert_eq!(rt; setup.stream(), StreamId(0xa7));
     assert_eq!(rt; setup.count(), 2);
     let missing = setup_under(rt.alloc(), "nothing", &mut desk);
-    assert_eq!(rt;
-        missing.err().ok_or("it is not there")?,
-        Stop::Failed(Fault::Open)
-    );
+    let came = stopped(rt.alloc(), missing.err().ok_or("it is not there")?)?;
+    assert_eq!(rt; came.as_str(), "7 open fault\n");
     Ok(())
 }
 
@@ -209,15 +265,16 @@ fn the_base_setup(rt: HostRuntime) -> Result<(), Fail> {
 fn refused_setups(rt: HostRuntime) -> Result<(), Fail> {
     let long = [b'x'; 5000];
     for (text, want) in [
-        (FALLING.as_bytes(), of_setup(7, SetupKind::DelaysNotRising)),
-        (b"".as_slice(), of_setup(1, SetupKind::BadLine)),
-        (&long[..4096], of_setup(1, SetupKind::BadLine)),
-        (&long[..4097], of_setup(0, SetupKind::TooLong)),
-        (&long[..5000], of_setup(0, SetupKind::TooLong)),
+        (FALLING.as_bytes(), "2 refused setup 7 DelaysNotRising\n"),
+        (b"".as_slice(), "2 refused setup 1 BadLine\n"),
+        (&long[..4096], "2 refused setup 1 BadLine\n"),
+        (&long[..4097], "2 refused setup 0 TooLong\n"),
+        (&long[..5000], "2 refused setup 0 TooLong\n"),
     ] {
         let mut desk = desk_with(rt.alloc(), text)?;
         let stop = setup_under(rt.alloc(), "file", &mut desk);
-        assert_eq!(rt; stop.err().ok_or("a setup")?, Stop::Refused(want));
+        let came = stopped(rt.alloc(), stop.err().ok_or("a setup")?)?;
+        assert_eq!(rt; came.as_str(), want);
     }
     Ok(())
 }
@@ -231,10 +288,8 @@ fn seeds(rt: HostRuntime) -> Result<(), Fail> {
     let seeds = seeds_under(rt.alloc(), "file", 1, &mut desk)?;
     assert_eq!(rt; seeds.count(), 1);
     let few = seeds_under(rt.alloc(), "file", 2, &mut desk);
-    assert_eq!(rt;
-        few.err().ok_or("two seeds")?,
-        Stop::Refused(of_seeds(3, SeedsKind::WrongCount))
-    );
+    let came = stopped(rt.alloc(), few.err().ok_or("two seeds")?)?;
+    assert_eq!(rt; came.as_str(), "3 refused seeds 3 WrongCount\n");
     Ok(())
 }
 

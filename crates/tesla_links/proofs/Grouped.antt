@@ -486,7 +486,7 @@ module _ (capacity : ℕ) (order members order' members' : Lists) (groups : List
 -- ---- at the opening
 
 pub indexed_open : (capacity : ℕ) (order members : Lists) (groups : List ℕ) (keys : List (Option ℕ)) → 1 ≤ capacity → capacity ≤ 65536
-    → ◌≡◌ {A = Lists} order (record { places = capacity; lists = replicate 1 [] }) → ◌≡◌ {A = Lists} members (record { places = capacity; lists = replicate capacity [] })
+    → ◌≡◌ {A = Lists} order (record { places = capacity; lists = replicate 1 []; reserved = order.reserved }) → ◌≡◌ {A = Lists} members (record { places = capacity; lists = replicate capacity []; reserved = members.reserved })
     → groups ≡ replicate capacity 0 → keys ≡ replicate capacity None
     → IsIndexed capacity order members groups keys
 indexed_open capacity order members groups keys some most eo em eg ek =
@@ -511,8 +511,8 @@ indexed_open capacity order members groups keys some most eo em eg ek =
       unique = λ g k key e f. absurd (none-some key (sym (slot g) ∙ e));
     }
 
-pub marked_open : (capacity : ℕ) (order members unmarked : Lists) → ◌≡◌ {A = Lists} order (record { places = capacity; lists = replicate 1 [] })
-    → ◌≡◌ {A = Lists} members (record { places = capacity; lists = replicate capacity [] }) → ◌≡◌ {A = Lists} unmarked (record { places = capacity; lists = replicate (capacity + 1) [] })
+pub marked_open : (capacity : ℕ) (order members unmarked : Lists) → ◌≡◌ {A = Lists} order (record { places = capacity; lists = replicate 1 []; reserved = order.reserved })
+    → ◌≡◌ {A = Lists} members (record { places = capacity; lists = replicate capacity []; reserved = members.reserved }) → ◌≡◌ {A = Lists} unmarked (record { places = capacity; lists = replicate (capacity + 1) []; reserved = unmarked.reserved })
     → IsMarked capacity order members unmarked
 marked_open capacity order members unmarked eo em eu =
     let empty : (j : ℕ) → list_of unmarked j ≡ [] = λ j. ap (λ (v : Lists). list_of v j) eu ∙ replicate_same (capacity + 1) j [] in
@@ -523,6 +523,10 @@ marked_open capacity order members unmarked eo em eu =
           empty g ∙ sym (ap (filter (λ p. not (is_marked capacity unmarked p))) (ap (λ (v : Lists). list_of v g) em ∙ replicate_same capacity g []));
       marked = λ p i. absurd (false≢true (ap (is_in p) (sym (empty capacity)) ∙ i));
     }
+
+-- the same entries, with the same room
+pub same_shown : (capacity room : ℕ) (entries entries' : List Entry) → entries ≡ entries' → ◌≡◌ {A = Entries} (record { capacity = capacity; entries = entries; reserved = room }) (record { capacity = capacity; entries = entries'; reserved = room })
+same_shown capacity room entries entries' e = ap (λ es. record { capacity = capacity; entries = es; reserved = room }) e
 
 -- ---- as the code changes it
 
@@ -537,8 +541,8 @@ some_in : (xs : List ℕ) → (length xs ≡ 0 → ⊥) → (r : ℕ) × (is_in 
 some_in [] ne = absurd (ne refl)
 some_in (x ∷ xs) ne = (x, in_here x xs)
 
-module _ (capacity : ℕ) (order unmarked : Lists) (groups : List ℕ) (keys : List (Option ℕ)) (seen : Entries)
-    (view : ◌≡◌ {A = Entries} (record { capacity = capacity; entries = entries_of order keys groups (is_marked capacity unmarked) }) seen) where
+module _ (capacity : ℕ) (order unmarked : Lists) (groups : List ℕ) (keys : List (Option ℕ)) (seen : Entries) {room : ℕ}
+    (view : ◌≡◌ {A = Entries} (record { capacity = capacity; entries = entries_of order keys groups (is_marked capacity unmarked); reserved = room }) seen) where
   abbrev seen_entry : ℕ → Entry
   seen_entry = entry_of keys groups (is_marked capacity unmarked)
 

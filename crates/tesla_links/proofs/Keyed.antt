@@ -237,18 +237,18 @@ module _ (capacity : ℕ) (chains : Lists) (keys : List ℕ) (slots : List (Opti
 -- ---- at the opening
 
 -- the vacant places, before the first of them
-pub vacant_none : (capacity : ℕ) (chains : Lists) → ◌≡◌ {A = Lists} chains (record { places = capacity; lists = replicate (capacity + 1) [] })
-    → ◌≡◌ {A = Lists} chains (record { places = capacity; lists = set (replicate (capacity + 1) []) capacity (range_with_len 0 0) })
+pub vacant_none : (capacity : ℕ) (chains : Lists) → ◌≡◌ {A = Lists} chains (record { places = capacity; lists = replicate (capacity + 1) []; reserved = chains.reserved })
+    → ◌≡◌ {A = Lists} chains (record { places = capacity; lists = set (replicate (capacity + 1) []) capacity (range_with_len 0 0); reserved = chains.reserved })
 vacant_none capacity chains e =
     let none : List ℕ = [] in
     let empties : List (List ℕ) = replicate (capacity + 1) none in
     let same : set empties capacity none ≡ empties = ap (set empties capacity) (sym (replicate_same (capacity + 1) capacity none)) ∙ set-get_or empties capacity none in
-    e ∙ ap (λ ls. record { places = capacity; lists = ls }) (sym same)
+    e ∙ ap (λ ls. record { places = capacity; lists = ls; reserved = chains.reserved }) (sym same)
 
 -- one vacant place more
-pub vacant_more : (capacity place : ℕ) (chains chains' : Lists) → ◌≡◌ {A = Lists} chains (record { places = capacity; lists = set (replicate (capacity + 1) []) capacity (range_with_len 0 place) })
+pub vacant_more : (capacity place : ℕ) (chains chains' : Lists) → ◌≡◌ {A = Lists} chains (record { places = capacity; lists = set (replicate (capacity + 1) []) capacity (range_with_len 0 place); reserved = chains.reserved })
     → chains'.places ≡ chains.places → chains'.lists ≡ set chains.lists capacity (get_or chains.lists capacity [] ++ place ∷ [])
-    → ◌≡◌ {A = Lists} chains' (record { places = capacity; lists = set (replicate (capacity + 1) []) capacity (range_with_len 0 (place + 1)) })
+    → ◌≡◌ {A = Lists} chains' (record { places = capacity; lists = set (replicate (capacity + 1) []) capacity (range_with_len 0 (place + 1)); reserved = chains'.reserved })
 vacant_more capacity place chains chains' e same appended =
     let none : List ℕ = [] in
     let empties : List (List ℕ) = replicate (capacity + 1) none in
@@ -261,12 +261,12 @@ vacant_more capacity place chains chains' e same appended =
     ∙ ap (λ xs. set old capacity (xs ++ place ∷ [])) at ∙ ap (set old capacity) (range_more place)
     ∙ set-set empties capacity (range_with_len 0 place) (range_with_len 0 (place + 1)) in
     let places : chains'.places ≡ capacity = same ∙ ap (λ (v : Lists). v.places) e in
-    let first : ◌≡◌ {A = Lists} chains' (record { places = capacity; lists = chains'.lists }) = ap (λ n. record { places = n; lists = chains'.lists }) places in
-    first ∙ ap (λ ls. record { places = capacity; lists = ls }) lists
+    let first : ◌≡◌ {A = Lists} chains' (record { places = capacity; lists = chains'.lists; reserved = chains'.reserved }) = ap (λ n. record { places = n; lists = chains'.lists; reserved = chains'.reserved }) places in
+    first ∙ ap (λ ls. record { places = capacity; lists = ls; reserved = chains'.reserved }) lists
 
 -- all places are vacant
 pub opened : (capacity : ℕ) (chains : Lists) (keys : List ℕ) → 1 ≤ capacity → capacity ≤ 65536
-    → ◌≡◌ {A = Lists} chains (record { places = capacity; lists = set (replicate (capacity + 1) []) capacity (range_with_len 0 capacity) }) → length keys ≡ capacity
+    → ◌≡◌ {A = Lists} chains (record { places = capacity; lists = set (replicate (capacity + 1) []) capacity (range_with_len 0 capacity); reserved = chains.reserved }) → length keys ≡ capacity
     → IsKeyed capacity chains keys (replicate capacity None)
 opened capacity chains keys some most e size =
     let empties : List (List ℕ) = replicate (capacity + 1) [] in

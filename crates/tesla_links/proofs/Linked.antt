@@ -358,10 +358,14 @@ opened places n after before owners counts small few ea eb eo ec =
 -- ---- the view
 
 -- the lists that the fields have are those that a caller sees
-pub at_view : (places : ℕ) (after before owners counts : List ℕ) (seen : Lists) → ◌≡◌ {A = Lists} (record { places = places; lists = lists_of places after counts }) seen → IsLinked places after before owners counts (lists_of places after counts)
+pub at_view : (places : ℕ) (after before owners counts : List ℕ) (seen : Lists) {room : ℕ} → ◌≡◌ {A = Lists} (record { places = places; lists = lists_of places after counts; reserved = room }) seen → IsLinked places after before owners counts (lists_of places after counts)
     → IsLinked places after before owners counts seen.lists × (places ≡ seen.places)
 at_view places after before owners counts seen e h =
     (subst (λ (v : Lists). IsLinked places after before owners counts v.lists) e h, ap (λ (v : Lists). v.places) e)
+
+-- the same lists, with the same room
+pub same_shown : (places room : ℕ) (lists lists' : List (List ℕ)) → lists ≡ lists' → ◌≡◌ {A = Lists} (record { places = places; lists = lists; reserved = room }) (record { places = places; lists = lists'; reserved = room })
+same_shown places room lists lists' e = ap (λ ls. record { places = places; lists = ls; reserved = room }) e
 
 -- lists in their rings are those that the fields have
 pub in_view : (places : ℕ) (after before owners counts : List ℕ) (lists : List (List ℕ)) → IsLinked places after before owners counts lists → IsLinked places after before owners counts (lists_of places after counts)

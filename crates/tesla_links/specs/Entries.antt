@@ -8,10 +8,12 @@ pub record Entry : Type 0 where
   pub place : ℕ
   pub marked : Bool
 
--- the entries, and the bound of their number and of their places
+-- the entries, and the bound of their number and of their places; `reserved` is how many entries the tables have room
+-- for, together
 pub record Entries : Type 0 where
   pub capacity : ℕ
   pub entries : List Entry
+  pub reserved : ℕ
 
 -- whether an entry is that of a place
 abbrev pub is_at : ℕ → Entry → Bool

@@ -2,10 +2,11 @@
 use Rattle.std.specs.Prelude.{◌≡◌, ℕ, ◌==◌, Bool, false, not, cond, List, [], ◌∷◌, ◌++◌, Option, None, get_or, map, slice_get, slice_set}
 use Rattle.std.specs.List.{filter, list_any}
 
--- the numbers below `places` may stand in the lists
+-- the numbers below `places` may stand in the lists; `reserved` is how many entries the tables have room for, together
 pub record Lists : Type 0 where
   pub places : ℕ
   pub lists : List (List ℕ)
+  pub reserved : ℕ
 
 -- the list of a number
 abbrev pub list_of : Lists → ℕ → List ℕ

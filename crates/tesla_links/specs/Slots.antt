@@ -1,5 +1,11 @@
--- What a contract sees of a table of keys: for each place its key, or None where the place is vacant.
-use Rattle.std.specs.Prelude.{ℕ, ◌==◌, Bool, true, false, Option, None, Some}
+-- What a contract sees of a table of keys.
+use Rattle.std.specs.Prelude.{ℕ, ◌==◌, Bool, true, false, List, Option, None, Some}
+
+-- for each place its key, or None where the place is vacant; `reserved` is how many entries the tables have room for,
+-- together
+pub record Slots : Type 0 where
+  pub slots : List (Option ℕ)
+  pub reserved : ℕ
 
 -- whether a place is vacant
 abbrev pub is_vacant : Option ℕ → Bool

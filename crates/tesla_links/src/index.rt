@@ -28,21 +28,28 @@ pub struct Index {
 }
 
 impl Model for Index {
+    ghost use Rattle.std.specs.Prelude.{◌+◌};
+    ghost use Rattle.std.specs.Vec.{vec_capacity};
     ghost use Rattle.tesla_links.specs.Entries.{Entries};
     ghost use Rattle.tesla_links.specs.Indexed.{IsIndexed, IsMarked, entries_of, is_marked};
 
     ghost Value = { Entries };
 
-    ghost view = { λ t. record { capacity = t.capacity; entries = entries_of t.order t.keys t.groups.items (is_marked t.capacity t.unmarked) } };
+    ghost view = { λ t. record {
+      capacity = t.capacity;
+      entries = entries_of t.order t.keys.slots t.groups.items (is_marked t.capacity t.unmarked);
+      reserved = t.order.reserved + t.members.reserved + t.unmarked.reserved + vec_capacity t.groups + t.keys.reserved;
+    } };
 
-    ghost invariant = { λ t. IsIndexed t.capacity t.order t.members t.groups.items t.keys × IsMarked t.capacity t.order t.members t.unmarked };
+    ghost invariant = { λ t. IsIndexed t.capacity t.order t.members t.groups.items t.keys.slots × IsMarked t.capacity t.order t.members t.unmarked };
 }
 
 /// The group of a key, which is a vacant one where the key has none yet.
 fn enter_group(keys: &mut KeyTable, key: u64) -> u32
-    requires { list_any is_vacant keys.old ≡ true }
-    ensures keys { keys.new ≡ slice_set keys.old result (Some key) }
-    ensures group { (slice_get keys.old result ≡ Some (Some key)) ⊎ ((slice_get keys.old result ≡ Some None) × (list_any (has_key key) keys.old ≡ false)) }
+    requires { list_any is_vacant keys.old.slots ≡ true }
+    ensures keys { keys.new.slots ≡ slice_set keys.old.slots result (Some key) }
+    ensures group { (slice_get keys.old.slots result ≡ Some (Some key)) ⊎ ((slice_get keys.old.slots result ≡ Some None) × (list_any (has_key key) keys.old.slots ≡ false)) }
+    ensures reserved { keys.new.reserved ≡ keys.old.reserved }
 {
     if let Some(group) = keys.find(key) {
         return group;
@@ -59,7 +66,7 @@ impl Index {
     pub fn open(alloc: Global, capacity: u32) -> Result<Index, NoMemory>
         requires some { 1 ≤ capacity }
         requires most { capacity ≤ 65536 }
-        ensures { IfOk result (λ t. t ≡ record { capacity = capacity; entries = [] }) }
+        ensures { IfOk result (λ t. t ≡ record { capacity = capacity; entries = []; reserved = t.reserved }) }
     {
         Ok(Index {
             capacity,
@@ -77,6 +84,7 @@ impl Index {
         requires place { place < self.old.capacity }
         requires absent { list_any (is_at place) self.old.entries ≡ false }
         ensures capacity { self.new.capacity ≡ self.old.capacity }
+        ensures reserved { self.new.reserved ≡ self.old.reserved }
         ensures entries { self.new.entries ≡ self.old.entries ++ record { key = key; place = place; marked = false } ∷ [] }
     {
         let group = enter_group(&mut self.keys, key);
@@ -90,6 +98,7 @@ impl Index {
     pub fn mark(&mut self, place: u32)
         requires { list_any (is_at place) self.old.entries ≡ true }
         ensures capacity { self.new.capacity ≡ self.old.capacity }
+        ensures reserved { self.new.reserved ≡ self.old.reserved }
         ensures entries { self.new.entries ≡ marked_at place self.old.entries }
     {
         self.unmarked.transfer(self.capacity, place);
@@ -99,6 +108,7 @@ impl Index {
     pub fn remove(&mut self, place: u32)
         requires { list_any (is_at place) self.old.entries ≡ true }
         ensures capacity { self.new.capacity ≡ self.old.capacity }
+        ensures reserved { self.new.reserved ≡ self.old.reserved }
         ensures entries { self.new.entries ≡ filter (λ e. not (is_at place e)) self.old.entries }
     {
         let group = self.groups[place as usize];

@@ -24,12 +24,14 @@ pub struct KeyTable {
 }
 
 impl Model for KeyTable {
-    ghost use Rattle.std.specs.Prelude.{ℕ, List, Option};
+    ghost use Rattle.std.specs.Prelude.{◌+◌};
+    ghost use Rattle.std.specs.Vec.{vec_capacity};
+    ghost use Rattle.tesla_links.specs.Slots.{Slots};
     ghost use Rattle.tesla_links.specs.Tables.{IsKeyed, slots_of};
 
-    ghost Value = { List (Option ℕ) };
+    ghost Value = { Slots };
 
-    ghost view = { λ t. slots_of t.capacity t.chains t.keys.items };
+    ghost view = { λ t. record { slots = slots_of t.capacity t.chains t.keys.items; reserved = t.chains.reserved + vec_capacity t.keys } };
 
     ghost invariant = { λ t. IsKeyed t.capacity t.chains t.keys.items (slots_of t.capacity t.chains t.keys.items) };
 }
@@ -47,7 +49,7 @@ fn bucket(buckets: u32, key: u64) -> u32
 /// Lists for so many buckets, which are empty, and one for the vacant places, which has all.
 fn vacant_chains(alloc: Global, capacity: u32) -> Result<Links, NoMemory>
     requires { capacity ≤ 65536 }
-    ensures { IfOk result (λ l. l ≡ record { places = capacity; lists = slice_set (replicate (capacity + 1) []) capacity (range_with_len 0 capacity) }) }
+    ensures { IfOk result (λ l. l ≡ record { places = capacity; lists = slice_set (replicate (capacity + 1) []) capacity (range_with_len 0 capacity); reserved = l.reserved }) }
 {
     let mut chains = Links::open(alloc, capacity + 1, capacity)?;
     for place in 0..capacity {
@@ -78,7 +80,7 @@ impl KeyTable {
     pub fn open(alloc: Global, capacity: u32) -> Result<KeyTable, NoMemory>
         requires some { 1 ≤ capacity }
         requires most { capacity ≤ 65536 }
-        ensures { IfOk result (λ t. t ≡ replicate capacity None) }
+        ensures { IfOk result (λ t. t.slots ≡ replicate capacity None) }
     {
         Ok(KeyTable {
             capacity,
@@ -89,8 +91,9 @@ impl KeyTable {
 
     /// Gives a place a key.
     pub fn enter(&mut self, place: u32, key: u64)
-        requires { place < length self.old }
-        ensures { self.new ≡ slice_set self.old place (Some key) }
+        requires { place < length self.old.slots }
+        ensures slots { self.new.slots ≡ slice_set self.old.slots place (Some key) }
+        ensures reserved { self.new.reserved ≡ self.old.reserved }
     {
         self.chains.transfer(bucket(self.capacity, key), place);
         self.keys[place as usize] = key;
@@ -98,22 +101,23 @@ impl KeyTable {
 
     /// Makes a place vacant.
     pub fn clear(&mut self, place: u32)
-        requires { place < length self.old }
-        ensures { self.new ≡ slice_set self.old place None }
+        requires { place < length self.old.slots }
+        ensures slots { self.new.slots ≡ slice_set self.old.slots place None }
+        ensures reserved { self.new.reserved ≡ self.old.reserved }
     {
         self.chains.transfer(self.capacity, place);
     }
 
     /// A place that has a key; `None` exactly where no place has it.
     pub fn find(&self, key: u64) -> Option<u32>
-        ensures { MatchOption result (list_any (has_key key) self.now ≡ false) (λ p. slice_get self.now p ≡ Some (Some key)) }
+        ensures { MatchOption result (list_any (has_key key) self.now.slots ≡ false) (λ p. slice_get self.now.slots p ≡ Some (Some key)) }
     {
         find_in(&self.chains, &self.keys, bucket(self.capacity, key), key)
     }
 
     /// A vacant place; `None` exactly where there is none.
     pub fn vacant(&self) -> Option<u32>
-        ensures { MatchOption result (list_any is_vacant self.now ≡ false) (λ p. slice_get self.now p ≡ Some None) }
+        ensures { MatchOption result (list_any is_vacant self.now.slots ≡ false) (λ p. slice_get self.now.slots p ≡ Some None) }
     {
         self.chains.first(self.capacity)
     }

@@ -23,12 +23,18 @@ pub struct Links {
 }
 
 impl Model for Links {
+    ghost use Rattle.std.specs.Prelude.{◌+◌};
+    ghost use Rattle.std.specs.Vec.{vec_capacity};
     ghost use Rattle.tesla_links.specs.Lists.{Lists};
     ghost use Rattle.tesla_links.specs.Rings.{IsLinked, lists_of};
 
     ghost Value = { Lists };
 
-    ghost view = { λ l. record { places = l.places; lists = lists_of l.places l.after.items l.counts.items } };
+    ghost view = { λ l. record {
+      places = l.places;
+      lists = lists_of l.places l.after.items l.counts.items;
+      reserved = vec_capacity l.after + vec_capacity l.before + vec_capacity l.owners + vec_capacity l.counts;
+    } };
 
     ghost invariant = { λ l. IsLinked l.places l.after.items l.before.items l.owners.items l.counts.items (lists_of l.places l.after.items l.counts.items) };
 }
@@ -49,7 +55,7 @@ impl Links {
     pub fn open(alloc: Global, lists: u32, places: u32) -> Result<Links, NoMemory>
         requires few { lists ≤ 2 ^ 20 }
         requires small { places ≤ 2 ^ 20 }
-        ensures { IfOk result (λ l. l ≡ record { places = places; lists = replicate lists [] }) }
+        ensures { IfOk result (λ l. l ≡ record { places = places; lists = replicate lists []; reserved = l.reserved }) }
     {
         Ok(Links {
             places,
@@ -66,6 +72,7 @@ impl Links {
         requires place { place < self.old.places }
         requires nowhere { list_any (is_in place) self.old.lists ≡ false }
         ensures places { self.new.places ≡ self.old.places }
+        ensures reserved { self.new.reserved ≡ self.old.reserved }
         ensures lists { self.new.lists ≡ slice_set self.old.lists list (list_of self.old list ++ place ∷ []) }
     {
         let head = self.places + list;
@@ -82,6 +89,7 @@ impl Links {
     pub fn remove(&mut self, place: u32)
         requires somewhere { list_any (is_in place) self.old.lists ≡ true }
         ensures places { self.new.places ≡ self.old.places }
+        ensures reserved { self.new.reserved ≡ self.old.reserved }
         ensures lists { self.new.lists ≡ map (without place) self.old.lists }
         ensures within { place < self.old.places }
     {
@@ -98,6 +106,7 @@ impl Links {
         requires list { list < length self.old.lists }
         requires somewhere { list_any (is_in place) self.old.lists ≡ true }
         ensures places { self.new.places ≡ self.old.places }
+        ensures reserved { self.new.reserved ≡ self.old.reserved }
         ensures lists { self.new.lists ≡ moved place list self.old.lists }
     {
         self.remove(place);

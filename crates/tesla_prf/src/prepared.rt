@@ -6,7 +6,7 @@ ghost use Rattle.tesla_prf.specs.Begun.{BegunUnder};
 ghost use Rattle.tesla_prf.specs.Hmac.{hmac_of};
 ghost use Rattle.tesla_prf.specs.Keys.{mac_of, next_of, tag_under};
 
-use crate::keyed::Begun;
+use crate::hmac::Begun;
 use crate::keys::{MAC, NEXT};
 use crate::tags::{front_of, message_mac};
 use std::fmt;
@@ -15,8 +15,13 @@ use std::sync::ledger::Ledger;
 use tesla_base::{ChainNo, Key, Name, Steps, StreamId, Tag, WideTag};
 
 /// A key, with the two blocks that HMAC makes of it hashed already. Whatever is made from it goes on from
-/// these hashes: a key of the chain or a MAC key takes two compressions of SHA-256, and a tag one more than
-/// the text's blocks.
+/// these hashes.
+///
+/// A counted step is an evaluation of HMAC, and to prepare a key is none: the two compressions of SHA-256 that
+/// this takes stand beside the counted steps. Each evaluation under the prepared key takes two compressions
+/// fewer than one under the key: a key of the chain or a MAC key two, not four, and a tag whose text, padded,
+/// fills `n` blocks `n + 1`, not `n + 3`. So the compressions are more than those of the counted steps alone only
+/// where nothing is made from the prepared key.
 ///
 /// Its `Debug` text shows no byte of the key.
 #[derive(Drop)]
@@ -37,7 +42,7 @@ impl Model for PreparedKey {
 }
 
 impl PreparedKey {
-    /// The key, prepared: two compressions of SHA-256, and no counted step.
+    /// The key, prepared: no counted step, and two compressions of SHA-256 beside them.
     pub fn new(key: &Key) -> PreparedKey
         ensures { result ≡ key.now }
     {
@@ -62,7 +67,7 @@ impl PreparedKey {
         Key(self.begun.hmac(&[text], steps))
     }
 
-    /// The key of the interval before (`F` of RFC 4082): one counted step.
+    /// The key of the interval before (`F` of RFC 4082): one counted step. No other key is prepared.
     pub fn next_key<L: Ledger>(&self, steps: &mut Steps<L>) -> Key
         ensures value { result ≡ next_of self.now }
         ensures cost { steps.new ≡ steps.old + 1 }
@@ -70,7 +75,7 @@ impl PreparedKey {
         self.made_with(NEXT, steps)
     }
 
-    /// The MAC key of the key's own interval (`F'` of RFC 4082): one counted step.
+    /// The MAC key of the key's own interval (`F'` of RFC 4082): one counted step. No other key is prepared.
     pub fn mac_key<L: Ledger>(&self, steps: &mut Steps<L>) -> Key
         ensures value { result ≡ mac_of self.now }
         ensures cost { steps.new ≡ steps.old + 1 }
@@ -79,7 +84,8 @@ impl PreparedKey {
     }
 
     /// The tag of a message on a chain, where this is the MAC key of the message's interval and tags have
-    /// `length` bytes, 10 to 32: one counted step. It is the first bytes of the message's HMAC.
+    /// `length` bytes, 10 to 32: one counted step. It is the first bytes of the message's HMAC. No other key is
+    /// prepared.
     pub fn wide_tag<L: Ledger>(
         &self,
         stream: StreamId,
@@ -100,7 +106,7 @@ impl PreparedKey {
     }
 
     /// The tag of a message on a chain, where this is the MAC key of the message's interval and tags have 16
-    /// bytes: one counted step. It is the first bytes of the message's HMAC.
+    /// bytes: one counted step. It is the first bytes of the message's HMAC. No other key is prepared.
     pub fn tag<L: Ledger>(
         &self,
         stream: StreamId,

@@ -7,16 +7,22 @@ ghost use Rattle.tesla_prf.specs.Begun.{BegunUnder};
 ghost use Rattle.tesla_prf.specs.Hmac.{hmac_of};
 ghost use Rattle.tesla_prf.specs.Keys.{tag_text, tag_under};
 
-use crate::keyed::Begun;
+use crate::hmac::{Begun, DIGEST};
 use std::sync::ledger::Ledger;
 use tesla_base::{ChainNo, Key, Name, Steps, StreamId, Tag, WideTag};
 
+/// The bytes that the text of a tag has before the payload.
+const HEADING: usize = 15;
+
+/// The bytes of a tag of version 1.
+const TAG_LENGTH: usize = 16;
+
 /// What the text of a tag has before the payload: the stream, the chain, the interval and the number, in 8, 1, 4
 /// and 2 bytes, each number with its highest byte first.
-fn heading(stream: StreamId, chain: ChainNo, name: Name) -> [u8; 15]
+fn heading(stream: StreamId, chain: ChainNo, name: Name) -> [u8; HEADING]
     ensures { result ≡ to_be_bytes w64 stream.0 ++ chain.0 ∷ [] ++ to_be_bytes w32 name.interval ++ to_be_bytes w16 name.number }
 {
-    let mut bytes = [0; 15];
+    let mut bytes = [0; HEADING];
     bytes[..8].copy_from_slice(&stream.0.to_be_bytes());
     bytes[8] = chain.0;
     bytes[9..13].copy_from_slice(&name.interval.to_be_bytes());
@@ -33,7 +39,7 @@ pub fn message_mac<L: Ledger>(
     name: Name,
     payload: &[u8],
     steps: &mut Steps<L>,
-) -> [u8; 32]
+) -> [u8; DIGEST]
     ensures value { (key : List ℕ) → BegunUnder begun.now key → result ≡ hmac_of key (tag_text stream chain name payload.now) }
     ensures cost { steps.new ≡ steps.old + 1 }
 {
@@ -41,16 +47,17 @@ pub fn message_mac<L: Ledger>(
 }
 
 /// The tag of 16 bytes that an HMAC begins with.
-pub fn front_of(digest: &[u8; 32]) -> Tag
+pub fn front_of(digest: &[u8; DIGEST]) -> Tag
     ensures { result.0 ≡ take 16 digest.now }
 {
-    let mut front = [0; 16];
-    front.copy_from_slice(&digest[..16]);
+    let mut front = [0; TAG_LENGTH];
+    front.copy_from_slice(&digest[..TAG_LENGTH]);
     Tag(front)
 }
 
 /// The tag of a message on a chain, under the MAC key of the message's interval, where tags have `length`
-/// bytes, 10 to 32: one counted step. It is the first bytes of the message's HMAC.
+/// bytes, 10 to 32: one counted step, which hashes both blocks of the key too. It is the first bytes of the message's
+/// HMAC. No key is prepared.
 pub fn wide_tag<L: Ledger>(
     mac: &Key,
     stream: StreamId,
@@ -71,7 +78,8 @@ pub fn wide_tag<L: Ledger>(
 }
 
 /// The tag of a message on a chain, under the MAC key of the message's interval, where tags have 16 bytes:
-/// one counted step. It is the first bytes of the message's HMAC.
+/// one counted step, which hashes both blocks of the key too. It is the first bytes of the message's HMAC. No key is
+/// prepared.
 pub fn tag<L: Ledger>(
     mac: &Key,
     stream: StreamId,

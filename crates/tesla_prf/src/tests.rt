@@ -2,7 +2,7 @@
 
 ghost use Rattle.std.specs.Prelude.{◌≡◌, ◌<◌, ◌≤◌};
 
-use crate::{PreparedKey, hmac, mac_key, same, tag, walk_back, wide_tag};
+use crate::{PreparedKey, hmac_sha256, mac_key, same, tag, walk_back, wide_tag};
 use std::fmt;
 use std::marker::Brand;
 use std::sync::ledger::{Blank, Ledger};
@@ -18,7 +18,7 @@ fn hmac_of<L: Ledger>(blank: Blank, key: &[u8], text: &[u8]) -> [u8; 32]
     requires some { 0 < L.parts }
 {
     let mut steps = Steps::<L>::new(blank);
-    hmac(key, text, &mut steps)
+    hmac_sha256(key, text, &mut steps)
 }
 
 #[test]

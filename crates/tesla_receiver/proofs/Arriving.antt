@@ -83,7 +83,8 @@ quiet_refusal false false true stream bound o v e = ap takes_keys (sym (same_Som
 quiet_refusal false false false stream bound (Some row) v e = ap takes_keys (sym (same_Some (BadKey row.chain) v e))
 quiet_refusal false false false stream bound None v e = absurd (cc)
 
-quiet_packet : (v : Verdict) (o : Option Frame) → takes_keys v ≡ false → packet_in v o ≡ None
+-- an arrival that takes no key brings no packet
+pub quiet_packet : (v : Verdict) (o : Option Frame) → takes_keys v ≡ false → packet_in v o ≡ None
 quiet_packet Malformed o e = refl
 quiet_packet (Foreign stream) o e = refl
 quiet_packet Misfit o e = refl

@@ -164,7 +164,7 @@ module _ (s : State) (bytes : List ℕ) where
 pub cost_bounded : (cfg : Config) (h : List Entry) → IsLegal cfg h → (reading : ℕ) (bytes : List ℕ) → most_evaluations cfg (arrivals_in h) reading bytes ≤ 2 * (length cfg.setup.rows * cfg.setup.times.last) + 2 * (cfg.capacity * length cfg.setup.rows)
 unfolding most_by
 cost_bounded cfg h legal reading bytes =
-    let s : State = state_of cfg h in
-    let st = stands_of cfg h legal in
+    let s : State = state_of cfg h 0 in
+    let st = stands_of cfg h 0 legal in
     subst (λ (n : ℕ). n ≤ 2 * (length cfg.setup.rows * cfg.setup.times.last) + 2 * (cfg.capacity * length cfg.setup.rows)) (cost_same s h st reading bytes)
     (most_few s bytes (bound_at s reading) (frame_of bytes) refl (consistent s h st).few)

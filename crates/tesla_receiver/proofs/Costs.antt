@@ -1,10 +1,14 @@
 -- What an arrival may cost by what a receiver keeps is what it may cost by the history.
 use Rattle.std.proofs.Common.{◌≡◌, ℕ, zero, suc, ◌+◌, ◌-◌, ◌*◌, ◌<◌, Bool, true, false, cond, ◌&&◌, ◌||◌, List, [], ◌∷◌, length, take, flat_map, count_by, Option, Some, None, refl, sym, ap, ⊎_elim, ◌∙◌, arith, ◌==◌, zero-add}
-use Rattle.std.specs.Prelude.{not, filter, nat_lt}
+use Rattle.std.specs.Prelude.{not, filter, find, nat_lt, option_map, unwrap_or}
 use Rattle.std.specs.List.{list_any, list_all, enumerate_from, range_with_len, sum_by}
 use Rattle.std.proofs.lemmas.Bool.{and_parts, and_from, and_cases, or_parts, or_left, or_cases, cases_Bool, not_from_false, both_ways, ltb-true}
 use Rattle.std.proofs.lemmas.List.Sums.{sum_by-cons, sum_by-append}
 use Rattle.tesla_clock.specs.Safe.{has_chain}
+use Rattle.tesla_base.specs.declared.names.ChainNo.{ChainNo}
+use Rattle.tesla_base.specs.declared.names.StreamId.{StreamId}
+use Rattle.tesla_fitting.specs.declared.verdict.Verdict.{Verdict}
+use Rattle.tesla_fitting.specs.declared.verdict.Verdict.TheVariants.{Foreign, Misfit, Future, BadKey}
 use Rattle.tesla_frame.specs.Frame.{Frame}
 use Rattle.tesla_frame.specs.Reading.{frame_of}
 use Rattle.tesla_frame.specs.declared.row.KeyRow.{KeyRow}
@@ -14,8 +18,8 @@ use Rattle.tesla_receiver.specs.declared.history.Entry.{Entry}
 use Rattle.tesla_receiver.specs.declared.packet.Packet.{Packet}
 use Rattle.tesla_fitting.specs.Fitting.{stream_of, is_misfit, is_future}
 use Rattle.tesla_fitting.specs.Config.{chains}
-use Rattle.tesla_state.specs.Costs.{is_unread, has_reaching, gaps_by, is_reached_by, reached_by, pairs_by, most_on, most_by}
-use Rattle.tesla_receiver.specs.Costs.{newer_rows, gaps, is_reached, reached_on, pairs, most_of, most_evaluations}
+use Rattle.tesla_state.specs.Costs.{is_unread, has_reaching, gaps_by, gaps_on, is_reached_by, reached_by, pairs_by, most_on, most_by, offers_by}
+use Rattle.tesla_receiver.specs.Costs.{newer_rows, gaps, gaps_of, is_reached, reached_on, pairs, most_of, most_evaluations, most_offers}
 use Rattle.tesla_state.specs.Releases.{is_at}
 use Rattle.tesla_receiver.specs.Held.{has_passed, is_past, is_settled, is_gone}
 use Rattle.tesla_receiver.specs.History.{arrivals_in, given_in}
@@ -24,7 +28,7 @@ use Rattle.tesla_receiver.specs.Keys.{newest}
 use Rattle.tesla_receiver.specs.Packets.{packet_of, candidates, released}
 use Rattle.tesla_state.specs.State.{Holding, State}
 use Rattle.tesla_receiver.specs.Stands.{Stands, holding_of, held_at, holdings}
-use Rattle.tesla_state.specs.Steps.{tip_at, is_newer, new_rows, bound_at}
+use Rattle.tesla_state.specs.Steps.{tip_at, is_newer, new_rows, bound_at, fails, judged, judged_frame, judged_taken, with_keys}
 use Rattle.tesla_receiver.proofs.Arriving.{keeps_of}
 use Rattle.tesla_receiver.proofs.Below.{filter_same, any_taken}
 use Rattle.tesla_receiver.proofs.Judged.{keys_within}
@@ -149,6 +153,24 @@ most_same s xs given k bound (Some frame) =
     unless_same (is_unread s.config bound frame) (2 * gaps_by s frame + 2 * pairs_by s frame) (2 * gaps s.config xs frame + 2 * pairs s.config xs frame)
     (λ read. let fits = read_fits (not ((stream_of frame).0 == s.config.setup.stream.0)) (is_misfit s.config frame) (is_future s.config bound frame) read in
     ap (λ (n : ℕ). 2 * n + 2 * pairs_by s frame) (gaps_same s xs given k frame fits) ∙ ap (λ (n : ℕ). 2 * gaps s.config xs frame + 2 * n) (pairs_same s xs given k frame fits))
+
+-- a frame that has a bad key fits the setup
+fits_bad : (other misfit early : Bool) (stream : StreamId) (bound : Option ℕ) (o : Option Verdict) (v : Verdict) (chain : ChainNo) → unwrap_or (cond other (Some (Foreign stream)) (cond misfit (Some Misfit) (cond early (Some (Future bound)) o))) v ≡ BadKey chain → misfit ≡ false
+fits_bad true misfit early stream bound o v chain e = absurd (cc)
+fits_bad false true early stream bound o v chain e = absurd (cc)
+fits_bad false false early stream bound o v chain e = refl
+
+offers_same_on : (s : State) (xs : List Arrival) (given : ℕ) → Keeps s xs given → (bound : Option ℕ) (o : Option Frame) (chain : ChainNo) → judged_frame s bound o ≡ BadKey chain → gaps_on s o ≡ gaps_of s.config xs o
+offers_same_on s xs given k bound None chain e = refl
+offers_same_on s xs given k bound (Some frame) chain e =
+    gaps_same s xs given k frame
+    (fits_bad (not ((stream_of frame).0 == s.config.setup.stream.0)) (is_misfit s.config frame) (is_future s.config bound frame) (stream_of frame) bound
+    (option_map (λ (row : KeyRow). BadKey row.chain) (find (fails s.tips) (keys_of s.config frame))) (judged_taken (with_keys s (new_rows s frame)) bound frame) chain e)
+
+-- the offers by what a receiver keeps are those by the history, where a key is bad
+pub offers_same : (s : State) (h : List Entry) → Stands s h → (reading : ℕ) (bytes : List ℕ) (chain : ChainNo) → judged s reading bytes ≡ BadKey chain → offers_by s bytes ≡ most_offers s.config (arrivals_in h) bytes
+unfolding judged offers_by most_offers
+offers_same s h st reading bytes chain e = offers_same_on s (arrivals_in h) (given_in h) (keeps_of s h st) (bound_at s reading) (frame_of bytes) chain e
 
 -- the most evaluations by what a receiver keeps are those by the history
 pub cost_same : (s : State) (h : List Entry) → Stands s h → (reading : ℕ) (bytes : List ℕ) → most_by s reading bytes ≡ most_evaluations s.config (arrivals_in h) reading bytes

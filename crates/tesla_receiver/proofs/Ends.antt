@@ -36,9 +36,9 @@ stands_ended s h st ingest =
     }
 
 -- what is kept before any event stands for the empty history
-pub stands_opened : (cfg : Config) → Stands (opened cfg) []
+pub stands_opened : (cfg : Config) (reserved : ℕ) → Stands (opened cfg reserved) []
 unfolding tip_of fresh_keys holdings released candidates
-stands_opened cfg = record {
+stands_opened cfg reserved = record {
   legal = tt;
   tips = refl;
   held = refl;

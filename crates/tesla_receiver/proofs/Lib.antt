@@ -35,3 +35,4 @@ pub mod Costs
 pub mod States
 pub mod Bounded
 pub mod Moved
+pub mod Refusals

@@ -14,9 +14,9 @@ use Rattle.tesla_state.specs.Steps.{in_interval}
 use Rattle.tesla_receiver.specs.Tips.{tip_of}
 use Rattle.tesla_receiver.proofs.Judged.{held_all, held_interval}
 
--- what the definitions name after a history
-abbrev pub state_of : Config → List Entry → State
-state_of cfg h = record {
+-- what the definitions name after a history, with so much room
+abbrev pub state_of : Config → List Entry → ℕ → State
+state_of cfg h reserved = record {
   config = cfg;
   tips = map (tip_of cfg (arrivals_in h)) (chains cfg);
   held = holdings cfg (arrivals_in h) (given_in h);
@@ -24,18 +24,19 @@ state_of cfg h = record {
   ended = map (has_end h) (range_with_len 0 cfg.ingests);
   counts = report_of h;
   calls = length h;
+  reserved = reserved;
 }
 
-pub stands_of : (cfg : Config) (h : List Entry) → IsLegal cfg h → Stands (state_of cfg h) h
-stands_of cfg h legal = record { legal = legal; tips = refl; held = refl; waiting = refl; ended = refl; counts = refl; calls = refl }
+pub stands_of : (cfg : Config) (h : List Entry) (reserved : ℕ) → IsLegal cfg h → Stands (state_of cfg h reserved) h
+stands_of cfg h reserved legal = record { legal = legal; tips = refl; held = refl; waiting = refl; ended = refl; counts = refl; calls = refl }
 
 -- some state stands for a legal history
 pub stands_some : (cfg : Config) (h : List Entry) → IsLegal cfg h → (s : State) × (s.config ≡ cfg) × Stands s h
-stands_some cfg h legal = (state_of cfg h, refl, stands_of cfg h legal)
+stands_some cfg h legal = (state_of cfg h 0, refl, stands_of cfg h 0 legal)
 
-stands_is : (s : State) (h : List Entry) → Stands s h → s ≡ state_of s.config h
+stands_is : (s : State) (h : List Entry) → Stands s h → s ≡ state_of s.config h s.reserved
 stands_is s h st =
-    let named : State = state_of s.config h in
+    let named : State = state_of s.config h s.reserved in
     ap (λ v. record s { tips = v }) st.tips
     ∙ ap (λ v. record s { tips = named.tips; held = v }) st.held
     ∙ ap (λ v. record s { tips = named.tips; held = named.held; waiting = v }) st.waiting
@@ -43,9 +44,10 @@ stands_is s h st =
     ∙ ap (λ v. record named { counts = v; calls = s.calls }) st.counts
     ∙ ap (λ (v : ℕ). record named { calls = v }) st.calls
 
--- and no other of the configuration
-pub stands_one : (s t : State) (h : List Entry) → Stands s h → Stands t h → s.config ≡ t.config → s ≡ t
-stands_one s t h a b same = stands_is s h a ∙ ap (λ (cfg : Config). state_of cfg h) same ∙ sym (stands_is t h b)
+-- and no other of the configuration and the room
+pub stands_one : (s t : State) (h : List Entry) → Stands s h → Stands t h → s.config ≡ t.config → s.reserved ≡ t.reserved → s ≡ t
+stands_one s t h a b same room =
+    stands_is s h a ∙ ap (λ (cfg : Config). state_of cfg h s.reserved) same ∙ ap (state_of t.config h) room ∙ sym (stands_is t h b)
 
 -- ---- numbers
 

@@ -1,20 +1,15 @@
 -- The one answer of a receiver to each event.
-use Rattle.std.specs.Prelude.{ℕ, ◌+◌, Bool, true, not, ◌&&◌, ◌||◌, List, [], ◌∷◌, ◌++◌, length, Option, Some, None, is_some, unwrap_or, option_map, nat_lt, ◌==◌, if◌then◌else◌, find}
-use Rattle.std.specs.List.{list_any, enumerate_from}
-use Rattle.tesla_base.specs.Version.{number_of}
-use Rattle.tesla_base.specs.declared.names.Key.{Key}
-use Rattle.tesla_base.specs.declared.names.StreamId.{StreamId}
-use Rattle.tesla_base.specs.declared.version.Version.{Version}
+use Rattle.std.specs.Prelude.{ℕ, Bool, not, ◌&&◌, ◌||◌, List, [], ◌∷◌, ◌++◌, length, Option, Some, None, unwrap_or, option_map, nat_lt, ◌==◌, if◌then◌else◌, find}
+use Rattle.std.specs.List.{list_any}
 use Rattle.tesla_clock.specs.Schedule.{bound_of}
 use Rattle.tesla_clock.specs.Safe.{chain_set}
 use Rattle.tesla_frame.specs.declared.row.KeyRow.{KeyRow}
-use Rattle.tesla_frame.specs.Frame.{Frame, Data, Disclosure, DataFrame, TagRow}
+use Rattle.tesla_frame.specs.Frame.{Frame, Data, Disclosure, DataFrame}
 use Rattle.tesla_frame.specs.Reading.{frame_of}
 use Rattle.tesla_receiver.specs.declared.history.Arrival.{Arrival}
 use Rattle.tesla_fitting.specs.declared.verdict.Verdict.{Verdict}
 use Rattle.tesla_fitting.specs.declared.verdict.Verdict.TheVariants.{Malformed, Foreign, Misfit, Future, BadKey, Late, Repeat, Full, Kept, Keys}
 use Rattle.tesla_fitting.specs.declared.config.Config.{Config}
-use Rattle.tesla_fitting.specs.Config.{chain_row}
 use Rattle.tesla_fitting.specs.Rows.{keys_of}
 use Rattle.tesla_receiver.specs.Keys.{newest, is_good}
 use Rattle.tesla_receiver.specs.Packets.{is_safe, released}

@@ -1,23 +1,19 @@
 -- How many evaluations of HMAC an arrival may take, by the history.
-use Rattle.std.specs.Prelude.{ℕ, ◌+◌, ◌-◌, ◌*◌, Bool, not, ◌&&◌, ◌||◌, List, Option, Some, None, nat_lt, nat_le, ◌==◌, if◌then◌else◌, filter, count_by}
-use Rattle.std.specs.List.{list_any, enumerate_from, sum_by}
+use Rattle.std.specs.Prelude.{ℕ, ◌+◌, ◌-◌, ◌*◌, Bool, ◌&&◌, List, Option, Some, None, nat_lt, if◌then◌else◌, filter, count_by}
+use Rattle.std.specs.List.{enumerate_from, sum_by}
 use Rattle.tesla_clock.specs.Safe.{has_chain}
 use Rattle.tesla_clock.specs.Schedule.{bound_of}
 use Rattle.tesla_frame.specs.declared.row.KeyRow.{KeyRow}
 use Rattle.tesla_frame.specs.Frame.{Frame}
 use Rattle.tesla_frame.specs.Reading.{frame_of}
-use Rattle.tesla_keys.specs.Tip.{Tip}
 use Rattle.tesla_fitting.specs.declared.config.Config.{Config}
 use Rattle.tesla_receiver.specs.declared.history.Arrival.{Arrival}
 use Rattle.tesla_receiver.specs.declared.packet.Packet.{Packet}
-use Rattle.tesla_fitting.specs.Fitting.{stream_of, is_misfit, is_future}
 use Rattle.tesla_fitting.specs.Config.{chains}
 use Rattle.tesla_receiver.specs.Held.{is_settled}
-use Rattle.tesla_fitting.specs.Rows.{is_of, keys_of}
+use Rattle.tesla_fitting.specs.Rows.{keys_of}
 use Rattle.tesla_receiver.specs.Keys.{newest}
 use Rattle.tesla_receiver.specs.Packets.{packet_of}
-use Rattle.tesla_state.specs.State.{Holding, State}
-use Rattle.tesla_state.specs.Steps.{tip_at, new_rows, bound_at}
 use Rattle.tesla_state.specs.Costs.{is_unread, has_reaching}
 
 -- the keys of a frame that are newer than those taken before
@@ -42,6 +38,14 @@ reached_on cfg arrivals new place (Some packet) =
 -- how many pairs there are of a kept packet that isn't settled and a chain on which a new key of the frame reaches it
 abbrev pub pairs : Config → List Arrival → Frame → ℕ
 pairs cfg arrivals frame = sum_by (λ (p : ℕ × Arrival). reached_on cfg arrivals (newer_rows cfg arrivals frame) p.0 (packet_of p.1)) (enumerate_from 0 arrivals)
+
+abbrev pub gaps_of : Config → List Arrival → Option Frame → ℕ
+gaps_of cfg arrivals None = 0
+gaps_of cfg arrivals (Some frame) = gaps cfg arrivals frame
+
+-- the most evaluations that the offers of an arrival's keys may take, of which the first bad one is the last
+unfoldable pub most_offers : Config → List Arrival → List ℕ → ℕ
+most_offers cfg arrivals bytes = gaps_of cfg arrivals (frame_of bytes)
 
 abbrev pub most_of : Config → List Arrival → Option ℕ → Option Frame → ℕ
 most_of cfg arrivals bound None = 0

@@ -3,7 +3,6 @@ use Rattle.std.specs.Prelude.{◌≤◌, ℕ, Bool, true, false, not, ◌&&◌, 
 use Rattle.std.specs.List.{list_any, list_all, enumerate_from}
 use Rattle.tesla_clock.specs.Safe.{has_chain}
 use Rattle.tesla_receiver.specs.declared.history.Arrival.{Arrival}
-use Rattle.tesla_state.specs.declared.release.Release.{Release}
 use Rattle.tesla_fitting.specs.declared.config.Config.{Config}
 use Rattle.tesla_fitting.specs.Config.{chains}
 use Rattle.tesla_receiver.specs.Keys.{newest}

@@ -1,7 +1,6 @@
 -- Histories: what happened to a receiver, with its answers.
-use Rattle.std.specs.Prelude.{◌≡◌, ℕ, Bool, true, false, List, [], ◌∷◌, ◌++◌, length, Option, Some, None, slice_get, ◌==◌, count_by, flat_map}
+use Rattle.std.specs.Prelude.{◌≡◌, ℕ, Bool, true, false, List, [], ◌∷◌, ◌++◌, Option, Some, None, slice_get, ◌==◌, count_by, flat_map}
 use Rattle.std.specs.List.{list_any, list_all, range_with_len}
-use Rattle.tesla_base.specs.declared.release.Head.{Head}
 use Rattle.tesla_frame.specs.Frame.{Frame, Data, Disclosure}
 use Rattle.tesla_frame.specs.Reading.{frame_of}
 use Rattle.tesla_receiver.specs.declared.history.Arrival.{Arrival}

@@ -1,11 +1,9 @@
 -- Which keys frames carry, which of them are new, and which of them are good (RFC 4082, section 3.5, key tests).
-use Rattle.std.specs.Prelude.{ℕ, ◌-◌, Bool, true, false, not, ◌&&◌, ◌||◌, List, [], ◌∷◌, ◌++◌, max, Option, Some, None, nat_lt, ◌==◌, if◌then◌else◌, bytes_eq, filter, fold, flat_map}
-use Rattle.std.specs.List.{list_all, enumerate_from}
-use Rattle.tesla_base.specs.declared.names.Key.{Key}
+use Rattle.std.specs.Prelude.{ℕ, Bool, true, false, not, ◌&&◌, ◌||◌, List, [], max, Option, Some, None, nat_lt, if◌then◌else◌, filter, fold, flat_map}
+use Rattle.std.specs.List.{list_all}
 use Rattle.tesla_frame.specs.declared.row.KeyRow.{KeyRow}
-use Rattle.tesla_frame.specs.Frame.{Frame, Data, Disclosure, TagRow}
+use Rattle.tesla_frame.specs.Frame.{Frame}
 use Rattle.tesla_frame.specs.Reading.{frame_of}
-use Rattle.tesla_prf.specs.Keys.{walk}
 use Rattle.tesla_receiver.specs.declared.history.Arrival.{Arrival}
 use Rattle.tesla_fitting.specs.declared.verdict.Verdict.{Verdict}
 use Rattle.tesla_fitting.specs.declared.verdict.Verdict.TheVariants.{Malformed, Foreign, Misfit, Future, BadKey, Late, Repeat, Full, Kept, Keys}

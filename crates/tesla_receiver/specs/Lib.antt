@@ -9,3 +9,4 @@ pub mod Tips
 pub mod Stands
 pub mod Consistent
 pub mod Costs
+pub mod Refusals

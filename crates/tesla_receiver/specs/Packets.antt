@@ -1,7 +1,6 @@
 -- Which packets are safe on arrival, which keys prove them, and what is released (RFC 4082, section 3.5).
-use Rattle.std.specs.Prelude.{ℕ, ◌-◌, Bool, false, ◌&&◌, List, [], ◌∷◌, Option, Some, None, slice_get, nat_lt, nat_le, ◌==◌, if◌then◌else◌, bytes_eq, find, flat_map}
+use Rattle.std.specs.Prelude.{ℕ, ◌-◌, Bool, false, ◌&&◌, List, [], ◌∷◌, Option, Some, None, slice_get, nat_lt, nat_le, bytes_eq, find, flat_map}
 use Rattle.std.specs.List.{list_any, enumerate_from}
-use Rattle.tesla_base.specs.declared.names.Name.{Name}
 use Rattle.tesla_clock.specs.Safe.{has_chain}
 use Rattle.tesla_clock.specs.Safe as clock
 use Rattle.tesla_frame.specs.declared.row.KeyRow.{KeyRow}
@@ -18,7 +17,7 @@ use Rattle.tesla_fitting.specs.Config.{chains, chain_row}
 use Rattle.tesla_state.specs.Releases.{each_after}
 use Rattle.tesla_fitting.specs.Rows.{is_of}
 use Rattle.tesla_receiver.specs.Keys.{newest, new_keys}
-use Rattle.tesla_state.specs.Releases.{has_name, unless_named}
+use Rattle.tesla_state.specs.Releases.{unless_named}
 
 -- whether the chain is safe for a packet of the interval, by its delay and its newest index
 abbrev pub is_safe : Config → List Arrival → ℕ → ℕ → ℕ → Bool

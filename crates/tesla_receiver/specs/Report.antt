@@ -8,8 +8,6 @@ use Rattle.tesla_receiver.specs.declared.history.Entry.TheVariants.{Arrived, Tak
 use Rattle.tesla_state.specs.declared.replies.Reply.{Reply}
 use Rattle.tesla_state.specs.declared.replies.Reply.TheVariants.{Given, Empty, Over}
 use Rattle.tesla_state.specs.declared.report.Report.{Report}
-use Rattle.tesla_fitting.specs.declared.verdict.Verdict.{Verdict}
-use Rattle.tesla_fitting.specs.declared.verdict.Verdict.TheVariants.{Malformed, Foreign, Misfit, Future, BadKey, Late, Repeat, Full, Kept, Keys}
 use Rattle.tesla_fitting.specs.declared.config.Config.{Config}
 use Rattle.tesla_state.specs.declared.release.Release.{Release}
 use Rattle.tesla_receiver.specs.Packets.{released}

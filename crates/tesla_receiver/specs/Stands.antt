@@ -1,16 +1,11 @@
 -- What a receiver keeps of a history: the newest keys, the packets that have a place, those that wait to be given,
 -- which ingests have ended, and the counts.
-use Rattle.std.specs.Prelude.{◌≡◌, ℕ, Bool, List, [], ◌∷◌, length, map, take, drop, Option, Some, None, flat_map, if◌then◌else◌}
+use Rattle.std.specs.Prelude.{◌≡◌, ℕ, List, [], ◌∷◌, length, map, take, drop, Option, Some, None, flat_map, if◌then◌else◌}
 use Rattle.std.specs.List.{list_any, enumerate_from, range_with_len}
-use Rattle.tesla_base.specs.declared.names.Name.{Name}
-use Rattle.tesla_frame.specs.Frame.{TagRow}
-use Rattle.tesla_keys.specs.Tip.{Tip}
 use Rattle.tesla_fitting.specs.declared.config.Config.{Config}
 use Rattle.tesla_receiver.specs.declared.history.Arrival.{Arrival}
 use Rattle.tesla_receiver.specs.declared.history.Entry.{Entry}
 use Rattle.tesla_receiver.specs.declared.packet.Packet.{Packet}
-use Rattle.tesla_state.specs.declared.release.Release.{Release}
-use Rattle.tesla_state.specs.declared.report.Report.{Report}
 use Rattle.tesla_fitting.specs.Config.{chains}
 use Rattle.tesla_state.specs.Releases.{is_at}
 use Rattle.tesla_receiver.specs.Held.{is_gone}

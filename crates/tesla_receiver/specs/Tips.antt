@@ -1,11 +1,8 @@
 -- The newest key of a chain.
-use Rattle.std.specs.Prelude.{ℕ, ◌&&◌, List, nat_lt, if◌then◌else◌, fold}
-use Rattle.tesla_frame.specs.declared.row.KeyRow.{KeyRow}
+use Rattle.std.specs.Prelude.{ℕ, List, fold}
 use Rattle.tesla_keys.specs.Tip.{Tip}
 use Rattle.tesla_fitting.specs.declared.config.Config.{Config}
 use Rattle.tesla_receiver.specs.declared.history.Arrival.{Arrival}
-use Rattle.tesla_fitting.specs.Config.{chain_row}
-use Rattle.tesla_fitting.specs.Rows.{is_of}
 use Rattle.tesla_receiver.specs.Keys.{fresh_keys}
 use Rattle.tesla_state.specs.Tips.{first_tip, raised}
 

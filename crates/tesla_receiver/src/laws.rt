@@ -1,6 +1,6 @@
 //! What is so of every history, as contracts of functions that do nothing.
 
-ghost use Rattle.std.specs.Prelude.{◌≡◌, ◌<◌, ◌≤◌, ◌↔◌, ◌++◌, ◌∷◌, [], ℕ, Bool, List, Some, true, take, slice_get};
+ghost use Rattle.std.specs.Prelude.{◌≡◌, ◌<◌, ◌≤◌, ◌↔◌, ◌++◌, ◌∷◌, [], ℕ, Bool, List, Some, true, false, take, slice_get};
 ghost use Rattle.tesla_capture.specs.Capture.{Record};
 ghost use Rattle.tesla_frame.specs.declared.row.KeyRow.{KeyRow};
 ghost use Rattle.tesla_keys.specs.Offers.{offer_of, IsGood};
@@ -8,8 +8,10 @@ ghost use Rattle.tesla_fitting.specs.declared.config.Config.{Config};
 ghost use Rattle.tesla_receiver.specs.declared.history.Arrival.{Arrival};
 ghost use Rattle.tesla_receiver.specs.declared.history.Entry.{Entry};
 ghost use Rattle.tesla_state.specs.declared.release.Release.{Release};
-ghost use Rattle.tesla_receiver.specs.History.{Event, event_of, entry_of, IsLegal, arrivals_in, given_in, held_in, held_of_interval};
-ghost use Rattle.tesla_receiver.specs.Keys.{newest, is_good};
+ghost use Rattle.tesla_receiver.specs.Answer.{verdict_of};
+ghost use Rattle.tesla_receiver.specs.History.{Arrives, Event, event_of, entry_of, IsLegal, arrivals_in, given_in, held_in, held_of_interval};
+ghost use Rattle.tesla_receiver.specs.Keys.{newest, is_good, takes_keys};
+ghost use Rattle.tesla_receiver.specs.Refusals.{ChangesCountsAlone};
 ghost use Rattle.tesla_fitting.specs.Rows.{leads_to};
 ghost use Rattle.tesla_receiver.specs.Tips.{tip_of};
 ghost use Rattle.tesla_receiver.specs.Packets.{released};
@@ -63,6 +65,15 @@ pub fn by_index()
 pub fn held_fits()
     ensures capacity { (cfg : Config) (h : List Entry) → IsLegal cfg h → held_in cfg h ≤ cfg.capacity }
     ensures quota { (cfg : Config) (h : List Entry) → IsLegal cfg h → (interval : ℕ) → held_of_interval cfg h interval ≤ cfg.quota }
+{}
+
+/// An arrival that takes no keys is refused: it is malformed, foreign, a misfit or from the future, or has a bad key. It
+/// changes nothing but the counts: the newest keys, the held packets, what is released and given, and the ends are as
+/// before it.
+pub fn refusals()
+    ensures { (cfg : Config) (h : List Entry) (ingest reading : ℕ) (bytes : List ℕ) → IsLegal cfg h →
+        (let verdict = verdict_of cfg (arrivals_in h) (given_in h) ingest reading bytes in
+        takes_keys verdict ≡ false → ChangesCountsAlone cfg h (h ++ entry_of cfg h (Arrives ingest reading bytes) ∷ []) verdict) }
 {}
 
 /// A key that is newer than those of its chain that were taken is good exactly where it walks to the newest of

@@ -3,7 +3,8 @@
 ghost use Rattle.std.specs.Prelude.{◌≡◌, ◌+◌, ◌^◌, ◌<◌, ◌≤◌, ◌++◌, ◌∷◌, [], List, if◌then◌else◌, IfOk};
 ghost use Rattle.tesla_receiver.specs.declared.history.Entry.{Entry};
 ghost use Rattle.tesla_receiver.specs.declared.history.Entry.TheVariants.{Arrived};
-ghost use Rattle.tesla_receiver.specs.Costs.{most_evaluations};
+ghost use Rattle.tesla_base.specs.declared.names.ChainNo.{ChainNo};
+ghost use Rattle.tesla_receiver.specs.Costs.{most_evaluations, most_offers};
 ghost use Rattle.tesla_receiver.specs.History.{Arrives, Takes, Ends, arrivals_in, entry_of, reply_to, held_in};
 ghost use Rattle.tesla_receiver.specs.Played.{waiting_in};
 ghost use Rattle.tesla_state.specs.Replies.{reply_shown, KeepsBehind};
@@ -37,7 +38,8 @@ impl Receiver {
     /// A receiver that stands for the empty history. The lag is in microseconds; the capacity is a
     /// number of packets, at most 65,536, and the quota one of packets of an interval, from 1 to the
     /// capacity; each ingest below `ingests`, of which there is one at least, has to end before a take
-    /// answers `Over`. All memory is taken here. `NoMemory`: there wasn't enough.
+    /// answers `Over`. All memory is taken here: `reserved` tells for how many entries all tables have room, and no other
+    /// call changes it. `NoMemory`: there wasn't enough.
     pub fn open(
         alloc: Global,
         setup: Setup,
@@ -62,7 +64,8 @@ impl Receiver {
     ///
     /// It takes at most two counted steps for each interval from a new key down to the newest one of its chain, and two
     /// for each pair of a held packet that isn't released and a chain of its set on which a new key reaches it; none
-    /// where the frame is refused before its keys are looked at.
+    /// where the frame is refused before its keys are looked at; and where a key is bad at most one for each interval from
+    /// a new key down to the newest one of its chain.
     pub fn arrive<L: Ledger>(
         &mut self,
         ingest: u8,
@@ -75,8 +78,10 @@ impl Receiver {
             Arrived (record { ingest = ingest; reading = reading; bytes = bytes.now; verdict = result }) ≡ entry_of self.old.config h (Arrives ingest reading bytes.now) }
         ensures stands { (h : List Entry) → Stands self.old h → Stands self.new (h ++ entry_of self.old.config h (Arrives ingest reading bytes.now) ∷ []) }
         ensures evaluations { (h : List Entry) → Stands self.old h → steps.new ≤ steps.old + most_evaluations self.old.config (arrivals_in h) reading bytes.now }
+        ensures badkey { (h : List Entry) → Stands self.old h → (chain : ChainNo) → result ≡ Verdict.BadKey chain → steps.new ≤ steps.old + most_offers self.old.config (arrivals_in h) bytes.now }
         ensures config { self.new.config ≡ self.old.config }
         ensures calls { self.new.calls ≡ self.old.calls + 1 }
+        ensures reserved { self.new.reserved ≡ self.old.reserved }
     {
         self.kept.arrive(ingest, reading, bytes, steps)
     }
@@ -90,6 +95,7 @@ impl Receiver {
         ensures behind { KeepsBehind result into.old into.new }
         ensures config { self.new.config ≡ self.old.config }
         ensures calls { self.new.calls ≡ self.old.calls + 1 }
+        ensures reserved { self.new.reserved ≡ self.old.reserved }
     {
         let _ = releaser;
         self.kept.take(into)
@@ -101,6 +107,7 @@ impl Receiver {
         ensures stands { (h : List Entry) → Stands self.old h → Stands self.new (h ++ entry_of self.old.config h (Ends ingest) ∷ []) }
         ensures config { self.new.config ≡ self.old.config }
         ensures calls { self.new.calls ≡ self.old.calls + 1 }
+        ensures reserved { self.new.reserved ≡ self.old.reserved }
     {
         self.kept.end(ingest);
     }

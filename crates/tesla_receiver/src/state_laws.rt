@@ -2,12 +2,14 @@
 //! contracts of functions that do nothing.
 
 ghost use Rattle.std.specs.Prelude.{◌≡◌, ◌≤◌, ◌+◌, ◌*◌, ◌++◌, ◌∷◌, [], ℕ, List, length, count_by};
+ghost use Rattle.tesla_base.specs.declared.names.ChainNo.{ChainNo};
 ghost use Rattle.tesla_fitting.specs.declared.config.Config.{Config};
+ghost use Rattle.tesla_fitting.specs.declared.verdict.Verdict.TheVariants.{BadKey};
 ghost use Rattle.tesla_receiver.specs.declared.history.Entry.{Entry};
 ghost use Rattle.tesla_receiver.specs.Answer.{verdict_of};
 ghost use Rattle.tesla_receiver.specs.Consistent.{IsConsistent};
-ghost use Rattle.tesla_receiver.specs.Costs.{most_evaluations};
-ghost use Rattle.tesla_state.specs.Costs.{most_by};
+ghost use Rattle.tesla_receiver.specs.Costs.{most_evaluations, most_offers};
+ghost use Rattle.tesla_state.specs.Costs.{most_by, offers_by};
 ghost use Rattle.tesla_receiver.specs.History.{Arrives, Takes, Ends, entry_of, reply_to, IsLegal, arrivals_in, given_in, held_in, held_of_interval};
 ghost use Rattle.tesla_receiver.specs.Played.{waiting_in};
 ghost use Rattle.tesla_state.specs.State.{State};
@@ -16,13 +18,13 @@ ghost use Rattle.tesla_state.specs.Steps.{in_interval, opened, judged, after_arr
 
 /// The state with the commitments alone stands for the empty history.
 pub fn openings()
-    ensures { (cfg : Config) → Stands (opened cfg) [] }
+    ensures { (cfg : Config) (reserved : ℕ) → Stands (opened cfg reserved) [] }
 {}
 
-/// A legal history has one state that stands for it.
+/// A legal history has one state that stands for it. How much room its tables have is no part of the history.
 pub fn states()
     ensures some { (cfg : Config) (h : List Entry) → IsLegal cfg h → (s : State) × (s.config ≡ cfg) × Stands s h }
-    ensures one { (s t : State) (h : List Entry) → Stands s h → Stands t h → s.config ≡ t.config → s ≡ t }
+    ensures one { (s t : State) (h : List Entry) → Stands s h → Stands t h → s.config ≡ t.config → s.reserved ≡ t.reserved → s ≡ t }
 {}
 
 /// The numbers that a state tells are those of the history.
@@ -69,6 +71,9 @@ pub fn costs()
     // By the state alone they are those by the history.
     ensures same { (s : State) (h : List Entry) → Stands s h → (reading : ℕ) (bytes : List ℕ) →
         most_by s reading bytes ≡ most_evaluations s.config (arrivals_in h) reading bytes }
+    // And so are those of a frame that has a bad key.
+    ensures badkey { (s : State) (h : List Entry) → Stands s h → (reading : ℕ) (bytes : List ℕ) (chain : ChainNo) → judged s reading bytes ≡ BadKey chain →
+        offers_by s bytes ≡ most_offers s.config (arrivals_in h) bytes }
     // However long the history is, they are within what the setup and the capacity give.
     ensures bounded { (cfg : Config) (h : List Entry) → IsLegal cfg h → (reading : ℕ) (bytes : List ℕ) →
         most_evaluations cfg (arrivals_in h) reading bytes ≤ 2 * (length cfg.setup.rows * cfg.setup.times.last) + 2 * (cfg.capacity * length cfg.setup.rows) }

@@ -149,8 +149,8 @@ disclosure_answer sender log reading stands =
 
 -- ---- the log after an accepted call
 
-pub message_stands : (sender : State) (log : List Call) (reading left : ℕ) (payload : List ℕ) (name : Name) → Stands sender log → name_after sender.stream.setup.times sender.latest (number_at sender.latest sender.used (interval_at sender.stream.setup.times reading)) reading payload ≡ Ok name → Stands (record { stream = sender.stream; latest = name.interval; used = name.number + 1; left = left }) (log ++ Message reading payload ∷ [])
-message_stands sender log reading left payload name stands is =
+pub message_stands : (sender : State) (log : List Call) (reading left reserved : ℕ) (payload : List ℕ) (name : Name) → Stands sender log → name_after sender.stream.setup.times sender.latest (number_at sender.latest sender.used (interval_at sender.stream.setup.times reading)) reading payload ≡ Ok name → Stands (record { stream = sender.stream; latest = name.interval; used = name.number + 1; left = left; reserved = reserved }) (log ++ Message reading payload ∷ [])
+message_stands sender log reading left reserved payload name stands is =
     let times = sender.stream.setup.times in
     let interval = interval_at times reading in
     let of = named times _ _ reading payload name is in
@@ -188,8 +188,8 @@ disclosed_is times before due reading interval is =
       is = ways.2;
     }
 
-pub disclosure_stands : (sender : State) (log : List Call) (reading interval left : ℕ) → Stands sender log → disclosed_after sender.stream.setup.times sender.latest (any_due (interval_at sender.stream.setup.times reading) (chains_of sender.stream)) reading ≡ Ok interval → Stands (record { stream = sender.stream; latest = interval; used = number_at sender.latest sender.used interval; left = left }) (log ++ Disclose reading ∷ [])
-disclosure_stands sender log reading interval left stands is =
+pub disclosure_stands : (sender : State) (log : List Call) (reading interval left reserved : ℕ) → Stands sender log → disclosed_after sender.stream.setup.times sender.latest (any_due (interval_at sender.stream.setup.times reading) (chains_of sender.stream)) reading ≡ Ok interval → Stands (record { stream = sender.stream; latest = interval; used = number_at sender.latest sender.used interval; left = left; reserved = reserved }) (log ++ Disclose reading ∷ [])
+disclosure_stands sender log reading interval left reserved stands is =
     let times = sender.stream.setup.times in
     let of = disclosed_is times sender.latest _ reading interval is in
     let answer = disclosure_answer sender log reading stands in

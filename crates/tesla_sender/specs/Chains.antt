@@ -1,5 +1,6 @@
 -- What a contract sees of a chain of a sender.
 use Rattle.std.specs.Prelude.{◌≡◌, ℕ, zero, suc, ◌+◌, ◌^◌, ◌<◌, ◌≤◌, Bool, true, false, ◌⊎◌, List, [], ◌∷◌, ◌++◌, Result, Ok, Err, bytes_eq, min}
+use Rattle.std.specs.List.{sum_by}
 use Rattle.circular_buffer.specs.Buffer.{Buffer, keep_last}
 use Rattle.tesla_base.specs.Tag.{wide_tag}
 use Rattle.tesla_base.specs.declared.names.Key.{Key}
@@ -13,12 +14,14 @@ use Rattle.tesla_sender.specs.declared.refusal.SenderRefusal.{SenderRefusal}
 use Rattle.tesla_sender.specs.declared.refusal.SenderRefusal.TheVariants.{WrongSeed, NoMemory}
 
 -- how far a chain has come: its keys of index 1 to `reached` were made, the MAC key of interval `tagging` is
--- prepared, none where that is 0, and the other keys still take at most `left` steps
+-- prepared, none where that is 0, the other keys still take at most `left` steps, and its tables, the walker's
+-- and the ring of the last keys, have room for `reserved` entries
 pub record Progress : Type 0 where
   pub chain : Chain
   pub reached : ℕ
   pub tagging : ℕ
   pub left : ℕ
+  pub reserved : ℕ
 
 -- the keys of index 1 to n
 unfoldable pub keys_to : ℕ → Key → ℕ → List Key
@@ -67,6 +70,13 @@ chain_in now = now.chain
 
 abbrev pub left_in : Progress → ℕ
 left_in now = now.left
+
+abbrev pub reserved_in : Progress → ℕ
+reserved_in now = now.reserved
+
+-- how many entries the table of the chains, which has room for so many, and the tables of each chain have room for
+abbrev pub reserved_by : ℕ → List Progress → ℕ
+reserved_by room chains = room + sum_by reserved_in chains
 
 -- a chain that can go on to the interval
 pub record IsReady (interval : ℕ) (now : Progress) : Type 0 where

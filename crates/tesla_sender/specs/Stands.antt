@@ -5,12 +5,14 @@ use Rattle.tesla_frame.specs.Written.{Begins}
 use Rattle.tesla_sender.specs.Made.{Call, Message, Disclose, Stream, latest_of, messages_of, made_message, made_disclosure}
 
 -- what a contract sees of a sender: its stream, the interval of the last accepted call, how many messages of
--- that interval were accepted, and the most steps that the keys still take
+-- that interval were accepted, the most steps that the keys still take, and how many entries its tables have
+-- room for: that of the chains, and those of each chain
 pub record State : Type 0 where
   pub stream : Stream
   pub latest : ℕ
   pub used : ℕ
   pub left : ℕ
+  pub reserved : ℕ
 
 -- how many messages of the interval were accepted, where so many were of the interval `latest`, and none of a
 -- later one

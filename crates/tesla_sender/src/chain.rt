@@ -31,6 +31,7 @@ pub struct SendingChain {
 }
 
 impl Model for SendingChain {
+    ghost use Rattle.std.specs.Prelude.{◌+◌};
     ghost use Rattle.tesla_sender.specs.Chains.{Progress, IsUsed};
 
     ghost Value = { Progress };
@@ -40,6 +41,7 @@ impl Model for SendingChain {
       reached = c.reached;
       tagging = c.tagging;
       left = c.walker.left;
+      reserved = c.walker.reserved + c.kept.capacity;
     } };
 
     ghost invariant = { λ c. IsUsed c.row.delay c.last c.walker c.kept c.reached c.tagging c.mac };
@@ -68,7 +70,8 @@ fn key_made<L: Ledger>(
 
 impl SendingChain {
     /// The chain of this number, row of the setup and seed, whose key of index `last` the seed is. All memory
-    /// is taken here. `WrongSeed` where the seed doesn't give the key of the row.
+    /// is taken here. `WrongSeed` where the seed doesn't give the key of the row. Beside the counted steps it
+    /// prepares one key, the seed, which stands there until the first MAC key; none where it is refused.
     pub fn open<L: Ledger>(
         alloc: Global,
         number: ChainNo,
@@ -111,6 +114,7 @@ impl SendingChain {
         ensures reached { self.new.reached ≡ self.old.reached + 1 }
         ensures tagging { self.new.tagging ≡ self.old.tagging }
         ensures left { steps.new + self.new.left ≤ steps.old + self.old.left }
+        ensures reserved { self.new.reserved ≡ self.old.reserved }
     {
         let Some(key) = self.walker.next(steps) else {
             unreachable!()
@@ -119,7 +123,7 @@ impl SendingChain {
         self.reached += 1;
     }
 
-    /// Makes the keys up to that of an interval.
+    /// Makes the keys up to that of an interval. No key is prepared.
     pub fn advance<L: Ledger>(&mut self, interval: u32, steps: &mut Steps<L>)
         requires later { self.old.reached ≤ interval }
         requires within { interval ≤ self.old.chain.last }
@@ -127,6 +131,7 @@ impl SendingChain {
         ensures reached { self.new.reached ≡ interval }
         ensures tagging { self.new.tagging ≡ self.old.tagging }
         ensures left { steps.new + self.new.left ≤ steps.old + self.old.left }
+        ensures reserved { self.new.reserved ≡ self.old.reserved }
     {
         for _ in self.reached..interval {
             self.step(steps);
@@ -146,13 +151,15 @@ impl SendingChain {
         }
     }
 
-    /// Makes the MAC key of the interval reached, where it isn't there.
+    /// Makes the MAC key of the interval reached, where it isn't there: then one key is prepared beside the
+    /// counted step.
     fn make_mac<L: Ledger>(&mut self, steps: &mut Steps<L>)
         requires { 1 ≤ self.old.reached }
         ensures same { self.new.chain ≡ self.old.chain }
         ensures reached { self.new.reached ≡ self.old.reached }
         ensures tagging { self.new.tagging ≡ self.old.reached }
         ensures left { self.new.left ≡ self.old.left }
+        ensures reserved { self.new.reserved ≡ self.old.reserved }
         ensures cost { steps.new ≤ steps.old + 1 }
     {
         if self.tagging == self.reached {
@@ -163,7 +170,8 @@ impl SendingChain {
         self.tagging = self.reached;
     }
 
-    /// Makes the keys up to that of an interval, and its MAC key.
+    /// Makes the keys up to that of an interval, and its MAC key. Beside the counted steps it prepares at most one
+    /// key.
     pub fn prepare<L: Ledger>(&mut self, interval: u32, steps: &mut Steps<L>)
         requires some { 1 ≤ interval }
         requires later { self.old.reached ≤ interval }
@@ -172,6 +180,7 @@ impl SendingChain {
         ensures reached { self.new.reached ≡ interval }
         ensures tagging { self.new.tagging ≡ interval }
         ensures left { steps.new + self.new.left ≤ steps.old + self.old.left + 1 }
+        ensures reserved { self.new.reserved ≡ self.old.reserved }
     {
         self.advance(interval, steps);
         self.make_mac(steps);
@@ -190,7 +199,7 @@ impl SendingChain {
         }
     }
 
-    /// The tag of a message of the interval whose MAC key is there: one counted step.
+    /// The tag of a message of the interval whose MAC key is there: one counted step. No key is prepared.
     pub fn tag<L: Ledger>(
         &self,
         setup: &Setup,

@@ -6,6 +6,7 @@ ghost use Rattle.tesla_sender.specs.Chains.{chain_in};
 ghost use Rattle.tesla_sender.specs.Stands.{number_at};
 
 use crate::chain::SendingChain;
+use crate::limits::MOST_PAYLOAD;
 use crate::rows::any_due;
 use crate::{DiscloseRefusal, SendRefusal};
 use tesla_base::Name;
@@ -40,7 +41,7 @@ pub fn judge_message(
 ) -> Result<Name, SendRefusal>
     ensures { result ≡ name_after schedule latest (number_at latest used (interval_at schedule reading)) reading payload.now }
 {
-    if payload.len() > 1200 {
+    if payload.len() > MOST_PAYLOAD {
         return Err(SendRefusal::TooLong(payload.len()));
     }
     let interval = interval_at(schedule, reading);
@@ -55,7 +56,7 @@ pub fn judge_message(
     }
     let number = number_at(latest, used, interval);
     let interval = interval as u32;
-    if number > 65_535 {
+    if number > u32::from(u16::MAX) {
         return Err(SendRefusal::IntervalFull(interval));
     }
     Ok(Name {

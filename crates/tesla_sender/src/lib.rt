@@ -3,6 +3,7 @@
 
 mod chain;
 mod judging;
+mod limits;
 mod opening;
 mod refusal;
 mod rows;

@@ -14,7 +14,8 @@ use std::sync::ledger::Ledger;
 use tesla_base::{ChainNo, Steps};
 use tesla_commit::{Seeds, Setup};
 
-/// The chains of a setup, each with its seed. All memory is taken here.
+/// The chains of a setup, each with its seed. All memory is taken here. Beside the counted steps it prepares one key
+/// for each chain that is opened.
 pub fn open_chains<L: Ledger>(
     alloc: Global,
     setup: &Setup,

@@ -1,10 +1,10 @@
 //! What all the chains of a sender do for a message or a disclosure.
 
-ghost use Rattle.std.specs.Prelude.{◌≡◌, ◌+◌, ◌≤◌, ◌++◌, length, map, take, min};
+ghost use Rattle.std.specs.Prelude.{◌≡◌, ◌+◌, ◌≤◌, ◌++◌, length, map, take, min, vec_capacity};
 ghost use Rattle.std.specs.List.{All, AllByRecursion, flat_map, sum_by};
 ghost use Rattle.tesla_frame.specs.Written.{HasLength};
 ghost use Rattle.tesla_sender.specs.Made.{any_due, due_row, key_due};
-ghost use Rattle.tesla_sender.specs.Chains.{chain_in, left_in, IsReady, HasReached, IsPrepared, CanDisclose, tag_made};
+ghost use Rattle.tesla_sender.specs.Chains.{chain_in, left_in, reserved_by, IsReady, HasReached, IsPrepared, CanDisclose, tag_made};
 
 use crate::chain::SendingChain;
 use std::sync::ledger::Ledger;
@@ -12,32 +12,35 @@ use tesla_base::{Key, Name, Steps, WideTag};
 use tesla_commit::Setup;
 use tesla_frame::KeyRow;
 
-/// Makes the keys of each chain up to that of an interval, and its MAC key.
+/// Makes the keys of each chain up to that of an interval, and its MAC key. Beside the counted steps it prepares at
+/// most one key a chain.
 pub fn prepare_all<L: Ledger>(chains: &mut Vec<SendingChain>, interval: u32, steps: &mut Steps<L>)
     requires some { 1 ≤ interval }
     requires ready { All (IsReady interval) chains.old.items }
     ensures same { map chain_in chains.new.items ≡ map chain_in chains.old.items }
     ensures prepared { All (IsPrepared interval) chains.new.items }
     ensures left { steps.new + sum_by left_in chains.new.items ≤ steps.old + sum_by left_in chains.old.items + length chains.old.items }
+    ensures reserved { reserved_by (vec_capacity chains.new) chains.new.items ≡ reserved_by (vec_capacity chains.old) chains.old.items }
 {
     for i in 0..chains.len() {
         chains[i].prepare(interval, steps);
     }
 }
 
-/// Makes the keys of each chain up to that of an interval.
+/// Makes the keys of each chain up to that of an interval. No key is prepared.
 pub fn advance_all<L: Ledger>(chains: &mut Vec<SendingChain>, interval: u32, steps: &mut Steps<L>)
     requires { All (IsReady interval) chains.old.items }
     ensures same { map chain_in chains.new.items ≡ map chain_in chains.old.items }
     ensures reached { All (HasReached interval) chains.new.items }
     ensures left { steps.new + sum_by left_in chains.new.items ≤ steps.old + sum_by left_in chains.old.items }
+    ensures reserved { reserved_by (vec_capacity chains.new) chains.new.items ≡ reserved_by (vec_capacity chains.old) chains.old.items }
 {
     for i in 0..chains.len() {
         chains[i].advance(interval, steps);
     }
 }
 
-/// Puts the tags of a message from a place on, one for each chain: so many counted steps.
+/// Puts the tags of a message from a place on, one for each chain: so many counted steps. No key is prepared.
 pub fn put_tags<L: Ledger>(
     chains: &[SendingChain],
     setup: &Setup,

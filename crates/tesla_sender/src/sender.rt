@@ -9,6 +9,7 @@ ghost use Rattle.tesla_sender.specs.Stands.{Answers, IsWritten, Stands, log_afte
 
 use crate::chain::SendingChain;
 use crate::judging::{judge_disclosure, judge_message, number_at};
+use crate::limits::FRAME_ROOM;
 use crate::opening::open_chains;
 use crate::rows::{advance_all, prepare_all};
 use crate::writing::{write_due, write_message};
@@ -24,7 +25,9 @@ use tesla_commit::{Seeds, Setup};
 ///
 /// Contracts see its stream, which is its setup with a seed for each chain, and the logs that it stands for: the
 /// calls that it accepted, in order. It keeps the last `delay + 1` keys of each chain, and nothing of the log but
-/// the interval and the number of the last calls. Its `Debug` text shows no byte of a key.
+/// the interval and the number of the last calls. Contracts also see how many entries its tables have room for,
+/// the table of its chains and those of each chain; the setup's own table, which no call changes, isn't among
+/// them. Its `Debug` text shows no byte of a key.
 #[derive(Drop)]
 pub struct Sender {
     setup: Setup,
@@ -35,13 +38,20 @@ pub struct Sender {
 
 impl Model for Sender {
     ghost use Rattle.std.specs.List.{sum_by};
-    ghost use Rattle.tesla_sender.specs.Chains.{left_in};
+    ghost use Rattle.std.specs.Prelude.{vec_capacity};
+    ghost use Rattle.tesla_sender.specs.Chains.{left_in, reserved_by};
     ghost use Rattle.tesla_sender.specs.Stands.{State};
     ghost use Rattle.tesla_sender.specs.Senders.{IsSender, stream_of};
 
     ghost Value = { State };
 
-    ghost view = { λ s. record { stream = stream_of s.setup s.chains.items; latest = s.latest; used = s.used; left = sum_by left_in s.chains.items } };
+    ghost view = { λ s. record {
+      stream = stream_of s.setup s.chains.items;
+      latest = s.latest;
+      used = s.used;
+      left = sum_by left_in s.chains.items;
+      reserved = reserved_by (vec_capacity s.chains) s.chains.items;
+    } };
 
     ghost invariant = { λ s. IsSender s.setup s.chains.items s.latest s.used };
 }
@@ -52,7 +62,10 @@ impl Sender {
     /// the setup's index that it gives isn't the setup's key.
     ///
     /// Over a sender's whole life, its opening included, it takes at most `C * (W(N) + N + 2 m)` counted steps for
-    /// `C` chains of `N` keys and `m` accepted messages, with `W(N)` as for a walker.
+    /// `C` chains of `N` keys and `m` accepted messages, with `W(N)` as for a walker. Beside the counted steps,
+    /// opening prepares one key for each chain that it opens, so at most `C`, and an accepted message one for each
+    /// chain where it is the first of its interval, so at most `C` too; no other call prepares a key. To prepare a
+    /// key takes two compressions of SHA-256.
     pub fn open<L: Ledger>(
         alloc: Global,
         setup: Setup,
@@ -82,7 +95,7 @@ impl Sender {
         &mut self,
         name: Name,
         payload: &[u8],
-        into: &mut [u8; 2048],
+        into: &mut [u8; FRAME_ROOM],
         steps: &mut Steps<L>,
     ) -> usize
         requires some { 1 ≤ name.interval }
@@ -91,8 +104,9 @@ impl Sender {
         requires number { name.number < 2 ^ 16 }
         requires limit { length payload.now ≤ 1200 }
         ensures written { IsWritten (message_frame self.old.stream.setup (chains_of self.old.stream) name payload.now) result into.old into.new }
-        ensures after { self.new ≡ record { stream = self.old.stream; latest = name.interval; used = name.number + 1; left = self.new.left } }
+        ensures after { self.new ≡ record { stream = self.old.stream; latest = name.interval; used = name.number + 1; left = self.new.left; reserved = self.new.reserved } }
         ensures cost { steps.new + self.new.left ≤ steps.old + self.old.left + 2 * length self.old.stream.setup.rows }
+        ensures reserved { self.new.reserved ≡ self.old.reserved }
     {
         prepare_all(&mut self.chains, name.interval, steps);
         self.latest = u64::from(name.interval);
@@ -118,12 +132,15 @@ impl Sender {
     /// the tags of all chains, and of each chain the key that is due (RFC 4082, sections 3.3 and 3.4).
     ///
     /// The refusals are those of [`SendRefusal`], in its order. After a refusal nothing has changed. It takes no
-    /// memory.
+    /// memory: what was reserved at opening stays as it was.
+    ///
+    /// Beside the counted steps, the first message of an interval prepares one key for each chain, of two
+    /// compressions of SHA-256 each; a later one, or one that is refused, prepares none.
     pub fn message<L: Ledger>(
         &mut self,
         reading: u64,
         payload: &[u8],
-        into: &mut [u8; 2048],
+        into: &mut [u8; FRAME_ROOM],
         steps: &mut Steps<L>,
     ) -> Result<usize, SendRefusal>
         ensures answer { (log : List Call) → Stands self.old log → Answers result (made_message self.old.stream log reading payload.now) into.old into.new }
@@ -132,6 +149,7 @@ impl Sender {
         ensures cost { steps.new + self.new.left ≤ steps.old + self.old.left + 2 * length self.old.stream.setup.rows }
         ensures refused { OnErr result ((self.new ≡ self.old) × (into.new ≡ into.old) × (steps.new ≡ steps.old)) }
         ensures room { IfOk result (λ length. length ≤ 2048) }
+        ensures reserved { self.new.reserved ≡ self.old.reserved }
     {
         match self.name_of(reading, payload) {
             Ok(name) => Ok(self.send(name, payload, into, steps)),
@@ -143,14 +161,15 @@ impl Sender {
     fn disclose_in<L: Ledger>(
         &mut self,
         interval: u64,
-        into: &mut [u8; 2048],
+        into: &mut [u8; FRAME_ROOM],
         steps: &mut Steps<L>,
     ) -> usize
         requires later { self.old.latest ≤ interval }
         requires due { any_due interval (chains_of self.old.stream) ≡ true }
         ensures written { IsWritten (disclosure_frame self.old.stream.setup (chains_of self.old.stream) interval) result into.old into.new }
-        ensures after { self.new ≡ record { stream = self.old.stream; latest = interval; used = number_at self.old.latest self.old.used interval; left = self.new.left } }
+        ensures after { self.new ≡ record { stream = self.old.stream; latest = interval; used = number_at self.old.latest self.old.used interval; left = self.new.left; reserved = self.new.reserved } }
         ensures cost { steps.new + self.new.left ≤ steps.old + self.old.left }
+        ensures reserved { self.new.reserved ≡ self.old.reserved }
     {
         let last = u64::from(self.setup.schedule().last());
         advance_all(&mut self.chains, interval.min(last) as u32, steps);
@@ -171,11 +190,12 @@ impl Sender {
     /// delay is below `x`: the key of index `x - delay`, or the last one.
     ///
     /// The refusals are those of [`DiscloseRefusal`], in its order. After a refusal nothing has changed. It takes
-    /// no memory.
+    /// no memory: what was reserved at opening stays as it was. It prepares no key, so no compressions of SHA-256
+    /// stand beside the counted steps.
     pub fn disclose<L: Ledger>(
         &mut self,
         reading: u64,
-        into: &mut [u8; 2048],
+        into: &mut [u8; FRAME_ROOM],
         steps: &mut Steps<L>,
     ) -> Result<usize, DiscloseRefusal>
         ensures answer { (log : List Call) → Stands self.old log → Answers result (made_disclosure self.old.stream log reading) into.old into.new }
@@ -184,6 +204,7 @@ impl Sender {
         ensures cost { steps.new + self.new.left ≤ steps.old + self.old.left }
         ensures refused { OnErr result ((self.new ≡ self.old) × (into.new ≡ into.old) × (steps.new ≡ steps.old)) }
         ensures room { IfOk result (λ length. length ≤ 2048) }
+        ensures reserved { self.new.reserved ≡ self.old.reserved }
     {
         match self.interval_of(reading) {
             Ok(interval) => Ok(self.disclose_in(interval, into, steps)),

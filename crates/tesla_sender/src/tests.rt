@@ -4,6 +4,7 @@ ghost use Rattle.std.specs.Prelude.{◌≡◌, ◌+◌, ◌*◌, ◌<◌, ◌≤
 ghost use Rattle.tesla_chain.specs.Cost.{W};
 
 use crate::examples::*;
+use crate::limits::{FRAME_ROOM, MOST_PAYLOAD};
 use crate::{Sender, SenderRefusal};
 use std::alloc::Global;
 use std::marker::Brand;
@@ -30,7 +31,7 @@ fn is_met<L: Ledger>(
     step: &Step,
     steps: &mut Steps<L>,
 ) -> Result<bool, Fail> {
-    let mut into = [7; 2048];
+    let mut into = [7; FRAME_ROOM];
     let (answer, digits) = match step {
         Step::Sends(reading, payload, digits) => {
             let answer = sender.message(*reading, payload.as_bytes(), &mut into, steps);
@@ -41,18 +42,18 @@ fn is_met<L: Ledger>(
             digits,
         ),
         Step::Unsent(reading, length, want) => {
-            let payload = [0; 1201];
-            let length = (*length).min(1201);
+            let payload = [0; MOST_PAYLOAD + 1];
+            let length = (*length).min(MOST_PAYLOAD + 1);
             let answer = sender.message(*reading, &payload[..length], &mut into, steps);
-            return Ok(answer == Err(*want) && into == [7; 2048]);
+            return Ok(answer == Err(*want) && into == [7; FRAME_ROOM]);
         }
         Step::Undisclosed(reading, want) => {
             let answer = sender.disclose(*reading, &mut into, steps);
-            return Ok(answer == Err(*want) && into == [7; 2048]);
+            return Ok(answer == Err(*want) && into == [7; FRAME_ROOM]);
         }
     };
     let frame = hex::decode(alloc, digits.as_bytes())?;
-    let length = frame.len().min(2048);
+    let length = frame.len().min(FRAME_ROOM);
     Ok(
         answer == Some(frame.len())
             && into.starts_with(frame.as_slice())
@@ -97,6 +98,19 @@ fn streams(rt: HostRuntime) -> Result<(), Fail> {
         (SETUP_WITH_TAGS_OF_10_BYTES, SHORT_TAGS),
         (SETUP_OF_EIGHT_CHAINS, EIGHT_CHAINS),
         (SETUP_OF_LATER_KEYS, VERSION_ONE),
+    ];
+    for (setup, rows) in table {
+        let unmet = first_unmet::<Brand>(rt.alloc(), Blank::new(1), setup.as_bytes(), rows)?;
+        assert_eq!(rt; unmet, None);
+    }
+    Ok(())
+}
+
+#[test]
+fn largest_senders(rt: HostRuntime) -> Result<(), Fail> {
+    let table = [
+        (SETUP_OF_THE_LONGEST_CHAIN, LONGEST_CHAIN),
+        (SETUP_OF_LONG_DELAYS, LONG_DELAYS),
     ];
     for (setup, rows) in table {
         let unmet = first_unmet::<Brand>(rt.alloc(), Blank::new(1), setup.as_bytes(), rows)?;
@@ -152,7 +166,7 @@ fn sends<L: Ledger>(
     ensures { steps.new ≤ steps.old + length setup.rows * (W setup.times.last + setup.times.last + 2 * length readings.now) }
 {
     let mut sender = Sender::open(alloc, setup, seeds, steps)?;
-    let mut into = [0; 2048];
+    let mut into = [0; FRAME_ROOM];
     let mut sent = 0;
     for reading in readings {
         if sender.message(*reading, b"a", &mut into, steps).is_ok() {

@@ -7,19 +7,21 @@ ghost use Rattle.tesla_sender.specs.Chains.{chain_in, AreNumbered, CanDisclose, 
 ghost use Rattle.tesla_sender.specs.Stands.{IsWritten};
 
 use crate::chain::SendingChain;
+use crate::limits::{FRAME_ROOM, MOST_CHAINS};
 use crate::rows::{put_due, put_keys, put_tags};
 use std::sync::ledger::Ledger;
 use tesla_base::{ChainNo, Key, Name, Steps, WideTag};
 use tesla_commit::Setup;
 use tesla_frame::{KeyRow, write_data, write_disclosure};
 
-/// Writes the data frame of a message of that name, and gives its length: as many counted steps as chains.
+/// Writes the data frame of a message of that name, and gives its length: as many counted steps as chains. No key is
+/// prepared.
 pub fn write_message<L: Ledger>(
     chains: &[SendingChain],
     setup: &Setup,
     name: Name,
     payload: &[u8],
-    into: &mut [u8; 2048],
+    into: &mut [u8; FRAME_ROOM],
     steps: &mut Steps<L>,
 ) -> usize
     requires same { length chains.now ≡ length setup.now.rows }
@@ -34,8 +36,8 @@ pub fn write_message<L: Ledger>(
         bytes: [0; 32],
         length: 0,
     };
-    let mut tags = [none; 8];
-    let mut keys = [None; 8];
+    let mut tags = [none; MOST_CHAINS];
+    let mut keys = [None; MOST_CHAINS];
     put_tags(chains, setup, name, payload, 0, &mut tags, steps);
     put_keys(chains, name.interval, 0, &mut keys);
     write_data(
@@ -54,7 +56,7 @@ pub fn write_due(
     chains: &[SendingChain],
     setup: &Setup,
     interval: u64,
-    into: &mut [u8; 2048],
+    into: &mut [u8; FRAME_ROOM],
 ) -> usize
     requires same { length chains.now ≡ length setup.now.rows }
     requires numbered { AreNumbered 0 (map chain_in chains.now) }
@@ -68,7 +70,7 @@ pub fn write_due(
         key: Key([0; 32]),
     };
     let _count = setup.count();
-    let mut rows = [none; 8];
+    let mut rows = [none; MOST_CHAINS];
     let end = put_due(chains, interval, 0, &mut rows);
     write_disclosure(setup.version(), setup.stream(), &rows[..end], into)
 }

@@ -30,8 +30,8 @@ counted_is : (i : ℕ) (held : List Placed) → count_by (in_interval i) (map ho
 counted_is i held =
     sym (length-filter (in_interval i) (map holding_at held)) ∙ ap length (filter_mapped (in_interval i) holding_at held) ∙ length-holdings (filter (is_of i) held)
 
-pub judged_is : (cfg : Config) (tips : List Tip) (store : Stored) (ended : List Bool) (counts : Report) (calls : ℕ) (set : ℕ) (f : DataFrame) → judged_packet (state_of cfg tips store ended counts calls) set f ≡ verdict_by cfg.capacity cfg.quota set (is_named store.held f.name) (length store.held) (length (filter (is_of f.name.interval) store.held))
-judged_is cfg tips store ended counts calls set f =
+pub judged_is : (cfg : Config) (tips : List Tip) (store : Stored) (ended : List Bool) (counts : Report) (calls reserved : ℕ) (set : ℕ) (f : DataFrame) → judged_packet (state_of cfg tips store ended counts calls reserved) set f ≡ verdict_by cfg.capacity cfg.quota set (is_named store.held f.name) (length store.held) (length (filter (is_of f.name.interval) store.held))
+judged_is cfg tips store ended counts calls reserved set f =
     ap (λ b. verdict_by cfg.capacity cfg.quota set b (length (map holding_at store.held)) (count_by (in_interval f.name.interval) (map holding_at store.held))) (any_mapped (is_named_so f.name) (λ (x : Placed). is_named_so f.name x.holding) holding_at (λ x. refl) store.held)
     ∙ ap (λ (n : ℕ). verdict_by cfg.capacity cfg.quota set (is_named store.held f.name) n (count_by (in_interval f.name.interval) (map holding_at store.held))) (length-holdings store.held)
     ∙ ap (λ (n : ℕ). verdict_by cfg.capacity cfg.quota set (is_named store.held f.name) (length store.held) n) (counted_is f.name.interval store.held)
@@ -49,11 +49,11 @@ own_none order (Kept chains) f h = absurd (h chains refl)
 own_none order Keys f h = refl
 
 -- the state once keys were taken
-pub keys_are : (cfg : Config) (tips later : List Tip) (old new : Stored) (ended : List Bool) (counts : Report) (calls : ℕ) (rows : List KeyRow) → later ≡ tips_after tips rows → map holding_at new.held ≡ flat_map (kept_after cfg (tips_after tips rows) (batch_of cfg tips rows (map holding_at old.held)) (released_of (map holding_at old.held) (batch_of cfg tips rows (map holding_at old.held)))) (map holding_at old.held) → new.waiting ≡ old.waiting ++ released_of (map holding_at old.held) (batch_of cfg tips rows (map holding_at old.held)) → state_of cfg later new ended counts calls ≡ with_keys (state_of cfg tips old ended counts calls) rows
-keys_are cfg tips later old new ended counts calls rows a b c =
-    ap (λ (ts : List Tip). record { config = cfg; tips = ts; held = map holding_at new.held; waiting = new.waiting; ended = ended; counts = counts; calls = calls }) a
-    ∙ ap (λ hs. record { config = cfg; tips = tips_after tips rows; held = hs; waiting = new.waiting; ended = ended; counts = counts; calls = calls }) b
-    ∙ ap (λ ws. record { config = cfg; tips = tips_after tips rows; held = flat_map (kept_after cfg (tips_after tips rows) (batch_of cfg tips rows (map holding_at old.held)) (released_of (map holding_at old.held) (batch_of cfg tips rows (map holding_at old.held)))) (map holding_at old.held); waiting = ws; ended = ended; counts = counts; calls = calls }) c
+pub keys_are : (cfg : Config) (tips later : List Tip) (old new : Stored) (ended : List Bool) (counts : Report) (calls reserved : ℕ) (rows : List KeyRow) → later ≡ tips_after tips rows → map holding_at new.held ≡ flat_map (kept_after cfg (tips_after tips rows) (batch_of cfg tips rows (map holding_at old.held)) (released_of (map holding_at old.held) (batch_of cfg tips rows (map holding_at old.held)))) (map holding_at old.held) → new.waiting ≡ old.waiting ++ released_of (map holding_at old.held) (batch_of cfg tips rows (map holding_at old.held)) → state_of cfg later new ended counts calls reserved ≡ with_keys (state_of cfg tips old ended counts calls reserved) rows
+keys_are cfg tips later old new ended counts calls reserved rows a b c =
+    ap (λ (ts : List Tip). record { config = cfg; tips = ts; held = map holding_at new.held; waiting = new.waiting; ended = ended; counts = counts; calls = calls; reserved = reserved }) a
+    ∙ ap (λ hs. record { config = cfg; tips = tips_after tips rows; held = hs; waiting = new.waiting; ended = ended; counts = counts; calls = calls; reserved = reserved }) b
+    ∙ ap (λ ws. record { config = cfg; tips = tips_after tips rows; held = flat_map (kept_after cfg (tips_after tips rows) (batch_of cfg tips rows (map holding_at old.held)) (released_of (map holding_at old.held) (batch_of cfg tips rows (map holding_at old.held)))) (map holding_at old.held); waiting = ws; ended = ended; counts = counts; calls = calls; reserved = reserved }) c
 
 -- ---- the whole arrival
 

@@ -1,26 +1,27 @@
 -- What an arrival takes in evaluations of HMAC: packet by packet, and by what a receiver keeps.
 use Rattle.std.proofs.Common.{◌≡◌, ℕ, suc, ◌+◌, ◌-◌, ◌*◌, ◌≤◌, Bool, true, false, cond, ◌&&◌, ◌||◌, ◌==◌, List, [], ◌∷◌, map, take, drop, Option, Some, None, refl, sym, ap, subst, ⊎_elim, ◌∙◌, arith, zero-add}
-use Rattle.std.specs.List.{filter, sum_by}
-use Rattle.std.specs.Prelude.{not, find, is_some, nat_lt, option_map}
+use Rattle.std.specs.List.{filter, list_any, sum_by}
+use Rattle.std.specs.Prelude.{not, find, is_some, nat_lt, option_map, length, count_by}
 use Rattle.std.proofs.lemmas.Bool.{cases_Bool, ltb-false}
 use Rattle.std.proofs.lemmas.List.{map-append}
 use Rattle.std.proofs.lemmas.List.Sums.{sum_by-cons, sum_by_push}
 use Rattle.tesla_base.specs.declared.names.Place.{Place}
 use Rattle.tesla_frame.specs.declared.row.KeyRow.{KeyRow}
-use Rattle.tesla_frame.specs.Frame.{Frame}
+use Rattle.tesla_base.specs.declared.names.ChainNo.{ChainNo}
+use Rattle.tesla_frame.specs.Frame.{Frame, Data, Disclosure}
 use Rattle.tesla_frame.specs.Reading.{frame_of}
 use Rattle.tesla_keys.specs.Tip.{Tip}
 use Rattle.tesla_links.specs.Lists.{Distinct}
 use Rattle.tesla_fitting.specs.declared.config.Config.{Config}
 use Rattle.tesla_state.specs.declared.ordering.Proved.{Proved}
 use Rattle.tesla_fitting.specs.declared.verdict.Verdict.{Verdict}
-use Rattle.tesla_fitting.specs.declared.verdict.Verdict.TheVariants.{Foreign, Misfit, Future, BadKey}
+use Rattle.tesla_fitting.specs.declared.verdict.Verdict.TheVariants.{Foreign, Misfit, Future, BadKey, Late, Repeat, Full, Kept}
 use Rattle.tesla_fitting.specs.Fitting.{stream_of, is_misfit, is_future, unfit}
-use Rattle.tesla_state.specs.Costs.{is_unread, gaps_by, pairs_by, most_on, most_by}
+use Rattle.tesla_state.specs.Costs.{is_unread, gaps_by, gaps_on, pairs_by, most_on, most_by, offers_by}
 use Rattle.tesla_fitting.specs.Rows.{keys_of}
 use Rattle.tesla_state.specs.Offered.{HaveBegun, gap_of, gaps}
 use Rattle.tesla_state.specs.State.{Holding, State}
-use Rattle.tesla_state.specs.Steps.{bound_at, fails, in_interval, is_newer, new_rows, refused, tip_at}
+use Rattle.tesla_state.specs.Steps.{bound_at, fails, in_interval, is_named_so, is_newer, judged_taken, safe_by, new_rows, refused, tip_at}
 use Rattle.tesla_state.specs.Stored.{Placed, place_of, holding_at, stands_at, is_of, is_unreleased_of}
 use Rattle.tesla_state.specs.Walking.{Walking, rows_of, left, tried, tries, pairs}
 use Rattle.tesla_state.proofs.Marked.{filter_mapped}
@@ -80,6 +81,19 @@ module _ (cfg : Config) (tips : List Tip) (begun : List Walking) (held : List Pl
 
 -- ---- an arrival
 
+packet_not_bad : (late repeat full : Bool) (set : ℕ) (chain : ChainNo) → cond late Late (cond repeat Repeat (cond full Full (Kept set))) ≡ BadKey chain → ⊥
+packet_not_bad true repeat full set chain e = cc
+packet_not_bad false true full set chain e = cc
+packet_not_bad false false true set chain e = cc
+packet_not_bad false false false set chain e = cc
+
+-- a frame whose keys are taken is no bad key
+pub taken_not_bad : (s : State) (bound : Option ℕ) (frame : Frame) (chain : ChainNo) → judged_taken s bound frame ≡ BadKey chain → ⊥
+taken_not_bad s bound (Data f) chain e =
+    let set : ℕ = safe_by s bound f.name.interval in
+    packet_not_bad (set == 0) (list_any (is_named_so f.name) s.held) (length s.held == s.config.capacity || count_by (in_interval f.name.interval) s.held == s.config.quota) set chain e
+taken_not_bad s bound (Disclosure f) chain e = cc
+
 -- a key that isn't newer isn't above the newest of its chain
 old_gap : (tip index : ℕ) → nat_lt tip index ≡ false → index - tip ≡ 0
 old_gap tip index e = let below = ltb-false tip index e in omega (arith, below)
@@ -137,6 +151,15 @@ module _ (s : State) (reading : ℕ) (bytes : List ℕ) (frame : Frame) (is : fr
   most_read : most_by s reading bytes ≡ cond (is_unread s.config (bound_at s reading) frame) 0 (2 * gaps_by s frame + 2 * pairs_by s frame)
   unfolding most_by
   most_read = ap (most_on s (bound_at s reading)) is
+
+  -- what its offers may take
+  most_offered : offers_by s bytes ≡ gaps_by s frame
+  unfolding offers_by
+  most_offered = ap (gaps_on s) is
+
+  -- a frame that is refused takes no more than its offers
+  pub bad_cost : (before after : ℕ) → after ≤ before + gaps s.tips (keys_of s.config frame) → after ≤ before + offers_by s bytes
+  bad_cost before after most = let far = gaps_are s frame in subst (λ (n : ℕ). after ≤ before + n) (sym most_offered) (omega (arith, far, most))
 
   -- a frame that is refused takes no more
   pub refused_cost : (before after : ℕ) → (is_some (unfit s.config (bound_at s reading) frame) ≡ true → after ≡ before) → after ≤ before + gaps s.tips (keys_of s.config frame) → after ≤ before + most_by s reading bytes

@@ -420,6 +420,7 @@ map-append_released (x ∷ xs) ys = ap (λ rs. x.release ∷ rs) (map-append_rel
 pub record Settling (old new : Stored) (batch : List Proved) (n : ℕ) : Type 0 where
   pub within : n ≤ length batch
   pub capacity : new.capacity ≡ old.capacity
+  pub reserved : new.reserved ≡ old.reserved
   pub chains : new.chains ≡ old.chains
   pub given : new.given ≡ old.given
   pub held : held_all new.held (drop n batch) ≡ held_all old.held batch
@@ -427,8 +428,8 @@ pub record Settling (old new : Stored) (batch : List Proved) (n : ℕ) : Type 0 
   pub proved : AreProved new.held (drop n batch)
   pub places : Distinct (map place_proved (drop n batch))
 
-pub settling_more : (old new next : Stored) (batch : List Proved) (n : ℕ) (p : Proved) → Settling old new batch n → n < length batch → p ≡ get_or batch n p → next.capacity ≡ new.capacity → next.chains ≡ new.chains → next.given ≡ new.given → next.held ≡ held_then new.held p → next.waiting ≡ new.waiting ++ map release_of (released_if (is_named new.held p.release.name) p) → Settling old next batch (n + 1)
-settling_more old new next batch n p s within is capacity chains given held waiting =
+pub settling_more : (old new next : Stored) (batch : List Proved) (n : ℕ) (p : Proved) → Settling old new batch n → n < length batch → p ≡ get_or batch n p → next.capacity ≡ new.capacity → next.reserved ≡ new.reserved → next.chains ≡ new.chains → next.given ≡ new.given → next.held ≡ held_then new.held p → next.waiting ≡ new.waiting ++ map release_of (released_if (is_named new.held p.release.name) p) → Settling old next batch (n + 1)
+settling_more old new next batch n p s within is capacity reserved chains given held waiting =
     let rest : List Proved = drop (n + 1) batch in
     let t : Bool = is_named new.held p.release.name in
     let next_is : suc n ≡ n + 1 = omega arith in
@@ -438,6 +439,7 @@ settling_more old new next batch n p s within is capacity chains given held wait
     record {
       within = omega arith;
       capacity = capacity ∙ s.capacity;
+      reserved = reserved ∙ s.reserved;
       chains = chains ∙ s.chains;
       given = given ∙ s.given;
       held = ap (λ h. held_all h rest) held ∙ ap (λ qs. held_all new.held qs) (sym parts) ∙ s.held;
@@ -457,7 +459,7 @@ next_proved old new batch n p s within is =
     (and_parts (list_any (is_proved_by p) new.held) (list_all (λ k. list_any (is_proved_by k) new.held) (drop (suc n) batch)) (ap (λ qs. list_all (λ k. list_any (is_proved_by k) new.held) qs) (sym parts) ∙ s.proved)).0
 
 pub settling_none : (old : Stored) (batch : List Proved) → AreProved old.held batch → Distinct (map place_proved batch) → Settling old old batch 0
-settling_none old batch h e = record { within = omega arith; capacity = refl; chains = refl; given = refl; held = refl; waiting = refl; proved = h; places = e }
+settling_none old batch h e = record { within = omega arith; capacity = refl; reserved = refl; chains = refl; given = refl; held = refl; waiting = refl; proved = h; places = e }
 
 pub settling_all : (old new : Stored) (batch : List Proved) (n : ℕ) → Settling old new batch n → length batch ≤ n → (new.held ≡ held_all old.held batch) × (new.waiting ≡ old.waiting ++ map release_of (out_of old.held batch))
 settling_all old new batch n s h =

@@ -191,6 +191,7 @@ swept_all u i over (suc m) (x ∷ xs) h =
 -- so many packets of the interval were looked at; this is the place of the next
 pub record Sweeping (old new : Stored) (u : Bool) (i : ℕ) (over : Placed → Bool) (n : ℕ) (at : Option Place) : Type 0 where
   pub capacity : new.capacity ≡ old.capacity
+  pub reserved : new.reserved ≡ old.reserved
   pub chains : new.chains ≡ old.chains
   pub waiting : new.waiting ≡ old.waiting
   pub given : new.given ≡ old.given
@@ -199,7 +200,7 @@ pub record Sweeping (old new : Stored) (u : Bool) (i : ℕ) (over : Placed → B
 
 pub sweeping_none : (old : Stored) (u : Bool) (i : ℕ) (over : Placed → Bool) (o : Option Place) → o ≡ first_place (filter (picks u i) old.held) → Sweeping old old u i over 0 o
 unfolding swept
-sweeping_none old u i over o h = record { capacity = refl; chains = refl; waiting = refl; given = refl; held = refl; next = h }
+sweeping_none old u i over o h = record { capacity = refl; reserved = refl; chains = refl; waiting = refl; given = refl; held = refl; next = h }
 
 first_none : (xs : List Placed) → first_place xs ≡ None → xs ≡ []
 first_none [] h = refl
@@ -240,13 +241,14 @@ found_next old new u i over n place d s =
 pub found_picked : (old new : Stored) (u : Bool) (i : ℕ) (over : Placed → Bool) (n : ℕ) (place : Place) → Distinct (map place_of old.held) → (s : Sweeping old new u i over n (Some place)) → picks u i (next_at old new u i over n place s).first ≡ true
 found_picked old new u i over n place d s = let f = next_at old new u i over n place s in (next_is u i over n old.held f.first f.rest d f.is).of
 
-pub sweeping_more : (old new then : Stored) (u : Bool) (i : ℕ) (over : Placed → Bool) (n : ℕ) (place : Place) (next : Option Place) → Distinct (map place_of old.held) → Sweeping old new u i over n (Some place) → next ≡ nexts u place.0 new.held → then.capacity ≡ new.capacity → then.chains ≡ new.chains → then.waiting ≡ new.waiting → then.given ≡ new.given → ((x : Placed) → find (stands_at place.0) new.held ≡ Some x → then.held ≡ cond (over x) (without place.0 new.held) new.held) → Sweeping old then u i over (n + 1) next
-sweeping_more old new then u i over n place next d s e capacity chains waiting given held =
+pub sweeping_more : (old new then : Stored) (u : Bool) (i : ℕ) (over : Placed → Bool) (n : ℕ) (place : Place) (next : Option Place) → Distinct (map place_of old.held) → Sweeping old new u i over n (Some place) → next ≡ nexts u place.0 new.held → then.capacity ≡ new.capacity → then.reserved ≡ new.reserved → then.chains ≡ new.chains → then.waiting ≡ new.waiting → then.given ≡ new.given → ((x : Placed) → find (stands_at place.0) new.held ≡ Some x → then.held ≡ cond (over x) (without place.0 new.held) new.held) → Sweeping old then u i over (n + 1) next
+sweeping_more old new then u i over n place next d s e capacity reserved chains waiting given held =
     let f = next_at old new u i over n place s in
     let r = next_is u i over n old.held f.first f.rest d f.is in
     let count : suc n ≡ n + 1 = omega arith in
     record {
       capacity = capacity ∙ s.capacity;
+      reserved = reserved ∙ s.reserved;
       chains = chains ∙ s.chains;
       waiting = waiting ∙ s.waiting;
       given = given ∙ s.given;
@@ -362,6 +364,7 @@ all_stay p h (x ∷ xs) = ap (λ t. cond t (x ∷ filter p xs) (filter p xs)) (h
 -- the packets of the intervals above this one, up to the highest, were let go where the interval passes one test and the packet another
 pub record Spanned (old new : Stored) (met : ℕ → Bool) (over : Placed → Bool) (low most high : ℕ) : Type 0 where
   pub capacity : new.capacity ≡ old.capacity
+  pub reserved : new.reserved ≡ old.reserved
   pub chains : new.chains ≡ old.chains
   pub waiting : new.waiting ≡ old.waiting
   pub given : new.given ≡ old.given
@@ -372,6 +375,7 @@ pub record Spanned (old new : Stored) (met : ℕ → Bool) (over : Placed → Bo
 pub spanned_none : (old : Stored) (met : ℕ → Bool) (over : Placed → Bool) (low high : ℕ) → Spanned old old met over low high high
 spanned_none old met over low high = record {
   capacity = refl;
+  reserved = refl;
   chains = refl;
   waiting = refl;
   given = refl;
@@ -425,10 +429,11 @@ module _ (met : ℕ → Bool) (over : Placed → Bool) (low most high : ℕ) whe
       ]
 
   -- the next interval was looked at
-  pub spanned_more : (old new then : Stored) (interval : ℕ) → IsHighest met low most (Some interval) → Spanned old new met over low most high → then.capacity ≡ new.capacity → then.chains ≡ new.chains → then.waiting ≡ new.waiting → then.given ≡ new.given
+  pub spanned_more : (old new then : Stored) (interval : ℕ) → IsHighest met low most (Some interval) → Spanned old new met over low most high → then.capacity ≡ new.capacity → then.reserved ≡ new.reserved → then.chains ≡ new.chains → then.waiting ≡ new.waiting → then.given ≡ new.given
       → then.held ≡ filter (λ x. not (is_of interval x && over x)) new.held → Spanned old then met over low (interval - 1) high
-  spanned_more old new then interval is s capacity chains waiting given held = record {
+  spanned_more old new then interval is s capacity reserved chains waiting given held = record {
     capacity = capacity ∙ s.capacity;
+    reserved = reserved ∙ s.reserved;
     chains = chains ∙ s.chains;
     waiting = waiting ∙ s.waiting;
     given = given ∙ s.given;

@@ -138,12 +138,12 @@ kept_taken cfg tips old new walks_room batch_room counts calls head before after
       given = omega arith;
     }
 
-pub state_taken : (cfg : Config) (tips : List Tip) (old new : Stored) (ended : List Bool) (counts : Report) (calls : ℕ) (head : Head) (before after : List ℕ) → IsGiven cfg tips counts.given old new head before after → state_of cfg tips new ended (record counts { given = counts.given + 1 }) (calls + 1) ≡ steps.after_take (state_of cfg tips old ended counts calls)
-state_taken cfg tips old new ended counts calls head before after g =
-    let s : State = state_of cfg tips old ended counts calls in
+pub state_taken : (cfg : Config) (tips : List Tip) (old new : Stored) (ended : List Bool) (counts : Report) (calls reserved : ℕ) (head : Head) (before after : List ℕ) → IsGiven cfg tips counts.given old new head before after → state_of cfg tips new ended (record counts { given = counts.given + 1 }) (calls + 1) reserved ≡ steps.after_take (state_of cfg tips old ended counts calls reserved)
+state_taken cfg tips old new ended counts calls reserved head before after g =
+    let s : State = state_of cfg tips old ended counts calls reserved in
     ap (λ hs. record s { held = hs; waiting = new.waiting; counts = record counts { given = counts.given + 1 }; calls = calls + 1 }) (ap (map holding_at) g.held ∙ held_taken cfg tips g.packet.holding.order old.held)
     ∙ one_taken s (release_by g.chain (Some g.packet)) new.waiting g.first
 
-pub answer_is : (cfg : Config) (tips : List Tip) (old new : Stored) (ended : List Bool) (counts : Report) (calls : ℕ) (head : Head) (before after : List ℕ) → IsGiven cfg tips counts.given old new head before after → reply_shown (takes.Given head) after ≡ reply_by (state_of cfg tips old ended counts calls)
-answer_is cfg tips old new ended counts calls head before after g =
-    answer_given (state_of cfg tips old ended counts calls) old.held g.packet g.chain new.waiting head after refl g.first g.found g.head_is g.payload
+pub answer_is : (cfg : Config) (tips : List Tip) (old new : Stored) (ended : List Bool) (counts : Report) (calls reserved : ℕ) (head : Head) (before after : List ℕ) → IsGiven cfg tips counts.given old new head before after → reply_shown (takes.Given head) after ≡ reply_by (state_of cfg tips old ended counts calls reserved)
+answer_is cfg tips old new ended counts calls reserved head before after g =
+    answer_given (state_of cfg tips old ended counts calls reserved) old.held g.packet g.chain new.waiting head after refl g.first g.found g.head_is g.payload

@@ -34,6 +34,14 @@ reached_by s new item = if item.released then 0 else count_by (is_reached_by s.t
 abbrev pub pairs_by : State → Frame → ℕ
 pairs_by s frame = sum_by (reached_by s (new_rows s frame)) s.held
 
+abbrev pub gaps_on : State → Option Frame → ℕ
+gaps_on s None = 0
+gaps_on s (Some frame) = gaps_by s frame
+
+-- the most evaluations that the offers of an arrival's keys may take, of which the first bad one is the last
+unfoldable pub offers_by : State → List ℕ → ℕ
+offers_by s bytes = gaps_on s (frame_of bytes)
+
 abbrev pub most_on : State → Option ℕ → Option Frame → ℕ
 most_on s bound None = 0
 most_on s bound (Some frame) = if is_unread s.config bound frame then 0 else 2 * gaps_by s frame + 2 * pairs_by s frame

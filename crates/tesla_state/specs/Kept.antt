@@ -1,5 +1,5 @@
 -- What a receiver that keeps no arrivals holds, and how it is seen.
-use Rattle.std.specs.Prelude.{◌≡◌, ℕ, ◌<◌, ◌≤◌, Bool, List, All, length, map}
+use Rattle.std.specs.Prelude.{◌≡◌, ℕ, ◌+◌, ◌<◌, ◌≤◌, Bool, List, All, length, map}
 use Rattle.tesla_keys.specs.Tip.{Tip}
 use Rattle.tesla_fitting.specs.declared.config.Config.{Config}
 use Rattle.tesla_state.specs.declared.report.Report.{Report}
@@ -8,8 +8,8 @@ use Rattle.tesla_state.specs.State.{State, Holding}
 use Rattle.tesla_state.specs.Stored.{Stored, holding_at, AreNeeded}
 
 -- the parts of a receiver as one state
-abbrev pub state_of : Config → List Tip → Stored → List Bool → Report → ℕ → State
-state_of cfg tips store ended counts calls = record {
+abbrev pub state_of : Config → List Tip → Stored → List Bool → Report → ℕ → ℕ → State
+state_of cfg tips store ended counts calls reserved = record {
   config = cfg;
   tips = tips;
   held = map holding_at store.held;
@@ -17,7 +17,12 @@ state_of cfg tips store ended counts calls = record {
   ended = ended;
   counts = counts;
   calls = calls;
+  reserved = reserved;
 }
+
+-- how many entries all tables have room for, by the room of each Vec and by the store
+abbrev pub reserved_in : ℕ → Stored → ℕ → ℕ → ℕ → ℕ
+reserved_in tips store walks batch ended = tips + store.reserved + walks + batch + ended
 
 -- no count is above the number of calls
 pub record CountsWithin (calls : ℕ) (r : Report) : Type 0 where

@@ -30,3 +30,5 @@ pub record State : Type 0 where
   pub ended : List Bool
   pub counts : Report
   pub calls : ℕ
+  -- how many entries its tables have room for, together
+  pub reserved : ℕ

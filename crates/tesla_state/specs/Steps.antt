@@ -43,9 +43,9 @@ no_counts = record {
   given = 0;
 }
 
--- what is kept before any event: the commitments
-abbrev pub opened : Config → State
-opened cfg = record { config = cfg; tips = map (first_tip cfg) (chains cfg); held = []; waiting = []; ended = replicate cfg.ingests false; counts = no_counts; calls = 0 }
+-- what is kept before any event: the commitments, with so much room
+abbrev pub opened : Config → ℕ → State
+opened cfg reserved = record { config = cfg; tips = map (first_tip cfg) (chains cfg); held = []; waiting = []; ended = replicate cfg.ingests false; counts = no_counts; calls = 0; reserved = reserved }
 
 -- ---- keys
 

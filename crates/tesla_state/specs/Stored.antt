@@ -34,6 +34,8 @@ pub record Stored : Type 0 where
   pub waiting : List Release
   -- how many were given
   pub given : ℕ
+  -- how many entries the tables have room for, together
+  pub reserved : ℕ
 
 abbrev pub placed_in : ℕ → Held → Placed
 placed_in chains held = record { place = held.place; holding = holding_in chains held.item }

@@ -5,7 +5,9 @@ ghost use Rattle.tesla_clock.specs.Schedule.{bound_of};
 ghost use Rattle.tesla_frame.specs.Frame.{Data, DataFrame};
 ghost use Rattle.tesla_frame.specs.Shown.{shown};
 ghost use Rattle.tesla_state.specs.declared.report.Report.{Report};
-ghost use Rattle.tesla_state.specs.Costs.{most_by};
+ghost use Rattle.tesla_base.specs.declared.names.ChainNo.{ChainNo};
+ghost use Rattle.tesla_fitting.specs.declared.verdict.Verdict.TheVariants.{BadKey};
+ghost use Rattle.tesla_state.specs.Costs.{most_by, offers_by};
 ghost use Rattle.tesla_state.specs.Gathering.{RiseBy, order_of};
 ghost use Rattle.tesla_fitting.specs.Rows.{keys_of};
 ghost use Rattle.tesla_state.specs.Kept.{state_of, IsBefore};
@@ -48,17 +50,18 @@ fn accept<L: Ledger>(
     requires begun { HaveBegun tips.old (keys_of config.now (shown frame.now)) walks.old }
     requires room { config.now.capacity ≤ vec_capacity batch.old }
     requires rows { (f : DataFrame) → shown frame.now ≡ Data f → length f.rows ≡ length config.now.setup.rows }
-    ensures verdict { (ended : List Bool) (counts : Report) (calls : ℕ) → let s = state_of config.now tips.old store.old ended counts calls in
+    ensures verdict { (ended : List Bool) (counts : Report) (calls reserved : ℕ) → let s = state_of config.now tips.old store.old ended counts calls reserved in
         result ≡ judged_taken (with_keys s (new_rows s (shown frame.now))) bound (shown frame.now) }
-    ensures state { (ended : List Bool) (counts : Report) (calls : ℕ) → let s = with_keys (state_of config.now tips.old store.old ended counts calls) (new_rows (state_of config.now tips.old store.old ended counts calls) (shown frame.now)) in
-        state_of config.now tips.new store.new ended counts calls ≡ record s { held = s.held ++ own order result (shown frame.now) } }
+    ensures state { (ended : List Bool) (counts : Report) (calls reserved : ℕ) → let s = with_keys (state_of config.now tips.old store.old ended counts calls reserved) (new_rows (state_of config.now tips.old store.old ended counts calls reserved) (shown frame.now)) in
+        state_of config.now tips.new store.new ended counts calls reserved ≡ record s { held = s.held ++ own order result (shown frame.now) } }
     ensures orders { RiseBy order_of (map holding_at store.new.held) }
     ensures before { All (IsBefore (order + 1)) (map holding_at store.new.held) }
     ensures needed { AreNeeded config.now tips.new store.new.held }
     ensures capacity { store.new.capacity ≡ store.old.capacity }
+    ensures reserved { store.new.reserved ≡ store.old.reserved }
     ensures chains { store.new.chains ≡ store.old.chains }
     ensures given { store.new.given ≡ store.old.given }
-    ensures room { vec_capacity batch.old ≤ vec_capacity batch.new }
+    ensures room { vec_capacity batch.new ≡ vec_capacity batch.old }
     ensures cost { steps.new ≤ steps.old + left tips.old walks.old + 2 * pairs config.now tips.old (rows_of walks.old) (map holding_at store.old.held) }
 {
     take_keys(config, tips, store, walks, batch, steps);
@@ -98,21 +101,25 @@ pub fn receive<L: Ledger>(
     requires needed { AreNeeded config.now tips.old.items store.old.held }
     requires eight { 8 ≤ vec_capacity walks.old }
     requires room { config.now.capacity ≤ vec_capacity batch.old }
-    ensures verdict { (ended : List Bool) (counts : Report) (calls : ℕ) →
-        result ≡ judged (state_of config.now tips.old.items store.old ended counts calls) reading bytes.now }
-    ensures state { (ended : List Bool) (counts : Report) (calls : ℕ) → counts.arrivals ≡ order →
-        state_of config.now tips.new.items store.new ended (counted result counts) (calls + 1) ≡ after_arrival (state_of config.now tips.old.items store.old ended counts calls) reading bytes.now }
+    ensures verdict { (ended : List Bool) (counts : Report) (calls reserved : ℕ) →
+        result ≡ judged (state_of config.now tips.old.items store.old ended counts calls reserved) reading bytes.now }
+    ensures state { (ended : List Bool) (counts : Report) (calls reserved : ℕ) → counts.arrivals ≡ order →
+        state_of config.now tips.new.items store.new ended (counted result counts) (calls + 1) reserved ≡ after_arrival (state_of config.now tips.old.items store.old ended counts calls reserved) reading bytes.now }
     ensures tips { length tips.new.items ≡ length tips.old.items }
+    ensures tips_room { vec_capacity tips.new ≡ vec_capacity tips.old }
     ensures orders { RiseBy order_of (map holding_at store.new.held) }
     ensures before { All (IsBefore (order + 1)) (map holding_at store.new.held) }
     ensures needed { AreNeeded config.now tips.new.items store.new.held }
     ensures capacity { store.new.capacity ≡ store.old.capacity }
+    ensures reserved { store.new.reserved ≡ store.old.reserved }
     ensures chains { store.new.chains ≡ store.old.chains }
     ensures given { store.new.given ≡ store.old.given }
-    ensures eight { vec_capacity walks.old ≤ vec_capacity walks.new }
-    ensures room { vec_capacity batch.old ≤ vec_capacity batch.new }
-    ensures cost { (ended : List Bool) (counts : Report) (calls : ℕ) →
-        steps.new ≤ steps.old + most_by (state_of config.now tips.old.items store.old ended counts calls) reading bytes.now }
+    ensures eight { vec_capacity walks.new ≡ vec_capacity walks.old }
+    ensures room { vec_capacity batch.new ≡ vec_capacity batch.old }
+    ensures cost { (ended : List Bool) (counts : Report) (calls reserved : ℕ) →
+        steps.new ≤ steps.old + most_by (state_of config.now tips.old.items store.old ended counts calls reserved) reading bytes.now }
+    ensures badkey { (ended : List Bool) (counts : Report) (calls reserved : ℕ) (chain : ChainNo) → result ≡ BadKey chain →
+        steps.new ≤ steps.old + offers_by (state_of config.now tips.old.items store.old ended counts calls reserved) bytes.now }
 {
     let Some(frame) = read_frame(bytes) else {
         return Verdict::Malformed;

@@ -1,6 +1,6 @@
 //! Which ingests have ended.
 
-ghost use Rattle.std.specs.Prelude.{◌≡◌, true, slice_set};
+ghost use Rattle.std.specs.Prelude.{◌≡◌, true, slice_set, vec_capacity};
 ghost use Rattle.std.specs.List.{list_all};
 
 /// Whether all flags are set.
@@ -17,7 +17,8 @@ pub fn all_set(flags: &[bool]) -> bool
 
 /// Sets the flag at a place, if there is one.
 pub fn mark(flags: &mut Vec<bool>, place: usize)
-    ensures { flags.new.items ≡ slice_set flags.old.items place true }
+    ensures flags { flags.new.items ≡ slice_set flags.old.items place true }
+    ensures capacity { vec_capacity flags.new ≡ vec_capacity flags.old }
 {
     if place < flags.len() {
         flags[place] = true;

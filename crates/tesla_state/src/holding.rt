@@ -57,6 +57,7 @@ fn hold(store: &mut Store, order: u64, chains: u8, frame: &DataView<'_>)
     requires room { length store.old.held < store.old.capacity }
     requires rows { length frame.now.rows ≡ store.old.chains }
     ensures capacity { store.new.capacity ≡ store.old.capacity }
+    ensures reserved { store.new.reserved ≡ store.old.reserved }
     ensures chains { store.new.chains ≡ store.old.chains }
     ensures held { map holding_at store.new.held ≡ map holding_at store.old.held ++ own order (Kept chains) (Data frame.now) }
     ensures waiting { store.new.waiting ≡ store.old.waiting }
@@ -78,10 +79,11 @@ pub fn keep(
     requires capacity { store.old.capacity ≡ config.now.capacity }
     requires chains { store.old.chains ≡ length config.now.setup.rows }
     requires rows { length frame.now.rows ≡ length config.now.setup.rows }
-    ensures verdict { (ended : List Bool) (counts : Report) (calls : ℕ) → let s = state_of config.now tips.now store.old ended counts calls in
+    ensures verdict { (ended : List Bool) (counts : Report) (calls reserved : ℕ) → let s = state_of config.now tips.now store.old ended counts calls reserved in
         result ≡ judged_packet s (safe_by s bound frame.now.name.interval) frame.now }
     ensures held { map holding_at store.new.held ≡ map holding_at store.old.held ++ own order result (Data frame.now) }
     ensures capacity { store.new.capacity ≡ store.old.capacity }
+    ensures reserved { store.new.reserved ≡ store.old.reserved }
     ensures chains { store.new.chains ≡ store.old.chains }
     ensures waiting { store.new.waiting ≡ store.old.waiting }
     ensures given { store.new.given ≡ store.old.given }

@@ -36,7 +36,7 @@ pub fn refused<L: Ledger>(
     requires room { 8 ≤ vec_capacity walks.old }
     ensures value { (s : State) → s.config ≡ config.now → s.tips ≡ tips.now → result ≡ refused s bound (shown frame.now) }
     ensures begun { IfNone result (HaveBegun tips.now (keys_of config.now (shown frame.now)) walks.new.items) }
-    ensures capacity { vec_capacity walks.old ≤ vec_capacity walks.new }
+    ensures capacity { vec_capacity walks.new ≡ vec_capacity walks.old }
     ensures free { is_some (unfit config.now bound (shown frame.now)) ≡ true → steps.new ≡ steps.old }
     ensures most { steps.new ≤ steps.old + gaps tips.now (keys_of config.now (shown frame.now)) }
     ensures cost { IfNone result (steps.new ≡ steps.old + gaps tips.now (keys_of config.now (shown frame.now))) }

@@ -45,9 +45,10 @@ pub fn take_keys<L: Ledger>(
     ensures waiting { let before = map holding_at store.old.held in
         store.new.waiting ≡ store.old.waiting ++ released_of before (batch_of config.now tips.old (rows_of walks.old) before) }
     ensures capacity { store.new.capacity ≡ store.old.capacity }
+    ensures reserved { store.new.reserved ≡ store.old.reserved }
     ensures chains { store.new.chains ≡ store.old.chains }
     ensures given { store.new.given ≡ store.old.given }
-    ensures room { vec_capacity batch.old ≤ vec_capacity batch.new }
+    ensures room { vec_capacity batch.new ≡ vec_capacity batch.old }
     ensures cost { steps.new ≤ steps.old + left tips.old walks.old + 2 * pairs config.now tips.old (rows_of walks.old) (map holding_at store.old.held) }
 {
     if walks.is_empty() || store.held() == 0 {

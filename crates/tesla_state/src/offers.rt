@@ -79,16 +79,14 @@ fn offer_row<L: Ledger>(
     requires room { length walks.old.items < vec_capacity walks.old }
     ensures value { result ≡ leads_to row verifier.now.index verifier.now.key }
     ensures walks { result ≡ true → walks.new.items ≡ walks.old.items ++ fresh row ∷ [] }
-    ensures capacity { vec_capacity walks.old ≤ vec_capacity walks.new }
+    ensures capacity { vec_capacity walks.new ≡ vec_capacity walks.old }
     ensures cost { steps.new ≡ steps.old + (row.index - verifier.now.index) }
 {
     let walking = Walk::new(row);
     let Offer::Good { .. } = walking.offer(verifier, steps) else {
         return false;
     };
-    let Ok(()) = walks.push(walking) else {
-        unreachable!()
-    };
+    walks.push_reserved(walking);
     true
 }
 
@@ -110,7 +108,7 @@ pub fn offer_keys<L: Ledger>(
     requires room { 8 ≤ vec_capacity walks.old }
     ensures value { result ≡ option_map (λ row. row.chain) (find (fails tips.now) (keys_of config.now (shown frame.now))) }
     ensures begun { IfNone result (HaveBegun tips.now (keys_of config.now (shown frame.now)) walks.new.items) }
-    ensures capacity { vec_capacity walks.old ≤ vec_capacity walks.new }
+    ensures capacity { vec_capacity walks.new ≡ vec_capacity walks.old }
     ensures most { steps.new ≤ steps.old + gaps tips.now (keys_of config.now (shown frame.now)) }
     ensures cost { IfNone result (steps.new ≡ steps.old + gaps tips.now (keys_of config.now (shown frame.now))) }
 {

@@ -66,6 +66,7 @@ impl Store {
     fn let_go_resting(&mut self, place: Place)
         requires { list_any (stands_at place.0) self.old.held ≡ true }
         ensures capacity { self.new.capacity ≡ self.old.capacity }
+        ensures reserved { self.new.reserved ≡ self.old.reserved }
         ensures chains { self.new.chains ≡ self.old.chains }
         ensures held { (x : Placed) → find (stands_at place.0) self.old.held ≡ Some x →
             self.new.held ≡ (if not (waits x) then without place.0 self.old.held else self.old.held) }
@@ -82,6 +83,7 @@ impl Store {
         requires tips { length tips.now ≡ length config.now.setup.rows }
         requires live { list_any (is_unreleased_at place.0) self.old.held ≡ true }
         ensures capacity { self.new.capacity ≡ self.old.capacity }
+        ensures reserved { self.new.reserved ≡ self.old.reserved }
         ensures chains { self.new.chains ≡ self.old.chains }
         ensures held { (x : Placed) → find (stands_at place.0) self.old.held ≡ Some x →
             self.new.held ≡ (if list_all (is_over tips.now x.holding) (chains config.now) then without place.0 self.old.held else self.old.held) }
@@ -97,6 +99,7 @@ impl Store {
     fn sweep_passed(&mut self, interval: u32)
         requires { Distinct (map place_of self.old.held) }
         ensures capacity { self.new.capacity ≡ self.old.capacity }
+        ensures reserved { self.new.reserved ≡ self.old.reserved }
         ensures chains { self.new.chains ≡ self.old.chains }
         ensures held { self.new.held ≡ filter (λ x. not (is_of interval x && not (waits x))) self.old.held }
         ensures waiting { self.new.waiting ≡ self.old.waiting }
@@ -117,6 +120,7 @@ impl Store {
         requires tips { length tips.now ≡ length config.now.setup.rows }
         requires apart { Distinct (map place_of self.old.held) }
         ensures capacity { self.new.capacity ≡ self.old.capacity }
+        ensures reserved { self.new.reserved ≡ self.old.reserved }
         ensures chains { self.new.chains ≡ self.old.chains }
         ensures held { self.new.held ≡ filter (λ x. not (is_unreleased_of interval x && list_all (is_over tips.now x.holding) (chains config.now))) self.old.held }
         ensures waiting { self.new.waiting ≡ self.old.waiting }
@@ -138,6 +142,7 @@ impl Store {
         requires tips { length tips.now ≡ length config.now.setup.rows }
         requires apart { Distinct (map place_of self.old.held) }
         ensures capacity { self.new.capacity ≡ self.old.capacity }
+        ensures reserved { self.new.reserved ≡ self.old.reserved }
         ensures chains { self.new.chains ≡ self.old.chains }
         ensures held { self.new.held ≡ filter (λ x. not (is_of interval x && is_idle config.now tips.now x)) self.old.held }
         ensures waiting { self.new.waiting ≡ self.old.waiting }
@@ -165,6 +170,7 @@ impl Store {
         requires chains { All (IsOfChains 8) (rows_of walks.now) }
         requires apart { Distinct (map place_of self.old.held) }
         ensures capacity { self.new.capacity ≡ self.old.capacity }
+        ensures reserved { self.new.reserved ≡ self.old.reserved }
         ensures chains { self.new.chains ≡ self.old.chains }
         ensures held { self.new.held ≡ filter (λ x. not (in_reach low high indices.now (rows_of walks.now) x && is_idle config.now tips.now x)) self.old.held }
         ensures waiting { self.new.waiting ≡ self.old.waiting }

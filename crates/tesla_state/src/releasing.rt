@@ -14,6 +14,7 @@ impl Store {
     fn settle(&mut self, proved: &Proved)
         requires { list_any (is_proved_by proved.now) self.old.held ≡ true }
         ensures capacity { self.new.capacity ≡ self.old.capacity }
+        ensures reserved { self.new.reserved ≡ self.old.reserved }
         ensures chains { self.new.chains ≡ self.old.chains }
         ensures held { self.new.held ≡ held_then self.old.held proved.now }
         ensures waiting { self.new.waiting ≡ self.old.waiting ++ map release_of (released_if (is_named self.old.held proved.now.release.name) proved.now) }
@@ -34,6 +35,7 @@ impl Store {
         requires apart { Distinct (map place_of self.old.held) }
         requires orders { Distinct (map order_of self.old.held) }
         ensures capacity { self.new.capacity ≡ self.old.capacity }
+        ensures reserved { self.new.reserved ≡ self.old.reserved }
         ensures chains { self.new.chains ≡ self.old.chains }
         ensures held { self.new.held ≡ flat_map (after_batch (map release_of batch.now) (released_of (map holding_at self.old.held) (map release_of batch.now))) self.old.held }
         ensures waiting { self.new.waiting ≡ self.old.waiting ++ released_of (map holding_at self.old.held) (map release_of batch.now) }

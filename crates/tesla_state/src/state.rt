@@ -2,7 +2,8 @@
 
 ghost use Rattle.std.specs.Prelude.{◌≡◌, ◌+◌, ◌^◌, ◌<◌, ◌≤◌, [], IfOk, length, map, replicate, false};
 ghost use Rattle.tesla_fitting.specs.Config.{chains};
-ghost use Rattle.tesla_state.specs.Costs.{most_by};
+ghost use Rattle.tesla_base.specs.declared.names.ChainNo.{ChainNo};
+ghost use Rattle.tesla_state.specs.Costs.{most_by, offers_by};
 ghost use Rattle.tesla_state.specs.Replies.{reply_shown, KeepsBehind};
 ghost use Rattle.tesla_state.specs.Steps.{opened, judged, after_arrival, reply_by, after_take, after_end};
 ghost use Rattle.tesla_state.specs.Tips.{first_tip};
@@ -54,12 +55,12 @@ pub struct ReceiverState {
 
 impl Model for ReceiverState {
     ghost use Rattle.std.specs.Prelude.{vec_capacity};
-    ghost use Rattle.tesla_state.specs.Kept.{state_of, IsKept};
+    ghost use Rattle.tesla_state.specs.Kept.{reserved_in, state_of, IsKept};
     ghost use Rattle.tesla_state.specs.State.{State};
 
     ghost Value = { State };
 
-    ghost view = { λ k. state_of k.config k.tips.items k.store k.ended.items k.counts k.calls };
+    ghost view = { λ k. state_of k.config k.tips.items k.store k.ended.items k.counts k.calls (reserved_in (vec_capacity k.tips) k.store (vec_capacity k.walks) (vec_capacity k.batch) (vec_capacity k.ended)) };
 
     ghost invariant = { λ k. IsKept k.config k.tips.items k.store (vec_capacity k.walks) (vec_capacity k.batch) k.counts k.calls };
 }
@@ -67,8 +68,9 @@ impl Model for ReceiverState {
 impl ReceiverState {
     /// A receiver to which nothing has happened. The lag is in microseconds; the capacity is a number of packets, at
     /// most 65,536, and the quota one of packets of an interval, from 1 to the capacity; each ingest below `ingests`,
-    /// of which there is one at least, has to end before a take answers `Over`. All memory is taken here. `NoMemory`:
-    /// there was none for the packets that may be held, or for a flag of each ingest.
+    /// of which there is one at least, has to end before a take answers `Over`. All memory is taken here: `reserved` tells
+    /// for how many entries all tables have room, and no other call changes it. `NoMemory`: there was none for the packets
+    /// that may be held, or for a flag of each ingest.
     pub fn open(
         alloc: Global,
         setup: Setup,
@@ -81,7 +83,7 @@ impl ReceiverState {
         requires within { quota ≤ capacity }
         requires few { capacity ≤ 65536 }
         requires ingests { 1 ≤ ingests }
-        ensures { IfOk result (λ k. k ≡ opened (record { setup = setup; lag = lag; capacity = capacity; quota = quota; ingests = ingests })) }
+        ensures { IfOk result (λ k. k ≡ opened (record { setup = setup; lag = lag; capacity = capacity; quota = quota; ingests = ingests }) k.reserved) }
     {
         let ended = vec![in alloc; false; ingests as usize]?;
         let config = Config {
@@ -108,7 +110,8 @@ impl ReceiverState {
     /// Judges a datagram of an ingest, with the reading of the receiver's clock in microseconds. It takes no memory.
     /// No step is counted where a datagram is refused before its keys are looked at; else at most two for each interval
     /// from a newer key down to the newest of its chain, and two for each held packet that isn't released and each chain
-    /// on which the new keys reach it.
+    /// on which the new keys reach it. Where a key is bad, they are at most one for each interval from a newer key down to
+    /// the newest of its chain.
     pub fn arrive<L: Ledger>(
         &mut self,
         _ingest: u8,
@@ -119,7 +122,9 @@ impl ReceiverState {
         requires { self.old.calls + 1 < 2 ^ 64 }
         ensures verdict { result ≡ judged self.old reading bytes.now }
         ensures state { self.new ≡ after_arrival self.old reading bytes.now }
+        ensures reserved { self.new.reserved ≡ self.old.reserved }
         ensures cost { steps.new ≤ steps.old + most_by self.old reading bytes.now }
+        ensures badkey { (chain : ChainNo) → result ≡ Verdict.BadKey chain → steps.new ≤ steps.old + offers_by self.old bytes.now }
     {
         let verdict = receive(
             &self.config,
@@ -143,6 +148,7 @@ impl ReceiverState {
         requires { self.old.calls + 1 < 2 ^ 64 }
         ensures answer { reply_shown result into.new ≡ reply_by self.old }
         ensures state { self.new ≡ after_take self.old }
+        ensures reserved { self.new.reserved ≡ self.old.reserved }
         ensures behind { KeepsBehind result into.old into.new }
     {
         self.calls += 1;
@@ -161,7 +167,8 @@ impl ReceiverState {
     /// Ends an ingest. One at or above the number of ingests counts for nothing. It takes no memory.
     pub fn end(&mut self, ingest: u8)
         requires { self.old.calls + 1 < 2 ^ 64 }
-        ensures { self.new ≡ after_end self.old ingest }
+        ensures state { self.new ≡ after_end self.old ingest }
+        ensures reserved { self.new.reserved ≡ self.old.reserved }
     {
         mark(&mut self.ended, ingest as usize);
         self.calls += 1;

@@ -26,7 +26,7 @@ pub struct Store {
 }
 
 impl Model for Store {
-    ghost use Rattle.std.specs.Prelude.{map};
+    ghost use Rattle.std.specs.Prelude.{◌+◌, map};
     ghost use Rattle.tesla_state.specs.Stored.{Stored, IsStore, placed_in, release_in};
 
     ghost Value = { Stored };
@@ -37,6 +37,7 @@ impl Model for Store {
       held = map (placed_in s.chains) s.buffer.held;
       waiting = map (release_in (map (placed_in s.chains) s.buffer.held)) s.queue.waiting;
       given = s.queue.given;
+      reserved = s.buffer.reserved + s.queue.capacity;
     } };
 
     ghost invariant = { λ s. IsStore s.buffer.capacity s.queue.capacity s.chains s.buffer.held s.queue.waiting };
@@ -47,7 +48,7 @@ impl Store {
     pub fn open(alloc: Global, capacity: u32, chains: u8) -> Result<Store, NoMemory>
         requires some { 1 ≤ capacity }
         requires most { capacity ≤ 65536 }
-        ensures { IfOk result (λ s. s ≡ record { capacity = capacity; chains = chains; held = []; waiting = []; given = 0 }) }
+        ensures { IfOk result (λ s. s ≡ record { capacity = capacity; chains = chains; held = []; waiting = []; given = 0; reserved = s.reserved }) }
     {
         Ok(Store {
             buffer: Buffer::open(alloc, capacity)?,
@@ -147,6 +148,7 @@ impl Store {
         requires room { length self.old.held < self.old.capacity }
         requires rows { length frame.now.rows ≡ self.old.chains }
         ensures capacity { self.new.capacity ≡ self.old.capacity }
+        ensures reserved { self.new.reserved ≡ self.old.reserved }
         ensures chains { self.new.chains ≡ self.old.chains }
         ensures held { (place : ℕ) × (self.new.held ≡ self.old.held ++ record { place = place; holding = record { order = order; name = frame.now.name; chains = chains; payload = frame.now.payload; tags = map tag_in frame.now.rows; released = false; taken = false } } ∷ []) }
         ensures waiting { self.new.waiting ≡ self.old.waiting }
@@ -159,6 +161,7 @@ impl Store {
     pub fn release(&mut self, proved: &Proved)
         requires { list_any (is_proved_by proved.now) self.old.held ≡ true }
         ensures capacity { self.new.capacity ≡ self.old.capacity }
+        ensures reserved { self.new.reserved ≡ self.old.reserved }
         ensures chains { self.new.chains ≡ self.old.chains }
         ensures held { self.new.held ≡ map (with_released proved.now.place.0) self.old.held }
         ensures waiting { self.new.waiting ≡ self.old.waiting ++ proved.now.release ∷ [] }
@@ -175,6 +178,7 @@ impl Store {
     pub fn discard(&mut self, place: Place)
         requires { list_any (rests_at place.0) self.old.held ≡ true }
         ensures capacity { self.new.capacity ≡ self.old.capacity }
+        ensures reserved { self.new.reserved ≡ self.old.reserved }
         ensures chains { self.new.chains ≡ self.old.chains }
         ensures held { self.new.held ≡ without place.0 self.old.held }
         ensures waiting { self.new.waiting ≡ self.old.waiting }

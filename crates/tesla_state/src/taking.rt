@@ -59,6 +59,7 @@ impl Store {
         requires tips { length tips.now ≡ length config.now.setup.rows }
         requires orders { Distinct (map order_of self.old.held) }
         ensures capacity { self.new.capacity ≡ self.old.capacity }
+        ensures reserved { self.new.reserved ≡ self.old.reserved }
         ensures chains { self.new.chains ≡ self.old.chains }
         ensures given { MatchOption result
             ((self.old.waiting ≡ []) × (self.new ≡ self.old) × (into.new ≡ into.old))

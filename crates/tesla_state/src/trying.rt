@@ -28,21 +28,19 @@ fn append(batch: &mut Vec<Proved>, proved: Option<Proved>)
     requires { length batch.old.items < vec_capacity batch.old }
     ensures items { batch.new.items ≡ batch.old.items ++ option_to_list proved }
     ensures long { length batch.new.items ≤ length batch.old.items + 1 }
-    ensures capacity { vec_capacity batch.old ≤ vec_capacity batch.new }
+    ensures capacity { vec_capacity batch.new ≡ vec_capacity batch.old }
 {
     let Some(proved) = proved else {
         return;
     };
-    let Ok(()) = batch.push(proved) else {
-        unreachable!()
-    };
+    batch.push_reserved(proved);
 }
 
 // Puts a batch into order of arrival.
 fn order(batch: &mut Vec<Proved>)
     ensures order { (releases : List Release) → RiseBy place_of releases → IsPermutation releases (map release_in batch.old.items) → map release_in batch.new.items ≡ releases }
     ensures same { IsPermutation batch.old.items batch.new.items }
-    ensures capacity { vec_capacity batch.old ≤ vec_capacity batch.new }
+    ensures capacity { vec_capacity batch.new ≡ vec_capacity batch.old }
 {
     sort(batch);
 }
@@ -69,7 +67,7 @@ impl Store {
             map release_in batch.new.items ≡ map release_in batch.old.items ++ proof_of config.now tips.now (rows_of walks.old) x.holding }
         ensures proved { AreProved self.now.held batch.old.items → AreProved self.now.held batch.new.items }
         ensures long { length batch.new.items ≤ length batch.old.items + 1 }
-        ensures capacity { vec_capacity batch.old ≤ vec_capacity batch.new }
+        ensures capacity { vec_capacity batch.new ≡ vec_capacity batch.old }
         ensures rows { rows_of walks.new ≡ rows_of walks.old }
         ensures above { (x : Placed) → find (stands_at place.0) self.now.held ≡ Some x → All (IsAbove x.holding.name.interval) walks.new }
         ensures cost { (x : Placed) → find (stands_at place.0) self.now.held ≡ Some x →
@@ -99,7 +97,7 @@ impl Store {
         ensures releases { map release_in batch.new.items ≡ map release_in batch.old.items ++ in_turn (proof_of config.now tips.now (rows_of walks.old)) (map holding_at self.now.held) interval }
         ensures proved { AreProved self.now.held batch.old.items → AreProved self.now.held batch.new.items }
         ensures long { length batch.new.items ≤ length batch.old.items + length (filter (is_of interval) self.now.held) }
-        ensures capacity { vec_capacity batch.old ≤ vec_capacity batch.new }
+        ensures capacity { vec_capacity batch.new ≡ vec_capacity batch.old }
         ensures rows { rows_of walks.new ≡ rows_of walks.old }
         ensures above { All (IsAbove interval) walks.new }
         ensures cost { steps.new + left tips.now walks.new ≤ steps.old + left tips.now walks.old
@@ -141,7 +139,7 @@ impl Store {
         requires room { length self.now.held ≤ vec_capacity batch.old }
         ensures releases { IsPermutation (batch_of config.now tips.now (rows_of walks.old) (map holding_at self.now.held)) (map release_in batch.new.items) }
         ensures proved { AreProved self.now.held batch.new.items }
-        ensures capacity { vec_capacity batch.old ≤ vec_capacity batch.new }
+        ensures capacity { vec_capacity batch.new ≡ vec_capacity batch.old }
         ensures rows { rows_of walks.new ≡ rows_of walks.old }
         ensures cost { steps.new + left tips.now walks.new ≤ steps.old + left tips.now walks.old
             + 2 * pairs config.now tips.now (rows_of walks.old) (map holding_at self.now.held) }
@@ -182,7 +180,7 @@ impl Store {
         ensures releases { map release_in batch.new.items ≡ batch_of config.now tips.now (rows_of walks.old) (map holding_at self.now.held) }
         ensures proved { AreProved self.now.held batch.new.items }
         ensures places { Distinct (map place_proved batch.new.items) }
-        ensures capacity { vec_capacity batch.old ≤ vec_capacity batch.new }
+        ensures capacity { vec_capacity batch.new ≡ vec_capacity batch.old }
         ensures rows { rows_of walks.new ≡ rows_of walks.old }
         ensures cost { steps.new + left tips.now walks.new ≤ steps.old + left tips.now walks.old
             + 2 * pairs config.now tips.now (rows_of walks.old) (map holding_at self.now.held) }

@@ -38,23 +38,23 @@ take_keys-requires g c =
     }
 
 pub returns-in-Data-clause-verdict : goal.returns-in-Data-clause-verdict
-returns-in-Data-clause-verdict g c ended counts calls =
-    let s : State = state_of c.args.config.now c.args.tips.now c.args.store.now ended counts calls in
+returns-in-Data-clause-verdict g c ended counts calls reserved =
+    let s : State = state_of c.args.config.now c.args.tips.now c.args.store.now ended counts calls reserved in
     let w : State = with_keys s (new_rows s (shown c.args.frame.now)) in
-    let taken : state_of c.args.config.now c.take_keys.new.tips c.take_keys.new.store ended counts calls ≡ w =
-    keys_are c.args.config.now c.args.tips.now c.take_keys.new.tips c.args.store.now c.take_keys.new.store ended counts calls (rows_of c.args.walks.now) c.take_keys.ensures.tips c.take_keys.ensures.held c.take_keys.ensures.waiting
+    let taken : state_of c.args.config.now c.take_keys.new.tips c.take_keys.new.store ended counts calls reserved ≡ w =
+    keys_are c.args.config.now c.args.tips.now c.take_keys.new.tips c.args.store.now c.take_keys.new.store ended counts calls reserved (rows_of c.args.walks.now) c.take_keys.ensures.tips c.take_keys.ensures.held c.take_keys.ensures.waiting
     ∙ ap (with_keys s) c.requires.begun.new in
-    c.keep.ensures.verdict ended counts calls
+    c.keep.ensures.verdict ended counts calls reserved
     ∙ ap (λ (t : State). judged_packet t (safe_by t c.args.bound c.in-Data.data.name.interval) c.in-Data.data) taken
     ∙ ap (judged_taken w c.args.bound) (sym (ap shown c.in-Data.is))
 
 pub returns-in-Data-clause-state : goal.returns-in-Data-clause-state
-returns-in-Data-clause-state g c ended counts calls =
-    let s : State = state_of c.args.config.now c.args.tips.now c.args.store.now ended counts calls in
+returns-in-Data-clause-state g c ended counts calls reserved =
+    let s : State = state_of c.args.config.now c.args.tips.now c.args.store.now ended counts calls reserved in
     let w : State = with_keys s (new_rows s (shown c.args.frame.now)) in
-    let t : State = state_of c.args.config.now c.take_keys.new.tips c.take_keys.new.store ended counts calls in
+    let t : State = state_of c.args.config.now c.take_keys.new.tips c.take_keys.new.store ended counts calls reserved in
     let taken : t ≡ w =
-    keys_are c.args.config.now c.args.tips.now c.take_keys.new.tips c.args.store.now c.take_keys.new.store ended counts calls (rows_of c.args.walks.now) c.take_keys.ensures.tips c.take_keys.ensures.held c.take_keys.ensures.waiting
+    keys_are c.args.config.now c.args.tips.now c.take_keys.new.tips c.args.store.now c.take_keys.new.store ended counts calls reserved (rows_of c.args.walks.now) c.take_keys.ensures.tips c.take_keys.ensures.held c.take_keys.ensures.waiting
     ∙ ap (with_keys s) c.requires.begun.new in
     ap (λ (hs : List Holding). record t { held = hs; waiting = c.keep.new.store.waiting }) c.keep.ensures.held
     ∙ ap (λ (ws : List Release). record t { held = t.held ++ own c.args.order c.keep.result (Data c.in-Data.data); waiting = ws }) c.keep.ensures.waiting
@@ -95,14 +95,14 @@ pub returns-in-Data-clause-needed : goal.returns-in-Data-clause-needed
 returns-in-Data-clause-needed g c =
     let new : List KeyRow = rows_of c.args.walks.now in
     let hs : List Holding = map holding_at c.args.store.now.held in
-    let s : State = state_of c.args.config.now c.take_keys.new.tips c.take_keys.new.store [] no_counts 0 in
-    needed_more s c.args.bound c.args.order c.keep.result c.in-Data.data c.take_keys.new.store.held c.keep.new.store.held (c.keep.ensures.verdict [] no_counts 0) (subst (λ (ts : List Tip). AreNeeded c.args.config.now ts c.take_keys.new.store.held) (sym c.take_keys.ensures.tips) (keys_needed c.args.config.now (tips_after c.args.tips.now new) (batch_of c.args.config.now c.args.tips.now new hs) (released_of hs (batch_of c.args.config.now c.args.tips.now new hs)) hs c.take_keys.new.store.held c.take_keys.ensures.held)) c.keep.ensures.held
+    let s : State = state_of c.args.config.now c.take_keys.new.tips c.take_keys.new.store [] no_counts 0 0 in
+    needed_more s c.args.bound c.args.order c.keep.result c.in-Data.data c.take_keys.new.store.held c.keep.new.store.held (c.keep.ensures.verdict [] no_counts 0 0) (subst (λ (ts : List Tip). AreNeeded c.args.config.now ts c.take_keys.new.store.held) (sym c.take_keys.ensures.tips) (keys_needed c.args.config.now (tips_after c.args.tips.now new) (batch_of c.args.config.now c.args.tips.now new hs) (released_of hs (batch_of c.args.config.now c.args.tips.now new hs)) hs c.take_keys.new.store.held c.take_keys.ensures.held)) c.keep.ensures.held
 
 pub returns-in-Disclosure-clause-state : goal.returns-in-Disclosure-clause-state
-returns-in-Disclosure-clause-state g c ended counts calls =
-    let s : State = state_of c.args.config.now c.args.tips.now c.args.store.now ended counts calls in
+returns-in-Disclosure-clause-state g c ended counts calls reserved =
+    let s : State = state_of c.args.config.now c.args.tips.now c.args.store.now ended counts calls reserved in
     let w : State = with_keys s (new_rows s (shown c.args.frame.now)) in
-    keys_are c.args.config.now c.args.tips.now c.take_keys.new.tips c.args.store.now c.take_keys.new.store ended counts calls (rows_of c.args.walks.now) c.take_keys.ensures.tips c.take_keys.ensures.held c.take_keys.ensures.waiting
+    keys_are c.args.config.now c.args.tips.now c.take_keys.new.tips c.args.store.now c.take_keys.new.store ended counts calls reserved (rows_of c.args.walks.now) c.take_keys.ensures.tips c.take_keys.ensures.held c.take_keys.ensures.waiting
     ∙ ap (with_keys s) c.requires.begun.new
     ∙ ap (λ (hs : List Holding). record w { held = hs }) (sym (append-nil w.held))
     ∙ ap (λ (f : Frame). record w { held = w.held ++ own c.args.order Keys f }) (sym (ap shown c.in-Disclosure.is))

@@ -13,7 +13,7 @@ use Rattle.tesla_state.specs.Steps.{judged_taken, refused, entered_as, entered_f
 use Rattle.tesla_state.specs.Stored.{holding_at, AreNeeded}
 use Rattle.tesla_state.specs.Walking.{Walking, rows_of, left, pairs}
 use Rattle.tesla_fitting.specs.Fitting.{unfit}
-use Rattle.tesla_state.proofs.Evaluations.{refused_cost, taken_cost}
+use Rattle.tesla_state.proofs.Evaluations.{bad_cost, refused_cost, taken_cost, taken_not_bad}
 use Rattle.tesla_state.proofs.StaysKept.{before_later}
 use Rattle.tesla_state.proofs.Arrived.{judged_at, after_at, rows_fit, tips_back}
 use Rattle.tesla_state.proofs.arriving.receive.Goals as goal
@@ -22,18 +22,18 @@ abbrev no_counts : Report
 no_counts = record { arrivals = 0; malformed = 0; foreign = 0; misfit = 0; future = 0; badkey = 0; late = 0; repeat = 0; full = 0; kept = 0; keys = 0; given = 0 }
 
 pub returns-in_default-clause-verdict : goal.returns-in_default-clause-verdict
-returns-in_default-clause-verdict g c ended counts calls =
-    let s : State = state_of c.args.config.now c.args.tips.now.items c.args.store.now ended counts calls in
+returns-in_default-clause-verdict g c ended counts calls reserved =
+    let s : State = state_of c.args.config.now c.args.tips.now.items c.args.store.now ended counts calls reserved in
     judged_at s c.args.reading c.args.bytes.now None (bound_at s c.args.reading) (sym c.read_frame.ensures.exact ∙ ap (option_map shown) c.in_default.is) refl
 
 pub returns-in_default-clause-state : goal.returns-in_default-clause-state
-returns-in_default-clause-state g c ended counts calls h =
-    let s : State = state_of c.args.config.now c.args.tips.now.items c.args.store.now ended counts calls in
+returns-in_default-clause-state g c ended counts calls reserved h =
+    let s : State = state_of c.args.config.now c.args.tips.now.items c.args.store.now ended counts calls reserved in
     after_at s c.args.reading c.args.bytes.now None (bound_at s c.args.reading) (sym c.read_frame.ensures.exact ∙ ap (option_map shown) c.in_default.is) refl
 
 pub returns-in-Some-refused-clause-verdict : goal.returns-in-Some-refused-clause-verdict
-returns-in-Some-refused-clause-verdict g c ended counts calls =
-    let s : State = state_of c.args.config.now c.args.tips.now.items c.args.store.now ended counts calls in
+returns-in-Some-refused-clause-verdict g c ended counts calls reserved =
+    let s : State = state_of c.args.config.now c.args.tips.now.items c.args.store.now ended counts calls reserved in
     let fr : Frame = shown c.in-Some.frame in
     let bound : c.bound_at-bound.result ≡ bound_at s c.args.reading = c.bound_at-bound.ensures in
     let why : refused s c.bound_at-bound.result fr ≡ Some c.in-Some-refused.verdict = sym (c.refused.ensures.value s refl (sym c.as_slice.ensures.value)) ∙ c.in-Some-refused.is in
@@ -41,8 +41,8 @@ returns-in-Some-refused-clause-verdict g c ended counts calls =
     ∙ judged_at s c.args.reading c.args.bytes.now (Some fr) c.bound_at-bound.result (sym c.read_frame.ensures.exact ∙ ap (option_map shown) c.in-Some.is) bound
 
 pub returns-in-Some-refused-clause-state : goal.returns-in-Some-refused-clause-state
-returns-in-Some-refused-clause-state g c ended counts calls h =
-    let s : State = state_of c.args.config.now c.args.tips.now.items c.args.store.now ended counts calls in
+returns-in-Some-refused-clause-state g c ended counts calls reserved h =
+    let s : State = state_of c.args.config.now c.args.tips.now.items c.args.store.now ended counts calls reserved in
     let fr : Frame = shown c.in-Some.frame in
     let bound : c.bound_at-bound.result ≡ bound_at s c.args.reading = c.bound_at-bound.ensures in
     let why : refused s c.bound_at-bound.result fr ≡ Some c.in-Some-refused.verdict = sym (c.refused.ensures.value s refl (sym c.as_slice.ensures.value)) ∙ c.in-Some-refused.is in
@@ -51,7 +51,7 @@ returns-in-Some-refused-clause-state g c ended counts calls h =
 
 pub accept-requires : goal.accept-requires
 accept-requires g c =
-    let s : State = state_of c.args.config.now c.args.tips.now.items c.args.store.now [] no_counts 0 in
+    let s : State = state_of c.args.config.now c.args.tips.now.items c.args.store.now [] no_counts 0 0 in
     let fr : Frame = shown c.in-Some.frame in
     let why : refused s c.bound_at-bound.result fr ≡ None = sym (c.refused.ensures.value s refl (sym c.as_slice.ensures.value)) ∙ c.in_default-refused.is in
     let whole : c.as_slice.result.now ≡ c.deref_mut.result.now = c.as_slice.ensures.value ∙ sym c.deref_mut.ensures.value in
@@ -69,29 +69,29 @@ accept-requires g c =
     }
 
 pub returns-clause-verdict : goal.returns-clause-verdict
-returns-clause-verdict g c ended counts calls =
-    let s : State = state_of c.args.config.now c.args.tips.now.items c.args.store.now ended counts calls in
+returns-clause-verdict g c ended counts calls reserved =
+    let s : State = state_of c.args.config.now c.args.tips.now.items c.args.store.now ended counts calls reserved in
     let fr : Frame = shown c.in-Some.frame in
     let bound : c.bound_at-bound.result ≡ bound_at s c.args.reading = c.bound_at-bound.ensures in
     let why : refused s c.bound_at-bound.result fr ≡ None = sym (c.refused.ensures.value s refl (sym c.as_slice.ensures.value)) ∙ c.in_default-refused.is in
-    c.accept.ensures.verdict ended counts calls
-    ∙ ap (λ (ts : List Tip). judged_taken (with_keys (state_of c.args.config.now ts c.args.store.now ended counts calls) (new_rows (state_of c.args.config.now ts c.args.store.now ended counts calls) fr)) c.bound_at-bound.result fr) c.deref_mut.ensures.value
+    c.accept.ensures.verdict ended counts calls reserved
+    ∙ ap (λ (ts : List Tip). judged_taken (with_keys (state_of c.args.config.now ts c.args.store.now ended counts calls reserved) (new_rows (state_of c.args.config.now ts c.args.store.now ended counts calls reserved) fr)) c.bound_at-bound.result fr) c.deref_mut.ensures.value
     ∙ sym (ap (λ o. unwrap_or o (judged_taken (with_keys s (new_rows s fr)) c.bound_at-bound.result fr)) why)
     ∙ judged_at s c.args.reading c.args.bytes.now (Some fr) c.bound_at-bound.result (sym c.read_frame.ensures.exact ∙ ap (option_map shown) c.in-Some.is) bound
 
 pub returns-clause-state : goal.returns-clause-state
-returns-clause-state g c ended counts calls h =
-    let s : State = state_of c.args.config.now c.args.tips.now.items c.args.store.now ended counts calls in
+returns-clause-state g c ended counts calls reserved h =
+    let s : State = state_of c.args.config.now c.args.tips.now.items c.args.store.now ended counts calls reserved in
     let fr : Frame = shown c.in-Some.frame in
     let w : State = with_keys s (new_rows s fr) in
     let r : Verdict = c.accept.result in
     let bound : c.bound_at-bound.result ≡ bound_at s c.args.reading = c.bound_at-bound.ensures in
     let why : refused s c.bound_at-bound.result fr ≡ None = sym (c.refused.ensures.value s refl (sym c.as_slice.ensures.value)) ∙ c.in_default-refused.is in
-    let verdict : r ≡ judged_taken w c.bound_at-bound.result fr = c.accept.ensures.verdict ended counts calls
-    ∙ ap (λ (ts : List Tip). judged_taken (with_keys (state_of c.args.config.now ts c.args.store.now ended counts calls) (new_rows (state_of c.args.config.now ts c.args.store.now ended counts calls) fr)) c.bound_at-bound.result fr) c.deref_mut.ensures.value in
-    ap (λ (ts : List Tip). state_of c.args.config.now ts c.accept.new.store ended (counted r counts) (calls + 1)) (tips_back c.args.tips.now.len c.deref_mut.result.now c.args.tips.now.items c.accept.new.tips c.deref_mut.ensures.len c.accept.auto.tips)
-    ∙ c.accept.ensures.state ended (counted r counts) (calls + 1)
-    ∙ ap (λ (ts : List Tip). let t = state_of c.args.config.now ts c.args.store.now ended (counted r counts) (calls + 1) in record (with_keys t (new_rows t fr)) { held = (with_keys t (new_rows t fr)).held ++ own c.args.order r fr }) c.deref_mut.ensures.value
+    let verdict : r ≡ judged_taken w c.bound_at-bound.result fr = c.accept.ensures.verdict ended counts calls reserved
+    ∙ ap (λ (ts : List Tip). judged_taken (with_keys (state_of c.args.config.now ts c.args.store.now ended counts calls reserved) (new_rows (state_of c.args.config.now ts c.args.store.now ended counts calls reserved) fr)) c.bound_at-bound.result fr) c.deref_mut.ensures.value in
+    ap (λ (ts : List Tip). state_of c.args.config.now ts c.accept.new.store ended (counted r counts) (calls + 1) reserved) (tips_back c.args.tips.now.len c.deref_mut.result.now c.args.tips.now.items c.accept.new.tips c.deref_mut.ensures.len c.accept.auto.tips)
+    ∙ c.accept.ensures.state ended (counted r counts) (calls + 1) reserved
+    ∙ ap (λ (ts : List Tip). let t = state_of c.args.config.now ts c.args.store.now ended (counted r counts) (calls + 1) reserved in record (with_keys t (new_rows t fr)) { held = (with_keys t (new_rows t fr)).held ++ own c.args.order r fr }) c.deref_mut.ensures.value
     ∙ ap (λ (k : ℕ). entered_as r (record w { held = w.held ++ own k r fr })) (sym h)
     ∙ ap (λ (v : Verdict). entered_as v (record w { held = w.held ++ own counts.arrivals v fr })) verdict
     ∙ sym (ap (entered_frame s c.bound_at-bound.result (Some fr)) why)
@@ -113,17 +113,30 @@ returns-clause-needed g c =
     subst (λ (ts : List Tip). AreNeeded c.args.config.now ts c.accept.new.store.held) (sym (tips_back c.args.tips.now.len c.deref_mut.result.now c.args.tips.now.items c.accept.new.tips c.deref_mut.ensures.len c.accept.auto.tips)) c.accept.ensures.needed
 
 pub returns-in-Some-refused-clause-cost : goal.returns-in-Some-refused-clause-cost
-returns-in-Some-refused-clause-cost g c ended counts calls =
-    let s : State = state_of c.args.config.now c.args.tips.now.items c.args.store.now ended counts calls in
+returns-in-Some-refused-clause-cost g c ended counts calls reserved =
+    let s : State = state_of c.args.config.now c.args.tips.now.items c.args.store.now ended counts calls reserved in
     let fr : Frame = shown c.in-Some.frame in
     let bound : c.bound_at-bound.result ≡ bound_at s c.args.reading = c.bound_at-bound.ensures in
     refused_cost s c.args.reading c.args.bytes.now fr (sym c.read_frame.ensures.exact ∙ ap (option_map shown) c.in-Some.is) c.args.steps.now c.refused.new.steps
     (λ e. c.refused.ensures.free (ap (λ (b : Option ℕ). is_some (unfit c.args.config.now b fr)) bound ∙ e))
     (subst (λ (ts : List Tip). c.refused.new.steps ≤ c.args.steps.now + gaps ts (keys_of c.args.config.now fr)) c.as_slice.ensures.value c.refused.ensures.most)
 
+pub returns-in-Some-refused-clause-badkey : goal.returns-in-Some-refused-clause-badkey
+returns-in-Some-refused-clause-badkey g c ended counts calls reserved chain e =
+    let s : State = state_of c.args.config.now c.args.tips.now.items c.args.store.now ended counts calls reserved in
+    let fr : Frame = shown c.in-Some.frame in
+    bad_cost s c.args.reading c.args.bytes.now fr (sym c.read_frame.ensures.exact ∙ ap (option_map shown) c.in-Some.is) c.args.steps.now c.refused.new.steps
+    (subst (λ (ts : List Tip). c.refused.new.steps ≤ c.args.steps.now + gaps ts (keys_of c.args.config.now fr)) c.as_slice.ensures.value c.refused.ensures.most)
+
+pub returns-clause-badkey : goal.returns-clause-badkey
+returns-clause-badkey g c ended counts calls reserved chain e =
+    let fr : Frame = shown c.in-Some.frame in
+    let t : State = state_of c.args.config.now c.deref_mut.result.now c.args.store.now ended counts calls reserved in
+    absurd (taken_not_bad (with_keys t (new_rows t fr)) c.bound_at-bound.result fr chain (sym (c.accept.ensures.verdict ended counts calls reserved) ∙ e))
+
 pub returns-clause-cost : goal.returns-clause-cost
-returns-clause-cost g c ended counts calls =
-    let s : State = state_of c.args.config.now c.args.tips.now.items c.args.store.now ended counts calls in
+returns-clause-cost g c ended counts calls reserved =
+    let s : State = state_of c.args.config.now c.args.tips.now.items c.args.store.now ended counts calls reserved in
     let fr : Frame = shown c.in-Some.frame in
     let bound : c.bound_at-bound.result ≡ bound_at s c.args.reading = c.bound_at-bound.ensures in
     let none : c.refused.result ≡ None = c.in_default-refused.is in

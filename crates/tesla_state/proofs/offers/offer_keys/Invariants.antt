@@ -12,6 +12,6 @@ invariant-loop-place g l = record {
   fit : find (fails l.tips) (newer_keys l.config l.tips (shown l.frame) l.place) ≡ None;
   walks : l.walks.items ≡ map fresh (newer_keys l.config l.tips (shown l.frame) l.place);
   few : length l.walks.items ≤ l.place;
-  capacity : vec_capacity l.initial.walks ≤ vec_capacity l.walks;
+  capacity : vec_capacity l.walks ≡ vec_capacity l.initial.walks;
   steps : l.steps ≡ l.initial.steps + gaps l.tips (newer_keys l.config l.tips (shown l.frame) l.place);
 }

@@ -43,12 +43,12 @@ invariant_of-self c =
     let here = get_or-set_same i.slots.items c.args.place it no_item within in
     let others = λ (q : ℕ) (ne : q ≡ c.args.place → ⊥). get_or-set_other i.slots.items c.args.place q it no_item ne in
     let name = ap (λ (x : Item). x.name) read in (
-      stored_marked i.capacity i.slots.items (set i.slots.items c.args.place it) i.free.items i.index c.mark.new.self i.released c.enter.new.self c.args.place it h live size here others name
+      stored_marked i.capacity i.slots.items (set i.slots.items c.args.place it) i.free.items i.index c.mark.new.self i.released.slots c.enter.new.self.slots c.args.place it h live size here others name
           (ap places_of c.mark.ensures.entries ∙ marked_places c.args.place i.index.entries) c.mark.ensures.capacity
-          (keyed_released i.capacity i.slots.items (set i.slots.items c.args.place it) i.free.items i.index c.mark.new.self i.released c.enter.new.self c.args.place it h live size here others name refl c.mark.ensures.entries)
-          (λ _. c.key_of_name.ensures.number) (ap length c.enter.ensures ∙ length-set i.released c.args.place (Some key))
-          (ap (λ ks. get_or ks c.args.place None) c.enter.ensures ∙ get_or-set_same i.released c.args.place (Some key) None (omega (arith, within, h.slots_within, h.names)) ∙ ap Some c.key_of_name.ensures.value)
-          (λ q ne. ap (λ ks. get_or ks q None) c.enter.ensures ∙ get_or-set_other i.released c.args.place q (Some key) None ne),
+          (keyed_released i.capacity i.slots.items (set i.slots.items c.args.place it) i.free.items i.index c.mark.new.self i.released.slots c.enter.new.self.slots c.args.place it h live size here others name refl c.mark.ensures.entries)
+          (λ _. c.key_of_name.ensures.number) (ap length c.enter.ensures.slots ∙ length-set i.released.slots c.args.place (Some key))
+          (ap (λ ks. get_or ks c.args.place None) c.enter.ensures.slots ∙ get_or-set_same i.released.slots c.args.place (Some key) None (omega (arith, within, h.slots_within, h.names)) ∙ ap Some c.key_of_name.ensures.value)
+          (λ q ne. ap (λ ks. get_or ks q None) c.enter.ensures.slots ∙ get_or-set_other i.released.slots c.args.place q (Some key) None ne),
       c.self.invariant.1,
       c.self.invariant.2,
       beside_over i.capacity i.slots.items i.resting.items c.args.place it r.taken within (omega (arith, within, h.slots_within)) refl c.self.invariant.3,

@@ -31,10 +31,10 @@ invariant_of-self c =
     let here = get_or-set_same i.slots.items c.args.place it no_item within in
     let others = λ (q : ℕ) (ne : q ≡ c.args.place → ⊥). get_or-set_other i.slots.items c.args.place q it no_item ne in
     let name = ap (λ (x : Item). x.name) read in (
-      stored_marked i.capacity i.slots.items (set i.slots.items c.args.place it) i.free.items i.index i.index i.released i.released c.args.place it h live size here others name refl refl
-          (keyed_same i.capacity i.slots.items (set i.slots.items c.args.place it) i.free.items i.index i.index i.released i.released c.args.place it h live size here others name (ap (λ (x : Item). x.released) read))
+      stored_marked i.capacity i.slots.items (set i.slots.items c.args.place it) i.free.items i.index i.index i.released.slots i.released.slots c.args.place it h live size here others name refl refl
+          (keyed_same i.capacity i.slots.items (set i.slots.items c.args.place it) i.free.items i.index i.index i.released.slots i.released.slots c.args.place it h live size here others name (ap (λ (x : Item). x.released) read))
           (λ e. subst (λ (x : Item). x.released ≡ true → x.name.number < 2 ^ 16) (sym read) (h.small c.args.place) e) refl
-          (named_live i.capacity i.slots.items i.free.items i.index i.released c.args.place h live ∙ ap (λ (x : Item). cond x.released (Some (key_of_name x.name)) None) (sym read)) (λ q ne. refl),
+          (named_live i.capacity i.slots.items i.free.items i.index i.released.slots c.args.place h live ∙ ap (λ (x : Item). cond x.released (Some (key_of_name x.name)) None) (sym read)) (λ q ne. refl),
       c.self.invariant.1,
       c.self.invariant.2,
       beside_over i.capacity i.slots.items i.resting.items c.args.place it true within (omega (arith, within, h.slots_within)) (taken_rests it refl) c.self.invariant.3,

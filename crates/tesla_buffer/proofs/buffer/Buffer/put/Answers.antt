@@ -18,7 +18,7 @@ index_mut-requires c =
     let p = c.vacant_slot-place.result in
     let slots = c.vacant_slot-place.new.slots.items in
     let free = c.vacant_slot-place.new.free.items in
-    let v = vacant_seen i.capacity i.slots.items i.index c.args.self.now c.self.view_is slots i.free.items free i.released p EMPTY h c.requires c.vacant_slot-place.ensures.slot refl in
+    let v = vacant_seen i.capacity i.slots.items i.index c.args.self.now c.self.view_is slots i.free.items free i.released.slots p EMPTY h c.requires c.vacant_slot-place.ensures.slot refl in
     omega (arith, v.inside)
 
 pub append-requires-clause-absent : goal.append-requires-clause-absent
@@ -28,7 +28,7 @@ append-requires-clause-absent c =
     let p = c.vacant_slot-place.result in
     let slots = c.vacant_slot-place.new.slots.items in
     let free = c.vacant_slot-place.new.free.items in
-    let v = vacant_seen i.capacity i.slots.items i.index c.args.self.now c.self.view_is slots i.free.items free i.released p EMPTY h c.requires c.vacant_slot-place.ensures.slot refl in
+    let v = vacant_seen i.capacity i.slots.items i.index c.args.self.now c.self.view_is slots i.free.items free i.released.slots p EMPTY h c.requires c.vacant_slot-place.ensures.slot refl in
     entry_is p i.index.entries ∙ v.absent
 
 pub mark-requires : goal.mark-requires
@@ -44,17 +44,17 @@ invariant_of-self c =
     let p = c.vacant_slot-place.result in
     let slots = c.vacant_slot-place.new.slots.items in
     let free = c.vacant_slot-place.new.free.items in
-    let v = vacant_seen i.capacity i.slots.items i.index c.args.self.now c.self.view_is slots i.free.items free i.released p EMPTY h c.requires c.vacant_slot-place.ensures.slot refl in
+    let v = vacant_seen i.capacity i.slots.items i.index c.args.self.now c.self.view_is slots i.free.items free i.released.slots p EMPTY h c.requires c.vacant_slot-place.ensures.slot refl in
     let it = c.args.item.now in
     let now = set slots p it in
     let here = get_or-set_same slots p it no_item v.inside in
     let others = λ (q : ℕ) (ne : q ≡ p → ⊥). get_or-set_other slots p q it no_item ne in
     let key = c.key_of_name.result in (
-      stored_put i.capacity i.slots.items slots now i.free.items free i.index c.mark.new.self i.released c.enter.new.self p it h v (length-set slots p it) here others (c.mark.ensures.entries ∙ ap (marked_at p) (c.append.ensures.entries ∙ ap (λ k. i.index.entries ++ record { key = k; place = p; marked = false } ∷ []) c.from.ensures) ∙ marked_pushed it.name.interval p i.index.entries v.absent ∙ ap (λ b. i.index.entries ++ record { key = it.name.interval; place = p; marked = b } ∷ []) (sym c.if-item.true))
-          (c.mark.ensures.capacity ∙ c.append.ensures.capacity) (λ _. c.key_of_name.ensures.number) (ap length c.enter.ensures ∙ length-set i.released p (Some key))
-          (ap (λ ks. get_or ks p None) c.enter.ensures ∙ get_or-set_same i.released p (Some key) None (omega (arith, v.inside, v.most, h.names)) ∙ ap Some c.key_of_name.ensures.value
+      stored_put i.capacity i.slots.items slots now i.free.items free i.index c.mark.new.self i.released.slots c.enter.new.self.slots p it h v (length-set slots p it) here others (c.mark.ensures.entries ∙ ap (marked_at p) (c.append.ensures.entries ∙ ap (λ k. i.index.entries ++ record { key = k; place = p; marked = false } ∷ []) c.from.ensures) ∙ marked_pushed it.name.interval p i.index.entries v.absent ∙ ap (λ b. i.index.entries ++ record { key = it.name.interval; place = p; marked = b } ∷ []) (sym c.if-item.true))
+          (c.mark.ensures.capacity ∙ c.append.ensures.capacity) (λ _. c.key_of_name.ensures.number) (ap length c.enter.ensures.slots ∙ length-set i.released.slots p (Some key))
+          (ap (λ ks. get_or ks p None) c.enter.ensures.slots ∙ get_or-set_same i.released.slots p (Some key) None (omega (arith, v.inside, v.most, h.names)) ∙ ap Some c.key_of_name.ensures.value
           ∙ sym (cond-true it.released (Some (key_of_name it.name)) None c.if-item.true))
-          (λ q ne. ap (λ ks. get_or ks q None) c.enter.ensures ∙ get_or-set_other i.released p q (Some key) None ne),
+          (λ q ne. ap (λ ks. get_or ks q None) c.enter.ensures.slots ∙ get_or-set_other i.released.slots p q (Some key) None ne),
       omega (arith, c.self.invariant.1, c.vacant_slot-place.ensures.slots_capacity),
       omega (arith, c.self.invariant.2, c.vacant_slot-place.ensures.free_capacity),
       beside_put i.capacity i.slots.items slots i.free.items free i.resting.items p EMPTY it c.rests.result c.vacant_slot-place.ensures.slot v.inside (omega (arith, v.inside, v.most)) c.rests.ensures c.self.invariant.3,
@@ -67,14 +67,14 @@ invariant_of-self-else-item c =
     let p = c.vacant_slot-place.result in
     let slots = c.vacant_slot-place.new.slots.items in
     let free = c.vacant_slot-place.new.free.items in
-    let v = vacant_seen i.capacity i.slots.items i.index c.args.self.now c.self.view_is slots i.free.items free i.released p EMPTY h c.requires c.vacant_slot-place.ensures.slot refl in
+    let v = vacant_seen i.capacity i.slots.items i.index c.args.self.now c.self.view_is slots i.free.items free i.released.slots p EMPTY h c.requires c.vacant_slot-place.ensures.slot refl in
     let it = c.args.item.now in
     let now = set slots p it in
     let here = get_or-set_same slots p it no_item v.inside in
     let others = λ (q : ℕ) (ne : q ≡ p → ⊥). get_or-set_other slots p q it no_item ne in (
-      stored_put i.capacity i.slots.items slots now i.free.items free i.index c.append.new.self i.released i.released p it h v (length-set slots p it) here others (c.append.ensures.entries ∙ ap (λ k. i.index.entries ++ record { key = k; place = p; marked = false } ∷ []) c.from.ensures ∙ ap (λ b. i.index.entries ++ record { key = it.name.interval; place = p; marked = b } ∷ []) (sym c.if-item.false))
+      stored_put i.capacity i.slots.items slots now i.free.items free i.index c.append.new.self i.released.slots i.released.slots p it h v (length-set slots p it) here others (c.append.ensures.entries ∙ ap (λ k. i.index.entries ++ record { key = k; place = p; marked = false } ∷ []) c.from.ensures ∙ ap (λ b. i.index.entries ++ record { key = it.name.interval; place = p; marked = b } ∷ []) (sym c.if-item.false))
           c.append.ensures.capacity (λ e. absurd (false≢true (sym c.if-item.false ∙ e))) refl
-          (unnamed_vacant i.capacity i.slots.items i.free.items i.index i.released p h v.absent ∙ sym (cond-false it.released (Some (key_of_name it.name)) None c.if-item.false))
+          (unnamed_vacant i.capacity i.slots.items i.free.items i.index i.released.slots p h v.absent ∙ sym (cond-false it.released (Some (key_of_name it.name)) None c.if-item.false))
           (λ q ne. refl),
       omega (arith, c.self.invariant.1, c.vacant_slot-place.ensures.slots_capacity),
       omega (arith, c.self.invariant.2, c.vacant_slot-place.ensures.free_capacity),
@@ -88,12 +88,12 @@ returns-then-item-clause-held c =
     let p = c.vacant_slot-place.result in
     let slots = c.vacant_slot-place.new.slots.items in
     let free = c.vacant_slot-place.new.free.items in
-    let v = vacant_seen i.capacity i.slots.items i.index c.args.self.now c.self.view_is slots i.free.items free i.released p EMPTY h c.requires c.vacant_slot-place.ensures.slot refl in
+    let v = vacant_seen i.capacity i.slots.items i.index c.args.self.now c.self.view_is slots i.free.items free i.released.slots p EMPTY h c.requires c.vacant_slot-place.ensures.slot refl in
     let it = c.args.item.now in
     let now = set slots p it in
     let here = get_or-set_same slots p it no_item v.inside in
     let others = λ (q : ℕ) (ne : q ≡ p → ⊥). get_or-set_other slots p q it no_item ne in
-    held_put i.capacity i.slots.items slots now i.free.items free i.index c.mark.new.self i.released i.released p it h v (length-set slots p it) here others (c.mark.ensures.entries ∙ ap (marked_at p) (c.append.ensures.entries ∙ ap (λ k. i.index.entries ++ record { key = k; place = p; marked = false } ∷ []) c.from.ensures) ∙ marked_pushed it.name.interval p i.index.entries v.absent ∙ ap (λ b. i.index.entries ++ record { key = it.name.interval; place = p; marked = b } ∷ []) (sym c.if-item.true)) ∙ ap (λ hs. hs ++ record { place = p; item = it } ∷ []) (seen_held i.capacity i.slots.items i.index c.args.self.now c.self.view_is)
+    held_put i.capacity i.slots.items slots now i.free.items free i.index c.mark.new.self i.released.slots i.released.slots p it h v (length-set slots p it) here others (c.mark.ensures.entries ∙ ap (marked_at p) (c.append.ensures.entries ∙ ap (λ k. i.index.entries ++ record { key = k; place = p; marked = false } ∷ []) c.from.ensures) ∙ marked_pushed it.name.interval p i.index.entries v.absent ∙ ap (λ b. i.index.entries ++ record { key = it.name.interval; place = p; marked = b } ∷ []) (sym c.if-item.true)) ∙ ap (λ hs. hs ++ record { place = p; item = it } ∷ []) (seen_held i.capacity i.slots.items i.index c.args.self.now c.self.view_is)
 
 pub returns-then-item-clause-vacant : goal.returns-then-item-clause-vacant
 returns-then-item-clause-vacant c =
@@ -102,7 +102,7 @@ returns-then-item-clause-vacant c =
     let p = c.vacant_slot-place.result in
     let slots = c.vacant_slot-place.new.slots.items in
     let free = c.vacant_slot-place.new.free.items in
-    let v = vacant_seen i.capacity i.slots.items i.index c.args.self.now c.self.view_is slots i.free.items free i.released p EMPTY h c.requires c.vacant_slot-place.ensures.slot refl in
+    let v = vacant_seen i.capacity i.slots.items i.index c.args.self.now c.self.view_is slots i.free.items free i.released.slots p EMPTY h c.requires c.vacant_slot-place.ensures.slot refl in
     seen_live i.capacity i.slots.items i.index c.args.self.now c.self.view_is p ∙ v.absent
 
 pub returns-else-item-clause-held : goal.returns-else-item-clause-held
@@ -112,12 +112,12 @@ returns-else-item-clause-held c =
     let p = c.vacant_slot-place.result in
     let slots = c.vacant_slot-place.new.slots.items in
     let free = c.vacant_slot-place.new.free.items in
-    let v = vacant_seen i.capacity i.slots.items i.index c.args.self.now c.self.view_is slots i.free.items free i.released p EMPTY h c.requires c.vacant_slot-place.ensures.slot refl in
+    let v = vacant_seen i.capacity i.slots.items i.index c.args.self.now c.self.view_is slots i.free.items free i.released.slots p EMPTY h c.requires c.vacant_slot-place.ensures.slot refl in
     let it = c.args.item.now in
     let now = set slots p it in
     let here = get_or-set_same slots p it no_item v.inside in
     let others = λ (q : ℕ) (ne : q ≡ p → ⊥). get_or-set_other slots p q it no_item ne in
-    held_put i.capacity i.slots.items slots now i.free.items free i.index c.append.new.self i.released i.released p it h v (length-set slots p it) here others (c.append.ensures.entries ∙ ap (λ k. i.index.entries ++ record { key = k; place = p; marked = false } ∷ []) c.from.ensures ∙ ap (λ b. i.index.entries ++ record { key = it.name.interval; place = p; marked = b } ∷ []) (sym c.if-item.false)) ∙ ap (λ hs. hs ++ record { place = p; item = it } ∷ []) (seen_held i.capacity i.slots.items i.index c.args.self.now c.self.view_is)
+    held_put i.capacity i.slots.items slots now i.free.items free i.index c.append.new.self i.released.slots i.released.slots p it h v (length-set slots p it) here others (c.append.ensures.entries ∙ ap (λ k. i.index.entries ++ record { key = k; place = p; marked = false } ∷ []) c.from.ensures ∙ ap (λ b. i.index.entries ++ record { key = it.name.interval; place = p; marked = b } ∷ []) (sym c.if-item.false)) ∙ ap (λ hs. hs ++ record { place = p; item = it } ∷ []) (seen_held i.capacity i.slots.items i.index c.args.self.now c.self.view_is)
 
 pub returns-else-item-clause-vacant : goal.returns-else-item-clause-vacant
 returns-else-item-clause-vacant c =
@@ -126,5 +126,5 @@ returns-else-item-clause-vacant c =
     let p = c.vacant_slot-place.result in
     let slots = c.vacant_slot-place.new.slots.items in
     let free = c.vacant_slot-place.new.free.items in
-    let v = vacant_seen i.capacity i.slots.items i.index c.args.self.now c.self.view_is slots i.free.items free i.released p EMPTY h c.requires c.vacant_slot-place.ensures.slot refl in
+    let v = vacant_seen i.capacity i.slots.items i.index c.args.self.now c.self.view_is slots i.free.items free i.released.slots p EMPTY h c.requires c.vacant_slot-place.ensures.slot refl in
     seen_live i.capacity i.slots.items i.index c.args.self.now c.self.view_is p ∙ v.absent

@@ -13,14 +13,14 @@ returns-in_default-clause-place c =
     let i = c.self.inside in
     let h = c.self.invariant.0 in
     ap (list_any (is_released_as c.args.name)) (sym (seen_held i.capacity i.slots.items i.index c.args.self.now c.self.view_is))
-    ∙ none_named i.capacity i.slots.items i.free.items i.index i.released c.args.name h c.key_of_name.ensures.number (ap (λ k. list_any (has_key k) i.released) (sym c.key_of_name.ensures.value) ∙ MatchOption-at_none _ _ c.in_default.is c.find.ensures)
+    ∙ none_named i.capacity i.slots.items i.free.items i.index i.released.slots c.args.name h c.key_of_name.ensures.number (ap (λ k. list_any (has_key k) i.released.slots) (sym c.key_of_name.ensures.value) ∙ MatchOption-at_none _ _ c.in_default.is c.find.ensures)
 
 pub returns-clause-place : goal.returns-clause-place
 returns-clause-place c =
     let i = c.self.inside in
     let h = c.self.invariant.0 in
     ap (list_any (λ x. is_at c.in-Some.place x && is_released_as c.args.name x)) (sym (seen_held i.capacity i.slots.items i.index c.args.self.now c.self.view_is))
-    ∙ found_named i.capacity i.slots.items i.free.items i.index i.released c.args.name h c.key_of_name.ensures.number c.in-Some.place (c.in-Some.ensures ∙ ap (λ k. Some (Some k)) c.key_of_name.ensures.value)
+    ∙ found_named i.capacity i.slots.items i.free.items i.index i.released.slots c.args.name h c.key_of_name.ensures.number c.in-Some.place (c.in-Some.ensures ∙ ap (λ k. Some (Some k)) c.key_of_name.ensures.value)
 
 pub returns-clause-live : goal.returns-clause-live
 returns-clause-live c =
@@ -28,4 +28,4 @@ returns-clause-live c =
     let h = c.self.invariant.0 in
     test_live (is_released_as c.args.name) c.in-Some.place c.args.self.now.held
     (ap (list_any (λ x. is_at c.in-Some.place x && is_released_as c.args.name x)) (sym (seen_held i.capacity i.slots.items i.index c.args.self.now c.self.view_is))
-    ∙ found_named i.capacity i.slots.items i.free.items i.index i.released c.args.name h c.key_of_name.ensures.number c.in-Some.place (c.in-Some.ensures ∙ ap (λ k. Some (Some k)) c.key_of_name.ensures.value))
+    ∙ found_named i.capacity i.slots.items i.free.items i.index i.released.slots c.args.name h c.key_of_name.ensures.number c.in-Some.place (c.in-Some.ensures ∙ ap (λ k. Some (Some k)) c.key_of_name.ensures.value))

@@ -1,9 +1,7 @@
-use Rattle.std.proofs.Common.{◌≡◌, [], ◌∷◌, ◌++◌, true, not, arith, ◌∙◌, ap}
+use Rattle.std.proofs.Common.{◌≡◌, true, not, arith, ◌∙◌, ap}
 use Rattle.tesla_buffer.specs.Stored.{places_of}
 use Rattle.tesla_links.specs.Lists.{is_in}
 use Rattle.std.specs.List.{filter}
-use Rattle.std.specs.Result.{is_ok}
-use Rattle.std.proofs.lemmas.Bool.{cond-true}
 use Rattle.tesla_buffer.specs.Held.{Held, is_at}
 use Rattle.tesla_buffer.proofs.Stored.{held_gone, stored_gone, seen_held, live_seen}
 use Rattle.tesla_buffer.proofs.Places.{entry_is}
@@ -27,12 +25,10 @@ pub invariant_of-self : goal.invariant_of-self
 invariant_of-self c =
     let i = c.self.inside in
     let h = c.self.invariant.0 in
-    let live : is_in c.args.place (places_of i.index.entries) ≡ true = live_seen i.capacity i.slots.items i.index c.args.self.now c.self.view_is c.args.place c.requires in
-    let pushed : is_ok c.push.result ≡ true = c.is_err.ensures.negation ∙ ap not c.if-is_err.false in
-    let free : c.push.new.self.items ≡ i.free.items ++ c.args.place ∷ [] = c.push.ensures.items ∙ cond-true (is_ok c.push.result) (i.free.items ++ c.args.place ∷ []) i.free.items pushed in (
-      stored_gone i.capacity i.slots.items i.free.items c.push.new.self.items i.index c.remove.new.self i.released c.clear.new.self c.args.place h live c.remove.ensures.entries c.remove.ensures.capacity free c.clear.ensures,
+    let live : is_in c.args.place (places_of i.index.entries) ≡ true = live_seen i.capacity i.slots.items i.index c.args.self.now c.self.view_is c.args.place c.requires in (
+      stored_gone i.capacity i.slots.items i.free.items c.push_reserved.new.self.items i.index c.remove.new.self i.released.slots c.clear.new.self.slots c.args.place h live c.remove.ensures.entries c.remove.ensures.capacity c.push_reserved.ensures.items c.clear.ensures.slots,
       c.self.invariant.1,
-      omega (arith, c.self.invariant.2, c.push.ensures.capacity),
+      omega (arith, c.self.invariant.2, c.push_reserved.ensures.capacity),
       c.self.invariant.3,
     )
 
@@ -41,5 +37,5 @@ returns-clause-held c =
     let i = c.self.inside in
     let h = c.self.invariant.0 in
     let live : is_in c.args.place (places_of i.index.entries) ≡ true = live_seen i.capacity i.slots.items i.index c.args.self.now c.self.view_is c.args.place c.requires in
-    held_gone i.capacity i.slots.items i.free.items i.free.items i.index c.remove.new.self i.released i.released c.args.place h live c.remove.ensures.entries
+    held_gone i.capacity i.slots.items i.free.items i.free.items i.index c.remove.new.self i.released.slots i.released.slots c.args.place h live c.remove.ensures.entries
     ∙ ap (filter (λ (x : Held). not (is_at c.args.place x))) (seen_held i.capacity i.slots.items i.index c.args.self.now c.self.view_is)

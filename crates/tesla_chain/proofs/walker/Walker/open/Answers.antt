@@ -21,7 +21,7 @@ invariant_of-result g c =
     let rise = down.ensures.marks a.seed a.last first in
     let top : highest down.result down.new.above.items ≡ seed_mark = rw empty at down.ensures.highest in
     let room = enough_room a.last c.ilog2.result (vec_capacity c.in_ok-above.above) c.ilog2.ensures.next_power_gt c.in_ok-above.ensures.capacity in
-    opened a.seed a.last down.result down.new.above.items (vec_capacity down.new.above) c.next_key.result (omega (arith, c.requires.least)) c.requires.most down.ensures.index top rise c.next_key.ensures.value (omega (arith, room, down.ensures.capacity))
+    opened a.seed a.last down.result down.new.above.items (vec_capacity down.new.above) c.next_key.result (omega (arith, c.requires.least)) c.requires.most down.ensures.index top rise c.next_key.ensures.value (omega (arith, room, down.ensures.reserved))
 
 pub returns-clause-opened : goal.returns-clause-opened
 returns-clause-opened g c =

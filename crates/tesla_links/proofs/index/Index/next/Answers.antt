@@ -10,7 +10,7 @@ pub index-group-requires : goal.index-group-requires
 index-group-requires c =
     let i = c.self.inside in
     let h = c.self.invariant.0 in
-    let listed = sym (seen_at i.capacity i.order i.unmarked i.groups.items i.keys c.args.self.now c.self.view_is c.args.place) ∙ c.requires in
+    let listed = sym (seen_at i.capacity i.order i.unmarked i.groups.items i.keys.slots c.args.self.now c.self.view_is c.args.place) ∙ c.requires in
     let below = h.within c.args.place listed in
     omega (arith, below.0, h.grouped)
 
@@ -18,7 +18,7 @@ pub next-requires-clause-list : goal.next-requires-clause-list
 next-requires-clause-list c =
     let i = c.self.inside in
     let h = c.self.invariant.0 in
-    let listed = sym (seen_at i.capacity i.order i.unmarked i.groups.items i.keys c.args.self.now c.self.view_is c.args.place) ∙ c.requires in
+    let listed = sym (seen_at i.capacity i.order i.unmarked i.groups.items i.keys.slots c.args.self.now c.self.view_is c.args.place) ∙ c.requires in
     let below = h.within c.args.place listed in
     let group = get_or_read i.groups.items c.args.place c.index-group.result.now (omega (arith, below.0, h.grouped)) c.index-group.ensures 0 in
     omega (arith, group, below.1, h.member_lists)
@@ -27,17 +27,17 @@ pub next-requires-clause-place : goal.next-requires-clause-place
 next-requires-clause-place c =
     let i = c.self.inside in
     let h = c.self.invariant.0 in
-    let listed = sym (seen_at i.capacity i.order i.unmarked i.groups.items i.keys c.args.self.now c.self.view_is c.args.place) ∙ c.requires in
+    let listed = sym (seen_at i.capacity i.order i.unmarked i.groups.items i.keys.slots c.args.self.now c.self.view_is c.args.place) ∙ c.requires in
     let below = h.within c.args.place listed in
     let group = get_or_read i.groups.items c.args.place c.index-group.result.now (omega (arith, below.0, h.grouped)) c.index-group.ensures 0 in
-    ap (λ g. is_in c.args.place (list_of i.members g)) group ∙ in_group i.capacity i.order i.members i.groups.items i.keys h c.args.place listed
+    ap (λ g. is_in c.args.place (list_of i.members g)) group ∙ in_group i.capacity i.order i.members i.groups.items i.keys.slots h c.args.place listed
 
 pub returns : goal.returns
 returns c =
     let i = c.self.inside in
     let h = c.self.invariant.0 in
-    let listed = sym (seen_at i.capacity i.order i.unmarked i.groups.items i.keys c.args.self.now c.self.view_is c.args.place) ∙ c.requires in
+    let listed = sym (seen_at i.capacity i.order i.unmarked i.groups.items i.keys.slots c.args.self.now c.self.view_is c.args.place) ∙ c.requires in
     let below = h.within c.args.place listed in
     let group = get_or_read i.groups.items c.args.place c.index-group.result.now (omega (arith, below.0, h.grouped)) c.index-group.ensures 0 in
-    c.next.ensures.value ∙ ap (λ g. next_in c.args.place (list_of i.members g)) group ∙ next_is i.capacity i.order i.members i.groups.items i.keys h (is_marked i.capacity i.unmarked) c.args.place listed
-    ∙ ap (next_place c.args.place) (sym (seen_entries i.capacity i.order i.unmarked i.groups.items i.keys c.args.self.now c.self.view_is))
+    c.next.ensures.value ∙ ap (λ g. next_in c.args.place (list_of i.members g)) group ∙ next_is i.capacity i.order i.members i.groups.items i.keys.slots h (is_marked i.capacity i.unmarked) c.args.place listed
+    ∙ ap (next_place c.args.place) (sym (seen_entries i.capacity i.order i.unmarked i.groups.items i.keys.slots c.args.self.now c.self.view_is))

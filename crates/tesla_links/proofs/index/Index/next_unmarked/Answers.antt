@@ -9,7 +9,7 @@ pub index-group-requires : goal.index-group-requires
 index-group-requires c =
     let i = c.self.inside in
     let h = c.self.invariant.0 in
-    let listed = seen_unmarked i.capacity i.order i.unmarked i.groups.items i.keys c.args.self.now c.self.view_is c.args.place c.requires in
+    let listed = seen_unmarked i.capacity i.order i.unmarked i.groups.items i.keys.slots c.args.self.now c.self.view_is c.args.place c.requires in
     let below = h.within c.args.place listed.0 in
     omega (arith, below.0, h.grouped)
 
@@ -17,7 +17,7 @@ pub next-requires-clause-list : goal.next-requires-clause-list
 next-requires-clause-list c =
     let i = c.self.inside in
     let h = c.self.invariant.0 in
-    let listed = seen_unmarked i.capacity i.order i.unmarked i.groups.items i.keys c.args.self.now c.self.view_is c.args.place c.requires in
+    let listed = seen_unmarked i.capacity i.order i.unmarked i.groups.items i.keys.slots c.args.self.now c.self.view_is c.args.place c.requires in
     let below = h.within c.args.place listed.0 in
     let group = get_or_read i.groups.items c.args.place c.index-group.result.now (omega (arith, below.0, h.grouped)) c.index-group.ensures 0 in
     omega (arith, group, below.1, c.self.invariant.1.lists)
@@ -26,17 +26,17 @@ pub next-requires-clause-place : goal.next-requires-clause-place
 next-requires-clause-place c =
     let i = c.self.inside in
     let h = c.self.invariant.0 in
-    let listed = seen_unmarked i.capacity i.order i.unmarked i.groups.items i.keys c.args.self.now c.self.view_is c.args.place c.requires in
+    let listed = seen_unmarked i.capacity i.order i.unmarked i.groups.items i.keys.slots c.args.self.now c.self.view_is c.args.place c.requires in
     let below = h.within c.args.place listed.0 in
     let group = get_or_read i.groups.items c.args.place c.index-group.result.now (omega (arith, below.0, h.grouped)) c.index-group.ensures 0 in
-    ap (λ g. is_in c.args.place (list_of i.unmarked g)) group ∙ in_unmarked i.capacity i.order i.members i.groups.items i.keys h i.unmarked c.self.invariant.1 c.args.place listed.0 listed.1
+    ap (λ g. is_in c.args.place (list_of i.unmarked g)) group ∙ in_unmarked i.capacity i.order i.members i.groups.items i.keys.slots h i.unmarked c.self.invariant.1 c.args.place listed.0 listed.1
 
 pub returns : goal.returns
 returns c =
     let i = c.self.inside in
     let h = c.self.invariant.0 in
-    let listed = seen_unmarked i.capacity i.order i.unmarked i.groups.items i.keys c.args.self.now c.self.view_is c.args.place c.requires in
+    let listed = seen_unmarked i.capacity i.order i.unmarked i.groups.items i.keys.slots c.args.self.now c.self.view_is c.args.place c.requires in
     let below = h.within c.args.place listed.0 in
     let group = get_or_read i.groups.items c.args.place c.index-group.result.now (omega (arith, below.0, h.grouped)) c.index-group.ensures 0 in
-    c.next.ensures.value ∙ ap (λ g. next_in c.args.place (list_of i.unmarked g)) group ∙ unmarked_next_is i.capacity i.order i.members i.groups.items i.keys h i.unmarked c.self.invariant.1 c.args.place listed.0 listed.1
-    ∙ ap (next_unmarked c.args.place) (sym (seen_entries i.capacity i.order i.unmarked i.groups.items i.keys c.args.self.now c.self.view_is))
+    c.next.ensures.value ∙ ap (λ g. next_in c.args.place (list_of i.unmarked g)) group ∙ unmarked_next_is i.capacity i.order i.members i.groups.items i.keys.slots h i.unmarked c.self.invariant.1 c.args.place listed.0 listed.1
+    ∙ ap (next_unmarked c.args.place) (sym (seen_entries i.capacity i.order i.unmarked i.groups.items i.keys.slots c.args.self.now c.self.view_is))

@@ -1,5 +1,4 @@
-use Rattle.std.proofs.Common.{ap}
-use Rattle.tesla_links.proofs.Linked.{in_view, opened}
+use Rattle.tesla_links.proofs.Linked.{in_view, opened, same_shown}
 use Rattle.tesla_links.proofs.Rings.{lists_of_is}
 use Rattle.tesla_links.proofs.links.Links.open.Goals as goal
 
@@ -7,4 +6,4 @@ pub invariant_of-result : goal.invariant_of-result
 invariant_of-result c = in_view c.args.places _ _ _ _ _ (opened c.args.places c.args.lists _ _ _ _ c.requires.small c.requires.few c.in_ok-numbers.ensures c.in_ok-numbers-2.ensures (c.in_ok-vec.ensures.items_if_clones_equal (λ y h. h)) (c.in_ok-vec-2.ensures.items_if_clones_equal (λ y h. h)))
 
 pub returns : goal.returns
-returns c = ap (λ ls. record { places = c.args.places; lists = ls }) (lists_of_is c.args.places _ _ _ _ _ (opened c.args.places c.args.lists _ _ _ _ c.requires.small c.requires.few c.in_ok-numbers.ensures c.in_ok-numbers-2.ensures (c.in_ok-vec.ensures.items_if_clones_equal (λ y h. h)) (c.in_ok-vec-2.ensures.items_if_clones_equal (λ y h. h))))
+returns c = same_shown c.args.places _ _ _ (lists_of_is c.args.places _ _ _ _ _ (opened c.args.places c.args.lists _ _ _ _ c.requires.small c.requires.few c.in_ok-numbers.ensures c.in_ok-numbers-2.ensures (c.in_ok-vec.ensures.items_if_clones_equal (λ y h. h)) (c.in_ok-vec-2.ensures.items_if_clones_equal (λ y h. h))))

@@ -1,13 +1,13 @@
-use Rattle.std.proofs.Common.{ℕ, ◌+◌, ◌≤◌, [], ◌∷◌, ◌++◌, sym, ap, ◌∙◌, subst}
+use Rattle.std.proofs.Common.{◌≡◌, ℕ, ◌+◌, ◌≤◌, [], ◌∷◌, ◌++◌, sym, ap, ◌∙◌, subst}
 use Rattle.tesla_receiver.specs.declared.history.Entry.TheVariants.{Arrived}
 use Rattle.tesla_fitting.specs.declared.verdict.Verdict.{Verdict}
-use Rattle.tesla_state.specs.Costs.{most_by}
+use Rattle.tesla_state.specs.Costs.{most_by, offers_by}
 use Rattle.tesla_receiver.specs.History.{Arrives, entry_of}
 use Rattle.tesla_state.specs.State.{State}
 use Rattle.tesla_receiver.specs.Stands.{Stands}
 use Rattle.tesla_state.specs.Steps.{after_arrival, judged}
 use Rattle.tesla_receiver.proofs.Arriving.{verdict_judged, stands_arrived}
-use Rattle.tesla_receiver.proofs.Costs.{cost_same}
+use Rattle.tesla_receiver.proofs.Costs.{cost_same, offers_same}
 use Rattle.tesla_receiver.proofs.Moved.{arrival_config, arrival_calls}
 use Rattle.tesla_receiver.proofs.receiver.Receiver.arrive.Goals as goal
 
@@ -26,6 +26,12 @@ pub returns-clause-evaluations : goal.returns-clause-evaluations
 returns-clause-evaluations g c h st =
     let same = ap (λ (s : State). most_by s c.args.reading c.args.bytes.now) c.self.view_is ∙ cost_same c.args.self.now h st c.args.reading c.args.bytes.now in
     subst (λ (n : ℕ). c.arrive.new.steps ≤ c.args.steps.now + n) same c.arrive.ensures.cost
+
+pub returns-clause-badkey : goal.returns-clause-badkey
+returns-clause-badkey g c h st chain e =
+    let told : c.arrive.result ≡ judged c.args.self.now c.args.reading c.args.bytes.now = c.arrive.ensures.verdict ∙ ap (λ (s : State). judged s c.args.reading c.args.bytes.now) c.self.view_is in
+    let same = ap (λ (s : State). offers_by s c.args.bytes.now) c.self.view_is ∙ offers_same c.args.self.now h st c.args.reading c.args.bytes.now chain (sym told ∙ e) in
+    subst (λ (n : ℕ). c.arrive.new.steps ≤ c.args.steps.now + n) same (c.arrive.ensures.badkey chain e)
 
 pub returns-clause-config : goal.returns-clause-config
 returns-clause-config g c =

@@ -5,4 +5,4 @@ use Rattle.tesla_receiver.proofs.Ends.{stands_opened}
 use Rattle.tesla_receiver.proofs.receiver.Receiver.open.Goals as goal
 
 pub returns-clause-stands : goal.returns-clause-stands
-returns-clause-stands c = subst (λ (s : State). Stands s []) (sym c.in_ok-open.ensures) (stands_opened _)
+returns-clause-stands c = subst (λ (s : State). Stands s []) (sym c.in_ok-open.ensures) (stands_opened _ _)

@@ -7,4 +7,5 @@ invariant-loop g l = record {
   reached : l.self.reached ≡ l.fn.self.reached + (l.counter - l.fn.self.reached);
   tagging : l.self.tagging ≡ l.fn.self.tagging;
   left : l.steps + l.self.left ≤ l.fn.steps + l.fn.self.left;
+  reserved : l.self.reserved ≡ l.fn.self.reserved;
 }

@@ -24,8 +24,8 @@ returns-in-Ok-clause-stands g c = λ log stands.
     let told : c.interval_of.result ≡ disclosed_after a.self.now.stream.setup.times a.self.now.latest (any_due (interval_at a.self.now.stream.setup.times a.reading) (chains_of a.self.now.stream)) a.reading = c.interval_of.ensures in
     let is : disclosed_after a.self.now.stream.setup.times a.self.now.latest (any_due (interval_at a.self.now.stream.setup.times a.reading) (chains_of a.self.now.stream)) a.reading ≡ Ok c.in-Ok.interval = sym told ∙ c.in-Ok.is in
     let P : State → Type 0 = λ s. Stands s (log ++ Disclose a.reading ∷ []) in
-    let after : c.disclose_in.new.self ≡ record { stream = a.self.now.stream; latest = c.in-Ok.interval; used = number_at a.self.now.latest a.self.now.used c.in-Ok.interval; left = c.disclose_in.new.self.left } = c.disclose_in.ensures.after in
-    subst P (sym after) (disclosure_stands a.self.now log a.reading c.in-Ok.interval c.disclose_in.new.self.left stands is)
+    let after : c.disclose_in.new.self ≡ record { stream = a.self.now.stream; latest = c.in-Ok.interval; used = number_at a.self.now.latest a.self.now.used c.in-Ok.interval; left = c.disclose_in.new.self.left; reserved = c.disclose_in.new.self.reserved } = c.disclose_in.ensures.after in
+    subst P (sym after) (disclosure_stands a.self.now log a.reading c.in-Ok.interval c.disclose_in.new.self.left c.disclose_in.new.self.reserved stands is)
 
 pub returns-in-Err-clause-answer : goal.returns-in-Err-clause-answer
 returns-in-Err-clause-answer g c = λ log stands.

@@ -24,8 +24,8 @@ returns-in-Ok-clause-stands g c = λ log stands.
     let told : c.name_of.result ≡ name_after a.self.now.stream.setup.times a.self.now.latest (number_at a.self.now.latest a.self.now.used (interval_at a.self.now.stream.setup.times a.reading)) a.reading a.payload.now = c.name_of.ensures in
     let is : name_after a.self.now.stream.setup.times a.self.now.latest (number_at a.self.now.latest a.self.now.used (interval_at a.self.now.stream.setup.times a.reading)) a.reading a.payload.now ≡ Ok c.in-Ok.name = sym told ∙ c.in-Ok.is in
     let P : State → Type 0 = λ s. Stands s (log ++ Message a.reading a.payload.now ∷ []) in
-    let after : c.send.new.self ≡ record { stream = a.self.now.stream; latest = c.in-Ok.name.interval; used = c.in-Ok.name.number + 1; left = c.send.new.self.left } = c.send.ensures.after in
-    subst P (sym after) (message_stands a.self.now log a.reading c.send.new.self.left a.payload.now c.in-Ok.name stands is)
+    let after : c.send.new.self ≡ record { stream = a.self.now.stream; latest = c.in-Ok.name.interval; used = c.in-Ok.name.number + 1; left = c.send.new.self.left; reserved = c.send.new.self.reserved } = c.send.ensures.after in
+    subst P (sym after) (message_stands a.self.now log a.reading c.send.new.self.left c.send.new.self.reserved a.payload.now c.in-Ok.name stands is)
 
 pub returns-in-Err-clause-answer : goal.returns-in-Err-clause-answer
 returns-in-Err-clause-answer g c = λ log stands.

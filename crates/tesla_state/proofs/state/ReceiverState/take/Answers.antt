@@ -1,9 +1,9 @@
-use Rattle.std.proofs.Common.{◌+◌, ◌<◌, ◌^◌, ap, sym, ◌∙◌, subst, List}
+use Rattle.std.proofs.Common.{ℕ, ◌+◌, ◌<◌, ◌^◌, ap, sym, ◌∙◌, subst, List}
 use Rattle.std.specs.Prelude.{vec_capacity}
 use Rattle.tesla_keys.specs.Tip.{Tip}
 use Rattle.tesla_state.specs.State.{State}
 use Rattle.tesla_state.specs.Stored.{Stored, IsGiven}
-use Rattle.tesla_state.specs.Kept.{state_of}
+use Rattle.tesla_state.specs.Kept.{reserved_in, state_of}
 use Rattle.tesla_state.specs.Steps.{reply_by, after_take}
 use Rattle.tesla_state.proofs.Batch.{orders_differ}
 use Rattle.tesla_state.proofs.TakenNext.{none_taken, kept_taken, state_taken, answer_is}
@@ -16,8 +16,8 @@ pub returns-in_default-clause-state : goal.returns-in_default-clause-state
 returns-in_default-clause-state c =
     let i = c.self.inside in
     let none = c.in_default.ensures.given in
-    ap (λ (t : Stored). state_of i.config i.tips.items t i.ended.items i.counts (i.calls + 1)) none.1
-    ∙ none_taken (state_of i.config i.tips.items i.store i.ended.items i.counts i.calls) none.0
+    ap (λ (t : Stored). state_of i.config i.tips.items t i.ended.items i.counts (i.calls + 1) (reserved_in (vec_capacity i.tips) t (vec_capacity i.walks) (vec_capacity i.batch) (vec_capacity i.ended))) none.1
+    ∙ none_taken (state_of i.config i.tips.items i.store i.ended.items i.counts i.calls (reserved_in (vec_capacity i.tips) i.store (vec_capacity i.walks) (vec_capacity i.batch) (vec_capacity i.ended))) none.0
     ∙ ap after_take c.self.view_is
 
 pub invariant_of-self-2 : goal.invariant_of-self-2
@@ -30,11 +30,12 @@ invariant_of-self-2 c =
 pub returns-clause-answer : goal.returns-clause-answer
 returns-clause-answer c =
     let i = c.self.inside in
-    answer_is i.config i.tips.items i.store c.take-head.new.self i.ended.items i.counts i.calls c.in-Some.head c.args.into.now c.take-head.new.into (subst (λ (ts : List Tip). IsGiven i.config ts i.counts.given i.store c.take-head.new.self c.in-Some.head c.args.into.now c.take-head.new.into) c.as_slice.ensures.value c.in-Some.ensures.given)
+    answer_is i.config i.tips.items i.store c.take-head.new.self i.ended.items i.counts i.calls (reserved_in (vec_capacity i.tips) i.store (vec_capacity i.walks) (vec_capacity i.batch) (vec_capacity i.ended)) c.in-Some.head c.args.into.now c.take-head.new.into (subst (λ (ts : List Tip). IsGiven i.config ts i.counts.given i.store c.take-head.new.self c.in-Some.head c.args.into.now c.take-head.new.into) c.as_slice.ensures.value c.in-Some.ensures.given)
     ∙ ap reply_by c.self.view_is
 
 pub returns-clause-state : goal.returns-clause-state
 returns-clause-state c =
     let i = c.self.inside in
-    state_taken i.config i.tips.items i.store c.take-head.new.self i.ended.items i.counts i.calls c.in-Some.head c.args.into.now c.take-head.new.into (subst (λ (ts : List Tip). IsGiven i.config ts i.counts.given i.store c.take-head.new.self c.in-Some.head c.args.into.now c.take-head.new.into) c.as_slice.ensures.value c.in-Some.ensures.given)
+    ap (λ (n : ℕ). state_of i.config i.tips.items c.take-head.new.self i.ended.items (record i.counts { given = i.counts.given + 1 }) (i.calls + 1) (vec_capacity i.tips + n + vec_capacity i.walks + vec_capacity i.batch + vec_capacity i.ended)) c.take-head.ensures.reserved
+    ∙ state_taken i.config i.tips.items i.store c.take-head.new.self i.ended.items i.counts i.calls (reserved_in (vec_capacity i.tips) i.store (vec_capacity i.walks) (vec_capacity i.batch) (vec_capacity i.ended)) c.in-Some.head c.args.into.now c.take-head.new.into (subst (λ (ts : List Tip). IsGiven i.config ts i.counts.given i.store c.take-head.new.self c.in-Some.head c.args.into.now c.take-head.new.into) c.as_slice.ensures.value c.in-Some.ensures.given)
     ∙ ap after_take c.self.view_is

@@ -22,7 +22,7 @@ loop-interval-preserved c =
     let met : ℕ → Bool = is_reached (index_at c.args.indices.now) (rows_of c.args.walks.now) in
     spanned_more met (is_idle c.args.config.now c.args.tips.now) c.args.low c.loop-interval.most c.args.high c.args.self.now c.loop-interval.self c.sweep.new.self c.in-Some.interval
     (subst (IsHighest met c.args.low c.loop-interval.most) c.in-Some.is c.highest_reached.ensures) c.loop-interval.invariant
-    c.sweep.ensures.capacity c.sweep.ensures.chains c.sweep.ensures.waiting c.sweep.ensures.given c.sweep.ensures.held
+    c.sweep.ensures.capacity c.sweep.ensures.reserved c.sweep.ensures.chains c.sweep.ensures.waiting c.sweep.ensures.given c.sweep.ensures.held
 
 pub returns : goal.returns
 returns c =
@@ -30,6 +30,7 @@ returns c =
     let met : ℕ → Bool = is_reached (index_at c.args.indices.now) (rows_of c.args.walks.now) in
     record {
       capacity = s.capacity;
+      reserved = s.reserved;
       chains = s.chains;
       held = span_ends met (is_idle c.args.config.now c.args.tips.now) c.args.low c.loop-interval.most c.args.high c.args.self.now c.loop-interval.self
           (subst (IsHighest met c.args.low c.loop-interval.most) c.in_default.is c.highest_reached.ensures) s;

@@ -1,4 +1,4 @@
-use Rattle.std.proofs.Common.{◌≡◌, ◌≤◌, sym, subst, arith, map, List}
+use Rattle.std.proofs.Common.{◌≡◌, sym, subst, arith, map, List}
 use Rattle.std.specs.Prelude.{vec_capacity}
 use Rattle.tesla_state.specs.declared.release.Release.{Release}
 use Rattle.tesla_state.specs.Gathering.{RiseBy, place_of}
@@ -16,8 +16,8 @@ returns g c =
     let rises : RiseBy place_of releases = batch_rises c.args.config.now c.args.tips.now (rows_of c.args.walks.now) (map holding_at c.args.self.now.held) c.requires.orders in
     let told : map release_in c.order.new.batch.items ≡ releases = c.order.ensures.order releases rises c.try_span.ensures.releases in
     let proved : AreProved c.args.self.now.held c.order.new.batch.items = proved_permuted c.args.self.now.held c.try_span.new.batch.items c.order.new.batch.items c.order.ensures.same c.try_span.ensures.proved in
-    let before : vec_capacity c.args.batch.now ≤ vec_capacity c.try_span.new.batch = c.try_span.ensures.capacity in
-    let after : vec_capacity c.try_span.new.batch ≤ vec_capacity c.order.new.batch = c.order.ensures.capacity in
+    let before : vec_capacity c.try_span.new.batch ≡ vec_capacity c.args.batch.now = c.try_span.ensures.capacity in
+    let after : vec_capacity c.order.new.batch ≡ vec_capacity c.try_span.new.batch = c.order.ensures.capacity in
     record {
       releases = told;
       proved = proved;

@@ -31,7 +31,7 @@ pub loop-looked-preserved : goal.loop-looked-preserved
 loop-looked-preserved c =
     let s = subst (λ (o : Option Place). Sweeping c.args.self.now c.loop-looked.self false c.args.interval (λ x. not (waits x)) c.loop-looked._looked o) c.in-Some.is c.loop-looked.invariant in
     sweeping_more c.args.self.now c.loop-looked.self c.let_go_resting.new.self false c.args.interval (λ x. not (waits x)) c.loop-looked._looked c.in-Some.place c.next_of-next.result c.requires s c.next_of-next.ensures
-    c.let_go_resting.ensures.capacity c.let_go_resting.ensures.chains c.let_go_resting.ensures.waiting c.let_go_resting.ensures.given c.let_go_resting.ensures.held
+    c.let_go_resting.ensures.capacity c.let_go_resting.ensures.reserved c.let_go_resting.ensures.chains c.let_go_resting.ensures.waiting c.let_go_resting.ensures.given c.let_go_resting.ensures.held
 
 pub returns-clause-held : goal.returns-clause-held
 returns-clause-held c =

@@ -36,7 +36,7 @@ pub loop-looked-preserved : goal.loop-looked-preserved
 loop-looked-preserved c =
     let s = subst (λ (o : Option Place). Sweeping c.args.self.now c.loop-looked.self true c.args.interval (λ x. list_all (is_over c.args.tips.now x.holding) (chains c.args.config.now)) c.loop-looked._looked o) c.in-Some.is c.loop-looked.invariant in
     sweeping_more c.args.self.now c.loop-looked.self c.let_go_over.new.self true c.args.interval (λ x. list_all (is_over c.args.tips.now x.holding) (chains c.args.config.now)) c.loop-looked._looked c.in-Some.place c.next_unreleased-next.result c.requires.apart s c.next_unreleased-next.ensures
-    c.let_go_over.ensures.capacity c.let_go_over.ensures.chains c.let_go_over.ensures.waiting c.let_go_over.ensures.given c.let_go_over.ensures.held
+    c.let_go_over.ensures.capacity c.let_go_over.ensures.reserved c.let_go_over.ensures.chains c.let_go_over.ensures.waiting c.let_go_over.ensures.given c.let_go_over.ensures.held
 
 pub returns-clause-held : goal.returns-clause-held
 returns-clause-held c =

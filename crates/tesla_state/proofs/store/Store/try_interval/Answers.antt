@@ -47,7 +47,7 @@ try_at-requires g c =
     let s = subst (λ (o : Option Place). Trying c.args.config.now c.args.tips.now c.args.walks.now c.loop-looked.walks c.args.self.now.held c.args.interval c.loop-looked._looked o c.args.batch.now.items c.loop-looked.batch.items) c.in-Some.is c.loop-looked.invariant.walk in
     let t = tried_place c.args.config.now c.args.tips.now c.args.walks.now c.loop-looked.walks c.args.self.now.held c.args.interval c.loop-looked._looked c.in-Some.place c.args.batch.now.items c.loop-looked.batch.items c.requires.apart s in
     let room = room_there c.args.config.now c.args.tips.now c.args.walks.now c.loop-looked.walks c.args.self.now.held c.args.interval c.loop-looked._looked (vec_capacity c.args.batch.now) c.in-Some.place c.args.batch.now.items c.loop-looked.batch.items c.requires.apart s (omega (arith, c.requires.room, unreleased_few c.args.self.now.held c.args.interval)) in
-    let kept : vec_capacity c.args.batch.now ≤ vec_capacity c.loop-looked.batch = c.loop-looked.invariant.capacity in
+    let kept : vec_capacity c.loop-looked.batch ≡ vec_capacity c.args.batch.now = c.loop-looked.invariant.capacity in
     record {
       tips = c.requires.tips;
       chains = c.requires.chains;

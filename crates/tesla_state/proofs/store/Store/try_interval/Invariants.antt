@@ -1,4 +1,4 @@
-use Rattle.std.proofs.Common.{◌+◌, ◌*◌, ◌≤◌, map, take, filter}
+use Rattle.std.proofs.Common.{◌≡◌, ◌+◌, ◌*◌, ◌≤◌, map, take, filter}
 use Rattle.std.specs.Prelude.{vec_capacity}
 use Rattle.tesla_state.specs.Stored.{holding_at, is_unreleased_of}
 use Rattle.tesla_state.specs.Walking.{rows_of, left, pairs}
@@ -8,6 +8,6 @@ use Rattle.tesla_state.proofs.store.Store.try_interval.Given as goal
 abbrev pub invariant-loop-looked : goal.invariant-loop-looked
 invariant-loop-looked g l = record {
   walk : Trying l.config l.tips l.initial.walks l.walks l.self.held l.interval l._looked l.next l.initial.batch.items l.batch.items;
-  capacity : vec_capacity l.initial.batch ≤ vec_capacity l.batch;
+  capacity : vec_capacity l.batch ≡ vec_capacity l.initial.batch;
   cost : l.steps + left l.tips l.walks ≤ l.initial.steps + left l.tips l.initial.walks + 2 * pairs l.config l.tips (rows_of l.initial.walks) (map holding_at (take l._looked (filter (is_unreleased_of l.interval) l.self.held)));
 }

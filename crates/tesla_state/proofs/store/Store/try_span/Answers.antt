@@ -1,4 +1,4 @@
-use Rattle.std.proofs.Common.{◌≤◌, None, Some, sym, subst, arith, length, map}
+use Rattle.std.proofs.Common.{◌≡◌, ◌≤◌, None, Some, sym, subst, arith, length, map}
 use Rattle.std.specs.Prelude.{All, List, vec_capacity}
 use Rattle.tesla_frame.specs.declared.row.KeyRow.{KeyRow}
 use Rattle.tesla_frame.specs.Frame.{ChainsRise}
@@ -26,7 +26,7 @@ pub try_interval-requires : goal.try_interval-requires
 try_interval-requires g c =
     let s = c.loop-interval.invariant.walk in
     let is = subst (IsHighest (is_reached (index_at c.args.indices.now) (rows_of c.loop-interval.walks)) c.args.low c.loop-interval.most) c.in-Some.is c.highest_reached.ensures in
-    let kept : vec_capacity c.args.batch.now ≤ vec_capacity c.loop-interval.batch = c.loop-interval.invariant.capacity in
+    let kept : vec_capacity c.loop-interval.batch ≡ vec_capacity c.args.batch.now = c.loop-interval.invariant.capacity in
     let room : length c.args.self.now.held ≤ vec_capacity c.args.batch.now = c.requires.room in
     record {
       tips = c.requires.tips;
@@ -42,8 +42,8 @@ loop-interval-preserved g c =
     let s = c.loop-interval.invariant.walk in
     let is = highest_met c.args.config.now c.args.tips.now c.args.walks.now c.args.self.now.held c.loop-interval.walks c.args.indices.now c.args.low c.loop-interval.most (Some c.in-Some.interval) c.requires.indices c.requires.of_chains s.rows
     (subst (IsHighest (is_reached (index_at c.args.indices.now) (rows_of c.loop-interval.walks)) c.args.low c.loop-interval.most) c.in-Some.is c.highest_reached.ensures) in
-    let before : vec_capacity c.args.batch.now ≤ vec_capacity c.loop-interval.batch = c.loop-interval.invariant.capacity in
-    let after : vec_capacity c.loop-interval.batch ≤ vec_capacity c.try_interval.new.batch = c.try_interval.ensures.capacity in
+    let before : vec_capacity c.loop-interval.batch ≡ vec_capacity c.args.batch.now = c.loop-interval.invariant.capacity in
+    let after : vec_capacity c.try_interval.new.batch ≡ vec_capacity c.loop-interval.batch = c.try_interval.ensures.capacity in
     record {
       walk = spanning_more c.args.config.now c.args.tips.now c.args.walks.now c.args.self.now.held c.loop-interval.walks c.try_interval.new.walks c.args.low c.in-Some.interval c.loop-interval.most c.loop-interval.batch.items c.try_interval.new.batch.items is s
           c.try_interval.ensures.rows c.try_interval.ensures.above c.try_interval.ensures.releases c.try_interval.ensures.proved c.try_interval.ensures.long;

@@ -1,4 +1,4 @@
-use Rattle.std.proofs.Common.{◌≤◌, ◌+◌, ◌*◌, map, filter}
+use Rattle.std.proofs.Common.{◌≡◌, ◌≤◌, ◌+◌, ◌*◌, map, filter}
 use Rattle.std.specs.Prelude.{vec_capacity}
 use Rattle.tesla_state.specs.Stored.{holding_at}
 use Rattle.tesla_state.specs.Walking.{rows_of, left, pairs}
@@ -9,7 +9,7 @@ use Rattle.tesla_state.proofs.store.Store.try_span.Given as goal
 abbrev pub invariant-loop-interval : goal.invariant-loop-interval
 invariant-loop-interval g l = record {
   walk : Spanning l.config l.tips l.initial.walks l.walks l.self.held l.most l.batch.items;
-  capacity : vec_capacity l.initial.batch ≤ vec_capacity l.batch;
+  capacity : vec_capacity l.batch ≡ vec_capacity l.initial.batch;
   cost : l.steps + left l.tips l.walks ≤ l.initial.steps + left l.tips l.initial.walks + 2 * pairs l.config l.tips (rows_of l.initial.walks) (filter (is_past l.most) (map holding_at l.self.held));
 }
 

@@ -1,0 +1,61 @@
+-- A run of chain or chain2 comes to its end where its seeds are taken and nothing fails.
+use Rattle.std.proofs.Common.{◌≡◌, ◌∙◌, ◌⊎◌, inl, inr, ℕ, Bool, Result, Ok, Err, List, [], ◌∷◌, length, refl, sym, ap, subst}
+use Rattle.tesla_base.specs.declared.names.Key.{Key}
+use Rattle.tesla_commit.specs.Parts.{Parts}
+use Rattle.tesla_commit.specs.declared.seeds.refusal.SeedsKind.{SeedsKind}
+use Rattle.tesla_desk.specs.Faults.{Faults, HasCausesBeside}
+use Rattle.tesla_desk.specs.Outside.{Page, Holds, Told}
+use Rattle.tesla_desk.proofs.Counts.{not_rose}
+use Rattle.tesla_front.specs.Came.{Came, Done, Refused, Failed}
+use Rattle.tesla_front.specs.Command.{Performs}
+use Rattle.tesla_front.specs.Files.{HoldsWhere}
+use Rattle.tesla_front.specs.Openings.{File, file_told}
+use Rattle.tesla_front.specs.Run.{NothingFailed}
+use Rattle.tesla_front.specs.Seeds.{IsNoSeeds, IsNoSeedsText, IsSeedsText}
+use Rattle.tesla_front.specs.declared.fault.Fault.{Fault}
+use Rattle.tesla_front.specs.declared.fault.Fault.TheVariants as faults
+use Rattle.tesla_run_chain.specs.Arguments.{ChainArguments}
+use Rattle.tesla_run_chain.specs.Chain.{DoesChain, WritesSetup, chain, chains_line, setup_made}
+use Rattle.tesla_run_chain.proofs.Setups.{rows_count}
+
+-- ---- for any command
+
+-- where nothing failed, the one fault is want of memory
+pub memory_alone : {hidden : Type 0} (old new : Faults) (came : Came) (fault : Fault) → HasCausesBeside hidden old new (came ≡ Failed faults.Read) (came ≡ Failed faults.Write) (came ≡ Failed faults.Open) → NothingFailed old new → came ≡ Failed fault → came ≡ Failed faults.NoMemory
+memory_alone old new came faults.Read causes none e = absurd (not_rose old.reads new.reads none.reads.0 none.reads.1 (causes.reads.rose e))
+memory_alone old new came faults.Write causes none e = absurd (not_rose old.writes new.writes none.writes.0 none.writes.1 (causes.writes.rose e))
+memory_alone old new came faults.NoMemory causes none e = e
+memory_alone old new came faults.Open causes none e = absurd (not_rose old.openings new.openings none.openings.0 none.openings.1 (causes.openings.rose e))
+
+-- ---- chain and chain2
+
+-- seeds that a text spells are not refused
+refused_never : (count : ℕ) (text : List ℕ) (seeds : List Key) (status : ℕ) (line : List ℕ) → IsSeedsText count text seeds → IsNoSeedsText count text (Refused status line) → ⊥
+refused_never count text seeds status line found (inl why) = let no : ◌≡◌ {A = Result (List Key) (ℕ × SeedsKind)} (Ok seeds) (Err why.0) = sym found ∙ why.1 in cc
+refused_never count text seeds status line found (inr memory) = cc
+
+-- where seeds are told, there are none only where something went wrong outside
+lacking_ends : (count : ℕ) (page : Page) (came : Came) (text : List ℕ) (failed : Bool) (seeds : List Key) → page ≡ Holds text failed → IsSeedsText count text seeds → IsNoSeeds count page came → (fault : Fault) × (came ≡ Failed fault)
+lacking_ends count page (Failed fault) text failed seeds is found why = (fault, refl)
+lacking_ends count page (Refused status line) text failed seeds is found why =
+    absurd (refused_never count text seeds status line found (subst (λ (p : Page). HoldsWhere p (λ t. IsNoSeedsText count t (Refused status line))) is why))
+lacking_ends count page _ text failed seeds is found why = absurd why
+
+-- a setup that was made is written, or something went wrong outside
+writing_ends : (setup : Parts) (count : ℕ) (before after : Page) (came : Came) → length setup.rows ≡ count → WritesSetup setup before after came → (came ≡ Done (chains_line count)) ⊎ ((fault : Fault) × (came ≡ Failed fault))
+writing_ends setup count before after (Done lines) same writes = inl (ap Done (writes.0 ∙ ap chains_line same))
+writing_ends setup count before after (Failed fault) same writes = inr (fault, refl)
+writing_ends setup count before after _ same writes = absurd writes
+
+chain_ends : (arguments : ChainArguments) (opened : ℕ) (secret out read written : File) (came : Came) (text : List ℕ) (failed : Bool) (seeds : List Key) → secret.page ≡ Holds text failed → IsSeedsText (length arguments.delays) text seeds → DoesChain arguments opened (secret ∷ out ∷ []) (read ∷ written ∷ []) came → (came ≡ Done (chains_line (length arguments.delays))) ⊎ ((fault : Fault) × (came ≡ Failed fault))
+chain_ends arguments opened secret out read written came text failed seeds page found (inl lacks) = inr (lacking_ends (length arguments.delays) secret.page came text failed seeds page found lacks.why)
+chain_ends arguments opened secret out read written came text failed seeds page found (inr makes) =
+    writing_ends (setup_made arguments makes.seeds) (length arguments.delays) out.page written.page came (rows_count arguments.times.last arguments.delays makes.seeds makes.count) makes.writes
+
+-- a run of chain or chain2 comes to the number of chains, or to want of memory
+pub complete : (arguments : ChainArguments) (old new : Told) (came : Came) (text : List ℕ) (failed : Bool) (seeds : List Key) → Performs chain arguments old new came → old.page arguments.secret ≡ Holds text failed → IsSeedsText (length arguments.delays) text seeds → NothingFailed old.faults new.faults → (came ≡ Done (chains_line (length arguments.delays))) ⊎ (came ≡ Failed faults.NoMemory)
+complete arguments old new came text failed seeds performs page found none =
+    elim (chain_ends arguments performs.opened (file_told old arguments.secret) (file_told old arguments.out) (file_told new arguments.secret) (file_told new arguments.out) came text failed seeds page found performs.does) [
+      | inl done ↦ inl done
+      | inr fault ↦ inr (memory_alone old.faults new.faults came fault.0 performs.counts none fault.1)
+    ]

@@ -1,0 +1,4 @@
+pub mod Arguments
+pub mod Delays
+pub mod Chain
+pub mod Usage

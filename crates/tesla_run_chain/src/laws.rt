@@ -1,0 +1,33 @@
+//! Laws about the commands, as contracts of functions that do nothing else.
+
+ghost use Rattle.std.specs.Prelude.{◌≡◌, ◌⊎◌, ℕ, List, Bool, length, map};
+ghost use Rattle.tesla_base.specs.declared.names.Key.{Key};
+ghost use Rattle.tesla_desk.specs.Outside.{Told, Holds};
+ghost use Rattle.tesla_front.specs.Came.{Came, Done, Failed};
+ghost use Rattle.tesla_front.specs.Command.{Performs};
+ghost use Rattle.tesla_front.specs.Run.{NothingFailed};
+ghost use Rattle.tesla_front.specs.Seeds.{IsSeedsText};
+ghost use Rattle.tesla_front.specs.declared.fault.Fault.TheVariants as faults;
+ghost use Rattle.tesla_run_chain.specs.Arguments.{ChainArguments};
+ghost use Rattle.tesla_run_chain.specs.Chain.{chain, chains_line};
+ghost use Rattle.tesla_run_chain.specs.Usage.{usages};
+
+use crate::{CHAIN, CHAIN_TWO};
+use tesla_front::FormText;
+
+/// The forms of both commands, in the order in which they are told: their words are those of the usage lines.
+pub fn forms() -> [FormText; 2]
+    ensures { map (λ form. form.words.now) result ≡ usages }
+{
+    [CHAIN, CHAIN_TWO]
+}
+
+/// A run of `chain` or `chain2` comes to its end. Where the desk tells the seeds that are wanted, and no count of faults
+/// rose, it came to the number of the chains, or to want of memory.
+pub fn completeness()
+    ensures { (arguments : ChainArguments) (old new : Told) (came : Came) (text : List ℕ) (failed : Bool) (seeds : List Key) →
+        Performs chain arguments old new came →
+        old.page arguments.secret ≡ Holds text failed → IsSeedsText (length arguments.delays) text seeds →
+        NothingFailed old.faults new.faults →
+        (came ≡ Done (chains_line (length arguments.delays))) ⊎ (came ≡ Failed faults.NoMemory) }
+{}
