@@ -1,5 +1,5 @@
 -- The records of a frame, put behind what is held.
-use Rattle.std.proofs.Common.{◌≡◌, ◌∙◌, ℕ, Option, Result, Ok, Err, List, [], ◌∷◌, ◌++◌, length, take, drop, refl, sym, ap, subst, append_assoc}
+use Rattle.std.proofs.Common.{◌≡◌, ◌∙◌, ℕ, Option, Result, Ok, Err, List, [], ◌∷◌, ◌++◌, length, take, drop, sym, ap, subst, append_assoc}
 use Rattle.std.proofs.Math.Seq.{take-append_seam}
 use Rattle.tesla_capture.specs.Gathering.{Gathers}
 use Rattle.tesla_capture.specs.Script.{Record}

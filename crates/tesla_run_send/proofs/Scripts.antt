@@ -7,16 +7,16 @@ use Rattle.tesla_capture.specs.Records.{outline_of}
 use Rattle.tesla_capture.specs.Script.{Record, record_text, script}
 use Rattle.tesla_capture.specs.declared.record.RecordKind.{RecordKind}
 use Rattle.tesla_convert.specs.Records.{Answers}
-use Rattle.tesla_convert.specs.Rule.{Behind, Made, Rule, Unread, behind_of, made, made_behind, made_first, made_of, made_so_far, with_text}
+use Rattle.tesla_convert.specs.Rule.{Behind, Made, Unread, behind_of, made, made_behind, made_first, made_of, made_so_far, with_text}
 use Rattle.tesla_convert.specs.declared.converter.Converted.{Converted}
 use Rattle.tesla_convert.specs.declared.converter.Converted.TheVariants as converted
-use Rattle.tesla_desk.specs.Outside.{AppendsPrefix, with_bytes}
+use Rattle.tesla_desk.specs.Outside.{AppendsPrefix}
 use Rattle.tesla_desk.proofs.Told.{appends_none}
 use Rattle.tesla_frame.specs.Frame.{frame_text}
 use Rattle.tesla_sender.specs.Made.{Call, Stream}
 use Rattle.tesla_sender.specs.Stands.{State, Stands}
-use Rattle.tesla_run_send.specs.Rule.{HasSent, adds_by, count_of, frame_records, frames_behind, frames_of, log_behind, log_of, log_with, refusal_of, rule_of}
-use Rattle.tesla_run_send.specs.Script.{Answer, Makes, MakesNone, Refuses, Sending, Sent, answer_to, call_of, capture_of, end_of_file, reading_of, sending, sending_by, sending_of, sent_text}
+use Rattle.tesla_run_send.specs.Rule.{HasSent, adds_by, frame_records, frames_behind, frames_in, frames_of, log_behind, log_of, log_with, refusal_of, rule_of}
+use Rattle.tesla_run_send.specs.Script.{Answer, Makes, MakesNone, Refuses, Sending, answer_to, call_of, capture_of, end_of_file, reading_of, sending, sending_by, sending_of, sent_text}
 use Rattle.tesla_run_send.specs.Send.{sending_so_far}
 use Rattle.tesla_run_send.specs.Steps.{CarriesOut}
 use Rattle.tesla_run_send.specs.declared.script_kind.ScriptKind.{ScriptKind}
@@ -28,27 +28,24 @@ log_more : (stream : Stream) (log : List Call) (records : List Record) (first : 
 log_more stream log [] first = refl
 log_more stream log (other ∷ records) first = log_more stream (log_with (answer_to stream log other) other log) records first
 
--- of how many records something is written, with one record more
-frames_more : (rule : Rule script ScriptKind) (before records : List Record) (first : Record) → frames_behind rule before (records ++ first ∷ []) ≡ frames_behind rule before records + count_of (rule.adds (before ++ records) first)
-frames_more rule before [] first =
-    let same : count_of (rule.adds (before ++ []) first) ≡ count_of (rule.adds before first) = ap (λ (b : List Record). count_of (rule.adds b first)) (append-nil before) in
-    omega (arith, same)
-frames_more rule before (other ∷ records) first =
-    let others : frames_behind rule (before ++ other ∷ []) (records ++ first ∷ []) ≡ frames_behind rule (before ++ other ∷ []) records + count_of (rule.adds ((before ++ other ∷ []) ++ records) first) = frames_more rule (before ++ other ∷ []) records first in
-    let same : count_of (rule.adds ((before ++ other ∷ []) ++ records) first) ≡ count_of (rule.adds (before ++ other ∷ records) first) = ap (λ (b : List Record). count_of (rule.adds b first)) (append_assoc before (other ∷ []) records) in
-    omega (arith, others, same)
+-- how many frames are made, with one record more
+frames_more : (stream : Stream) (log : List Call) (records : List Record) (first : Record) → frames_behind stream log (records ++ first ∷ []) ≡ frames_behind stream log records + frames_in (answer_to stream (log_behind stream log records) first)
+frames_more stream log [] first = omega arith
+frames_more stream log (other ∷ records) first =
+    let others : frames_behind stream (log_with (answer_to stream log other) other log) (records ++ first ∷ []) ≡ frames_behind stream (log_with (answer_to stream log other) other log) records + frames_in (answer_to stream (log_behind stream (log_with (answer_to stream log other) other log) records) first) =
+    frames_more stream (log_with (answer_to stream log other) other log) records first in
+    omega (arith, others)
 
 -- a sender was given one record more, which was answered so
-sent_more : (answer : Answer) (first : Record) (stream : Stream) (sender : State) (records : List Record) (count counted : ℕ) → answer_to stream (log_of stream records) first ≡ answer → sender.stream ≡ stream → count ≡ frames_of (rule_of stream) records
-    → Stands sender (log_with answer first (log_of stream records)) → counted ≡ count + count_of (adds_by answer first) → HasSent sender counted (records ++ first ∷ [])
+sent_more : (answer : Answer) (first : Record) (stream : Stream) (sender : State) (records : List Record) (count counted : ℕ) → answer_to stream (log_of stream records) first ≡ answer → sender.stream ≡ stream → count ≡ frames_of stream records
+    → Stands sender (log_with answer first (log_of stream records)) → counted ≡ count + frames_in answer → HasSent stream sender counted (records ++ first ∷ [])
 sent_more answer first stream sender records count counted is same count_is stands more =
-    let log : log_of sender.stream (records ++ first ∷ []) ≡ log_with answer first (log_of stream records) =
-    ap (λ (s : Stream). log_of s (records ++ first ∷ [])) same ∙ log_more stream [] records first ∙ ap (λ (a : Answer). log_with a first (log_of stream records)) is in
-    let frames : frames_of (rule_of sender.stream) (records ++ first ∷ []) ≡ frames_of (rule_of stream) records + count_of (adds_by answer first) =
-    ap (λ (s : Stream). frames_of (rule_of s) (records ++ first ∷ [])) same ∙ frames_more (rule_of stream) [] records first ∙ ap (λ (a : Answer). frames_of (rule_of stream) records + count_of (adds_by a first)) is in
+    let log : log_of stream (records ++ first ∷ []) ≡ log_with answer first (log_of stream records) = log_more stream [] records first ∙ ap (λ (a : Answer). log_with a first (log_of stream records)) is in
+    let frames : frames_of stream (records ++ first ∷ []) ≡ frames_of stream records + frames_in answer = frames_more stream [] records first ∙ ap (λ (a : Answer). frames_of stream records + frames_in a) is in
     record {
+      of_stream = same;
       stands = subst (λ (l : List Call). Stands sender l) (sym log) stands;
-      counted = more ∙ ap (λ (n : ℕ). n + count_of (adds_by answer first)) count_is ∙ sym frames;
+      counted = more ∙ ap (λ (n : ℕ). n + frames_in answer) count_is ∙ sym frames;
     }
 
 -- nothing was put
@@ -56,8 +53,8 @@ pub gathers_nothing : (before now : Option (List ℕ)) (held rest : List ℕ) �
 gathers_nothing before now held rest written same = record { done = []; written = written ∙ appends_none before; both = append-nil held ∙ sym same }
 
 answers_by : (came : Converted ScriptKind) (answer : Answer) (first : Record) (stream : Stream) (sender : State) (records : List Record) (count counted : ℕ) (before now : Option (List ℕ)) (held rest : List ℕ)
-    → answer_to stream (log_of stream records) first ≡ answer → sender.stream ≡ stream → count ≡ frames_of (rule_of stream) records
-    → CarriesOut came answer first (log_of stream records) sender count counted before now held rest → Answers script (rule_of stream) (λ (rs : List Record). HasSent sender counted rs) records first came before now held rest
+    → answer_to stream (log_of stream records) first ≡ answer → sender.stream ≡ stream → count ≡ frames_of stream records
+    → CarriesOut came answer first (log_of stream records) sender count counted before now held rest → Answers script (rule_of stream) (λ (rs : List Record). HasSent stream sender counted rs) records first came before now held rest
 answers_by converted.Whole (Makes frame) first stream sender records count counted before now held rest is same count_is does = (
   ap refusal_of is,
   sent_more (Makes frame) first stream sender records count counted is same count_is does.0 does.1.0,
@@ -78,12 +75,14 @@ answers_by converted.WriteFault MakesNone first stream sender records count coun
 answers_by converted.WriteFault (Refuses kind) first stream sender records count counted before now held rest is same count_is does = absurd does
 
 -- the answer to a record was carried out, behind the records that its sender was given before
-pub answers_record : (came : Converted ScriptKind) (given first : Record) (old sender : State) (records : List Record) (count counted : ℕ) (before now : Option (List ℕ)) (held rest : List ℕ)
-    → given ≡ first → HasSent old count records → sender.stream ≡ old.stream → ((log : List Call) → Stands old log → CarriesOut came (answer_to old.stream log first) first log sender count counted before now held rest)
-    → Answers script (rule_of old.stream) (λ (rs : List Record). HasSent sender counted rs) records given came before now held rest
-answers_record came given first old sender records count counted before now held rest is has same does =
-    subst (λ (r : Record). Answers script (rule_of old.stream) (λ (rs : List Record). HasSent sender counted rs) records r came before now held rest) (sym is)
-    (answers_by came (answer_to old.stream (log_of old.stream records) first) first old.stream sender records count counted before now held rest refl same has.counted (does (log_of old.stream records) has.stands))
+pub answers_record : (came : Converted ScriptKind) (given first : Record) (stream : Stream) (old sender : State) (records : List Record) (count counted : ℕ) (before now : Option (List ℕ)) (held rest : List ℕ)
+    → given ≡ first → HasSent stream old count records → sender.stream ≡ old.stream → ((log : List Call) → Stands old log → CarriesOut came (answer_to old.stream log first) first log sender count counted before now held rest)
+    → Answers script (rule_of stream) (λ (rs : List Record). HasSent stream sender counted rs) records given came before now held rest
+answers_record came given first stream old sender records count counted before now held rest is has same does =
+    let carries : CarriesOut came (answer_to stream (log_of stream records) first) first (log_of stream records) sender count counted before now held rest =
+    subst (λ (s : Stream). CarriesOut came (answer_to s (log_of stream records) first) first (log_of stream records) sender count counted before now held rest) has.of_stream (does (log_of stream records) has.stands) in
+    subst (λ (r : Record). Answers script (rule_of stream) (λ (rs : List Record). HasSent stream sender counted rs) records r came before now held rest) (sym is)
+    (answers_by came (answer_to stream (log_of stream records) first) first stream sender records count counted before now held rest refl (same ∙ has.of_stream) has.counted carries)
 
 -- ---- all records
 
@@ -126,17 +125,16 @@ pub so_far_is : (stream : Stream) (read : List ℕ) → made_so_far script Scrip
 so_far_is stream read = ap (with_text captures.head) (records_made stream Unread None (λ before. refl) 5 [] (outline_of script read).records)
 
 first_counted : (answer : Answer) (first : Record) (place : ℕ) (log : List Call) (others : List Call → Sending) (n : ℕ) → ((others (log_with answer first log)).refused ≡ None → n ≡ length (others (log_with answer first log)).sent)
-    → (sending_by answer first place log others).refused ≡ None → count_of (adds_by answer first) + n ≡ length (sending_by answer first place log others).sent
+    → (sending_by answer first place log others).refused ≡ None → frames_in answer + n ≡ length (sending_by answer first place log others).sent
 first_counted (Makes frame) first place log others n counts none = let same : n ≡ length (others (log ++ call_of first ∷ [])).sent = counts none in omega (arith, same)
 first_counted MakesNone first place log others n counts none = let same : n ≡ length (others log).sent = counts none in omega (arith, same)
 first_counted (Refuses kind) first place log others n counts none = absurd cc
 
--- where no record is refused, something is written of as many records as there are frames
-pub frames_counted : (stream : Stream) (end : Option (ℕ × ScriptKind)) (place : ℕ) (before records : List Record) → (sending_of stream end records place (log_of stream before)).refused ≡ None → frames_behind (rule_of stream) before records ≡ length (sending_of stream end records place (log_of stream before)).sent
-frames_counted stream end place before [] none = refl
-frames_counted stream end place before (first ∷ records) none =
-    let answer : Answer = answer_to stream (log_of stream before) first in
-    let others : List Call → Sending = sending_of stream end records (place + length (record_text first)) in
-    first_counted answer first place (log_of stream before) others (frames_behind (rule_of stream) (before ++ first ∷ []) records)
-    (λ whole. frames_counted stream end (place + length (record_text first)) (before ++ first ∷ []) records (ap (λ (log : List Call). (others log).refused) (log_more stream [] before first) ∙ whole) ∙ ap (λ (log : List Call). length (others log).sent) (log_more stream [] before first))
-    none
+-- where no record is refused, these are the frames that are sent
+pub frames_counted : (stream : Stream) (end : Option (ℕ × ScriptKind)) (place : ℕ) (log : List Call) (records : List Record) → (sending_of stream end records place log).refused ≡ None → frames_behind stream log records ≡ length (sending_of stream end records place log).sent
+frames_counted stream end place log [] none = refl
+frames_counted stream end place log (first ∷ records) none =
+    let answer : Answer = answer_to stream log first in
+    let after : List Call = log_with answer first log in
+    first_counted answer first place log (sending_of stream end records (place + length (record_text first))) (frames_behind stream after records)
+    (λ whole. frames_counted stream end (place + length (record_text first)) after records whole) none

@@ -2,6 +2,7 @@
 use Rattle.std.specs.Prelude.{◌≡◌, ℕ, ◌+◌, List, [], ◌∷◌, ◌++◌, Option, Some, None}
 use Rattle.tesla_capture.specs.Capture as captures
 use Rattle.tesla_capture.specs.Script.{Record, script}
+use Rattle.tesla_base.specs.declared.version.Version.TheVariants.{One}
 use Rattle.tesla_convert.specs.Rule.{Rule}
 use Rattle.tesla_frame.specs.Frame.{frame_text}
 use Rattle.tesla_sender.specs.Made.{Call, Stream}
@@ -51,21 +52,30 @@ rule_of stream = record {
   kind_of = script_kind_of;
 }
 
--- how many of these texts have bytes: one or none
-abbrev pub count_of : List ℕ → ℕ
-count_of [] = 0
-count_of (byte ∷ bytes) = 1
+-- how many frames a record makes
+abbrev pub frames_in : Answer → ℕ
+frames_in (Makes frame) = 1
+frames_in MakesNone = 0
+frames_in (Refuses kind) = 0
 
--- of how many of these records, behind some others, something is written
-abbrev pub frames_behind : Rule script ScriptKind → List Record → List Record → ℕ
-frames_behind rule before [] = 0
-frames_behind rule before (first ∷ records) = count_of (rule.adds before first) + frames_behind rule (before ++ first ∷ []) records
+-- how many frames these records make, behind the calls of a log
+abbrev pub frames_behind : Stream → List Call → List Record → ℕ
+frames_behind stream log [] = 0
+frames_behind stream log (first ∷ records) = frames_in (answer_to stream log first) + frames_behind stream (log_with (answer_to stream log first) first log) records
 
--- of how many of these records something is written
-abbrev pub frames_of : Rule script ScriptKind → List Record → ℕ
-frames_of rule records = frames_behind rule [] records
+-- how many frames these records make
+abbrev pub frames_of : Stream → List Record → ℕ
+frames_of stream records = frames_behind stream [] records
 
--- a sender was given these records, and so many frames were made
-pub record HasSent (sender : State) (frames : ℕ) (records : List Record) : Type 0 where
-  pub stands : Stands sender (log_of sender.stream records)
-  pub counted : frames ≡ frames_of (rule_of sender.stream) records
+-- a sender of the stream was given these records, and so many frames were made
+pub record HasSent (stream : Stream) (sender : State) (frames : ℕ) (records : List Record) : Type 0 where
+  pub of_stream : sender.stream ≡ stream
+  pub stands : Stands sender (log_of stream records)
+  pub counted : frames ≡ frames_of stream records
+
+-- a stream without a chain
+abbrev pub no_stream : Stream
+no_stream = record {
+  setup = record { version = One; stream = record { 0 = 0 }; times = record { start = 0; length = 0; last = 0 }; tag_length = 0; rows = [] };
+  seeds = [];
+}

@@ -1,5 +1,5 @@
 -- What the inner steps of the command send come to.
-use Rattle.std.specs.Prelude.{◌≡◌, ◌⊎◌, ◌+◌, ◌<◌, ℕ, suc, Option, Some, None, Result, Ok, Err, List, [], ◌∷◌, ◌++◌}
+use Rattle.std.specs.Prelude.{◌≡◌, ◌⊎◌, ◌+◌, ℕ, suc, Option, None, Result, Ok, Err, List, [], ◌∷◌, ◌++◌}
 use Rattle.tesla_capture.specs.Gathering.{Gathers}
 use Rattle.tesla_capture.specs.Script.{Record}
 use Rattle.tesla_commit.specs.Parts.{Parts}

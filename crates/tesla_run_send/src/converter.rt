@@ -6,13 +6,14 @@ ghost use Rattle.tesla_capture.specs.Gathering.{gathered, Gathers};
 ghost use Rattle.tesla_capture.specs.Script.{Discloses, Sends, script};
 ghost use Rattle.tesla_desk.specs.Faults.{HasCause};
 ghost use Rattle.tesla_desk.specs.Outside.{AppendsPrefix};
-ghost use Rattle.tesla_sender.specs.Made.{Call};
+ghost use Rattle.tesla_sender.specs.Made.{Call, Stream};
 ghost use Rattle.tesla_sender.specs.Stands.{Stands};
-ghost use Rattle.tesla_run_send.specs.Rule.{HasSent, frame_records, frames_of, rule_of};
+ghost use Rattle.tesla_run_send.specs.Rule.{HasSent, frame_records, frames_of, no_stream, rule_of};
 ghost use Rattle.tesla_run_send.specs.Script.{answer_to, message_kind};
 ghost use Rattle.tesla_run_send.specs.Steps.{CarriesOut, PutsFrame};
 
 use crate::ScriptKind;
+use std::marker::Brand;
 use std::sync::ledger::Ledger;
 use tesla_base::Steps;
 use tesla_capture::{Gatherer, RecordKind, RecordReader, RecordStep, ScriptFormat};
@@ -20,10 +21,20 @@ use tesla_convert::{Converted, Converter, TakenRecord};
 use tesla_desk::{Sink, Source};
 use tesla_sender::{DiscloseRefusal, SendRefusal, Sender};
 
+/// The ledger of a run of `send`. It names the stream of the sender too, so that what a conversion gives back at its end
+/// is known to be of the stream of its begin.
+pub trait SendLedger: Ledger {
+    ghost stream: { Stream };
+}
+
+impl SendLedger for Brand {
+    ghost stream = { no_stream };
+}
+
 /// Sends the records of a script: an arrival and a take are written for each frame. It owns the room for a frame, and
 /// the count of evaluations of HMAC.
 #[derive(Drop)]
-pub struct SendConverter<L: Ledger> {
+pub struct SendConverter<L: SendLedger> {
     sender: Sender,
     steps: Steps<L>,
     frame: [u8; 2048],
@@ -57,7 +68,7 @@ fn put_records<O: Sink>(gatherer: &mut Gatherer, reading: u64, frame: &[u8], out
     gatherer.put_take(out)
 }
 
-impl<L: Ledger> SendConverter<L> {
+impl<L: SendLedger> SendConverter<L> {
     /// With a sender that has accepted nothing yet.
     pub fn new(sender: Sender, steps: Steps<L>) -> SendConverter<L>
         ensures sender { result.sender ≡ sender }
@@ -153,18 +164,18 @@ impl<L: Ledger> SendConverter<L> {
     }
 }
 
-impl<L: Ledger> Converter for SendConverter<L> {
+impl<L: SendLedger> Converter for SendConverter<L> {
     type Input = ScriptFormat;
 
     type Kind = ScriptKind;
 
     ghost grammar = { script };
 
-    ghost rule = { λ c. rule_of c.sender.stream };
+    ghost rule = { λ c. rule_of L.stream };
 
-    ghost has = { λ c records. HasSent c.sender c.frames records };
+    ghost has = { λ c records. HasSent L.stream c.sender c.frames records };
 
-    ghost ended = { λ c records. c.frames ≡ frames_of (rule_of c.sender.stream) records };
+    ghost ended = { λ c records. c.frames ≡ frames_of L.stream records };
 
     ghost calls = { λ c. c.frames };
 

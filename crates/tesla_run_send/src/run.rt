@@ -13,7 +13,7 @@ ghost use Rattle.tesla_run_send.specs.Steps.{SendsFiles, SendsSeeded, SendsSetup
 
 use crate::ScriptKind;
 use crate::arguments::Arguments;
-use crate::converter::SendConverter;
+use crate::converter::{SendConverter, SendLedger};
 use crate::words::arguments_in;
 use std::alloc::Global;
 use std::marker::Brand;
@@ -85,7 +85,7 @@ fn send_seeded<D: Desk>(
 }
 
 // Does so with a ledger for its evaluations of HMAC.
-fn send_counted<L: Ledger, D: Desk>(
+fn send_counted<L: SendLedger, D: Desk>(
     alloc: Global,
     setup: Setup,
     seeds: &Seeds,
@@ -96,6 +96,7 @@ fn send_counted<L: Ledger, D: Desk>(
     requires name { blank.name ≡ L.name }
     requires parts { blank.parts ≡ L.parts }
     requires some { 0 < L.parts }
+    requires stream { L.stream ≡ record { setup = setup; seeds = seeds.now } }
     requires count { length seeds.now ≡ length setup.rows }
     ensures sends { SendsSeeded (record { setup = setup; seeds = seeds.now }) arguments.now.script.now arguments.now.out.now (D.told desk.old) (D.told desk.new) (came_of result) }
 {
@@ -128,13 +129,14 @@ fn sender_of<L: Ledger>(
 }
 
 // Opens the script and the output, and sends the script.
-fn send_files<L: Ledger, D: Desk>(
+fn send_files<L: SendLedger, D: Desk>(
     sender: Sender,
     steps: Steps<L>,
     arguments: &Arguments<'_>,
     desk: &mut D,
 ) -> Result<Lines, Stop>
-    requires { Stands sender [] }
+    requires stands { Stands sender [] }
+    requires stream { sender.stream ≡ L.stream }
     ensures { SendsFiles sender.stream arguments.now.script.now arguments.now.out.now (D.told desk.old) (D.told desk.new) (came_of result) }
 {
     match open_files(arguments.script, arguments.out, desk) {
@@ -148,13 +150,14 @@ fn send_files<L: Ledger, D: Desk>(
 }
 
 // Sends a script from a source to a sink, which are open.
-fn send_between<L: Ledger, S: Source, O: Sink>(
+fn send_between<L: SendLedger, S: Source, O: Sink>(
     sender: Sender,
     steps: Steps<L>,
     source: &mut S,
     out: &mut O,
 ) -> Result<Lines, Stop>
     requires stands { Stands sender [] }
+    requires stream { sender.stream ≡ L.stream }
     requires empty { IfSome (O.written out.old) (λ bytes. bytes ≡ []) }
     requires fresh { S.faults source.old ≡ 0 }
     requires sound { O.faults out.old ≡ 0 }
