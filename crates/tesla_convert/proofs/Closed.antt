@@ -3,6 +3,7 @@ use Rattle.std.proofs.Common.{◌≡◌, ◌∙◌, ◌≢◌, ◌⊎◌, inl, i
 use Rattle.std.proofs.lemmas.Bool.Decides.{nat_tests}
 use Rattle.tesla_desk.specs.Faults.{HasCause, HasCauseBeside, after_source}
 use Rattle.tesla_desk.specs.Outside.{Page, Untold, Absent, Holds, Told, Opened, OfSource, OfSink, page_of}
+use Rattle.tesla_desk.proofs.Told.{opened_holds}
 use Rattle.tesla_desk.proofs.Counts.{causes_as, causes_closed, causes_plain, causes_then}
 use Rattle.tesla_front.specs.Came.{Came, Done, Usage, Refused, Failed}
 use Rattle.tesla_front.specs.Files.{HoldsWhere, HasFailed}
@@ -19,12 +20,6 @@ opened_there Untold left opened = λ e. absurd cc
 opened_there Absent left opened = absurd opened
 opened_there (Holds bytes failed) left opened = λ e. absurd cc
 
--- where its bytes are told, all of them were left at first
-opened_left : (page : Page) (left : Option (List ℕ)) → Opened page left → (bytes : List ℕ) (failed : Bool) → page ≡ Holds bytes failed → left ≡ Some bytes
-opened_left Untold left opened bytes failed is = absurd cc
-opened_left Absent left opened bytes failed is = absurd opened
-opened_left (Holds held was) left opened bytes failed is = let same : held ≡ bytes = cc in opened ∙ ap Some same
-
 -- what is so of the bytes that were written is so of the page
 holds_page : {Fact : List ℕ → Type 0} (written : Option (List ℕ)) (count : ℕ) → ((done : List ℕ) → written ≡ Some done → Fact done) → HoldsWhere (page_of written count) Fact
 holds_page None count fact = tt
@@ -38,8 +33,8 @@ failed_page (Some done) count some = grind (arith, nat_tests, some)
 ends_page : (meaning : Meaning) (input : Page) (before written : Option (List ℕ)) (count : ℕ) (came : Came) → Opened input before → EndsBetween meaning before written came → ComesToEnd meaning input (page_of written count) came
 ends_page meaning input before written count came opened ends = record {
   there = opened_there input before opened;
-  end = λ bytes failed is. ends.end bytes (opened_left input before opened bytes failed is);
-  text = holds_page written count (λ done told bytes failed is. ends.text bytes done (opened_left input before opened bytes failed is) told);
+  end = λ bytes failed is. ends.end bytes (opened_holds input before bytes failed is opened);
+  text = holds_page written count (λ done told bytes failed is. ends.text bytes done (opened_holds input before bytes failed is opened) told);
 }
 
 some_or_failed : {Whole Front : Type 0} (written : Option (List ℕ)) (count : ℕ) → Whole ⊎ ((0 < count) × Front) → Whole ⊎ (HasFailed (page_of written count) × Front)
@@ -50,7 +45,7 @@ stops_page : (meaning : Meaning) (input : Page) (before left written : Option (L
 stops_page meaning input before left written count opened stops = record {
   there = opened_there input before opened;
   stops = λ bytes failed is.
-    let (read, rest, left_is, parts, none, text) = stops bytes (opened_left input before opened bytes failed is) in
+    let (read, rest, left_is, parts, none, text) = stops bytes (opened_holds input before bytes failed is opened) in
     (read, rest, left_is, parts, none, holds_page written count (λ done told. some_or_failed written count (text done told)));
 }
 
@@ -65,13 +60,13 @@ converts_pages meaning input old before left written count Usage opened between 
 converts_pages meaning input old before left written count (Refused status line) opened between = ends_page meaning input before written count (Refused status line) opened between
 converts_pages meaning input old before left written count (Failed faults.Write) opened between = record {
   there = opened_there input before opened;
-  prefix = holds_page written count (λ done told bytes failed is. between.1 bytes done (opened_left input before opened bytes failed is) told);
+  prefix = holds_page written count (λ done told bytes failed is. between.1 bytes done (opened_holds input before bytes failed is opened) told);
   failed = failed_page written count between.0;
 }
 converts_pages meaning input old before left written count (Failed faults.Read) opened between = stops_page meaning input before left written count opened between
 converts_pages meaning input old before left written count (Failed faults.NoMemory) opened between = inr (record {
   there = opened_there input before opened;
-  unread = λ bytes failed is. between.0 ∙ opened_left input before opened bytes failed is;
+  unread = λ bytes failed is. between.0 ∙ opened_holds input before bytes failed is opened;
   nothing = holds_page written count (λ done told. nothing_told written done between.1 told);
 })
 converts_pages meaning input old before left written count (Failed faults.Open) opened between = absurd between
