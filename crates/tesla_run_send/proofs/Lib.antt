@@ -1,0 +1,7 @@
+mod FiveWords
+mod Frames
+mod Scripts
+mod Meanings
+mod Commands
+mod Runs
+mod Complete
