@@ -54,12 +54,7 @@ const FORMS: [FormText; 2] = [
 
 // Tells a console, of which one write may fail and which takes so many bytes, what a run came to: the status, a space
 // and what the console holds then.
-fn told(
-    alloc: Global,
-    came: Outcome,
-    failing: Option<u64>,
-    room: usize,
-) -> Result<String, Fail> {
+fn told(alloc: Global, came: Outcome, failing: Option<u64>, room: usize) -> Result<String, Fail> {
     let mut desk = MemoryDesk::new(alloc, room)?;
     if let Some(call) = failing {
         desk.fail_call(CONSOLE, call)?;
