@@ -7,7 +7,7 @@ use Rattle.tesla_run_send.specs.Usage as sends
 
 -- the words of each form, in the order in which they are told
 abbrev pub forms : List (List ℕ)
-forms = replays.usage ∷ chains.usages ++ sends.usage ∷ []
+forms = replays.usages ++ chains.usages ++ sends.usage ∷ []
 
 abbrev pub usage : List ℕ
 usage = flat_map usage_line forms

@@ -19,7 +19,8 @@ use std::alloc::Global;
 use std::marker::Brand;
 use std::sync::ledger::{Blank, Ledger};
 use tesla_base::{Kind, Steps};
-use tesla_commit::{Seeds, Setup};
+use tesla_commit::Setup;
+use tesla_seeds::Seeds;
 use tesla_convert::{Conversion, Ending, Stopped, close_files, open_files};
 use tesla_desk::{Desk, Sink, Source};
 use tesla_front::{
