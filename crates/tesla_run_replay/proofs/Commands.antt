@@ -1,5 +1,5 @@
 -- A run of any command, from its steps.
-use Rattle.std.proofs.Common.{◌≡◌, ◌∙◌, ℕ, Option, Some, None, Result, Ok, Err, List, refl, sym, ap, subst}
+use Rattle.std.proofs.Common.{◌≡◌, ◌∙◌, ℕ, Option, Some, None, Result, Err, List, refl, sym, ap, subst}
 use Rattle.std.specs.Option.{option_map}
 use Rattle.tesla_desk.specs.Faults.{Faults, HasCausesBeside}
 use Rattle.tesla_desk.specs.Outside.{Told}

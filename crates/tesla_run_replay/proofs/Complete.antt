@@ -1,6 +1,5 @@
 -- A replay comes to its end where its setup and its capture are taken and nothing fails.
 use Rattle.std.proofs.Common.{◌≡◌, ◌∙◌, ◌⊎◌, inl, inr, ℕ, Bool, Option, Some, None, Result, Ok, Err, List, [], ◌∷◌, refl, sym, ap, subst}
-use Rattle.tesla_capture.specs.Names.{kind_name}
 use Rattle.tesla_capture.specs.Outline.{outline_of}
 use Rattle.tesla_capture.specs.declared.record.RecordKind.{RecordKind}
 use Rattle.tesla_commit.specs.Parsing.{judged}
@@ -20,7 +19,7 @@ use Rattle.tesla_receiver.specs.Report.{report_of}
 use Rattle.tesla_receiver.specs.declared.history.Entry.{Entry}
 use Rattle.tesla_convert.specs.Meaning.{Converts}
 use Rattle.tesla_run_replay.specs.Arguments.{ReplayArguments}
-use Rattle.tesla_run_replay.specs.Replay.{DoesReplay, config_of, end_by, end_of, history_of, meaning, replay}
+use Rattle.tesla_run_replay.specs.Replay.{DoesReplay, config_of, end_by, history_of, meaning, replay}
 use Rattle.tesla_run_replay.specs.ReportText.{report_text}
 use Rattle.tesla_run_replay.proofs.Commands.{memory_alone}
 

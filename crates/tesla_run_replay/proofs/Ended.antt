@@ -1,11 +1,10 @@
 -- What the conversion of a capture comes to, told how it ended.
-use Rattle.std.proofs.Common.{◌≡◌, ◌∙◌, inl, inr, ◌<◌, ◌⊎◌, ℕ, Bool, true, Option, Some, None, is_none, Result, Ok, Err, List, [], ◌++◌, refl, sym, ap, subst, append-nil}
+use Rattle.std.proofs.Common.{◌≡◌, ◌∙◌, inl, inr, ◌<◌, ◌⊎◌, ℕ, true, Option, Some, None, is_none, Result, Ok, Err, List, [], refl, sym, ap, subst, append-nil}
 use Rattle.tesla_capture.specs.Capture.{Record, capture}
-use Rattle.tesla_capture.specs.Names.{kind_name}
 use Rattle.tesla_capture.specs.Outline.{outline_of}
 use Rattle.tesla_capture.specs.declared.record.RecordKind.{RecordKind}
 use Rattle.tesla_fitting.specs.declared.config.Config.{Config}
-use Rattle.tesla_front.specs.Came.{Came, Done, Refused, Failed}
+use Rattle.tesla_front.specs.Came.{Came, Done, Failed}
 use Rattle.tesla_front.specs.Files.{IsPrefix}
 use Rattle.tesla_front.specs.declared.fault.Fault.TheVariants as faults
 use Rattle.tesla_receiver.specs.History.{Event}
@@ -15,14 +14,13 @@ use Rattle.tesla_receiver.specs.Stands.{Stands}
 use Rattle.tesla_receiver.specs.Report.{report_of}
 use Rattle.tesla_convert.specs.Held.{HoldsText, HoldsPrefix}
 use Rattle.tesla_convert.specs.Meaning.{ConvertsBetween}
-use Rattle.tesla_convert.specs.Rule.{made, made_so_far}
 use Rattle.tesla_convert.specs.Steps.{Converts}
 use Rattle.tesla_convert.specs.declared.conversion.Ending.{Ending}
 use Rattle.tesla_convert.specs.declared.conversion.Ending.TheVariants as endings
 use Rattle.tesla_convert.specs.declared.conversion.Stopped.{Stopped}
 use Rattle.tesla_convert.specs.declared.conversion.Stopped.TheVariants.{Read, Write}
 use Rattle.tesla_run_replay.specs.Playing.{EventRule, events_in, record_rule, rule_of, with_end}
-use Rattle.tesla_run_replay.specs.Replay.{end_by, end_of, history_of, meaning, out_text, text_so_far}
+use Rattle.tesla_run_replay.specs.Replay.{end_by, end_of, history_of, meaning}
 use Rattle.tesla_run_replay.specs.ReportText.{report_text}
 use Rattle.tesla_run_replay.specs.Steps.{TellsEnd}
 use Rattle.tesla_run_replay.specs.declared.target.ReceiverTarget.{ReceiverTarget}

@@ -9,9 +9,9 @@ use Rattle.tesla_receiver.specs.History.{Event}
 use Rattle.tesla_receiver.specs.Played.{event_in, played}
 use Rattle.tesla_receiver.proofs.EachAfter.{each_after-append}
 use Rattle.tesla_state.specs.Releases.{each_after}
-use Rattle.tesla_convert.specs.Rule.{Behind, Ends, Made, RefusedAt, Unread, behind_of, made, made_behind, made_of, made_so_far, with_text}
-use Rattle.tesla_run_replay.specs.Playing.{EventRule, end_after, events_in, events_text, record_rule, rule_of, with_end}
-use Rattle.tesla_run_replay.specs.Replay.{out_text, text_by, history_of, text_so_far}
+use Rattle.tesla_convert.specs.Rule.{Behind, Made, Unread, behind_of, made, made_behind, made_of, made_so_far, with_text}
+use Rattle.tesla_run_replay.specs.Playing.{EventRule, end_after, events_in, events_text, record_rule, rule_of}
+use Rattle.tesla_run_replay.specs.Replay.{out_text, text_by, text_so_far}
 use Rattle.tesla_run_replay.proofs.Histories.{ended_text, records_text}
 
 -- one record more is one event more

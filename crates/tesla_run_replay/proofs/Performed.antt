@@ -1,5 +1,5 @@
 -- What a replay did, told what became of its setup, and then of the capture and the output.
-use Rattle.std.proofs.Common.{◌≡◌, inl, inr, ℕ, suc, Option, Result, Ok, Err, List, [], ◌∷◌, subst}
+use Rattle.std.proofs.Common.{◌≡◌, inl, inr, ℕ, suc, Option, Ok, Err, List, [], ◌∷◌, subst}
 use Rattle.tesla_commit.specs.Parts.{Parts}
 use Rattle.tesla_desk.specs.Outside.{Page, Told, OfSource, OfSink}
 use Rattle.tesla_desk.proofs.Counts.{causes_none, causes_then}

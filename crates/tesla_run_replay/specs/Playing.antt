@@ -1,5 +1,5 @@
 -- The events that the records of a capture play, one after another, and what is written of each.
-use Rattle.std.specs.Prelude.{ℕ, suc, Option, None, List, [], ◌∷◌, ◌++◌, map, replicate}
+use Rattle.std.specs.Prelude.{ℕ, suc, None, List, [], ◌∷◌, ◌++◌, map, replicate}
 use Rattle.tesla_capture.specs.Capture.{Record, capture}
 use Rattle.tesla_capture.specs.declared.record.RecordKind.{RecordKind}
 use Rattle.tesla_fitting.specs.declared.config.Config.{Config}

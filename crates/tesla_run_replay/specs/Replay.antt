@@ -1,5 +1,5 @@
 -- What the command replay does.
-use Rattle.std.specs.Prelude.{◌≡◌, ◌⊎◌, ℕ, is_none, Option, Some, None, false, List, [], ◌∷◌, codes}
+use Rattle.std.specs.Prelude.{◌⊎◌, ℕ, is_none, Option, Some, None, false, List, [], ◌∷◌, codes}
 use Rattle.tesla_capture.specs.Capture.{capture}
 use Rattle.tesla_capture.specs.Names.{kind_name}
 use Rattle.tesla_capture.specs.Outline.{outline_of}

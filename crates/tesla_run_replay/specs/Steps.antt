@@ -1,5 +1,5 @@
 -- What the inner steps of a replay come to.
-use Rattle.std.specs.Prelude.{◌≡◌, ◌<◌, ℕ, Option, Result, Ok, Err, List, codes}
+use Rattle.std.specs.Prelude.{◌≡◌, ℕ, Result, Ok, Err, List, codes}
 use Rattle.tesla_capture.specs.Capture.{Record}
 use Rattle.tesla_capture.specs.Names.{kind_name}
 use Rattle.tesla_capture.specs.declared.record.RecordKind.{RecordKind}

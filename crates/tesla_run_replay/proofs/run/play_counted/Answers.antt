@@ -11,16 +11,17 @@ use Rattle.tesla_run_replay.proofs.run.play_counted.Goals as goal
 pub returns-clause-plays : goal.returns-clause-plays
 returns-clause-plays g c =
     let target = c.convert-converter.result.0.target in
-    ends_between c.args.receiver.config (rule_of target.receiver.config) (λ es. Stands target.receiver (after_events target.receiver.config [] es)) _ _ _ _
-    g.L.ReplayLedger.rule c.convert-converter.result.1 (came_of c.told.result) c.requires.rule c.convert-converter.ensures.converts (tells_same c.convert-converter.result.1 (came_of c.told.result) target c.target.result.now c.target.ensures c.told.ensures) (λ e. rose_some 0 _ refl (c.convert-converter.ensures.writes.rose e))
+    ends_between c.args.receiver.config (rule_of target.receiver.config) (λ es. Stands target.receiver (after_events target.receiver.config [] es))
+    (g.S.Source.left c.args.source.now) (g.S.Source.left c.convert-converter.new.source) (g.O.Sink.written c.convert-converter.new.out) (g.O.Sink.faults c.convert-converter.new.out)
+    g.L.ReplayLedger.rule c.convert-converter.result.1 (came_of c.told.result) c.requires.rule c.convert-converter.ensures.converts (tells_same c.convert-converter.result.1 (came_of c.told.result) target c.target.result.now c.target.ensures c.told.ensures) (λ e. rose_some 0 (g.O.Sink.faults c.convert-converter.new.out) refl (c.convert-converter.ensures.writes.rose e))
 
 pub returns-clause-reads : goal.returns-clause-reads
 returns-clause-reads g c =
     let came = came_of c.told.result in
-    cause_as 0 _ c.convert-converter.ensures.reads (read_from c.target.result.now came c.convert-converter.result.1 c.told.ensures) (read_to c.target.result.now came c.convert-converter.result.1 c.told.ensures)
+    cause_as 0 (g.S.Source.faults c.convert-converter.new.source) c.convert-converter.ensures.reads (read_from c.target.result.now came c.convert-converter.result.1 c.told.ensures) (read_to c.target.result.now came c.convert-converter.result.1 c.told.ensures)
 
 pub returns-clause-writes : goal.returns-clause-writes
 returns-clause-writes g c =
     let came = came_of c.told.result in
-    cause_beside_as 0 _ c.convert-converter.ensures.writes (λ hidden. (read_to c.target.result.now came c.convert-converter.result.1 c.told.ensures hidden.0, hidden.1))
+    cause_beside_as 0 (g.O.Sink.faults c.convert-converter.new.out) c.convert-converter.ensures.writes (λ hidden. (read_to c.target.result.now came c.convert-converter.result.1 c.told.ensures hidden.0, hidden.1))
     (write_from c.target.result.now came c.convert-converter.result.1 c.told.ensures) (write_to c.target.result.now came c.convert-converter.result.1 c.told.ensures)
