@@ -2,7 +2,7 @@
 use Rattle.std.proofs.Common.{◌≡◌, ◌∙◌, ◌⊎◌, inl, inr, ℕ, Bool, Result, Ok, Err, List, [], ◌∷◌, length, refl, sym, ap, subst}
 use Rattle.tesla_base.specs.declared.names.Key.{Key}
 use Rattle.tesla_commit.specs.Parts.{Parts}
-use Rattle.tesla_commit.specs.declared.seeds.refusal.SeedsKind.{SeedsKind}
+use Rattle.tesla_seeds.specs.declared.refusal.SeedsKind.{SeedsKind}
 use Rattle.tesla_desk.specs.Faults.{Faults, HasCausesBeside}
 use Rattle.tesla_desk.specs.Outside.{Page, Holds, Told}
 use Rattle.tesla_desk.proofs.Counts.{not_rose}

@@ -1,0 +1,9 @@
+pub mod Histories
+pub mod Made
+pub mod Takes
+pub mod Targets
+pub mod Ended
+pub mod Commands
+pub mod Performed
+pub mod Complete
+pub mod SixWords

@@ -1,0 +1,60 @@
+-- What is made of a capture by the rule of a target, and of one by that of a receiver.
+use Rattle.std.proofs.Common.{◌≡◌, ◌∙◌, ℕ, ◌+◌, Option, Some, None, is_none, List, [], ◌∷◌, ◌++◌, length, refl, sym, ap, append_assoc, append-nil}
+use Rattle.std.proofs.lemmas.List.{map-append}
+use Rattle.tesla_capture.specs.Capture.{Record, capture, record_text}
+use Rattle.tesla_capture.specs.Outline.{outline_of}
+use Rattle.tesla_capture.specs.declared.record.RecordKind.{RecordKind}
+use Rattle.tesla_fitting.specs.declared.config.Config.{Config}
+use Rattle.tesla_receiver.specs.History.{Event}
+use Rattle.tesla_receiver.specs.Played.{event_in, played}
+use Rattle.tesla_receiver.proofs.EachAfter.{each_after-append}
+use Rattle.tesla_state.specs.Releases.{each_after}
+use Rattle.tesla_convert.specs.Rule.{Behind, Ends, Made, RefusedAt, Unread, behind_of, made, made_behind, made_of, made_so_far, with_text}
+use Rattle.tesla_run_replay.specs.Playing.{EventRule, end_after, events_in, events_text, record_rule, rule_of, with_end}
+use Rattle.tesla_run_replay.specs.Replay.{out_text, text_by, history_of, text_so_far}
+use Rattle.tesla_run_replay.proofs.Histories.{ended_text, records_text}
+
+-- one record more is one event more
+pub one_event : (records : List Record) (first : Record) → events_in (records ++ first ∷ []) ≡ events_in records ++ event_in first ∷ []
+one_event records first = map-append event_in records (first ∷ [])
+
+text_twice : (a b : List ℕ) (m : Made RecordKind) → with_text a (with_text b m) ≡ with_text (a ++ b) m
+text_twice a b m = ap (λ (t : List ℕ). let it : Made RecordKind = record { text = t; refused = m.refused } in it) (sym (append_assoc a b m.text))
+
+-- no record is refused, so what is made of records is what their events write, and what stands behind them
+made_all : (rule : EventRule) (behind : Behind RecordKind) (place : ℕ) (before records : List Record)
+    → made_of capture RecordKind (record_rule rule) behind place before records ≡ with_text (each_after rule.adds (events_in before) (events_in records)) (made_behind capture RecordKind (record_rule rule) behind (before ++ records))
+made_all rule behind place before [] = ap (made_behind capture RecordKind (record_rule rule) behind) (sym (append-nil before))
+made_all rule behind place before (first ∷ records) =
+    ap (with_text (rule.adds (events_in before) (event_in first))) (made_all rule behind (place + length (record_text first)) (before ++ first ∷ []) records
+    ∙ ap (λ (es : List Event). with_text (each_after rule.adds es (events_in records)) (made_behind capture RecordKind (record_rule rule) behind ((before ++ first ∷ []) ++ records))) (one_event before first)
+    ∙ ap (λ (rs : List Record). with_text (each_after rule.adds (events_in before ++ event_in first ∷ []) (events_in records)) (made_behind capture RecordKind (record_rule rule) behind rs)) (append_assoc before (first ∷ []) records))
+    ∙ text_twice (rule.adds (events_in before) (event_in first)) (each_after rule.adds (events_in before ++ event_in first ∷ []) (events_in records)) (made_behind capture RecordKind (record_rule rule) behind (before ++ first ∷ records))
+
+behind_fault : (rule : EventRule) (fault : Option (ℕ × RecordKind)) (records : List Record) → (made_behind capture RecordKind (record_rule rule) (behind_of capture RecordKind (record_rule rule) fault) records).refused ≡ fault
+behind_fault rule None records = refl
+behind_fault rule (Some fault) records = refl
+
+-- the first place that is refused is that of the file
+pub refused_is : (rule : EventRule) (bytes : List ℕ) → (made capture RecordKind (record_rule rule) bytes).refused ≡ (outline_of bytes).fault
+refused_is rule bytes =
+    ap (λ (m : Made RecordKind). m.refused) (made_all rule (behind_of capture RecordKind (record_rule rule) (outline_of bytes).fault) 5 [] (outline_of bytes).records)
+    ∙ behind_fault rule (outline_of bytes).fault (outline_of bytes).records
+
+text_behind : (cfg : Config) (fault : Option (ℕ × RecordKind)) (records : List Record)
+    → events_text (rule_of cfg) (events_in records) ++ (made_behind capture RecordKind (record_rule (rule_of cfg)) (behind_of capture RecordKind (record_rule (rule_of cfg)) fault) records).text ≡ text_by fault cfg (played cfg records (is_none fault))
+text_behind cfg None records =
+    sym (each_after-append (rule_of cfg).adds [] (events_in records) (end_after (rule_of cfg) (events_in records))) ∙ ended_text cfg records
+text_behind cfg (Some fault) records = append-nil (events_text (rule_of cfg) (events_in records)) ∙ records_text cfg records
+
+-- what a receiver makes of a file is its text
+pub text_is : (cfg : Config) (bytes : List ℕ) → (made capture RecordKind (record_rule (rule_of cfg)) bytes).text ≡ out_text cfg bytes
+text_is cfg bytes =
+    ap (λ (m : Made RecordKind). m.text) (made_all (rule_of cfg) (behind_of capture RecordKind (record_rule (rule_of cfg)) (outline_of bytes).fault) 5 [] (outline_of bytes).records)
+    ∙ text_behind cfg (outline_of bytes).fault (outline_of bytes).records
+
+-- what it makes of the first bytes of a file is their text
+pub so_far_is : (cfg : Config) (read : List ℕ) → (made_so_far capture RecordKind (record_rule (rule_of cfg)) read).text ≡ text_so_far cfg read
+so_far_is cfg read =
+    ap (λ (m : Made RecordKind). m.text) (made_all (rule_of cfg) Unread 5 [] (outline_of read).records)
+    ∙ append-nil (events_text (rule_of cfg) (events_in (outline_of read).records)) ∙ records_text cfg (outline_of read).records

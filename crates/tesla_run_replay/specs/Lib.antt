@@ -1,0 +1,6 @@
+pub mod Replay
+pub mod Arguments
+pub mod Usage
+pub mod ReportText
+pub mod Playing
+pub mod Steps

@@ -1,0 +1,62 @@
+-- The events that the records of a capture play, one after another, and what is written of each.
+use Rattle.std.specs.Prelude.{ℕ, suc, Option, None, List, [], ◌∷◌, ◌++◌, map, replicate}
+use Rattle.tesla_capture.specs.Capture.{Record, capture}
+use Rattle.tesla_capture.specs.declared.record.RecordKind.{RecordKind}
+use Rattle.tesla_fitting.specs.declared.config.Config.{Config}
+use Rattle.tesla_receiver.specs.History.{Event, Arrives, Takes, Ends, entry_of}
+use Rattle.tesla_receiver.specs.Played.{after_events, event_in, waiting_in}
+use Rattle.tesla_receiver.specs.Report.{record_in, report_of}
+use Rattle.tesla_state.specs.Releases.{each_after}
+use Rattle.tesla_convert.specs.Rule.{Rule}
+use Rattle.tesla_run_replay.specs.ReportText.{report_text}
+use Rattle.tesla_run_replay.specs.declared.target.PlayedEvent.{PlayedEvent}
+use Rattle.tesla_run_replay.specs.declared.target.PlayedEvent.TheVariants as played
+
+-- what a target writes of an event after those before it, and after some events how many packets wait and which lines tell what was played
+pub record EventRule : Type 0 where
+  pub adds : List Event → Event → List ℕ
+  pub waiting : List Event → ℕ
+  pub tells : List Event → List ℕ
+
+-- nothing is written or told
+abbrev pub silent : EventRule
+silent = record { adds = λ events event. []; waiting = λ events. 0; tells = λ events. [] }
+
+-- the event of ingest 0 or releaser 0
+abbrev pub event_of : PlayedEvent → Event
+event_of (played.Arrival reading datagram) = Arrives 0 reading datagram.now
+event_of played.Take = Takes 0
+event_of played.End = Ends 0
+
+-- the events of a capture's records
+abbrev pub events_in : List Record → List Event
+events_in records = map event_in records
+
+-- the end of the ingest, and a take for each packet that waits, and one more
+abbrev pub end_after : EventRule → List Event → List Event
+end_after rule events = Ends 0 ∷ replicate (suc (rule.waiting events)) (Takes 0)
+
+abbrev pub with_end : EventRule → List Event → List Event
+with_end rule events = events ++ end_after rule events
+
+-- what is written of events, from the first on
+abbrev pub events_text : EventRule → List Event → List ℕ
+events_text rule events = each_after rule.adds [] events
+
+-- what is written of each record of a capture by such a rule, and of its end: no record is refused
+abbrev pub record_rule : EventRule → Rule capture RecordKind
+record_rule rule = record {
+  begins = [];
+  refuses = λ before first. None;
+  adds = λ before first. rule.adds (events_in before) (event_in first);
+  ends = λ before. each_after rule.adds (events_in before) (end_after rule (events_in before));
+  kind_of = λ kind. kind;
+}
+
+-- what a receiver of that configuration writes, the records of what its takes give, and tells, its report
+abbrev pub rule_of : Config → EventRule
+rule_of cfg = record {
+  adds = λ events event. record_in 0 (entry_of cfg (after_events cfg [] events) event);
+  waiting = λ events. waiting_in cfg (after_events cfg [] events);
+  tells = λ events. report_text (report_of (after_events cfg [] events));
+}

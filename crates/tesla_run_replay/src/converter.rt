@@ -1,0 +1,164 @@
+//! A capture that is played to a target, as the conversion of its records.
+
+ghost use Rattle.std.specs.Prelude.{◌≡◌, ◌+◌, ◌^◌, ◌<◌, ◌++◌, ℕ, List, true, false, replicate};
+ghost use Rattle.tesla_capture.specs.Capture.{capture};
+ghost use Rattle.tesla_capture.specs.Gathering.{gathered, Gathers};
+ghost use Rattle.tesla_desk.specs.Faults.{HasCause};
+ghost use Rattle.tesla_desk.specs.Outside.{AppendsPrefix};
+ghost use Rattle.tesla_convert.specs.Records.{record_of};
+ghost use Rattle.tesla_receiver.specs.History.{Event, Takes};
+ghost use Rattle.tesla_receiver.specs.Played.{event_in};
+ghost use Rattle.tesla_state.specs.Releases.{each_after};
+ghost use Rattle.tesla_run_replay.specs.Playing.{EventRule, event_of, silent};
+
+use crate::target::{PlayedEvent, Target};
+use std::marker::Brand;
+use std::sync::ledger::Ledger;
+use tesla_base::Steps;
+use tesla_capture::{CaptureFormat, Gatherer, RecordKind, RecordReader, RecordStep};
+use tesla_convert::{Converted, Converter, TakenRecord};
+use tesla_desk::{Sink, Source};
+
+/// The ledger of a replay. It names the rule of the target too, so that what a conversion gives back at its end is known
+/// to have kept the rule of its begin.
+pub trait ReplayLedger: Ledger {
+    ghost rule: { EventRule };
+}
+
+impl ReplayLedger for Brand {
+    ghost rule = { silent };
+}
+
+/// Plays the records of a capture to a target. It counts the evaluations of HMAC.
+#[derive(Drop)]
+pub struct ReplayConverter<L: ReplayLedger, T> {
+    target: T,
+    steps: Steps<L>,
+}
+
+// The event that a record plays.
+fn event_for(taken: TakenRecord<'_>) -> PlayedEvent<'_>
+    ensures { event_of result ≡ event_in (record_of capture taken.entry) }
+{
+    match taken {
+        TakenRecord::Carrying { reading, bytes } => PlayedEvent::Arrival {
+            reading,
+            datagram: bytes,
+        },
+        TakenRecord::Bare { reading: _ } => PlayedEvent::Take,
+    }
+}
+
+// Takes so many times. False: a write failed.
+fn take_times<L: Ledger, T: Target, O: Sink>(
+    target: &mut T,
+    times: u64,
+    steps: &mut Steps<L>,
+    gatherer: &mut Gatherer,
+    out: &mut O,
+) -> bool
+    requires { T.calls target.old + times < 2 ^ 64 }
+    ensures rule { T.rule target.new ≡ T.rule target.old }
+    ensures has { result ≡ true → (es : List Event) → T.has target.old es → T.has target.new (es ++ replicate times (Takes 0)) }
+    ensures writes { result ≡ true → (es : List Event) → T.has target.old es →
+        Gathers (O.written out.old) (O.written out.new) (gathered gatherer.new) (gathered gatherer.old ++ each_after (T.rule target.old).adds es (replicate times (Takes 0))) }
+    ensures halts { result ≡ false → (es : List Event) → T.has target.old es →
+        AppendsPrefix (O.written out.old) (O.written out.new) (gathered gatherer.old ++ each_after (T.rule target.old).adds es (replicate times (Takes 0))) }
+    ensures cause { HasCause (O.faults out.old) (O.faults out.new) (result ≡ false) }
+    ensures name { O.name out.new ≡ O.name out.old }
+{
+    for _ in 0..times {
+        if !target.play(PlayedEvent::Take, steps, gatherer, out) {
+            return false;
+        }
+    }
+    true
+}
+
+impl<L: ReplayLedger, T: Target> ReplayConverter<L, T> {
+    /// A converter that plays to this target.
+    pub fn new(target: T, steps: Steps<L>) -> ReplayConverter<L, T>
+        ensures { result.target ≡ target }
+    {
+        ReplayConverter { target, steps }
+    }
+
+    /// The target.
+    pub fn target(&self) -> &T
+        ensures { result.now ≡ self.now.target }
+    {
+        &self.target
+    }
+}
+
+impl<L: ReplayLedger, T: Target> Converter for ReplayConverter<L, T> {
+    ghost use Rattle.std.specs.Prelude.{◌≡◌};
+    ghost use Rattle.tesla_capture.specs.Capture.{capture};
+    ghost use Rattle.tesla_capture.specs.Formats.{capture_is};
+    ghost use Rattle.tesla_run_replay.specs.Playing.{events_in, record_rule, with_end};
+
+    type Input = CaptureFormat;
+
+    type Kind = RecordKind;
+
+    ghost grammar = { capture };
+
+    ghost rule = { λ c. record_rule L.rule };
+
+    ghost has = { λ c records. (T.rule c.target ≡ L.rule) × T.has c.target (events_in records) };
+
+    ghost ended = { λ c records. (T.rule c.target ≡ L.rule) × T.has c.target (with_end L.rule (events_in records)) };
+
+    ghost calls = { λ c. T.calls c.target };
+
+    fn next<S: Source>(
+        reader: &mut RecordReader<CaptureFormat>,
+        source: &mut S,
+        room: &mut [u8; 2048],
+    ) -> RecordStep {
+        reader.next_record(source, room)
+    }
+
+    fn kind_of(&self, kind: RecordKind) -> RecordKind {
+        kind
+    }
+
+    fn begin<O: Sink>(&mut self, gatherer: &mut Gatherer, out: &mut O) -> bool {
+        let _ = &gatherer;
+        let _ = &out;
+        true
+    }
+
+    fn convert<O: Sink>(
+        &mut self,
+        taken: TakenRecord<'_>,
+        gatherer: &mut Gatherer,
+        out: &mut O,
+    ) -> Converted<RecordKind> {
+        let event = event_for(taken);
+        if self.target.play(event, &mut self.steps, gatherer, out) {
+            Converted::Whole
+        } else {
+            Converted::WriteFault
+        }
+    }
+
+    fn finish<O: Sink>(&mut self, gatherer: &mut Gatherer, out: &mut O) -> bool {
+        let waiting = self.target.waiting();
+        if !self
+            .target
+            .play(PlayedEvent::End, &mut self.steps, gatherer, out)
+        {
+            return false;
+        }
+        take_times(
+            &mut self.target,
+            waiting + 1,
+            &mut self.steps,
+            gatherer,
+            out,
+        )
+    }
+
+    ghost is = { capture_is };
+}

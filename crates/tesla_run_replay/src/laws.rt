@@ -1,0 +1,37 @@
+//! Laws about the command, as contracts of functions that do nothing else.
+
+ghost use Rattle.std.specs.Prelude.{◌≡◌, ◌⊎◌, ℕ, List, Bool, None, Ok, map};
+ghost use Rattle.tesla_capture.specs.Outline.{outline_of};
+ghost use Rattle.tesla_commit.specs.Parsing.{judged};
+ghost use Rattle.tesla_commit.specs.Parts.{Parts};
+ghost use Rattle.tesla_desk.specs.Outside.{Told, Holds};
+ghost use Rattle.tesla_front.specs.Came.{Came, Done, Failed};
+ghost use Rattle.tesla_front.specs.Command.{Performs};
+ghost use Rattle.tesla_front.specs.Run.{NothingFailed};
+ghost use Rattle.tesla_front.specs.declared.fault.Fault.TheVariants as faults;
+ghost use Rattle.tesla_receiver.specs.Report.{report_of};
+ghost use Rattle.tesla_run_replay.specs.Arguments.{ReplayArguments};
+ghost use Rattle.tesla_run_replay.specs.Replay.{config_of, history_of, replay};
+ghost use Rattle.tesla_run_replay.specs.ReportText.{report_text};
+ghost use Rattle.tesla_run_replay.specs.Usage.{usages};
+
+use crate::REPLAY;
+use tesla_front::FormText;
+
+/// The forms of the command, in the order in which they are told: their words are those of the usage lines.
+pub fn forms() -> [FormText; 1]
+    ensures { map (λ form. form.words.now) result ≡ usages }
+{
+    [REPLAY]
+}
+
+/// A replay comes to its end. Where the desk tells a setup and a capture, and no count of faults rose, it comes to the
+/// report of the one history that the capture plays, or to want of memory.
+pub fn completeness()
+    ensures { (arguments : ReplayArguments) (old new : Told) (came : Came) (text bytes : List ℕ) (failed other : Bool) (setup : Parts) →
+        Performs replay arguments old new came →
+        old.page arguments.setup ≡ Holds text failed → judged text ≡ Ok setup →
+        old.page arguments.capture ≡ Holds bytes other → (outline_of bytes).fault ≡ None →
+        NothingFailed old.faults new.faults →
+        (came ≡ Done (report_text (report_of (history_of (config_of arguments setup) bytes)))) ⊎ (came ≡ Failed faults.NoMemory) }
+{}

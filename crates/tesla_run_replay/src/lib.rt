@@ -1,0 +1,20 @@
+//! The command `replay`: a capture is played to a receiver, and what it releases is written.
+#![tactic(auto)]
+
+mod arguments;
+mod converter;
+mod forms;
+pub mod laws;
+mod report;
+mod run;
+mod target;
+mod words;
+
+pub use converter::{ReplayConverter, ReplayLedger};
+pub use forms::REPLAY;
+pub use report::report_lines;
+pub use run::run_replay;
+pub use target::{PlayedEvent, ReceiverTarget, Target};
+
+#[cfg(test)]
+mod tests;

@@ -1,0 +1,159 @@
+//! What the records of a capture are played to, and what is written of that.
+
+ghost use Rattle.std.specs.Prelude.{◌≡◌, ◌+◌, ◌^◌, ◌<◌, ◌≤◌, ◌++◌, ◌∷◌, [], ℕ, List, true, false};
+ghost use Rattle.tesla_capture.specs.Gathering.{gathered, Gathers};
+ghost use Rattle.tesla_desk.specs.Faults.{HasCause};
+ghost use Rattle.tesla_desk.specs.Outside.{AppendsPrefix};
+ghost use Rattle.tesla_receiver.specs.History.{Event, Takes, entry_of, reply_to};
+ghost use Rattle.tesla_receiver.specs.Report.{text_given};
+ghost use Rattle.tesla_receiver.specs.Stands.{Stands};
+ghost use Rattle.tesla_receiver.specs.declared.history.Entry.{Entry};
+ghost use Rattle.tesla_run_replay.specs.Playing.{EventRule, event_of};
+
+use crate::report_lines;
+use std::sync::ledger::Ledger;
+use tesla_base::Steps;
+use tesla_capture::Gatherer;
+use tesla_desk::Sink;
+use tesla_front::Lines;
+use tesla_receiver::{Receiver, Take, laws};
+
+/// An event that is played.
+#[derive(Clone, Copy, Debug)]
+pub enum PlayedEvent<'a> {
+    /// A datagram comes, with the reading of the receiver's clock in microseconds.
+    Arrival { reading: u64, datagram: &'a [u8] },
+    /// The next released packet is taken.
+    Take,
+    /// The datagrams have ended.
+    End,
+}
+
+/// What the records of a capture are played to: a receiver, or what stands in its place. It writes what it has to tell of
+/// each event through a gatherer.
+pub trait Target {
+    /// What is written of each event after those before it, and after some events how many packets wait and which lines
+    /// tell what was played.
+    ghost rule: { Self → EventRule };
+
+    /// It has had these events, in this order, and no others.
+    ghost has: { Self → List Event → Type 0 };
+
+    /// How many events it has had at most.
+    ghost calls: { Self → ℕ };
+
+    /// Plays an event. What is written of it is put behind what is gathered. It takes no memory.
+    ///
+    /// False: a prefix of both was written, and the sink's count of faults rose.
+    fn play<L: Ledger, O: Sink>(
+        &mut self,
+        event: PlayedEvent<'_>,
+        steps: &mut Steps<L>,
+        gatherer: &mut Gatherer,
+        out: &mut O,
+    ) -> bool
+        requires { calls self.old + 1 < 2 ^ 64 }
+        ensures rule { rule self.new ≡ rule self.old }
+        ensures has { result ≡ true → (es : List Event) → has self.old es → has self.new (es ++ event_of event.entry ∷ []) }
+        ensures writes { result ≡ true → (es : List Event) → has self.old es →
+            Gathers (O.written out.old) (O.written out.new) (gathered gatherer.new) (gathered gatherer.old ++ (rule self.old).adds es (event_of event.entry)) }
+        ensures halts { result ≡ false → (es : List Event) → has self.old es →
+            AppendsPrefix (O.written out.old) (O.written out.new) (gathered gatherer.old ++ (rule self.old).adds es (event_of event.entry)) }
+        ensures calls { calls self.new ≤ calls self.old + 1 }
+        ensures cause { HasCause (O.faults out.old) (O.faults out.new) (result ≡ false) }
+        ensures name { O.name out.new ≡ O.name out.old };
+
+    /// How many packets wait to be taken.
+    fn waiting(&self) -> u64
+        ensures value { (es : List Event) → has self.now es → result ≡ (rule self.now).waiting es }
+        ensures few { result < 2 ^ 63 };
+
+    /// The lines that tell what was played.
+    fn lines(&self) -> Lines
+        ensures { (es : List Event) → has self.now es → result.bytes ≡ (rule self.now).tells es };
+}
+
+/// A receiver whose released packets are written, and whose report is told.
+#[derive(Drop)]
+pub struct ReceiverTarget {
+    receiver: Receiver,
+    payload: [u8; 1200],
+}
+
+impl ReceiverTarget {
+    /// A target over this receiver.
+    pub fn new(receiver: Receiver) -> ReceiverTarget
+        ensures { result.receiver ≡ receiver }
+    {
+        ReceiverTarget {
+            receiver,
+            payload: [0; 1200],
+        }
+    }
+}
+
+// Takes once for releaser 0, and gathers the record of what was given. False: a write failed.
+fn take_once<O: Sink>(
+    receiver: &mut Receiver,
+    payload: &mut [u8; 1200],
+    gatherer: &mut Gatherer,
+    out: &mut O,
+) -> bool
+    requires { receiver.old.calls + 1 < 2 ^ 64 }
+    ensures config { receiver.new.config ≡ receiver.old.config }
+    ensures calls { receiver.new.calls ≡ receiver.old.calls + 1 }
+    ensures stands { (h : List Entry) → Stands receiver.old h → Stands receiver.new (h ++ entry_of receiver.old.config h (Takes 0) ∷ []) }
+    ensures writes { result ≡ true → (h : List Entry) → Stands receiver.old h →
+        Gathers (O.written out.old) (O.written out.new) (gathered gatherer.new) (gathered gatherer.old ++ text_given (reply_to receiver.old.config h)) }
+    ensures prefix { result ≡ false → AppendsPrefix (O.written out.old) (O.written out.new) (gathered gatherer.old) }
+    ensures cause { HasCause (O.faults out.old) (O.faults out.new) (result ≡ false) }
+    ensures name { O.name out.new ≡ O.name out.old }
+{
+    match receiver.take(0, payload) {
+        Take::Given(head) => gatherer.put(out, &head, &payload[..head.length as usize]),
+        Take::Empty | Take::Over => true,
+    }
+}
+
+impl Target for ReceiverTarget {
+    ghost use Rattle.std.specs.Prelude.{[]};
+    ghost use Rattle.tesla_receiver.specs.Played.{after_events};
+    ghost use Rattle.tesla_receiver.specs.Stands.{Stands};
+    ghost use Rattle.tesla_run_replay.specs.Playing.{rule_of};
+
+    ghost rule = { λ t. rule_of t.receiver.config };
+
+    ghost has = { λ t es. Stands t.receiver (after_events t.receiver.config [] es) };
+
+    ghost calls = { λ t. t.receiver.calls };
+
+    fn play<L: Ledger, O: Sink>(
+        &mut self,
+        event: PlayedEvent<'_>,
+        steps: &mut Steps<L>,
+        gatherer: &mut Gatherer,
+        out: &mut O,
+    ) -> bool {
+        laws::events();
+        match event {
+            PlayedEvent::Arrival { reading, datagram } => {
+                // The receiver counts the verdict.
+                let _ = self.receiver.arrive(0, reading, datagram, steps);
+                true
+            }
+            PlayedEvent::Take => take_once(&mut self.receiver, &mut self.payload, gatherer, out),
+            PlayedEvent::End => {
+                self.receiver.end(0);
+                true
+            }
+        }
+    }
+
+    fn waiting(&self) -> u64 {
+        self.receiver.waiting()
+    }
+
+    fn lines(&self) -> Lines {
+        report_lines(&self.receiver.report())
+    }
+}
