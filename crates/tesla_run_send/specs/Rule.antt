@@ -1,8 +1,8 @@
 -- What a sender makes of each record of a script, behind those before it.
 use Rattle.std.specs.Prelude.{◌≡◌, ℕ, ◌+◌, List, [], ◌∷◌, ◌++◌, Option, Some, None}
+use Rattle.tesla_base.specs.declared.version.Version.TheVariants.{One}
 use Rattle.tesla_capture.specs.Capture as captures
 use Rattle.tesla_capture.specs.Script.{Record, script}
-use Rattle.tesla_base.specs.declared.version.Version.TheVariants.{One}
 use Rattle.tesla_convert.specs.Rule.{Rule}
 use Rattle.tesla_frame.specs.Frame.{frame_text}
 use Rattle.tesla_sender.specs.Made.{Call, Stream}
