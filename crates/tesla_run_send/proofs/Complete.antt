@@ -20,7 +20,7 @@ use Rattle.tesla_run_send.specs.Arguments.{SendArguments}
 use Rattle.tesla_run_send.specs.Script.{Sent, sending}
 use Rattle.tesla_run_send.specs.Send.{HasNoSender, IsNoSender, SendsWith, StopsAtSeeds, comes_by, frames_line, meaning, send, wrong_line}
 use Rattle.tesla_run_send.specs.declared.script_kind.ScriptKind.{ScriptKind}
-use Rattle.tesla_run_send.proofs.Commands.{memory_alone}
+use Rattle.tesla_front.proofs.Commands.{memory_alone}
 
 -- it came to this number of frames, or to a fault
 abbrev Ends : Came → ℕ → Type 0

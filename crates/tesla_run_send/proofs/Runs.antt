@@ -28,7 +28,7 @@ use Rattle.tesla_sender.specs.declared.refusal.SenderRefusal.TheVariants as unop
 use Rattle.tesla_run_send.specs.Arguments.{IsSend, SendArguments, files_of_send}
 use Rattle.tesla_run_send.specs.Send.{HasNoSender, IsNoSender, SendsScript, SendsWith, StopsAtSeeds, meaning, send, wrong_line}
 use Rattle.tesla_run_send.specs.Steps.{SendsFiles, SendsSeeded, SendsSetup}
-use Rattle.tesla_run_send.proofs.Commands.{counts_stopped}
+use Rattle.tesla_front.proofs.Commands.{counts_stopped}
 
 -- none of the files is the console
 pub are_files : (arguments : SendArguments) (words : List (List ℕ)) → IsSend arguments words → AreFiles (files_of_send arguments)

@@ -1,7 +1,7 @@
 use Rattle.std.proofs.Common.{map, string_bytes}
 use Rattle.tesla_run_send.specs.Arguments.{arguments_of}
 use Rattle.tesla_run_send.specs.Send.{send}
-use Rattle.tesla_run_send.proofs.Commands.{runs_form, runs_usage}
+use Rattle.tesla_front.proofs.Commands.{runs_form, runs_usage}
 use Rattle.tesla_run_send.proofs.Runs.{are_files}
 use Rattle.tesla_run_send.proofs.run.run_send.Goals as goal
 

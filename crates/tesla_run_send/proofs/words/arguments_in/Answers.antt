@@ -1,6 +1,6 @@
 use Rattle.std.proofs.Common.{◌≡◌, List, ℕ, [], ◌∷◌, IfSome, codes, map, string_bytes, sym, subst, rules}
 use Rattle.tesla_run_send.specs.Arguments.{IsSend, arguments_of}
-use Rattle.tesla_run_send.proofs.FiveWords.{five_is}
+use Rattle.tesla_front.proofs.WordLists.{five_is}
 use Rattle.tesla_run_send.proofs.words.arguments_in.Goals as goal
 
 pub returns-clause-found : goal.returns-clause-found

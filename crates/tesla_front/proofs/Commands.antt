@@ -1,10 +1,11 @@
 -- A run of any command, from its steps.
-use Rattle.std.proofs.Common.{◌≡◌, ◌∙◌, ℕ, Option, Some, None, Result, Err, List, refl, sym, ap, subst}
+use Rattle.std.proofs.Common.{◌≡◌, ◌∙◌, ℕ, Option, Some, None, Result, Ok, Err, List, refl, sym, ap, subst}
 use Rattle.std.specs.Option.{option_map}
+use Rattle.arrayvec.specs.ArrayString.{ArrayString}
 use Rattle.tesla_desk.specs.Faults.{Faults, HasCausesBeside}
 use Rattle.tesla_desk.specs.Outside.{Told}
 use Rattle.tesla_desk.proofs.Counts.{causes_as, causes_plain, not_rose}
-use Rattle.tesla_front.specs.Came.{Came, Usage, Failed, stop_came}
+use Rattle.tesla_front.specs.Came.{Came, Usage, Failed, came_of, stop_came}
 use Rattle.tesla_front.specs.Command.{Command, Performs, RunsAs}
 use Rattle.tesla_front.specs.Refusal.{StopCauses}
 use Rattle.tesla_front.specs.Run.{NothingFailed}
@@ -29,6 +30,17 @@ runs_usage command read words result desk is only = record {
   form = λ arguments form. absurd (let no : None ≡ Some arguments = sym (ap (option_map read) is) ∙ only arguments form in cc);
   usage = λ none. (refl, refl);
 }
+
+fault_is : (result : Result ArrayString Stop) (fault : Fault) → came_of result ≡ Failed fault → result ≡ Err (stops.Failed fault)
+fault_is (Ok lines) fault e = absurd cc
+fault_is (Err (stops.Refused refusal)) fault e = absurd cc
+fault_is (Err (stops.Failed other)) fault e = cc
+
+-- each fault that a command came to raised its count, and no other count rose
+pub counts_by : {hidden : Type 0} (result : Result ArrayString Stop) (old new : Faults) → StopCauses result old new → HasCausesBeside hidden old new (came_of result ≡ Failed faults.Read) (came_of result ≡ Failed faults.Write) (came_of result ≡ Failed faults.Open)
+counts_by {hidden} result old new causes =
+    causes_as {hidden = hidden} old new (causes_plain old new causes) (λ h. h)
+    (fault_is result faults.Read) (λ e. ap came_of e) (fault_is result faults.Write) (λ e. ap came_of e) (fault_is result faults.Open) (λ e. ap came_of e)
 
 stop_is : (stop : Stop) (fault : Fault) → stop_came stop ≡ Failed fault → stop ≡ stops.Failed fault
 stop_is (stops.Refused refusal) fault e = absurd cc
