@@ -3,3 +3,5 @@ pub mod Spellings
 pub mod Fronts
 pub mod Lists
 pub mod Tags
+pub mod Members
+pub mod Filtered

@@ -6,7 +6,7 @@ use Rattle.std.proofs.Math.ListN.{set}
 use Rattle.std.proofs.lemmas.Bool.{cases_Bool, cases_eq, cond-false, cond-true, eq-eqb, eqb-false, eqb-true, false≢true, ne_eqb, not_from_false, not_from_true, or_cases, or_from, or_left, or_parts, or_right}
 use Rattle.std.proofs.lemmas.List.Folds.{list_any-append}
 use Rattle.std.proofs.lemmas.List.{length-append}
-use Rattle.tesla_links.specs.Lists.{Distinct, is_in, next_in, without}
+use Rattle.tesla_base.specs.Members.{Distinct, is_in, next_in, without}
 
 -- a number that isn't in a list with a first number is not the first, nor in the rest
 pub apart : (x place : ℕ) (xs : List ℕ) → is_in place (x ∷ xs) ≡ false → (x ≡ place → ⊥) × (is_in place xs ≡ false)

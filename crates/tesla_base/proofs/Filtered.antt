@@ -2,8 +2,8 @@
 use Rattle.std.proofs.Common.{◌≡◌, ℕ, zero, suc, ◌<◌, ◌≤◌, Bool, true, false, not, cond, ◌&&◌, List, [], ◌∷◌, length, map, refl, sym, ap, ◌∙◌, arith, eqb, ⊎_elim}
 use Rattle.std.specs.List.{filter}
 use Rattle.std.proofs.lemmas.Bool.{cases_Bool, cond-false, cond-true, eq-eqb, false_from_ne_true, false≢true, not_from_true, or_left}
-use Rattle.tesla_links.specs.Lists.{Distinct, is_in, without}
-use Rattle.tesla_links.proofs.Members.{in_cases, in_here, in_there, without_other}
+use Rattle.tesla_base.specs.Members.{Distinct, is_in, without}
+use Rattle.tesla_base.proofs.Members.{in_cases, in_here, in_there, without_other}
 
 -- tests that agree on a list keep the same of it
 pub filter_on : (f g : ℕ → Bool) (xs : List ℕ) → ((p : ℕ) → is_in p xs ≡ true → f p ≡ g p) → filter f xs ≡ filter g xs
