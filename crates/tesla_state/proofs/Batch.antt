@@ -6,7 +6,7 @@ use Rattle.std.specs.List.Sorted.{IsPermutation}
 use Rattle.std.proofs.lemmas.Bool.{and_parts, and_from, or_left, or_from, both_ways, eqb-true, eq-eqb, ne_eqb, false_from_ne_true}
 use Rattle.std.proofs.lemmas.List.Elements.{All-head, All-tail, All-nil, All-cons}
 use Rattle.std.proofs.lemmas.List.Sorted.{All-permutation}
-use Rattle.tesla_links.specs.Lists.{is_in, Distinct}
+use Rattle.tesla_base.specs.Members.{is_in, Distinct}
 use Rattle.tesla_state.specs.declared.ordering.Proved.{Proved}
 use Rattle.tesla_state.specs.declared.release.Release.{Release}
 use Rattle.tesla_state.specs.Gathering as gathering

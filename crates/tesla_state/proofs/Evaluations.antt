@@ -11,7 +11,7 @@ use Rattle.tesla_base.specs.declared.names.ChainNo.{ChainNo}
 use Rattle.tesla_frame.specs.Frame.{Frame, Data, Disclosure}
 use Rattle.tesla_frame.specs.Reading.{frame_of}
 use Rattle.tesla_keys.specs.Tip.{Tip}
-use Rattle.tesla_links.specs.Lists.{Distinct}
+use Rattle.tesla_base.specs.Members.{Distinct}
 use Rattle.tesla_fitting.specs.declared.config.Config.{Config}
 use Rattle.tesla_state.specs.declared.ordering.Proved.{Proved}
 use Rattle.tesla_fitting.specs.declared.verdict.Verdict.{Verdict}

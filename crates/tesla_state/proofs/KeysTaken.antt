@@ -9,7 +9,7 @@ use Rattle.std.proofs.lemmas.List.Folds.{list_any-append, flat_map-map}
 use Rattle.tesla_base.proofs.Lists.{list_all_weaker}
 use Rattle.tesla_frame.specs.declared.row.KeyRow.{KeyRow}
 use Rattle.tesla_keys.specs.Tip.{Tip}
-use Rattle.tesla_links.specs.Lists.{is_in, Distinct}
+use Rattle.tesla_base.specs.Members.{is_in, Distinct}
 use Rattle.tesla_fitting.specs.declared.config.Config.{Config}
 use Rattle.tesla_state.specs.declared.release.Release.{Release}
 use Rattle.tesla_fitting.specs.Config.{chains}

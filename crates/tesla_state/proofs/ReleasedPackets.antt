@@ -10,7 +10,7 @@ use Rattle.std.proofs.lemmas.List.Folds.{list_any-append, flat_map-map}
 use Rattle.std.specs.Prelude.{if◌then◌else◌}
 use Rattle.tesla_base.specs.declared.names.Name.{Name}
 use Rattle.tesla_base.proofs.Lists.{list_all_weaker}
-use Rattle.tesla_links.specs.Lists.{is_in, Distinct}
+use Rattle.tesla_base.specs.Members.{is_in, Distinct}
 use Rattle.tesla_state.specs.declared.ordering.Proved.{Proved}
 use Rattle.tesla_state.specs.declared.release.Release.{Release}
 use Rattle.tesla_state.specs.Releases.{is_at, each_after, has_name, unless_named}

@@ -17,7 +17,7 @@ use Rattle.tesla_buffer.specs.Held.{Held, changed, is_resting, wide_tag_in, IsMa
 use Rattle.tesla_frame.specs.Frame.{DataFrame, TagRow}
 use Rattle.tesla_fitting.specs.Rows.{tag_in}
 use Rattle.tesla_buffer.specs.Held as buffer
-use Rattle.tesla_links.specs.Lists.{is_in, Distinct}
+use Rattle.tesla_base.specs.Members.{is_in, Distinct}
 use Rattle.tesla_release.specs.declared.queue.Waiting.{Waiting}
 use Rattle.tesla_state.specs.declared.ordering.Proved.{Proved}
 use Rattle.tesla_state.specs.declared.release.Release.{Release}

@@ -8,7 +8,7 @@ use Rattle.tesla_buffer.specs.Held.{Held, changed, settled}
 use Rattle.tesla_buffer.specs.Held as buffer
 use Rattle.tesla_buffer.specs.declared.item.Fate.{Fate}
 use Rattle.tesla_buffer.specs.declared.item.Fate.TheVariants.{Gone, Taken}
-use Rattle.tesla_links.specs.Lists.{is_in, Distinct}
+use Rattle.tesla_base.specs.Members.{is_in, Distinct}
 use Rattle.tesla_release.specs.declared.queue.Waiting.{Waiting}
 use Rattle.tesla_state.specs.Stored.{Placed, placed_in, place_of, place_in, order_of, stands_at, release_by, release_in, waits, waits_at, is_sound, with_taken, without, IsStored, IsStore, IsItemOf}
 use Rattle.tesla_state.proofs.Marked.{any_weaker, any_mapped, map_mapped, all_filtered}

@@ -13,7 +13,7 @@ use Rattle.tesla_base.specs.declared.names.Name.{Name}
 use Rattle.tesla_base.specs.declared.names.Place.{Place}
 use Rattle.tesla_frame.specs.declared.row.KeyRow.{KeyRow}
 use Rattle.tesla_keys.specs.Tip.{Tip}
-use Rattle.tesla_links.specs.Lists.{Distinct}
+use Rattle.tesla_base.specs.Members.{Distinct}
 use Rattle.tesla_fitting.specs.declared.config.Config.{Config}
 use Rattle.tesla_state.specs.declared.ordering.Proved.{Proved}
 use Rattle.tesla_state.specs.declared.release.Release.{Release}

@@ -4,7 +4,7 @@ use Rattle.std.specs.List.{list_any, list_all}
 use Rattle.tesla_base.specs.declared.names.Name.{Name}
 use Rattle.tesla_base.specs.declared.names.Place.{Place}
 use Rattle.tesla_buffer.specs.Held.{Held}
-use Rattle.tesla_links.specs.Lists.{Distinct}
+use Rattle.tesla_base.specs.Members.{Distinct}
 use Rattle.tesla_release.specs.declared.queue.Waiting.{Waiting}
 use Rattle.tesla_state.specs.declared.ordering.Proved.{Proved}
 use Rattle.tesla_state.specs.declared.release.Release.{Release}

@@ -2,7 +2,7 @@
 
 ghost use Rattle.std.specs.Prelude.{◌≡◌, ℕ, ◌&&◌, ◌<◌, All, true, not, length, map, filter, find, Some, if◌then◌else◌};
 ghost use Rattle.std.specs.List.{list_all, list_any};
-ghost use Rattle.tesla_links.specs.Lists.{Distinct};
+ghost use Rattle.tesla_base.specs.Members.{Distinct};
 ghost use Rattle.tesla_fitting.specs.Config.{chains};
 ghost use Rattle.tesla_state.specs.ItemShown.{holding_in};
 ghost use Rattle.tesla_state.specs.Offered.{IsOfChains};

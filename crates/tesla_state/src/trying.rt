@@ -4,7 +4,7 @@ ghost use Rattle.std.specs.Prelude.{◌≡◌, ℕ, List, ◌+◌, ◌*◌, ◌-
 ghost use Rattle.std.specs.List.{list_any};
 ghost use Rattle.std.specs.List.Sorted.{IsPermutation};
 ghost use Rattle.tesla_frame.specs.Frame.{ChainsRise};
-ghost use Rattle.tesla_links.specs.Lists.{Distinct};
+ghost use Rattle.tesla_base.specs.Members.{Distinct};
 ghost use Rattle.tesla_state.specs.Gathering.{AreIndices, RiseBy, Spans, order_of, place_of, in_turn};
 ghost use Rattle.tesla_state.specs.declared.release.Release.{Release};
 ghost use Rattle.tesla_state.specs.Offered.{IsOfChains};

@@ -4,7 +4,7 @@ use Rattle.std.proofs.lemmas.List.{append-nil, nil_from_length}
 use Rattle.std.specs.Prelude.{All, not, ◌&&◌}
 use Rattle.std.specs.List.{filter}
 use Rattle.tesla_keys.specs.Tip.{Tip}
-use Rattle.tesla_links.specs.Lists.{Distinct}
+use Rattle.tesla_base.specs.Members.{Distinct}
 use Rattle.tesla_frame.specs.declared.row.KeyRow.{KeyRow}
 use Rattle.tesla_state.specs.declared.release.Release.{Release}
 use Rattle.tesla_state.specs.Steps.{tips_after, batch_of, released_of}

@@ -1,6 +1,6 @@
 use Rattle.std.proofs.Common.{ℕ, Bool, List, sym, subst, map}
 use Rattle.std.specs.Prelude.{not, ◌&&◌}
-use Rattle.tesla_links.specs.Lists.{Distinct}
+use Rattle.tesla_base.specs.Members.{Distinct}
 use Rattle.tesla_state.specs.Gathering.{IsHighest, index_at, is_reached}
 use Rattle.tesla_state.specs.Stored.{Placed, place_of, in_span, is_idle}
 use Rattle.tesla_state.specs.Walking.{rows_of}

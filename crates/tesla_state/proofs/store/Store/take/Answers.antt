@@ -3,7 +3,7 @@ use Rattle.std.specs.Prelude.{find, option_map, Some, min}
 use Rattle.std.specs.List.{list_all}
 use Rattle.tesla_buffer.specs.Held.{Held, is_at, settled}
 use Rattle.tesla_buffer.specs.declared.item.Fate.{Fate}
-use Rattle.tesla_links.specs.Lists.{Distinct}
+use Rattle.tesla_base.specs.Members.{Distinct}
 use Rattle.tesla_release.specs.Released.{given_after}
 use Rattle.tesla_release.specs.declared.queue.Waiting.{Waiting}
 use Rattle.tesla_base.specs.declared.release.Head.{Head}
