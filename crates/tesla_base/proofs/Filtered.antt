@@ -1,9 +1,26 @@
 -- What a test keeps of a list, and what functions make of it, by the elements that it has.
-use Rattle.std.proofs.Common.{◌≡◌, ℕ, zero, suc, ◌<◌, ◌≤◌, Bool, true, false, not, cond, ◌&&◌, List, [], ◌∷◌, length, map, refl, sym, ap, ◌∙◌, arith, eqb, ⊎_elim}
-use Rattle.std.specs.List.{filter}
-use Rattle.std.proofs.lemmas.Bool.{cases_Bool, cond-false, cond-true, eq-eqb, false_from_ne_true, false≢true, not_from_true, or_left}
+use Rattle.std.proofs.Common.{◌≡◌, ℕ, zero, suc, ◌<◌, ◌≤◌, Bool, true, false, cond, ◌&&◌, List, [], ◌∷◌, length, map, Some, refl, sym, ap, ⊎_elim, ◌∙◌, arith, eqb, not}
+use Rattle.std.specs.List.{filter, find, list_all, list_any}
+use Rattle.std.specs.Prelude.{slice_get}
+use Rattle.std.proofs.lemmas.Bool.{and_parts, cases_Bool, cond-false, cond-true, eq-eqb, false_from_ne_true, false≢true, not_from_true, or_cases, or_left, or_right}
+use Rattle.std.proofs.Math.Bool.{and_comm}
+use Rattle.std.proofs.lemmas.List.Elements.{All-filter, filter_passes}
+use Rattle.std.proofs.lemmas.List.Sums.{AllPass-from_list_all, list_all-from_AllPass}
+use Rattle.std.proofs.lemmas.Option.{same_Some}
 use Rattle.tesla_base.specs.Members.{Distinct, is_in, without}
 use Rattle.tesla_base.proofs.Members.{in_cases, in_here, in_there, without_other}
+
+-- tests that agree keep the same
+pub filter_same : {A : Type 0} (p q : A → Bool) (xs : List A) → ((x : A) → p x ≡ q x) → filter p xs ≡ filter q xs
+filter_same p q [] same = refl
+filter_same p q (x ∷ xs) same = ap (λ b. cond b (x ∷ filter p xs) (filter p xs)) (same x) ∙ ap (λ ys. cond (q x) (x ∷ ys) ys) (filter_same p q xs same)
+
+-- and so do those that agree on what passes another, where all pass that
+pub filter_same_in : {A : Type 0} (t p q : A → Bool) (xs : List A) → list_all t xs ≡ true → ((x : A) → t x ≡ true → p x ≡ q x) → filter p xs ≡ filter q xs
+filter_same_in t p q [] h same = refl
+filter_same_in t p q (x ∷ xs) h same =
+    let parts = and_parts (t x) (list_all t xs) h in
+    ap (λ b. cond b (x ∷ filter p xs) (filter p xs)) (same x parts.0) ∙ ap (λ ys. cond (q x) (x ∷ ys) ys) (filter_same_in t p q xs parts.1 same)
 
 -- tests that agree on a list keep the same of it
 pub filter_on : (f g : ℕ → Bool) (xs : List ℕ) → ((p : ℕ) → is_in p xs ≡ true → f p ≡ g p) → filter f xs ≡ filter g xs
@@ -24,27 +41,6 @@ map_on f g [] h = refl
 map_on f g (x ∷ xs) h =
     ap (λ y. y ∷ map f xs) (h x (in_here x xs)) ∙ ap (λ ys. g x ∷ ys) (map_on f g xs (λ p i. h p (in_there x p xs i)))
 
--- two tests keep the same in either order
-pub filter-filter : {X : Type 0} (f g : X → Bool) (xs : List X) → filter f (filter g xs) ≡ filter g (filter f xs)
-filter-filter f g [] = refl
-filter-filter f g (x ∷ xs) =
-    ⊎_elim
-    (λ (e : f x ≡ true).
-    ⊎_elim
-    (λ (k : g x ≡ true). ap (filter f) (cond-true (g x) (x ∷ filter g xs) (filter g xs) k) ∙ cond-true (f x) (x ∷ filter f (filter g xs)) (filter f (filter g xs)) e ∙ ap (λ ys. x ∷ ys) (filter-filter f g xs)
-    ∙ sym (ap (filter g) (cond-true (f x) (x ∷ filter f xs) (filter f xs) e) ∙ cond-true (g x) (x ∷ filter g (filter f xs)) (filter g (filter f xs)) k))
-    (λ (k : g x ≡ false). ap (filter f) (cond-false (g x) (x ∷ filter g xs) (filter g xs) k) ∙ filter-filter f g xs
-    ∙ sym (ap (filter g) (cond-true (f x) (x ∷ filter f xs) (filter f xs) e) ∙ cond-false (g x) (x ∷ filter g (filter f xs)) (filter g (filter f xs)) k))
-    (cases_Bool (g x)))
-    (λ (e : f x ≡ false).
-    ⊎_elim
-    (λ (k : g x ≡ true). ap (filter f) (cond-true (g x) (x ∷ filter g xs) (filter g xs) k) ∙ cond-false (f x) (x ∷ filter f (filter g xs)) (filter f (filter g xs)) e ∙ filter-filter f g xs
-    ∙ sym (ap (filter g) (cond-false (f x) (x ∷ filter f xs) (filter f xs) e)))
-    (λ (k : g x ≡ false). ap (filter f) (cond-false (g x) (x ∷ filter g xs) (filter g xs) k) ∙ filter-filter f g xs
-    ∙ sym (ap (filter g) (cond-false (f x) (x ∷ filter f xs) (filter f xs) e)))
-    (cases_Bool (g x)))
-    (cases_Bool (f x))
-
 -- two tests, one after the other, keep what passes both
 pub filter_both : {X : Type 0} (f g : X → Bool) (xs : List X) → filter g (filter f xs) ≡ filter (λ x. f x && g x) xs
 filter_both f g [] = refl
@@ -55,12 +51,50 @@ filter_both f g (x ∷ xs) =
       | false ↦ filter_both f g xs
     ]
 
+-- two tests keep the same in either order
+pub filter-filter : {X : Type 0} (f g : X → Bool) (xs : List X) → filter f (filter g xs) ≡ filter g (filter f xs)
+filter-filter f g xs = filter_both g f xs ∙ filter_same (λ x. g x && f x) (λ x. f x && g x) xs (λ x. and_comm (g x) (f x)) ∙ sym (filter_both f g xs)
+
 -- a test of what a function makes
 pub filter-map : {X Y : Type 0} (q : Y → Bool) (h : X → Y) (xs : List X) → filter q (map h xs) ≡ map h (filter (λ x. q (h x)) xs)
 filter-map q h [] = refl
 filter-map q h (x ∷ xs) =
     ap (λ ys. cond (q (h x)) (h x ∷ ys) ys) (filter-map q h xs)
     ∙ (elim (q (h x)) as (λ b. cond b (h x ∷ map h (filter (λ y. q (h y)) xs)) (map h (filter (λ y. q (h y)) xs)) ≡ map h (cond b (x ∷ filter (λ y. q (h y)) xs) (filter (λ y. q (h y)) xs))) [ true ↦ refl | false ↦ refl ])
+
+-- what all pass, those that pass another test do too
+pub all_filtered : {A : Type 0} (t p : A → Bool) (xs : List A) → list_all t xs ≡ true → list_all t (filter p xs) ≡ true
+all_filtered t p xs h = list_all-from_AllPass t (filter p xs) (All-filter p (λ x. t x ≡ true) xs (AllPass-from_list_all t xs h))
+
+-- what a test keeps passes
+pub filtered_pass : {A : Type 0} (p : A → Bool) (xs : List A) → list_all p (filter p xs) ≡ true
+filtered_pass p xs = list_all-from_AllPass p (filter p xs) (filter_passes p xs)
+
+-- the first that is found is the first that is kept
+pub find_first_kept : {A : Type 0} (p : A → Bool) (xs : List A) → find p xs ≡ slice_get (filter p xs) 0
+find_first_kept p [] = refl
+find_first_kept p (x ∷ xs) = elim (p x) as (λ b. cond b (Some x) (find p xs) ≡ slice_get (cond b (x ∷ filter p xs) (filter p xs)) 0) [
+  | true ↦ refl
+  | false ↦ find_first_kept p xs
+]
+
+any_kept : {A : Type 0} (p q : A → Bool) (y : A) (rest : List A) (b : Bool) → q y ≡ b → p y ≡ true → b ≡ true → list_any p (cond b (y ∷ rest) rest) ≡ true
+any_kept p q y rest true e h good = or_left (p y) (list_any p rest) h
+any_kept p q y rest false e h good = absurd (cc)
+
+any_rest : {A : Type 0} (p : A → Bool) (y : A) (rest : List A) (b : Bool) → list_any p rest ≡ true → list_any p (cond b (y ∷ rest) rest) ≡ true
+any_rest p y rest true h = or_right (p y) (list_any p rest) h
+any_rest p y rest false h = h
+
+-- what is found stands among those that pass another test, where it does
+pub found_filtered : {A : Type 0} (p q : A → Bool) (xs : List A) (x : A) → find p xs ≡ Some x → q x ≡ true → list_any p (filter q xs) ≡ true
+found_filtered p q [] x h good = absurd (cc)
+found_filtered p q (y ∷ xs) x h good =
+    ⊎_elim
+    (λ e. let same : y ≡ x = same_Some y x (sym (ap (λ b. cond b (Some y) (find p xs)) e) ∙ h) in
+    any_kept p q y (filter q xs) (q y) refl e (ap q same ∙ good))
+    (λ e. any_rest p y (filter q xs) (q y) (found_filtered p q xs x (sym (ap (λ b. cond b (Some y) (find p xs)) e) ∙ h) good))
+    (cases_Bool (p y))
 
 -- what a test keeps is in the list and passes
 pub in_filter : (f : ℕ → Bool) (p : ℕ) (xs : List ℕ) → is_in p (filter f xs) ≡ true → (is_in p xs ≡ true) × (f p ≡ true)
@@ -98,19 +132,32 @@ distinct_filter f (x ∷ xs) d =
 
 -- ---- fewer elements
 
--- a list without a number is no longer
-without_short : (p : ℕ) (xs : List ℕ) → length (without p xs) ≤ length xs
-without_short p [] = omega arith
-without_short p (x ∷ xs) =
-    let rest = without_short p xs in
-    elim (not (eqb x p)) as (λ b. length (cond b (x ∷ without p xs) (without p xs)) ≤ suc (length xs)) [ true ↦ omega (arith, rest) | false ↦ omega (arith, rest) ]
+-- one element more at most
+one_longer : {A : Type 0} (x : A) (rest : List A) (b : Bool) → length (cond b (x ∷ rest) rest) ≤ suc (length rest)
+one_longer x rest true = omega arith
+one_longer x rest false = omega arith
+
+-- what a test keeps is no more than there was
+pub filter_shorter : {A : Type 0} (p : A → Bool) (xs : List A) → length (filter p xs) ≤ length xs
+filter_shorter p [] = omega arith
+filter_shorter p (x ∷ xs) = let rest = filter_shorter p xs in let step = one_longer x (filter p xs) (p x) in omega (arith, rest, step)
+
+-- where some pass, those that fail are fewer
+pub fails_fewer : {A : Type 0} (p : A → Bool) (xs : List A) → list_any p xs ≡ true → length (filter (λ x. not (p x)) xs) < length xs
+fails_fewer p [] h = absurd (cc)
+fails_fewer p (x ∷ xs) h =
+    ⊎_elim
+    (λ e. let all = filter_shorter (λ y. not (p y)) xs in
+    let now : length (filter (λ y. not (p y)) (x ∷ xs)) ≡ length (filter (λ y. not (p y)) xs) = ap (λ b. length (cond (not b) (x ∷ filter (λ y. not (p y)) xs) (filter (λ y. not (p y)) xs))) e in omega (arith, all, now))
+    (λ e. let rest = fails_fewer p xs e in let step = one_longer x (filter (λ y. not (p y)) xs) (not (p x)) in omega (arith, rest, step))
+    (or_cases (p x) (list_any p xs) h)
 
 -- without one that it has it is shorter
 pub without_shorter : (p : ℕ) (xs : List ℕ) → is_in p xs ≡ true → length (without p xs) < length xs
 without_shorter p [] i = absurd (false≢true i)
 without_shorter p (x ∷ xs) i =
     ⊎_elim
-    (λ (s : x ≡ p). let e = ap length (cond-false (not (eqb x p)) (x ∷ without p xs) (without p xs) (not_from_true (eqb x p) (eq-eqb x p s))) in omega (arith, e, without_short p xs))
+    (λ (s : x ≡ p). let e = ap length (cond-false (not (eqb x p)) (x ∷ without p xs) (without p xs) (not_from_true (eqb x p) (eq-eqb x p s))) in omega (arith, e, filter_shorter (λ y. not (eqb y p)) xs))
     (λ (more : is_in p xs ≡ true).
     let rest = without_shorter p xs more in
     elim (not (eqb x p)) as (λ b. length (cond b (x ∷ without p xs) (without p xs)) < suc (length xs)) [ true ↦ omega (arith, rest) | false ↦ omega (arith, rest) ])

@@ -5,3 +5,7 @@ pub mod Lists
 pub mod Tags
 pub mod Members
 pub mod Filtered
+pub mod Passing
+pub mod Below
+pub mod Sums
+pub mod Numbered

@@ -35,6 +35,10 @@ in_cases x place xs h =
 pub differs : (a b : ℕ) (xs : List ℕ) → is_in a xs ≡ true → is_in b xs ≡ false → b ≡ a → ⊥
 differs a b xs there elsewhere e = false≢true (sym elsewhere ∙ ap (λ n. is_in n xs) e ∙ there)
 
+-- and the test tells them apart
+pub head_other : (n x : ℕ) (xs : List ℕ) → is_in x xs ≡ false → is_in n xs ≡ true → eqb x n ≡ false
+head_other n x xs none there = ne_eqb x n (differs n x xs there none)
+
 -- a number that isn't in two lists joined is in neither
 pub apart_both : (place : ℕ) (xs ys : List ℕ) → is_in place (xs ++ ys) ≡ false → (is_in place xs ≡ false) × (is_in place ys ≡ false)
 apart_both place xs ys h = or_parts (is_in place xs) (is_in place ys) (sym (list_any-append (λ x. eqb x place) xs ys) ∙ h)

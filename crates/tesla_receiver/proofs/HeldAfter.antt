@@ -8,6 +8,9 @@ use Rattle.std.proofs.lemmas.List.{append-nil, take-append-le}
 use Rattle.std.proofs.lemmas.List.Concat.{flat_map-append}
 use Rattle.std.proofs.lemmas.List.Folds.{list_any-append}
 use Rattle.tesla_base.proofs.Lists.{enumerate_from-append, list_all_both, list_all_weaker, list_all-take, not_all_numbers}
+use Rattle.tesla_base.proofs.Below.{all_below}
+use Rattle.tesla_base.proofs.Numbered.{any_at, flat_map-flat_map, gathered_same}
+use Rattle.tesla_base.proofs.Passing.{none_passes}
 use Rattle.tesla_clock.specs.Safe.{has_chain}
 use Rattle.tesla_frame.specs.declared.row.KeyRow.{KeyRow}
 use Rattle.tesla_frame.specs.Frame.{DataFrame}
@@ -25,11 +28,8 @@ use Rattle.tesla_state.specs.State.{Holding}
 use Rattle.tesla_receiver.specs.Stands.{holding_of, held_at, holdings}
 use Rattle.tesla_state.specs.Steps.{proves_on, released_on, proof_of, batch_of, released_of, is_passed, is_over, is_let_go, marked, kept_after}
 use Rattle.tesla_receiver.proofs.Batches.{TipsOf, proof_held, released_by}
-use Rattle.tesla_receiver.proofs.Below.{all_below}
 use Rattle.tesla_receiver.proofs.EachAfter.{each_after-append, each_after_more}
 use Rattle.tesla_receiver.proofs.Gone.{Brought, gone_stays}
-use Rattle.tesla_receiver.proofs.Numbered.{any_at, gathered_same, flat_map-flat_map}
-use Rattle.tesla_receiver.proofs.Passing.{none_passes}
 use Rattle.tesla_receiver.proofs.Places.{is_below, proved_below, candidates_below, firsts_pass}
 
 -- ---- what is proved and released with one arrival more

@@ -6,6 +6,8 @@ use Rattle.std.proofs.Math.Bool.{or-false}
 use Rattle.std.proofs.lemmas.Bool.{and_parts, and_left, and_right, and_cases, or_parts, or_from, not-true, not_from_false}
 use Rattle.std.proofs.lemmas.List.{append-nil, drop-append-le}
 use Rattle.tesla_base.proofs.Lists.{map_same}
+use Rattle.tesla_base.proofs.Below.{got_below}
+use Rattle.tesla_base.proofs.Numbered.{map_numbered}
 use Rattle.tesla_clock.specs.Safe.{has_chain}
 use Rattle.tesla_frame.specs.Reading.{frame_of}
 use Rattle.tesla_frame.specs.declared.row.KeyRow.{KeyRow}
@@ -24,7 +26,6 @@ use Rattle.tesla_state.specs.Steps.{no_tip, tip_at, tips_after, proves_on, relea
 use Rattle.tesla_state.specs.Tips.{raised}
 use Rattle.tesla_receiver.specs.Tips.{tip_of}
 use Rattle.tesla_receiver.proofs.Batches.{TipsOf, all_held}
-use Rattle.tesla_receiver.proofs.Below.{got_below, map_numbered}
 use Rattle.tesla_receiver.proofs.Tips.{tip_index, tip_more}
 use Rattle.tesla_receiver.proofs.HeldAfter.{over_same, passed_same, released_now, released_after, holdings_more}
 

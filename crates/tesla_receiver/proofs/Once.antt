@@ -8,6 +8,8 @@ use Rattle.std.proofs.lemmas.List.Folds.{list_any-append, list_all-append}
 use Rattle.std.proofs.lemmas.Option.{same_Some}
 use Rattle.tesla_base.specs.declared.names.Name.{Name}
 use Rattle.tesla_base.proofs.Lists.{list_all_weaker, list_all-take, list_any_got}
+use Rattle.tesla_base.proofs.Numbered.{find_at}
+use Rattle.tesla_base.proofs.Passing.{passes_at}
 use Rattle.tesla_frame.specs.Frame.{Frame, Data, Disclosure}
 use Rattle.tesla_frame.specs.Reading.{frame_of}
 use Rattle.tesla_fitting.specs.declared.config.Config.{Config}
@@ -24,9 +26,7 @@ use Rattle.tesla_receiver.specs.Packets.{packet_in, packet_of, batch, candidates
 use Rattle.tesla_state.specs.State.{Holding}
 use Rattle.tesla_receiver.specs.Stands.{holding_of, held_at, holdings}
 use Rattle.tesla_state.specs.Steps.{payload_held, is_numbered}
-use Rattle.tesla_receiver.proofs.Below.{passes_at}
 use Rattle.tesla_receiver.proofs.Gone.{Brought, is_called, called_any, candidates_called}
-use Rattle.tesla_receiver.proofs.Numbered.{find_at}
 use Rattle.tesla_receiver.proofs.Owners.{owned_at}
 use Rattle.tesla_receiver.proofs.Places.{firsts_pass}
 

@@ -1,14 +1,15 @@
 -- What is gathered along numbered elements.
-use Rattle.std.proofs.Common.{◌≡◌, ℕ, zero, suc, ◌+◌, ◌≤◌, Bool, true, false, cond, ◌||◌, List, [], ◌∷◌, ◌++◌, length, flat_map, count_by, Option, Some, None, refl, sym, ap, subst, ◌∙◌, arith}
+use Rattle.std.proofs.Common.{◌≡◌, ℕ, zero, suc, ◌+◌, ◌≤◌, Bool, true, false, cond, ◌||◌, List, [], ◌∷◌, ◌++◌, length, length-append, map, flat_map, count_by, Option, Some, None, refl, sym, ap, subst, ◌∙◌, arith}
 use Rattle.std.specs.Prelude.{slice_get, find}
 use Rattle.std.specs.Option.{option_or}
-use Rattle.std.specs.List.{list_any, enumerate_from}
+use Rattle.std.specs.List.{list_any, list_all, enumerate_from, range_with_len, sum_by}
 use Rattle.std.proofs.Math.Bool.{or-false}
 use Rattle.std.proofs.lemmas.Bool.{or_left, or_right}
 use Rattle.std.proofs.lemmas.Option.{same_Some}
 use Rattle.std.proofs.lemmas.List.Concat.{flat_map-append}
 use Rattle.std.proofs.lemmas.List.Folds.{list_any-append, find-append}
 use Rattle.std.proofs.lemmas.List.Sums.{sum_by-cons, sum_by-append}
+use Rattle.tesla_base.proofs.Lists.{list_all_both}
 
 -- gathering along what is gathered
 pub flat_map-flat_map : {A B C : Type 0} (g : B → List C) (f : A → List B) (xs : List A) → flat_map g (flat_map f xs) ≡ flat_map (λ x. flat_map g (f x)) xs
@@ -25,8 +26,43 @@ gathered_same f g m (x ∷ xs) same =
     ap (λ r. r ++ flat_map f (enumerate_from (m + 1) xs)) here
     ∙ ap (λ r. g (m, x) ++ r) (gathered_same f g (m + 1) xs (λ k y at. subst (λ (n : ℕ). f (n, y) ≡ g (n, y)) (next k) (same (suc k) y at)))
 
+-- a function of each number and of what stands there
+pub map_numbered : {A B : Type 0} (g : ℕ × A → B) (f : ℕ → A) (a n : ℕ) → map g (enumerate_from a (map f (range_with_len a n))) ≡ map (λ c. g (c, f c)) (range_with_len a n)
+map_numbered g f a zero = refl
+map_numbered g f a (suc n) = ap (λ ys. g (a, f a) ∷ ys) (map_numbered g f (a + 1) n)
+
+-- ---- what all of them give
+
+-- all that the numbered elements give passes, where all that each gives does
+pub all_enumerated : {A B : Type 0} (q : B → Bool) (f : ℕ × A → List B) (n : ℕ) (xs : List A) → ((k : ℕ) (x : A) → slice_get xs k ≡ Some x → list_all q (f (n + k, x)) ≡ true) → list_all q (flat_map f (enumerate_from n xs)) ≡ true
+all_enumerated q f n [] h = refl
+all_enumerated q f n (x ∷ xs) h =
+    let first : n ≡ n + 0 = omega arith in
+    let here : list_all q (f (n, x)) ≡ true = ap (λ k. list_all q (f (k, x))) first ∙ h 0 x refl in
+    let next : (k : ℕ) → n + 1 + k ≡ n + suc k = λ k. omega arith in
+    let later = all_enumerated q f (n + 1) xs (λ k y e. ap (λ m. list_all q (f (m, y))) (next k) ∙ h (suc k) y e) in
+    list_all_both q (f (n, x)) (flat_map f (enumerate_from (n + 1) xs)) here later
+
+-- what is so of the elements of two lists is so of those of both
+each_append : {A : Type 0} (P : A → Type 0) (xs ys : List A) → ((i : ℕ) (x : A) → slice_get xs i ≡ Some x → P x) → ((i : ℕ) (y : A) → slice_get ys i ≡ Some y → P y) → (i : ℕ) (x : A) → slice_get (xs ++ ys) i ≡ Some x → P x
+each_append P [] ys first second i x at = second i x at
+each_append P (z ∷ xs) ys first second zero x at = first 0 x at
+each_append P (z ∷ xs) ys first second (suc i) x at = each_append P xs ys (λ j y there. first (suc j) y there) second i x at
+
+-- what is so of all that each numbered element gives
+pub each_gathered : {A B : Type 0} (P : B → Type 0) (f : ℕ × A → List B) (m : ℕ) (xs : List A) → ((k : ℕ) (x : A) → slice_get xs k ≡ Some x → (i : ℕ) (b : B) → slice_get (f (m + k, x)) i ≡ Some b → P b) → (i : ℕ) (b : B) → slice_get (flat_map f (enumerate_from m xs)) i ≡ Some b → P b
+each_gathered P f m [] each i b at = absurd (cc)
+each_gathered P f m (x ∷ xs) each i b at =
+    let first : m ≡ m + 0 = omega arith in
+    let next : (k : ℕ) → m + 1 + k ≡ m + suc k = λ k. omega arith in
+    each_append P (f (m, x)) (flat_map f (enumerate_from (m + 1) xs))
+    (λ j y there. each 0 x refl j y (ap (λ (n : ℕ). slice_get (f (n, x)) j) (sym first) ∙ there))
+    (each_gathered P f (m + 1) xs (λ k y there j c here. each (suc k) y there j c (ap (λ (n : ℕ). slice_get (f (n, y)) j) (sym (next k)) ∙ here)))
+    i b at
+
 -- ---- what one of them gives
 
+-- one that passes
 pub any_from : {A B : Type 0} (q : B → Bool) (f : ℕ × A → List B) (m : ℕ) (xs : List A) (k : ℕ) (x : A) → slice_get xs k ≡ Some x → list_any q (f (m + k, x)) ≡ true → list_any q (flat_map f (enumerate_from m xs)) ≡ true
 any_from q f m [] k x at h = absurd (cc)
 any_from q f m (y ∷ xs) zero x at h =
@@ -83,16 +119,33 @@ find_at q f m (y ∷ xs) (suc k) x at none =
     find-append q (f (m, y)) (flat_map f (enumerate_from (m + 1) xs)) ∙ ap (λ o. option_or o (find q (flat_map f (enumerate_from (m + 1) xs)))) (none m y (λ e. omega (arith, e)))
     ∙ find_at q f (m + 1) xs k x at (λ j z other. none j z (λ e. other (omega (arith, e)))) ∙ ap (λ (n : ℕ). find q (f (n, x))) next
 
--- ---- how many
+-- ---- how many, and sums
 
--- each gives as many that pass as the test says, one or none
-pub count_gathered : {A B : Type 0} (q : B → Bool) (f : A → List B) (p : A → Bool) (xs : List A) → ((x : A) → count_by q (f x) ≡ cond (p x) 1 0) → count_by q (flat_map f xs) ≡ count_by p xs
-count_gathered q f p [] each = refl
-count_gathered q f p (x ∷ xs) each =
-    sum_by-append (λ y. cond (q y) 1 0) (f x) (flat_map f xs) ∙ ap (λ n. n + count_by q (flat_map f xs)) (each x)
-    ∙ ap (λ n. cond (p x) 1 0 + n) (count_gathered q f p xs each) ∙ sym (sum_by-cons (λ z. cond (p z) 1 0) x xs)
+one_fewer : (a b : Bool) → (a ≡ true → b ≡ true) → cond a 1 0 ≤ cond b 1 0
+one_fewer true b h = let yes = h refl in rw yes (omega arith)
+one_fewer false b h = omega arith
 
--- all elements pass a test that says yes
-pub count_all : {A : Type 0} (xs : List A) → count_by (λ (x : A). true) xs ≡ length xs
-count_all [] = refl
-count_all (x ∷ xs) = let rest = count_all xs in sum_by-cons (λ (y : _). cond true 1 0) x xs ∙ omega (arith, rest)
+-- no more numbered elements pass a test than pass a weaker one
+pub count_fewer : {A : Type 0} (p q : ℕ × A → Bool) (n : ℕ) (xs : List A) → ((k : ℕ) (x : A) → slice_get xs k ≡ Some x → p (n + k, x) ≡ true → q (n + k, x) ≡ true) → count_by p (enumerate_from n xs) ≤ count_by q (enumerate_from n xs)
+count_fewer p q n [] h = omega arith
+count_fewer p q n (x ∷ xs) h =
+    let first : n + 0 ≡ n = omega arith in
+    let here : cond (p (n, x)) 1 0 ≤ cond (q (n, x)) 1 0 = one_fewer (p (n, x)) (q (n, x)) (subst (λ (m : ℕ). p (m, x) ≡ true → q (m, x) ≡ true) first (h 0 x refl)) in
+    let next : (k : ℕ) → n + suc k ≡ n + 1 + k = λ k. omega arith in
+    let later = count_fewer p q (n + 1) xs (λ k y e. subst (λ (m : ℕ). p (m, y) ≡ true → q (m, y) ≡ true) (next k) (h (suc k) y e)) in
+    omega (arith, here, later, sum_by-cons (λ z. cond (p z) 1 0) (n, x) (enumerate_from (n + 1) xs), sum_by-cons (λ z. cond (q z) 1 0) (n, x) (enumerate_from (n + 1) xs))
+
+-- where each gives one at most
+pub gathered_fewer : {A B : Type 0} (f : ℕ × A → List B) (m : ℕ) (xs : List A) → ((n : ℕ) (x : A) → length (f (n, x)) ≤ 1) → length (flat_map f (enumerate_from m xs)) ≤ length xs
+gathered_fewer f m [] few = omega arith
+gathered_fewer f m (x ∷ xs) few =
+    let here = few m x in
+    let rest = gathered_fewer f (m + 1) xs few in
+    omega (arith, here, rest, length-append (f (m, x)) (flat_map f (enumerate_from (m + 1) xs)))
+
+-- what is summed along what numbered elements give
+pub sum_gathered : {A B : Type 0} (g : B → ℕ) (f : ℕ × A → List B) (t : ℕ × A → ℕ) (m : ℕ) (xs : List A) → ((n : ℕ) (x : A) → sum_by g (f (n, x)) ≡ t (n, x)) → sum_by g (flat_map f (enumerate_from m xs)) ≡ sum_by t (enumerate_from m xs)
+sum_gathered g f t m [] each = refl
+sum_gathered g f t m (x ∷ xs) each =
+    sum_by-append g (f (m, x)) (flat_map f (enumerate_from (m + 1) xs)) ∙ ap (λ n. n + sum_by g (flat_map f (enumerate_from (m + 1) xs))) (each m x)
+    ∙ ap (λ n. t (m, x) + n) (sum_gathered g f t (m + 1) xs each) ∙ sym (sum_by-cons t (m, x) (enumerate_from (m + 1) xs))
