@@ -6,14 +6,11 @@ ghost use Rattle.tesla_base.specs.declared.names.ChainNo.{ChainNo};
 ghost use Rattle.tesla_state.specs.Costs.{most_by, offers_by};
 ghost use Rattle.tesla_state.specs.Replies.{reply_shown, KeepsBehind};
 ghost use Rattle.tesla_state.specs.Steps.{opened, judged, after_arrival, reply_by, after_take, after_end};
-ghost use Rattle.tesla_state.specs.Tips.{first_tip};
+ghost use Rattle.tesla_walks.specs.Tips.{first_tip};
 
 use crate::arriving::receive;
 use crate::counts::count;
 use crate::ended::{all_set, mark};
-use crate::ordering::Proved;
-use crate::tips::first_tips;
-use crate::walk::Walk;
 use crate::{Report, Store, Take};
 use std::alloc::Global;
 use std::marker::Model;
@@ -38,6 +35,7 @@ const NOTHING: Report = Report {
     keys: 0,
     given: 0,
 };
+use tesla_walks::{Proved, Walk, first_tips};
 
 /// What a receiver of one stream keeps: the newest keys, the packets that have a place, those that wait to be taken,
 /// which ingests have ended, and the counts. All memory is taken when it is opened. It knows of no history.
