@@ -23,5 +23,4 @@ pub use replies::{Reply, Take};
 pub use report::Report;
 pub use state::ReceiverState;
 use store::Store;
-
 pub use tesla_walks::Release;

@@ -19,6 +19,7 @@ use tesla_base::{NoMemory, Steps};
 use tesla_commit::Setup;
 use tesla_fitting::{Config, Verdict};
 use tesla_keys::Verifier;
+use tesla_walks::{Proved, Walk, first_tips};
 
 /// The counts before any event.
 const NOTHING: Report = Report {
@@ -35,7 +36,6 @@ const NOTHING: Report = Report {
     keys: 0,
     given: 0,
 };
-use tesla_walks::{Proved, Walk, first_tips};
 
 /// What a receiver of one stream keeps: the newest keys, the packets that have a place, those that wait to be taken,
 /// which ingests have ended, and the counts. All memory is taken when it is opened. It knows of no history.
