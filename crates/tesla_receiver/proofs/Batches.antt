@@ -23,9 +23,11 @@ use Rattle.tesla_receiver.specs.Held.{has_passed, is_past, is_settled, is_gone}
 use Rattle.tesla_fitting.specs.Rows.{is_of, tag_in}
 use Rattle.tesla_receiver.specs.Keys.{newest}
 use Rattle.tesla_receiver.specs.Packets.{packet_of, verifies_row, is_proof, proves, release_on, release_of, proved_by, candidates, released}
-use Rattle.tesla_state.specs.State.{Holding}
+use Rattle.tesla_walks.specs.Holding.{Holding}
 use Rattle.tesla_receiver.specs.Stands.{holding_of, held_at, holdings}
-use Rattle.tesla_state.specs.Steps.{tip_at, matches, is_proof_of, proves_on, released_on, proof_of, batch_of, as_release, is_released, released_of, is_named_so}
+use Rattle.tesla_walks.specs.Tips.{tip_at}
+use Rattle.tesla_walks.specs.Proved.{matches, is_proof_of, proves_on, released_on, proof_of}
+use Rattle.tesla_state.specs.Steps.{batch_of, as_release, is_released, released_of, is_named_so}
 use Rattle.tesla_receiver.proofs.Gone.{Brought, past_none}
 use Rattle.tesla_state.proofs.Named.{same_name}
 use Rattle.tesla_receiver.proofs.Owners.{owned_at, named_at, released_proved}

@@ -24,8 +24,10 @@ use Rattle.tesla_state.specs.Costs.{is_unread, gaps_by, is_reached_by, reached_b
 use Rattle.tesla_receiver.specs.Costs.{most_evaluations}
 use Rattle.tesla_receiver.specs.History.{IsLegal, arrivals_in}
 use Rattle.tesla_fitting.specs.Rows.{carried, keys_of}
-use Rattle.tesla_state.specs.State.{Holding, State}
-use Rattle.tesla_state.specs.Steps.{tip_at, is_newer, new_rows, bound_at}
+use Rattle.tesla_walks.specs.Holding.{Holding}
+use Rattle.tesla_state.specs.State.{State}
+use Rattle.tesla_walks.specs.Tips.{tip_at, is_newer}
+use Rattle.tesla_state.specs.Steps.{new_rows, bound_at}
 use Rattle.tesla_receiver.proofs.Consistent.{consistent}
 use Rattle.tesla_receiver.proofs.Costs.{cost_same, read_fits}
 use Rattle.tesla_frame.proofs.Rising.{disclosed_rise}

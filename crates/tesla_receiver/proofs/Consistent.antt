@@ -15,14 +15,15 @@ use Rattle.tesla_fitting.specs.declared.config.Config.{Config}
 use Rattle.tesla_receiver.specs.declared.history.Arrival.{Arrival}
 use Rattle.tesla_receiver.specs.declared.history.Entry.{Entry}
 use Rattle.tesla_receiver.specs.declared.packet.Packet.{Packet}
-use Rattle.tesla_state.specs.declared.release.Release.{Release}
+use Rattle.tesla_walks.specs.declared.release.Release.{Release}
 use Rattle.tesla_state.specs.declared.report.Report.{Report}
 use Rattle.tesla_receiver.specs.Consistent.{RisesFrom, IsWaiting, IsCounted, IsConsistent}
 use Rattle.tesla_state.specs.Releases.{is_at, has_name}
 use Rattle.tesla_receiver.specs.Held.{is_gone, held_of}
 use Rattle.tesla_receiver.specs.History.{arrivals_in, given_in, has_end}
 use Rattle.tesla_receiver.specs.Packets.{packet_of, released}
-use Rattle.tesla_state.specs.State.{Holding, State}
+use Rattle.tesla_walks.specs.Holding.{Holding}
+use Rattle.tesla_state.specs.State.{State}
 use Rattle.tesla_receiver.specs.Stands.{Stands, holding_of, held_at, holdings}
 use Rattle.tesla_state.specs.Steps.{in_interval, is_let_go, is_released, is_numbered}
 use Rattle.tesla_receiver.specs.Tips.{tip_of}

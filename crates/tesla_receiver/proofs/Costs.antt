@@ -30,9 +30,11 @@ use Rattle.tesla_receiver.specs.History.{arrivals_in, given_in}
 use Rattle.tesla_fitting.specs.Rows.{keys_of}
 use Rattle.tesla_receiver.specs.Keys.{newest}
 use Rattle.tesla_receiver.specs.Packets.{packet_of, candidates, released}
-use Rattle.tesla_state.specs.State.{Holding, State}
+use Rattle.tesla_walks.specs.Holding.{Holding}
+use Rattle.tesla_state.specs.State.{State}
 use Rattle.tesla_receiver.specs.Stands.{Stands, holding_of, held_at, holdings}
-use Rattle.tesla_state.specs.Steps.{tip_at, is_newer, new_rows, bound_at, fails, judged, judged_frame, judged_taken, with_keys}
+use Rattle.tesla_walks.specs.Tips.{tip_at, is_newer, fails}
+use Rattle.tesla_state.specs.Steps.{new_rows, bound_at, judged, judged_frame, judged_taken, with_keys}
 use Rattle.tesla_receiver.proofs.Arriving.{keeps_of}
 use Rattle.tesla_receiver.proofs.Judged.{keys_within}
 use Rattle.tesla_receiver.proofs.KeptState.{Keeps, tips_kept}

@@ -9,7 +9,7 @@ use Rattle.tesla_clock.specs.Safe.{has_chain}
 use Rattle.tesla_fitting.specs.declared.config.Config.{Config}
 use Rattle.tesla_receiver.specs.declared.history.Arrival.{Arrival}
 use Rattle.tesla_receiver.specs.declared.packet.Packet.{Packet}
-use Rattle.tesla_state.specs.declared.release.Release.{Release}
+use Rattle.tesla_walks.specs.declared.release.Release.{Release}
 use Rattle.tesla_fitting.specs.Config.{chains}
 use Rattle.tesla_receiver.specs.Keys.{keys_taken, greatest, newest}
 use Rattle.tesla_receiver.specs.Packets.{packet_of, candidates, first_of_each_name, released}

@@ -34,9 +34,11 @@ use Rattle.tesla_fitting.specs.Rows.{carried, keys_of, leads_to}
 use Rattle.tesla_receiver.specs.Keys.{keys_in, takes_keys, newest, new_keys}
 use Rattle.tesla_receiver.specs.Packets.{is_safe, packet_of, candidates, released}
 use Rattle.tesla_state.specs.Releases.{has_name}
-use Rattle.tesla_state.specs.State.{Holding, State}
+use Rattle.tesla_walks.specs.Holding.{Holding}
+use Rattle.tesla_state.specs.State.{State}
 use Rattle.tesla_receiver.specs.Stands.{holding_of, held_at, holdings}
-use Rattle.tesla_state.specs.Steps.{tip_at, is_newer, fails, new_rows, refused, safe_by, is_named_so, in_interval, judged_packet, judged_taken}
+use Rattle.tesla_walks.specs.Tips.{tip_at, is_newer, fails}
+use Rattle.tesla_state.specs.Steps.{new_rows, refused, safe_by, is_named_so, in_interval, judged_packet, judged_taken}
 use Rattle.tesla_receiver.proofs.Batches.{is_open, is_seen, seen_held}
 use Rattle.tesla_receiver.proofs.Tips.{bad_offered}
 use Rattle.tesla_receiver.proofs.KeptState.{Keeps, tip_kept, tips_kept}

@@ -20,10 +20,12 @@ use Rattle.tesla_state.specs.Releases.{is_at}
 use Rattle.tesla_receiver.specs.Held.{has_passed, is_past, is_gone}
 use Rattle.tesla_receiver.specs.Keys.{takes_keys, keys_in, newest, new_keys}
 use Rattle.tesla_receiver.specs.Packets.{packet_of, candidates, released}
-use Rattle.tesla_state.specs.State.{Holding, State}
+use Rattle.tesla_walks.specs.Holding.{Holding}
+use Rattle.tesla_state.specs.State.{State}
 use Rattle.tesla_receiver.specs.Stands.{holding_of, held_at, holdings}
-use Rattle.tesla_state.specs.Steps.{no_tip, tip_at, tips_after, proves_on, released_on, batch_of, released_of, is_passed, is_let_go, marked, kept_after, with_keys}
-use Rattle.tesla_state.specs.Tips.{raised}
+use Rattle.tesla_walks.specs.Tips.{no_tip, tip_at, tips_after, raised}
+use Rattle.tesla_walks.specs.Proved.{proves_on, released_on}
+use Rattle.tesla_state.specs.Steps.{batch_of, released_of, is_passed, is_let_go, marked, kept_after, with_keys}
 use Rattle.tesla_receiver.specs.Tips.{tip_of}
 use Rattle.tesla_receiver.proofs.Batches.{TipsOf, all_held}
 use Rattle.tesla_receiver.proofs.Tips.{tip_index, tip_more}

@@ -15,7 +15,7 @@ use Rattle.tesla_keys.specs.Tip.{Tip}
 use Rattle.tesla_prf.specs.Keys.{walk}
 use Rattle.tesla_prf.proofs.Walks.{walk_none, walk_on}
 use Rattle.tesla_fitting.specs.Rows.{is_of, leads_to}
-use Rattle.tesla_state.specs.Tips.{raised}
+use Rattle.tesla_walks.specs.Tips.{raised}
 
 -- a row's key, as a newest one
 abbrev pub tip_at : KeyRow → Tip

@@ -15,7 +15,7 @@ use Rattle.tesla_receiver.specs.declared.history.Arrival.{Arrival}
 use Rattle.tesla_receiver.specs.declared.history.Entry.{Entry}
 use Rattle.tesla_state.specs.declared.replies.Reply.TheVariants.{Given}
 use Rattle.tesla_receiver.specs.declared.packet.Packet.{Packet}
-use Rattle.tesla_state.specs.declared.release.Release.{Release}
+use Rattle.tesla_walks.specs.declared.release.Release.{Release}
 use Rattle.tesla_state.specs.declared.report.Report.{Report}
 use Rattle.tesla_fitting.specs.Config.{chains}
 use Rattle.tesla_state.specs.Releases.{is_at, head_of}
@@ -23,7 +23,8 @@ use Rattle.tesla_receiver.specs.Held.{has_passed, is_settled, is_gone}
 use Rattle.tesla_receiver.specs.History.{Takes, entry_of, arrivals_in, given_in, has_end, payload_of, reply_with, reply_to}
 use Rattle.tesla_receiver.specs.Packets.{packet_of, released}
 use Rattle.tesla_receiver.specs.Report.{report_on}
-use Rattle.tesla_state.specs.State.{Holding, State}
+use Rattle.tesla_walks.specs.Holding.{Holding}
+use Rattle.tesla_state.specs.State.{State}
 use Rattle.tesla_receiver.specs.Stands.{Stands, holding_of, held_at, holdings}
 use Rattle.tesla_state.specs.Steps.{is_passed, payload_held, is_numbered, payload_at, reply_for, reply_by, taken_after, with_taken, after_take}
 use Rattle.tesla_receiver.specs.Tips.{tip_of}

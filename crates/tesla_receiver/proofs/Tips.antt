@@ -27,7 +27,7 @@ use Rattle.tesla_receiver.specs.Answer.{is_bad, verdict_taken, verdict_on, verdi
 use Rattle.tesla_receiver.specs.History.{Event, Arrives, Takes, Ends, event_of, entry_of, IsLegalAfter, IsLegal, arrival_in, arrivals_in, given_in}
 use Rattle.tesla_fitting.specs.Rows.{keys_of, is_of, leads_to}
 use Rattle.tesla_receiver.specs.Keys.{keys_in, takes_keys, keys_taken, greatest, newest, new_keys, fresh_keys, is_good}
-use Rattle.tesla_state.specs.Tips.{first_tip, raised}
+use Rattle.tesla_walks.specs.Tips.{first_tip, raised}
 use Rattle.tesla_receiver.specs.Tips.{tip_of}
 use Rattle.tesla_receiver.proofs.EachAfter.{each_after_more}
 use Rattle.tesla_receiver.proofs.Events.{arrivals_more}

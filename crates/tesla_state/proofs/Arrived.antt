@@ -18,7 +18,8 @@ use Rattle.tesla_fitting.specs.Rows.{keys_of}
 use Rattle.tesla_state.specs.Judged.{verdict_by}
 use Rattle.tesla_state.specs.Kept.{state_of}
 use Rattle.tesla_state.specs.State.{State}
-use Rattle.tesla_state.specs.Steps.{judged, judged_frame, entered_frame, refused, refused_of, after_arrival, bound_at, fails, is_named_so, in_interval, judged_packet, own, with_keys, batch_of, released_of, kept_after, tips_after}
+use Rattle.tesla_state.specs.Steps.{judged, judged_frame, entered_frame, refused, refused_of, after_arrival, bound_at, is_named_so, in_interval, judged_packet, own, with_keys, batch_of, released_of, kept_after}
+use Rattle.tesla_walks.specs.Tips.{fails, tips_after}
 use Rattle.tesla_state.specs.Stored.{Placed, Stored, holding_at, is_named, is_of}
 use Rattle.tesla_state.proofs.Marked.{any_mapped, filter_mapped}
 
@@ -97,3 +98,9 @@ take_front (suc n) (y ∷ ys) zs h = ap (λ rs. y ∷ rs) (take_front n ys zs (o
 -- the newest keys are written back whole
 pub tips_back : (n : ℕ) (now xs ys : List Tip) → length now ≡ n → length ys ≡ length now → take n (ys ++ drop (length ys) xs) ≡ ys
 tips_back n now xs ys long same = take_front n ys (drop (length ys) xs) (same ∙ long)
+
+-- a frame that isn't refused before its keys fits the setup
+pub fits_where : (other misfit : Bool) (x y : Verdict) (o : Option Verdict) → cond other (Some x) (cond misfit (Some y) o) ≡ None → misfit ≡ false
+fits_where true misfit x y o e = absurd (cc)
+fits_where false true x y o e = absurd (cc)
+fits_where false false x y o e = refl

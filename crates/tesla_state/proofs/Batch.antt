@@ -7,12 +7,12 @@ use Rattle.std.proofs.lemmas.Bool.{and_parts, and_from, or_left, or_from, both_w
 use Rattle.std.proofs.lemmas.List.Elements.{All-head, All-tail, All-nil, All-cons}
 use Rattle.std.proofs.lemmas.List.Sorted.{All-permutation}
 use Rattle.tesla_base.specs.Members.{is_in, Distinct}
-use Rattle.tesla_state.specs.declared.ordering.Proved.{Proved}
-use Rattle.tesla_state.specs.declared.release.Release.{Release}
+use Rattle.tesla_walks.specs.declared.ordering.Proved.{Proved}
+use Rattle.tesla_walks.specs.declared.release.Release.{Release}
 use Rattle.tesla_state.specs.Gathering as gathering
-use Rattle.tesla_state.specs.Gathering.{RiseBy}
-use Rattle.tesla_state.specs.Proved.{release_in}
-use Rattle.tesla_state.specs.State.{Holding}
+use Rattle.tesla_walks.specs.Proved.{RiseBy, release_in}
+use Rattle.tesla_walks.specs.Proved as proofs
+use Rattle.tesla_walks.specs.Holding.{Holding}
 use Rattle.tesla_state.specs.Stored.{Placed, place_of, holding_at, order_of, stands_at, is_proved_by, AreProved, place_proved}
 use Rattle.tesla_state.proofs.Stored.{not_both}
 
@@ -36,7 +36,7 @@ above_numbers n (q ∷ qs) h =
     let here : n < q.release.place = All-head (λ (r : Release). n < r.place) q.release (map release_in qs) h in
     or_from (q.release.place == n) (is_in n (map number_of qs)) (ne_eqb q.release.place n (λ e. omega arith)) (above_numbers n qs (All-tail (λ (r : Release). n < r.place) q.release (map release_in qs) h))
 
-pub numbers_differ : (qs : List Proved) → RiseBy gathering.place_of (map release_in qs) → Distinct (map number_of qs)
+pub numbers_differ : (qs : List Proved) → RiseBy proofs.place_of (map release_in qs) → Distinct (map number_of qs)
 numbers_differ [] h = tt
 numbers_differ (q ∷ qs) h = (above_numbers q.release.place qs h.0, numbers_differ qs h.1)
 

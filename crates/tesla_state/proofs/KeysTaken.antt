@@ -11,19 +11,20 @@ use Rattle.tesla_frame.specs.declared.row.KeyRow.{KeyRow}
 use Rattle.tesla_keys.specs.Tip.{Tip}
 use Rattle.tesla_base.specs.Members.{is_in, Distinct}
 use Rattle.tesla_fitting.specs.declared.config.Config.{Config}
-use Rattle.tesla_state.specs.declared.release.Release.{Release}
+use Rattle.tesla_walks.specs.declared.release.Release.{Release}
 use Rattle.tesla_fitting.specs.Config.{chains}
 use Rattle.tesla_clock.specs.Safe.{has_chain}
-use Rattle.tesla_state.specs.Gathering.{AreIndices, Spans, index_at, index_in, is_first, is_reached}
+use Rattle.tesla_walks.specs.ReachedIntervals.{AreIndices, Spans, index_at, index_in, is_first, is_reached}
 use Rattle.tesla_state.specs.Releases.{is_at}
 use Rattle.tesla_fitting.specs.Rows.{is_of}
-use Rattle.tesla_state.specs.Offered.{IsOfChains}
-use Rattle.tesla_state.specs.Tips.{raised}
-use Rattle.tesla_state.specs.State.{Holding}
-use Rattle.tesla_state.specs.Steps.{no_tip, tips_after, is_let_go, is_over, is_passed, marked, kept_after, batch_of, proof_of, proves_on, released_of, released_on}
+use Rattle.tesla_walks.specs.Offered.{IsOfChains}
+use Rattle.tesla_walks.specs.Tips.{raised, no_tip, tips_after}
+use Rattle.tesla_walks.specs.Holding.{Holding}
+use Rattle.tesla_state.specs.Steps.{is_let_go, is_over, is_passed, marked, kept_after, batch_of, released_of}
+use Rattle.tesla_walks.specs.Proved.{proof_of, proves_on, released_on}
 use Rattle.tesla_state.specs.Stored.{Placed, place_of, holding_at, order_of, after_batch, is_idle, in_span, in_reach, AreNeeded}
 use Rattle.tesla_state.proofs.Gathering.{unreached_unproved}
-use Rattle.tesla_state.proofs.ReachedIntervals.{outside_unreached, reached_by}
+use Rattle.tesla_state.proofs.UnreachedIntervals.{outside_unreached, reached_by}
 use Rattle.tesla_state.proofs.ReleasedPackets.{flat_same_in, eq_turn}
 
 -- ---- one packet

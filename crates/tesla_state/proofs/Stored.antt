@@ -1,11 +1,10 @@
 -- Packets in their places, through a mark or a removal.
 use Rattle.std.proofs.Common.{◌≡◌, ℕ, ◌+◌, ◌<◌, ◌≤◌, Bool, true, false, cond, ◌&&◌, ◌||◌, List, [], ◌∷◌, ◌++◌, length, map, take, Option, Some, None, refl, sym, ap, subst, ⊎_elim, ◌∙◌, arith, ◌==◌}
-use Rattle.std.specs.Prelude.{not, find, option_map}
+use Rattle.std.specs.Prelude.{not, find, option_map, All}
 use Rattle.std.specs.List.{list_any, list_all, filter}
 use Rattle.std.proofs.lemmas.Bool.{cases_Bool, and_parts, and_from, and_left, or_cases, or_left, or_right, or_from, both_ways, eqb-true, ne_eqb, eq-eqb, not-true, false_from_ne_true, not-false}
 use Rattle.std.proofs.lemmas.List.Folds.{list_any-append}
 use Rattle.std.proofs.lemmas.Option.{none-some, same_Some}
-use Rattle.std.specs.Prelude.{All}
 use Rattle.std.proofs.lemmas.List.Elements.{All-cons, All-filter, All-map, All-nil, All-weaker, All-head, All-tail, All-push}
 use Rattle.tesla_base.proofs.Lists.{list_all_weaker, list_all_both}
 use Rattle.tesla_base.specs.declared.names.Name.{Name}
@@ -19,10 +18,10 @@ use Rattle.tesla_fitting.specs.Rows.{tag_in}
 use Rattle.tesla_buffer.specs.Held as buffer
 use Rattle.tesla_base.specs.Members.{is_in, Distinct}
 use Rattle.tesla_release.specs.declared.queue.Waiting.{Waiting}
-use Rattle.tesla_state.specs.declared.ordering.Proved.{Proved}
-use Rattle.tesla_state.specs.declared.release.Release.{Release}
-use Rattle.tesla_state.specs.ItemShown.{holding_in, IsFilled, IsItem}
-use Rattle.tesla_state.specs.State.{Holding}
+use Rattle.tesla_walks.specs.declared.ordering.Proved.{Proved}
+use Rattle.tesla_walks.specs.declared.release.Release.{Release}
+use Rattle.tesla_walks.specs.ItemShown.{holding_in, IsFilled, IsItem}
+use Rattle.tesla_walks.specs.Holding.{Holding}
 use Rattle.tesla_state.specs.Stored.{Placed, placed_in, place_of, stands_at, release_by, release_in, waits, waits_at, rests_at, is_sound, is_proved_by, with_released, without, place_in, IsStored, IsStore, IsItemOf, is_of, first_place, next_place, is_unreleased_at, is_unreleased_of, next_unreleased}
 use Rattle.tesla_state.proofs.Marked.{any_mapped, all_mapped, map_mapped, filter_mapped, find_mapped, any_filtered, find_filtered, all_filtered, any_with_all, any_weaker}
 

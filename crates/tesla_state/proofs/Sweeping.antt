@@ -11,8 +11,8 @@ use Rattle.tesla_keys.specs.Tip.{Tip}
 use Rattle.tesla_base.specs.Members.{is_in, Distinct}
 use Rattle.tesla_fitting.specs.declared.config.Config.{Config}
 use Rattle.tesla_fitting.specs.Config.{chains}
-use Rattle.tesla_state.specs.Gathering.{IsHighest}
-use Rattle.tesla_state.specs.State.{Holding}
+use Rattle.tesla_walks.specs.ReachedIntervals.{IsHighest}
+use Rattle.tesla_walks.specs.Holding.{Holding}
 use Rattle.tesla_state.specs.Steps.{is_over, is_passed}
 use Rattle.tesla_clock.specs.Safe.{has_chain}
 use Rattle.tesla_base.proofs.Lists.{list_all_weaker}

@@ -15,18 +15,19 @@ use Rattle.tesla_frame.specs.declared.row.KeyRow.{KeyRow}
 use Rattle.tesla_keys.specs.Tip.{Tip}
 use Rattle.tesla_base.specs.Members.{Distinct}
 use Rattle.tesla_fitting.specs.declared.config.Config.{Config}
-use Rattle.tesla_state.specs.declared.ordering.Proved.{Proved}
-use Rattle.tesla_state.specs.declared.release.Release.{Release}
+use Rattle.tesla_walks.specs.declared.ordering.Proved.{Proved}
+use Rattle.tesla_walks.specs.declared.release.Release.{Release}
 use Rattle.tesla_fitting.specs.Config.{chains}
-use Rattle.tesla_state.specs.Gathering.{AreIndices, IsHighest, Spans, in_turn, index_at, index_in, is_reached}
-use Rattle.tesla_state.specs.Offered.{IsOfChains}
-use Rattle.tesla_state.specs.Proved.{release_in}
-use Rattle.tesla_state.specs.State.{Holding}
-use Rattle.tesla_state.specs.Steps.{batch_of, proof_of, proves_on, released_on, in_interval}
+use Rattle.tesla_walks.specs.ReachedIntervals.{AreIndices, IsHighest, Spans, index_at, index_in, is_reached}
+use Rattle.tesla_state.specs.Gathering.{in_turn}
+use Rattle.tesla_walks.specs.Offered.{IsOfChains}
+use Rattle.tesla_walks.specs.Proved.{release_in, proof_of, proves_on, released_on}
+use Rattle.tesla_walks.specs.Holding.{Holding}
+use Rattle.tesla_state.specs.Steps.{batch_of, in_interval}
 use Rattle.tesla_state.specs.Stored.{Placed, place_of, holding_at, stands_at, is_of, is_unreleased_of, is_proved_by, first_place, next_unreleased, AreProved}
-use Rattle.tesla_state.specs.Walking.{Walking, rows_of, IsAbove, left, tries, pairs}
+use Rattle.tesla_walks.specs.Walking.{Walking, rows_of, IsAbove, left, tries, pairs}
 use Rattle.tesla_state.proofs.Gathering.{is_past, nothing_given, only_those, past_parts, past_sum, same_given, sum_ones, unreached_unproved}
-use Rattle.tesla_state.proofs.ReachedIntervals.{highest_by, outside_unreached, reached_by}
+use Rattle.tesla_state.proofs.UnreachedIntervals.{highest_by, outside_unreached, reached_by}
 use Rattle.tesla_state.proofs.Marked.{filter_mapped}
 use Rattle.tesla_state.proofs.Sweeping.{Comes, comes, found_stands, picked_of}
 

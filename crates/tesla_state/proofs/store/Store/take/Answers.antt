@@ -8,7 +8,7 @@ use Rattle.tesla_release.specs.Released.{given_after}
 use Rattle.tesla_release.specs.declared.queue.Waiting.{Waiting}
 use Rattle.tesla_base.specs.declared.release.Head.{Head}
 use Rattle.tesla_fitting.specs.Config.{chains}
-use Rattle.tesla_state.specs.ItemShown.{holding_in}
+use Rattle.tesla_walks.specs.ItemShown.{holding_in}
 use Rattle.tesla_state.specs.Steps.{is_passed}
 use Rattle.tesla_state.specs.Stored.{Stored, Placed, placed_in, release_in, release_by, stands_at, order_of, after_take, IsStore, IsItemOf}
 use Rattle.tesla_state.proofs.Stored.{found_shown, found_passes}
