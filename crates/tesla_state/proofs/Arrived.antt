@@ -4,6 +4,7 @@ use Rattle.std.specs.Prelude.{not, find, option_map, count_by, nat_lt}
 use Rattle.std.specs.List.{list_any, filter, enumerate_from}
 use Rattle.std.proofs.lemmas.Bool.{or_parts, true≢false, eqb-true}
 use Rattle.tesla_base.specs.Version.{number_of}
+use Rattle.tesla_base.proofs.Filtered.{filter-map}
 use Rattle.std.proofs.lemmas.List.Sums.{length-filter}
 use Rattle.tesla_frame.specs.Frame.{Frame, Data, DataFrame, TagRow}
 use Rattle.tesla_frame.specs.Reading.{frame_of}
@@ -21,7 +22,7 @@ use Rattle.tesla_state.specs.State.{State}
 use Rattle.tesla_state.specs.Steps.{judged, judged_frame, entered_frame, refused, refused_of, after_arrival, bound_at, is_named_so, in_interval, judged_packet, own, with_keys, batch_of, released_of, kept_after}
 use Rattle.tesla_walks.specs.Tips.{fails, tips_after}
 use Rattle.tesla_state.specs.Stored.{Placed, Stored, holding_at, is_named, is_of}
-use Rattle.tesla_state.proofs.Marked.{any_mapped, filter_mapped}
+use Rattle.tesla_state.proofs.Marked.{any_mapped}
 
 length-holdings : (held : List Placed) → length (map holding_at held) ≡ length held
 length-holdings [] = refl
@@ -29,7 +30,7 @@ length-holdings (x ∷ xs) = let rest = length-holdings xs in omega arith
 
 counted_is : (i : ℕ) (held : List Placed) → count_by (in_interval i) (map holding_at held) ≡ length (filter (is_of i) held)
 counted_is i held =
-    sym (length-filter (in_interval i) (map holding_at held)) ∙ ap length (filter_mapped (in_interval i) holding_at held) ∙ length-holdings (filter (is_of i) held)
+    sym (length-filter (in_interval i) (map holding_at held)) ∙ ap length (filter-map (in_interval i) holding_at held) ∙ length-holdings (filter (is_of i) held)
 
 pub judged_is : (cfg : Config) (tips : List Tip) (store : Stored) (ended : List Bool) (counts : Report) (calls reserved : ℕ) (set : ℕ) (f : DataFrame) → judged_packet (state_of cfg tips store ended counts calls reserved) set f ≡ verdict_by cfg.capacity cfg.quota set (is_named store.held f.name) (length store.held) (length (filter (is_of f.name.interval) store.held))
 judged_is cfg tips store ended counts calls reserved set f =

@@ -12,6 +12,7 @@ use Rattle.tesla_frame.specs.Frame.{Frame, Data, Disclosure}
 use Rattle.tesla_frame.specs.Reading.{frame_of}
 use Rattle.tesla_keys.specs.Tip.{Tip}
 use Rattle.tesla_base.specs.Members.{Distinct}
+use Rattle.tesla_base.proofs.Filtered.{filter-map}
 use Rattle.tesla_fitting.specs.declared.config.Config.{Config}
 use Rattle.tesla_walks.specs.declared.ordering.Proved.{Proved}
 use Rattle.tesla_fitting.specs.declared.verdict.Verdict.{Verdict}
@@ -26,7 +27,6 @@ use Rattle.tesla_state.specs.Steps.{bound_at, in_interval, is_named_so, judged_t
 use Rattle.tesla_walks.specs.Tips.{fails, is_newer, tip_at}
 use Rattle.tesla_state.specs.Stored.{Placed, place_of, holding_at, stands_at, is_of, is_unreleased_of}
 use Rattle.tesla_walks.specs.Walking.{Walking, rows_of, left, tried, tries, pairs}
-use Rattle.tesla_state.proofs.Marked.{filter_mapped}
 use Rattle.tesla_state.proofs.Sweeping.{comes}
 use Rattle.tesla_state.proofs.TriedIntervals.{Trying, take_all, take_next}
 
@@ -79,7 +79,7 @@ module _ (cfg : Config) (tips : List Tip) (begun : List Walking) (held : List Pl
   tried_whole h =
       ap (λ xs. pairs cfg tips (rows_of begun) (map holding_at xs)) (take_all n (filter (is_unreleased_of i) held) h)
       ∙ sum_unreleased (tries cfg tips (rows_of begun)) (λ item e. released_none item.released (tried cfg tips (rows_of begun) item) e) held i
-      ∙ ap (pairs cfg tips (rows_of begun)) (sym (filter_mapped (in_interval i) holding_at held))
+      ∙ ap (pairs cfg tips (rows_of begun)) (sym (filter-map (in_interval i) holding_at held))
 
 -- ---- an arrival
 

@@ -10,6 +10,7 @@ use Rattle.tesla_base.proofs.Lists.{list_all_weaker}
 use Rattle.tesla_frame.specs.declared.row.KeyRow.{KeyRow}
 use Rattle.tesla_keys.specs.Tip.{Tip}
 use Rattle.tesla_base.specs.Members.{is_in, Distinct}
+use Rattle.tesla_base.proofs.Passing.{all_same}
 use Rattle.tesla_fitting.specs.declared.config.Config.{Config}
 use Rattle.tesla_walks.specs.declared.release.Release.{Release}
 use Rattle.tesla_fitting.specs.Config.{chains}
@@ -187,10 +188,6 @@ tips_same i n (t ∷ ts) rows out (suc c) =
     tips_same i (n + 1) ts rows
     (λ k. let next : n + suc k ≡ n + 1 + k = omega arith in subst (λ (m : ℕ). All (λ (row : KeyRow). is_of m row ≡ true → (nat_lt (get_or ts k no_tip).index i && nat_le i row.index) ≡ false) rows) next (out (suc k))) c
 
-all_same : (f g : ℕ → Bool) → ((c : ℕ) → f c ≡ g c) → (xs : List ℕ) → list_all f xs ≡ list_all g xs
-all_same f g same [] = refl
-all_same f g same (x ∷ xs) = ap (λ t. t && list_all f xs) (same x) ∙ ap (λ t. g x && t) (all_same f g same xs)
-
 -- no key of any chain is the first to reach it
 none_first : (tips : List Tip) (new : List KeyRow) (i k : ℕ) → is_reached (index_in tips) new i ≡ false → All (λ (row : KeyRow). is_of k row ≡ true → (nat_lt (get_or tips k no_tip).index i && nat_le i row.index) ≡ false) new
 none_first tips [] i k none = All-nil (λ (row : KeyRow). is_of k row ≡ true → (nat_lt (get_or tips k no_tip).index i && nat_le i row.index) ≡ false)
@@ -211,8 +208,8 @@ idle_same cfg tips new x none =
     let i : ℕ = x.holding.name.interval in
     let same = passed_same tips new i none in
     ap (λ t. (t && not x.holding.released) || (x.holding.taken && list_all (is_passed (tips_after tips new) i) (chains cfg)))
-    (all_same (is_over (tips_after tips new) x.holding) (is_over tips x.holding) (λ c. ap (λ t. not (has_chain x.holding.chains c) || t) (same c)) (chains cfg))
-    ∙ ap (λ t. (list_all (is_over tips x.holding) (chains cfg) && not x.holding.released) || (x.holding.taken && t)) (all_same (is_passed (tips_after tips new) i) (is_passed tips i) same (chains cfg))
+    (all_same (is_over (tips_after tips new) x.holding) (is_over tips x.holding) (chains cfg) (λ c. ap (λ t. not (has_chain x.holding.chains c) || t) (same c)))
+    ∙ ap (λ t. (list_all (is_over tips x.holding) (chains cfg) && not x.holding.released) || (x.holding.taken && t)) (all_same (is_passed (tips_after tips new) i) (is_passed tips i) (chains cfg) same)
 
 all_and : {A : Type 0} (p q : A → Bool) (xs : List A) → list_all p xs ≡ true → list_all q xs ≡ true → list_all (λ x. p x && q x) xs ≡ true
 all_and p q [] a b = refl

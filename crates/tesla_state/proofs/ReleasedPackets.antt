@@ -10,6 +10,7 @@ use Rattle.std.proofs.lemmas.List.Folds.{list_any-append, flat_map-map}
 use Rattle.tesla_base.specs.declared.names.Name.{Name}
 use Rattle.tesla_base.proofs.Lists.{list_all_weaker}
 use Rattle.tesla_base.specs.Members.{is_in, Distinct}
+use Rattle.tesla_base.proofs.Members.{head_other}
 use Rattle.tesla_walks.specs.declared.ordering.Proved.{Proved}
 use Rattle.tesla_walks.specs.declared.release.Release.{Release}
 use Rattle.tesla_state.specs.Releases.{is_at, each_after, has_name, unless_named}
@@ -321,10 +322,6 @@ has_order q (x ∷ xs) h =
     (λ e. or_left (x.holding.order == q.release.place) (is_in q.release.place (map order_of xs)) (order_there q x (and_parts (stands_at q.place.0 x) (is_of_release q x) e).1))
     (λ e. or_right (x.holding.order == q.release.place) (is_in q.release.place (map order_of xs)) (has_order q xs e))
     (or_cases (is_proved_by q x) (list_any (is_proved_by q) xs) h)
-
--- where a number stands in the rest, the head is another
-head_other : (n x : ℕ) (xs : List ℕ) → is_in x xs ≡ false → is_in n xs ≡ true → (x == n) ≡ false
-head_other n x xs none there = false_from_ne_true (x == n) (λ e. both_ways (is_in x xs) none (ap (λ (k : ℕ). is_in k xs) (eqb-true x n e) ∙ there))
 
 tell_all : (q : Proved) (held : List Placed) → Distinct (map place_of held) → Distinct (map order_of held) → list_any (is_proved_by q) held ≡ true → list_all (tell_same q) held ≡ true
 tell_all q [] d o h = refl
