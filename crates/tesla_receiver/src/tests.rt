@@ -11,7 +11,8 @@ ghost use Rattle.tesla_fitting.specs.declared.config.Config.{Config};
 ghost use Rattle.tesla_state.specs.declared.report.Report.{Report};
 ghost use Rattle.tesla_receiver.specs.Costs.{gaps_of, most_of};
 ghost use Rattle.tesla_state.specs.Costs.{most_on};
-ghost use Rattle.tesla_state.specs.State.{Holding, State};
+ghost use Rattle.tesla_walks.specs.Holding.{Holding};
+ghost use Rattle.tesla_state.specs.State.{State};
 ghost use Rattle.tesla_state.specs.Steps.{bound_at};
 
 use super::*;
