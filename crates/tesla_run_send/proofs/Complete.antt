@@ -3,7 +3,7 @@ use Rattle.std.proofs.Common.{◌≡◌, ◌∙◌, ◌⊎◌, inl, inr, ℕ, Bo
 use Rattle.tesla_base.specs.declared.names.Key.{Key}
 use Rattle.tesla_commit.specs.Parts.{Parts}
 use Rattle.tesla_commit.specs.declared.refusal.SetupKind.{SetupKind}
-use Rattle.tesla_commit.specs.declared.seeds.refusal.SeedsKind.{SeedsKind}
+use Rattle.tesla_seeds.specs.declared.refusal.SeedsKind.{SeedsKind}
 use Rattle.tesla_desk.specs.Outside.{Page, Holds, Told}
 use Rattle.tesla_front.specs.Came.{Came, Done, Usage, Refused, Failed}
 use Rattle.tesla_front.specs.Command.{Performs}
