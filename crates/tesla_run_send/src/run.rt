@@ -20,12 +20,12 @@ use std::marker::Brand;
 use std::sync::ledger::{Blank, Ledger};
 use tesla_base::{Kind, Steps};
 use tesla_commit::Setup;
-use tesla_seeds::Seeds;
 use tesla_convert::{Conversion, Ending, Stopped, close_files, open_files};
 use tesla_desk::{Desk, Sink, Source};
 use tesla_front::{
     Fault, Lines, Outcome, Stop, add_count, outcome_of, refused, seeds_under, setup_under,
 };
+use tesla_seeds::Seeds;
 use tesla_sender::{Sender, SenderRefusal};
 
 /// Runs the words as those of `send`: reads the setup under SETUP and the seeds under SECRET, and sends SCRIPT, each
