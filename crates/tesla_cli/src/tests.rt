@@ -13,16 +13,21 @@ seed 2222222222222222222222222222222222222222222222222222222222222222
 ";
 
 /// "hi" in interval 1, "yo" in interval 3, and at last a disclosure.
-const SCRIPT: &[u8] = b"TSCR\x01\x01\x00\x00\x00\x00\x00\x11\x8c\x30\x00\x02hi\x01\x00\x00\x00\x00\x00\x14\x99\x70\x00\x02yo\x02\x00\x00\x00\x00\x00\x23\xdb\xb0";
+const SCRIPT: &[u8] =
+    b"TSCR\x01\x01\x00\x00\x00\x00\x00\x11\x8c\x30\x00\x02hi\x01\x00\x00\x00\x00\x00\x14\x99\x70\x00\x02yo\x02\x00\x00\x00\x00\x00\x23\xdb\xb0";
 
 /// "yo" in interval 3, and then "hi" in interval 1.
-const BACKWARD: &[u8] = b"TSCR\x01\x01\x00\x00\x00\x00\x00\x14\x99\x70\x00\x02yo\x01\x00\x00\x00\x00\x00\x11\x8c\x30\x00\x02hi";
+const BACKWARD: &[u8] =
+    b"TSCR\x01\x01\x00\x00\x00\x00\x00\x14\x99\x70\x00\x02yo\x01\x00\x00\x00\x00\x00\x11\x8c\x30\x00\x02hi";
 
 /// What is released of the script's stream.
-const RELEASED: &[u8] = b"\x00\x00\x00\x00\x00\x00\x00\x00\x00\x00\x00\x01\x00\x00\x00\x00\x02hi\x00\x00\x00\x00\x00\x00\x00\x01\x00\x00\x00\x03\x00\x00\x00\x00\x02yo";
+const RELEASED: &[u8] =
+    b"\x00\x00\x00\x00\x00\x00\x00\x00\x00\x00\x00\x01\x00\x00\x00\x00\x02hi\x00\x00\x00\x00\x00\x00\x00\x01\x00\x00\x00\x03\x00\x00\x00\x00\x02yo";
 
 const CHAIN: &str = "chain made secret 00000000000000a7 1000000 100000 8 2 5";
+
 const SEND: &str = "send setup secret script capture";
+
 const REPLAY: &str = "replay setup 30000 16 capture out";
 
 const REPORT: &str = "0 arrivals 3
@@ -95,7 +100,14 @@ fn a_stream_from_nothing(rt: HostRuntime) -> Result<(), Fail> {
     let mut desk = desk_with_capture(rt.alloc())?;
     let made = ("made", SETUP.as_bytes());
     run(&rt, rt.alloc(), &mut desk, CHAIN, "0 chains 2\n", made)?;
-    run(&rt, rt.alloc(), &mut desk, REPLAY, REPORT, ("out", RELEASED))
+    run(
+        &rt,
+        rt.alloc(),
+        &mut desk,
+        REPLAY,
+        REPORT,
+        ("out", RELEASED),
+    )
 }
 
 #[test]
@@ -156,7 +168,14 @@ fn a_fault_behind_a_refused_place_in_replay(rt: HostRuntime) -> Result<(), Fail>
     desk.set_piece("capture", 7)?;
     desk.fail_call("capture", 1)?;
     let out = ("out", b"".as_slice());
-    run(&rt, rt.alloc(), &mut desk, REPLAY, "3 refused capture 6 BadKind\n", out)
+    run(
+        &rt,
+        rt.alloc(),
+        &mut desk,
+        REPLAY,
+        "3 refused capture 6 BadKind\n",
+        out,
+    )
 }
 
 #[test]
@@ -175,7 +194,14 @@ fn a_fault_behind_a_refused_place_in_send(rt: HostRuntime) -> Result<(), Fail> {
 fn a_report_that_is_lost(rt: HostRuntime) -> Result<(), Fail> {
     let mut desk = desk_with_capture(rt.alloc())?;
     desk.set_room("-", 3)?;
-    run(&rt, rt.alloc(), &mut desk, REPLAY, "5 arr", ("out", RELEASED))
+    run(
+        &rt,
+        rt.alloc(),
+        &mut desk,
+        REPLAY,
+        "5 arr",
+        ("out", RELEASED),
+    )
 }
 
 #[test]
