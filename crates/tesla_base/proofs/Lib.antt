@@ -3,3 +3,9 @@ pub mod Spellings
 pub mod Fronts
 pub mod Lists
 pub mod Tags
+pub mod Members
+pub mod Filtered
+pub mod Passing
+pub mod Below
+pub mod Sums
+pub mod Numbered

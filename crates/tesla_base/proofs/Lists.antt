@@ -1,5 +1,5 @@
 -- Lists of any elements: places, numbered elements, searches, tests and fronts, beside what the lemmas of std say.
-use Rattle.std.proofs.Common.{◌≡◌, ℕ, zero, suc, ◌+◌, ◌-◌, ◌<◌, ◌≤◌, Bool, true, false, cond, ◌||◌, List, [], ◌∷◌, ◌++◌, length, get_or, take, drop, map, replicate, Some, None, refl, sym, ap, ◌∙◌, arith, add-one, add-zero, count_by}
+use Rattle.std.proofs.Common.{◌≡◌, ℕ, zero, suc, ◌+◌, ◌-◌, ◌<◌, ◌≤◌, Bool, true, false, cond, ◌||◌, List, [], ◌∷◌, ◌++◌, length, get_or, take, drop, map, replicate, Option, Some, None, refl, sym, ap, ◌∙◌, arith, add-one, add-zero, count_by}
 use Rattle.std.specs.Prelude.{eqb, find, option_map, slice_get}
 use Rattle.std.specs.List.{enumerate_from, flat_map, list_all, list_any, range_with_len}
 use Rattle.std.proofs.Math.ListN.{set}
@@ -68,6 +68,42 @@ part_put_behind xs ys from until k n ordered within fits =
     ap (take (until + n - from)) (drop-append-le from (take until xs) behind (omega arith))
     ∙ ap (λ j. take j (held ++ behind)) sum ∙ take-add (until - from) n (held ++ behind)
     ∙ (rw (take_at held behind _ size, drop_at held behind _ size, take-append-le n ys (post_of until k xs) fits, same) refl)
+
+-- an element of a front
+pub taken_at : {A : Type 0} (xs : List A) (i n : ℕ) → i < n → slice_get (take n xs) i ≡ slice_get xs i
+taken_at xs i zero less = absurd (omega arith)
+taken_at [] i (suc n) less = refl
+taken_at (x ∷ xs) zero (suc n) less = refl
+taken_at (x ∷ xs) (suc i) (suc n) less = taken_at xs i n (omega arith)
+
+-- an element of the rest
+pub from_drop : {A : Type 0} (xs : List A) (n k : ℕ) → slice_get (drop n xs) k ≡ slice_get xs (n + k)
+from_drop [] zero k = refl
+from_drop [] (suc n) k = refl
+from_drop (x ∷ xs) zero k = ap (slice_get (x ∷ xs)) (let count : k ≡ 0 + k = omega arith in count)
+from_drop (x ∷ xs) (suc n) k = from_drop xs n k ∙ ap (slice_get (x ∷ xs)) (let count : suc (n + k) ≡ suc n + k = omega arith in count)
+
+-- what is behind the first of a rest
+pub drop_suc : {A : Type 0} (xs : List A) (n : ℕ) (x : A) (rest : List A) → drop n xs ≡ x ∷ rest → drop (suc n) xs ≡ rest
+drop_suc [] zero x rest h = absurd (cc)
+drop_suc [] (suc n) x rest h = absurd (cc)
+drop_suc (y ∷ xs) zero x rest h = cc
+drop_suc (y ∷ xs) (suc n) x rest h = drop_suc xs n x rest h
+
+pub drop_next : {A : Type 0} (xs : List A) (n : ℕ) (x : A) (rest : List A) → drop n xs ≡ x ∷ rest → drop (n + 1) xs ≡ rest
+drop_next xs n x rest h = ap (λ (m : ℕ). drop m xs) (add-one n) ∙ drop_suc xs n x rest h
+
+-- the first, if there is one
+abbrev pub first_in : {A : Type 0} → List A → Option A
+first_in [] = None
+first_in (x ∷ xs) = Some x
+
+-- the element at a place is the first of the rest from there
+pub next_first : {A : Type 0} (xs : List A) (n : ℕ) → slice_get xs n ≡ first_in (drop n xs)
+next_first [] zero = refl
+next_first [] (suc n) = refl
+next_first (x ∷ xs) zero = refl
+next_first (x ∷ xs) (suc n) = next_first xs n
 
 -- so many copies are one and the others
 pub replicate_first : {A : Type 0} (x : A) (n i : ℕ) → i < n → replicate (n - i) x ≡ x ∷ replicate (n - (i + 1)) x

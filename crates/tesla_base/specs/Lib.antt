@@ -3,3 +3,4 @@ pub mod Number
 pub mod Front
 pub mod Version
 pub mod Tag
+pub mod Members

@@ -11,9 +11,9 @@ use Rattle.tesla_buffer.specs.Stored.{IsEntryOf, Keyed, held_at, item_at, places
 use Rattle.tesla_buffer.specs.declared.item.Item.{Item}
 use Rattle.tesla_links.specs.Entries.{Entry}
 use Rattle.tesla_links.specs.Entries.{first_place as first_entry, is_at as entry_at, is_under, is_unmarked_at, is_unmarked_under, marked_at, next_place as next_entry, next_unmarked}
-use Rattle.tesla_links.specs.Lists.{Distinct, is_in, without}
-use Rattle.tesla_links.proofs.Filtered.{filter-map}
-use Rattle.tesla_links.proofs.Members.{apart, in_cases, in_here, in_there, split_at, without_split}
+use Rattle.tesla_base.specs.Members.{Distinct, is_in, without}
+use Rattle.tesla_base.proofs.Filtered.{filter-map}
+use Rattle.tesla_base.proofs.Members.{apart, in_cases, in_here, in_there, split_at, without_split}
 
 -- ---- places
 

@@ -14,11 +14,11 @@ use Rattle.tesla_buffer.specs.Stored.{IsStored, IsNumbered, Keyed, held_at, item
 use Rattle.tesla_buffer.specs.declared.item.Item.{Item}
 use Rattle.tesla_links.specs.Entries.{Entries, Entry}
 use Rattle.tesla_links.specs.Entries.{first_place as first_entry, is_at as entry_at, is_under, is_unmarked_under, marked_at, next_place as next_entry, next_unmarked}
-use Rattle.tesla_links.specs.Lists.{Distinct, is_in, without}
+use Rattle.tesla_base.specs.Members.{Distinct, is_in, without}
 use Rattle.tesla_links.specs.Slots.{has_key}
-use Rattle.tesla_links.proofs.Filtered.{distinct_filter, filter-map, in_filter}
+use Rattle.tesla_base.proofs.Filtered.{distinct_filter, filter-map, in_filter}
 use Rattle.tesla_links.proofs.Keyed.{replicate_same}
-use Rattle.tesla_links.proofs.Members.{apart_from, differs, distinct_push, distinct_split, in_cases, in_front, in_here, in_joined, in_rest, without_other, without_same}
+use Rattle.tesla_base.proofs.Members.{apart_from, differs, distinct_push, distinct_split, in_cases, in_front, in_here, in_joined, in_rest, without_other, without_same}
 use Rattle.tesla_buffer.proofs.Places.{any_held, first_is, next_is, of_interval, of_unreleased, to_place, unreleased_next_is, held_on, held_there, keyed_filter, keyed_marked, keyed_on, keyed_push, length-without, live_is, places_without}
 
 -- ---- a place for a packet

@@ -5,7 +5,7 @@ use Rattle.tesla_base.specs.declared.names.Name.{Name}
 use Rattle.tesla_buffer.specs.Held.{Held, is_resting}
 use Rattle.tesla_buffer.specs.declared.item.Item.{Item}
 use Rattle.tesla_links.specs.Entries.{Entries, Entry}
-use Rattle.tesla_links.specs.Lists.{Distinct, is_in}
+use Rattle.tesla_base.specs.Members.{Distinct, is_in}
 
 -- an item that stands for none
 abbrev pub no_item : Item

@@ -2,7 +2,7 @@
 
 ghost use Rattle.std.specs.Prelude.{◌≡◌, ◌<◌, ◌≤◌, [], ◌∷◌, ◌++◌, ◌&&◌, false, true, not, length, map, option_map, IfOk, IfSome, MatchOption, Some};
 ghost use Rattle.std.specs.List.{filter, find, list_any};
-ghost use Rattle.tesla_links.specs.Lists.{Distinct, is_in};
+ghost use Rattle.tesla_base.specs.Members.{Distinct, is_in};
 ghost use Rattle.tesla_buffer.specs.Held.{Held, IsMadeOf, changed, first_place, is_at, is_live, is_of, is_released_as, is_resting, is_unreleased_at, is_unreleased_of, next_place, next_unreleased, settled};
 
 use crate::parts::{key_of_name, rests, vacant_slot, write_parts};

@@ -6,7 +6,7 @@ ghost use Rattle.tesla_desk.specs.Outside.{after_bytes};
 ghost use Rattle.tesla_capture.specs.Grammar.{IsFile};
 ghost use Rattle.tesla_capture.specs.Capture.{Record, IsCapture, capture};
 ghost use Rattle.tesla_capture.specs.Script.{Record as ScriptRecord, IsScript, script};
-ghost use Rattle.tesla_capture.specs.Outline.{AtEnd, Recorded, Refuses, next_at, outline_of, outline_at, with_record};
+ghost use Rattle.tesla_capture.specs.Outline.{AtEnd, Recorded, Refuses, outline_of};
 ghost use Rattle.tesla_capture.specs.Records as files;
 ghost use Rattle.tesla_capture.specs.Refused.{IsRefused};
 ghost use Rattle.tesla_capture.specs.Steps.{GivesRecord, LeavesFrom, TakesNoRecord};
@@ -70,18 +70,6 @@ pub fn captures()
     files::<CaptureFormat>()
 }
 
-/// The outline of the rest of a file, one record after the other.
-pub fn outlines()
-    // A file that ended has no record left.
-    ensures ended { (place : ℕ) (rest : List ℕ) → next_at place rest ≡ AtEnd → outline_at place rest ≡ record { records = []; fault = None } }
-    // A record comes before those after it.
-    ensures one { (place now : ℕ) (rest after : List ℕ) (first : Record) → next_at place rest ≡ Recorded first now after → outline_at place rest ≡ with_record first (outline_at now after) }
-    // A refused place ends the records.
-    ensures refused { (place at : ℕ) (rest : List ℕ) (kind : RecordKind) → next_at place rest ≡ Refuses at kind → outline_at place rest ≡ record { records = []; fault = Some (at, kind) } }
-{
-    file_outlines::<CaptureFormat>()
-}
-
 /// The outline of a file is its script, and each script has one spelling; of a file that is none it has the
 /// whole records up to the first place that is refused, and the kind of that refusal.
 pub fn scripts()
@@ -95,16 +83,4 @@ pub fn scripts()
     ensures refused_only { (bytes : List ℕ) (records : List ScriptRecord) (place : ℕ) (kind : RecordKind) → IsRefused script bytes records place kind → files.outline_of script bytes ≡ record { records = records; fault = Some (place, kind) } }
 {
     files::<ScriptFormat>()
-}
-
-/// The outline of the rest of a script, one record after the other.
-pub fn script_outlines()
-    // A file that ended has no record left.
-    ensures ended { (place : ℕ) (rest : List ℕ) → files.next_at script place rest ≡ AtEnd → files.outline_at script place rest ≡ record { records = []; fault = None } }
-    // A record comes before those after it.
-    ensures one { (place now : ℕ) (rest after : List ℕ) (first : ScriptRecord) → files.next_at script place rest ≡ Recorded first now after → files.outline_at script place rest ≡ files.with_record first (files.outline_at script now after) }
-    // A refused place ends the records.
-    ensures refused { (place at : ℕ) (rest : List ℕ) (kind : RecordKind) → files.next_at script place rest ≡ Refuses at kind → files.outline_at script place rest ≡ record { records = []; fault = Some (at, kind) } }
-{
-    file_outlines::<ScriptFormat>()
 }

@@ -1,40 +1,40 @@
-//! The top call of the commands that run here, without threads of their own.
+//! The top call of the commands that run without threads of their own.
 
-ghost use Rattle.std.specs.Prelude.{◌≡◌, map, string_bytes, Result};
-ghost use Rattle.tesla_desk.specs.Faults.{HasCauses};
-ghost use Rattle.tesla_cli.specs.Form.{Form as TheForm, Spells, Performs};
-ghost use Rattle.tesla_cli.specs.Here.{IsNoForm, Runs};
-ghost use Rattle.tesla_cli.specs.Outcome.{outcome_of, status_of};
-ghost use Rattle.tesla_front.specs.declared.refusal.Stop.{Stop};
+ghost use Rattle.std.specs.Prelude.{◌≡◌, map, string_bytes};
+ghost use Rattle.tesla_front.specs.Came.{Came, outcome_came, status_of};
+ghost use Rattle.tesla_front.specs.Command.{RunsAs};
+ghost use Rattle.tesla_front.specs.Run.{Runs};
+ghost use Rattle.tesla_cli.specs.Commands.{command_of};
+ghost use Rattle.tesla_cli.specs.Usage.{usage};
 
-use crate::{Form, Outcome, Summary, form_in, outcome_of, run_chain, run_replay, run_send, tell};
+use crate::{Command, FORMS, command_in};
 use std::alloc::Global;
 use tesla_desk::{CONSOLE, Desk};
-use tesla_front::Fault;
+use tesla_front::{Fault, Outcome, tell};
+use tesla_run_chain::run_chain;
+use tesla_run_replay::run_replay;
+use tesla_run_send::run_send;
 
-// What the words come to.
+// Runs the words as those of the command that the first of them names.
 fn run_words<D: Desk>(alloc: Global, words: &[String], desk: &mut D) -> Outcome
-    ensures usage { IsNoForm (map string_bytes words.now) → result ≡ Outcome.Usage }
-    ensures still { IsNoForm (map string_bytes words.now) → D.told desk.new ≡ D.told desk.old }
-    ensures form { (form : TheForm) → Spells form (map string_bytes words.now) → (came : Result Summary Stop) × Performs form (D.told desk.old) (D.told desk.new) came × (result ≡ outcome_of came) }
-    ensures causes { HasCauses (D.told desk.old).faults (D.told desk.new).faults (result ≡ Outcome.Failed Fault.Read) (result ≡ Outcome.Failed Fault.Write) (result ≡ Outcome.Failed Fault.Open) }
+    ensures { RunsAs (command_of (map string_bytes words.now)) (map string_bytes words.now) (D.told desk.old) (D.told desk.new) (outcome_came result) }
 {
-    match form_in(words) {
-        Some(Form::Replay(asked)) => outcome_of(run_replay(alloc, &asked, desk)),
-        Some(Form::Chain(asked)) => outcome_of(run_chain(alloc, &asked, desk)),
-        Some(Form::Send(asked)) => outcome_of(run_send(alloc, &asked, desk)),
+    match command_in(words) {
+        Some(Command::Replay) => run_replay(alloc, words, desk),
+        Some(Command::Chain) => run_chain(alloc, words, desk),
+        Some(Command::Send) => run_send(alloc, words, desk),
         None => Outcome::Usage,
     }
 }
 
-// What the words come to, with the console opened before, and told on it.
+// Runs the words with the console opened before, and told on it what they came to.
 fn run<D: Desk>(alloc: Global, words: &[String], desk: &mut D) -> Outcome
-    ensures { Runs (map string_bytes words.now) (D.told desk.old) (D.told desk.new) result }
+    ensures { Runs (command_of (map string_bytes words.now)) usage (map string_bytes words.now) (D.told desk.old) (D.told desk.new) (outcome_came result) }
 {
     match desk.open_sink(CONSOLE) {
         Ok(mut console) => {
             let came = run_words(alloc, words, desk);
-            let told = tell(&mut console, came);
+            let told = tell(&mut console, &FORMS, came);
             desk.close_sink(console);
             told
         }
@@ -42,17 +42,20 @@ fn run<D: Desk>(alloc: Global, words: &[String], desk: &mut D) -> Outcome
     }
 }
 
-/// Runs the command that the words ask for, over the desk, and gives its status.
+/// Runs the words as those of the command that the first of them names, over the desk, and gives its status.
 ///
-/// The console is opened first, and then the files of the command, each once, in the order of its form and as far
-/// as it comes. What the command came to is told on the console.
+/// The console is opened first, and then the files of the command, each once, in the order of its form and as far as it
+/// comes. What the command came to is told on the console: it is the first thing that went wrong.
 ///
-/// 0: it came to its end, and its summary was told. 1: the words are no form of a command. 2: SETUP isn't a setup.
+/// 0: it came to its end, and its lines were told. 1: the words are no form of a command. 2: SETUP isn't a setup.
 /// 3: CAPTURE isn't a capture, or SCRIPT isn't a script or has a record that the sender refuses, and what stands
 /// before the refused place was played or sent, and written; or SECRET doesn't have the seeds that are wanted. 4: a
 /// read failed. 5: a write failed. 6: there was no memory. 7: something wasn't opened.
+///
+/// At 0 to 3, 6 and 7 no read and no write of a file failed, at 5 no read, and at 4 a write only while what was made
+/// before was written.
 pub fn run_here<D: Desk>(alloc: Global, words: &[String], desk: &mut D) -> u8
-    ensures { (outcome : Outcome) × (result ≡ status_of outcome) × Runs (map string_bytes words.now) (D.told desk.old) (D.told desk.new) outcome }
+    ensures { (told : Came) × (result ≡ status_of told) × Runs (command_of (map string_bytes words.now)) usage (map string_bytes words.now) (D.told desk.old) (D.told desk.new) told }
 {
     run(alloc, words, desk).status()
 }

@@ -1,276 +1,36 @@
-//! Whole replays over a desk in memory: words and files go in; the status, the console and OUT come out.
-
-mod chain_runs;
-mod examples;
-mod faults;
-mod send_runs;
+//! Whole runs of every command over one desk in memory: words go in; the status, the console and the output come out.
 
 use super::*;
-use chain_runs::{CHAIN_RUNS, SEEDS};
-use examples::{EXAMPLES, FIRST_CAPTURE, FIRST_RELEASED, NO_FORMS, Part, Released, Told, USUAL};
-use faults::{FAULTS, Left, Setting};
-use send_runs::{END_OF_STREAM, SEND_RUNS, SendRun};
 use std::alloc::Global;
+use std::process::Abort;
 use std::test::Fail;
 use tesla_desk::{CONSOLE, MemoryDesk};
 use tesla_examples::SETUP;
-use tesla_receiver::Report;
 
-/// What OUT holds before each run.
-const BEFORE: &[u8] = b"before";
+const SECRET: &[u8] = b"tesla-seeds 1
+seed 1111111111111111111111111111111111111111111111111111111111111111
+seed 2222222222222222222222222222222222222222222222222222222222222222
+";
 
-// The bytes of a capture.
-fn capture_of(alloc: Global, parts: &[Part]) -> Result<Vec<u8>, Fail> {
-    let mut capture = Vec::new(alloc);
-    capture.extend_from_slice(b"TCAP\x01")?;
-    for part in parts {
-        match part {
-            Part::Comes(reading, digits) => {
-                let datagram = hex::decode(alloc, digits.as_bytes())?;
-                let length = datagram.len().min(2048) as u16;
-                capture.push(1)?;
-                capture.extend_from_slice(&reading.to_be_bytes())?;
-                capture.extend_from_slice(&length.to_be_bytes())?;
-                capture.extend_from_slice(datagram.as_slice())?;
-            }
-            Part::Take => capture.push(2)?,
-            Part::Cut(digits) => {
-                let bytes = hex::decode(alloc, digits.as_bytes())?;
-                capture.extend_from_slice(bytes.as_slice())?;
-            }
-        }
-    }
-    Ok(capture)
-}
+/// "hi" in interval 1, "yo" in interval 3, and at last a disclosure.
+const SCRIPT: &[u8] =
+    b"TSCR\x01\x01\x00\x00\x00\x00\x00\x11\x8c\x30\x00\x02hi\x01\x00\x00\x00\x00\x00\x14\x99\x70\x00\x02yo\x02\x00\x00\x00\x00\x00\x23\xdb\xb0";
 
-// The bytes of release records.
-fn records_of(alloc: Global, released: &[Released]) -> Result<Vec<u8>, Fail> {
-    let mut records = Vec::new(alloc);
-    for record in released {
-        let length = record.payload.len().min(1200) as u16;
-        records.extend_from_slice(&record.position.to_be_bytes())?;
-        records.extend_from_slice(&record.interval.to_be_bytes())?;
-        records.extend_from_slice(&record.number.to_be_bytes())?;
-        records.push(record.chain)?;
-        records.extend_from_slice(&length.to_be_bytes())?;
-        records.extend_from_slice(record.payload.as_bytes())?;
-    }
-    Ok(records)
-}
+/// "yo" in interval 3, and then "hi" in interval 1.
+const BACKWARD: &[u8] =
+    b"TSCR\x01\x01\x00\x00\x00\x00\x00\x14\x99\x70\x00\x02yo\x01\x00\x00\x00\x00\x00\x11\x8c\x30\x00\x02hi";
 
-// The lines of a report.
-fn report_of(alloc: Global, report: &Report) -> Result<String, Fail> {
-    let Report {
-        arrivals,
-        malformed,
-        foreign,
-        misfit,
-        future,
-        badkey,
-        late,
-        repeat,
-        full,
-        kept,
-        keys,
-        given,
-    } = *report;
-    let verdicts = format!(in alloc;
-        "malformed {malformed}\nforeign {foreign}\nmisfit {misfit}\nfuture {future}\nbadkey {badkey}\nlate {late}\nrepeat {repeat}\nfull {full}\nkept {kept}\nkeys {keys}\n"
-    )?;
-    Ok(format!(in alloc; "arrivals {arrivals}\n{verdicts}given {given}\n")?)
-}
+/// What is released of the script's stream.
+const RELEASED: &[u8] =
+    b"\x00\x00\x00\x00\x00\x00\x00\x00\x00\x00\x00\x01\x00\x00\x00\x00\x02hi\x00\x00\x00\x00\x00\x00\x00\x01\x00\x00\x00\x03\x00\x00\x00\x00\x02yo";
 
-// What is left after a run: the status and the console in one text, and the bytes of OUT.
-#[derive(Drop)]
-struct Came {
-    told: String,
-    out: Vec<u8>,
-}
+const CHAIN: &str = "chain made secret 00000000000000a7 1000000 100000 8 2 5";
 
-// What a run has to come to, told what is released and what OUT holds of that.
-fn wanted(
-    alloc: Global,
-    status: u8,
-    told: &Told,
-    released: &[Released],
-    left: Left,
-) -> Result<Came, Fail> {
-    let text = match told {
-        Told::Counts(report) => report_of(alloc, report)?,
-        Told::Text(text) => String::from_str(alloc, text)?,
-    };
-    let mut out = match left {
-        Left::AsBefore => Vec::from_slice(alloc, BEFORE)?,
-        Left::Front(_) | Left::Whole => records_of(alloc, released)?,
-    };
-    if let Left::Front(count) = left {
-        out.truncate(count);
-    }
-    let told = format!(in alloc; "{status} {text}")?;
-    Ok(Came { told, out })
-}
+const SEND: &str = "send setup secret script capture";
 
-// A desk with this setup, a capture of these parts, and an output that holds something.
-fn desk_with(alloc: Global, setup: &str, capture: &[Part]) -> Result<MemoryDesk, Fail> {
-    let mut desk = MemoryDesk::new(alloc, 10_000)?;
-    desk.put_page("setup", setup.as_bytes())?;
-    desk.put_page("capture", capture_of(alloc, capture)?.as_slice())?;
-    desk.put_page("out", BEFORE)?;
-    Ok(desk)
-}
+const REPLAY: &str = "replay setup 30000 16 capture out";
 
-// Sets a desk so.
-fn set(desk: &mut MemoryDesk, settings: &[Setting]) -> Result<(), Fail> {
-    for setting in settings {
-        match *setting {
-            Setting::Room(name, room) => desk.set_room(name, room)?,
-            Setting::Piece(name, most) => desk.set_piece(name, most.max(1))?,
-            Setting::FailedCall(name, call) => desk.fail_call(name, call)?,
-            Setting::FailedOpening(call) => desk.fail_open(call)?,
-        }
-    }
-    Ok(())
-}
-
-// Runs a line of words over a desk that is set so.
-fn came_to(
-    alloc: Global,
-    line: &str,
-    desk: &mut MemoryDesk,
-    settings: &[Setting],
-) -> Result<Came, Fail> {
-    set(desk, settings)?;
-    let mut words = Vec::new(alloc);
-    for word in line.split(' ') {
-        words.push(String::from_str(alloc, word)?)?;
-    }
-    let status = run_here(alloc, words.as_slice(), desk);
-    let console = std::str::from_utf8(desk.page(CONSOLE).unwrap_or(b""))?;
-    let told = format!(in alloc; "{status} {console}")?;
-    let out = Vec::from_slice(alloc, desk.page("out").unwrap_or(b""))?;
-    Ok(Came { told, out })
-}
-
-// The settings of a desk whose files, outputs and console move at most so many bytes a call.
-fn pieces(most: usize) -> [Setting; 4] {
-    [
-        Setting::Piece("setup", most),
-        Setting::Piece("capture", most),
-        Setting::Piece("out", most),
-        Setting::Piece(CONSOLE, most),
-    ]
-}
-
-/// Each example, over files, outputs and a console that move at most so many bytes a call.
-#[test]
-fn worked_examples(rt: HostRuntime) -> Result<(), Fail> {
-    for most in [5_000, 1, 2, 7] {
-        for it in EXAMPLES {
-            let mut desk = desk_with(rt.alloc(), it.setup, it.capture)?;
-            let came = came_to(rt.alloc(), it.words, &mut desk, &pieces(most))?;
-            let want = wanted(rt.alloc(), it.status, &it.told, it.released, Left::Whole)?;
-            assert_eq!(rt; came.told.as_str(), want.told.as_str(), "{}", it.name);
-            assert_eq!(rt; came.out.as_slice(), want.out.as_slice(), "{}", it.name);
-        }
-    }
-    Ok(())
-}
-
-#[test]
-fn failing_desks(rt: HostRuntime) -> Result<(), Fail> {
-    for it in FAULTS {
-        let mut desk = desk_with(rt.alloc(), it.setup, it.capture)?;
-        let came = came_to(rt.alloc(), it.words, &mut desk, it.settings)?;
-        let want = wanted(rt.alloc(), it.status, &it.told, &FIRST_RELEASED, it.left)?;
-        assert_eq!(rt; came.told.as_str(), want.told.as_str(), "{}", it.name);
-        assert_eq!(rt; came.out.as_slice(), want.out.as_slice(), "{}", it.name);
-    }
-    Ok(())
-}
-
-#[test]
-fn chains(rt: HostRuntime) -> Result<(), Fail> {
-    for it in CHAIN_RUNS {
-        let mut desk = MemoryDesk::new(rt.alloc(), 1_000)?;
-        desk.put_page("secret", it.secret.as_bytes())?;
-        desk.put_page("out", BEFORE)?;
-        let came = came_to(rt.alloc(), it.words, &mut desk, it.settings)?;
-        assert_eq!(rt; came.told.as_str(), it.told, "{}", it.name);
-        assert_eq!(rt; came.out.as_slice(), it.out.as_bytes(), "{}", it.name);
-    }
-    Ok(())
-}
-
-// A desk with the setup, and the seeds and the script of a run, and an output that holds something.
-fn sending_desk(alloc: Global, run: &SendRun) -> Result<MemoryDesk, Fail> {
-    let mut desk = desk_with(alloc, SETUP, &[])?;
-    desk.put_page("secret", run.secret.as_bytes())?;
-    let script = hex::decode(alloc, run.script.as_bytes())?;
-    desk.put_page("script", script.as_slice())?;
-    Ok(desk)
-}
-
-#[test]
-fn sendings(rt: HostRuntime) -> Result<(), Fail> {
-    for it in SEND_RUNS {
-        let mut desk = sending_desk(rt.alloc(), &it)?;
-        let words = "send setup secret script out";
-        let came = came_to(rt.alloc(), words, &mut desk, it.settings)?;
-        let out = hex::decode(rt.alloc(), it.out.as_bytes())?;
-        assert_eq!(rt; came.told.as_str(), it.told, "{}", it.name);
-        assert_eq!(rt; came.out.as_slice(), out.as_slice(), "{}", it.name);
-    }
-    Ok(())
-}
-
-/// What was sent is replayed: the message is released by the last keys.
-#[test]
-fn a_capture_that_was_sent_is_replayed(rt: HostRuntime) -> Result<(), Fail> {
-    let mut desk = sending_desk(rt.alloc(), &END_OF_STREAM)?;
-    let words = "send setup secret script capture";
-    let sent = came_to(rt.alloc(), words, &mut desk, &[])?;
-    assert_eq!(rt; sent.told.as_str(), END_OF_STREAM.told);
-    let came = came_to(rt.alloc(), USUAL, &mut desk, &[])?;
-    let released = hex::decode(rt.alloc(), b"000000000000000000000008000000000165")?;
-    assert_eq!(rt; came.out.as_slice(), released.as_slice());
-    Ok(())
-}
-
-// A script of ten messages of 1,200 bytes in each of the intervals 1 to 600, and a disclosure of the last keys.
-fn ordinary_script(alloc: Global) -> Result<Vec<u8>, Fail> {
-    let mut script = Vec::new(alloc);
-    script.extend_from_slice(b"TSCR\x01")?;
-    for number in 0..6_000u64 {
-        script.push(1)?;
-        script.extend_from_slice(&(1_100_000 + 10_000 * number).to_be_bytes())?;
-        script.extend_from_slice(&1_200u16.to_be_bytes())?;
-        script.extend_from_slice(&[0x75; 1_200])?;
-    }
-    script.push(2)?;
-    script.extend_from_slice(&61_500_000u64.to_be_bytes())?;
-    Ok(script)
-}
-
-/// Ten messages in each of 600 intervals are sent, and all of them come back.
-#[test]
-fn ordinary_use(rt: HostRuntime) -> Result<(), Fail> {
-    let alloc = rt.alloc();
-    let mut desk = MemoryDesk::new(alloc, 8_500_000)?;
-    desk.put_page("secret", SEEDS.as_bytes())?;
-    desk.put_page("script", ordinary_script(alloc)?.as_slice())?;
-    let words = "chain setup secret 00000000000000a7 1000000 100000 600 2 5";
-    let made = came_to(alloc, words, &mut desk, &[])?;
-    assert_eq!(rt; made.told.as_str(), "0 chains 2\n");
-    let sent = came_to(alloc, "send setup secret script capture", &mut desk, &[])?;
-    assert_eq!(rt; sent.told.as_str(), "0 frames 6001\n");
-    let came = came_to(alloc, "replay setup 30000 4096 capture out", &mut desk, &[])?;
-    assert_eq!(rt; came.told.as_str(), ORDINARY_REPORT);
-    assert_eq!(rt; came.out.len(), 7_302_000);
-    Ok(())
-}
-
-/// What the replay of the ordinary stream prints, behind its status.
-const ORDINARY_REPORT: &str = "0 arrivals 6001
+const REPORT: &str = "0 arrivals 3
 malformed 0
 foreign 0
 misfit 0
@@ -279,9 +39,9 @@ badkey 0
 late 0
 repeat 0
 full 0
-kept 6000
+kept 2
 keys 1
-given 6000
+given 2
 ";
 
 const USAGE: &str = "1 usage: replay SETUP LAG CAPACITY CAPTURE OUT
@@ -290,13 +50,168 @@ usage: chain2 SETUP-OUT SECRET STREAM START INTERVAL LAST TAG DELAY [DELAY] [DEL
 usage: send SETUP SECRET SCRIPT CAPTURE
 ";
 
-#[test]
-fn no_forms(rt: HostRuntime) -> Result<(), Fail> {
-    for (name, line) in NO_FORMS {
-        let mut desk = desk_with(rt.alloc(), SETUP, &FIRST_CAPTURE)?;
-        let came = came_to(rt.alloc(), line, &mut desk, &[])?;
-        assert_eq!(rt; came.told.as_str(), USAGE, "{name}");
-        assert_eq!(rt; came.out.as_slice(), BEFORE, "{name}");
+// A desk with the setup, the seeds and the script.
+fn desk_with(alloc: Global, script: &[u8]) -> Result<MemoryDesk, Fail> {
+    let mut desk = MemoryDesk::new(alloc, 2_000)?;
+    desk.put_page("setup", SETUP.as_bytes())?;
+    desk.put_page("secret", SECRET)?;
+    desk.put_page("script", script)?;
+    Ok(desk)
+}
+
+// Runs a line of words: the status, a space and the console.
+fn told_of(alloc: Global, line: &str, desk: &mut MemoryDesk) -> Result<String, Fail> {
+    let mut words = Vec::new(alloc);
+    for word in line.split(' ') {
+        words.push(String::from_str(alloc, word)?)?;
     }
+    let status = run_here(alloc, words.as_slice(), desk);
+    let console = std::str::from_utf8(desk.page(CONSOLE).unwrap_or(b""))?;
+    Ok(format!(in alloc; "{status} {console}")?)
+}
+
+// Runs a line, which has to come to this and leave this under the name.
+fn run(
+    rt: &impl Abort,
+    alloc: Global,
+    desk: &mut MemoryDesk,
+    line: &str,
+    told: &str,
+    (name, held): (&str, &[u8]),
+) -> Result<(), Fail> {
+    let came = told_of(alloc, line, desk)?;
+    assert_eq!(rt; came.as_str(), told);
+    assert_eq!(rt; desk.page(name).unwrap_or(b"no page"), held);
+    Ok(())
+}
+
+// Runs `send`, so that the desk has the capture of the script's stream.
+fn desk_with_capture(alloc: Global) -> Result<MemoryDesk, Fail> {
+    let mut desk = desk_with(alloc, SCRIPT)?;
+    let told = told_of(alloc, SEND, &mut desk)?;
+    if told.as_str() != "0 frames 3\n" {
+        return Err("no capture".into());
+    }
+    Ok(desk)
+}
+
+#[test]
+fn a_stream_from_nothing(rt: HostRuntime) -> Result<(), Fail> {
+    let mut desk = desk_with_capture(rt.alloc())?;
+    let made = ("made", SETUP.as_bytes());
+    run(&rt, rt.alloc(), &mut desk, CHAIN, "0 chains 2\n", made)?;
+    run(
+        &rt,
+        rt.alloc(),
+        &mut desk,
+        REPLAY,
+        REPORT,
+        ("out", RELEASED),
+    )
+}
+
+#[test]
+fn words_of_no_form(rt: HostRuntime) -> Result<(), Fail> {
+    let mut desk = desk_with_capture(rt.alloc())?;
+    for line in [
+        "",
+        "audit setup",
+        "replay",
+        "Replay setup 30000 16 capture out",
+        "replay setup 30000 16 capture capture",
+        "send setup secret script secret",
+        "chain made secret 00000000000000a7 1000000 100000 8 5 2",
+        "chain2 made secret 00000000000000a7 1000000 100000 8 2 5",
+    ] {
+        let told = told_of(rt.alloc(), line, &mut desk)?;
+        assert_eq!(rt; told.as_str(), USAGE, "{line}");
+    }
+    assert!(rt; desk.page("out").is_none());
+    Ok(())
+}
+
+#[test]
+fn a_read_fault_with_a_full_output_in_replay(rt: HostRuntime) -> Result<(), Fail> {
+    let mut desk = desk_with_capture(rt.alloc())?;
+    // The first read brings both messages, and the take behind each.
+    desk.set_piece("capture", 179)?;
+    desk.fail_call("capture", 1)?;
+    desk.set_room("out", 12)?;
+    let out = ("out", RELEASED.split_at(12).0);
+    run(&rt, rt.alloc(), &mut desk, REPLAY, "4 read fault\n", out)
+}
+
+#[test]
+fn a_read_fault_with_a_full_output_in_send(rt: HostRuntime) -> Result<(), Fail> {
+    let mut desk = desk_with(rt.alloc(), SCRIPT)?;
+    // The first read brings one message.
+    desk.set_piece("script", 18)?;
+    desk.fail_call("script", 1)?;
+    desk.set_room("capture", 7)?;
+    let out = ("capture", b"TCAP\x01\x01\x00".as_slice());
+    run(&rt, rt.alloc(), &mut desk, SEND, "4 read fault\n", out)
+}
+
+#[test]
+fn gathered_records_are_written_behind_a_read_fault(rt: HostRuntime) -> Result<(), Fail> {
+    let mut desk = desk_with_capture(rt.alloc())?;
+    desk.set_piece("capture", 179)?;
+    desk.fail_call("capture", 1)?;
+    let out = ("out", RELEASED.split_at(19).0);
+    run(&rt, rt.alloc(), &mut desk, REPLAY, "4 read fault\n", out)
+}
+
+#[test]
+fn a_fault_behind_a_refused_place_in_replay(rt: HostRuntime) -> Result<(), Fail> {
+    let mut desk = desk_with(rt.alloc(), SCRIPT)?;
+    desk.put_page("capture", b"TCAP\x01\x02\x03\x02\x02")?;
+    desk.set_piece("capture", 7)?;
+    desk.fail_call("capture", 1)?;
+    let out = ("out", b"".as_slice());
+    run(
+        &rt,
+        rt.alloc(),
+        &mut desk,
+        REPLAY,
+        "3 refused capture 6 BadKind\n",
+        out,
+    )
+}
+
+#[test]
+fn a_fault_behind_a_refused_place_in_send(rt: HostRuntime) -> Result<(), Fail> {
+    let mut desk = desk_with(rt.alloc(), BACKWARD)?;
+    desk.set_piece("script", 31)?;
+    desk.fail_call("script", 1)?;
+    let told = told_of(rt.alloc(), SEND, &mut desk)?;
+    assert_eq!(rt; told.as_str(), "3 refused script 18 Backward\n");
+    // The head, the frame of the first message, and a take.
+    assert_eq!(rt; desk.page("capture").unwrap_or(b"").len(), 108);
+    Ok(())
+}
+
+#[test]
+fn a_report_that_is_lost(rt: HostRuntime) -> Result<(), Fail> {
+    let mut desk = desk_with_capture(rt.alloc())?;
+    desk.set_room("-", 3)?;
+    run(
+        &rt,
+        rt.alloc(),
+        &mut desk,
+        REPLAY,
+        "5 arr",
+        ("out", RELEASED),
+    )
+}
+
+#[test]
+fn no_console_and_no_setup(rt: HostRuntime) -> Result<(), Fail> {
+    let mut desk = desk_with(rt.alloc(), SCRIPT)?;
+    desk.fail_open(0)?;
+    assert_eq!(rt; told_of(rt.alloc(), SEND, &mut desk)?.as_str(), "7 ");
+    desk.put_page("setup", b"tesla 3\n")?;
+    let told = told_of(rt.alloc(), SEND, &mut desk)?;
+    assert_eq!(rt; told.as_str(), "2 refused setup 1 BadLine\n");
+    assert!(rt; desk.page("capture").is_none());
     Ok(())
 }

@@ -9,7 +9,3 @@ pub mod Causes
 pub mod Refusals
 pub mod Refused
 pub mod Stopped
-pub mod SeedsJudging
-pub mod SeedsSpelled
-pub mod SeedsTexts
-pub mod SeedsStops

@@ -1,4 +1,4 @@
-//! The setup of a stream and the seeds of its key chains, and their texts.
+//! The setup of a stream, and its text.
 #![tactic(auto)]
 
 mod chain_row;
@@ -8,15 +8,14 @@ mod line_words;
 mod lines;
 mod parsing;
 mod refusal;
-mod seeds;
 mod setup;
 mod writing;
 
 pub use chain_row::ChainRow;
-pub use laws::{seed_texts, setups};
+pub use laws::setups;
+pub use line_words::{cut, hex_in, value_in};
 pub use parsing::read_setup;
 pub use refusal::{SetupKind, SetupRefusal};
-pub use seeds::{Seeds, SeedsKind, SeedsRefusal, read_seeds};
 pub use setup::Setup;
 pub use writing::write_setup;
 

@@ -10,7 +10,7 @@ use crate::refusal::LineRefusal;
 use hex::decode_to_slice;
 use tesla_base::read_decimal;
 
-/// What stands before and after the first such byte of a text.
+/// What stands before and after the first such byte of a text; `None` where the text has none.
 pub fn cut(text: &[u8], byte: u8) -> Option<(&[u8], &[u8])>
     ensures { MatchOption result (between byte text.now ≡ text.now ∷ []) (λ x. between byte text.now ≡ x.0.now ∷ between byte x.1.now) }
 {
@@ -40,7 +40,8 @@ pub fn next_line(number: u32, text: &[u8]) -> Result<(&[u8], &[u8]), LineRefusal
     }
 }
 
-/// The value of a line that has this name and one value.
+/// The value of a line that has this name and one value, with one space between; `BadLine` of any other
+/// line.
 pub fn value_in<'a>(name: &[u8], line: &'a [u8]) -> Result<&'a [u8], SetupKind>
     ensures { Says (λ x. x.now) result (value_in name.now (words line.now)) }
 {
@@ -107,7 +108,7 @@ fn is_lower(word: &[u8]) -> bool
         .all(|b| (48 <= *b && *b <= 57) || (97 <= *b && *b <= 102))
 }
 
-/// The bytes that a word of lower-case hexadecimal digits spells.
+/// The `N` bytes that a word of lower-case hexadecimal digits spells; `BadHex` of any other word.
 pub fn hex_in<const N: usize>(word: &[u8]) -> Result<[u8; N], SetupKind>
     ensures { result ≡ hex_in N word.now }
 {

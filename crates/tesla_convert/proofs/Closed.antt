@@ -45,8 +45,8 @@ stops_page : (meaning : Meaning) (input : Page) (before left written : Option (L
 stops_page meaning input before left written count opened stops = record {
   there = opened_there input before opened;
   stops = λ bytes failed is.
-    let (read, rest, left_is, parts, none, text) = stops bytes (opened_holds input before bytes failed is opened) in
-    (read, rest, left_is, parts, none, holds_page written count (λ done told. some_or_failed written count (text done told)));
+      let (read, rest, left_is, parts, none, text) = stops bytes (opened_holds input before bytes failed is opened) in
+      (read, rest, left_is, parts, none, holds_page written count (λ done told. some_or_failed written count (text done told)));
 }
 
 nothing_told : (written : Option (List ℕ)) (done : List ℕ) → IfSome written (λ bytes. bytes ≡ []) → written ≡ Some done → done ≡ []
@@ -118,5 +118,5 @@ converts_unopened meaning input output fault old new refused = record {
   opens = refused.opens;
   converts = unopened_converts meaning (old.page input) (old.page output) (new.page output) (new.left input) fault refused.kind.0 refused.kind.1 (refused.pages output);
   counts = causes_as old.faults new.faults (causes_plain {hidden = (Failed fault ≡ Failed faults.Read) × AnyFailed (OfSource input ∷ OfSink output ∷ []) new} old.faults new.faults refused.counts) (λ h. h)
-    (failed_is fault faults.Read) (ap Failed) (failed_is fault faults.Write) (ap Failed) (failed_is fault faults.Open) (ap Failed);
+      (failed_is fault faults.Read) (ap Failed) (failed_is fault faults.Write) (ap Failed) (failed_is fault faults.Open) (ap Failed);
 }

@@ -42,15 +42,20 @@ no_input A input output refusal fault old new is tried =
     })
 
 no_output_opens : {A : Type 0} (B : Type 0) (input output name : List ℕ) (it : A) (left : Option (List ℕ)) (count : ℕ) (refusal : OpenRefusal) (old mid tried new : Told) → name ≡ input → OpensSource {A = A} input (Ok it) old mid → OpensSink {A = B} output (Err refusal) mid tried → ClosesSource name left count tried new → (opened : ℕ) × Opens (OfSource input ∷ OfSink output ∷ []) opened old new
-no_output_opens {A} B input output name it left count refused.Failed old mid tried new named opened sink closed = (2, record {
-  asked = closed.asked ∙ sink.asked ∙ ap (λ told. with_opening told (OfSink output)) opened.asked ∙ openings_first old.openings (OfSource input) (OfSink output ∷ []);
-  pages = λ n none. closed.pages n ∙ pages_tried {A = B} output (Err refused.Failed) mid tried sink n ∙ opened.pages n;
-  lefts = λ n none. closed.lefts n (λ e. not_first_read n input (OfSink output ∷ []) none (e ∙ named)) ∙ sink.lefts n ∙ opened.lefts n;
-})
-no_output_opens {A} B input output name it left count refused.NoMemory old mid tried new named opened sink closed =
-    (1, opens_first (OfSource input) (OfSink output ∷ []) old new (closed.asked ∙ sink.asked ∙ opened.asked)
-    (λ n none. closed.pages n ∙ pages_tried {A = B} output (Err refused.NoMemory) mid tried sink n ∙ opened.pages n)
-    (λ n none. closed.lefts n (λ e. not_first_read n input [] none (e ∙ named)) ∙ sink.lefts n ∙ opened.lefts n))
+no_output_opens {A} B input output name it left count refused.Failed old mid tried new named opened sink closed = (
+  2,
+  record {
+    asked = closed.asked ∙ sink.asked ∙ ap (λ told. with_opening told (OfSink output)) opened.asked ∙ openings_first old.openings (OfSource input) (OfSink output ∷ []);
+    pages = λ n none. closed.pages n ∙ pages_tried {A = B} output (Err refused.Failed) mid tried sink n ∙ opened.pages n;
+    lefts = λ n none. closed.lefts n (λ e. not_first_read n input (OfSink output ∷ []) none (e ∙ named)) ∙ sink.lefts n ∙ opened.lefts n;
+  },
+)
+no_output_opens {A} B input output name it left count refused.NoMemory old mid tried new named opened sink closed = (
+  1,
+  opens_first (OfSource input) (OfSink output ∷ []) old new (closed.asked ∙ sink.asked ∙ opened.asked)
+      (λ n none. closed.pages n ∙ pages_tried {A = B} output (Err refused.NoMemory) mid tried sink n ∙ opened.pages n)
+      (λ n none. closed.lefts n (λ e. not_first_read n input [] none (e ∙ named)) ∙ sink.lefts n ∙ opened.lefts n),
+)
 
 closed_sound : (count : ℕ) (before : Faults) → count ≡ 0 → after_source before count ≡ before
 closed_sound count before zero = rw zero refl

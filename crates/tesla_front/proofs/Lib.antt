@@ -4,3 +4,5 @@ pub mod Told
 pub mod Consoles
 mod Streams
 mod Slashes
+pub mod Commands
+pub mod WordLists

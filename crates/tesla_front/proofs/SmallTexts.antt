@@ -3,7 +3,7 @@ use Rattle.std.proofs.Common.{◌≡◌, ◌∙◌, inl, inr, ◌<◌, ◌≤◌
 use Rattle.std.proofs.lemmas.List.{take_all, length-take}
 use Rattle.std.proofs.lemmas.Bool.Decides.{nat_tests}
 use Rattle.tesla_commit.specs.Parsing.{judged}
-use Rattle.tesla_commit.specs.SeedsJudged.{seeds_judged}
+use Rattle.tesla_seeds.specs.Judged.{seeds_judged}
 use Rattle.tesla_desk.specs.Faults.{Faults}
 use Rattle.tesla_desk.specs.Outside.{Page, Untold, Absent, Holds}
 use Rattle.tesla_desk.proofs.Counts.{cause_none, causes_none}

@@ -1,9 +1,9 @@
 -- The seeds under a name, or why there are none.
 use Rattle.std.specs.Prelude.{◌≡◌, ◌⊎◌, ℕ, Ok, Err, List, codes}
 use Rattle.tesla_base.specs.declared.names.Key.{Key}
-use Rattle.tesla_commit.specs.SeedsJudged.{seeds_judged}
-use Rattle.tesla_commit.specs.SeedsNames.{seeds_kind_name}
-use Rattle.tesla_commit.specs.declared.seeds.refusal.SeedsKind.{SeedsKind}
+use Rattle.tesla_seeds.specs.Judged.{seeds_judged}
+use Rattle.tesla_seeds.specs.Names.{seeds_kind_name}
+use Rattle.tesla_seeds.specs.declared.refusal.SeedsKind.{SeedsKind}
 use Rattle.tesla_desk.specs.Outside.{Page}
 use Rattle.tesla_front.specs.Came.{Came, Refused, Failed}
 use Rattle.tesla_front.specs.Files.{HoldsWhere, IsRefusedIn}

@@ -11,8 +11,8 @@ use crate::setup::MOST;
 use crate::{Fault, Stop, read_file, refused};
 use std::alloc::Global;
 use tesla_base::Kind;
-use tesla_commit::{Seeds, SeedsRefusal, read_seeds};
 use tesla_desk::Desk;
+use tesla_seeds::{Seeds, SeedsRefusal, read_seeds};
 
 // The seeds that a text spells.
 fn seeds_of(alloc: Global, text: &[u8], count: u8) -> Result<Seeds, Stop>

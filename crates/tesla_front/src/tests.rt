@@ -54,12 +54,7 @@ const FORMS: [FormText; 2] = [
 
 // Tells a console, of which one write may fail and which takes so many bytes, what a run came to: the status, a space
 // and what the console holds then.
-fn told(
-    alloc: Global,
-    came: Outcome,
-    failing: Option<u64>,
-    room: usize,
-) -> Result<String, Fail> {
+fn told(alloc: Global, came: Outcome, failing: Option<u64>, room: usize) -> Result<String, Fail> {
     let mut desk = MemoryDesk::new(alloc, room)?;
     if let Some(call) = failing {
         desk.fail_call(CONSOLE, call)?;
@@ -99,41 +94,50 @@ fn faults(rt: HostRuntime) -> Result<(), Fail> {
 
 #[test]
 fn refusals(rt: HostRuntime) -> Result<(), Fail> {
-    for (status, file, place, kind, line) in [
-        (2, "setup", 0, "TooLong", "refused setup 0 TooLong\n"),
+    for (status, file, place, kind, want) in [
+        (2, "setup", 0, "TooLong", "2 refused setup 0 TooLong\n"),
         (
             2,
             "setup",
             7,
             "DelaysNotRising",
-            "refused setup 7 DelaysNotRising\n",
+            "2 refused setup 7 DelaysNotRising\n",
         ),
-        (3, "capture", 0, "BadHead", "refused capture 0 BadHead\n"),
+        (3, "capture", 0, "BadHead", "3 refused capture 0 BadHead\n"),
         (
             3,
             "capture",
             178,
             "Truncated",
-            "refused capture 178 Truncated\n",
+            "3 refused capture 178 Truncated\n",
         ),
-        (3, "seeds", 3, "WrongCount", "refused seeds 3 WrongCount\n"),
-        (3, "seeds", 3, "WrongSeed", "refused seeds 3 WrongSeed\n"),
-        (3, "script", 17, "Backward", "refused script 17 Backward\n"),
-        (3, "script", 0, "BadHead", "refused script 0 BadHead\n"),
+        (
+            3,
+            "seeds",
+            3,
+            "WrongCount",
+            "3 refused seeds 3 WrongCount\n",
+        ),
+        (3, "seeds", 3, "WrongSeed", "3 refused seeds 3 WrongSeed\n"),
+        (
+            3,
+            "script",
+            17,
+            "Backward",
+            "3 refused script 17 Backward\n",
+        ),
+        (3, "script", 0, "BadHead", "3 refused script 0 BadHead\n"),
         (
             3,
             "ninebytes",
             u64::MAX,
             "twenty-bytes-of-kind",
-            "refused ninebytes 18446744073709551615 twenty-bytes-of-kind\n",
+            "3 refused ninebytes 18446744073709551615 twenty-bytes-of-kind\n",
         ),
     ] {
         let refusal = refused(status, file, place, kind);
-        assert_eq!(rt; refusal.status, status, "at {line}");
-        assert_eq!(rt; refusal.line.as_str(), line);
-        let want = format!(in rt.alloc(); "{status} {line}")?;
         let came = stopped(rt.alloc(), Stop::from(refusal))?;
-        assert_eq!(rt; came.as_str(), want.as_str());
+        assert_eq!(rt; came.as_str(), want);
     }
     Ok(())
 }

@@ -12,10 +12,11 @@ use Rattle.std.proofs.lemmas.List.Folds.{list_any-append, list_any_at}
 use Rattle.std.proofs.lemmas.Option.{get_or_from_slice_get, none-some, same_Some, slice_get_within}
 use Rattle.tesla_links.specs.Entries.{Entry, Entries, first_place, is_at, is_under, is_unmarked_at, is_unmarked_under, marked_at, next_place, next_unmarked}
 use Rattle.tesla_links.specs.Indexed.{IsIndexed, IsMarked, entries_of, entry_of, group_of, is_marked}
-use Rattle.tesla_links.specs.Lists.{Distinct, Lists, is_in, list_of, moved, next_in, without}
+use Rattle.tesla_base.specs.Members.{Distinct, is_in, next_in, without}
+use Rattle.tesla_links.specs.Lists.{Lists, list_of, moved}
 use Rattle.tesla_links.specs.Slots.{has_key, is_vacant}
-use Rattle.tesla_links.proofs.Filtered.{distinct_filter, filter-filter, filter-map, filter_both, filter_nothing, filter_on, in_filter, in_filter_from, left_out, map_on}
-use Rattle.tesla_links.proofs.Members.{apart_from, differs, distinct_push, in_cases, in_front, in_here, in_joined, in_rest, in_there, list_with, somewhere, without_other, without_same}
+use Rattle.tesla_base.proofs.Filtered.{distinct_filter, filter-filter, filter-map, filter_both, filter_nothing, filter_on, in_filter, in_filter_from, left_out, map_on}
+use Rattle.tesla_base.proofs.Members.{apart_from, differs, distinct_push, in_cases, in_front, in_here, in_joined, in_rest, in_there, list_with, somewhere, without_other, without_same}
 use Rattle.tesla_links.proofs.Keyed.{replicate_same}
 
 -- ---- entries and places

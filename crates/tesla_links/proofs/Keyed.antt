@@ -10,11 +10,12 @@ use Rattle.std.proofs.lemmas.List.FromFn.{get_or-map-range_with_len, length-map-
 use Rattle.std.proofs.lemmas.List.Folds.{list_any-append}
 use Rattle.std.proofs.Math.Bool.{or-false}
 use Rattle.std.proofs.lemmas.Option.{none-some, slice_get-get_or}
-use Rattle.tesla_links.specs.Lists.{Lists, is_in, list_of, moved, without}
+use Rattle.tesla_base.specs.Members.{is_in, without}
+use Rattle.tesla_links.specs.Lists.{Lists, list_of, moved}
 use Rattle.tesla_links.specs.Slots.{has_key, is_vacant}
 use Rattle.tesla_links.specs.Tables.{IsKeyed, bucket_of, chain_of, slots_of}
 use Rattle.tesla_links.proofs.Linked.{range_more}
-use Rattle.tesla_links.proofs.Members.{apart_from, in_cases, in_got, in_here, in_rest, range_has, range_in, somewhere, without_other, without_same}
+use Rattle.tesla_base.proofs.Members.{apart_from, in_cases, in_got, in_here, in_rest, range_has, range_in, somewhere, without_other, without_same}
 
 -- ---- buckets
 

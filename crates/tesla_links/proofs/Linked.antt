@@ -5,9 +5,10 @@ use Rattle.std.proofs.Math.ListN.{set}
 use Rattle.std.proofs.lemmas.Bool.{cases_Bool, cases_eq, false≢true}
 use Rattle.std.proofs.lemmas.List.{get_or-map, get_or-replicate, get_or-set_other, get_or-set_same, length-append, length-map, length-replicate, length-set, map-id}
 use Rattle.std.proofs.lemmas.List.FromFn.{get_or-range_with_len, length-range_with_len, map-range_with_len_more}
-use Rattle.tesla_links.specs.Lists.{Distinct, Lists, is_in, without}
+use Rattle.tesla_base.specs.Members.{Distinct, is_in, without}
+use Rattle.tesla_links.specs.Lists.{Lists}
 use Rattle.tesla_links.specs.Rings.{Chain, IsLinked, IsRing, Owned, lists_of}
-use Rattle.tesla_links.proofs.Members.{apart, apart_from, differs, distinct_push, distinct_short, distinct_split, in_cases, in_front, in_here, in_no_list, in_rest, in_there, list_with, split_at, without_none, without_split}
+use Rattle.tesla_base.proofs.Members.{apart, apart_from, differs, distinct_push, distinct_short, distinct_split, in_cases, in_front, in_here, in_no_list, in_rest, in_there, list_with, split_at, without_none, without_split}
 use Rattle.tesla_links.proofs.Rings.{chain_append, chain_cut, chain_kept, chain_split, first_in, last_in, lists_of_is}
 
 -- ---- owners

@@ -5,9 +5,9 @@ use Rattle.std.specs.Prelude.{slice_get}
 use Rattle.std.proofs.lemmas.Bool.{cond-false, cond-true, eq-eqb, ne_eqb, or_left, or_right}
 use Rattle.std.proofs.lemmas.List.{ext_get_or}
 use Rattle.std.proofs.lemmas.List.FromFn.{get_or-map-range_with_len, length-map-range_with_len}
-use Rattle.tesla_links.specs.Lists.{Distinct, is_in, next_in}
+use Rattle.tesla_base.specs.Members.{Distinct, is_in, next_in}
 use Rattle.tesla_links.specs.Rings.{Chain, IsLinked, lists_of, walk}
-use Rattle.tesla_links.proofs.Members.{apart, apart_both, apart_from, differs, distinct_split, in_here, in_there, split_at}
+use Rattle.tesla_base.proofs.Members.{apart, apart_both, apart_from, differs, distinct_split, in_here, in_there, split_at}
 
 -- ---- reading
 

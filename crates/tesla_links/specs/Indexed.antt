@@ -4,7 +4,8 @@ use Rattle.std.specs.Prelude.{◌≡◌, ℕ, ◌==◌, ◌+◌, ◌<◌, ◌≤
 use Rattle.std.specs.List.{filter}
 use Rattle.std.specs.Option.{unwrap_or}
 use Rattle.tesla_links.specs.Entries.{Entry}
-use Rattle.tesla_links.specs.Lists.{Distinct, Lists, is_in, list_of}
+use Rattle.tesla_base.specs.Members.{Distinct, is_in}
+use Rattle.tesla_links.specs.Lists.{Lists, list_of}
 
 -- the group of a place
 abbrev pub group_of : List ℕ → ℕ → ℕ

@@ -2,7 +2,7 @@
 -- the head of list k, in front of its first number and behind its last.
 use Rattle.std.specs.Prelude.{◌≡◌, ℕ, zero, suc, ◌+◌, ◌^◌, ◌<◌, ◌≤◌, List, [], ◌∷◌, length, map, get_or}
 use Rattle.std.specs.List.{range_with_len}
-use Rattle.tesla_links.specs.Lists.{Distinct}
+use Rattle.tesla_base.specs.Members.{Distinct}
 
 -- n nodes from one on, each after the other
 unfoldable pub walk : List ℕ → ℕ → ℕ → List ℕ

@@ -1,7 +1,8 @@
 -- How a table of keys is kept: the places of each bucket stand in a list, the vacant ones in another.
 use Rattle.std.specs.Prelude.{◌≡◌, ℕ, ◌+◌, ◌*◌, ◌/◌, ◌%◌, ◌^◌, ◌<◌, ◌≤◌, true, cond, List, length, map, get_or, Option, None, Some}
 use Rattle.std.specs.List.{range_with_len}
-use Rattle.tesla_links.specs.Lists.{Lists, is_in, list_of}
+use Rattle.tesla_base.specs.Members.{is_in}
+use Rattle.tesla_links.specs.Lists.{Lists, list_of}
 
 -- the bucket of a key: its low half numbers the buckets one after another, its high half spreads them
 unfoldable pub bucket_of : ℕ → ℕ → ℕ

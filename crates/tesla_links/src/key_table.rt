@@ -2,7 +2,8 @@
 
 ghost use Rattle.std.specs.Prelude.{◌≡◌, ◌+◌, ◌^◌, ◌<◌, ◌≤◌, ◌==◌, [], false, true, length, replicate, slice_get, slice_index, slice_set, IfOk, MatchOption, ℕ};
 ghost use Rattle.std.specs.List.{list_any, range_with_len};
-ghost use Rattle.tesla_links.specs.Lists.{is_in, list_of};
+ghost use Rattle.tesla_base.specs.Members.{is_in};
+ghost use Rattle.tesla_links.specs.Lists.{list_of};
 ghost use Rattle.tesla_links.specs.Slots.{has_key, is_vacant};
 ghost use Rattle.tesla_links.specs.Tables.{bucket_of};
 

@@ -2,7 +2,8 @@
 
 ghost use Rattle.std.specs.Prelude.{◌≡◌, ◌+◌, ◌-◌, ◌^◌, ◌<◌, ◌≤◌, [], ◌∷◌, ◌++◌, false, true, length, map, replicate, slice_get, slice_set, IfOk};
 ghost use Rattle.std.specs.List.{list_any, range_with_len};
-ghost use Rattle.tesla_links.specs.Lists.{Distinct, is_in, list_of, moved, next_in, without};
+ghost use Rattle.tesla_base.specs.Members.{Distinct, is_in, next_in, without};
+ghost use Rattle.tesla_links.specs.Lists.{list_of, moved};
 
 use std::alloc::{AllocError, Global};
 use std::marker::Model;

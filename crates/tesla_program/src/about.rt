@@ -4,8 +4,9 @@ ghost use Rattle.std.specs.Prelude.{◌≡◌, [], ◌∷◌, Some, IfSome, fals
 ghost use Rattle.tesla_desk.specs.Faults.{HasCause};
 ghost use Rattle.tesla_program.specs.About.{word_of};
 
-use tesla_cli::{FORMS, FormText};
+use tesla_cli::FORMS;
 use tesla_desk::{Sink, write_all};
+use tesla_front::FormText;
 
 /// A text about the program.
 #[derive(Clone, Copy, Debug, PartialEq, Eq)]
@@ -41,7 +42,8 @@ pub fn about_in(words: &[String]) -> Option<About>
 
 // Writes the help on a form. False: a write failed.
 fn write_form<S: Sink>(console: &mut S, form: &FormText) -> bool
-    ensures { HasCause (S.faults console.old) (S.faults console.new) (result ≡ false) }
+    ensures cause { HasCause (S.faults console.old) (S.faults console.new) (result ≡ false) }
+    ensures name { S.name console.new ≡ S.name console.old }
 {
     write_all(console, b"tesla ")
         && write_all(console, form.words.as_bytes())
@@ -51,7 +53,8 @@ fn write_form<S: Sink>(console: &mut S, form: &FormText) -> bool
 
 // Writes the help on these forms. False: a write failed.
 fn write_forms<S: Sink>(console: &mut S, forms: &[FormText]) -> bool
-    ensures { HasCause (S.faults console.old) (S.faults console.new) (result ≡ false) }
+    ensures cause { HasCause (S.faults console.old) (S.faults console.new) (result ≡ false) }
+    ensures name { S.name console.new ≡ S.name console.old }
 {
     match forms {
         [form, forms @ ..] => {
@@ -66,7 +69,8 @@ fn write_forms<S: Sink>(console: &mut S, forms: &[FormText]) -> bool
 
 /// Writes a text about the program. False: a write failed, and the sink's count of faults rose.
 pub fn write_about<S: Sink>(console: &mut S, about: About) -> bool
-    ensures { HasCause (S.faults console.old) (S.faults console.new) (result ≡ false) }
+    ensures cause { HasCause (S.faults console.old) (S.faults console.new) (result ≡ false) }
+    ensures name { S.name console.new ≡ S.name console.old }
 {
     match about {
         About::Help => {

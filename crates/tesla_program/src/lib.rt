@@ -3,6 +3,7 @@
 #![tactic(auto)]
 
 ghost use Rattle.std.specs.Prelude.{◌≡◌};
+ghost use Rattle.tesla_program.specs.About.{Prints};
 
 mod about;
 
@@ -11,9 +12,9 @@ use std::alloc::AllocError;
 use std::process::ExitCode;
 use std::rt::{Env, Files};
 use std::{env, io};
-use tesla_cli::{Outcome, run_here, tell};
+use tesla_cli::{FORMS, run_here};
 use tesla_desk::{CONSOLE, Desk};
-use tesla_front::Fault;
+use tesla_front::{Fault, Outcome, tell};
 use tesla_live::LiveDesk;
 
 // The words after the program's name.
@@ -30,14 +31,17 @@ fn tell_no_memory<D: Desk>(desk: &mut D) -> u8
     ensures { result ≡ 6 }
 {
     if let Ok(mut console) = desk.open_sink(CONSOLE) {
-        let _ = tell(&mut console, Outcome::Failed(Fault::NoMemory));
+        let _ = tell(&mut console, &FORMS, Outcome::Failed(Fault::NoMemory));
         desk.close_sink(console);
     }
     Fault::NoMemory.status()
 }
 
-// Prints a text about the program, and gives the status of that.
-fn print_about<D: Desk>(desk: &mut D, about: About) -> u8 {
+// Prints a text about the program, and gives the status of that: 0, 5 exactly where a write failed, 7 exactly where the
+// console wasn't opened, or 6 where there was no memory for that.
+fn print_about<D: Desk>(desk: &mut D, about: About) -> u8
+    ensures { Prints (D.told desk.old) (D.told desk.new) result }
+{
     match desk.open_sink(CONSOLE) {
         Ok(mut console) => {
             let done = write_about(&mut console, about);

@@ -13,7 +13,7 @@ use Rattle.tesla_keys.specs.Tip.{Tip}
 use Rattle.tesla_fitting.specs.declared.config.Config.{Config}
 use Rattle.tesla_receiver.specs.declared.history.Arrival.{Arrival}
 use Rattle.tesla_receiver.specs.declared.history.Entry.{Entry}
-use Rattle.tesla_state.specs.declared.release.Release.{Release}
+use Rattle.tesla_walks.specs.declared.release.Release.{Release}
 use Rattle.tesla_state.specs.declared.report.Report.{Report}
 use Rattle.tesla_fitting.specs.declared.verdict.Verdict.{Verdict}
 use Rattle.tesla_fitting.specs.declared.verdict.Verdict.TheVariants.{Malformed, Foreign, Misfit, Future, BadKey, Late, Repeat, Full, Kept, Keys}
@@ -27,7 +27,8 @@ use Rattle.tesla_receiver.specs.Keys.{takes_keys, greatest, newest, new_keys}
 use Rattle.tesla_receiver.specs.Packets.{packet_in, released}
 use Rattle.tesla_state.specs.Releases.{has_name}
 use Rattle.tesla_receiver.specs.Report.{report_on}
-use Rattle.tesla_state.specs.State.{Holding, State}
+use Rattle.tesla_walks.specs.Holding.{Holding}
+use Rattle.tesla_state.specs.State.{State}
 use Rattle.tesla_receiver.specs.Stands.{Stands, held_at, holdings}
 use Rattle.tesla_state.specs.Steps.{new_rows, with_keys, refused, judged_taken, judged_frame, own, counted, entered_as, entered_with, entered_frame, refused_of, bound_at, judged, after_arrival}
 use Rattle.tesla_receiver.specs.Tips.{tip_of}

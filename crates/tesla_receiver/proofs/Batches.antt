@@ -7,6 +7,9 @@ use Rattle.std.proofs.lemmas.List.{append-nil}
 use Rattle.std.proofs.lemmas.Option.{slice_get-map}
 use Rattle.tesla_base.specs.declared.names.Name.{Name}
 use Rattle.tesla_base.proofs.Lists.{list_all_weaker, list_any_got, not_all_numbers}
+use Rattle.tesla_base.proofs.Below.{find_below, found_below}
+use Rattle.tesla_base.proofs.Numbered.{all_enumerated, any_from, flat_map-flat_map}
+use Rattle.tesla_base.proofs.Passing.{any_same, implied, passes_at, passes_somewhere, same_test}
 use Rattle.tesla_clock.specs.Safe.{has_chain}
 use Rattle.tesla_frame.specs.declared.row.KeyRow.{KeyRow}
 use Rattle.tesla_frame.specs.Frame.{TagRow}
@@ -20,16 +23,15 @@ use Rattle.tesla_receiver.specs.Held.{has_passed, is_past, is_settled, is_gone}
 use Rattle.tesla_fitting.specs.Rows.{is_of, tag_in}
 use Rattle.tesla_receiver.specs.Keys.{newest}
 use Rattle.tesla_receiver.specs.Packets.{packet_of, verifies_row, is_proof, proves, release_on, release_of, proved_by, candidates, released}
-use Rattle.tesla_state.specs.State.{Holding}
+use Rattle.tesla_walks.specs.Holding.{Holding}
 use Rattle.tesla_receiver.specs.Stands.{holding_of, held_at, holdings}
-use Rattle.tesla_state.specs.Steps.{tip_at, matches, is_proof_of, proves_on, released_on, proof_of, batch_of, as_release, is_released, released_of, is_named_so}
-use Rattle.tesla_receiver.proofs.Below.{find_below, found_below, same_test, implied, any_same, passes_somewhere, passes_at}
+use Rattle.tesla_walks.specs.Tips.{tip_at}
+use Rattle.tesla_walks.specs.Proved.{matches, is_proof_of, proves_on, released_on, proof_of}
+use Rattle.tesla_state.specs.Steps.{batch_of, as_release, is_released, released_of, is_named_so}
 use Rattle.tesla_receiver.proofs.Gone.{Brought, past_none}
 use Rattle.tesla_state.proofs.Named.{same_name}
 use Rattle.tesla_receiver.proofs.Owners.{owned_at, named_at, released_proved}
 use Rattle.tesla_receiver.proofs.Names.{AgreeOn, SameOrSeen, first_named, firsts_gathered}
-use Rattle.tesla_receiver.proofs.Numbered.{any_from, flat_map-flat_map}
-use Rattle.tesla_receiver.proofs.Passing.{all_enumerated}
 
 -- ---- the newest keys
 

@@ -1,14 +1,18 @@
 -- What an arrival may cost doesn't grow with the history.
-use Rattle.std.proofs.Common.{◌≡◌, ℕ, ◌+◌, ◌-◌, ◌*◌, ◌≤◌, Bool, true, false, cond, ◌||◌, List, [], ◌∷◌, length, length-append, flat_map, count_by, Option, Some, None, refl, subst, arith, ◌==◌}
+use Rattle.std.proofs.Common.{◌≡◌, ℕ, ◌+◌, ◌-◌, ◌*◌, ◌≤◌, Bool, true, false, cond, ◌||◌, List, [], ◌∷◌, length, count_by, Option, Some, None, refl, subst, arith, ◌==◌}
 use Rattle.std.specs.Prelude.{not, nat_lt, nat_le}
-use Rattle.std.specs.List.{list_any, list_all, enumerate_from, sum_by}
-use Rattle.std.proofs.Math.Nat.{suc-mul, mul-le-mul_right}
+use Rattle.std.specs.List.{list_any, list_all, enumerate_from}
+use Rattle.std.proofs.Math.Nat.{mul-le-mul_right}
 use Rattle.std.proofs.lemmas.Bool.{and_parts, and_from, or_parts, not-true, ltb-true, ltb-false, leb-true, le-leb, eqb-true}
 use Rattle.std.proofs.lemmas.List.FromFn.{length-range_with_len}
-use Rattle.std.proofs.lemmas.List.Sums.{sum_by-cons, count_by-le-length}
+use Rattle.std.proofs.lemmas.List.Sums.{count_by-le-length}
 use Rattle.tesla_base.specs.Version.{number_of}
 use Rattle.tesla_base.specs.declared.names.Key.{Key}
 use Rattle.tesla_base.proofs.Lists.{list_all_weaker}
+use Rattle.tesla_base.proofs.Filtered.{all_filtered, filter_shorter}
+use Rattle.tesla_base.proofs.Numbered.{all_enumerated, gathered_fewer}
+use Rattle.tesla_base.proofs.Passing.{all_fail, all_true}
+use Rattle.tesla_base.proofs.Sums.{sum_most}
 use Rattle.tesla_frame.specs.Frame.{Frame, Data, Disclosure, TagRow, ChainsRise}
 use Rattle.tesla_frame.specs.Reading.{frame_of}
 use Rattle.tesla_frame.specs.declared.row.KeyRow.{KeyRow}
@@ -20,36 +24,15 @@ use Rattle.tesla_state.specs.Costs.{is_unread, gaps_by, is_reached_by, reached_b
 use Rattle.tesla_receiver.specs.Costs.{most_evaluations}
 use Rattle.tesla_receiver.specs.History.{IsLegal, arrivals_in}
 use Rattle.tesla_fitting.specs.Rows.{carried, keys_of}
-use Rattle.tesla_state.specs.State.{Holding, State}
-use Rattle.tesla_state.specs.Steps.{tip_at, is_newer, new_rows, bound_at}
-use Rattle.tesla_receiver.proofs.Below.{all_fail, filter_shorter}
+use Rattle.tesla_walks.specs.Holding.{Holding}
+use Rattle.tesla_state.specs.State.{State}
+use Rattle.tesla_walks.specs.Tips.{tip_at, is_newer}
+use Rattle.tesla_state.specs.Steps.{new_rows, bound_at}
 use Rattle.tesla_receiver.proofs.Consistent.{consistent}
-use Rattle.tesla_receiver.proofs.Costs.{all_filtered, cost_same, read_fits}
+use Rattle.tesla_receiver.proofs.Costs.{cost_same, read_fits}
 use Rattle.tesla_frame.proofs.Rising.{disclosed_rise}
 use Rattle.tesla_receiver.proofs.Judged.{data_long, keys_within}
-use Rattle.tesla_receiver.proofs.Passing.{all_enumerated}
 use Rattle.tesla_receiver.proofs.States.{state_of, stands_of}
-
--- ---- sums
-
-sum_most : {A : Type 0} (f : A → ℕ) (most : ℕ) (t : A → Bool) (xs : List A) → list_all t xs ≡ true → ((x : A) → t x ≡ true → f x ≤ most) → sum_by f xs ≤ length xs * most
-sum_most f most t [] h small = omega arith
-sum_most f most t (x ∷ xs) h small =
-    let parts = and_parts (t x) (list_all t xs) h in
-    let here = small x parts.0 in
-    let rest = sum_most f most t xs parts.1 small in
-    omega (arith, here, rest, sum_by-cons f x xs, suc-mul (length xs) most)
-
-all_true : {A : Type 0} (xs : List A) → list_all (λ (x : A). true) xs ≡ true
-all_true [] = refl
-all_true (x ∷ xs) = all_true xs
-
-gathered_fewer : {A B : Type 0} (f : ℕ × A → List B) (m : ℕ) (xs : List A) → ((n : ℕ) (x : A) → length (f (n, x)) ≤ 1) → length (flat_map f (enumerate_from m xs)) ≤ length xs
-gathered_fewer f m [] few = omega arith
-gathered_fewer f m (x ∷ xs) few =
-    let here = few m x in
-    let rest = gathered_fewer f (m + 1) xs few in
-    omega (arith, here, rest, length-append (f (m, x)) (flat_map f (enumerate_from (m + 1) xs)))
 
 -- ---- the keys of a frame
 

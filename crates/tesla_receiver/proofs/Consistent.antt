@@ -1,30 +1,33 @@
 -- Every state that stands for a history is consistent.
 use Rattle.std.proofs.Common.{◌≡◌, ℕ, zero, suc, ◌+◌, ◌<◌, ◌≤◌, Bool, true, false, cond, List, [], ◌∷◌, ◌++◌, length, take, drop, flat_map, count_by, Option, Some, None, refl, sym, ap, subst, ⊎_elim, ◌∙◌, arith}
-use Rattle.std.specs.Prelude.{not, find, filter, slice_get}
+use Rattle.std.specs.Prelude.{not, filter, slice_get}
 use Rattle.std.specs.List.{list_any, enumerate_from}
-use Rattle.std.proofs.lemmas.Bool.{or_left, or_right, or_cases, cases_order, both_ways, cases_Bool, not-true, not_from_false, false_from_ne_true, eq-eqb, eqb-true, ne_eqb}
+use Rattle.std.proofs.lemmas.Bool.{or_cases, cases_order, both_ways, not-true, not_from_false, false_from_ne_true, eq-eqb, eqb-true, ne_eqb}
 use Rattle.std.proofs.lemmas.List.FromFn.{length-map-range_with_len}
 use Rattle.std.proofs.lemmas.Map.Views.{any-filter_same}
 use Rattle.std.proofs.lemmas.Option.{same_Some, slice_get_within}
 use Rattle.tesla_base.specs.declared.names.Name.{Name}
-use Rattle.tesla_base.proofs.Lists.{list_any_got}
+use Rattle.tesla_base.proofs.Lists.{from_drop}
+use Rattle.tesla_base.proofs.Filtered.{fails_fewer, found_filtered}
+use Rattle.tesla_base.proofs.Numbered.{each_gathered}
+use Rattle.tesla_base.proofs.Passing.{any_before, any_further, any_taken, passes_at, passes_somewhere}
 use Rattle.tesla_fitting.specs.declared.config.Config.{Config}
 use Rattle.tesla_receiver.specs.declared.history.Arrival.{Arrival}
 use Rattle.tesla_receiver.specs.declared.history.Entry.{Entry}
 use Rattle.tesla_receiver.specs.declared.packet.Packet.{Packet}
-use Rattle.tesla_state.specs.declared.release.Release.{Release}
+use Rattle.tesla_walks.specs.declared.release.Release.{Release}
 use Rattle.tesla_state.specs.declared.report.Report.{Report}
 use Rattle.tesla_receiver.specs.Consistent.{RisesFrom, IsWaiting, IsCounted, IsConsistent}
 use Rattle.tesla_state.specs.Releases.{is_at, has_name}
 use Rattle.tesla_receiver.specs.Held.{is_gone, held_of}
 use Rattle.tesla_receiver.specs.History.{arrivals_in, given_in, has_end}
 use Rattle.tesla_receiver.specs.Packets.{packet_of, released}
-use Rattle.tesla_state.specs.State.{Holding, State}
+use Rattle.tesla_walks.specs.Holding.{Holding}
+use Rattle.tesla_state.specs.State.{State}
 use Rattle.tesla_receiver.specs.Stands.{Stands, holding_of, held_at, holdings}
 use Rattle.tesla_state.specs.Steps.{in_interval, is_let_go, is_released, is_numbered}
 use Rattle.tesla_receiver.specs.Tips.{tip_of}
 use Rattle.tesla_receiver.proofs.Arriving.{keeps_of}
-use Rattle.tesla_receiver.proofs.Below.{passes_somewhere, passes_at, any_taken, fails_fewer}
 use Rattle.tesla_receiver.proofs.Counts.{report_sum, entered_few}
 use Rattle.tesla_receiver.proofs.Gone.{Brought, is_called, called_same}
 use Rattle.tesla_state.proofs.Named.{same_name}
@@ -33,61 +36,6 @@ use Rattle.tesla_receiver.proofs.KeptState.{none_let_go}
 use Rattle.tesla_receiver.proofs.Limits.{capacity_kept, quota_kept}
 use Rattle.tesla_receiver.proofs.Once.{released_once, all_called, place_once, next_out, untaken_stays, found_held}
 use Rattle.tesla_receiver.proofs.Owners.{owned_at}
-use Rattle.tesla_receiver.proofs.Passing.{any_further}
-
--- ---- lists
-
--- what is so of the elements of two lists is so of those of both
-each_append : {A : Type 0} (P : A → Type 0) (xs ys : List A) → ((i : ℕ) (x : A) → slice_get xs i ≡ Some x → P x) → ((i : ℕ) (y : A) → slice_get ys i ≡ Some y → P y) → (i : ℕ) (x : A) → slice_get (xs ++ ys) i ≡ Some x → P x
-each_append P [] ys first second i x at = second i x at
-each_append P (z ∷ xs) ys first second zero x at = first 0 x at
-each_append P (z ∷ xs) ys first second (suc i) x at = each_append P xs ys (λ j y there. first (suc j) y there) second i x at
-
--- what is so of all that each numbered element gives
-each_gathered : {A B : Type 0} (P : B → Type 0) (f : ℕ × A → List B) (m : ℕ) (xs : List A) → ((k : ℕ) (x : A) → slice_get xs k ≡ Some x → (i : ℕ) (b : B) → slice_get (f (m + k, x)) i ≡ Some b → P b) → (i : ℕ) (b : B) → slice_get (flat_map f (enumerate_from m xs)) i ≡ Some b → P b
-each_gathered P f m [] each i b at = absurd (cc)
-each_gathered P f m (x ∷ xs) each i b at =
-    let first : m ≡ m + 0 = omega arith in
-    let next : (k : ℕ) → m + 1 + k ≡ m + suc k = λ k. omega arith in
-    each_append P (f (m, x)) (flat_map f (enumerate_from (m + 1) xs))
-    (λ j y there. each 0 x refl j y (ap (λ (n : ℕ). slice_get (f (n, x)) j) (sym first) ∙ there))
-    (each_gathered P f (m + 1) xs (λ k y there j c here. each (suc k) y there j c (ap (λ (n : ℕ). slice_get (f (n, y)) j) (sym (next k)) ∙ here)))
-    i b at
-
--- an element of the rest
-from_drop : {A : Type 0} (xs : List A) (n k : ℕ) → slice_get (drop n xs) k ≡ slice_get xs (n + k)
-from_drop [] zero k = refl
-from_drop [] (suc n) k = refl
-from_drop (x ∷ xs) zero k = ap (slice_get (x ∷ xs)) (let count : k ≡ 0 + k = omega arith in count)
-from_drop (x ∷ xs) (suc n) k = from_drop xs n k ∙ ap (slice_get (x ∷ xs)) (let count : suc (n + k) ≡ suc n + k = omega arith in count)
-
--- an element of a front
-taken_at : {A : Type 0} (xs : List A) (i n : ℕ) → i < n → slice_get (take n xs) i ≡ slice_get xs i
-taken_at xs i zero less = absurd (omega arith)
-taken_at [] i (suc n) less = refl
-taken_at (x ∷ xs) zero (suc n) less = refl
-taken_at (x ∷ xs) (suc i) (suc n) less = taken_at xs i n (omega arith)
-
-any_before : {A : Type 0} (p : A → Bool) (xs : List A) (i n : ℕ) (x : A) → i < n → slice_get xs i ≡ Some x → p x ≡ true → list_any p (take n xs) ≡ true
-any_before p xs i n x less at h = list_any_got p (take n xs) i x (taken_at xs i n less ∙ at) h
-
--- what is found stands among those that pass another test, where it does
-any_filtered : {A : Type 0} (p q : A → Bool) (y : A) (rest : List A) (b : Bool) → q y ≡ b → p y ≡ true → b ≡ true → list_any p (cond b (y ∷ rest) rest) ≡ true
-any_filtered p q y rest true e h good = or_left (p y) (list_any p rest) h
-any_filtered p q y rest false e h good = absurd (cc)
-
-any_rest : {A : Type 0} (p : A → Bool) (y : A) (rest : List A) (b : Bool) → list_any p rest ≡ true → list_any p (cond b (y ∷ rest) rest) ≡ true
-any_rest p y rest true h = or_right (p y) (list_any p rest) h
-any_rest p y rest false h = h
-
-found_filtered : {A : Type 0} (p q : A → Bool) (xs : List A) (x : A) → find p xs ≡ Some x → q x ≡ true → list_any p (filter q xs) ≡ true
-found_filtered p q [] x h good = absurd (cc)
-found_filtered p q (y ∷ xs) x h good =
-    ⊎_elim
-    (λ e. let same : y ≡ x = same_Some y x (sym (ap (λ b. cond b (Some y) (find p xs)) e) ∙ h) in
-    any_filtered p q y (filter q xs) (q y) refl e (ap q same ∙ good))
-    (λ e. any_rest p y (filter q xs) (q y) (found_filtered p q xs x (sym (ap (λ b. cond b (Some y) (find p xs)) e) ∙ h) good))
-    (cases_Bool (p y))
 
 -- ---- the packets in order
 

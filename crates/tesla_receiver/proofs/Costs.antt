@@ -1,12 +1,16 @@
 -- What an arrival may cost by what a receiver keeps is what it may cost by the history.
-use Rattle.std.proofs.Common.{◌≡◌, ℕ, zero, suc, ◌+◌, ◌-◌, ◌*◌, ◌<◌, Bool, true, false, cond, ◌&&◌, ◌||◌, List, [], ◌∷◌, length, take, flat_map, count_by, Option, Some, None, refl, sym, ap, ⊎_elim, ◌∙◌, arith, ◌==◌, zero-add}
-use Rattle.std.specs.Prelude.{not, filter, find, nat_lt, option_map, unwrap_or}
-use Rattle.std.specs.List.{list_any, list_all, enumerate_from, range_with_len, sum_by}
-use Rattle.std.proofs.lemmas.Bool.{and_parts, and_from, and_cases, or_parts, or_left, or_cases, cases_Bool, not_from_false, both_ways, ltb-true}
-use Rattle.std.proofs.lemmas.List.Sums.{sum_by-cons, sum_by-append}
+use Rattle.std.proofs.Common.{◌≡◌, ℕ, ◌+◌, ◌-◌, ◌*◌, Bool, true, false, cond, ◌&&◌, ◌||◌, List, [], ◌∷◌, length, take, count_by, Option, Some, None, refl, sym, ap, ⊎_elim, ◌∙◌, arith, ◌==◌, zero-add}
+use Rattle.std.specs.Prelude.{not, find, nat_lt, option_map, unwrap_or}
+use Rattle.std.specs.List.{list_any, list_all, enumerate_from, sum_by}
+use Rattle.std.proofs.lemmas.Bool.{and_parts, and_cases, or_parts, or_left, or_cases, cases_Bool, not_from_false, both_ways, ltb-true}
 use Rattle.tesla_clock.specs.Safe.{has_chain}
 use Rattle.tesla_base.specs.declared.names.ChainNo.{ChainNo}
 use Rattle.tesla_base.specs.declared.names.StreamId.{StreamId}
+use Rattle.tesla_base.proofs.Below.{count_below}
+use Rattle.tesla_base.proofs.Filtered.{all_filtered, filter_same_in}
+use Rattle.tesla_base.proofs.Numbered.{sum_gathered}
+use Rattle.tesla_base.proofs.Passing.{any_taken}
+use Rattle.tesla_base.proofs.Sums.{sum_same}
 use Rattle.tesla_fitting.specs.declared.verdict.Verdict.{Verdict}
 use Rattle.tesla_fitting.specs.declared.verdict.Verdict.TheVariants.{Foreign, Misfit, Future, BadKey}
 use Rattle.tesla_frame.specs.Frame.{Frame}
@@ -26,47 +30,15 @@ use Rattle.tesla_receiver.specs.History.{arrivals_in, given_in}
 use Rattle.tesla_fitting.specs.Rows.{keys_of}
 use Rattle.tesla_receiver.specs.Keys.{newest}
 use Rattle.tesla_receiver.specs.Packets.{packet_of, candidates, released}
-use Rattle.tesla_state.specs.State.{Holding, State}
+use Rattle.tesla_walks.specs.Holding.{Holding}
+use Rattle.tesla_state.specs.State.{State}
 use Rattle.tesla_receiver.specs.Stands.{Stands, holding_of, held_at, holdings}
-use Rattle.tesla_state.specs.Steps.{tip_at, is_newer, new_rows, bound_at, fails, judged, judged_frame, judged_taken, with_keys}
+use Rattle.tesla_walks.specs.Tips.{tip_at, is_newer, fails}
+use Rattle.tesla_state.specs.Steps.{new_rows, bound_at, judged, judged_frame, judged_taken, with_keys}
 use Rattle.tesla_receiver.proofs.Arriving.{keeps_of}
-use Rattle.tesla_receiver.proofs.Below.{filter_same, any_taken}
 use Rattle.tesla_receiver.proofs.Judged.{keys_within}
 use Rattle.tesla_receiver.proofs.KeptState.{Keeps, tips_kept}
 use Rattle.tesla_receiver.proofs.Owners.{released_proved}
-
--- ---- sums
-
--- what is summed along what numbered elements give
-sum_gathered : {A B : Type 0} (g : B → ℕ) (f : ℕ × A → List B) (t : ℕ × A → ℕ) (m : ℕ) (xs : List A) → ((n : ℕ) (x : A) → sum_by g (f (n, x)) ≡ t (n, x)) → sum_by g (flat_map f (enumerate_from m xs)) ≡ sum_by t (enumerate_from m xs)
-sum_gathered g f t m [] each = refl
-sum_gathered g f t m (x ∷ xs) each =
-    sum_by-append g (f (m, x)) (flat_map f (enumerate_from (m + 1) xs)) ∙ ap (λ n. n + sum_by g (flat_map f (enumerate_from (m + 1) xs))) (each m x)
-    ∙ ap (λ n. t (m, x) + n) (sum_gathered g f t (m + 1) xs each) ∙ sym (sum_by-cons t (m, x) (enumerate_from (m + 1) xs))
-
--- the sums of functions that agree on what passes a test
-sum_same : {A : Type 0} (t : A → Bool) (f g : A → ℕ) (xs : List A) → list_all t xs ≡ true → ((x : A) → t x ≡ true → f x ≡ g x) → sum_by f xs ≡ sum_by g xs
-sum_same t f g [] h same = refl
-sum_same t f g (x ∷ xs) h same =
-    let parts = and_parts (t x) (list_all t xs) h in
-    sum_by-cons f x xs ∙ ap (λ n. n + sum_by f xs) (same x parts.0) ∙ ap (λ n. g x + n) (sum_same t f g xs parts.1 same) ∙ sym (sum_by-cons g x xs)
-
-all_if : {A : Type 0} (t : A → Bool) (x : A) (rest : List A) (b : Bool) → t x ≡ true → list_all t rest ≡ true → list_all t (cond b (x ∷ rest) rest) ≡ true
-all_if t x rest true h k = and_from (t x) (list_all t rest) h k
-all_if t x rest false h k = k
-
--- what all pass, those that pass another test do too
-pub all_filtered : {A : Type 0} (t p : A → Bool) (xs : List A) → list_all t xs ≡ true → list_all t (filter p xs) ≡ true
-all_filtered t p [] h = refl
-all_filtered t p (x ∷ xs) h =
-    let parts = and_parts (t x) (list_all t xs) h in
-    all_if t x (filter p xs) (p x) parts.0 (all_filtered t p xs parts.1)
-
-count_below : (p q : ℕ → Bool) (a n : ℕ) → ((c : ℕ) → c < a + n → p c ≡ q c) → count_by p (range_with_len a n) ≡ count_by q (range_with_len a n)
-count_below p q a zero same = refl
-count_below p q a (suc n) same =
-    sum_by-cons (λ c. cond (p c) 1 0) a (range_with_len (a + 1) n) ∙ ap (λ b. cond b 1 0 + count_by p (range_with_len (a + 1) n)) (same a (omega arith))
-    ∙ ap (λ m. cond (q a) 1 0 + m) (count_below p q (a + 1) n (λ c h. same c (omega arith))) ∙ sym (sum_by-cons (λ c. cond (q c) 1 0) a (range_with_len (a + 1) n))
 
 -- ---- settled packets
 
@@ -125,7 +97,7 @@ module _ (s : State) (xs : List Arrival) (given : ℕ) (k : Keeps s xs given) (n
 module _ (s : State) (xs : List Arrival) (given : ℕ) (k : Keeps s xs given) (frame : Frame) (fits : is_misfit s.config frame ≡ false) where
   rows_same : new_rows s frame ≡ newer_rows s.config xs frame
   rows_same =
-      filter_same (λ row. nat_lt row.chain.0 (length s.config.setup.rows)) (is_newer s.tips) (λ row. nat_lt (newest s.config xs row.chain.0) row.index) (keys_of s.config frame) (keys_within s.config frame fits)
+      filter_same_in (λ row. nat_lt row.chain.0 (length s.config.setup.rows)) (is_newer s.tips) (λ row. nat_lt (newest s.config xs row.chain.0) row.index) (keys_of s.config frame) (keys_within s.config frame fits)
       (λ row e. ap (λ (n : ℕ). nat_lt n row.index) (tips_kept s xs given k row.chain.0 (ltb-true row.chain.0 (length s.config.setup.rows) e)))
 
   gaps_same : gaps_by s frame ≡ gaps s.config xs frame

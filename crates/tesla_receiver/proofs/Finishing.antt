@@ -12,7 +12,7 @@ use Rattle.tesla_fitting.specs.declared.config.Config.{Config}
 use Rattle.tesla_receiver.specs.declared.history.Entry.{Entry}
 use Rattle.tesla_receiver.specs.declared.history.Entry.TheVariants.{Taken, Ended}
 use Rattle.tesla_state.specs.declared.replies.Reply.TheVariants.{Over}
-use Rattle.tesla_state.specs.declared.release.Release.{Release}
+use Rattle.tesla_walks.specs.declared.release.Release.{Release}
 use Rattle.tesla_receiver.specs.Packets.{released}
 use Rattle.tesla_receiver.specs.History.{Takes, entry_of, arrivals_in, gives, given_in, has_end, payload_of, reply_to, reply_with}
 use Rattle.tesla_state.specs.Releases.{head_of}

@@ -7,21 +7,22 @@ use Rattle.std.proofs.lemmas.List.Folds.{list_any-append, list_all-append}
 use Rattle.std.proofs.lemmas.Option.{slice_get_within, same_Some}
 use Rattle.tesla_base.specs.declared.names.Name.{Name}
 use Rattle.tesla_base.proofs.Lists.{slice_get-append, list_all_weaker}
+use Rattle.tesla_base.proofs.Numbered.{all_enumerated}
+use Rattle.tesla_base.proofs.Passing.{any_further, any_longer, none_found, none_passes}
 use Rattle.tesla_clock.specs.Safe.{has_chain}
 use Rattle.tesla_frame.specs.declared.row.KeyRow.{KeyRow}
 use Rattle.tesla_frame.specs.Frame.{DataFrame}
 use Rattle.tesla_fitting.specs.declared.config.Config.{Config}
 use Rattle.tesla_receiver.specs.declared.history.Arrival.{Arrival}
 use Rattle.tesla_receiver.specs.declared.packet.Packet.{Packet}
-use Rattle.tesla_state.specs.declared.release.Release.{Release}
+use Rattle.tesla_walks.specs.declared.release.Release.{Release}
 use Rattle.tesla_fitting.specs.Config.{chains}
 use Rattle.tesla_state.specs.Releases.{each_after, has_name, unless_named, is_at}
 use Rattle.tesla_receiver.specs.Keys.{newest, new_keys}
 use Rattle.tesla_receiver.specs.Packets.{packet_of, is_proof, proves, release_on, release_of, batch, candidates, released}
 use Rattle.tesla_receiver.specs.Held.{has_passed, is_past, is_settled, is_gone}
-use Rattle.tesla_receiver.proofs.EachAfter.{each_after-append}
+use Rattle.tesla_receiver.proofs.EachAfter.{each_after-append, all_each_after}
 use Rattle.tesla_receiver.proofs.Fronts.{released_more, newest_rises}
-use Rattle.tesla_receiver.proofs.Passing.{none_passes, none_found, any_longer, any_further, all_each_after, all_enumerated}
 use Rattle.tesla_receiver.proofs.Places.{firsts_pass, unless_pass}
 use Rattle.tesla_state.proofs.Named.{same_name}
 

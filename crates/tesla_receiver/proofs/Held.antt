@@ -9,17 +9,18 @@ use Rattle.tesla_clock.specs.Safe.{has_chain}
 use Rattle.tesla_fitting.specs.declared.config.Config.{Config}
 use Rattle.tesla_receiver.specs.declared.history.Arrival.{Arrival}
 use Rattle.tesla_receiver.specs.declared.packet.Packet.{Packet}
-use Rattle.tesla_state.specs.declared.release.Release.{Release}
+use Rattle.tesla_walks.specs.declared.release.Release.{Release}
 use Rattle.tesla_fitting.specs.Config.{chains}
 use Rattle.tesla_receiver.specs.Keys.{keys_taken, greatest, newest}
 use Rattle.tesla_receiver.specs.Packets.{packet_of, candidates, first_of_each_name, released}
 use Rattle.tesla_state.specs.Releases.{is_at}
 use Rattle.tesla_receiver.specs.Held.{has_passed, is_past, is_gone, is_asked, has_place, held_of}
 use Rattle.tesla_base.proofs.Lists.{enumerate_from-append}
+use Rattle.tesla_base.proofs.Numbered.{count_fewer}
+use Rattle.tesla_base.proofs.Passing.{all_same}
 use Rattle.tesla_receiver.proofs.Gone.{gone_stays}
 use Rattle.tesla_receiver.proofs.Grown.{candidates_same}
 use Rattle.tesla_receiver.proofs.Newest.{newest_more}
-use Rattle.tesla_receiver.proofs.Passing.{all_same, count_fewer}
 
 -- the packets of these arrivals that have a place, by what all arrivals tell
 abbrev held_among : Config → List Arrival → ℕ → Option ℕ → List Arrival → ℕ

@@ -8,6 +8,9 @@ use Rattle.std.proofs.lemmas.List.{append-nil, take-append-le}
 use Rattle.std.proofs.lemmas.List.Concat.{flat_map-append}
 use Rattle.std.proofs.lemmas.List.Folds.{list_any-append}
 use Rattle.tesla_base.proofs.Lists.{enumerate_from-append, list_all_both, list_all_weaker, list_all-take, not_all_numbers}
+use Rattle.tesla_base.proofs.Below.{all_below}
+use Rattle.tesla_base.proofs.Numbered.{any_at, flat_map-flat_map, gathered_same}
+use Rattle.tesla_base.proofs.Passing.{none_passes}
 use Rattle.tesla_clock.specs.Safe.{has_chain}
 use Rattle.tesla_frame.specs.declared.row.KeyRow.{KeyRow}
 use Rattle.tesla_frame.specs.Frame.{DataFrame}
@@ -15,21 +18,19 @@ use Rattle.tesla_keys.specs.Tip.{Tip}
 use Rattle.tesla_fitting.specs.declared.config.Config.{Config}
 use Rattle.tesla_receiver.specs.declared.history.Arrival.{Arrival}
 use Rattle.tesla_receiver.specs.declared.packet.Packet.{Packet}
-use Rattle.tesla_state.specs.declared.release.Release.{Release}
+use Rattle.tesla_walks.specs.declared.release.Release.{Release}
 use Rattle.tesla_fitting.specs.Config.{chains}
 use Rattle.tesla_state.specs.Releases.{is_at, each_after, unless_named}
 use Rattle.tesla_receiver.specs.Held.{has_passed, is_past, is_settled, is_gone}
 use Rattle.tesla_receiver.specs.Keys.{newest, new_keys}
 use Rattle.tesla_receiver.specs.Packets.{packet_of, proves, release_on, release_of, proved_by, batch, candidates, released}
-use Rattle.tesla_state.specs.State.{Holding}
+use Rattle.tesla_walks.specs.Holding.{Holding}
 use Rattle.tesla_receiver.specs.Stands.{holding_of, held_at, holdings}
-use Rattle.tesla_state.specs.Steps.{proves_on, released_on, proof_of, batch_of, released_of, is_passed, is_over, is_let_go, marked, kept_after}
+use Rattle.tesla_walks.specs.Proved.{proves_on, released_on, proof_of}
+use Rattle.tesla_state.specs.Steps.{batch_of, released_of, is_passed, is_over, is_let_go, marked, kept_after}
 use Rattle.tesla_receiver.proofs.Batches.{TipsOf, proof_held, released_by}
-use Rattle.tesla_receiver.proofs.Below.{all_below}
 use Rattle.tesla_receiver.proofs.EachAfter.{each_after-append, each_after_more}
 use Rattle.tesla_receiver.proofs.Gone.{Brought, gone_stays}
-use Rattle.tesla_receiver.proofs.Numbered.{any_at, gathered_same, flat_map-flat_map}
-use Rattle.tesla_receiver.proofs.Passing.{none_passes}
 use Rattle.tesla_receiver.proofs.Places.{is_below, proved_below, candidates_below, firsts_pass}
 
 -- ---- what is proved and released with one arrival more

@@ -8,6 +8,10 @@ use Rattle.tesla_base.specs.Version.{number_of}
 use Rattle.tesla_base.specs.declared.names.Key.{Key}
 use Rattle.tesla_base.specs.declared.names.Name.{Name}
 use Rattle.tesla_base.proofs.Lists.{list_all_weaker, not_all_numbers}
+use Rattle.tesla_base.proofs.Filtered.{filter_same_in}
+use Rattle.tesla_base.proofs.Numbered.{all_enumerated}
+use Rattle.tesla_base.proofs.Passing.{all_fail, find_same, same_test}
+use Rattle.tesla_base.proofs.Sums.{count_all, count_gathered}
 use Rattle.tesla_clock.specs.Safe.{has_chain, chain_set}
 use Rattle.tesla_clock.specs.Safe as clock
 use Rattle.tesla_clock.proofs.Sets.{set_has}
@@ -30,17 +34,16 @@ use Rattle.tesla_fitting.specs.Rows.{carried, keys_of, leads_to}
 use Rattle.tesla_receiver.specs.Keys.{keys_in, takes_keys, newest, new_keys}
 use Rattle.tesla_receiver.specs.Packets.{is_safe, packet_of, candidates, released}
 use Rattle.tesla_state.specs.Releases.{has_name}
-use Rattle.tesla_state.specs.State.{Holding, State}
+use Rattle.tesla_walks.specs.Holding.{Holding}
+use Rattle.tesla_state.specs.State.{State}
 use Rattle.tesla_receiver.specs.Stands.{holding_of, held_at, holdings}
-use Rattle.tesla_state.specs.Steps.{tip_at, is_newer, fails, new_rows, refused, safe_by, is_named_so, in_interval, judged_packet, judged_taken}
+use Rattle.tesla_walks.specs.Tips.{tip_at, is_newer, fails}
+use Rattle.tesla_state.specs.Steps.{new_rows, refused, safe_by, is_named_so, in_interval, judged_packet, judged_taken}
 use Rattle.tesla_receiver.proofs.Batches.{is_open, is_seen, seen_held}
-use Rattle.tesla_receiver.proofs.Below.{same_test, find_same, filter_same, all_fail}
 use Rattle.tesla_receiver.proofs.Tips.{bad_offered}
 use Rattle.tesla_receiver.proofs.KeptState.{Keeps, tip_kept, tips_kept}
 use Rattle.tesla_receiver.proofs.Names.{first_named}
-use Rattle.tesla_receiver.proofs.Numbered.{count_gathered, count_all}
 use Rattle.tesla_receiver.proofs.Owners.{released_proved}
-use Rattle.tesla_receiver.proofs.Passing.{all_enumerated}
 use Rattle.tesla_receiver.proofs.SafeChains.{set_same}
 
 -- ---- a fitting frame's keys are of the setup's chains
@@ -119,7 +122,7 @@ module _ (s : State) (h : List Entry) (given : ℕ) (legal : IsLegal s.config h)
 -- the keys that an arrival with this frame takes and that are new
 pub new_same : (s : State) (xs : List Arrival) (given : ℕ) (a : Arrival) (frame : Frame) → Keeps s xs given → frame_of a.bytes ≡ Some frame → takes_keys a.verdict ≡ true → is_misfit s.config frame ≡ false → new_rows s frame ≡ new_keys s.config xs a
 new_same s xs given a frame k read takes fits =
-    filter_same (λ row. nat_lt row.chain.0 (length s.config.setup.rows)) (is_newer s.tips) (λ row. nat_lt (newest s.config xs row.chain.0) row.index) (keys_of s.config frame) (keys_within s.config frame fits)
+    filter_same_in (λ row. nat_lt row.chain.0 (length s.config.setup.rows)) (is_newer s.tips) (λ row. nat_lt (newest s.config xs row.chain.0) row.index) (keys_of s.config frame) (keys_within s.config frame fits)
     (λ row e. ap (λ (n : ℕ). nat_lt n row.index) (tips_kept s xs given k row.chain.0 (ltb-true row.chain.0 (length s.config.setup.rows) e)))
     ∙ ap (λ o. filter (λ row. nat_lt (newest s.config xs row.chain.0) row.index) (keys_in s.config o)) (sym read)
     ∙ ap (λ b. filter (λ row. nat_lt (newest s.config xs row.chain.0) row.index) (cond b (keys_in s.config (frame_of a.bytes)) [])) (sym takes)

@@ -6,6 +6,8 @@ use Rattle.std.proofs.Math.Bool.{or-false}
 use Rattle.std.proofs.lemmas.Bool.{and_parts, and_left, and_right, and_cases, or_parts, or_from, not-true, not_from_false}
 use Rattle.std.proofs.lemmas.List.{append-nil, drop-append-le}
 use Rattle.tesla_base.proofs.Lists.{map_same}
+use Rattle.tesla_base.proofs.Below.{got_below}
+use Rattle.tesla_base.proofs.Numbered.{map_numbered}
 use Rattle.tesla_clock.specs.Safe.{has_chain}
 use Rattle.tesla_frame.specs.Reading.{frame_of}
 use Rattle.tesla_frame.specs.declared.row.KeyRow.{KeyRow}
@@ -18,13 +20,14 @@ use Rattle.tesla_state.specs.Releases.{is_at}
 use Rattle.tesla_receiver.specs.Held.{has_passed, is_past, is_gone}
 use Rattle.tesla_receiver.specs.Keys.{takes_keys, keys_in, newest, new_keys}
 use Rattle.tesla_receiver.specs.Packets.{packet_of, candidates, released}
-use Rattle.tesla_state.specs.State.{Holding, State}
+use Rattle.tesla_walks.specs.Holding.{Holding}
+use Rattle.tesla_state.specs.State.{State}
 use Rattle.tesla_receiver.specs.Stands.{holding_of, held_at, holdings}
-use Rattle.tesla_state.specs.Steps.{no_tip, tip_at, tips_after, proves_on, released_on, batch_of, released_of, is_passed, is_let_go, marked, kept_after, with_keys}
-use Rattle.tesla_state.specs.Tips.{raised}
+use Rattle.tesla_walks.specs.Tips.{no_tip, tip_at, tips_after, raised}
+use Rattle.tesla_walks.specs.Proved.{proves_on, released_on}
+use Rattle.tesla_state.specs.Steps.{batch_of, released_of, is_passed, is_let_go, marked, kept_after, with_keys}
 use Rattle.tesla_receiver.specs.Tips.{tip_of}
 use Rattle.tesla_receiver.proofs.Batches.{TipsOf, all_held}
-use Rattle.tesla_receiver.proofs.Below.{got_below, map_numbered}
 use Rattle.tesla_receiver.proofs.Tips.{tip_index, tip_more}
 use Rattle.tesla_receiver.proofs.HeldAfter.{over_same, passed_same, released_now, released_after, holdings_more}
 

@@ -3,7 +3,6 @@ pub mod Newest
 pub mod Grown
 pub mod Verdicts
 pub mod Standing
-pub mod Passing
 pub mod Places
 pub mod Playing
 pub mod Events
@@ -13,8 +12,6 @@ pub mod Gone
 pub mod Held
 pub mod Limits
 pub mod SafeChains
-pub mod Below
-pub mod Numbered
 pub mod Names
 pub mod Batches
 pub mod Owners

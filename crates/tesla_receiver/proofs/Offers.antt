@@ -9,12 +9,13 @@ use Rattle.std.proofs.lemmas.List.Elements.{filter-append}
 use Rattle.std.proofs.lemmas.Slice.Eq.{bytes_eq-Decides}
 use Rattle.tesla_base.specs.declared.names.Key.{Key}
 use Rattle.tesla_base.proofs.Lists.{list_all_both, list_all_weaker}
+use Rattle.tesla_base.proofs.Filtered.{filtered_pass}
 use Rattle.tesla_frame.specs.declared.row.KeyRow.{KeyRow}
 use Rattle.tesla_keys.specs.Tip.{Tip}
 use Rattle.tesla_prf.specs.Keys.{walk}
 use Rattle.tesla_prf.proofs.Walks.{walk_none, walk_on}
 use Rattle.tesla_fitting.specs.Rows.{is_of, leads_to}
-use Rattle.tesla_state.specs.Tips.{raised}
+use Rattle.tesla_walks.specs.Tips.{raised}
 
 -- a row's key, as a newest one
 abbrev pub tip_at : KeyRow → Tip
@@ -43,15 +44,6 @@ all_own chain p (row ∷ rows) = elim (is_of chain row) as (λ b. ((not b || p r
   | true ↦ ap (λ b. p row && b) (all_own chain p rows)
   | false ↦ all_own chain p rows
 ]
-
-kept_pass : {A : Type 0} (p : A → Bool) (x : A) (kept : List A) (b : Bool) → p x ≡ b → list_all p kept ≡ true → list_all p (cond b (x ∷ kept) kept) ≡ true
-kept_pass p x kept true e h = and_from (p x) (list_all p kept) e h
-kept_pass p x kept false e h = h
-
--- what a filter keeps passes
-pub filtered_pass : {A : Type 0} (p : A → Bool) (xs : List A) → list_all p (filter p xs) ≡ true
-filtered_pass p [] = refl
-filtered_pass p (x ∷ xs) = kept_pass p x (filter p xs) (p x) refl (filtered_pass p xs)
 
 -- the only row of the chain is of the chain
 pub only_of : (chain : ℕ) (rows : List KeyRow) (row : KeyRow) → filter (is_of chain) rows ≡ row ∷ [] → is_of chain row ≡ true

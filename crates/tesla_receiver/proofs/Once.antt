@@ -8,12 +8,14 @@ use Rattle.std.proofs.lemmas.List.Folds.{list_any-append, list_all-append}
 use Rattle.std.proofs.lemmas.Option.{same_Some}
 use Rattle.tesla_base.specs.declared.names.Name.{Name}
 use Rattle.tesla_base.proofs.Lists.{list_all_weaker, list_all-take, list_any_got}
+use Rattle.tesla_base.proofs.Numbered.{find_at}
+use Rattle.tesla_base.proofs.Passing.{passes_at}
 use Rattle.tesla_frame.specs.Frame.{Frame, Data, Disclosure}
 use Rattle.tesla_frame.specs.Reading.{frame_of}
 use Rattle.tesla_fitting.specs.declared.config.Config.{Config}
 use Rattle.tesla_receiver.specs.declared.history.Arrival.{Arrival}
 use Rattle.tesla_receiver.specs.declared.packet.Packet.{Packet}
-use Rattle.tesla_state.specs.declared.release.Release.{Release}
+use Rattle.tesla_walks.specs.declared.release.Release.{Release}
 use Rattle.tesla_fitting.specs.declared.verdict.Verdict.{Verdict}
 use Rattle.tesla_fitting.specs.declared.verdict.Verdict.TheVariants.{Malformed, Foreign, Misfit, Future, BadKey, Late, Repeat, Full, Kept, Keys}
 use Rattle.tesla_fitting.specs.Config.{chains}
@@ -21,12 +23,10 @@ use Rattle.tesla_state.specs.Releases.{is_at, each_after, has_name, unless_named
 use Rattle.tesla_receiver.specs.Held.{has_passed, is_settled, is_gone}
 use Rattle.tesla_receiver.specs.History.{payload_in, payload_of}
 use Rattle.tesla_receiver.specs.Packets.{packet_in, packet_of, batch, candidates, released}
-use Rattle.tesla_state.specs.State.{Holding}
+use Rattle.tesla_walks.specs.Holding.{Holding}
 use Rattle.tesla_receiver.specs.Stands.{holding_of, held_at, holdings}
 use Rattle.tesla_state.specs.Steps.{payload_held, is_numbered}
-use Rattle.tesla_receiver.proofs.Below.{passes_at}
 use Rattle.tesla_receiver.proofs.Gone.{Brought, is_called, called_any, candidates_called}
-use Rattle.tesla_receiver.proofs.Numbered.{find_at}
 use Rattle.tesla_receiver.proofs.Owners.{owned_at}
 use Rattle.tesla_receiver.proofs.Places.{firsts_pass}
 

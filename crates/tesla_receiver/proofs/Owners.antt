@@ -7,20 +7,21 @@ use Rattle.std.proofs.Math.Bool.{or-false}
 use Rattle.std.proofs.lemmas.List.Folds.{list_any-append}
 use Rattle.std.proofs.lemmas.Option.{slice_get_within}
 use Rattle.tesla_base.proofs.Lists.{slice_get-append}
+use Rattle.tesla_base.proofs.Numbered.{all_enumerated}
+use Rattle.tesla_base.proofs.Passing.{passes_at}
 use Rattle.tesla_frame.specs.declared.row.KeyRow.{KeyRow}
 use Rattle.tesla_fitting.specs.declared.config.Config.{Config}
 use Rattle.tesla_receiver.specs.declared.history.Arrival.{Arrival}
 use Rattle.tesla_receiver.specs.declared.packet.Packet.{Packet}
-use Rattle.tesla_state.specs.declared.release.Release.{Release}
+use Rattle.tesla_walks.specs.declared.release.Release.{Release}
 use Rattle.tesla_fitting.specs.Config.{chains}
 use Rattle.tesla_state.specs.Releases.{is_at, each_after, has_name, unless_named}
 use Rattle.tesla_receiver.specs.Keys.{new_keys}
 use Rattle.tesla_receiver.specs.Packets.{packet_of, proves, release_on, release_of, batch, candidates, released}
-use Rattle.tesla_receiver.proofs.Below.{passes_at}
 use Rattle.tesla_receiver.proofs.Gone.{Brought, called_any, candidates_called}
 use Rattle.tesla_state.proofs.Named.{same_name}
-use Rattle.tesla_receiver.proofs.Passing.{all_each_after, all_enumerated}
 use Rattle.tesla_receiver.proofs.Places.{firsts_pass}
+use Rattle.tesla_receiver.proofs.EachAfter.{all_each_after}
 
 abbrev brought_in : Option Arrival → Option Packet
 brought_in None = None

@@ -16,7 +16,7 @@ use Rattle.tesla_receiver.specs.Refusals.{ChangesCountsAlone}
 use Rattle.tesla_receiver.specs.Report.{report_on}
 use Rattle.tesla_receiver.specs.Stands.{holdings}
 use Rattle.tesla_receiver.specs.Tips.{tip_of}
-use Rattle.tesla_state.specs.Tips.{raised}
+use Rattle.tesla_walks.specs.Tips.{raised}
 use Rattle.tesla_state.specs.State.{State}
 use Rattle.tesla_receiver.proofs.Arriving.{arrival_as, keeps_of, quiet_packet}
 use Rattle.tesla_receiver.proofs.Counts.{report_more}

@@ -1,5 +1,5 @@
 -- A receiver's state stands for one take more.
-use Rattle.std.proofs.Common.{◌≡◌, ℕ, zero, suc, ◌+◌, Bool, true, false, cond, ◌&&◌, ◌||◌, List, [], ◌∷◌, ◌++◌, length-append, map, take, drop, flat_map, Option, Some, None, refl, sym, ap, subst, ⊎_elim, ◌∙◌, ◌==◌, add-one, add-zero}
+use Rattle.std.proofs.Common.{◌≡◌, ℕ, ◌+◌, Bool, true, false, cond, ◌&&◌, ◌||◌, List, [], ◌∷◌, ◌++◌, length-append, map, take, drop, flat_map, Option, Some, None, refl, sym, ap, subst, ⊎_elim, ◌∙◌, ◌==◌, add-zero}
 use Rattle.std.specs.Prelude.{not, find, slice_get, is_some}
 use Rattle.std.specs.List.{list_any, list_all, enumerate_from, range_with_len}
 use Rattle.std.proofs.Math.Bool.{or-false}
@@ -7,13 +7,15 @@ use Rattle.std.proofs.lemmas.Bool.{and_right, or_right, cases_eq, ne_eqb, eq-eqb
 use Rattle.std.proofs.lemmas.List.{append-nil}
 use Rattle.std.proofs.lemmas.List.Folds.{list_all-map, list_any_more}
 use Rattle.std.proofs.lemmas.Option.{slice_get_within, get_or_from_slice_get}
+use Rattle.tesla_base.proofs.Lists.{drop_next, first_in, next_first}
+use Rattle.tesla_base.proofs.Numbered.{flat_map-flat_map, gathered_same}
 use Rattle.tesla_keys.specs.Tip.{Tip}
 use Rattle.tesla_fitting.specs.declared.config.Config.{Config}
 use Rattle.tesla_receiver.specs.declared.history.Arrival.{Arrival}
 use Rattle.tesla_receiver.specs.declared.history.Entry.{Entry}
 use Rattle.tesla_state.specs.declared.replies.Reply.TheVariants.{Given}
 use Rattle.tesla_receiver.specs.declared.packet.Packet.{Packet}
-use Rattle.tesla_state.specs.declared.release.Release.{Release}
+use Rattle.tesla_walks.specs.declared.release.Release.{Release}
 use Rattle.tesla_state.specs.declared.report.Report.{Report}
 use Rattle.tesla_fitting.specs.Config.{chains}
 use Rattle.tesla_state.specs.Releases.{is_at, head_of}
@@ -21,36 +23,18 @@ use Rattle.tesla_receiver.specs.Held.{has_passed, is_settled, is_gone}
 use Rattle.tesla_receiver.specs.History.{Takes, entry_of, arrivals_in, given_in, has_end, payload_of, reply_with, reply_to}
 use Rattle.tesla_receiver.specs.Packets.{packet_of, released}
 use Rattle.tesla_receiver.specs.Report.{report_on}
-use Rattle.tesla_state.specs.State.{Holding, State}
+use Rattle.tesla_walks.specs.Holding.{Holding}
+use Rattle.tesla_state.specs.State.{State}
 use Rattle.tesla_receiver.specs.Stands.{Stands, holding_of, held_at, holdings}
 use Rattle.tesla_state.specs.Steps.{is_passed, payload_held, is_numbered, payload_at, reply_for, reply_by, taken_after, with_taken, after_take}
 use Rattle.tesla_receiver.specs.Tips.{tip_of}
 use Rattle.tesla_receiver.proofs.Arriving.{keeps_of}
 use Rattle.tesla_receiver.proofs.Batches.{TipsOf}
-use Rattle.tesla_receiver.proofs.Below.{first_in}
 use Rattle.tesla_receiver.proofs.HeldAfter.{passed_same}
 use Rattle.tesla_receiver.proofs.KeptState.{tips_kept}
 use Rattle.tesla_receiver.proofs.Legal.{arrivals_same, given_take}
-use Rattle.tesla_receiver.proofs.Numbered.{gathered_same, flat_map-flat_map}
 use Rattle.tesla_receiver.proofs.Once.{place_once, next_out, untaken_stays, payload_next}
 use Rattle.tesla_receiver.proofs.Standing.{entered_legal, ended_same}
-
--- ---- lists
-
-pub next_first : {A : Type 0} (xs : List A) (n : ℕ) → slice_get xs n ≡ first_in (drop n xs)
-next_first [] zero = refl
-next_first [] (suc n) = refl
-next_first (x ∷ xs) zero = refl
-next_first (x ∷ xs) (suc n) = next_first xs n
-
-drop_suc : {A : Type 0} (xs : List A) (n : ℕ) (x : A) (rest : List A) → drop n xs ≡ x ∷ rest → drop (suc n) xs ≡ rest
-drop_suc [] zero x rest h = absurd (cc)
-drop_suc [] (suc n) x rest h = absurd (cc)
-drop_suc (y ∷ xs) zero x rest h = cc
-drop_suc (y ∷ xs) (suc n) x rest h = drop_suc xs n x rest h
-
-drop_next : {A : Type 0} (xs : List A) (n : ℕ) (x : A) (rest : List A) → drop n xs ≡ x ∷ rest → drop (n + 1) xs ≡ rest
-drop_next xs n x rest h = ap (λ (m : ℕ). drop m xs) (add-one n) ∙ drop_suc xs n x rest h
 
 -- ---- the answer
 

@@ -7,6 +7,8 @@ use Rattle.std.proofs.lemmas.List.{append-nil}
 use Rattle.std.proofs.lemmas.List.Sums.{fold-append}
 use Rattle.tesla_base.specs.declared.names.StreamId.{StreamId}
 use Rattle.tesla_base.specs.declared.names.Key.{Key}
+use Rattle.tesla_base.proofs.Filtered.{all_filtered, filtered_pass, find_first_kept}
+use Rattle.tesla_base.proofs.Passing.{unfound_fail}
 use Rattle.tesla_clock.specs.Schedule.{bound_of}
 use Rattle.tesla_frame.specs.declared.row.KeyRow.{KeyRow}
 use Rattle.tesla_frame.specs.Frame.{Frame}
@@ -25,12 +27,12 @@ use Rattle.tesla_receiver.specs.Answer.{is_bad, verdict_taken, verdict_on, verdi
 use Rattle.tesla_receiver.specs.History.{Event, Arrives, Takes, Ends, event_of, entry_of, IsLegalAfter, IsLegal, arrival_in, arrivals_in, given_in}
 use Rattle.tesla_fitting.specs.Rows.{keys_of, is_of, leads_to}
 use Rattle.tesla_receiver.specs.Keys.{keys_in, takes_keys, keys_taken, greatest, newest, new_keys, fresh_keys, is_good}
-use Rattle.tesla_state.specs.Tips.{first_tip, raised}
+use Rattle.tesla_walks.specs.Tips.{first_tip, raised}
 use Rattle.tesla_receiver.specs.Tips.{tip_of}
 use Rattle.tesla_receiver.proofs.EachAfter.{each_after_more}
 use Rattle.tesla_receiver.proofs.Events.{arrivals_more}
 use Rattle.tesla_receiver.proofs.Newest.{newest_fresh}
-use Rattle.tesla_receiver.proofs.Offers.{tip_at, IsTip, filtered_pass, only_of, raised_own, raised_to, leads_by_tip, tip_none, tip_stays, tip_grows}
+use Rattle.tesla_receiver.proofs.Offers.{tip_at, IsTip, only_of, raised_own, raised_to, leads_by_tip, tip_none, tip_stays, tip_grows}
 use Rattle.tesla_receiver.proofs.OneKey.{new_few}
 
 -- ---- the index of the newest key
@@ -71,20 +73,10 @@ tip_more cfg arrivals arrival chain =
     ap (fold (raised chain) (first_tip cfg chain)) (fresh_more cfg arrivals arrival)
     ∙ fold-append (raised chain) (first_tip cfg chain) (fresh_keys cfg arrivals) (new_keys cfg arrivals arrival)
 
-filter_pass : {A : Type 0} (p q : A → Bool) (xs : List A) → list_all p xs ≡ true → list_all p (filter q xs) ≡ true
-filter_pass p q [] h = refl
-filter_pass p q (x ∷ xs) h =
-    let parts = and_parts (p x) (list_all p xs) h in
-    let rest : list_all p (filter q xs) ≡ true = filter_pass p q xs parts.1 in
-    elim (q x) as (λ b. list_all p (cond b (x ∷ filter q xs) (filter q xs)) ≡ true) [
-      | true ↦ and_from (p x) (list_all p (filter q xs)) parts.0 rest
-      | false ↦ rest
-    ]
-
 -- what all rows pass, the only one of the chain passes
 only_passes : (p : KeyRow → Bool) (chain : ℕ) (rows : List KeyRow) (row : KeyRow) → list_all p rows ≡ true → filter (is_of chain) rows ≡ row ∷ [] → p row ≡ true
 only_passes p chain rows row h only =
-    let passed : list_all p (row ∷ []) ≡ true = subst (λ (xs : List KeyRow). list_all p xs ≡ true) only (filter_pass p (is_of chain) rows h) in
+    let passed : list_all p (row ∷ []) ≡ true = subst (λ (xs : List KeyRow). list_all p xs ≡ true) only (all_filtered p (is_of chain) rows h) in
     (and_parts (p row) true passed).0
 
 -- a new key of the chain is above the newest
@@ -111,13 +103,6 @@ tip_kept cfg arrivals arrival chain none =
     tip_more cfg arrivals arrival chain ∙ raised_own chain (tip_of cfg arrivals chain) (new_keys cfg arrivals arrival)
     ∙ ap (fold (raised chain) (tip_of cfg arrivals chain)) none
 
-find_filtered : {A : Type 0} (p : A → Bool) (xs : List A) → find p xs ≡ slice_get (filter p xs) 0
-find_filtered p [] = refl
-find_filtered p (x ∷ xs) = elim (p x) as (λ b. cond b (Some x) (find p xs) ≡ slice_get (cond b (x ∷ filter p xs) (filter p xs)) 0) [
-  | true ↦ refl
-  | false ↦ find_filtered p xs
-]
-
 -- the new key, or the newest before
 abbrev pub tip_after : Tip → Option KeyRow → Tip
 tip_after tip None = tip
@@ -129,8 +114,8 @@ tip_found cfg arrivals arrival chain =
     let new : List KeyRow = new_keys cfg arrivals arrival in
     let tip : Tip = tip_of cfg arrivals chain in
     elim (new_few cfg arrivals arrival chain) [
-      | inl none ↦ tip_kept cfg arrivals arrival chain none ∙ ap (tip_after tip) (sym (find_filtered (is_of chain) new ∙ ap (λ rows. slice_get rows 0) none))
-      | inr one ↦ tip_taken cfg arrivals arrival chain one.0 one.1 ∙ ap (tip_after tip) (sym (find_filtered (is_of chain) new ∙ ap (λ rows. slice_get rows 0) one.1))
+      | inl none ↦ tip_kept cfg arrivals arrival chain none ∙ ap (tip_after tip) (sym (find_first_kept (is_of chain) new ∙ ap (λ rows. slice_get rows 0) none))
+      | inr one ↦ tip_taken cfg arrivals arrival chain one.0 one.1 ∙ ap (tip_after tip) (sym (find_first_kept (is_of chain) new ∙ ap (λ rows. slice_get rows 0) one.1))
     ]
 
 -- ---- good keys
@@ -252,15 +237,6 @@ unrefused false false true stream bound o v e = absurd (cc)
 unrefused false false false stream bound (Some row) v e = absurd (cc)
 unrefused false false false stream bound None v e = refl
 
-none_step : {A : Type 0} (x : A) (b : Bool) (found : Option A) (rest : Bool) → cond b (Some x) found ≡ None → (found ≡ None → rest ≡ true) → (not b && rest) ≡ true
-none_step x true found rest e h = absurd (cc)
-none_step x false found rest e h = h e
-
--- where none is found, all fail
-all_fail : {A : Type 0} (p : A → Bool) (xs : List A) → find p xs ≡ None → list_all (λ x. not (p x)) xs ≡ true
-all_fail p [] e = refl
-all_fail p (x ∷ xs) e = none_step x (p x) (find p xs) (list_all (λ y. not (p y)) xs) e (all_fail p xs)
-
 twice_not : (b : Bool) → not (not b) ≡ true → b ≡ true
 twice_not true e = refl
 twice_not false e = absurd (cc)
@@ -279,7 +255,7 @@ new_pass newer good (row ∷ rows) h =
 on_good : (cfg : Config) (arrivals : List Arrival) (given : ℕ) (late : Arrival) (bound : Option ℕ) (o : Option Frame) → takes_keys (verdict_on cfg arrivals given late bound o) ≡ true → list_all (λ row. not (is_bad cfg arrivals row)) (keys_in cfg o) ≡ true
 on_good cfg arrivals given late bound None e = refl
 on_good cfg arrivals given late bound (Some frame) e =
-    all_fail (is_bad cfg arrivals) (keys_of cfg frame)
+    unfound_fail (is_bad cfg arrivals) (keys_of cfg frame)
     (unrefused (not ((stream_of frame).0 == cfg.setup.stream.0)) (is_misfit cfg frame) (is_future cfg bound frame) (stream_of frame) bound (find (is_bad cfg arrivals) (keys_of cfg frame)) (verdict_taken cfg (arrivals ++ late ∷ []) given bound frame) e)
 
 verdict_good : (cfg : Config) (arrivals : List Arrival) (given ingest reading : ℕ) (bytes : List ℕ) → takes_keys (verdict_of cfg arrivals given ingest reading bytes) ≡ true → list_all (λ row. not (is_bad cfg arrivals row)) (keys_in cfg (frame_of bytes)) ≡ true

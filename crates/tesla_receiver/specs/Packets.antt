@@ -9,15 +9,14 @@ use Rattle.tesla_frame.specs.Reading.{frame_of}
 use Rattle.tesla_prf.specs.Keys.{walk, tag_of}
 use Rattle.tesla_receiver.specs.declared.history.Arrival.{Arrival}
 use Rattle.tesla_receiver.specs.declared.packet.Packet.{Packet}
-use Rattle.tesla_state.specs.declared.release.Release.{Release}
+use Rattle.tesla_walks.specs.declared.release.Release.{Release}
 use Rattle.tesla_fitting.specs.declared.verdict.Verdict.{Verdict}
 use Rattle.tesla_fitting.specs.declared.verdict.Verdict.TheVariants.{Malformed, Foreign, Misfit, Future, BadKey, Late, Repeat, Full, Kept, Keys}
 use Rattle.tesla_fitting.specs.declared.config.Config.{Config}
 use Rattle.tesla_fitting.specs.Config.{chains, chain_row}
-use Rattle.tesla_state.specs.Releases.{each_after}
+use Rattle.tesla_state.specs.Releases.{each_after, unless_named}
 use Rattle.tesla_fitting.specs.Rows.{is_of}
 use Rattle.tesla_receiver.specs.Keys.{newest, new_keys}
-use Rattle.tesla_state.specs.Releases.{unless_named}
 
 -- whether the chain is safe for a packet of the interval, by its delay and its newest index
 abbrev pub is_safe : Config → List Arrival → ℕ → ℕ → ℕ → Bool

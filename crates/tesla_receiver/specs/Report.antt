@@ -9,7 +9,7 @@ use Rattle.tesla_state.specs.declared.replies.Reply.{Reply}
 use Rattle.tesla_state.specs.declared.replies.Reply.TheVariants.{Given, Empty, Over}
 use Rattle.tesla_state.specs.declared.report.Report.{Report}
 use Rattle.tesla_fitting.specs.declared.config.Config.{Config}
-use Rattle.tesla_state.specs.declared.release.Release.{Release}
+use Rattle.tesla_walks.specs.declared.release.Release.{Release}
 use Rattle.tesla_receiver.specs.Packets.{released}
 use Rattle.tesla_receiver.specs.History.{arrivals_in, given_in, payload_of}
 use Rattle.tesla_state.specs.Releases.{head_of}

@@ -14,7 +14,8 @@ use Rattle.tesla_receiver.specs.Packets.{packet_of, released}
 use Rattle.tesla_receiver.specs.Report.{report_of}
 use Rattle.tesla_receiver.specs.Tips.{tip_of}
 use Rattle.tesla_fitting.specs.Rows.{tag_in}
-use Rattle.tesla_state.specs.State.{Holding, State}
+use Rattle.tesla_walks.specs.Holding.{Holding}
+use Rattle.tesla_state.specs.State.{State}
 
 abbrev pub holding_of : Config → List Arrival → ℕ → ℕ → Packet → Holding
 holding_of cfg arrivals given place packet = record {

@@ -4,7 +4,7 @@ use Rattle.tesla_keys.specs.Tip.{Tip}
 use Rattle.tesla_fitting.specs.declared.config.Config.{Config}
 use Rattle.tesla_receiver.specs.declared.history.Arrival.{Arrival}
 use Rattle.tesla_receiver.specs.Keys.{fresh_keys}
-use Rattle.tesla_state.specs.Tips.{first_tip, raised}
+use Rattle.tesla_walks.specs.Tips.{first_tip, raised}
 
 -- the newest key of a chain with its index: that of the commitment where none was taken
 unfoldable pub tip_of : Config → List Arrival → ℕ → Tip

@@ -7,7 +7,7 @@ ghost use Rattle.tesla_keys.specs.Offers.{offer_of, IsGood};
 ghost use Rattle.tesla_fitting.specs.declared.config.Config.{Config};
 ghost use Rattle.tesla_receiver.specs.declared.history.Arrival.{Arrival};
 ghost use Rattle.tesla_receiver.specs.declared.history.Entry.{Entry};
-ghost use Rattle.tesla_state.specs.declared.release.Release.{Release};
+ghost use Rattle.tesla_walks.specs.declared.release.Release.{Release};
 ghost use Rattle.tesla_receiver.specs.Answer.{verdict_of};
 ghost use Rattle.tesla_receiver.specs.History.{Arrives, Event, event_of, entry_of, IsLegal, arrivals_in, given_in, held_in, held_of_interval};
 ghost use Rattle.tesla_receiver.specs.Keys.{newest, is_good, takes_keys};

@@ -9,9 +9,10 @@ ghost use Rattle.tesla_commit.specs.declared.chain_row.ChainRow.{ChainRow};
 ghost use Rattle.tesla_frame.specs.Frame.{Frame, Data, Disclosure};
 ghost use Rattle.tesla_fitting.specs.declared.config.Config.{Config};
 ghost use Rattle.tesla_state.specs.declared.report.Report.{Report};
-ghost use Rattle.tesla_receiver.specs.Costs.{most_of};
+ghost use Rattle.tesla_receiver.specs.Costs.{gaps_of, most_of};
 ghost use Rattle.tesla_state.specs.Costs.{most_on};
-ghost use Rattle.tesla_state.specs.State.{Holding, State};
+ghost use Rattle.tesla_walks.specs.Holding.{Holding};
+ghost use Rattle.tesla_state.specs.State.{State};
 ghost use Rattle.tesla_state.specs.Steps.{bound_at};
 
 use super::*;
@@ -157,18 +158,19 @@ fn costs_of_far_keys()
         let config : Config = record { setup = setup; lag = pos 30000; capacity = 16; quota = 16; ingests = 1 } in
         let frame : ℕ → Frame = λ interval. Data (record { version = One; stream = record { 0 = 167 }; name = record { interval = interval; number = 0 }; payload = []; tag_length = 16; rows = record { tag = tag; key = Some key } ∷ record { tag = tag; key = None } ∷ [] }) in
         (most_of config [] (bound_of config.setup.times config.lag 100001050000) (Some (frame 1000000)) ≡ 1999996)
+        × (gaps_of config [] (Some (frame 1000000)) ≡ 999998)
         × (most_of config [] (bound_of config.setup.times config.lag 1150000) (Some (frame 1000000)) ≡ 0)
         × (most_of config [] (bound_of config.setup.times config.lag 104858800000) (Some (frame 1048577)) ≡ 0) }
 {}
 
 /// What the examples of a flood may take, while so many forged packets of interval 1 are held.
 fn costs_of_floods()
-    ensures { (key : Key) (tag : List ℕ) (counts : Report) (calls : ℕ) (numbers : List ℕ) → length numbers ≡ 4096 →
+    ensures { (key : Key) (tag : List ℕ) (counts : Report) (calls reserved : ℕ) (numbers : List ℕ) → length numbers ≡ 4096 →
         let committed : ℕ → ChainRow = λ delay. record { delay = delay; index = 0; key = key } in
         let setup : Parts = record { version = One; stream = record { 0 = 167 }; times = record { start = 1000000; length = 100000; last = 8 }; tag_length = 16; rows = committed 2 ∷ committed 5 ∷ [] } in
         let config : Config = record { setup = setup; lag = pos 30000; capacity = 4096; quota = 4096; ingests = 1 } in
         let forgery : ℕ → Holding = λ number. record { order = number; name = record { interval = 1; number = number }; chains = 3; payload = []; tags = tag ∷ tag ∷ []; released = false; taken = false } in
-        let state : ℕ → State = λ fast. record { config = config; tips = record { index = fast; key = key } ∷ record { index = 0; key = key } ∷ []; held = map forgery numbers; waiting = []; ended = false ∷ []; counts = counts; calls = calls } in
+        let state : ℕ → State = λ fast. record { config = config; tips = record { index = fast; key = key } ∷ record { index = 0; key = key } ∷ []; held = map forgery numbers; waiting = []; ended = false ∷ []; counts = counts; calls = calls; reserved = reserved } in
         let bare : Frame = Data (record { version = One; stream = record { 0 = 167 }; name = record { interval = 1; number = 4096 }; payload = []; tag_length = 16; rows = record { tag = tag; key = None } ∷ record { tag = tag; key = None } ∷ [] }) in
         let disclosure : ℕ → Frame = λ chain. Disclosure (record { version = One; stream = record { 0 = 167 }; rows = record { chain = record { 0 = chain }; index = 1; key = key } ∷ [] }) in
         (most_on (state 0) (bound_at (state 0) 1150000) (Some bare) ≡ 0)

@@ -2,10 +2,8 @@
 use Rattle.std.proofs.Common.{◌≡◌, ◌∙◌, ◌⊎◌, inl, inr, ℕ, Bool, Result, Ok, Err, List, [], ◌∷◌, length, refl, sym, ap, subst}
 use Rattle.tesla_base.specs.declared.names.Key.{Key}
 use Rattle.tesla_commit.specs.Parts.{Parts}
-use Rattle.tesla_commit.specs.declared.seeds.refusal.SeedsKind.{SeedsKind}
-use Rattle.tesla_desk.specs.Faults.{Faults, HasCausesBeside}
+use Rattle.tesla_seeds.specs.declared.refusal.SeedsKind.{SeedsKind}
 use Rattle.tesla_desk.specs.Outside.{Page, Holds, Told}
-use Rattle.tesla_desk.proofs.Counts.{not_rose}
 use Rattle.tesla_front.specs.Came.{Came, Done, Refused, Failed}
 use Rattle.tesla_front.specs.Command.{Performs}
 use Rattle.tesla_front.specs.Files.{HoldsWhere}
@@ -17,17 +15,7 @@ use Rattle.tesla_front.specs.declared.fault.Fault.TheVariants as faults
 use Rattle.tesla_run_chain.specs.Arguments.{ChainArguments}
 use Rattle.tesla_run_chain.specs.Chain.{DoesChain, WritesSetup, chain, chains_line, setup_made}
 use Rattle.tesla_run_chain.proofs.Setups.{rows_count}
-
--- ---- for any command
-
--- where nothing failed, the one fault is want of memory
-pub memory_alone : {hidden : Type 0} (old new : Faults) (came : Came) (fault : Fault) → HasCausesBeside hidden old new (came ≡ Failed faults.Read) (came ≡ Failed faults.Write) (came ≡ Failed faults.Open) → NothingFailed old new → came ≡ Failed fault → came ≡ Failed faults.NoMemory
-memory_alone old new came faults.Read causes none e = absurd (not_rose old.reads new.reads none.reads.0 none.reads.1 (causes.reads.rose e))
-memory_alone old new came faults.Write causes none e = absurd (not_rose old.writes new.writes none.writes.0 none.writes.1 (causes.writes.rose e))
-memory_alone old new came faults.NoMemory causes none e = e
-memory_alone old new came faults.Open causes none e = absurd (not_rose old.openings new.openings none.openings.0 none.openings.1 (causes.openings.rose e))
-
--- ---- chain and chain2
+use Rattle.tesla_front.proofs.Commands.{memory_alone}
 
 -- seeds that a text spells are not refused
 refused_never : (count : ℕ) (text : List ℕ) (seeds : List Key) (status : ℕ) (line : List ℕ) → IsSeedsText count text seeds → IsNoSeedsText count text (Refused status line) → ⊥

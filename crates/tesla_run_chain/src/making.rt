@@ -13,7 +13,8 @@ use std::marker::Brand;
 use std::sync::ledger::{Blank, Ledger};
 use tesla_base::{NoMemory, Steps, Version};
 use tesla_chain::key_at;
-use tesla_commit::{ChainRow, Seeds, Setup, SetupRefusal};
+use tesla_commit::{ChainRow, Setup, SetupRefusal};
+use tesla_seeds::Seeds;
 
 /// The setup of the words with these seeds, of which there is one for each delay.
 pub fn setup_of(alloc: Global, arguments: &Arguments<'_>, seeds: &Seeds) -> Result<Setup, NoMemory>

@@ -13,9 +13,10 @@ use crate::arguments::Arguments;
 use crate::making::setup_of;
 use crate::words::arguments_in;
 use std::alloc::Global;
-use tesla_commit::{Seeds, write_setup};
+use tesla_commit::write_setup;
 use tesla_desk::Desk;
 use tesla_front::{Fault, Lines, Outcome, Stop, add_count, outcome_of, seeds_under, write_file};
+use tesla_seeds::Seeds;
 
 /// Runs the words as those of `chain` or `chain2`: reads the seeds under SECRET, makes the setup of the words with a
 /// key chain from each seed, and writes its text to SETUP-OUT. SETUP-OUT is opened once the setup was made.

@@ -21,7 +21,7 @@ use Rattle.tesla_convert.specs.Meaning.{Converts}
 use Rattle.tesla_run_replay.specs.Arguments.{ReplayArguments}
 use Rattle.tesla_run_replay.specs.Replay.{DoesReplay, config_of, end_by, history_of, meaning, replay}
 use Rattle.tesla_run_replay.specs.ReportText.{report_text}
-use Rattle.tesla_run_replay.proofs.Commands.{memory_alone}
+use Rattle.tesla_front.proofs.Commands.{memory_alone}
 
 -- a setup that a text spells is not refused
 never_refused : (text : List ℕ) (setup : Parts) (status : ℕ) (line : List ℕ) → judged text ≡ Ok setup → IsNoSetupText text (Refused status line) → ⊥

@@ -3,7 +3,5 @@ pub mod Made
 pub mod Takes
 pub mod Targets
 pub mod Ended
-pub mod Commands
 pub mod Performed
 pub mod Complete
-pub mod SixWords

@@ -14,7 +14,7 @@ use Rattle.tesla_convert.specs.Files.{ClosesBoth, ConvertsFiles}
 use Rattle.tesla_convert.specs.Meaning.{Converts}
 use Rattle.tesla_run_replay.specs.Arguments.{IsReplay, ReplayArguments, files_of_replay}
 use Rattle.tesla_run_replay.specs.Replay.{config_of, meaning, replay}
-use Rattle.tesla_run_replay.proofs.Commands.{counts_stopped}
+use Rattle.tesla_front.proofs.Commands.{counts_stopped}
 
 -- none of the files is the console
 pub are_files : (arguments : ReplayArguments) (words : List (List ℕ)) → IsReplay arguments words → AreFiles (files_of_replay arguments)

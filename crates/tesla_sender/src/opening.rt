@@ -12,7 +12,8 @@ use crate::chain::SendingChain;
 use std::alloc::Global;
 use std::sync::ledger::Ledger;
 use tesla_base::{ChainNo, Steps};
-use tesla_commit::{Seeds, Setup};
+use tesla_commit::Setup;
+use tesla_seeds::Seeds;
 
 /// The chains of a setup, each with its seed. All memory is taken here. Beside the counted steps it prepares one key
 /// for each chain that is opened.

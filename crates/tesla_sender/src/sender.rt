@@ -19,7 +19,8 @@ use std::fmt;
 use std::marker::Model;
 use std::sync::ledger::Ledger;
 use tesla_base::{Name, Steps};
-use tesla_commit::{Seeds, Setup};
+use tesla_commit::Setup;
+use tesla_seeds::Seeds;
 
 /// A sender of one stream (RFC 4082, sections 3.2 to 3.4): it makes the frames of messages and of disclosures.
 ///

@@ -11,9 +11,10 @@ use std::marker::Brand;
 use std::sync::ledger::{Blank, Ledger};
 use std::test::*;
 use tesla_base::{ChainNo, Steps};
-use tesla_commit::{Seeds, Setup, read_seeds, read_setup};
+use tesla_commit::{Setup, read_setup};
 use tesla_examples::SETUP;
 use tesla_examples::version_two::SETUP_WITH_TAGS_OF_10_BYTES;
+use tesla_seeds::{Seeds, read_seeds};
 
 /// So many of the seeds of the examples, from their text.
 fn seeds_of(alloc: Global, count: u8) -> Result<Seeds, Fail>

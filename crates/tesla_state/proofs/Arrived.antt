@@ -4,6 +4,7 @@ use Rattle.std.specs.Prelude.{not, find, option_map, count_by, nat_lt}
 use Rattle.std.specs.List.{list_any, filter, enumerate_from}
 use Rattle.std.proofs.lemmas.Bool.{or_parts, true≢false, eqb-true}
 use Rattle.tesla_base.specs.Version.{number_of}
+use Rattle.tesla_base.proofs.Filtered.{filter-map}
 use Rattle.std.proofs.lemmas.List.Sums.{length-filter}
 use Rattle.tesla_frame.specs.Frame.{Frame, Data, DataFrame, TagRow}
 use Rattle.tesla_frame.specs.Reading.{frame_of}
@@ -18,9 +19,10 @@ use Rattle.tesla_fitting.specs.Rows.{keys_of}
 use Rattle.tesla_state.specs.Judged.{verdict_by}
 use Rattle.tesla_state.specs.Kept.{state_of}
 use Rattle.tesla_state.specs.State.{State}
-use Rattle.tesla_state.specs.Steps.{judged, judged_frame, entered_frame, refused, refused_of, after_arrival, bound_at, fails, is_named_so, in_interval, judged_packet, own, with_keys, batch_of, released_of, kept_after, tips_after}
+use Rattle.tesla_state.specs.Steps.{judged, judged_frame, entered_frame, refused, refused_of, after_arrival, bound_at, is_named_so, in_interval, judged_packet, own, with_keys, batch_of, released_of, kept_after}
+use Rattle.tesla_walks.specs.Tips.{fails, tips_after}
 use Rattle.tesla_state.specs.Stored.{Placed, Stored, holding_at, is_named, is_of}
-use Rattle.tesla_state.proofs.Marked.{any_mapped, filter_mapped}
+use Rattle.tesla_state.proofs.Marked.{any_mapped}
 
 length-holdings : (held : List Placed) → length (map holding_at held) ≡ length held
 length-holdings [] = refl
@@ -28,7 +30,7 @@ length-holdings (x ∷ xs) = let rest = length-holdings xs in omega arith
 
 counted_is : (i : ℕ) (held : List Placed) → count_by (in_interval i) (map holding_at held) ≡ length (filter (is_of i) held)
 counted_is i held =
-    sym (length-filter (in_interval i) (map holding_at held)) ∙ ap length (filter_mapped (in_interval i) holding_at held) ∙ length-holdings (filter (is_of i) held)
+    sym (length-filter (in_interval i) (map holding_at held)) ∙ ap length (filter-map (in_interval i) holding_at held) ∙ length-holdings (filter (is_of i) held)
 
 pub judged_is : (cfg : Config) (tips : List Tip) (store : Stored) (ended : List Bool) (counts : Report) (calls reserved : ℕ) (set : ℕ) (f : DataFrame) → judged_packet (state_of cfg tips store ended counts calls reserved) set f ≡ verdict_by cfg.capacity cfg.quota set (is_named store.held f.name) (length store.held) (length (filter (is_of f.name.interval) store.held))
 judged_is cfg tips store ended counts calls reserved set f =
@@ -97,3 +99,9 @@ take_front (suc n) (y ∷ ys) zs h = ap (λ rs. y ∷ rs) (take_front n ys zs (o
 -- the newest keys are written back whole
 pub tips_back : (n : ℕ) (now xs ys : List Tip) → length now ≡ n → length ys ≡ length now → take n (ys ++ drop (length ys) xs) ≡ ys
 tips_back n now xs ys long same = take_front n ys (drop (length ys) xs) (same ∙ long)
+
+-- a frame that isn't refused before its keys fits the setup
+pub fits_where : (other misfit : Bool) (x y : Verdict) (o : Option Verdict) → cond other (Some x) (cond misfit (Some y) o) ≡ None → misfit ≡ false
+fits_where true misfit x y o e = absurd (cc)
+fits_where false true x y o e = absurd (cc)
+fits_where false false x y o e = refl

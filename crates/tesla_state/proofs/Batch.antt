@@ -3,16 +3,17 @@ use Rattle.std.proofs.Common.{◌≡◌, ℕ, ◌<◌, Bool, true, false, ◌&&�
 use Rattle.std.specs.Prelude.{not, All}
 use Rattle.std.specs.List.{list_any, list_all}
 use Rattle.std.specs.List.Sorted.{IsPermutation}
-use Rattle.std.proofs.lemmas.Bool.{and_parts, and_from, or_left, or_from, both_ways, eqb-true, eq-eqb, ne_eqb, false_from_ne_true}
-use Rattle.std.proofs.lemmas.List.Elements.{All-head, All-tail, All-nil, All-cons}
+use Rattle.std.proofs.lemmas.Bool.{and_parts, or_left, or_from, both_ways, eqb-true, eq-eqb, ne_eqb, false_from_ne_true}
+use Rattle.std.proofs.lemmas.List.Elements.{All-head, All-tail}
 use Rattle.std.proofs.lemmas.List.Sorted.{All-permutation}
-use Rattle.tesla_links.specs.Lists.{is_in, Distinct}
-use Rattle.tesla_state.specs.declared.ordering.Proved.{Proved}
-use Rattle.tesla_state.specs.declared.release.Release.{Release}
+use Rattle.std.proofs.lemmas.List.Sums.{AllPass-from_list_all, list_all-from_AllPass}
+use Rattle.tesla_base.specs.Members.{is_in, Distinct}
+use Rattle.tesla_walks.specs.declared.ordering.Proved.{Proved}
+use Rattle.tesla_walks.specs.declared.release.Release.{Release}
 use Rattle.tesla_state.specs.Gathering as gathering
-use Rattle.tesla_state.specs.Gathering.{RiseBy}
-use Rattle.tesla_state.specs.Proved.{release_in}
-use Rattle.tesla_state.specs.State.{Holding}
+use Rattle.tesla_walks.specs.Proved.{RiseBy, release_in}
+use Rattle.tesla_walks.specs.Proved as proofs
+use Rattle.tesla_walks.specs.Holding.{Holding}
 use Rattle.tesla_state.specs.Stored.{Placed, place_of, holding_at, order_of, stands_at, is_proved_by, AreProved, place_proved}
 use Rattle.tesla_state.proofs.Stored.{not_both}
 
@@ -36,7 +37,7 @@ above_numbers n (q ∷ qs) h =
     let here : n < q.release.place = All-head (λ (r : Release). n < r.place) q.release (map release_in qs) h in
     or_from (q.release.place == n) (is_in n (map number_of qs)) (ne_eqb q.release.place n (λ e. omega arith)) (above_numbers n qs (All-tail (λ (r : Release). n < r.place) q.release (map release_in qs) h))
 
-pub numbers_differ : (qs : List Proved) → RiseBy gathering.place_of (map release_in qs) → Distinct (map number_of qs)
+pub numbers_differ : (qs : List Proved) → RiseBy proofs.place_of (map release_in qs) → Distinct (map number_of qs)
 numbers_differ [] h = tt
 numbers_differ (q ∷ qs) h = (above_numbers q.release.place qs h.0, numbers_differ qs h.1)
 
@@ -70,14 +71,6 @@ places_differ (q ∷ qs) held d h e =
     let parts = and_parts (list_any (is_proved_by q) held) (list_all (λ k. list_any (is_proved_by k) held) qs) h in
     (place_apart q qs held d parts.0 parts.1 e.0, places_differ qs held d parts.1 e.1)
 
-all_from : {A : Type 0} (p : A → Bool) (xs : List A) → list_all p xs ≡ true → All (λ x. p x ≡ true) xs
-all_from p [] h = All-nil (λ x. p x ≡ true)
-all_from p (x ∷ xs) h = let parts = and_parts (p x) (list_all p xs) h in All-cons (λ y. p y ≡ true) x xs parts.0 (all_from p xs parts.1)
-
-all_to : {A : Type 0} (p : A → Bool) (xs : List A) → All (λ x. p x ≡ true) xs → list_all p xs ≡ true
-all_to p [] h = refl
-all_to p (x ∷ xs) h = and_from (p x) (list_all p xs) (All-head (λ y. p y ≡ true) x xs h) (all_to p xs (All-tail (λ y. p y ≡ true) x xs h))
-
 pub proved_permuted : (held : List Placed) (xs ys : List Proved) → IsPermutation xs ys → AreProved held xs → AreProved held ys
 proved_permuted held xs ys e h =
-    all_to (λ (p : Proved). list_any (is_proved_by p) held) ys (All-permutation (λ (p : Proved). list_any (is_proved_by p) held ≡ true) xs ys e (all_from (λ (p : Proved). list_any (is_proved_by p) held) xs h))
+    list_all-from_AllPass (λ (p : Proved). list_any (is_proved_by p) held) ys (All-permutation (λ (p : Proved). list_any (is_proved_by p) held ≡ true) xs ys e (AllPass-from_list_all (λ (p : Proved). list_any (is_proved_by p) held) xs h))

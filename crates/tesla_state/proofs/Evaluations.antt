@@ -11,20 +11,22 @@ use Rattle.tesla_base.specs.declared.names.ChainNo.{ChainNo}
 use Rattle.tesla_frame.specs.Frame.{Frame, Data, Disclosure}
 use Rattle.tesla_frame.specs.Reading.{frame_of}
 use Rattle.tesla_keys.specs.Tip.{Tip}
-use Rattle.tesla_links.specs.Lists.{Distinct}
+use Rattle.tesla_base.specs.Members.{Distinct}
+use Rattle.tesla_base.proofs.Filtered.{filter-map}
 use Rattle.tesla_fitting.specs.declared.config.Config.{Config}
-use Rattle.tesla_state.specs.declared.ordering.Proved.{Proved}
+use Rattle.tesla_walks.specs.declared.ordering.Proved.{Proved}
 use Rattle.tesla_fitting.specs.declared.verdict.Verdict.{Verdict}
 use Rattle.tesla_fitting.specs.declared.verdict.Verdict.TheVariants.{Foreign, Misfit, Future, BadKey, Late, Repeat, Full, Kept}
 use Rattle.tesla_fitting.specs.Fitting.{stream_of, is_misfit, is_future, unfit}
 use Rattle.tesla_state.specs.Costs.{is_unread, gaps_by, gaps_on, pairs_by, most_on, most_by, offers_by}
 use Rattle.tesla_fitting.specs.Rows.{keys_of}
-use Rattle.tesla_state.specs.Offered.{HaveBegun, gap_of, gaps}
-use Rattle.tesla_state.specs.State.{Holding, State}
-use Rattle.tesla_state.specs.Steps.{bound_at, fails, in_interval, is_named_so, is_newer, judged_taken, safe_by, new_rows, refused, tip_at}
+use Rattle.tesla_walks.specs.Offered.{HaveBegun, gap_of, gaps}
+use Rattle.tesla_walks.specs.Holding.{Holding}
+use Rattle.tesla_state.specs.State.{State}
+use Rattle.tesla_state.specs.Steps.{bound_at, in_interval, is_named_so, judged_taken, safe_by, new_rows, refused}
+use Rattle.tesla_walks.specs.Tips.{fails, is_newer, tip_at}
 use Rattle.tesla_state.specs.Stored.{Placed, place_of, holding_at, stands_at, is_of, is_unreleased_of}
-use Rattle.tesla_state.specs.Walking.{Walking, rows_of, left, tried, tries, pairs}
-use Rattle.tesla_state.proofs.Marked.{filter_mapped}
+use Rattle.tesla_walks.specs.Walking.{Walking, rows_of, left, tried, tries, pairs}
 use Rattle.tesla_state.proofs.Sweeping.{comes}
 use Rattle.tesla_state.proofs.TriedIntervals.{Trying, take_all, take_next}
 
@@ -77,7 +79,7 @@ module _ (cfg : Config) (tips : List Tip) (begun : List Walking) (held : List Pl
   tried_whole h =
       ap (λ xs. pairs cfg tips (rows_of begun) (map holding_at xs)) (take_all n (filter (is_unreleased_of i) held) h)
       ∙ sum_unreleased (tries cfg tips (rows_of begun)) (λ item e. released_none item.released (tried cfg tips (rows_of begun) item) e) held i
-      ∙ ap (pairs cfg tips (rows_of begun)) (sym (filter_mapped (in_interval i) holding_at held))
+      ∙ ap (pairs cfg tips (rows_of begun)) (sym (filter-map (in_interval i) holding_at held))
 
 -- ---- an arrival
 

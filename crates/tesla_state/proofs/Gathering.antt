@@ -1,26 +1,27 @@
 -- What is gathered interval by interval, from the highest interval down, has the elements of what is gathered in order of arrival.
-use Rattle.std.proofs.Common.{◌≡◌, ℕ, ◌+◌, ◌-◌, ◌<◌, ◌≤◌, Bool, true, false, cond, ◌&&◌, ◌||◌, List, [], ◌∷◌, ◌++◌, length, get_or, filter, flat_map, take, Option, Some, None, refl, sym, ap, subst, ◌∙◌, ◌⊎◌, inl, inr, arith, append_assoc, zero-add}
-use Rattle.std.specs.Prelude.{◌==◌, ◌^◌, fold, nat_le, nat_lt, find, slice_get}
+use Rattle.std.proofs.Common.{◌≡◌, ℕ, ◌+◌, ◌-◌, ◌<◌, ◌≤◌, Bool, true, false, cond, ◌&&◌, ◌||◌, List, [], ◌∷◌, ◌++◌, length, get_or, filter, flat_map, Option, Some, None, refl, sym, ap, subst, ◌∙◌, ◌⊎◌, inl, inr, arith, append_assoc, zero-add}
+use Rattle.std.specs.Prelude.{◌==◌, nat_le, nat_lt, find, slice_get}
 use Rattle.std.specs.List.{All, list_any, sum_by}
 use Rattle.std.specs.List.Sorted.{IsPermutation}
 use Rattle.std.proofs.lemmas.Bool.{cases_Bool, eqb-true, or_parts}
 use Rattle.std.proofs.lemmas.Bool.Decides.{nat_tests}
-use Rattle.std.proofs.lemmas.List.{get_or-map, length-map, take_more}
-use Rattle.std.proofs.lemmas.List.Sums.{fold-append, sum_by-cons}
+use Rattle.std.proofs.lemmas.List.Sums.{sum_by-cons}
 use Rattle.std.proofs.lemmas.List.Elements.{All-cons, All-head, All-nil, All-tail}
 use Rattle.std.proofs.lemmas.List.Sorted.{IsPermutation-append_comm, IsPermutation-append_left, IsPermutation-append_right, IsPermutation-refl, IsPermutation-trans}
 use Rattle.tesla_frame.specs.declared.row.KeyRow.{KeyRow}
 use Rattle.tesla_keys.specs.Tip.{Tip}
 use Rattle.tesla_fitting.specs.declared.config.Config.{Config}
-use Rattle.tesla_state.specs.declared.release.Release.{Release}
+use Rattle.tesla_walks.specs.declared.release.Release.{Release}
 use Rattle.tesla_fitting.specs.Config.{chains}
 use Rattle.tesla_fitting.specs.Rows.{is_of}
-use Rattle.tesla_state.specs.State.{Holding}
-use Rattle.tesla_state.specs.Steps.{batch_of, in_interval, is_proof_of, matches, proof_of, proves_on, released_on, tip_at}
+use Rattle.tesla_walks.specs.Holding.{Holding}
+use Rattle.tesla_state.specs.Steps.{batch_of, in_interval}
+use Rattle.tesla_walks.specs.Proved.{is_proof_of, matches, proof_of, proves_on, released_on, RiseBy, place_of}
+use Rattle.tesla_walks.specs.Tips.{tip_at}
 use Rattle.tesla_clock.specs.Safe.{has_chain}
-use Rattle.tesla_state.proofs.Tried.{skips_proof}
-use Rattle.tesla_state.specs.Gathering.{RiseBy, Spans, higher, highest, in_turn, index_in, is_first, is_reached, lower, lowest, order_of, place_of}
-use Rattle.tesla_state.specs.Walking.{Walking, row_of, rows_of}
+use Rattle.tesla_walks.proofs.Tried.{skips_proof}
+use Rattle.tesla_walks.specs.ReachedIntervals.{index_in, is_first, is_reached}
+use Rattle.tesla_state.specs.Gathering.{in_turn, order_of}
 
 -- ---- two parts
 
@@ -232,44 +233,6 @@ unreached_unproved cfg tips new item unreached =
     (λ c. proved_not (has_chain item.chains c) (nat_lt (tip_at tips c).index item.name.interval) (list_any (is_proof_of cfg item c) new)
     (λ newer. rows_prove_not cfg tips item c newer new unreached)) (chains cfg) in
     nothing_told item.released item (find (proves_on cfg tips new item) (chains cfg)) none
-
--- ---- the intervals that new keys span
-
-lowest_least : (tips : List Tip) (new : List KeyRow) (start : ℕ) → fold (lower tips) start new ≤ start
-lowest_least tips [] start = omega arith
-lowest_least tips (row ∷ rows) start =
-    let rest = lowest_least tips rows (lower tips start row) in
-    omega (arith, rest)
-
-lowest_all : (tips : List Tip) (new : List KeyRow) (start : ℕ) → All (λ row. fold (lower tips) start new ≤ (tip_at tips row.chain.0).index) new
-lowest_all tips [] start = All-nil (λ row. start ≤ (tip_at tips row.chain.0).index)
-lowest_all tips (row ∷ rows) start =
-    let here = lowest_least tips rows (lower tips start row) in
-    All-cons (λ r. fold (lower tips) (lower tips start row) rows ≤ (tip_at tips r.chain.0).index) row rows (omega (arith, here)) (lowest_all tips rows (lower tips start row))
-
-highest_greatest : (new : List KeyRow) (start : ℕ) → start ≤ fold higher start new
-highest_greatest [] start = omega arith
-highest_greatest (row ∷ rows) start =
-    let rest = highest_greatest rows (higher start row) in
-    omega (arith, rest)
-
-highest_all : (new : List KeyRow) (start : ℕ) → All (λ row. row.index ≤ fold higher start new) new
-highest_all [] start = All-nil (λ row. row.index ≤ start)
-highest_all (row ∷ rows) start =
-    let here = highest_greatest rows (higher start row) in
-    All-cons (λ r. r.index ≤ fold higher (higher start row) rows) row rows (omega (arith, here)) (highest_all rows (higher start row))
-
--- new keys span the intervals from the lowest to the highest
-pub spans : (tips : List Tip) (new : List KeyRow) → Spans tips new (lowest tips new) (highest new)
-spans tips new = record { above = lowest_all tips new (2 ^ 32 - 1); below = highest_all new 0 }
-
-fold_more : {A : Type 0} (f : ℕ → A → ℕ) (start : ℕ) (xs : List A) (i : ℕ) (x : A) → i < length xs → get_or xs i x ≡ x → fold f start (take (i + 1) xs) ≡ f (fold f start (take i xs)) x
-fold_more f start xs i x inside at = ap (fold f start) (take_more xs i x inside ∙ ap (λ y. take i xs ++ y ∷ []) at) ∙ fold-append f start (take i xs) (x ∷ [])
-
--- one walk more
-pub walk_more : (f : ℕ → KeyRow → ℕ) (start : ℕ) (walks : List Walking) (i : ℕ) (d : Walking) (row : KeyRow) → i < length walks → row ≡ (get_or walks i d).row → fold f start (take (i + 1) (rows_of walks)) ≡ f (fold f start (take i (rows_of walks))) row
-walk_more f start walks i d row inside is =
-    fold_more f start (rows_of walks) i row (omega (arith, length-map walks row_of, inside)) (get_or-map row_of walks i d row inside ∙ sym is)
 
 -- the places of the batch rise
 pub batch_rises : (cfg : Config) (tips : List Tip) (new : List KeyRow) (held : List Holding) → RiseBy order_of held → RiseBy place_of (batch_of cfg tips new held)

@@ -9,21 +9,23 @@ use Rattle.std.proofs.lemmas.List.Folds.{list_any-append, flat_map-map}
 use Rattle.tesla_base.proofs.Lists.{list_all_weaker}
 use Rattle.tesla_frame.specs.declared.row.KeyRow.{KeyRow}
 use Rattle.tesla_keys.specs.Tip.{Tip}
-use Rattle.tesla_links.specs.Lists.{is_in, Distinct}
+use Rattle.tesla_base.specs.Members.{is_in, Distinct}
+use Rattle.tesla_base.proofs.Passing.{all_same}
 use Rattle.tesla_fitting.specs.declared.config.Config.{Config}
-use Rattle.tesla_state.specs.declared.release.Release.{Release}
+use Rattle.tesla_walks.specs.declared.release.Release.{Release}
 use Rattle.tesla_fitting.specs.Config.{chains}
 use Rattle.tesla_clock.specs.Safe.{has_chain}
-use Rattle.tesla_state.specs.Gathering.{AreIndices, Spans, index_at, index_in, is_first, is_reached}
+use Rattle.tesla_walks.specs.ReachedIntervals.{AreIndices, Spans, index_at, index_in, is_first, is_reached}
 use Rattle.tesla_state.specs.Releases.{is_at}
 use Rattle.tesla_fitting.specs.Rows.{is_of}
-use Rattle.tesla_state.specs.Offered.{IsOfChains}
-use Rattle.tesla_state.specs.Tips.{raised}
-use Rattle.tesla_state.specs.State.{Holding}
-use Rattle.tesla_state.specs.Steps.{no_tip, tips_after, is_let_go, is_over, is_passed, marked, kept_after, batch_of, proof_of, proves_on, released_of, released_on}
+use Rattle.tesla_walks.specs.Offered.{IsOfChains}
+use Rattle.tesla_walks.specs.Tips.{raised, no_tip, tips_after}
+use Rattle.tesla_walks.specs.Holding.{Holding}
+use Rattle.tesla_state.specs.Steps.{is_let_go, is_over, is_passed, marked, kept_after, batch_of, released_of}
+use Rattle.tesla_walks.specs.Proved.{proof_of, proves_on, released_on}
 use Rattle.tesla_state.specs.Stored.{Placed, place_of, holding_at, order_of, after_batch, is_idle, in_span, in_reach, AreNeeded}
 use Rattle.tesla_state.proofs.Gathering.{unreached_unproved}
-use Rattle.tesla_state.proofs.ReachedIntervals.{outside_unreached, reached_by}
+use Rattle.tesla_state.proofs.UnreachedIntervals.{outside_unreached, reached_by}
 use Rattle.tesla_state.proofs.ReleasedPackets.{flat_same_in, eq_turn}
 
 -- ---- one packet
@@ -186,10 +188,6 @@ tips_same i n (t ∷ ts) rows out (suc c) =
     tips_same i (n + 1) ts rows
     (λ k. let next : n + suc k ≡ n + 1 + k = omega arith in subst (λ (m : ℕ). All (λ (row : KeyRow). is_of m row ≡ true → (nat_lt (get_or ts k no_tip).index i && nat_le i row.index) ≡ false) rows) next (out (suc k))) c
 
-all_same : (f g : ℕ → Bool) → ((c : ℕ) → f c ≡ g c) → (xs : List ℕ) → list_all f xs ≡ list_all g xs
-all_same f g same [] = refl
-all_same f g same (x ∷ xs) = ap (λ t. t && list_all f xs) (same x) ∙ ap (λ t. g x && t) (all_same f g same xs)
-
 -- no key of any chain is the first to reach it
 none_first : (tips : List Tip) (new : List KeyRow) (i k : ℕ) → is_reached (index_in tips) new i ≡ false → All (λ (row : KeyRow). is_of k row ≡ true → (nat_lt (get_or tips k no_tip).index i && nat_le i row.index) ≡ false) new
 none_first tips [] i k none = All-nil (λ (row : KeyRow). is_of k row ≡ true → (nat_lt (get_or tips k no_tip).index i && nat_le i row.index) ≡ false)
@@ -210,8 +208,8 @@ idle_same cfg tips new x none =
     let i : ℕ = x.holding.name.interval in
     let same = passed_same tips new i none in
     ap (λ t. (t && not x.holding.released) || (x.holding.taken && list_all (is_passed (tips_after tips new) i) (chains cfg)))
-    (all_same (is_over (tips_after tips new) x.holding) (is_over tips x.holding) (λ c. ap (λ t. not (has_chain x.holding.chains c) || t) (same c)) (chains cfg))
-    ∙ ap (λ t. (list_all (is_over tips x.holding) (chains cfg) && not x.holding.released) || (x.holding.taken && t)) (all_same (is_passed (tips_after tips new) i) (is_passed tips i) same (chains cfg))
+    (all_same (is_over (tips_after tips new) x.holding) (is_over tips x.holding) (chains cfg) (λ c. ap (λ t. not (has_chain x.holding.chains c) || t) (same c)))
+    ∙ ap (λ t. (list_all (is_over tips x.holding) (chains cfg) && not x.holding.released) || (x.holding.taken && t)) (all_same (is_passed (tips_after tips new) i) (is_passed tips i) (chains cfg) same)
 
 all_and : {A : Type 0} (p q : A → Bool) (xs : List A) → list_all p xs ≡ true → list_all q xs ≡ true → list_all (λ x. p x && q x) xs ≡ true
 all_and p q [] a b = refl

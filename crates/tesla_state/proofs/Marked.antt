@@ -16,14 +16,6 @@ pub map_mapped : {A B C : Type 0} (f : B → C) (m : A → B) (g : A → C) → 
 map_mapped f m g same [] = refl
 map_mapped f m g same (x ∷ xs) = ap (λ y. y ∷ map f (map m xs)) (same x) ∙ ap (λ ys. g x ∷ ys) (map_mapped f m g same xs)
 
-filter_step : {A B : Type 0} (m : A → B) (b : Bool) (x : A) (xs : List A) → cond b (m x ∷ map m xs) (map m xs) ≡ map m (cond b (x ∷ xs) xs)
-filter_step m true x xs = refl
-filter_step m false x xs = refl
-
-pub filter_mapped : {A B : Type 0} (f : B → Bool) (m : A → B) (xs : List A) → filter f (map m xs) ≡ map m (filter (λ x. f (m x)) xs)
-filter_mapped f m [] = refl
-filter_mapped f m (x ∷ xs) = ap (λ ys. cond (f (m x)) (m x ∷ ys) ys) (filter_mapped f m xs) ∙ filter_step m (f (m x)) x (filter (λ y. f (m y)) xs)
-
 find_step : {A B : Type 0} (m : A → B) (b : Bool) (x : A) (o : Option A) → cond b (Some (m x)) (option_map m o) ≡ option_map m (cond b (Some x) o)
 find_step m true x o = refl
 find_step m false x o = refl
@@ -47,15 +39,6 @@ find_filtered f keep none (x ∷ xs) =
     ⊎_elim
     (λ e. ap (λ t. find f (cond t (x ∷ filter keep xs) (filter keep xs))) e ∙ ap (λ o. cond (f x) (Some x) o) (find_filtered f keep none xs))
     (λ e. ap (λ t. find f (cond t (x ∷ filter keep xs) (filter keep xs))) e ∙ find_filtered f keep none xs ∙ sym (ap (λ t. cond t (Some x) (find f xs)) (none x e)))
-    (cases_Bool (keep x))
-
-pub all_filtered : {A : Type 0} (f keep : A → Bool) (xs : List A) → list_all f xs ≡ true → list_all f (filter keep xs) ≡ true
-all_filtered f keep [] h = refl
-all_filtered f keep (x ∷ xs) h =
-    let parts = and_parts (f x) (list_all f xs) h in
-    ⊎_elim
-    (λ e. ap (λ t. list_all f (cond t (x ∷ filter keep xs) (filter keep xs))) e ∙ ap (λ t. t && list_all f (filter keep xs)) parts.0 ∙ all_filtered f keep xs parts.1)
-    (λ e. ap (λ t. list_all f (cond t (x ∷ filter keep xs) (filter keep xs))) e ∙ all_filtered f keep xs parts.1)
     (cases_Bool (keep x))
 
 -- what one passes where all pass another

@@ -1,18 +1,18 @@
 -- A batch of proved packets, settled one after the other: what is released, and what stays.
 use Rattle.std.proofs.Common.{◌≡◌, ℕ, ◌+◌, Bool, true, false, cond, ◌&&◌, ◌||◌, List, [], ◌∷◌, ◌++◌, length, map, flat_map, drop, get_or, suc, ◌<◌, ◌≤◌, drop-cons, refl, sym, ap, subst, ⊎_elim, ◌∙◌, arith, ◌==◌, append_assoc}
-use Rattle.std.specs.Prelude.{not}
+use Rattle.std.specs.Prelude.{not, if◌then◌else◌}
 use Rattle.std.specs.List.{list_any, list_all, filter}
 use Rattle.std.proofs.Math.Bool.{or-false}
 use Rattle.std.proofs.Math.ListN.{drop_of_length-le}
 use Rattle.std.proofs.lemmas.Bool.{false≢true, cases_Bool, and_parts, and_from, and_left, or_cases, or_left, or_right, both_ways, eqb-true, ne_eqb, eq-eqb, not-true, not-false, not_from_false, false_from_ne_true}
 use Rattle.std.proofs.lemmas.List.{append-nil}
 use Rattle.std.proofs.lemmas.List.Folds.{list_any-append, flat_map-map}
-use Rattle.std.specs.Prelude.{if◌then◌else◌}
 use Rattle.tesla_base.specs.declared.names.Name.{Name}
 use Rattle.tesla_base.proofs.Lists.{list_all_weaker}
-use Rattle.tesla_links.specs.Lists.{is_in, Distinct}
-use Rattle.tesla_state.specs.declared.ordering.Proved.{Proved}
-use Rattle.tesla_state.specs.declared.release.Release.{Release}
+use Rattle.tesla_base.specs.Members.{is_in, Distinct}
+use Rattle.tesla_base.proofs.Members.{head_other}
+use Rattle.tesla_walks.specs.declared.ordering.Proved.{Proved}
+use Rattle.tesla_walks.specs.declared.release.Release.{Release}
 use Rattle.tesla_state.specs.Releases.{is_at, each_after, has_name, unless_named}
 use Rattle.tesla_state.specs.Steps.{as_release, is_released, released_of, is_named_so, marked}
 use Rattle.tesla_state.specs.Stored.{Placed, Stored, place_of, holding_at, stands_at, is_proved_by, with_released, without, release_of, is_named, after_batch, AreProved, place_proved, order_of, settled_if, released_if, held_then}
@@ -322,10 +322,6 @@ has_order q (x ∷ xs) h =
     (λ e. or_left (x.holding.order == q.release.place) (is_in q.release.place (map order_of xs)) (order_there q x (and_parts (stands_at q.place.0 x) (is_of_release q x) e).1))
     (λ e. or_right (x.holding.order == q.release.place) (is_in q.release.place (map order_of xs)) (has_order q xs e))
     (or_cases (is_proved_by q x) (list_any (is_proved_by q) xs) h)
-
--- where a number stands in the rest, the head is another
-head_other : (n x : ℕ) (xs : List ℕ) → is_in x xs ≡ false → is_in n xs ≡ true → (x == n) ≡ false
-head_other n x xs none there = false_from_ne_true (x == n) (λ e. both_ways (is_in x xs) none (ap (λ (k : ℕ). is_in k xs) (eqb-true x n e) ∙ there))
 
 tell_all : (q : Proved) (held : List Placed) → Distinct (map place_of held) → Distinct (map order_of held) → list_any (is_proved_by q) held ≡ true → list_all (tell_same q) held ≡ true
 tell_all q [] d o h = refl

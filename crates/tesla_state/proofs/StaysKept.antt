@@ -11,16 +11,19 @@ use Rattle.tesla_clock.specs.Safe as clock
 use Rattle.tesla_frame.specs.Frame.{Frame, Data, Disclosure, DataFrame}
 use Rattle.tesla_keys.specs.Tip.{Tip}
 use Rattle.tesla_fitting.specs.declared.config.Config.{Config}
-use Rattle.tesla_state.specs.declared.release.Release.{Release}
+use Rattle.tesla_walks.specs.declared.release.Release.{Release}
 use Rattle.tesla_fitting.specs.declared.verdict.Verdict.{Verdict}
 use Rattle.tesla_fitting.specs.declared.verdict.Verdict.TheVariants.{Malformed, Foreign, Misfit, Future, BadKey, Late, Repeat, Full, Kept, Keys}
 use Rattle.tesla_fitting.specs.Config.{chains, chain_row}
-use Rattle.tesla_state.specs.Gathering.{RiseBy, order_of}
+use Rattle.tesla_walks.specs.Proved.{RiseBy}
+use Rattle.tesla_state.specs.Gathering.{order_of}
 use Rattle.tesla_state.specs.Releases.{is_at}
 use Rattle.tesla_state.specs.Kept.{IsBefore}
-use Rattle.tesla_state.specs.State.{State, Holding}
+use Rattle.tesla_state.specs.State.{State}
+use Rattle.tesla_walks.specs.Holding.{Holding}
 use Rattle.tesla_fitting.specs.Rows.{tag_in}
-use Rattle.tesla_state.specs.Steps.{is_named_so, in_interval, tip_at, is_over, is_passed, is_let_go, marked, kept_after, own, one_if, safe_by, judged_packet}
+use Rattle.tesla_state.specs.Steps.{is_named_so, in_interval, is_over, is_passed, is_let_go, marked, kept_after, own, one_if, safe_by, judged_packet}
+use Rattle.tesla_walks.specs.Tips.{tip_at}
 use Rattle.tesla_state.specs.Stored.{Placed, holding_at, is_idle, AreNeeded}
 use Rattle.tesla_state.proofs.Gathering.{GivesOwn, gives_rising}
 use Rattle.tesla_state.proofs.Marked.{all_mapped}

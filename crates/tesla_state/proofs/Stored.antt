@@ -1,11 +1,10 @@
 -- Packets in their places, through a mark or a removal.
 use Rattle.std.proofs.Common.{◌≡◌, ℕ, ◌+◌, ◌<◌, ◌≤◌, Bool, true, false, cond, ◌&&◌, ◌||◌, List, [], ◌∷◌, ◌++◌, length, map, take, Option, Some, None, refl, sym, ap, subst, ⊎_elim, ◌∙◌, arith, ◌==◌}
-use Rattle.std.specs.Prelude.{not, find, option_map}
+use Rattle.std.specs.Prelude.{not, find, option_map, All}
 use Rattle.std.specs.List.{list_any, list_all, filter}
 use Rattle.std.proofs.lemmas.Bool.{cases_Bool, and_parts, and_from, and_left, or_cases, or_left, or_right, or_from, both_ways, eqb-true, ne_eqb, eq-eqb, not-true, false_from_ne_true, not-false}
 use Rattle.std.proofs.lemmas.List.Folds.{list_any-append}
 use Rattle.std.proofs.lemmas.Option.{none-some, same_Some}
-use Rattle.std.specs.Prelude.{All}
 use Rattle.std.proofs.lemmas.List.Elements.{All-cons, All-filter, All-map, All-nil, All-weaker, All-head, All-tail, All-push}
 use Rattle.tesla_base.proofs.Lists.{list_all_weaker, list_all_both}
 use Rattle.tesla_base.specs.declared.names.Name.{Name}
@@ -17,14 +16,15 @@ use Rattle.tesla_buffer.specs.Held.{Held, changed, is_resting, wide_tag_in, IsMa
 use Rattle.tesla_frame.specs.Frame.{DataFrame, TagRow}
 use Rattle.tesla_fitting.specs.Rows.{tag_in}
 use Rattle.tesla_buffer.specs.Held as buffer
-use Rattle.tesla_links.specs.Lists.{is_in, Distinct}
+use Rattle.tesla_base.specs.Members.{is_in, Distinct}
+use Rattle.tesla_base.proofs.Filtered.{all_filtered, filter-map}
 use Rattle.tesla_release.specs.declared.queue.Waiting.{Waiting}
-use Rattle.tesla_state.specs.declared.ordering.Proved.{Proved}
-use Rattle.tesla_state.specs.declared.release.Release.{Release}
-use Rattle.tesla_state.specs.ItemShown.{holding_in, IsFilled, IsItem}
-use Rattle.tesla_state.specs.State.{Holding}
+use Rattle.tesla_walks.specs.declared.ordering.Proved.{Proved}
+use Rattle.tesla_walks.specs.declared.release.Release.{Release}
+use Rattle.tesla_walks.specs.ItemShown.{holding_in, IsFilled, IsItem}
+use Rattle.tesla_walks.specs.Holding.{Holding}
 use Rattle.tesla_state.specs.Stored.{Placed, placed_in, place_of, stands_at, release_by, release_in, waits, waits_at, rests_at, is_sound, is_proved_by, with_released, without, place_in, IsStored, IsStore, IsItemOf, is_of, first_place, next_place, is_unreleased_at, is_unreleased_of, next_unreleased}
-use Rattle.tesla_state.proofs.Marked.{any_mapped, all_mapped, map_mapped, filter_mapped, find_mapped, any_filtered, find_filtered, all_filtered, any_with_all, any_weaker}
+use Rattle.tesla_state.proofs.Marked.{any_mapped, all_mapped, map_mapped, find_mapped, any_filtered, find_filtered, any_with_all, any_weaker}
 
 -- ---- places that differ
 
@@ -163,7 +163,7 @@ pub any_shown : (chains p : ℕ) (held : List Held) → list_any (buffer.is_at p
 any_shown chains p held = sym (any_mapped (stands_at p) (buffer.is_at p) (placed_in chains) (λ x. refl) held)
 
 pub without_shown : (chains p : ℕ) (held : List Held) → map (placed_in chains) (filter (λ x. not (buffer.is_at p x)) held) ≡ without p (map (placed_in chains) held)
-without_shown chains p held = sym (filter_mapped (λ x. not (stands_at p x)) (placed_in chains) held)
+without_shown chains p held = sym (filter-map (λ x. not (stands_at p x)) (placed_in chains) held)
 
 marked_shown : (chains : ℕ) (b : Bool) (x : Held) → placed_in chains (cond b (record { place = x.place; item = record x.item { released = true } }) x) ≡ cond b (record (placed_in chains x) { holding = record (placed_in chains x).holding { released = true } }) (placed_in chains x)
 marked_shown chains true x = refl
@@ -398,7 +398,7 @@ firsts_shown chains [] = refl
 firsts_shown chains (x ∷ xs) = refl
 
 pub first_shown : (chains interval : ℕ) (held : List Held) → first_place (filter (is_of interval) (map (placed_in chains) held)) ≡ buffer.first_place (filter (buffer.is_of interval) held)
-first_shown chains interval held = ap first_place (filter_mapped (is_of interval) (placed_in chains) held) ∙ firsts_shown chains (filter (buffer.is_of interval) held)
+first_shown chains interval held = ap first_place (filter-map (is_of interval) (placed_in chains) held) ∙ firsts_shown chains (filter (buffer.is_of interval) held)
 
 pub next_shown : (chains p : ℕ) (held : List Held) → next_place p (map (placed_in chains) held) ≡ buffer.next_place p held
 next_shown chains p [] = refl
@@ -407,7 +407,7 @@ next_shown chains p (x ∷ xs) =
     ∙ ap (λ o. cond (x.place == p) (buffer.first_place (filter (buffer.is_of x.item.name.interval) xs)) o) (next_shown chains p xs)
 
 pub first_unreleased_shown : (chains interval : ℕ) (held : List Held) → first_place (filter (is_unreleased_of interval) (map (placed_in chains) held)) ≡ buffer.first_place (filter (buffer.is_unreleased_of interval) held)
-first_unreleased_shown chains interval held = ap first_place (filter_mapped (is_unreleased_of interval) (placed_in chains) held) ∙ firsts_shown chains (filter (buffer.is_unreleased_of interval) held)
+first_unreleased_shown chains interval held = ap first_place (filter-map (is_unreleased_of interval) (placed_in chains) held) ∙ firsts_shown chains (filter (buffer.is_unreleased_of interval) held)
 
 pub next_unreleased_shown : (chains p : ℕ) (held : List Held) → next_unreleased p (map (placed_in chains) held) ≡ buffer.next_unreleased p held
 next_unreleased_shown chains p [] = refl

@@ -8,14 +8,16 @@ use Rattle.std.proofs.Math.Bool.{and-false, and-true}
 use Rattle.std.proofs.lemmas.Bool.Decides.{nat_tests}
 use Rattle.tesla_base.specs.declared.names.Place.{Place}
 use Rattle.tesla_keys.specs.Tip.{Tip}
-use Rattle.tesla_links.specs.Lists.{is_in, Distinct}
+use Rattle.tesla_base.specs.Members.{is_in, Distinct}
 use Rattle.tesla_fitting.specs.declared.config.Config.{Config}
 use Rattle.tesla_fitting.specs.Config.{chains}
-use Rattle.tesla_state.specs.Gathering.{IsHighest}
-use Rattle.tesla_state.specs.State.{Holding}
+use Rattle.tesla_walks.specs.ReachedIntervals.{IsHighest}
+use Rattle.tesla_walks.specs.Holding.{Holding}
 use Rattle.tesla_state.specs.Steps.{is_over, is_passed}
 use Rattle.tesla_clock.specs.Safe.{has_chain}
-use Rattle.tesla_base.proofs.Lists.{list_all_weaker}
+use Rattle.tesla_base.proofs.Lists.{list_all_weaker, drop_suc}
+use Rattle.tesla_base.proofs.Filtered.{filter_both, filter_same}
+use Rattle.tesla_base.proofs.Members.{head_other}
 use Rattle.tesla_state.proofs.Marked.{any_weaker}
 use Rattle.tesla_state.specs.Stored.{Placed, Stored, place_of, stands_at, waits, without, is_of, is_unreleased_at, is_unreleased_of, rests_at, first_place, next_place, next_unreleased, is_idle, in_span}
 
@@ -81,9 +83,6 @@ none_without p (x ∷ xs) h =
     let first : (x.place == p) ≡ false = false_from_ne_true (x.place == p) (λ e. both_ways (is_in p (map place_of (x ∷ xs))) h (or_left (x.place == p) (is_in p (map place_of xs)) e)) in
     let rest : is_in p (map place_of xs) ≡ false = sym (ap (λ t. t || is_in p (map place_of xs)) first) ∙ h in
     ap (λ t. cond (not t) (x ∷ without p xs) (without p xs)) first ∙ ap (λ r. x ∷ r) (none_without p xs rest)
-
-pub head_other : (n x : ℕ) (xs : List ℕ) → is_in x xs ≡ false → is_in n xs ≡ true → (x == n) ≡ false
-head_other n x xs none there = false_from_ne_true (x == n) (λ e. both_ways (is_in x xs) none (ap (λ (k : ℕ). is_in k xs) (eqb-true x n e) ∙ there))
 
 -- the first of the interval stands at the head
 next_head : (u : Bool) (i : ℕ) (over : Placed → Bool) (x : Placed) (xs : List Placed) → is_in x.place (map place_of xs) ≡ false → picks u i x ≡ true → Next u i over 0 (x ∷ xs) x (filter (picks u i) xs)
@@ -223,11 +222,6 @@ swept_through old new u i over n next s none =
 pub swept_long : (old new : Stored) (u : Bool) (i : ℕ) (over : Placed → Bool) (n : ℕ) (next : Option Place) → Sweeping old new u i over n next → length (filter (picks u i) old.held) ≤ n → new.held ≡ filter (λ x. not (picks u i x && over x)) old.held
 swept_long old new u i over n next s all = s.held ∙ swept_all u i over n old.held (drop_of_length-le (filter (picks u i) old.held) all)
 
-drop_next : {A : Type 0} (n : ℕ) (xs : List A) (y : A) (rest : List A) → drop n xs ≡ y ∷ rest → drop (suc n) xs ≡ rest
-drop_next n [] y rest h = absurd (nothing n y rest h)
-drop_next zero (x ∷ xs) y rest h = some_rest x y xs rest h
-drop_next (suc n) (x ∷ xs) y rest h = drop_next n xs y rest h
-
 pub next_at : (old new : Stored) (u : Bool) (i : ℕ) (over : Placed → Bool) (n : ℕ) (place : Place) → Sweeping old new u i over n (Some place) → FirstOf (drop n (filter (picks u i) old.held)) place
 next_at old new u i over n place s = first_some (drop n (filter (picks u i) old.held)) place (sym s.next)
 
@@ -257,7 +251,7 @@ sweeping_more old new then u i over n place next d s e capacity reserved chains 
           ∙ ap (λ h. cond (over f.first) (without f.first.place h) h) s.held
           ∙ sym r.more ∙ ap (λ (k : ℕ). swept u i over k old.held) count;
       next = e ∙ ap (nexts u place.0) s.held ∙ ap (λ (p : ℕ). nexts u p (swept u i over n old.held)) f.place_is ∙ r.next
-          ∙ ap first_place (sym (drop_next n (filter (picks u i) old.held) f.first f.rest f.is)) ∙ ap (λ (k : ℕ). first_place (drop k (filter (picks u i) old.held))) count;
+          ∙ ap first_place (sym (drop_suc (filter (picks u i) old.held) n f.first f.rest f.is)) ∙ ap (λ (k : ℕ). first_place (drop k (filter (picks u i) old.held))) count;
     }
 
 pub found_stands : (p : ℕ) (f : Placed → Bool) (x : Placed) (held : List Placed) → find (stands_at p) held ≡ Some x → f x ≡ true → list_any (λ y. stands_at p y && f y) held ≡ true
@@ -311,10 +305,6 @@ idle_open true false t true false h = refl
 idle_open true false true false false h = refl
 idle_open true false false false false h = refl
 
-filter_same : {A : Type 0} (p q : A → Bool) → ((x : A) → p x ≡ q x) → (xs : List A) → filter p xs ≡ filter q xs
-filter_same p q same [] = refl
-filter_same p q same (x ∷ xs) = ap (λ t. cond t (x ∷ filter p xs) (filter p xs)) (same x) ∙ ap (λ ys. cond (q x) (x ∷ ys) ys) (filter_same p q same xs)
-
 module _ (cfg : Config) (tips : List Tip) (i : ℕ) where
   over_too : (x : Holding) → list_all (is_passed tips x.name.interval) (chains cfg) ≡ true → list_all (is_over tips x) (chains cfg) ≡ true
   over_too x h = list_all_weaker (is_passed tips x.name.interval) (is_over tips x) (chains cfg) (λ c k. or_right (not (has_chain x.chains c)) (is_passed tips x.name.interval c) k) h
@@ -322,37 +312,27 @@ module _ (cfg : Config) (tips : List Tip) (i : ℕ) where
   -- where every chain has passed the interval, a packet is needed only while it waits to be taken
   pub passed_go : list_all (is_passed tips i) (chains cfg) ≡ true → (held : List Placed) → filter (λ x. not (is_of i x && not (waits x))) held ≡ filter (λ x. not (is_of i x && is_idle cfg tips x)) held
   passed_go h held =
-      filter_same (λ x. not (is_of i x && not (waits x))) (λ x. not (is_of i x && is_idle cfg tips x))
+      filter_same (λ x. not (is_of i x && not (waits x))) (λ x. not (is_of i x && is_idle cfg tips x)) held
       (λ x. elim (cases_Bool (is_of i x)) [
         | inl e ↦
             let passed : list_all (is_passed tips x.holding.name.interval) (chains cfg) ≡ true = ap (λ (k : ℕ). list_all (is_passed tips k) (chains cfg)) (eqb-true x.holding.name.interval i e) ∙ h in
             ap (λ t. not (is_of i x && t))
             (idle_passed x.holding.released x.holding.taken (list_all (is_over tips x.holding) (chains cfg)) (list_all (is_passed tips x.holding.name.interval) (chains cfg)) (over_too x.holding passed) passed)
         | inr e ↦ ap (λ t. not (t && not (waits x))) e ∙ sym (ap (λ t. not (t && is_idle cfg tips x)) e)
-      ]) held
+      ])
 
   -- before that, a released packet is needed
   pub unreleased_go : list_all (is_passed tips i) (chains cfg) ≡ false → (held : List Placed) → filter (λ x. not (is_unreleased_of i x && list_all (is_over tips x.holding) (chains cfg))) held ≡ filter (λ x. not (is_of i x && is_idle cfg tips x)) held
   unreleased_go h held =
-      filter_same (λ x. not (is_unreleased_of i x && list_all (is_over tips x.holding) (chains cfg))) (λ x. not (is_of i x && is_idle cfg tips x))
+      filter_same (λ x. not (is_unreleased_of i x && list_all (is_over tips x.holding) (chains cfg))) (λ x. not (is_of i x && is_idle cfg tips x)) held
       (λ x. ap not (elim (cases_Bool (is_of i x)) [
         | inl e ↦
             idle_open (is_of i x) x.holding.released x.holding.taken (list_all (is_over tips x.holding) (chains cfg)) (list_all (is_passed tips x.holding.name.interval) (chains cfg))
             (ap (λ (k : ℕ). list_all (is_passed tips k) (chains cfg)) (eqb-true x.holding.name.interval i e) ∙ h)
         | inr e ↦ ap (λ t. (t && not x.holding.released) && list_all (is_over tips x.holding) (chains cfg)) e ∙ sym (ap (λ t. t && is_idle cfg tips x) e)
-      ])) held
+      ]))
 
 -- ---- intervals one after another
-
-pub filter_filter : {A : Type 0} (p q r : A → Bool) → ((x : A) → (q x && p x) ≡ r x) → (xs : List A) → filter p (filter q xs) ≡ filter r xs
-filter_filter p q r same [] = refl
-filter_filter p q r same (x ∷ xs) =
-    ⊎_elim
-    (λ e. ap (λ t. filter p (cond t (x ∷ filter q xs) (filter q xs))) e ∙ ap (λ ys. cond (p x) (x ∷ ys) ys) (filter_filter p q r same xs)
-    ∙ ap (λ t. cond t (x ∷ filter r xs) (filter r xs)) (ap (λ t. t && p x) (sym e) ∙ same x))
-    (λ e. ap (λ t. filter p (cond t (x ∷ filter q xs) (filter q xs))) e ∙ filter_filter p q r same xs
-    ∙ ap (λ t. cond t (x ∷ filter r xs) (filter r xs)) (ap (λ t. t && p x) (sym e) ∙ same x))
-    (cases_Bool (q x))
 
 span_none : (high i : ℕ) → (nat_lt high i && nat_le i high) ≡ false
 span_none high i = grind (arith, nat_tests)
@@ -438,8 +418,8 @@ module _ (met : ℕ → Bool) (over : Placed → Bool) (low most high : ℕ) whe
     waiting = waiting ∙ s.waiting;
     given = given ∙ s.given;
     held = held ∙ ap (filter (λ x. not (is_of interval x && over x))) s.held
-        ∙ filter_filter (λ x. not (is_of interval x && over x)) (λ x. not ((in_span most high x && met x.holding.name.interval) && over x)) (λ x. not ((in_span (interval - 1) high x && met x.holding.name.interval) && over x))
-        (one_more interval is s.within) old.held;
+        ∙ filter_both (λ x. not ((in_span most high x && met x.holding.name.interval) && over x)) (λ x. not (is_of interval x && over x)) old.held
+        ∙ filter_same (λ x. not ((in_span most high x && met x.holding.name.interval) && over x) && not (is_of interval x && over x)) (λ x. not ((in_span (interval - 1) high x && met x.holding.name.interval) && over x)) old.held (one_more interval is s.within);
     within = omega (arith, s.within, is.1);
     least = omega (arith, is.0);
   }
@@ -447,7 +427,7 @@ module _ (met : ℕ → Bool) (over : Placed → Bool) (low most high : ℕ) whe
   -- no interval is left that passes the test
   pub span_ends : (old new : Stored) → IsHighest met low most None → Spanned old new met over low most high → new.held ≡ filter (λ x. not ((in_span low high x && met x.holding.name.interval) && over x)) old.held
   span_ends old new is s =
-      s.held ∙ filter_same (λ x. not ((in_span most high x && met x.holding.name.interval) && over x)) (λ x. not ((in_span low high x && met x.holding.name.interval) && over x))
+      s.held ∙ filter_same (λ x. not ((in_span most high x && met x.holding.name.interval) && over x)) (λ x. not ((in_span low high x && met x.holding.name.interval) && over x)) old.held
       (λ x. let i : ℕ = x.holding.name.interval in
       elim (cases_Bool (nat_lt low i && nat_le i most)) [
         | inl between ↦
@@ -455,7 +435,7 @@ module _ (met : ℕ → Bool) (over : Placed → Bool) (low most high : ℕ) whe
             let none : met i ≡ false = is i (ltb-true low i parts.0) (leb-true i most parts.1) in
             ap (λ t. not (t && over x)) (ap (λ k. in_span most high x && k) none ∙ and-false (in_span most high x) ∙ sym (ap (λ k. in_span low high x && k) none ∙ and-false (in_span low high x)))
         | inr out ↦ ap (λ t. not ((t && met i) && over x)) (span_rest low most high i s.within s.least out)
-      ]) old.held
+      ])
 
 -- ---- a walk that lets nothing go
 
@@ -493,5 +473,5 @@ comes u i n held place d h =
       of = r.of;
       found = ap (λ (p : ℕ). find (stands_at p) held) f.place_is ∙ ap (find (stands_at f.first.place)) (sym (swept_never u i n held)) ∙ r.found;
       next = ap (λ (p : ℕ). nexts u p held) f.place_is ∙ ap (nexts u f.first.place) (sym (swept_never u i n held)) ∙ r.next
-          ∙ ap first_place (sym (drop_next n (filter (picks u i) held) f.first f.rest f.is)) ∙ ap (λ (k : ℕ). first_place (drop k (filter (picks u i) held))) count;
+          ∙ ap first_place (sym (drop_suc (filter (picks u i) held) n f.first f.rest f.is)) ∙ ap (λ (k : ℕ). first_place (drop k (filter (picks u i) held))) count;
     }

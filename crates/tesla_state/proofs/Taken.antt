@@ -8,13 +8,15 @@ use Rattle.tesla_buffer.specs.Held.{Held, changed, settled}
 use Rattle.tesla_buffer.specs.Held as buffer
 use Rattle.tesla_buffer.specs.declared.item.Fate.{Fate}
 use Rattle.tesla_buffer.specs.declared.item.Fate.TheVariants.{Gone, Taken}
-use Rattle.tesla_links.specs.Lists.{is_in, Distinct}
+use Rattle.tesla_base.specs.Members.{is_in, Distinct}
+use Rattle.tesla_base.proofs.Filtered.{all_filtered}
+use Rattle.tesla_base.proofs.Members.{head_other}
 use Rattle.tesla_release.specs.declared.queue.Waiting.{Waiting}
 use Rattle.tesla_state.specs.Stored.{Placed, placed_in, place_of, place_in, order_of, stands_at, release_by, release_in, waits, waits_at, is_sound, with_taken, without, IsStored, IsStore, IsItemOf}
-use Rattle.tesla_state.proofs.Marked.{any_weaker, any_mapped, map_mapped, all_filtered}
+use Rattle.tesla_state.proofs.Marked.{any_weaker, any_mapped, map_mapped}
 use Rattle.tesla_state.proofs.ReleasedPackets.{only_at}
 use Rattle.tesla_state.proofs.Stored.{any_shown, distinct_kept, shorter, without_shown, live_kept, length-marked, releases_kept, releases_marked}
-use Rattle.tesla_state.proofs.Sweeping.{none_without, head_other}
+use Rattle.tesla_state.proofs.Sweeping.{none_without}
 
 pub first_waiting : (ws : List Waiting) (w : Waiting) → Some w ≡ slice_get ws 0 → ws ≡ w ∷ drop 1 ws
 first_waiting [] w h = absurd (cc)

@@ -9,16 +9,17 @@ use Rattle.tesla_keys.specs.Tip.{Tip}
 use Rattle.tesla_base.specs.declared.release.Head.{Head}
 use Rattle.tesla_fitting.specs.declared.config.Config.{Config}
 use Rattle.tesla_state.specs.declared.replies.Reply.TheVariants.{Given}
-use Rattle.tesla_state.specs.declared.release.Release.{Release}
+use Rattle.tesla_walks.specs.declared.release.Release.{Release}
 use Rattle.tesla_state.specs.declared.report.Report.{Report}
 use Rattle.tesla_state.specs.declared.replies.Take.TheVariants as takes
 use Rattle.tesla_fitting.specs.Config.{chains}
-use Rattle.tesla_state.specs.Gathering.{RiseBy}
+use Rattle.tesla_walks.specs.Proved.{RiseBy}
 use Rattle.tesla_state.specs.Gathering as gathering
 use Rattle.tesla_state.specs.Releases.{head_of}
 use Rattle.tesla_state.specs.Kept.{state_of, CountsWithin, IsBefore, IsKept}
 use Rattle.tesla_state.specs.Replies.{reply_shown}
-use Rattle.tesla_state.specs.State.{State, Holding}
+use Rattle.tesla_state.specs.State.{State}
+use Rattle.tesla_walks.specs.Holding.{Holding}
 use Rattle.tesla_state.specs.Steps.{is_over, is_passed, reply_for, reply_by, payload_held, payload_at, is_numbered, taken_after, with_taken}
 use Rattle.tesla_state.specs.Steps as steps
 use Rattle.tesla_state.specs.Stored.{Placed, Stored, holding_at, release_by, after_take, is_idle, AreNeeded, IsGiven}

@@ -1,5 +1,5 @@
 -- Packets are tried one after another.
-use Rattle.std.proofs.Common.{◌≡◌, ℕ, ◌+◌, ◌-◌, ◌*◌, ◌<◌, ◌≤◌, suc, zero, Bool, true, false, cond, ◌&&◌, List, [], ◌∷◌, ◌++◌, length, map, drop, take, flat_map, Option, Some, None, refl, sym, ap, subst, inl, inr, ⊎_elim, ◌∙◌, arith, ◌==◌, append_assoc}
+use Rattle.std.proofs.Common.{◌≡◌, ℕ, ◌+◌, ◌-◌, ◌*◌, ◌<◌, ◌≤◌, suc, zero, Bool, true, false, cond, ◌&&◌, List, [], ◌∷◌, ◌++◌, length, map, drop, take, flat_map, Option, Some, None, refl, sym, ap, subst, inl, inr, ◌∙◌, arith, ◌==◌, append_assoc}
 use Rattle.std.specs.Prelude.{not, find, nat_lt, nat_le, All, option_to_list, IfSome}
 use Rattle.std.specs.List.{list_any, list_all, filter}
 use Rattle.std.proofs.lemmas.Bool.{cases_Bool, and_from, and_parts, eq-eqb, ltb-true, leb-true}
@@ -13,21 +13,22 @@ use Rattle.tesla_base.specs.declared.names.Name.{Name}
 use Rattle.tesla_base.specs.declared.names.Place.{Place}
 use Rattle.tesla_frame.specs.declared.row.KeyRow.{KeyRow}
 use Rattle.tesla_keys.specs.Tip.{Tip}
-use Rattle.tesla_links.specs.Lists.{Distinct}
+use Rattle.tesla_base.specs.Members.{Distinct}
+use Rattle.tesla_base.proofs.Filtered.{filter-map, filter_shorter}
 use Rattle.tesla_fitting.specs.declared.config.Config.{Config}
-use Rattle.tesla_state.specs.declared.ordering.Proved.{Proved}
-use Rattle.tesla_state.specs.declared.release.Release.{Release}
+use Rattle.tesla_walks.specs.declared.ordering.Proved.{Proved}
+use Rattle.tesla_walks.specs.declared.release.Release.{Release}
 use Rattle.tesla_fitting.specs.Config.{chains}
-use Rattle.tesla_state.specs.Gathering.{AreIndices, IsHighest, Spans, in_turn, index_at, index_in, is_reached}
-use Rattle.tesla_state.specs.Offered.{IsOfChains}
-use Rattle.tesla_state.specs.Proved.{release_in}
-use Rattle.tesla_state.specs.State.{Holding}
-use Rattle.tesla_state.specs.Steps.{batch_of, proof_of, proves_on, released_on, in_interval}
+use Rattle.tesla_walks.specs.ReachedIntervals.{AreIndices, IsHighest, Spans, index_at, index_in, is_reached}
+use Rattle.tesla_state.specs.Gathering.{in_turn}
+use Rattle.tesla_walks.specs.Offered.{IsOfChains}
+use Rattle.tesla_walks.specs.Proved.{release_in, proof_of, proves_on, released_on}
+use Rattle.tesla_walks.specs.Holding.{Holding}
+use Rattle.tesla_state.specs.Steps.{batch_of, in_interval}
 use Rattle.tesla_state.specs.Stored.{Placed, place_of, holding_at, stands_at, is_of, is_unreleased_of, is_proved_by, first_place, next_unreleased, AreProved}
-use Rattle.tesla_state.specs.Walking.{Walking, rows_of, IsAbove, left, tries, pairs}
+use Rattle.tesla_walks.specs.Walking.{Walking, rows_of, IsAbove, left, tries, pairs}
 use Rattle.tesla_state.proofs.Gathering.{is_past, nothing_given, only_those, past_parts, past_sum, same_given, sum_ones, unreached_unproved}
-use Rattle.tesla_state.proofs.ReachedIntervals.{highest_by, outside_unreached, reached_by}
-use Rattle.tesla_state.proofs.Marked.{filter_mapped}
+use Rattle.tesla_state.proofs.UnreachedIntervals.{highest_by, outside_unreached, reached_by}
 use Rattle.tesla_state.proofs.Sweeping.{Comes, comes, found_stands, picked_of}
 
 -- ---- what is proved of a packet
@@ -166,7 +167,7 @@ turn_unreleased f none [] i = refl
 turn_unreleased f none (x ∷ xs) i = turn_step f x (is_of i x) x.holding.released (filter (is_unreleased_of i) xs) (filter (is_of i) xs) (none x.holding) (turn_unreleased f none xs i)
 
 turn_is : (f : Holding → List Release) → ((item : Holding) → item.released ≡ true → f item ≡ []) → (held : List Placed) (i : ℕ) → flat_map (λ (x : Placed). f x.holding) (filter (is_unreleased_of i) held) ≡ in_turn f (map holding_at held) i
-turn_is f none held i = turn_unreleased f none held i ∙ sym (ap (flat_map f) (filter_mapped (in_interval i) holding_at held) ∙ flat_mapped f (filter (is_of i) held))
+turn_is f none held i = turn_unreleased f none held i ∙ sym (ap (flat_map f) (filter-map (in_interval i) holding_at held) ∙ flat_mapped f (filter (is_of i) held))
 
 pub tried_all : (cfg : Config) (tips : List Tip) (begun walks : List Walking) (held : List Placed) (i n : ℕ) (at : Option Place) (before batch : List Proved) → Trying cfg tips begun walks held i n at before batch → drop n (filter (is_unreleased_of i) held) ≡ [] → map release_in batch ≡ map release_in before ++ in_turn (proof_of cfg tips (rows_of begun)) (map holding_at held) i
 tried_all cfg tips begun walks held i n at before batch s h =
@@ -188,18 +189,9 @@ unreleased_few (x ∷ xs) i =
 
 -- ---- a walk down the intervals that are reached
 
-pub fewer : {A : Type 0} (p : A → Bool) (xs : List A) → length (filter p xs) ≤ length xs
-fewer p [] = omega arith
-fewer p (x ∷ xs) =
-    let rest = fewer p xs in
-    ⊎_elim
-    (λ e. subst (λ t. length (cond t (x ∷ filter p xs) (filter p xs)) ≤ length (x ∷ xs)) (sym e) (omega arith))
-    (λ e. subst (λ t. length (cond t (x ∷ filter p xs) (filter p xs)) ≤ length (x ∷ xs)) (sym e) (omega arith))
-    (cases_Bool (p x))
-
 -- the packets of an interval count as many with their places
 turn_length : (held : List Placed) (i : ℕ) → length (filter (in_interval i) (map holding_at held)) ≡ length (filter (is_of i) held)
-turn_length held i = ap length (filter_mapped (in_interval i) holding_at held) ∙ length-map (filter (is_of i) held) holding_at
+turn_length held i = ap length (filter-map (in_interval i) holding_at held) ∙ length-map (filter (is_of i) held) holding_at
 
 -- the packets of the intervals above this one were tried, or new keys prove nothing of them
 pub record Spanning (cfg : Config) (tips : List Tip) (begun walks : List Walking) (held : List Placed) (most : ℕ) (batch : List Proved) : Type 0 where
@@ -264,7 +256,7 @@ module _ (cfg : Config) (tips : List Tip) (begun : List Walking) (held : List Pl
   pub spanning_room : (walks : List Walking) (interval most room : ℕ) (batch : List Proved) → 0 < interval → interval ≤ most → Spanning cfg tips begun walks held most batch → length held ≤ room → length batch + length (filter (is_of interval) held) ≤ room
   spanning_room walks interval most room batch some below s h =
       let long = s.long in
-      omega (arith, turn_fits interval most some below, fewer (is_past (interval - 1)) items, length-map held holding_at)
+      omega (arith, turn_fits interval most some below, filter_shorter (is_past (interval - 1)) items, length-map held holding_at)
 
   -- the next interval that is reached was tried
   pub spanning_more : (walks later : List Walking) (low interval most : ℕ) (batch more : List Proved) → IsHighest met low most (Some interval) → Spanning cfg tips begun walks held most batch → rows_of later ≡ rows_of walks → All (IsAbove interval) later

@@ -10,8 +10,10 @@ use Rattle.tesla_fitting.specs.declared.config.Config.{Config}
 use Rattle.tesla_fitting.specs.Config.{chains}
 use Rattle.tesla_fitting.specs.Fitting.{stream_of, is_misfit, is_future}
 use Rattle.tesla_fitting.specs.Rows.{is_of}
-use Rattle.tesla_state.specs.State.{Holding, State}
-use Rattle.tesla_state.specs.Steps.{tip_at, new_rows, bound_at}
+use Rattle.tesla_walks.specs.Holding.{Holding}
+use Rattle.tesla_state.specs.State.{State}
+use Rattle.tesla_walks.specs.Tips.{tip_at}
+use Rattle.tesla_state.specs.Steps.{new_rows, bound_at}
 
 -- the frame's keys aren't looked at: it is of another stream, doesn't fit the setup, or the sender can't have come so far
 abbrev pub is_unread : Config → Option ℕ → Frame → Bool

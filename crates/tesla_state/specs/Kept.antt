@@ -3,8 +3,10 @@ use Rattle.std.specs.Prelude.{◌≡◌, ℕ, ◌+◌, ◌<◌, ◌≤◌, Bool,
 use Rattle.tesla_keys.specs.Tip.{Tip}
 use Rattle.tesla_fitting.specs.declared.config.Config.{Config}
 use Rattle.tesla_state.specs.declared.report.Report.{Report}
-use Rattle.tesla_state.specs.Gathering.{RiseBy, order_of}
-use Rattle.tesla_state.specs.State.{State, Holding}
+use Rattle.tesla_walks.specs.Proved.{RiseBy}
+use Rattle.tesla_state.specs.Gathering.{order_of}
+use Rattle.tesla_state.specs.State.{State}
+use Rattle.tesla_walks.specs.Holding.{Holding}
 use Rattle.tesla_state.specs.Stored.{Stored, holding_at, AreNeeded}
 
 -- the parts of a receiver as one state

@@ -1,15 +1,10 @@
 pub mod Releases
 pub mod Counting
-pub mod Tips
 pub mod State
 pub mod Steps
 pub mod Costs
 pub mod Replies
 pub mod Stored
-pub mod Walking
-pub mod ItemShown
-pub mod Offered
 pub mod Gathering
-pub mod Proved
 pub mod Kept
 pub mod Judged

@@ -1,21 +1,11 @@
 -- What a receiver keeps: the newest keys, the packets that have a place, those that wait to be given, which ingests
 -- have ended, and the counts.
 use Rattle.std.specs.Prelude.{ℕ, Bool, List}
-use Rattle.tesla_base.specs.declared.names.Name.{Name}
 use Rattle.tesla_keys.specs.Tip.{Tip}
+use Rattle.tesla_walks.specs.Holding.{Holding}
 use Rattle.tesla_fitting.specs.declared.config.Config.{Config}
-use Rattle.tesla_state.specs.declared.release.Release.{Release}
+use Rattle.tesla_walks.specs.declared.release.Release.{Release}
 use Rattle.tesla_state.specs.declared.report.Report.{Report}
-
--- a packet that was kept and isn't gone: its place among the arrivals, what it brought, and whether it was released and taken
-pub record Holding : Type 0 where
-  pub order : ℕ
-  pub name : Name
-  pub chains : ℕ
-  pub payload : List ℕ
-  pub tags : List (List ℕ)
-  pub released : Bool
-  pub taken : Bool
 
 -- what a contract sees of a receiver
 pub record State : Type 0 where

@@ -1,6 +1,6 @@
 -- What one event makes of what a receiver keeps, and the answer to it. Nothing here looks at a history.
-use Rattle.std.specs.Prelude.{ℕ, ◌+◌, ◌-◌, Bool, true, false, not, ◌&&◌, ◌||◌, List, [], ◌∷◌, ◌++◌, length, map, filter, find, fold, flat_map, get_or, replicate, slice_get, slice_set, option_map, unwrap_or, Option, Some, None, nat_lt, nat_le, ◌==◌, if◌then◌else◌, bytes_eq, count_by}
-use Rattle.std.specs.List.{list_any, list_all, enumerate_from}
+use Rattle.std.specs.Prelude.{ℕ, ◌+◌, Bool, true, false, not, ◌&&◌, ◌||◌, List, [], ◌∷◌, ◌++◌, length, map, filter, find, flat_map, replicate, slice_set, option_map, unwrap_or, Option, Some, None, nat_le, ◌==◌, if◌then◌else◌, count_by}
+use Rattle.std.specs.List.{list_any, list_all}
 use Rattle.tesla_base.specs.declared.names.Name.{Name}
 use Rattle.tesla_clock.specs.Safe.{has_chain, chain_set}
 use Rattle.tesla_clock.specs.Safe as clock
@@ -9,21 +9,22 @@ use Rattle.tesla_frame.specs.declared.row.KeyRow.{KeyRow}
 use Rattle.tesla_frame.specs.Frame.{Frame, Data, Disclosure, DataFrame}
 use Rattle.tesla_frame.specs.Reading.{frame_of}
 use Rattle.tesla_keys.specs.Tip.{Tip}
-use Rattle.tesla_prf.specs.Keys.{walk, tag_of}
 use Rattle.tesla_fitting.specs.declared.config.Config.{Config}
 use Rattle.tesla_state.specs.declared.replies.Reply.{Reply}
 use Rattle.tesla_state.specs.declared.replies.Reply.TheVariants.{Given, Empty, Over}
-use Rattle.tesla_state.specs.declared.release.Release.{Release}
+use Rattle.tesla_walks.specs.declared.release.Release.{Release}
 use Rattle.tesla_state.specs.declared.report.Report.{Report}
 use Rattle.tesla_fitting.specs.declared.verdict.Verdict.{Verdict}
 use Rattle.tesla_fitting.specs.declared.verdict.Verdict.TheVariants.{Malformed, Foreign, Misfit, Future, BadKey, Late, Repeat, Full, Kept, Keys}
 use Rattle.tesla_fitting.specs.Fitting.{stream_of, is_misfit, is_future}
 use Rattle.tesla_fitting.specs.Config.{chains, chain_row}
 use Rattle.tesla_state.specs.Releases.{is_at, head_of, each_after, has_name, unless_named}
-use Rattle.tesla_fitting.specs.Rows.{is_of, keys_of, leads_to, tag_in}
+use Rattle.tesla_fitting.specs.Rows.{keys_of, tag_in}
+use Rattle.tesla_walks.specs.Tips.{tip_at, is_newer, fails, tips_after, first_tip}
+use Rattle.tesla_walks.specs.Proved.{proof_of}
+use Rattle.tesla_walks.specs.Holding.{Holding}
 use Rattle.tesla_state.specs.Counting.{line_of}
-use Rattle.tesla_state.specs.State.{State, Holding}
-use Rattle.tesla_state.specs.Tips.{first_tip, raised}
+use Rattle.tesla_state.specs.State.{State}
 
 -- ---- an opening
 
@@ -47,50 +48,7 @@ no_counts = record {
 abbrev pub opened : Config → ℕ → State
 opened cfg reserved = record { config = cfg; tips = map (first_tip cfg) (chains cfg); held = []; waiting = []; ended = replicate cfg.ingests false; counts = no_counts; calls = 0; reserved = reserved }
 
--- ---- keys
-
--- what stands for a chain that there isn't
-abbrev pub no_tip : Tip
-no_tip = record { index = 0; key = record { 0 = replicate 32 0 } }
-
-abbrev pub tip_at : List Tip → ℕ → Tip
-tip_at tips chain = get_or tips chain no_tip
-
--- the row's key is newer than the newest of its chain
-abbrev pub is_newer : List Tip → KeyRow → Bool
-is_newer tips row = nat_lt (tip_at tips row.chain.0).index row.index
-
--- it is newer, and doesn't walk to that
-abbrev pub fails : List Tip → KeyRow → Bool
-fails tips row = is_newer tips row && not (leads_to row (tip_at tips row.chain.0).index (tip_at tips row.chain.0).key)
-
--- the newest keys with those of the rows
-abbrev pub tips_after : List Tip → List KeyRow → List Tip
-tips_after tips rows = map (λ (p : ℕ × Tip). fold (raised p.0) p.1 rows) (enumerate_from 0 tips)
-
 -- ---- packets that new keys prove
-
-abbrev pub matches : Config → Holding → ℕ → KeyRow → Option (List ℕ) → Bool
-matches cfg item chain row None = false
-matches cfg item chain row (Some tag) =
-    bytes_eq tag (tag_of cfg.setup.tag_length (walk row.key (row.index - item.name.interval)) cfg.setup.stream (record { 0 = chain }) item.name item.payload)
-
--- the key is of the chain, reaches the packet's interval, and verifies its tag
-abbrev pub is_proof_of : Config → Holding → ℕ → KeyRow → Bool
-is_proof_of cfg item chain row = is_of chain row && nat_le item.name.interval row.index && matches cfg item chain row (slice_get item.tags chain)
-
--- on this chain, which was safe, one of these new keys is the first to reach the packet's interval, and verifies its tag
-abbrev pub proves_on : Config → List Tip → List KeyRow → Holding → ℕ → Bool
-proves_on cfg tips new item chain =
-    has_chain item.chains chain && nat_lt (tip_at tips chain).index item.name.interval && list_any (is_proof_of cfg item chain) new
-
-abbrev pub released_on : Holding → Option ℕ → List Release
-released_on item None = []
-released_on item (Some chain) = record { place = item.order; name = item.name; chain = record { 0 = chain } } ∷ []
-
--- the release of a packet that isn't released yet by these new keys, told the least chain that proves it
-abbrev pub proof_of : Config → List Tip → List KeyRow → Holding → List Release
-proof_of cfg tips new item = if item.released then [] else released_on item (find (proves_on cfg tips new item) (chains cfg))
 
 -- all that these new keys prove, in order of arrival
 abbrev pub batch_of : Config → List Tip → List KeyRow → List Holding → List Release

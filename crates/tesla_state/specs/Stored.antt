@@ -4,19 +4,19 @@ use Rattle.std.specs.List.{list_any, list_all}
 use Rattle.tesla_base.specs.declared.names.Name.{Name}
 use Rattle.tesla_base.specs.declared.names.Place.{Place}
 use Rattle.tesla_buffer.specs.Held.{Held}
-use Rattle.tesla_links.specs.Lists.{Distinct}
+use Rattle.tesla_base.specs.Members.{Distinct}
 use Rattle.tesla_release.specs.declared.queue.Waiting.{Waiting}
-use Rattle.tesla_state.specs.declared.ordering.Proved.{Proved}
-use Rattle.tesla_state.specs.declared.release.Release.{Release}
+use Rattle.tesla_walks.specs.declared.ordering.Proved.{Proved}
+use Rattle.tesla_walks.specs.declared.release.Release.{Release}
 use Rattle.tesla_base.specs.declared.release.Head.{Head}
 use Rattle.tesla_keys.specs.Tip.{Tip}
 use Rattle.tesla_fitting.specs.declared.config.Config.{Config}
 use Rattle.tesla_fitting.specs.Config.{chains}
 use Rattle.tesla_frame.specs.declared.row.KeyRow.{KeyRow}
-use Rattle.tesla_state.specs.Gathering.{index_at, is_reached}
+use Rattle.tesla_walks.specs.ReachedIntervals.{index_at, is_reached}
 use Rattle.tesla_state.specs.Releases.{is_at, head_of}
-use Rattle.tesla_state.specs.ItemShown.{holding_in, IsItem}
-use Rattle.tesla_state.specs.State.{Holding}
+use Rattle.tesla_walks.specs.ItemShown.{holding_in, IsItem}
+use Rattle.tesla_walks.specs.Holding.{Holding}
 use Rattle.tesla_state.specs.Steps.{is_named_so, is_let_go, is_passed, marked, in_interval}
 
 -- a held packet with its place

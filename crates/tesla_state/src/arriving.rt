@@ -8,25 +8,25 @@ ghost use Rattle.tesla_state.specs.declared.report.Report.{Report};
 ghost use Rattle.tesla_base.specs.declared.names.ChainNo.{ChainNo};
 ghost use Rattle.tesla_fitting.specs.declared.verdict.Verdict.TheVariants.{BadKey};
 ghost use Rattle.tesla_state.specs.Costs.{most_by, offers_by};
-ghost use Rattle.tesla_state.specs.Gathering.{RiseBy, order_of};
+ghost use Rattle.tesla_walks.specs.Proved.{RiseBy};
+ghost use Rattle.tesla_state.specs.Gathering.{order_of};
 ghost use Rattle.tesla_fitting.specs.Rows.{keys_of};
 ghost use Rattle.tesla_state.specs.Kept.{state_of, IsBefore};
-ghost use Rattle.tesla_state.specs.Offered.{HaveBegun};
+ghost use Rattle.tesla_walks.specs.Offered.{HaveBegun};
 ghost use Rattle.tesla_state.specs.Steps.{judged, judged_taken, with_keys, new_rows, own, counted, after_arrival};
-ghost use Rattle.tesla_state.specs.Walking.{rows_of, left, pairs};
+ghost use Rattle.tesla_walks.specs.Walking.{rows_of, left, pairs};
 ghost use Rattle.tesla_state.specs.Stored.{holding_at, AreNeeded};
 
 use crate::Store;
 use crate::holding::keep;
 use crate::judging::refused;
 use crate::keys::take_keys;
-use crate::ordering::Proved;
-use crate::walk::Walk;
 use std::sync::ledger::Ledger;
 use tesla_base::Steps;
 use tesla_fitting::{Config, Verdict};
 use tesla_frame::{FrameView, read_frame};
 use tesla_keys::Verifier;
+use tesla_walks::{Proved, Walk};
 
 // Takes the keys of a frame that isn't refused, then judges it, and holds its packet if it is kept. So many arrivals
 // came before it.

@@ -5,18 +5,18 @@ ghost use Rattle.tesla_clock.specs.Safe.{is_safe};
 ghost use Rattle.tesla_frame.specs.Shown.{shown};
 ghost use Rattle.tesla_fitting.specs.Config.{chain_row};
 ghost use Rattle.tesla_fitting.specs.Rows.{keys_of};
-ghost use Rattle.tesla_state.specs.Offered.{HaveBegun, gaps};
+ghost use Rattle.tesla_walks.specs.Offered.{HaveBegun, gaps};
 ghost use Rattle.tesla_state.specs.State.{State};
-ghost use Rattle.tesla_state.specs.Steps.{refused, safe_by, tip_at};
+ghost use Rattle.tesla_state.specs.Steps.{refused, safe_by};
+ghost use Rattle.tesla_walks.specs.Tips.{tip_at};
 ghost use Rattle.tesla_fitting.specs.Fitting.{unfit};
 
-use crate::offers::offer_keys;
-use crate::walk::Walk;
 use std::sync::ledger::Ledger;
 use tesla_base::Steps;
 use tesla_fitting::{Config, Verdict, chain_row, unfit};
 use tesla_frame::FrameView;
 use tesla_keys::Verifier;
+use tesla_walks::{Walk, offer_keys};
 
 /// Why a frame is refused before its keys are taken: `Foreign`, `Misfit`, `Future` or `BadKey`, the first that applies.
 /// Where it isn't, `walks` has a walk for each of its keys that is newer than the newest of its chain.

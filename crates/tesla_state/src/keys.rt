@@ -2,21 +2,20 @@
 
 ghost use Rattle.std.specs.Prelude.{◌≡◌, ◌+◌, ◌*◌, ◌++◌, ◌≤◌, All, ℕ, true, length, map, flat_map, vec_capacity};
 ghost use Rattle.tesla_frame.specs.Frame.{ChainsRise};
-ghost use Rattle.tesla_state.specs.Gathering.{RiseBy, order_of};
-ghost use Rattle.tesla_state.specs.Offered.{IsOfChains, AreGood};
-ghost use Rattle.tesla_state.specs.Steps.{tips_after, batch_of, released_of, kept_after};
+ghost use Rattle.tesla_walks.specs.Proved.{RiseBy};
+ghost use Rattle.tesla_state.specs.Gathering.{order_of};
+ghost use Rattle.tesla_walks.specs.Offered.{IsOfChains, AreGood};
+ghost use Rattle.tesla_walks.specs.Tips.{tips_after};
+ghost use Rattle.tesla_state.specs.Steps.{batch_of, released_of, kept_after};
 ghost use Rattle.tesla_state.specs.Stored.{holding_at, AreNeeded};
-ghost use Rattle.tesla_state.specs.Walking.{rows_of, IsAbove, left, pairs};
+ghost use Rattle.tesla_walks.specs.Walking.{rows_of, IsAbove, left, pairs};
 
 use crate::Store;
-use crate::offers::raise;
-use crate::ordering::{Proved, span};
-use crate::reaching::indices;
-use crate::walk::Walk;
 use std::sync::ledger::Ledger;
 use tesla_base::Steps;
 use tesla_fitting::Config;
 use tesla_keys::Verifier;
+use tesla_walks::{Proved, Walk, indices, raise, span};
 
 /// Takes the keys of walks, which are good: each is the newest of its chain from then on. The held packets that they
 /// prove are released in order of arrival, one of each name, and what is needed no more is let go. Without keys nothing

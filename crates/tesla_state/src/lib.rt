@@ -8,12 +8,7 @@ mod ended;
 mod holding;
 mod judging;
 mod keys;
-mod offers;
-mod ordering;
 mod passing;
-mod proving;
-mod reaching;
-mod release;
 mod releasing;
 mod replies;
 mod report;
@@ -22,12 +17,10 @@ mod store;
 mod taking;
 #[cfg(test)]
 mod tests;
-mod tips;
 mod trying;
-mod walk;
 
-pub use release::Release;
 pub use replies::{Reply, Take};
 pub use report::Report;
 pub use state::ReceiverState;
 use store::Store;
+pub use tesla_walks::Release;

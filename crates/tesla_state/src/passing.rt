@@ -2,21 +2,20 @@
 
 ghost use Rattle.std.specs.Prelude.{◌≡◌, ℕ, ◌&&◌, ◌<◌, All, true, not, length, map, filter, find, Some, if◌then◌else◌};
 ghost use Rattle.std.specs.List.{list_all, list_any};
-ghost use Rattle.tesla_links.specs.Lists.{Distinct};
+ghost use Rattle.tesla_base.specs.Members.{Distinct};
 ghost use Rattle.tesla_fitting.specs.Config.{chains};
-ghost use Rattle.tesla_state.specs.ItemShown.{holding_in};
-ghost use Rattle.tesla_state.specs.Offered.{IsOfChains};
+ghost use Rattle.tesla_walks.specs.ItemShown.{holding_in};
+ghost use Rattle.tesla_walks.specs.Offered.{IsOfChains};
 ghost use Rattle.tesla_state.specs.Steps.{is_passed, is_over};
 ghost use Rattle.tesla_state.specs.Stored.{Placed, place_of, stands_at, waits, without, is_of, is_unreleased_at, is_unreleased_of, is_idle, in_reach};
-ghost use Rattle.tesla_state.specs.Walking.{rows_of};
+ghost use Rattle.tesla_walks.specs.Walking.{rows_of};
 
 use crate::Store;
-use crate::reaching::highest_reached;
-use crate::walk::Walk;
 use tesla_base::Place;
 use tesla_buffer::Item;
 use tesla_fitting::{Config, has_chain};
 use tesla_keys::Verifier;
+use tesla_walks::{Walk, highest_reached};
 
 /// Whether a key of the chain that reaches the interval was taken.
 pub fn has_passed(tips: &[Verifier], interval: u32, chain: u8) -> bool

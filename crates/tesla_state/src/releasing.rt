@@ -2,12 +2,12 @@
 
 ghost use Rattle.std.specs.Prelude.{◌≡◌, ◌++◌, true, map, flat_map};
 ghost use Rattle.std.specs.List.{list_any};
-ghost use Rattle.tesla_links.specs.Lists.{Distinct};
+ghost use Rattle.tesla_base.specs.Members.{Distinct};
 ghost use Rattle.tesla_state.specs.Steps.{released_of};
 ghost use Rattle.tesla_state.specs.Stored.{is_proved_by, held_then, released_if, is_named, release_of, AreProved, place_of, order_of, holding_at, place_proved, after_batch};
 
 use crate::Store;
-use crate::ordering::Proved;
+use tesla_walks::Proved;
 
 impl Store {
     // Releases a packet that new keys prove, or lets it go where one of its name was released.

@@ -6,14 +6,11 @@ ghost use Rattle.tesla_base.specs.declared.names.ChainNo.{ChainNo};
 ghost use Rattle.tesla_state.specs.Costs.{most_by, offers_by};
 ghost use Rattle.tesla_state.specs.Replies.{reply_shown, KeepsBehind};
 ghost use Rattle.tesla_state.specs.Steps.{opened, judged, after_arrival, reply_by, after_take, after_end};
-ghost use Rattle.tesla_state.specs.Tips.{first_tip};
+ghost use Rattle.tesla_walks.specs.Tips.{first_tip};
 
 use crate::arriving::receive;
 use crate::counts::count;
 use crate::ended::{all_set, mark};
-use crate::ordering::Proved;
-use crate::tips::first_tips;
-use crate::walk::Walk;
 use crate::{Report, Store, Take};
 use std::alloc::Global;
 use std::marker::Model;
@@ -22,6 +19,7 @@ use tesla_base::{NoMemory, Steps};
 use tesla_commit::Setup;
 use tesla_fitting::{Config, Verdict};
 use tesla_keys::Verifier;
+use tesla_walks::{Proved, Walk, first_tips};
 
 /// The counts before any event.
 const NOTHING: Report = Report {

@@ -3,18 +3,18 @@
 ghost use Rattle.std.specs.Prelude.{◌≡◌, ◌+◌, ◌<◌, ◌≤◌, ◌∷◌, ◌++◌, [], true, false, not, IfOk, length, map, filter, find, slice_get, option_map, is_some, Some, All, ℕ};
 ghost use Rattle.std.specs.List.{list_any};
 ghost use Rattle.tesla_fitting.specs.Rows.{tag_in};
-ghost use Rattle.tesla_links.specs.Lists.{Distinct};
+ghost use Rattle.tesla_base.specs.Members.{Distinct};
 ghost use Rattle.tesla_state.specs.Stored.{Placed, stands_at, rests_at, waits, is_proved_by, with_released, without, place_of, is_of, is_unreleased_at, is_unreleased_of, first_place, next_place, next_unreleased};
-ghost use Rattle.tesla_state.specs.ItemShown.{holding_in, IsItem};
+ghost use Rattle.tesla_walks.specs.ItemShown.{holding_in, IsItem};
 ghost use Rattle.tesla_state.specs.Steps.{in_interval, is_named_so};
 
-use crate::ordering::Proved;
 use std::alloc::Global;
 use std::marker::Model;
 use tesla_base::{Name, NoMemory, Place};
 use tesla_buffer::{Buffer, Fate, Item};
 use tesla_frame::DataView;
 use tesla_release::{Queue, Waiting};
+use tesla_walks::Proved;
 
 /// The packets that are held, each in its place, and those that were released and wait to be taken. All memory is
 /// taken when it is opened.

@@ -2,7 +2,7 @@
 
 ghost use Rattle.std.specs.Prelude.{◌≡◌, ◌≤◌, [], length, map, take, drop, MatchOption, if◌then◌else◌};
 ghost use Rattle.std.specs.List.{list_all};
-ghost use Rattle.tesla_links.specs.Lists.{Distinct};
+ghost use Rattle.tesla_base.specs.Members.{Distinct};
 ghost use Rattle.tesla_fitting.specs.Config.{chains};
 ghost use Rattle.tesla_state.specs.Steps.{is_passed};
 ghost use Rattle.tesla_state.specs.Stored.{order_of, IsGiven};

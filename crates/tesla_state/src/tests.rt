@@ -1,20 +1,16 @@
 //! A held packet, keys that prove it, and what is told of them.
 
 ghost use Rattle.std.specs.Prelude.{◌≡◌, ◌<◌, ◌≤◌, length};
-ghost use Rattle.tesla_state.specs.ItemShown.{IsItem};
+ghost use Rattle.tesla_walks.specs.ItemShown.{IsItem};
 
+use crate::Report;
 use crate::counts::count;
 use crate::judging::{refused, safe_by};
-use crate::offers::raise;
-use crate::ordering::{Proved, sort, span};
-use crate::proving::prove;
-use crate::tips::first_tips;
-use crate::{Release, Report};
 use std::alloc::Global;
 use std::marker::Brand;
 use std::sync::ledger::{Blank, Ledger};
 use std::test::*;
-use tesla_base::{ChainNo, Name, Place, Steps, WideTag};
+use tesla_base::{ChainNo, Place, Steps, WideTag};
 use tesla_buffer::Item;
 use tesla_commit::read_setup;
 use tesla_examples::{
@@ -24,6 +20,7 @@ use tesla_examples::{
 use tesla_fitting::{Config, Verdict};
 use tesla_frame::{DataView, FrameView, read_frame};
 use tesla_keys::Verifier;
+use tesla_walks::{Proved, first_tips, prove, raise, span};
 
 /// The packet of a frame of two rows, held with both chains safe.
 fn held_as(frame: &DataView<'_>) -> Item
@@ -144,29 +141,6 @@ fn keys_of_frames(rt: HostRuntime) -> Result<(), Fail> {
         assert!(rt; given == (refusal, chain, spanned, first, second));
     }
     Ok(())
-}
-
-fn proved_at(place: usize) -> Proved {
-    Proved {
-        release: Release {
-            place,
-            name: Name {
-                interval: 1,
-                number: 0,
-            },
-            chain: ChainNo(0),
-        },
-        place: Place(0),
-    }
-}
-
-#[test]
-fn order_of_arrival(rt: HostRuntime) {
-    let mut proved = [proved_at(5), proved_at(2), proved_at(9)];
-    sort(&mut proved);
-    assert!(rt;
-        proved[0].release.place == 2 && proved[1].release.place == 5 && proved[2].release.place == 9
-    );
 }
 
 #[test]

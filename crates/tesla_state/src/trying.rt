@@ -4,24 +4,22 @@ ghost use Rattle.std.specs.Prelude.{◌≡◌, ℕ, List, ◌+◌, ◌*◌, ◌-
 ghost use Rattle.std.specs.List.{list_any};
 ghost use Rattle.std.specs.List.Sorted.{IsPermutation};
 ghost use Rattle.tesla_frame.specs.Frame.{ChainsRise};
-ghost use Rattle.tesla_links.specs.Lists.{Distinct};
-ghost use Rattle.tesla_state.specs.Gathering.{AreIndices, RiseBy, Spans, order_of, place_of, in_turn};
-ghost use Rattle.tesla_state.specs.declared.release.Release.{Release};
-ghost use Rattle.tesla_state.specs.Offered.{IsOfChains};
-ghost use Rattle.tesla_state.specs.Proved.{release_in};
-ghost use Rattle.tesla_state.specs.Steps.{proof_of, batch_of, in_interval};
+ghost use Rattle.tesla_base.specs.Members.{Distinct};
+ghost use Rattle.tesla_walks.specs.ReachedIntervals.{AreIndices, Spans};
+ghost use Rattle.tesla_walks.specs.Proved.{RiseBy, place_of, release_in, proof_of};
+ghost use Rattle.tesla_state.specs.Gathering.{order_of, in_turn};
+ghost use Rattle.tesla_walks.specs.declared.release.Release.{Release};
+ghost use Rattle.tesla_walks.specs.Offered.{IsOfChains};
+ghost use Rattle.tesla_state.specs.Steps.{batch_of, in_interval};
 ghost use Rattle.tesla_state.specs.Stored.{Placed, place_proved, place_here, holding_at, stands_at, is_of, AreProved};
-ghost use Rattle.tesla_state.specs.Walking.{rows_of, IsAbove, left, tries, pairs};
+ghost use Rattle.tesla_walks.specs.Walking.{rows_of, IsAbove, left, tries, pairs};
 
 use crate::Store;
-use crate::ordering::{Proved, sort};
-use crate::proving::prove;
-use crate::reaching::highest_reached;
-use crate::walk::Walk;
 use std::sync::ledger::Ledger;
 use tesla_base::{Place, Steps};
 use tesla_fitting::Config;
 use tesla_keys::Verifier;
+use tesla_walks::{Proved, Walk, highest_reached, prove, sort};
 
 // Appends what was proved, if it was.
 fn append(batch: &mut Vec<Proved>, proved: Option<Proved>)

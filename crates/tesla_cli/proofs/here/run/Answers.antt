@@ -1,25 +1,33 @@
-use Rattle.std.proofs.Common.{◌∙◌, inr, sym, ap}
-use Rattle.tesla_cli.proofs.Consoles.{Tolds, told_causes, console_unopened, console_opened}
+use Rattle.std.proofs.Common.{◌∙◌, inr, sym, subst, map, List, ℕ}
+use Rattle.std.specs.Prelude.{string_bytes}
+use Rattle.tesla_desk.specs.Outside.{ClosesSink}
+use Rattle.tesla_desk.proofs.Counts.{counts_stay}
+use Rattle.tesla_front.specs.Came.{outcome_came}
+use Rattle.tesla_front.proofs.Consoles.{Tolds, console_opened, console_unopened}
+use Rattle.tesla_cli.specs.Commands.{command_of}
+use Rattle.tesla_cli.specs.Usage.{usage}
 use Rattle.tesla_cli.proofs.here.run.Goals as goal
 
 pub returns-in-Ok : goal.returns-in-Ok
 returns-in-Ok g c =
     let named = c.tell-told.ensures.name ∙ c.in-Ok.ensures.named in
+    let old = g.D.Desk.told c.args.desk.now in
+    let opened = g.D.Desk.told c.open_sink.new.self in
+    let done = g.D.Desk.told c.run_words-came.new.desk in
     let new = g.D.Desk.told c.close_sink.new.self in
-    let told : Tolds (g.D.Desk.told c.args.desk.now) (g.D.Desk.told c.open_sink.new.self) (g.D.Desk.told c.run_words-came.new.desk) new c.run_words-came.result c.tell-told.result (g.D.Out.Sink.written c.tell-told.new.console) (g.D.Out.Sink.faults c.tell-told.new.console) = record {
+    let written = g.D.Out.Sink.written c.tell-told.new.console in
+    let failed = g.D.Out.Sink.faults c.tell-told.new.console in
+    let told : Tolds usage old opened done new (outcome_came c.run_words-came.result) (outcome_came c.tell-told.result) written failed = record {
       asked = c.in-Ok.ensures.desk.asked;
       pages = c.in-Ok.ensures.desk.pages;
+      lefts = c.in-Ok.ensures.desk.lefts;
+      counts = counts_stay old.faults opened.faults c.in-Ok.ensures.desk.counts (λ e. absurd cc);
       before = g.D.Out.Sink.written c.in-Ok.console;
       empty = c.in-Ok.ensures.empty;
       tells = c.tell-told.ensures.tells;
-      own = ap new.page (sym named) ∙ c.close_sink.ensures.desk.own;
-      others = λ name other. c.close_sink.ensures.desk.pages name (λ e. other (e ∙ named));
-      closed = c.close_sink.ensures.desk.asked;
+      closes = subst (λ (name : List ℕ). ClosesSink name written failed done new) named c.close_sink.ensures.desk;
     } in
-    record {
-      ran = inr (console_opened _ _ _ _ _ _ _ _ _ told c.run_words-came.ensures.usage c.run_words-came.ensures.still c.run_words-came.ensures.form);
-      causes = told_causes _ _ _ _ _ _ _ _ _ _ _ c.in-Ok.ensures.desk.counts c.run_words-came.ensures.causes c.close_sink.ensures.desk.counts c.in-Ok.ensures.fresh c.tell-told.ensures.cause c.tell-told.ensures.tells;
-    }
+    inr (console_opened (command_of (map string_bytes c.args.words.now)) usage (map string_bytes c.args.words.now) old opened done new (outcome_came c.run_words-came.result) (outcome_came c.tell-told.result) written failed told c.run_words-came.ensures)
 
 pub returns-in-Err : goal.returns-in-Err
-returns-in-Err g c = rw c.from.ensures (console_unopened _ _ c.in-Err.refusal _ _ c.in-Err.ensures.desk)
+returns-in-Err g c = rw c.from.ensures (console_unopened _ (command_of (map string_bytes c.args.words.now)) usage (map string_bytes c.args.words.now) c.in-Err.refusal (g.D.Desk.told c.args.desk.now) _ c.in-Err.ensures.desk)

@@ -3,7 +3,7 @@ use Rattle.std.proofs.lemmas.Bool.{ne_eqb}
 use Rattle.std.specs.Prelude.{slice_get}
 use Rattle.tesla_base.proofs.Lists.{list_any_got_more}
 use Rattle.tesla_links.specs.Lists.{list_of}
-use Rattle.tesla_links.proofs.Members.{in_got, next_at}
+use Rattle.tesla_base.proofs.Members.{in_got, next_at}
 use Rattle.tesla_links.proofs.key_table.find_in.Goals as goal
 
 pub bounds-keys-place : goal.bounds-keys-place

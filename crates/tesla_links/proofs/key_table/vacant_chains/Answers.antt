@@ -1,8 +1,9 @@
 use Rattle.std.proofs.Common.{◌+◌, ℕ, List, [], replicate, arith, ◌∙◌, ap}
 use Rattle.std.specs.List.{list_any, range_with_len}
-use Rattle.tesla_links.specs.Lists.{Lists, is_in}
+use Rattle.tesla_base.specs.Members.{is_in}
+use Rattle.tesla_links.specs.Lists.{Lists}
 use Rattle.tesla_links.proofs.Keyed.{vacant_more, vacant_none}
-use Rattle.tesla_links.proofs.Members.{nowhere_empty, nowhere_set, range_past}
+use Rattle.tesla_base.proofs.Members.{nowhere_empty, nowhere_set, range_past}
 use Rattle.tesla_links.proofs.key_table.vacant_chains.Goals as goal
 
 pub loop-place-init : goal.loop-place-init

@@ -5,4 +5,4 @@ use Rattle.tesla_receiver.proofs.tests.costs_of_far_keys.Goals as goal
 
 pub returns : goal.returns
 unfolding bound_of newest
-returns c = λ key tag. (refl, refl, refl)
+returns c = λ key tag. (refl, refl, refl, refl)

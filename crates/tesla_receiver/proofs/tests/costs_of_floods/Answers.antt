@@ -14,7 +14,7 @@ each_same f g n (x ∷ xs) same =
 
 pub returns : goal.returns
 unfolding bound_of
-returns c = λ key tag counts calls numbers many.
+returns c = λ key tag counts calls reserved numbers many.
     let none : length numbers * 0 ≡ 0 = omega arith in
     let all : length numbers * 1 ≡ 4096 = omega (arith, many) in (
       ap (λ n. 2 * 0 + 2 * n) (each_same _ _ 0 numbers (λ number. refl) ∙ none),

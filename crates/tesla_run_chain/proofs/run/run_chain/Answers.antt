@@ -1,7 +1,8 @@
 use Rattle.std.proofs.Common.{map, string_bytes}
 use Rattle.tesla_run_chain.specs.Arguments.{arguments_of}
 use Rattle.tesla_run_chain.specs.Chain.{chain}
-use Rattle.tesla_run_chain.proofs.Runs.{are_files, runs_form, runs_usage}
+use Rattle.tesla_front.proofs.Commands.{runs_form, runs_usage}
+use Rattle.tesla_run_chain.proofs.Runs.{are_files}
 use Rattle.tesla_run_chain.proofs.run.run_chain.Goals as goal
 
 pub perform-requires : goal.perform-requires

@@ -1,6 +1,6 @@
 use Rattle.std.proofs.Common.{◌∙◌, List, ℕ, string_bytes, sym, subst}
 use Rattle.tesla_run_chain.specs.Arguments.{IsChain}
-use Rattle.tesla_run_chain.proofs.SevenWords.{seven_is, same_seven}
+use Rattle.tesla_front.proofs.WordLists.{seven_is, same_seven}
 use Rattle.tesla_run_chain.proofs.words.arguments_in.Goals as goal
 
 pub returns-clause-only : goal.returns-clause-only

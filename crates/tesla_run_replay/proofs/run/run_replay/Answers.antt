@@ -1,7 +1,7 @@
 use Rattle.std.proofs.Common.{map, string_bytes}
 use Rattle.tesla_run_replay.specs.Arguments.{arguments_of}
 use Rattle.tesla_run_replay.specs.Replay.{replay}
-use Rattle.tesla_run_replay.proofs.Commands.{runs_form, runs_usage}
+use Rattle.tesla_front.proofs.Commands.{runs_form, runs_usage}
 use Rattle.tesla_run_replay.proofs.Performed.{are_files}
 use Rattle.tesla_run_replay.proofs.run.run_replay.Goals as goal
 

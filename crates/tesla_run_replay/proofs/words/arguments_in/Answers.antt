@@ -1,6 +1,6 @@
 use Rattle.std.proofs.Common.{◌≡◌, List, ℕ, [], ◌∷◌, IfSome, codes, map, string_bytes, sym, subst, rules}
 use Rattle.tesla_run_replay.specs.Arguments.{IsReplay, arguments_of}
-use Rattle.tesla_run_replay.proofs.SixWords.{six_is}
+use Rattle.tesla_front.proofs.WordLists.{six_is}
 use Rattle.tesla_run_replay.proofs.words.arguments_in.Goals as goal
 
 pub returns-clause-found : goal.returns-clause-found

@@ -4,16 +4,19 @@ use Rattle.std.proofs.lemmas.List.{append-nil}
 use Rattle.tesla_frame.specs.Frame.{Frame, Data}
 use Rattle.tesla_fitting.specs.declared.verdict.Verdict.TheVariants.{Keys}
 use Rattle.tesla_frame.specs.Shown.{shown}
-use Rattle.tesla_state.specs.declared.release.Release.{Release}
+use Rattle.tesla_walks.specs.declared.release.Release.{Release}
 use Rattle.tesla_state.specs.Kept.{state_of, IsBefore}
-use Rattle.tesla_state.specs.State.{State, Holding}
-use Rattle.tesla_state.specs.Steps.{tips_after, batch_of, released_of, judged_packet, judged_taken, safe_by, with_keys, new_rows, own}
+use Rattle.tesla_state.specs.State.{State}
+use Rattle.tesla_walks.specs.Holding.{Holding}
+use Rattle.tesla_walks.specs.Tips.{tips_after}
+use Rattle.tesla_state.specs.Steps.{batch_of, released_of, judged_packet, judged_taken, safe_by, with_keys, new_rows, own}
 use Rattle.tesla_state.specs.Stored.{holding_at, AreNeeded}
-use Rattle.tesla_state.specs.Walking.{rows_of}
+use Rattle.tesla_walks.specs.Walking.{rows_of}
 use Rattle.tesla_frame.specs.declared.row.KeyRow.{KeyRow}
 use Rattle.tesla_keys.specs.Tip.{Tip}
 use Rattle.tesla_state.specs.declared.report.Report.{Report}
-use Rattle.tesla_state.specs.Gathering.{RiseBy, order_of}
+use Rattle.tesla_walks.specs.Proved.{RiseBy}
+use Rattle.tesla_state.specs.Gathering.{order_of}
 use Rattle.tesla_state.proofs.Arrived.{keys_are}
 use Rattle.tesla_state.proofs.StaysKept.{keys_rise, keys_before, keys_needed, rise_own, before_own, before_later, needed_more}
 use Rattle.tesla_state.proofs.arriving.accept.Goals as goal

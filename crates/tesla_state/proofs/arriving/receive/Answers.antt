@@ -7,11 +7,11 @@ use Rattle.tesla_state.specs.declared.report.Report.{Report}
 use Rattle.tesla_fitting.specs.declared.verdict.Verdict.{Verdict}
 use Rattle.tesla_fitting.specs.Rows.{keys_of}
 use Rattle.tesla_state.specs.Kept.{state_of}
-use Rattle.tesla_state.specs.Offered.{HaveBegun, gaps}
+use Rattle.tesla_walks.specs.Offered.{HaveBegun, gaps}
 use Rattle.tesla_state.specs.State.{State}
 use Rattle.tesla_state.specs.Steps.{judged_taken, refused, entered_as, entered_frame, with_keys, new_rows, own, counted, bound_at}
 use Rattle.tesla_state.specs.Stored.{holding_at, AreNeeded}
-use Rattle.tesla_state.specs.Walking.{Walking, rows_of, left, pairs}
+use Rattle.tesla_walks.specs.Walking.{Walking, rows_of, left, pairs}
 use Rattle.tesla_fitting.specs.Fitting.{unfit}
 use Rattle.tesla_state.proofs.Evaluations.{bad_cost, refused_cost, taken_cost, taken_not_bad}
 use Rattle.tesla_state.proofs.StaysKept.{before_later}

@@ -1,5 +1,5 @@
 use Rattle.std.proofs.Common.{sym, ◌∙◌}
-use Rattle.tesla_state.proofs.Beginning.{fits_where}
+use Rattle.tesla_state.proofs.Arrived.{fits_where}
 use Rattle.tesla_state.proofs.judging.refused.Goals as goal
 
 pub offer_keys-requires-clause-fits : goal.offer_keys-requires-clause-fits

@@ -1,7 +1,7 @@
 use Rattle.std.proofs.Common.{◌≡◌, ◌^◌, ◌<◌}
 use Rattle.tesla_clock.specs.Safe.{chain_set, is_safe}
 use Rattle.tesla_fitting.specs.Config.{chain_row}
-use Rattle.tesla_state.specs.Steps.{tip_at}
+use Rattle.tesla_walks.specs.Tips.{tip_at}
 use Rattle.tesla_state.proofs.judging.safe_by.Given as goal
 
 -- the safe chains so far

@@ -4,14 +4,15 @@ use Rattle.std.proofs.lemmas.List.{append-nil, nil_from_length}
 use Rattle.std.specs.Prelude.{All, not, ◌&&◌}
 use Rattle.std.specs.List.{filter}
 use Rattle.tesla_keys.specs.Tip.{Tip}
-use Rattle.tesla_links.specs.Lists.{Distinct}
+use Rattle.tesla_base.specs.Members.{Distinct}
 use Rattle.tesla_frame.specs.declared.row.KeyRow.{KeyRow}
-use Rattle.tesla_state.specs.declared.release.Release.{Release}
-use Rattle.tesla_state.specs.Steps.{tips_after, batch_of, released_of}
+use Rattle.tesla_walks.specs.declared.release.Release.{Release}
+use Rattle.tesla_walks.specs.Tips.{tips_after}
+use Rattle.tesla_state.specs.Steps.{batch_of, released_of}
 use Rattle.tesla_state.specs.Stored.{Placed, holding_at, place_of, release_of, after_batch, in_reach, is_idle}
-use Rattle.tesla_state.specs.Walking.{rows_of}
-use Rattle.tesla_state.specs.Offered.{IsOfChains}
-use Rattle.tesla_state.proofs.ReachedIntervals.{few_chains}
+use Rattle.tesla_walks.specs.Walking.{rows_of}
+use Rattle.tesla_walks.specs.Offered.{IsOfChains}
+use Rattle.tesla_state.proofs.UnreachedIntervals.{few_chains}
 use Rattle.tesla_state.proofs.Batch.{orders_differ}
 use Rattle.tesla_state.proofs.KeysTaken.{kept_is, apart_after, held_none, held_stays, none_released, released_none}
 use Rattle.tesla_state.proofs.keys.take_keys.Goals.{then-is_empty-via-then-is_empty, then-is_empty-via-else-is_empty+then-held-eq0}

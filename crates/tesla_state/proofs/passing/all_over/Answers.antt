@@ -1,6 +1,6 @@
 use Rattle.std.proofs.Common.{◌≡◌, length, sym, ◌∙◌}
 use Rattle.tesla_state.specs.Steps.{is_over}
-use Rattle.tesla_state.specs.ItemShown.{holding_in}
+use Rattle.tesla_walks.specs.ItemShown.{holding_in}
 use Rattle.tesla_base.proofs.Lists.{not_all_numbers, all_numbers_more, all_numbers}
 use Rattle.tesla_state.proofs.passing.all_over.Goals as goal
 

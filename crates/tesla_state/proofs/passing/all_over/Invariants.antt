@@ -1,7 +1,7 @@
 use Rattle.std.proofs.Common.{◌≡◌, ℕ, true, take}
 use Rattle.std.specs.List.{list_all}
 use Rattle.tesla_fitting.specs.Config.{chains}
-use Rattle.tesla_state.specs.ItemShown.{holding_in}
+use Rattle.tesla_walks.specs.ItemShown.{holding_in}
 use Rattle.tesla_state.specs.Steps.{is_over}
 use Rattle.tesla_state.proofs.passing.all_over.Given as goal
 

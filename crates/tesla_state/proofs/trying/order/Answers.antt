@@ -1,8 +1,8 @@
 use Rattle.std.proofs.Common.{◌≡◌, ℕ, ◌++◌, suc, zero, ap, sym, ◌∙◌, subst, map, take, drop, length, List, [], ◌∷◌, refl, arith}
 use Rattle.std.specs.List.Sorted.{IsPermutation}
 use Rattle.std.proofs.lemmas.List.Sorted.{length_permutation}
-use Rattle.tesla_state.specs.declared.ordering.Proved.{Proved}
-use Rattle.tesla_state.specs.Proved.{release_in}
+use Rattle.tesla_walks.specs.declared.ordering.Proved.{Proved}
+use Rattle.tesla_walks.specs.Proved.{release_in}
 use Rattle.tesla_state.proofs.trying.order.Goals as goal
 
 take_front : (n : ℕ) (ys zs : List Proved) → length ys ≡ n → take n (ys ++ zs) ≡ ys

@@ -2,7 +2,7 @@ use Rattle.std.proofs.Common.{map, ◌∙◌, sym, ap, subst}
 use Rattle.tesla_buffer.specs.Held.{Held}
 use Rattle.tesla_buffer.proofs.Stored.{seen_held}
 use Rattle.tesla_buffer.proofs.Places.{same_places}
-use Rattle.tesla_links.specs.Lists.{Distinct}
+use Rattle.tesla_base.specs.Members.{Distinct}
 use Rattle.tesla_buffer.proofs.buffer.Buffer.held.Goals as goal
 
 pub returns-clause-distinct : goal.returns-clause-distinct

@@ -4,7 +4,7 @@ use Rattle.std.specs.List.{find}
 use Rattle.std.proofs.lemmas.List.{get_or_read}
 use Rattle.tesla_buffer.specs.Held.{Held, is_at, is_resting}
 use Rattle.tesla_buffer.specs.Stored.{places_of}
-use Rattle.tesla_links.specs.Lists.{is_in}
+use Rattle.tesla_base.specs.Members.{is_in}
 use Rattle.tesla_buffer.proofs.Stored.{seen_held, live_seen}
 use Rattle.tesla_buffer.proofs.Places.{find_live}
 use Rattle.tesla_buffer.proofs.buffer.Buffer.is_resting.Goals as goal

@@ -1,6 +1,6 @@
 use Rattle.std.proofs.Common.{◌≡◌, true, arith, ◌∙◌, sym, ap, Some}
 use Rattle.tesla_buffer.specs.Stored.{no_item, places_of}
-use Rattle.tesla_links.specs.Lists.{is_in}
+use Rattle.tesla_base.specs.Members.{is_in}
 use Rattle.std.specs.List.{find}
 use Rattle.std.proofs.lemmas.List.{get_or_read}
 use Rattle.tesla_buffer.specs.Held.{is_at}

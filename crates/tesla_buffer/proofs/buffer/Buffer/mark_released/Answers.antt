@@ -1,6 +1,6 @@
 use Rattle.std.proofs.Common.{◌≡◌, ℕ, length, get_or, true, arith, refl, ◌∙◌, ap, Some, None}
 use Rattle.tesla_buffer.specs.Stored.{item_at, no_item, places_of}
-use Rattle.tesla_links.specs.Lists.{is_in}
+use Rattle.tesla_base.specs.Members.{is_in}
 use Rattle.std.proofs.Math.ListN.{set}
 use Rattle.std.proofs.lemmas.List.{get_or-set_other, get_or-set_same, get_or_read, length-set}
 use Rattle.tesla_buffer.specs.Held.{changed}

@@ -1,6 +1,6 @@
 use Rattle.std.proofs.Common.{◌≡◌, true, not, arith, ◌∙◌, ap}
 use Rattle.tesla_buffer.specs.Stored.{places_of}
-use Rattle.tesla_links.specs.Lists.{is_in}
+use Rattle.tesla_base.specs.Members.{is_in}
 use Rattle.std.specs.List.{filter}
 use Rattle.tesla_buffer.specs.Held.{Held, is_at}
 use Rattle.tesla_buffer.proofs.Stored.{held_gone, stored_gone, seen_held, live_seen}

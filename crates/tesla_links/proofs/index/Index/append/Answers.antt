@@ -1,5 +1,6 @@
 use Rattle.std.proofs.Common.{◌≡◌, ◌<◌, [], ◌∷◌, ◌++◌, false, arith, ◌∙◌, sym, ap}
-use Rattle.tesla_links.specs.Lists.{is_in, list_of}
+use Rattle.tesla_base.specs.Members.{is_in}
+use Rattle.tesla_links.specs.Lists.{list_of}
 use Rattle.tesla_links.specs.Entries.{Entries}
 use Rattle.tesla_links.proofs.Grouped.{append_entries, append_indexed, append_marked, chosen_within, in_no_group, marked_nowhere, one_list, seen_at, seen_capacity, seen_length, some_vacant}
 use Rattle.tesla_links.proofs.index.Index.append.Goals as goal

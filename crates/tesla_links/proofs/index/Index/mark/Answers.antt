@@ -1,6 +1,7 @@
 use Rattle.std.proofs.Common.{◌≡◌, true, ◌∙◌, sym, ap}
 use Rattle.tesla_links.specs.Entries.{Entries, marked_at}
-use Rattle.tesla_links.specs.Lists.{is_in, list_of}
+use Rattle.tesla_base.specs.Members.{is_in}
+use Rattle.tesla_links.specs.Lists.{list_of}
 use Rattle.tesla_links.proofs.Grouped.{mark_entries, mark_marked, marked_somewhere, seen_at}
 use Rattle.tesla_links.proofs.index.Index.mark.Goals as goal
 

@@ -2,7 +2,8 @@ use Rattle.std.proofs.Common.{arith, ◌∙◌, sym, ap}
 use Rattle.std.proofs.lemmas.List.{get_or_read}
 use Rattle.tesla_links.specs.Entries.{next_place}
 use Rattle.tesla_links.specs.Indexed.{is_marked}
-use Rattle.tesla_links.specs.Lists.{is_in, list_of, next_in}
+use Rattle.tesla_base.specs.Members.{is_in, next_in}
+use Rattle.tesla_links.specs.Lists.{list_of}
 use Rattle.tesla_links.proofs.Grouped.{in_group, next_is, seen_at, seen_entries}
 use Rattle.tesla_links.proofs.index.Index.next.Goals as goal
 

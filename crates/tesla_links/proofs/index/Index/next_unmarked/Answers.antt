@@ -1,7 +1,8 @@
 use Rattle.std.proofs.Common.{arith, ◌∙◌, sym, ap}
 use Rattle.std.proofs.lemmas.List.{get_or_read}
 use Rattle.tesla_links.specs.Entries.{next_unmarked}
-use Rattle.tesla_links.specs.Lists.{is_in, list_of, next_in}
+use Rattle.tesla_base.specs.Members.{is_in, next_in}
+use Rattle.tesla_links.specs.Lists.{list_of}
 use Rattle.tesla_links.proofs.Grouped.{in_unmarked, unmarked_next_is, seen_entries, seen_unmarked}
 use Rattle.tesla_links.proofs.index.Index.next_unmarked.Goals as goal
 

@@ -3,9 +3,10 @@ use Rattle.std.specs.List.{filter}
 use Rattle.std.proofs.lemmas.List.{get_or_read, length-map}
 use Rattle.tesla_links.specs.Entries.{Entries, Entry, is_at}
 use Rattle.tesla_links.specs.Indexed.{group_of}
-use Rattle.tesla_links.specs.Lists.{is_in, list_of, without}
+use Rattle.tesla_base.specs.Members.{is_in, without}
+use Rattle.tesla_links.specs.Lists.{list_of}
 use Rattle.tesla_links.proofs.Grouped.{in_group, marked_somewhere, one_list, remove_kept, remove_last, remove_marked, seen_at}
-use Rattle.tesla_links.proofs.Members.{somewhere}
+use Rattle.tesla_base.proofs.Members.{somewhere}
 use Rattle.tesla_links.proofs.index.Index.remove.Goals as goal
 
 pub index-group-requires : goal.index-group-requires

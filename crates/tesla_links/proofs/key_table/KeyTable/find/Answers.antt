@@ -2,7 +2,8 @@ use Rattle.std.proofs.Common.{ap, ◌≡◌, ℕ}
 use Rattle.std.proofs.Common.{List, get_or, eqb, subst, true, false}
 use Rattle.std.specs.List.{list_any}
 use Rattle.std.specs.Option.{MatchOption}
-use Rattle.tesla_links.specs.Lists.{is_in, list_of}
+use Rattle.tesla_base.specs.Members.{is_in}
+use Rattle.tesla_links.specs.Lists.{list_of}
 use Rattle.tesla_links.specs.Slots.{Slots}
 use Rattle.tesla_links.proofs.Keyed.{at_view, found_in}
 use Rattle.tesla_links.proofs.key_table.KeyTable.find.Goals as goal

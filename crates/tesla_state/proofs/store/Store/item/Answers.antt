@@ -2,7 +2,7 @@ use Rattle.std.proofs.Common.{sym, ap, subst, ◌∙◌}
 use Rattle.std.specs.Prelude.{find, option_map, Some}
 use Rattle.std.specs.List.{list_any}
 use Rattle.tesla_buffer.specs.Held.{is_at}
-use Rattle.tesla_state.specs.ItemShown.{holding_in, IsItem}
+use Rattle.tesla_walks.specs.ItemShown.{holding_in, IsItem}
 use Rattle.tesla_state.specs.Stored.{Stored, placed_in, stands_at, IsItemOf}
 use Rattle.tesla_state.proofs.Stored.{any_shown, found_shown, found_passes}
 use Rattle.tesla_state.proofs.store.Store.item.Goals as goal

@@ -1,9 +1,9 @@
 use Rattle.std.proofs.Common.{ℕ, Bool, List, sym, subst, map}
 use Rattle.std.specs.Prelude.{not, ◌&&◌}
-use Rattle.tesla_links.specs.Lists.{Distinct}
-use Rattle.tesla_state.specs.Gathering.{IsHighest, index_at, is_reached}
+use Rattle.tesla_base.specs.Members.{Distinct}
+use Rattle.tesla_walks.specs.ReachedIntervals.{IsHighest, index_at, is_reached}
 use Rattle.tesla_state.specs.Stored.{Placed, place_of, in_span, is_idle}
-use Rattle.tesla_state.specs.Walking.{rows_of}
+use Rattle.tesla_walks.specs.Walking.{rows_of}
 use Rattle.tesla_state.proofs.Stored.{distinct_kept}
 use Rattle.tesla_state.proofs.Sweeping.{spanned_none, spanned_more, span_ends}
 use Rattle.tesla_state.proofs.store.Store.let_go.Goals as goal

@@ -1,6 +1,6 @@
-use Rattle.tesla_state.specs.Gathering.{index_at, is_reached}
+use Rattle.tesla_walks.specs.ReachedIntervals.{index_at, is_reached}
 use Rattle.tesla_state.specs.Stored.{is_idle}
-use Rattle.tesla_state.specs.Walking.{rows_of}
+use Rattle.tesla_walks.specs.Walking.{rows_of}
 use Rattle.tesla_state.proofs.Sweeping.{Spanned}
 use Rattle.tesla_state.proofs.store.Store.let_go.Given as goal
 

@@ -1,11 +1,10 @@
 use Rattle.std.proofs.Common.{◌≡◌, sym, subst, arith, map, List}
 use Rattle.std.specs.Prelude.{vec_capacity}
-use Rattle.tesla_state.specs.declared.release.Release.{Release}
-use Rattle.tesla_state.specs.Gathering.{RiseBy, place_of}
-use Rattle.tesla_state.specs.Proved.{release_in}
+use Rattle.tesla_walks.specs.declared.release.Release.{Release}
+use Rattle.tesla_walks.specs.Proved.{RiseBy, place_of, release_in}
 use Rattle.tesla_state.specs.Steps.{batch_of}
 use Rattle.tesla_state.specs.Stored.{holding_at, AreProved}
-use Rattle.tesla_state.specs.Walking.{rows_of}
+use Rattle.tesla_walks.specs.Walking.{rows_of}
 use Rattle.tesla_state.proofs.Batch.{numbers_differ, places_differ, proved_permuted}
 use Rattle.tesla_state.proofs.Gathering.{batch_rises}
 use Rattle.tesla_state.proofs.store.Store.prove_held.Goals as goal

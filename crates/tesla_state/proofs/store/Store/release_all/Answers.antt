@@ -1,7 +1,6 @@
-use Rattle.std.proofs.Common.{ap, ◌∙◌}
+use Rattle.std.proofs.Common.{ap, ◌∙◌, get_or, ◌++◌}
 use Rattle.std.proofs.lemmas.List.{get_or_default}
-use Rattle.tesla_state.specs.declared.ordering.Proved.{Proved}
-use Rattle.std.proofs.Common.{get_or, ◌++◌}
+use Rattle.tesla_walks.specs.declared.ordering.Proved.{Proved}
 use Rattle.tesla_state.proofs.ReleasedPackets.{next_proved, settling_none, settling_more, settling_all, held_all_is, waiting_all}
 use Rattle.tesla_state.proofs.store.Store.release_all.Goals as goal
 

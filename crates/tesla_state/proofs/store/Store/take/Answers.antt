@@ -3,12 +3,12 @@ use Rattle.std.specs.Prelude.{find, option_map, Some, min}
 use Rattle.std.specs.List.{list_all}
 use Rattle.tesla_buffer.specs.Held.{Held, is_at, settled}
 use Rattle.tesla_buffer.specs.declared.item.Fate.{Fate}
-use Rattle.tesla_links.specs.Lists.{Distinct}
+use Rattle.tesla_base.specs.Members.{Distinct}
 use Rattle.tesla_release.specs.Released.{given_after}
 use Rattle.tesla_release.specs.declared.queue.Waiting.{Waiting}
 use Rattle.tesla_base.specs.declared.release.Head.{Head}
 use Rattle.tesla_fitting.specs.Config.{chains}
-use Rattle.tesla_state.specs.ItemShown.{holding_in}
+use Rattle.tesla_walks.specs.ItemShown.{holding_in}
 use Rattle.tesla_state.specs.Steps.{is_passed}
 use Rattle.tesla_state.specs.Stored.{Stored, Placed, placed_in, release_in, release_by, stands_at, order_of, after_take, IsStore, IsItemOf}
 use Rattle.tesla_state.proofs.Stored.{found_shown, found_passes}

@@ -1,15 +1,12 @@
-use Rattle.std.proofs.Common.{◌≡◌, ◌≤◌, ◌+◌, ◌*◌, ◌++◌, ℕ, ap, sym, ◌∙◌, subst, map, Some}
+use Rattle.std.proofs.Common.{◌≡◌, ◌≤◌, ◌+◌, ◌*◌, ◌++◌, ℕ, ap, sym, ◌∙◌, subst, map, Some, List}
 use Rattle.std.specs.Prelude.{All, option_to_list}
-use Rattle.std.specs.List.{list_all}
+use Rattle.std.specs.List.{list_all, list_any}
 use Rattle.tesla_base.proofs.Lists.{list_all_both}
-use Rattle.tesla_state.specs.ItemShown.{holding_in, IsItem}
-use Rattle.tesla_state.specs.Proved.{release_in}
-use Rattle.tesla_state.specs.Steps.{proof_of}
+use Rattle.tesla_walks.specs.ItemShown.{holding_in, IsItem}
+use Rattle.tesla_walks.specs.Proved.{release_in, proof_of}
 use Rattle.tesla_state.specs.Stored.{Placed, is_proved_by}
-use Rattle.tesla_state.specs.declared.ordering.Proved.{Proved}
-use Rattle.std.specs.List.{list_any}
-use Rattle.tesla_state.specs.Walking.{IsAbove, rows_of, left, tries}
-use Rattle.std.proofs.Common.{List}
+use Rattle.tesla_walks.specs.declared.ordering.Proved.{Proved}
+use Rattle.tesla_walks.specs.Walking.{IsAbove, rows_of, left, tries}
 use Rattle.tesla_state.proofs.TriedIntervals.{one_proved, map-released}
 use Rattle.tesla_state.proofs.store.Store.try_at.Goals as goal
 

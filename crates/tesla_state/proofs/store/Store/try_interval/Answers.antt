@@ -5,7 +5,7 @@ use Rattle.std.proofs.Math.ListN.{drop_of_length-le}
 use Rattle.tesla_base.specs.declared.names.Place.{Place}
 use Rattle.tesla_frame.specs.Frame.{ChainsRise}
 use Rattle.tesla_state.specs.Stored.{is_of, is_unreleased_of}
-use Rattle.tesla_state.specs.Walking.{left}
+use Rattle.tesla_walks.specs.Walking.{left}
 use Rattle.tesla_state.proofs.Sweeping.{found_any, found_stands}
 use Rattle.std.proofs.lemmas.Bool.{and_parts}
 use Rattle.tesla_state.proofs.TriedIntervals.{Trying, trying_none, tried_place, above_there, room_there, trying_more, tried_all, none_left, unreleased_few}

@@ -1,7 +1,7 @@
 use Rattle.std.proofs.Common.{◌≡◌, ◌+◌, ◌*◌, ◌≤◌, map, take, filter}
 use Rattle.std.specs.Prelude.{vec_capacity}
 use Rattle.tesla_state.specs.Stored.{holding_at, is_unreleased_of}
-use Rattle.tesla_state.specs.Walking.{rows_of, left, pairs}
+use Rattle.tesla_walks.specs.Walking.{rows_of, left, pairs}
 use Rattle.tesla_state.proofs.TriedIntervals.{Trying}
 use Rattle.tesla_state.proofs.store.Store.try_interval.Given as goal
 

@@ -2,12 +2,12 @@ use Rattle.std.proofs.Common.{◌≡◌, ◌≤◌, None, Some, sym, subst, arit
 use Rattle.std.specs.Prelude.{All, List, vec_capacity}
 use Rattle.tesla_frame.specs.declared.row.KeyRow.{KeyRow}
 use Rattle.tesla_frame.specs.Frame.{ChainsRise}
-use Rattle.tesla_state.specs.Gathering.{IsHighest, index_at, is_reached}
+use Rattle.tesla_walks.specs.ReachedIntervals.{IsHighest, index_at, is_reached}
 use Rattle.tesla_state.specs.Stored.{holding_at}
-use Rattle.tesla_state.specs.Walking.{rows_of, tries}
-use Rattle.tesla_state.specs.Offered.{IsOfChains}
+use Rattle.tesla_walks.specs.Walking.{rows_of, tries}
+use Rattle.tesla_walks.specs.Offered.{IsOfChains}
 use Rattle.tesla_state.proofs.Gathering.{is_past, sum_filter}
-use Rattle.tesla_state.proofs.ReachedIntervals.{few_chains}
+use Rattle.tesla_state.proofs.UnreachedIntervals.{few_chains}
 use Rattle.tesla_state.proofs.TriedIntervals.{highest_met, lower_too, spanned_releases, spanning_cost, spanning_more, spanning_none, spanning_room}
 use Rattle.tesla_state.proofs.store.Store.try_span.Goals as goal
 

@@ -1,7 +1,7 @@
 use Rattle.std.proofs.Common.{◌≡◌, ◌≤◌, ◌+◌, ◌*◌, map, filter}
 use Rattle.std.specs.Prelude.{vec_capacity}
 use Rattle.tesla_state.specs.Stored.{holding_at}
-use Rattle.tesla_state.specs.Walking.{rows_of, left, pairs}
+use Rattle.tesla_walks.specs.Walking.{rows_of, left, pairs}
 use Rattle.tesla_state.proofs.Gathering.{is_past}
 use Rattle.tesla_state.proofs.TriedIntervals.{Spanning}
 use Rattle.tesla_state.proofs.store.Store.try_span.Given as goal

@@ -1,0 +1,107 @@
+-- A run of send comes to its end where its inputs are taken and nothing fails.
+use Rattle.std.proofs.Common.{◌≡◌, ◌∙◌, ◌⊎◌, inl, inr, ℕ, Bool, Option, Some, None, Result, Ok, Err, List, length, refl, sym, subst}
+use Rattle.tesla_base.specs.declared.names.Key.{Key}
+use Rattle.tesla_commit.specs.Parts.{Parts}
+use Rattle.tesla_commit.specs.declared.refusal.SetupKind.{SetupKind}
+use Rattle.tesla_seeds.specs.declared.refusal.SeedsKind.{SeedsKind}
+use Rattle.tesla_desk.specs.Outside.{Page, Holds, Told}
+use Rattle.tesla_front.specs.Came.{Came, Done, Usage, Refused, Failed}
+use Rattle.tesla_front.specs.Command.{Performs}
+use Rattle.tesla_front.specs.Files.{HoldsWhere, IsRefusedIn}
+use Rattle.tesla_front.specs.Openings.{File, file_told}
+use Rattle.tesla_front.specs.Run.{NothingFailed}
+use Rattle.tesla_front.specs.Seeds.{IsNoSeeds, IsNoSeedsText, IsSeedsIn, IsSeedsText}
+use Rattle.tesla_front.specs.Setup.{IsNoSetupText, IsSetupIn, IsSetupText}
+use Rattle.tesla_front.specs.declared.fault.Fault.{Fault}
+use Rattle.tesla_front.specs.declared.fault.Fault.TheVariants as faults
+use Rattle.tesla_convert.specs.Meaning.{Converts}
+use Rattle.tesla_sender.specs.Made.{Stream}
+use Rattle.tesla_run_send.specs.Arguments.{SendArguments}
+use Rattle.tesla_run_send.specs.Script.{Sent, sending}
+use Rattle.tesla_run_send.specs.Send.{HasNoSender, IsNoSender, SendsWith, StopsAtSeeds, comes_by, frames_line, meaning, send, wrong_line}
+use Rattle.tesla_run_send.specs.declared.script_kind.ScriptKind.{ScriptKind}
+use Rattle.tesla_front.proofs.Commands.{memory_alone}
+
+-- it came to this number of frames, or to a fault
+abbrev Ends : Came → ℕ → Type 0
+Ends came count = (came ≡ Done (frames_line count)) ⊎ ((fault : Fault) × (came ≡ Failed fault))
+
+-- a text that isn't refused is refused only where something went wrong outside
+refused_ends : (Why : List ℕ → Came → Type 0) (page : Page) (came : Came) (text : List ℕ) (failed : Bool) → page ≡ Holds text failed → ((status : ℕ) (line : List ℕ) → Why text (Refused status line) → ⊥) → IsRefusedIn page Why came → (fault : Fault) × (came ≡ Failed fault)
+refused_ends Why page (Failed fault) text failed is never why = (fault, refl)
+refused_ends Why page (Refused status line) text failed is never why = absurd (never status line (subst (λ (p : Page). HoldsWhere p (λ t. Why t (Refused status line))) is why))
+refused_ends Why page (Done lines) text failed is never why = absurd why
+refused_ends Why page Usage text failed is never why = absurd why
+
+setup_never : (text : List ℕ) (setup : Parts) (status : ℕ) (line : List ℕ) → IsSetupText text setup → IsNoSetupText text (Refused status line) → ⊥
+setup_never text setup status line found (inl why) = let no : ◌≡◌ {A = Result Parts (ℕ × SetupKind)} (Ok setup) (Err why.0) = sym found ∙ why.1 in cc
+setup_never text setup status line found (inr memory) = cc
+
+seeds_never : (count : ℕ) (text : List ℕ) (seeds : List Key) (status : ℕ) (line : List ℕ) → IsSeedsText count text seeds → IsNoSeedsText count text (Refused status line) → ⊥
+seeds_never count text seeds status line found (inl why) = let no : ◌≡◌ {A = Result (List Key) (ℕ × SeedsKind)} (Ok seeds) (Err why.0) = sym found ∙ why.1 in cc
+seeds_never count text seeds status line found (inr memory) = cc
+
+-- the setup is the one that was told
+one_setup : (page : Page) (text : List ℕ) (failed : Bool) (setup other : Parts) → page ≡ Holds text failed → IsSetupText text setup → IsSetupIn page other → other ≡ setup
+one_setup page text failed setup other is found in_page =
+    let held : IsSetupText text other = subst (λ (p : Page). IsSetupIn p other) is in_page in
+    let both : ◌≡◌ {A = Result Parts (ℕ × SetupKind)} (Ok other) (Ok setup) = sym held ∙ found in cc
+
+-- the seeds are those that were told
+one_seeds : (count : ℕ) (page : Page) (text : List ℕ) (failed : Bool) (seeds other : List Key) → page ≡ Holds text failed → IsSeedsText count text seeds → IsSeedsIn count page other → other ≡ seeds
+one_seeds count page text failed seeds other is found in_page =
+    let held : IsSeedsText count text other = subst (λ (p : Page). IsSeedsIn count p other) is in_page in
+    let both : ◌≡◌ {A = Result (List Key) (ℕ × SeedsKind)} (Ok other) (Ok seeds) = sym held ∙ found in cc
+
+-- where no record is refused, the end is the number of the frames
+all_sent : (refused : Option (ℕ × ScriptKind)) (sent : List Sent) → refused ≡ None → comes_by refused sent ≡ Done (frames_line (length sent))
+all_sent None sent e = refl
+all_sent (Some refused) sent e = absurd cc
+
+-- a script without a refused record comes to that end, or to a fault
+script_ends : (stream : Stream) (script script_after out out_after : File) (came : Came) (bytes : List ℕ) (failed : Bool) → script.page ≡ Holds bytes failed → (sending stream bytes).refused ≡ None → Converts (meaning stream) script.page script_after.left out.page out_after.page came → Ends came (length (sending stream bytes).sent)
+script_ends stream script script_after out out_after (Done lines) bytes failed page whole converts = inl (converts.end bytes failed page ∙ all_sent (sending stream bytes).refused (sending stream bytes).sent whole)
+script_ends stream script script_after out out_after (Refused status line) bytes failed page whole converts =
+    absurd (let no : Refused status line ≡ Done (frames_line (length (sending stream bytes).sent)) = converts.end bytes failed page ∙ all_sent (sending stream bytes).refused (sending stream bytes).sent whole in cc)
+script_ends stream script script_after out out_after Usage bytes failed page whole converts = absurd converts
+script_ends stream script script_after out out_after (Failed fault) bytes failed page whole converts = inr (fault, refl)
+
+-- a sender is opened with seeds that are right, or there is a fault
+sender_ends : (stream : Stream) (came : Came) → wrong_line stream ≡ None → IsNoSender stream came → (fault : Fault) × (came ≡ Failed fault)
+sender_ends stream came right (inl wrong) = absurd (let no : ◌≡◌ {A = Option ℕ} None (Some wrong.0) = sym right ∙ wrong.1 in cc)
+sender_ends stream came right (inr memory) = (faults.NoMemory, memory)
+
+-- why it stops at the seeds is a fault
+seeds_end : (setup : Parts) (page : Page) (secret : List ℕ) (failed : Bool) (seeds : List Key) (came : Came) → page ≡ Holds secret failed → IsSeedsText (length setup.rows) secret seeds → wrong_line (record { setup = setup; seeds = seeds }) ≡ None → IsNoSeeds (length setup.rows) page came ⊎ HasNoSender setup page came → (fault : Fault) × (came ≡ Failed fault)
+seeds_end setup page secret failed seeds came told found right (inl none) = refused_ends (IsNoSeedsText (length setup.rows)) page came secret failed told (λ status line why. seeds_never (length setup.rows) secret seeds status line found why) none
+seeds_end setup page secret failed seeds came told found right (inr unopened) =
+    let same : unopened.seeds ≡ seeds = one_seeds (length setup.rows) page secret failed seeds unopened.seeds told found unopened.are.found in
+    sender_ends (record { setup = setup; seeds = seeds }) came right (subst (λ (s : List Key). IsNoSender (record { setup = setup; seeds = s }) came) same unopened.why)
+
+-- under the setup
+under_ends : (setup : Parts) (secret_file script out script_after out_after : File) (opened : ℕ) (came : Came) (secret bytes : List ℕ) (other last : Bool) (seeds : List Key) → secret_file.page ≡ Holds secret other → IsSeedsText (length setup.rows) secret seeds → wrong_line (record { setup = setup; seeds = seeds }) ≡ None → script.page ≡ Holds bytes last → (sending (record { setup = setup; seeds = seeds }) bytes).refused ≡ None
+    → StopsAtSeeds setup secret_file opened came ⊎ SendsWith setup secret_file script out script_after out_after came → Ends came (length (sending (record { setup = setup; seeds = seeds }) bytes).sent)
+under_ends setup secret_file script out script_after out_after opened came secret bytes other last seeds told found right page whole (inl stops) = inr (seeds_end setup secret_file.page secret other seeds came told found right stops.why)
+under_ends setup secret_file script out script_after out_after opened came secret bytes other last seeds told found right page whole (inr sends) =
+    let same : sends.seeds ≡ seeds = one_seeds (length setup.rows) secret_file.page secret other seeds sends.seeds told found sends.are.found in
+    script_ends (record { setup = setup; seeds = seeds }) script script_after out out_after came bytes last page whole
+    (subst (λ (s : List Key). Converts (meaning (record { setup = setup; seeds = s })) script.page script_after.left out.page out_after.page came) same sends.sends.converts)
+
+send_ends : (arguments : SendArguments) (old new : Told) (came : Came) (text secret bytes : List ℕ) (failed other last : Bool) (setup : Parts) (seeds : List Key) → old.page arguments.setup ≡ Holds text failed → IsSetupText text setup → old.page arguments.secret ≡ Holds secret other → IsSeedsText (length setup.rows) secret seeds → wrong_line (record { setup = setup; seeds = seeds }) ≡ None → old.page arguments.script ≡ Holds bytes last → (sending (record { setup = setup; seeds = seeds }) bytes).refused ≡ None
+    → Performs send arguments old new came → Ends came (length (sending (record { setup = setup; seeds = seeds }) bytes).sent)
+send_ends arguments old new came text secret bytes failed other last setup seeds page found told are right script whole performs = elim performs.does [
+  | inl stops ↦ inr (refused_ends IsNoSetupText (old.page arguments.setup) came text failed page (λ status line why. setup_never text setup status line found why) stops.why)
+  | inr under ↦
+      let same : under.parts ≡ setup = one_setup (old.page arguments.setup) text failed setup under.parts page found under.found in
+      under_ends setup (file_told old arguments.secret) (file_told old arguments.script) (file_told old arguments.out) (file_told new arguments.script) (file_told new arguments.out) performs.opened came secret bytes other last seeds told are right script whole
+      (subst (λ (s : Parts). StopsAtSeeds s (file_told old arguments.secret) performs.opened came ⊎ SendsWith s (file_told old arguments.secret) (file_told old arguments.script) (file_told old arguments.out) (file_told new arguments.script) (file_told new arguments.out) came) same under.does)
+]
+
+-- a run of send comes to the number of frames, or to want of memory
+pub complete : (arguments : SendArguments) (old new : Told) (came : Came) (text secret bytes : List ℕ) (failed other last : Bool) (setup : Parts) (seeds : List Key) → Performs send arguments old new came → old.page arguments.setup ≡ Holds text failed → IsSetupText text setup → old.page arguments.secret ≡ Holds secret other → IsSeedsText (length setup.rows) secret seeds → wrong_line (record { setup = setup; seeds = seeds }) ≡ None → old.page arguments.script ≡ Holds bytes last → (sending (record { setup = setup; seeds = seeds }) bytes).refused ≡ None → NothingFailed old.faults new.faults
+    → (came ≡ Done (frames_line (length (sending (record { setup = setup; seeds = seeds }) bytes).sent))) ⊎ (came ≡ Failed faults.NoMemory)
+complete arguments old new came text secret bytes failed other last setup seeds performs page found told are right script whole none =
+    elim (send_ends arguments old new came text secret bytes failed other last setup seeds page found told are right script whole performs) [
+      | inl done ↦ inl done
+      | inr fault ↦ inr (memory_alone old.faults new.faults came fault.0 performs.counts none fault.1)
+    ]

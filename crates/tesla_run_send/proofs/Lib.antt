@@ -1,0 +1,5 @@
+mod Frames
+mod Scripts
+mod Meanings
+mod Runs
+mod Complete

@@ -1,0 +1,16 @@
+use Rattle.std.proofs.Common.{map, string_bytes}
+use Rattle.tesla_run_send.specs.Arguments.{arguments_of}
+use Rattle.tesla_run_send.specs.Send.{send}
+use Rattle.tesla_front.proofs.Commands.{runs_form, runs_usage}
+use Rattle.tesla_run_send.proofs.Runs.{are_files}
+use Rattle.tesla_run_send.proofs.run.run_send.Goals as goal
+
+pub perform-requires : goal.perform-requires
+perform-requires g c = are_files (arguments_of c.in-Some.arguments) (map string_bytes c.args.words.now) c.in-Some.ensures.found
+
+pub returns-in-Some : goal.returns-in-Some
+returns-in-Some g c =
+    rw c.outcome_of.ensures (runs_form send arguments_of (map string_bytes c.args.words.now) c.arguments_in.result c.in-Some.arguments _ _ _ c.in-Some.is c.arguments_in.ensures.only c.in-Some.ensures.found c.perform.ensures)
+
+pub returns-in-None : goal.returns-in-None
+returns-in-None g c = runs_usage send arguments_of (map string_bytes c.args.words.now) c.arguments_in.result _ c.in-None.is c.arguments_in.ensures.only

@@ -1,0 +1,7 @@
+pub mod Arguments
+pub mod ScriptKind
+pub mod Script
+pub mod Send
+pub mod Rule
+pub mod Steps
+pub mod Usage

@@ -1,0 +1,113 @@
+-- What the command send does.
+use Rattle.std.specs.Prelude.{◌≡◌, ◌⊎◌, ◌+◌, ◌≤◌, ℕ, Option, Some, None, List, [], ◌∷◌, length, codes}
+use Rattle.std.specs.Option.{option_map}
+use Rattle.tesla_base.specs.declared.names.Key.{Key}
+use Rattle.tesla_capture.specs.Records.{outline_of}
+use Rattle.tesla_capture.specs.Script.{script}
+use Rattle.tesla_capture.specs.Taken.{HoldsNoRefusal}
+use Rattle.tesla_commit.specs.Parts.{Parts}
+use Rattle.tesla_convert.specs.Meaning.{Converts, Meaning, StopsAtSetup}
+use Rattle.tesla_desk.specs.Outside.{Page}
+use Rattle.tesla_front.specs.Came.{Came, Done, Refused, Failed}
+use Rattle.tesla_front.specs.Command.{Command}
+use Rattle.tesla_front.specs.Lines.{count_line}
+use Rattle.tesla_front.specs.Openings.{File}
+use Rattle.tesla_front.specs.Refusal.{refused_line}
+use Rattle.tesla_front.specs.Seeds.{IsSeedsIn, IsNoSeeds}
+use Rattle.tesla_front.specs.Setup.{IsSetupIn}
+use Rattle.tesla_front.specs.declared.fault.Fault.TheVariants as faults
+use Rattle.tesla_sender.specs.Made.{Chain, Stream, chains_of}
+use Rattle.tesla_sender.specs.Opening.{first_wrong}
+use Rattle.tesla_run_send.specs.Arguments.{SendArguments, IsSend, files_of_send}
+use Rattle.tesla_run_send.specs.Script.{Sending, Sent, sending, sending_of, sent_text}
+use Rattle.tesla_run_send.specs.ScriptKind.{script_kind_name}
+use Rattle.tesla_run_send.specs.declared.script_kind.ScriptKind.{ScriptKind}
+
+-- ---- the script
+
+-- the line that tells how many frames there are
+abbrev pub frames_line : ℕ → List ℕ
+frames_line count = count_line (codes "frames") count
+
+-- the line that tells the place of a script that is refused, and the kind
+abbrev pub script_line : ℕ → ScriptKind → List ℕ
+script_line place kind = refused_line (codes "script") place (script_kind_name kind)
+
+-- what sending comes to where nothing fails: the number of the frames, or the refused place
+abbrev pub comes_by : Option (ℕ × ScriptKind) → List Sent → Came
+comes_by None sent = Done (frames_line (length sent))
+comes_by (Some refused) sent = Refused 3 (script_line refused.0 refused.1)
+
+-- the first bytes of a script, as far as their whole records go
+abbrev pub sending_so_far : Stream → List ℕ → Sending
+sending_so_far stream read = sending_of stream None (outline_of script read).records 5 []
+
+-- what the sender of a stream makes of a script: the capture of the frames, which where a place is refused are those of the records before it
+abbrev pub meaning : Stream → Meaning
+meaning stream = record {
+  comes = λ bytes. comes_by (sending stream bytes).refused (sending stream bytes).sent;
+  makes = λ bytes. sent_text (sending stream bytes).sent;
+  so_far = λ read. sent_text (sending_so_far stream read).sent;
+  IsUnrefused = λ read. HoldsNoRefusal script read × ((sending_so_far stream read).refused ≡ None);
+}
+
+-- what sending a script comes to, with what is told of both files before and afterwards
+pub record SendsScript (stream : Stream) (script out script_after out_after : File) (came : Came) : Type 0 where
+  pub converts : Converts (meaning stream) script.page script_after.left out.page out_after.page came
+  -- memory is wanting only before the output is opened
+  pub memory : came ≡ Failed faults.NoMemory → out_after.page ≡ out.page
+
+-- ---- the seeds
+
+-- the line of the first seed that doesn't give the key of the setup: that of chain 0 is the second line
+abbrev pub wrong_line : Stream → Option ℕ
+wrong_line stream = option_map (λ (chain : Chain). chain.number + 2) (first_wrong (chains_of stream))
+
+-- what a wrong seed in this line comes to
+abbrev pub seed_refused : ℕ → Came
+seed_refused line = Refused 3 (refused_line (codes "seeds") line (codes "WrongSeed"))
+
+-- why no sender of the stream is opened: a seed is wrong, or there was no memory
+abbrev pub IsNoSender : Stream → Came → Type 0
+IsNoSender stream came = ((line : ℕ) × (wrong_line stream ≡ Some line) × (came ≡ seed_refused line)) ⊎ (came ≡ Failed faults.NoMemory)
+
+-- the seeds of a setup, as they are found
+pub record AreSeeds (setup : Parts) (secret : Page) (seeds : List Key) : Type 0 where
+  pub count : length seeds ≡ length setup.rows
+  pub found : IsSeedsIn (length setup.rows) secret seeds
+
+-- with the seeds that are found no sender is opened
+pub record HasNoSender (setup : Parts) (secret : Page) (came : Came) : Type 0 where
+  pub seeds : List Key
+  pub are : AreSeeds setup secret seeds
+  pub why : IsNoSender (record { setup = setup; seeds = seeds }) came
+
+-- ---- the command
+
+-- under the setup there are no seeds, or no sender is opened with them, and no file behind them was asked for
+pub record StopsAtSeeds (setup : Parts) (secret : File) (opened : ℕ) (came : Came) : Type 0 where
+  pub few : opened ≤ 2
+  pub why : IsNoSeeds (length setup.rows) secret.page came ⊎ HasNoSender setup secret.page came
+
+-- with the seeds, which are right, the script was sent
+pub record SendsWith (setup : Parts) (secret script out script_after out_after : File) (came : Came) : Type 0 where
+  pub seeds : List Key
+  pub are : AreSeeds setup secret.page seeds
+  pub right : wrong_line (record { setup = setup; seeds = seeds }) ≡ None
+  pub sends : SendsScript (record { setup = setup; seeds = seeds }) script out script_after out_after came
+
+-- a setup was found, and what follows was done under it
+pub record SendsUnder (setup secret script out script_after out_after : File) (opened : ℕ) (came : Came) : Type 0 where
+  pub parts : Parts
+  pub found : IsSetupIn setup.page parts
+  pub does : StopsAtSeeds parts secret opened came ⊎ SendsWith parts secret script out script_after out_after came
+
+-- a run of the command, of which so many files were asked to be opened, with what is told of SETUP, SECRET, SCRIPT and CAPTURE before and after it, and what it came to
+abbrev pub DoesSend : SendArguments → ℕ → List File → List File → Came → Type 0
+DoesSend arguments opened (setup ∷ secret ∷ script ∷ out ∷ []) (setup_after ∷ secret_after ∷ script_after ∷ out_after ∷ []) came =
+    StopsAtSetup setup opened came ⊎ SendsUnder setup secret script out script_after out_after opened came
+DoesSend arguments opened before after came = ⊥
+
+-- the command
+abbrev pub send : Command
+send = record { Arguments = SendArguments; IsForm = IsSend; files = files_of_send; Does = DoesSend }

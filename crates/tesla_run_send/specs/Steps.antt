@@ -1,0 +1,85 @@
+-- What the inner steps of the command send come to.
+use Rattle.std.specs.Prelude.{◌≡◌, ◌⊎◌, ◌+◌, ℕ, suc, Option, None, Result, Ok, Err, List, [], ◌∷◌, ◌++◌}
+use Rattle.tesla_capture.specs.Gathering.{Gathers}
+use Rattle.tesla_capture.specs.Script.{Record}
+use Rattle.tesla_commit.specs.Parts.{Parts}
+use Rattle.tesla_convert.specs.declared.conversion.Ending.{Ending}
+use Rattle.tesla_convert.specs.declared.conversion.Ending.TheVariants.{End, Refused}
+use Rattle.tesla_convert.specs.declared.conversion.Stopped.{Stopped}
+use Rattle.tesla_convert.specs.declared.conversion.Stopped.TheVariants as stopped
+use Rattle.tesla_convert.specs.declared.converter.Converted.{Converted}
+use Rattle.tesla_convert.specs.declared.converter.Converted.TheVariants as converted
+use Rattle.tesla_desk.specs.Faults.{Faults, HasCausesBeside}
+use Rattle.tesla_desk.specs.Outside.{Told, OfSource, OfSink, AppendsPrefix}
+use Rattle.tesla_frame.specs.Frame.{frame_text}
+use Rattle.tesla_front.specs.Came as cames
+use Rattle.tesla_front.specs.Came.{Came, Done, Failed}
+use Rattle.tesla_front.specs.Openings.{AnyFailed, Opens, file_told}
+use Rattle.tesla_front.specs.declared.fault.Fault.TheVariants as faults
+use Rattle.tesla_sender.specs.Made.{Call, Stream}
+use Rattle.tesla_sender.specs.Stands.{State, Stands}
+use Rattle.tesla_run_send.specs.Arguments.{SendArguments}
+use Rattle.tesla_run_send.specs.Rule.{frame_records}
+use Rattle.tesla_run_send.specs.Script.{Answer, Makes, MakesNone, Refuses, call_of, reading_of}
+use Rattle.tesla_run_send.specs.Send.{SendsScript, SendsWith, StopsAtSeeds, IsNoSender, frames_line, script_line, wrong_line}
+use Rattle.tesla_run_send.specs.declared.script_kind.ScriptKind.{ScriptKind}
+
+-- ---- one record
+
+-- a piece was put behind what was held, and counted; or a write failed, and a prefix of both was written
+abbrev pub PutsFrame : Converted ScriptKind → List ℕ → ℕ → ℕ → Option (List ℕ) → Option (List ℕ) → List ℕ → List ℕ → Type 0
+PutsFrame converted.Whole piece count counted before now held rest = (counted ≡ count + 1) × Gathers before now rest (held ++ piece)
+PutsFrame (converted.Refused kind) piece count counted before now held rest = ⊥
+PutsFrame converted.WriteFault piece count counted before now held rest = AppendsPrefix before now (held ++ piece)
+
+-- nothing was made: what was counted, written and held is as before
+pub record Unmoved (count counted : ℕ) (before now : Option (List ℕ)) (held rest : List ℕ) : Type 0 where
+  pub count_is : counted ≡ count
+  pub written : now ≡ before
+  pub held_is : rest ≡ held
+
+-- the answer to a record was carried out by a sender that stands for the log: the frame that it makes was put, and the sender stands for one call more; nothing was made; or it is refused
+abbrev pub CarriesOut : Converted ScriptKind → Answer → Record → List Call → State → ℕ → ℕ → Option (List ℕ) → Option (List ℕ) → List ℕ → List ℕ → Type 0
+CarriesOut converted.Whole (Makes frame) first log sender count counted before now held rest =
+    Stands sender (log ++ call_of first ∷ []) × PutsFrame converted.Whole (frame_records (reading_of first) (frame_text frame)) count counted before now held rest
+CarriesOut converted.Whole MakesNone first log sender count counted before now held rest = Stands sender log × Unmoved count counted before now held rest
+CarriesOut (converted.Refused kind) (Refuses other) first log sender count counted before now held rest = (kind ≡ other) × Unmoved count counted before now held rest
+CarriesOut converted.WriteFault (Makes frame) first log sender count counted before now held rest = PutsFrame converted.WriteFault (frame_records (reading_of first) (frame_text frame)) count counted before now held rest
+CarriesOut _ _ first log sender count counted before now held rest = ⊥
+
+-- ---- all records
+
+-- what sending came to, told how the records ended, and the count of frames
+abbrev pub came_with : Result (Ending ScriptKind) Stopped → ℕ → Came
+came_with (Ok End) count = Done (frames_line count)
+came_with (Ok (Refused place kind)) count = cames.Refused 3 (script_line place kind)
+came_with (Err stopped.Read) count = Failed faults.Read
+came_with (Err stopped.Write) count = Failed faults.Write
+
+-- ---- the files
+
+-- each failure raised its count, and no other count rose; only behind a failed read the output may have failed too
+abbrev pub Counts : List ℕ → Told → Faults → Came → Type 0
+Counts out new before came =
+    HasCausesBeside ((came ≡ Failed faults.Read) × AnyFailed (OfSink out ∷ []) new) before new.faults (came ≡ Failed faults.Read) (came ≡ Failed faults.Write) (came ≡ Failed faults.Open)
+
+-- a script was sent, after it was opened and then the output
+pub record SendsFiles (stream : Stream) (name out : List ℕ) (old new : Told) (came : Came) : Type 0 where
+  pub opened : ℕ
+  pub opens : Opens (OfSource name ∷ OfSink out ∷ []) opened old new
+  pub sends : SendsScript stream (file_told old name) (file_told old out) (file_told new name) (file_told new out) came
+  pub counts : Counts out new old.faults came
+
+-- with seeds that were found no sender was opened, and no file was asked for; or they are right, and the script was sent
+pub record SendsSeeded (stream : Stream) (name out : List ℕ) (old new : Told) (came : Came) : Type 0 where
+  pub opened : ℕ
+  pub opens : Opens (OfSource name ∷ OfSink out ∷ []) opened old new
+  pub does : ((opened ≡ 0) × IsNoSender stream came) ⊎ ((wrong_line stream ≡ None) × SendsScript stream (file_told old name) (file_told old out) (file_told new name) (file_told new out) came)
+  pub counts : Counts out new old.faults came
+
+-- under a setup that was found and was opened before
+pub record SendsSetup (arguments : SendArguments) (setup : Parts) (old new : Told) (came : Came) : Type 0 where
+  pub opened : ℕ
+  pub opens : Opens (OfSource arguments.secret ∷ OfSource arguments.script ∷ OfSink arguments.out ∷ []) opened old new
+  pub does : StopsAtSeeds setup (file_told old arguments.secret) (suc opened) came ⊎ SendsWith setup (file_told old arguments.secret) (file_told old arguments.script) (file_told old arguments.out) (file_told new arguments.script) (file_told new arguments.out) came
+  pub counts : Counts arguments.out new old.faults came

@@ -1,0 +1,17 @@
+//! The command `send`: the records of a script become the frames of a stream, in a capture.
+#![tactic(auto)]
+
+mod arguments;
+mod converter;
+mod forms;
+pub mod laws;
+mod run;
+mod script_kind;
+mod words;
+
+pub use forms::SEND;
+pub use run::run_send;
+pub use script_kind::ScriptKind;
+
+#[cfg(test)]
+mod tests;

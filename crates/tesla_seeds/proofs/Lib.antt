@@ -1,0 +1,4 @@
+pub mod Judging
+pub mod Spelled
+pub mod Texts
+pub mod Stops

@@ -1,0 +1,15 @@
+//! The seeds of a stream's key chains, and their text.
+#![tactic(auto)]
+
+mod laws;
+mod reading;
+mod refusal;
+mod seeds;
+
+pub use laws::seed_texts;
+pub use reading::read_seeds;
+pub use refusal::{SeedsKind, SeedsRefusal};
+pub use seeds::Seeds;
+
+#[cfg(test)]
+mod tests;

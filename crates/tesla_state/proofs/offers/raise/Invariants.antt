@@ -1,8 +1,0 @@
-use Rattle.std.proofs.Common.{◌≡◌, take}
-use Rattle.tesla_state.specs.Steps.{tips_after}
-use Rattle.tesla_state.specs.Walking.{rows_of}
-use Rattle.tesla_state.proofs.offers.raise.Given as goal
-
--- the keys so far are taken
-abbrev pub invariant-loop-walking : goal.invariant-loop-walking
-invariant-loop-walking l = l.tips ≡ tips_after l.initial.tips (take l.walking-index (rows_of l.walks))

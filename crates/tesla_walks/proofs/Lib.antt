@@ -1,0 +1,10 @@
+pub mod Reached
+pub mod ReachedIntervals
+pub mod Tried
+pub mod Offering
+pub mod NewerKeys
+pub mod Raising
+pub mod Sorting
+pub mod Spanning
+pub mod Beginning
+pub mod FirstTips
