@@ -1,34 +1,38 @@
--- The commands: the word that names each, and what it is.
-use Rattle.std.specs.Prelude.{ℕ, Option, Some, None, if◌then◌else◌, List, [], ◌∷◌, codes}
+-- The commands: the word that names each, and how they are told.
+use Rattle.std.specs.Prelude.{ℕ, Bool, true, false, List, [], ◌∷◌, ◌++◌, codes, flat_map}
 use Rattle.std.specs.Str.{bytes_eq}
 use Rattle.tesla_front.specs.Command.{Command, no_command}
-use Rattle.tesla_cli.specs.declared.command.Command.{Command as Name}
-use Rattle.tesla_cli.specs.declared.command.Command.TheVariants.{Replay, Chain, Send}
+use Rattle.tesla_front.specs.Usage.{usage_line}
 use Rattle.tesla_run_chain.specs.Chain.{chain}
+use Rattle.tesla_run_chain.specs.Usage as chains
 use Rattle.tesla_run_replay.specs.Replay.{replay}
+use Rattle.tesla_run_replay.specs.Usage as replays
 use Rattle.tesla_run_send.specs.Send.{send}
+use Rattle.tesla_run_send.specs.Usage as sends
+
+-- the command where the word is this one, and else another
+abbrev pub where_named : Bool → Command → Command → Command
+where_named true command other = command
+where_named false command other = other
 
 -- the command that a word names
-abbrev pub name_of : List ℕ → Option Name
-name_of word =
-    if bytes_eq word (codes "replay") then Some Replay
-    else if bytes_eq word (codes "chain") then Some Chain
-    else if bytes_eq word (codes "chain2") then Some Chain
-    else if bytes_eq word (codes "send") then Some Send
-    else None
+abbrev pub command_named : List ℕ → Command
+command_named word =
+    where_named (bytes_eq word (codes "replay")) replay (
+    where_named (bytes_eq word (codes "chain")) chain (
+    where_named (bytes_eq word (codes "chain2")) chain (
+    where_named (bytes_eq word (codes "send")) send
+    no_command)))
 
--- the command that the first of these words names
-abbrev pub name_in : List (List ℕ) → Option Name
-name_in [] = None
-name_in (word ∷ words) = name_of word
-
--- what each command is
-abbrev pub command_named : Option Name → Command
-command_named None = no_command
-command_named (Some Replay) = replay
-command_named (Some Chain) = chain
-command_named (Some Send) = send
-
--- the command of these words
+-- the command of these words: the first of them names it
 abbrev pub command_of : List (List ℕ) → Command
-command_of words = command_named (name_in words)
+command_of [] = no_command
+command_of (word ∷ words) = command_named word
+
+-- the words of each form, in the order in which they are told
+abbrev pub forms : List (List ℕ)
+forms = replays.usages ++ chains.usages ++ sends.usage ∷ []
+
+-- the usage lines of all
+abbrev pub usage : List ℕ
+usage = flat_map usage_line forms

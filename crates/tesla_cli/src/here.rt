@@ -2,30 +2,13 @@
 
 ghost use Rattle.std.specs.Prelude.{◌≡◌, map, string_bytes};
 ghost use Rattle.tesla_front.specs.Came.{Came, outcome_came, status_of};
-ghost use Rattle.tesla_front.specs.Command.{RunsAs};
 ghost use Rattle.tesla_front.specs.Run.{Runs};
-ghost use Rattle.tesla_cli.specs.Commands.{command_of};
-ghost use Rattle.tesla_cli.specs.Usage.{usage};
+ghost use Rattle.tesla_cli.specs.Commands.{command_of, usage};
 
-use crate::{Command, FORMS, command_in};
+use crate::{FORMS, run_words};
 use std::alloc::Global;
 use tesla_desk::{CONSOLE, Desk};
 use tesla_front::{Fault, Outcome, tell};
-use tesla_run_chain::run_chain;
-use tesla_run_replay::run_replay;
-use tesla_run_send::run_send;
-
-// Runs the words as those of the command that the first of them names.
-fn run_words<D: Desk>(alloc: Global, words: &[String], desk: &mut D) -> Outcome
-    ensures { RunsAs (command_of (map string_bytes words.now)) (map string_bytes words.now) (D.told desk.old) (D.told desk.new) (outcome_came result) }
-{
-    match command_in(words) {
-        Some(Command::Replay) => run_replay(alloc, words, desk),
-        Some(Command::Chain) => run_chain(alloc, words, desk),
-        Some(Command::Send) => run_send(alloc, words, desk),
-        None => Outcome::Usage,
-    }
-}
 
 // Runs the words with the console opened before, and told on it what they came to.
 fn run<D: Desk>(alloc: Global, words: &[String], desk: &mut D) -> Outcome

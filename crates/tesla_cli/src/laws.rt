@@ -1,15 +1,20 @@
 //! Laws about the commands, as contracts of functions that do nothing.
 
-ghost use Rattle.std.specs.Prelude.{◌≡◌, ℕ, List, Some};
-ghost use Rattle.tesla_cli.specs.Commands.{name_in};
-ghost use Rattle.tesla_cli.specs.declared.command.Command.TheVariants.{Replay, Chain, Send};
+ghost use Rattle.std.specs.Prelude.{ℕ, List};
+ghost use Rattle.tesla_desk.specs.Outside.{Told};
+ghost use Rattle.tesla_front.specs.Came.{Came};
+ghost use Rattle.tesla_front.specs.Command.{Performs, RunsAs};
+ghost use Rattle.tesla_cli.specs.Commands.{command_of};
 ghost use Rattle.tesla_run_chain.specs.Arguments.{ChainArguments, IsChain};
+ghost use Rattle.tesla_run_chain.specs.Chain.{chain};
 ghost use Rattle.tesla_run_replay.specs.Arguments.{IsReplay, ReplayArguments};
+ghost use Rattle.tesla_run_replay.specs.Replay.{replay};
 ghost use Rattle.tesla_run_send.specs.Arguments.{IsSend, SendArguments};
+ghost use Rattle.tesla_run_send.specs.Send.{send};
 
 /// Words that are a form of some command are run as that command: the first word of each form names it.
 pub fn forms_are_named()
-    ensures replays { (arguments : ReplayArguments) (words : List (List ℕ)) → IsReplay arguments words → name_in words ≡ Some Replay }
-    ensures chains { (arguments : ChainArguments) (words : List (List ℕ)) → IsChain arguments words → name_in words ≡ Some Chain }
-    ensures sends { (arguments : SendArguments) (words : List (List ℕ)) → IsSend arguments words → name_in words ≡ Some Send }
+    ensures replays { (arguments : ReplayArguments) (words : List (List ℕ)) (old new : Told) (came : Came) → IsReplay arguments words → RunsAs (command_of words) words old new came → Performs replay arguments old new came }
+    ensures chains { (arguments : ChainArguments) (words : List (List ℕ)) (old new : Told) (came : Came) → IsChain arguments words → RunsAs (command_of words) words old new came → Performs chain arguments old new came }
+    ensures sends { (arguments : SendArguments) (words : List (List ℕ)) (old new : Told) (came : Came) → IsSend arguments words → RunsAs (command_of words) words old new came → Performs send arguments old new came }
 {}

@@ -4,8 +4,7 @@ use Rattle.tesla_desk.specs.Outside.{ClosesSink}
 use Rattle.tesla_desk.proofs.Counts.{counts_stay}
 use Rattle.tesla_front.specs.Came.{outcome_came}
 use Rattle.tesla_front.proofs.Consoles.{Tolds, console_opened, console_unopened}
-use Rattle.tesla_cli.specs.Commands.{command_of}
-use Rattle.tesla_cli.specs.Usage.{usage}
+use Rattle.tesla_cli.specs.Commands.{command_of, usage}
 use Rattle.tesla_cli.proofs.here.run.Goals as goal
 
 pub returns-in-Ok : goal.returns-in-Ok
