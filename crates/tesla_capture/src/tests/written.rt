@@ -28,9 +28,9 @@ const RECORDS: [u8; 38] = [
 #[test]
 fn laws_are_called(_rt: HostRuntime) {
     laws::captures();
-    laws::outlines();
+    laws::file_outlines::<CaptureFormat>();
     laws::scripts();
-    laws::script_outlines();
+    laws::file_outlines::<ScriptFormat>();
     laws::taken::<CaptureFormat>();
     laws::taken::<ScriptFormat>();
 }
