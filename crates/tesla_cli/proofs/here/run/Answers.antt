@@ -1,4 +1,4 @@
-use Rattle.std.proofs.Common.{◌∙◌, inr, sym, subst, map, List, ℕ}
+use Rattle.std.proofs.Common.{◌∙◌, inr, subst, map, List, ℕ}
 use Rattle.std.specs.Prelude.{string_bytes}
 use Rattle.tesla_desk.specs.Outside.{ClosesSink}
 use Rattle.tesla_desk.proofs.Counts.{counts_stay}
