@@ -2,7 +2,6 @@
 
 use super::*;
 use std::alloc::Global;
-use std::process::Abort;
 use std::test::Fail;
 use tesla_desk::{CONSOLE, MemoryDesk};
 use tesla_examples::SETUP;
@@ -70,21 +69,6 @@ fn told_of(alloc: Global, line: &str, desk: &mut MemoryDesk) -> Result<String, F
     Ok(format!(in alloc; "{status} {console}")?)
 }
 
-// Runs a line, which has to come to this and leave this under the name.
-fn run(
-    rt: &impl Abort,
-    alloc: Global,
-    desk: &mut MemoryDesk,
-    line: &str,
-    told: &str,
-    (name, held): (&str, &[u8]),
-) -> Result<(), Fail> {
-    let came = told_of(alloc, line, desk)?;
-    assert_eq!(rt; came.as_str(), told);
-    assert_eq!(rt; desk.page(name).unwrap_or(b"no page"), held);
-    Ok(())
-}
-
 // Runs `send`, so that the desk has the capture of the script's stream.
 fn desk_with_capture(alloc: Global) -> Result<MemoryDesk, Fail> {
     let mut desk = desk_with(alloc, SCRIPT)?;
@@ -98,16 +82,13 @@ fn desk_with_capture(alloc: Global) -> Result<MemoryDesk, Fail> {
 #[test]
 fn a_stream_from_nothing(rt: HostRuntime) -> Result<(), Fail> {
     let mut desk = desk_with_capture(rt.alloc())?;
-    let made = ("made", SETUP.as_bytes());
-    run(&rt, rt.alloc(), &mut desk, CHAIN, "0 chains 2\n", made)?;
-    run(
-        &rt,
-        rt.alloc(),
-        &mut desk,
-        REPLAY,
-        REPORT,
-        ("out", RELEASED),
-    )
+    let told = told_of(rt.alloc(), CHAIN, &mut desk)?;
+    assert_eq!(rt; told.as_str(), "0 chains 2\n");
+    assert_eq!(rt; desk.page("made").unwrap_or(b""), SETUP.as_bytes());
+    let told = told_of(rt.alloc(), REPLAY, &mut desk)?;
+    assert_eq!(rt; told.as_str(), REPORT);
+    assert_eq!(rt; desk.page("out").unwrap_or(b""), RELEASED);
+    Ok(())
 }
 
 #[test]
@@ -130,52 +111,118 @@ fn words_of_no_form(rt: HostRuntime) -> Result<(), Fail> {
     Ok(())
 }
 
-#[test]
-fn a_read_fault_with_a_full_output_in_replay(rt: HostRuntime) -> Result<(), Fail> {
-    let mut desk = desk_with_capture(rt.alloc())?;
+/// What is set of a desk before a run.
+#[derive(Clone, Copy)]
+enum Setting {
+    /// The name has this page.
+    Page(&'static str, &'static [u8]),
+    /// Sinks under the name take so many bytes.
+    Room(&'static str, usize),
+    /// Sources and sinks under the name move at most so many bytes a call.
+    Piece(&'static str, usize),
+    /// The call of this number fails of sources and sinks under the name.
+    FailedCall(&'static str, u64),
+}
+
+/// A run over a desk with the capture of the script's stream, and what it has to come to.
+#[derive(Clone, Copy)]
+struct Case {
+    name: &'static str,
+    line: &'static str,
+    settings: &'static [Setting],
+    /// The status, a space and the console.
+    told: &'static str,
+    /// The output's name, and what it holds.
+    out: (&'static str, &'static [u8]),
+}
+
+/// The first message's record.
+const FIRST: &[u8] = b"\x00\x00\x00\x00\x00\x00\x00\x00\x00\x00\x00\x01\x00\x00\x00\x00\x02hi";
+
+const FAULTS: [Case; 5] = [
     // The first read brings both messages, and the take behind each.
-    desk.set_piece("capture", 179)?;
-    desk.fail_call("capture", 1)?;
-    desk.set_room("out", 12)?;
-    let out = ("out", RELEASED.split_at(12).0);
-    run(&rt, rt.alloc(), &mut desk, REPLAY, "4 read fault\n", out)
-}
-
-#[test]
-fn a_read_fault_with_a_full_output_in_send(rt: HostRuntime) -> Result<(), Fail> {
-    let mut desk = desk_with(rt.alloc(), SCRIPT)?;
+    Case {
+        name: "a read fault with a full output in replay",
+        line: REPLAY,
+        settings: &[
+            Setting::Piece("capture", 179),
+            Setting::FailedCall("capture", 1),
+            Setting::Room("out", 12),
+        ],
+        told: "4 read fault\n",
+        out: ("out", b"\x00\x00\x00\x00\x00\x00\x00\x00\x00\x00\x00\x01"),
+    },
+    Case {
+        name: "gathered records are written behind a read fault",
+        line: REPLAY,
+        settings: &[
+            Setting::Piece("capture", 179),
+            Setting::FailedCall("capture", 1),
+        ],
+        told: "4 read fault\n",
+        out: ("out", FIRST),
+    },
     // The first read brings one message.
-    desk.set_piece("script", 18)?;
-    desk.fail_call("script", 1)?;
-    desk.set_room("capture", 7)?;
-    let out = ("capture", b"TCAP\x01\x01\x00".as_slice());
-    run(&rt, rt.alloc(), &mut desk, SEND, "4 read fault\n", out)
+    Case {
+        name: "a read fault with a full output in send",
+        line: SEND,
+        settings: &[
+            Setting::Piece("script", 18),
+            Setting::FailedCall("script", 1),
+            Setting::Room("capture", 7),
+        ],
+        told: "4 read fault\n",
+        out: ("capture", b"TCAP\x01\x01\x00"),
+    },
+    Case {
+        name: "a fault behind a refused place in replay",
+        line: REPLAY,
+        settings: &[
+            Setting::Page("capture", b"TCAP\x01\x02\x03\x02\x02"),
+            Setting::Piece("capture", 7),
+            Setting::FailedCall("capture", 1),
+        ],
+        told: "3 refused capture 6 BadKind\n",
+        out: ("out", b""),
+    },
+    Case {
+        name: "a report that is lost",
+        line: REPLAY,
+        settings: &[Setting::Room("-", 3)],
+        told: "5 arr",
+        out: ("out", RELEASED),
+    },
+];
+
+// Sets a desk so.
+fn set(desk: &mut MemoryDesk, settings: &[Setting]) -> Result<(), Fail> {
+    for setting in settings {
+        match *setting {
+            Setting::Page(name, bytes) => desk.put_page(name, bytes)?,
+            Setting::Room(name, room) => desk.set_room(name, room)?,
+            Setting::Piece(name, most) => desk.set_piece(name, most.max(1))?,
+            Setting::FailedCall(name, call) => desk.fail_call(name, call)?,
+        }
+    }
+    Ok(())
 }
 
 #[test]
-fn gathered_records_are_written_behind_a_read_fault(rt: HostRuntime) -> Result<(), Fail> {
-    let mut desk = desk_with_capture(rt.alloc())?;
-    desk.set_piece("capture", 179)?;
-    desk.fail_call("capture", 1)?;
-    let out = ("out", RELEASED.split_at(19).0);
-    run(&rt, rt.alloc(), &mut desk, REPLAY, "4 read fault\n", out)
-}
-
-#[test]
-fn a_fault_behind_a_refused_place_in_replay(rt: HostRuntime) -> Result<(), Fail> {
-    let mut desk = desk_with(rt.alloc(), SCRIPT)?;
-    desk.put_page("capture", b"TCAP\x01\x02\x03\x02\x02")?;
-    desk.set_piece("capture", 7)?;
-    desk.fail_call("capture", 1)?;
-    let out = ("out", b"".as_slice());
-    run(
-        &rt,
-        rt.alloc(),
-        &mut desk,
-        REPLAY,
-        "3 refused capture 6 BadKind\n",
-        out,
-    )
+fn the_first_fault_is_told(rt: HostRuntime) -> Result<(), Fail> {
+    for case in FAULTS {
+        let mut desk = desk_with_capture(rt.alloc())?;
+        set(&mut desk, case.settings)?;
+        let told = told_of(rt.alloc(), case.line, &mut desk)?;
+        assert_eq!(rt; told.as_str(), case.told, "{}", case.name);
+        let (name, held) = case.out;
+        assert_eq!(rt;
+            desk.page(name).unwrap_or(b"no page"),
+            held,
+            "{}",
+            case.name
+        );
+    }
+    Ok(())
 }
 
 #[test]
@@ -188,20 +235,6 @@ fn a_fault_behind_a_refused_place_in_send(rt: HostRuntime) -> Result<(), Fail> {
     // The head, the frame of the first message, and a take.
     assert_eq!(rt; desk.page("capture").unwrap_or(b"").len(), 108);
     Ok(())
-}
-
-#[test]
-fn a_report_that_is_lost(rt: HostRuntime) -> Result<(), Fail> {
-    let mut desk = desk_with_capture(rt.alloc())?;
-    desk.set_room("-", 3)?;
-    run(
-        &rt,
-        rt.alloc(),
-        &mut desk,
-        REPLAY,
-        "5 arr",
-        ("out", RELEASED),
-    )
 }
 
 #[test]
