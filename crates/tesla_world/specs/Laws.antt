@@ -1,5 +1,5 @@
 -- The laws over worlds and histories: what a right clock and an honest stream buy.
-use Rattle.std.specs.Prelude.{◌≡◌, ◌⊎◌, ℕ, ◌-◌, ◌+◌, ◌<◌, ◌≤◌, ℤ, pos, ◌≤ℤ◌, ◌+ℤ◌, ◌-ℤ◌, true, ◌&&◌, List, [], ◌∷◌, length, take, replicate, get_or, Some, nat_lt, slice_get}
+use Rattle.std.specs.Prelude.{◌≡◌, ◌⊎◌, ℕ, ◌-◌, ◌+◌, ◌<◌, ◌≤◌, ℤ, pos, ◌≤ℤ◌, ◌+ℤ◌, ◌-ℤ◌, true, ◌&&◌, List, [], ◌∷◌, length, take, replicate, get_or, Some, Ok, nat_lt, slice_get}
 use Rattle.std.specs.List.{Contains, list_any}
 use Rattle.tesla_base.specs.declared.names.Key.{Key}
 use Rattle.tesla_clock.specs.Safe.{has_chain}
@@ -18,6 +18,7 @@ use Rattle.tesla_receiver.specs.declared.history.Entry.{Entry}
 use Rattle.tesla_receiver.specs.declared.packet.Packet.{Packet}
 use Rattle.tesla_sender.specs.Made.{Call, key_of}
 use Rattle.tesla_state.specs.Releases.{has_name}
+use Rattle.tesla_sync.specs.Lag.{lag_judged}
 use Rattle.tesla_world.specs.World.{Moment, Sent, Came, IsBounded, Joined, arrival_at}
 
 -- the seed of a chain
@@ -144,4 +145,4 @@ HaveDrifted asked at_ask drift world =
 abbrev pub TimeLaw : Type 0
 TimeLaw =
     (asked at_ask answered drift : ℕ) (lag : ℤ) (world : List Moment) → at_ask ≤ answered → HaveDrifted asked at_ask drift world →
-    lag ≡ ((pos answered -ℤ pos asked) +ℤ pos drift) → IsBounded lag world
+    lag_judged answered asked drift ≡ Ok lag → IsBounded lag world

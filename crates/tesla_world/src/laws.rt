@@ -31,4 +31,6 @@ pub fn delivered()
 /// section 3.3.1).
 pub fn time()
     ensures { TimeLaw }
-{}
+{
+    tesla_sync::laws::lags();
+}
