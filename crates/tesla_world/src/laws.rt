@@ -6,14 +6,20 @@ ghost use Rattle.tesla_world.specs.Laws.{CommitmentLaw, DeliveryLaw, HonestCompl
 /// key is good exactly where it is newer than those taken before and leads to the commitment (RFC 4082, section 3.5).
 pub fn commitment()
     ensures { CommitmentLaw }
-{}
+{
+    tesla_receiver::laws::prefixes();
+    tesla_receiver::laws::new_keys();
+}
 
 /// The security condition (RFC 4082, section 3.5): where the clock bound holds, no frame that was sent before a kept
 /// packet came told a key of a chain of its set that reaches its interval, and each key that was told is the sender's of
 /// its index.
 pub fn safe()
     ensures { SecurityCondition }
-{}
+{
+    tesla_frame::laws::frames();
+    tesla_receiver::laws::kept();
+}
 
 /// Where no taken key is forged, a kept packet that has the sender's tag for a chain of its set is proved by the first
 /// new key of that chain that reaches its interval, and is released by then, it or another packet of its name.
