@@ -1,5 +1,5 @@
 -- A kept packet with the sender's tag is proved by the first new key of a chain of its set that reaches its interval.
-use Rattle.std.proofs.Common.{◌≡◌, ℕ, ◌+◌, ◌-◌, ◌<◌, ◌≤◌, Bool, true, List, [], ◌∷◌, ◌++◌, length, get_or, take, Some, refl, sym, ap, subst, ◌∙◌, arith, bytes_eq, ◌==◌, ◌&&◌}
+use Rattle.std.proofs.Common.{◌≡◌, ℕ, ◌+◌, ◌-◌, ◌<◌, ◌≤◌, Bool, true, List, length, take, Some, refl, sym, ap, subst, ◌∙◌, arith, ◌&&◌}
 use Rattle.std.specs.Prelude.{slice_get, nat_lt, nat_le}
 use Rattle.std.specs.List.{Contains, list_any}
 use Rattle.std.proofs.lemmas.Bool.{and_from, eq-eqb, le-leb, lt-ltb}
@@ -10,19 +10,18 @@ use Rattle.tesla_base.specs.declared.names.Key.{Key}
 use Rattle.tesla_clock.specs.Safe.{has_chain}
 use Rattle.tesla_fitting.specs.Rows.{is_of}
 use Rattle.tesla_fitting.specs.declared.config.Config.{Config}
-use Rattle.tesla_frame.specs.Frame.{DataFrame, TagRow}
+use Rattle.tesla_frame.specs.Frame.{DataFrame}
 use Rattle.tesla_frame.specs.declared.row.KeyRow.{KeyRow}
 use Rattle.tesla_prf.specs.Keys.{tag_of, walk}
 use Rattle.tesla_prf.proofs.Walks.{walk_on}
 use Rattle.tesla_receiver.specs.Arrivals.{KeptAreSafe, NewAreTaken, NewestRises, ProvedAreReleased}
 use Rattle.tesla_receiver.specs.History.{IsLegal, arrivals_in}
 use Rattle.tesla_receiver.specs.Keys.{new_keys, newest}
-use Rattle.tesla_receiver.specs.Packets.{packet_of, is_proof, proves, released, tag_by, verifies, verifies_row}
+use Rattle.tesla_receiver.specs.Packets.{packet_of, is_proof, proves, tag_by, verifies, verifies_row}
 use Rattle.tesla_receiver.specs.declared.history.Arrival.{Arrival}
 use Rattle.tesla_receiver.specs.declared.history.Entry.{Entry}
 use Rattle.tesla_receiver.specs.declared.packet.Packet.{Packet}
 use Rattle.tesla_sender.specs.Made.{key_of}
-use Rattle.tesla_state.specs.Releases.{has_name}
 use Rattle.tesla_world.specs.Laws.{HasSendersTag, HonestCompleteness, IsHonest, IsProvedAt, IsReached, seed_in, senders_key}
 use Rattle.tesla_world.proofs.Newest.{stays_below, take_got}
 

@@ -1,5 +1,5 @@
 -- The newest index of a chain along some arrivals: it only rises, only by new keys, and to each key that is taken.
-use Rattle.std.proofs.Common.{◌≡◌, ℕ, zero, suc, ◌+◌, ◌<◌, ◌≤◌, Bool, true, false, cond, List, [], ◌∷◌, ◌++◌, length, get_or, take, drop, max, Some, refl, sym, ap, subst, ⊎_elim, ◌∙◌, arith, add-zero}
+use Rattle.std.proofs.Common.{◌≡◌, ℕ, zero, suc, ◌+◌, ◌<◌, ◌≤◌, true, false, cond, List, [], ◌∷◌, ◌++◌, length, get_or, take, drop, max, Some, refl, sym, ap, subst, ⊎_elim, ◌∙◌, arith, add-zero}
 use Rattle.std.specs.Prelude.{slice_get, filter, fold, flat_map}
 use Rattle.std.specs.List.{Contains}
 use Rattle.std.proofs.lemmas.Bool.{cases_lt, eq-eqb}
@@ -78,11 +78,11 @@ stays_below rises cfg arrivals from (suc d) chain interval within below none =
     elim arrivals as (λ xs. xs ≡ arrivals → newest cfg (take (from + suc d) arrivals) chain < interval) [
       | [] ↦ λ same. absurd (let short : length arrivals ≡ 0 = ap length (sym same) in omega (arith, short, inside))
       | first ∷ rest ↦ λ same.
-      let other : Arrival = get_or arrivals n first in
-      let at : slice_get arrivals n ≡ Some other = slice_get-get_or arrivals n first inside in
-      let count : n + 1 ≡ from + suc d = omega arith in
-      ⊎_elim
-      (λ less. subst (λ (k : ℕ). newest cfg (take k arrivals) chain < interval) count less)
-      (λ reaches. absurd (none n other (omega arith) (omega arith) at (reached_by rises cfg arrivals n other chain interval at before reaches)))
-      (cases_lt (newest cfg (take (n + 1) arrivals) chain) interval)
+          let other : Arrival = get_or arrivals n first in
+          let at : slice_get arrivals n ≡ Some other = slice_get-get_or arrivals n first inside in
+          let count : n + 1 ≡ from + suc d = omega arith in
+          ⊎_elim
+          (λ less. subst (λ (k : ℕ). newest cfg (take k arrivals) chain < interval) count less)
+          (λ reaches. absurd (none n other (omega arith) (omega arith) at (reached_by rises cfg arrivals n other chain interval at before reaches)))
+          (cases_lt (newest cfg (take (n + 1) arrivals) chain) interval)
     ] refl

@@ -25,13 +25,23 @@ pub fn safe()
 /// new key of that chain that reaches its interval, and is released by then, it or another packet of its name.
 pub fn complete()
     ensures { HonestCompleteness }
-{}
+{
+    tesla_receiver::laws::kept();
+    tesla_receiver::laws::new_keys();
+    tesla_receiver::laws::proved();
+}
 
 /// Where no taken key is forged, a message that was sent, came and was kept is released under its name once a key of a
 /// chain of its set, of its interval or a later one, was taken.
 pub fn delivered()
     ensures { DeliveryLaw }
-{}
+{
+    tesla_frame::laws::frames();
+    tesla_receiver::laws::prefixes();
+    tesla_receiver::laws::kept();
+    tesla_receiver::laws::new_keys();
+    tesla_receiver::laws::proved();
+}
 
 /// The lag of one exchange bounds the clocks for as long as they drift apart by no more than the drift (RFC 4082,
 /// section 3.3.1).
