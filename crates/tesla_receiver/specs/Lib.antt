@@ -10,3 +10,4 @@ pub mod Stands
 pub mod Consistent
 pub mod Costs
 pub mod Refusals
+pub mod Arrivals

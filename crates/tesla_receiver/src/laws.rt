@@ -9,6 +9,7 @@ ghost use Rattle.tesla_receiver.specs.declared.history.Arrival.{Arrival};
 ghost use Rattle.tesla_receiver.specs.declared.history.Entry.{Entry};
 ghost use Rattle.tesla_walks.specs.declared.release.Release.{Release};
 ghost use Rattle.tesla_receiver.specs.Answer.{verdict_of};
+ghost use Rattle.tesla_receiver.specs.Arrivals.{FreshAreNew, KeptAreSafe, NewAreFresh, NewAreTaken, NewestRises, ProvedAreReleased};
 ghost use Rattle.tesla_receiver.specs.History.{Arrives, Event, event_of, entry_of, IsLegal, arrivals_in, given_in, held_in, held_of_interval};
 ghost use Rattle.tesla_receiver.specs.Keys.{newest, is_good, takes_keys};
 ghost use Rattle.tesla_receiver.specs.Refusals.{ChangesCountsAlone};
@@ -87,4 +88,27 @@ pub fn offer()
     // A verifier that holds it answers good exactly to a good key.
     ensures answer { (cfg : Config) (h : List Entry) (row : KeyRow) → IsLegal cfg h →
         (IsGood (offer_of (tip_of cfg (arrivals_in h) row.chain.0) row.index row.key) ↔ is_good cfg (arrivals_in h) row ≡ true) }
+{}
+
+/// A packet that a legal history kept was safe on each chain of its set when it came (RFC 4082, section 3.5): by the
+/// bound on the sender's interval that chain's key of its interval couldn't have been disclosed, and none that reaches
+/// the interval was taken.
+pub fn kept()
+    ensures { KeptAreSafe }
+{}
+
+/// The keys that a legal history took and that were new.
+pub fn new_keys()
+    // Each was carried by its arrival's frame, is of a chain and an interval of the setup, and was good.
+    ensures taken { NewAreTaken }
+    // The fresh keys of some arrivals are those that were new on one of them.
+    ensures fresh { FreshAreNew }
+    ensures all { NewAreFresh }
+    // The newest index of a chain rises only by a new key.
+    ensures rises { NewestRises }
+{}
+
+/// A packet that a new key proves is released then or was before, it or another packet of its name.
+pub fn proved()
+    ensures { ProvedAreReleased }
 {}
