@@ -1,0 +1,87 @@
+-- Worlds: what was sent and what came, in the order in which it happened, with the readings of the clocks (RFC 4082, sections 3.3 and 3.5).
+use Rattle.std.specs.Prelude.{◌≡◌, ℕ, ◌<◌, ℤ, pos, ◌≤ℤ◌, ◌+ℤ◌, List, [], ◌∷◌, ◌++◌, length, map, take, Option, Some, None, Result, Ok, Err, slice_get, flat_map}
+use Rattle.tesla_base.specs.declared.names.Key.{Key}
+use Rattle.tesla_fitting.specs.declared.config.Config.{Config}
+use Rattle.tesla_frame.specs.Frame.{Frame, IsFrame}
+use Rattle.tesla_receiver.specs.History.{IsLegal, arrivals_in}
+use Rattle.tesla_receiver.specs.declared.history.Arrival.{Arrival}
+use Rattle.tesla_receiver.specs.declared.history.Entry.{Entry}
+use Rattle.tesla_sender.specs.Made.{Call, Message, Disclose, Stream, made_message, made_disclosure}
+
+-- a frame was sent at this reading of the sender's clock, or a datagram came at this reading of the receiver's
+pub data Moment : Type 0 where
+  Sent : (reading : ℕ) (bytes : List ℕ) → Moment
+  Came : (reading : ℕ) (bytes : List ℕ) → Moment
+
+-- a reading, and the bytes that were sent or came at it
+pub record Dated : Type 0 where
+  pub reading : ℕ
+  pub bytes : List ℕ
+
+abbrev pub sent_at : Moment → List Dated
+sent_at (Sent reading bytes) = record { reading = reading; bytes = bytes } ∷ []
+sent_at (Came reading bytes) = []
+
+abbrev pub came_at : Moment → List Dated
+came_at (Sent reading bytes) = []
+came_at (Came reading bytes) = record { reading = reading; bytes = bytes } ∷ []
+
+-- what was sent in a world, in order
+abbrev pub sent_in : List Moment → List Dated
+sent_in world = flat_map sent_at world
+
+-- what came in a world, in order
+abbrev pub came_in : List Moment → List Dated
+came_in world = flat_map came_at world
+
+-- the clock bound holds: what was sent before a datagram came was sent, by the sender's clock, at most the lag after the receiver's reading
+abbrev pub IsBounded : ℤ → List Moment → Type 0
+IsBounded lag world =
+    (i j sent came : ℕ) (text bytes : List ℕ) → i < j → slice_get world i ≡ Some (Sent sent text) → slice_get world j ≡ Some (Came came bytes) →
+    pos sent ≤ℤ (pos came +ℤ lag)
+
+-- ---- the sender's part
+
+abbrev pub reading_of : Call → ℕ
+reading_of (Message reading payload) = reading
+reading_of (Disclose reading) = reading
+
+abbrev pub frame_in : {E : Type 0} → Result Frame E → Option Frame
+frame_in (Ok frame) = Some frame
+frame_in (Err refusal) = None
+
+-- the frame that a call makes after the accepted calls before it
+abbrev pub frame_made : Stream → List Call → Call → Option Frame
+frame_made stream log (Message reading payload) = frame_in (made_message stream log reading payload)
+frame_made stream log (Disclose reading) = frame_in (made_disclosure stream log reading)
+
+-- what was sent is the frame of the call, at its reading
+pub record IsSentFor (stream : Stream) (log : List Call) (call : Call) (sent : Dated) : Type 0 where
+  pub reading : sent.reading ≡ reading_of call
+  pub frame : Frame
+  pub made : frame_made stream log call ≡ Some frame
+  pub spelled : IsFrame sent.bytes frame
+
+-- what was sent are the frames of these calls, each after those before it
+abbrev pub AreSentFor : Stream → List Call → List Call → List Dated → Type 0
+AreSentFor stream log [] [] = Unit {0}
+AreSentFor stream log [] (sent ∷ others) = ⊥
+AreSentFor stream log (call ∷ calls) [] = ⊥
+AreSentFor stream log (call ∷ calls) (sent ∷ others) = IsSentFor stream log call sent × AreSentFor stream (log ++ call ∷ []) calls others
+
+-- ---- both
+
+abbrev pub dated_of : Arrival → Dated
+dated_of arrival = record { reading = arrival.reading; bytes = arrival.bytes }
+
+-- the world is that of a sender with these seeds, which accepted the calls of the log, and of a receiver with this history
+pub record Joined (cfg : Config) (seeds : List Key) (world : List Moment) (log : List Call) (history : List Entry) : Type 0 where
+  -- a seed for each chain
+  pub count : length seeds ≡ length cfg.setup.rows
+  pub sent : AreSentFor (record { setup = cfg.setup; seeds = seeds }) [] log (sent_in world)
+  pub legal : IsLegal cfg history
+  pub came : came_in world ≡ map dated_of (arrivals_in history)
+
+-- the number of the arrival that came at the moment j: how many came before
+abbrev pub arrival_at : List Moment → ℕ → ℕ
+arrival_at world j = length (came_in (take j world))
