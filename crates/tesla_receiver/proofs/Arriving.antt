@@ -77,7 +77,8 @@ verdict_judged s h st ingest reading bytes = sym (frame_same s h st ingest readi
 
 -- ---- which verdicts take keys
 
-quiet_refusal : (a b c : Bool) (stream : StreamId) (bound : Option ℕ) (o : Option KeyRow) (v : Verdict) → cond a (Some (Foreign stream)) (cond b (Some Misfit) (cond c (Some (Future bound)) (option_map (λ (row : KeyRow). BadKey row.chain) o))) ≡ Some v → takes_keys v ≡ false
+-- a refusal takes no keys
+pub quiet_refusal : (a b c : Bool) (stream : StreamId) (bound : Option ℕ) (o : Option KeyRow) (v : Verdict) → cond a (Some (Foreign stream)) (cond b (Some Misfit) (cond c (Some (Future bound)) (option_map (λ (row : KeyRow). BadKey row.chain) o))) ≡ Some v → takes_keys v ≡ false
 quiet_refusal true b c stream bound o v e = ap takes_keys (sym (same_Some (Foreign stream) v e))
 quiet_refusal false true c stream bound o v e = ap takes_keys (sym (same_Some Misfit v e))
 quiet_refusal false false true stream bound o v e = ap takes_keys (sym (same_Some (Future bound) v e))
@@ -103,7 +104,8 @@ takes_judged false true c set = refl
 takes_judged false false true set = refl
 takes_judged false false false set = refl
 
-takes_taken : (cfg : Config) (xs : List Arrival) (given : ℕ) (bound : Option ℕ) (frame : Frame) → takes_keys (verdict_taken cfg xs given bound frame) ≡ true
+-- and the verdict on a frame that isn't refused does
+pub takes_taken : (cfg : Config) (xs : List Arrival) (given : ℕ) (bound : Option ℕ) (frame : Frame) → takes_keys (verdict_taken cfg xs given bound frame) ≡ true
 takes_taken cfg xs given bound (Disclosure f) = refl
 takes_taken cfg xs given bound (Data f) =
     takes_judged (safe_chains cfg xs bound f.name.interval == 0) (list_any (has_name f.name) (released cfg xs))

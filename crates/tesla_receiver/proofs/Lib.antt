@@ -33,3 +33,7 @@ pub mod States
 pub mod Bounded
 pub mod Moved
 pub mod Refusals
+pub mod Arrivals
+pub mod KeptPackets
+pub mod NewKeys
+pub mod ProvedPackets

@@ -4,7 +4,7 @@ use Rattle.std.specs.List.{Contains, list_any}
 use Rattle.tesla_clock.specs.Safe.{has_chain}
 use Rattle.tesla_clock.specs.Schedule.{bound_of}
 use Rattle.tesla_fitting.specs.Config.{chain_row}
-use Rattle.tesla_fitting.specs.Fitting.{is_misfit, stream_of}
+use Rattle.tesla_fitting.specs.Fitting.{is_misfit}
 use Rattle.tesla_fitting.specs.declared.config.Config.{Config}
 use Rattle.tesla_frame.specs.Frame.{Data}
 use Rattle.tesla_frame.specs.Reading.{frame_of}

@@ -1,15 +1,17 @@
--- Logs of accepted calls.
-use Rattle.std.proofs.Common.{◌≡◌, ℕ, zero, suc, ◌+◌, ◌<◌, ◌≤◌, Bool, true, false, cond, List, [], ◌∷◌, ◌++◌, length, refl, sym, ◌∙◌, ap, subst, inl, inr, append_assoc, arith}
+-- Logs of accepted calls, and the frames that are written.
+use Rattle.std.proofs.Common.{◌≡◌, ℕ, zero, suc, ◌+◌, ◌<◌, ◌≤◌, Bool, true, false, cond, List, [], ◌∷◌, ◌++◌, length, take, drop, refl, sym, ◌∙◌, ap, subst, inl, inr, append_assoc, arith}
 use Rattle.std.specs.Prelude.{Result, Ok, Err, IsOk, is_ok, nat_lt, eqb, if◌then◌else◌}
 use Rattle.std.proofs.lemmas.Bool.{cases_lt, ltb-false, ltb-true, lt-ltb, ne_eqb, eq-eqb}
+use Rattle.std.proofs.Math.Seq.{take-append_seam}
 use Rattle.std.proofs.lemmas.List.{append-nil}
 use Rattle.std.proofs.lemmas.List.Sums.{fold-append, sum_by-append}
 use Rattle.tesla_base.specs.declared.names.Name.{Name}
 use Rattle.tesla_clock.specs.Schedule.{Times}
+use Rattle.tesla_frame.specs.Frame.{Frame, frame_text}
 use Rattle.tesla_sender.specs.declared.refusal.DiscloseRefusal.{DiscloseRefusal}
 use Rattle.tesla_sender.specs.declared.refusal.SendRefusal.{SendRefusal}
 use Rattle.tesla_sender.specs.Made.{Call, Message, Disclose, Stream, any_due, chains_of, disclosed, disclosed_after, framed, interval_at, interval_in, is_message_of, latest_of, made_disclosure, made_message, messages_of, name_after, name_of}
-use Rattle.tesla_sender.specs.Stands.{AreAcceptedAfter, IsAccepted, Stands, State, number_at}
+use Rattle.tesla_sender.specs.Stands.{Answers, AreAcceptedAfter, IsAccepted, IsWritten, Spells, Stands, State, number_at}
 
 -- ---- what an accepted call tells
 
@@ -203,3 +205,15 @@ disclosure_stands sender log reading interval left reserved stands is =
 -- a sender that was just opened stands for no call
 pub none_stands : (sender : State) → sender.latest ≡ 0 → sender.used ≡ 0 → Stands sender []
 none_stands sender latest used = record { accepted = tt; latest = latest; used = used }
+
+-- ---- the frame that was written
+
+text_front : (frame : Frame) (size : ℕ) (before now : List ℕ) → IsWritten frame size before now → take size now ≡ frame_text frame
+text_front frame size before now written =
+    ap (λ k. take k now) written.length ∙ ap (take (length (frame_text frame))) written.text ∙ take-append_seam (frame_text frame) (drop (length (frame_text frame)) before)
+
+-- what was written spells the frame that was made
+pub spells_answered : {E : Type 0} (told : Result ℕ E) (made : Result Frame E) (before now : List ℕ) → Answers told made before now → Spells told made now
+spells_answered (Ok size) (Ok frame) before now written = record { limits = written.limits; spelled = text_front frame size before now written }
+spells_answered (Ok size) (Err refusal) before now written = tt
+spells_answered (Err refusal) made before now written = tt

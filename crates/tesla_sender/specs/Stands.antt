@@ -1,6 +1,6 @@
 -- The logs that a sender stands for, and the answers of its calls.
-use Rattle.std.specs.Prelude.{◌≡◌, ℕ, List, [], ◌∷◌, ◌++◌, length, Result, Ok, Err, IsOk, ◌==◌, if◌then◌else◌}
-use Rattle.tesla_frame.specs.Frame.{Frame, frame_text}
+use Rattle.std.specs.Prelude.{◌≡◌, ℕ, List, [], ◌∷◌, ◌++◌, length, take, Result, Ok, Err, IsOk, ◌==◌, if◌then◌else◌}
+use Rattle.tesla_frame.specs.Frame.{Frame, HasLimits, IsFrame, frame_text}
 use Rattle.tesla_frame.specs.Written.{Begins}
 use Rattle.tesla_sender.specs.Made.{Call, Message, Disclose, Stream, latest_of, messages_of, made_message, made_disclosure}
 
@@ -40,8 +40,9 @@ abbrev pub log_after : {E : Type 0} → List Call → Call → Result ℕ E → 
 log_after log call (Ok length) = log ++ call ∷ []
 log_after log call (Err refusal) = log
 
--- the frame's text begins the room, the bytes behind it are as before, and `size` is its length
+-- the frame keeps its limits, its text begins the room, the bytes behind it are as before, and `size` is its length
 pub record IsWritten (frame : Frame) (size : ℕ) (before now : List ℕ) : Type 0 where
+  pub limits : HasLimits frame
   pub length : size ≡ length (frame_text frame)
   pub text : Begins (frame_text frame) before now
 
@@ -51,3 +52,9 @@ Answers (Ok size) (Ok frame) before now = IsWritten frame size before now
 Answers (Err told) (Err refusal) before now = told ≡ refusal
 Answers (Ok size) (Err refusal) before now = ⊥
 Answers (Err told) (Ok frame) before now = ⊥
+
+-- the bytes that were written spell the frame that was made, and it keeps its limits
+abbrev pub Spells : {E : Type 0} → Result ℕ E → Result Frame E → List ℕ → Type 0
+Spells (Ok size) (Ok frame) now = IsFrame (take size now) frame
+Spells (Ok size) (Err refusal) now = Unit {0}
+Spells (Err told) made now = Unit {0}

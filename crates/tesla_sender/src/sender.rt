@@ -5,7 +5,7 @@ ghost use Rattle.tesla_frame.specs.Frame.{Frame};
 ghost use Rattle.tesla_sender.specs.Made.{Call, Message, Disclose, any_due, chains_of, disclosed_after, disclosure_frame, interval_at, made_disclosure, made_message, message_frame, name_after};
 ghost use Rattle.tesla_chain.specs.Cost.{W};
 ghost use Rattle.tesla_sender.specs.Opening.{IsRefusal, left_of, seeds_refused};
-ghost use Rattle.tesla_sender.specs.Stands.{Answers, IsWritten, Stands, log_after, number_at};
+ghost use Rattle.tesla_sender.specs.Stands.{Answers, IsWritten, Spells, Stands, log_after, number_at};
 
 use crate::chain::SendingChain;
 use crate::judging::{judge_disclosure, judge_message, number_at};
@@ -145,6 +145,7 @@ impl Sender {
         steps: &mut Steps<L>,
     ) -> Result<usize, SendRefusal>
         ensures answer { (log : List Call) → Stands self.old log → Answers result (made_message self.old.stream log reading payload.now) into.old into.new }
+        ensures spelled { (log : List Call) → Stands self.old log → Spells result (made_message self.old.stream log reading payload.now) into.new }
         ensures stands { (log : List Call) → Stands self.old log → Stands self.new (log_after log (Message reading payload.now) result) }
         ensures stream { self.new.stream ≡ self.old.stream }
         ensures cost { steps.new + self.new.left ≤ steps.old + self.old.left + 2 * length self.old.stream.setup.rows }
@@ -200,6 +201,7 @@ impl Sender {
         steps: &mut Steps<L>,
     ) -> Result<usize, DiscloseRefusal>
         ensures answer { (log : List Call) → Stands self.old log → Answers result (made_disclosure self.old.stream log reading) into.old into.new }
+        ensures spelled { (log : List Call) → Stands self.old log → Spells result (made_disclosure self.old.stream log reading) into.new }
         ensures stands { (log : List Call) → Stands self.old log → Stands self.new (log_after log (Disclose reading) result) }
         ensures stream { self.new.stream ≡ self.old.stream }
         ensures cost { steps.new + self.new.left ≤ steps.old + self.old.left }

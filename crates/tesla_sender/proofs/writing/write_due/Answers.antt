@@ -25,4 +25,4 @@ returns c =
     let version : version_named c.version.result ≡ setup.version = ap version_named c.version.ensures ∙ version_back setup.version in
     let frame = disclosure_is setup a.interval chains (version_named c.version.result) c.stream.result (take c.put_due-end.result c.put_due-end.new.rows) version c.stream.ensures c.put_due-end.ensures.rows in
     let P : Frame → Type 0 = λ f. IsWritten f c.write_disclosure.result a.into.now c.write_disclosure.new.into in
-    subst P frame (record { length = c.write_disclosure.ensures.length; text = c.write_disclosure.ensures.text })
+    subst P frame (record { limits = c.write_disclosure.ensures.limits; length = c.write_disclosure.ensures.length; text = c.write_disclosure.ensures.text })

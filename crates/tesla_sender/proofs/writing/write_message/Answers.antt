@@ -51,4 +51,4 @@ returns-clause-written g c =
     let some : 1 ≤ length (map (tag_made setup a.name a.payload.now) chains) = omega (arith, length-map chains (tag_made setup a.name a.payload.now), length-map a.chains.now chain_in, count, c.from-count.ensures, c.count.ensures.some) in
     let frame = message_is setup a.name a.payload.now chains (version_named c.version.result) c.stream.result (take c.from-count.result c.put_tags.new.tags) (take c.from-count.result c.put_keys.new.keys) (tags_first setup.tag_length (map (tag_made setup a.name a.payload.now) chains) some c.put_tags.ensures.lengths) version c.stream.ensures tags keys in
     let P : Frame → Type 0 = λ f. IsWritten f c.write_data.result a.into.now c.write_data.new.into in
-    subst P frame (record { length = c.write_data.ensures.length; text = c.write_data.ensures.text })
+    subst P frame (record { limits = c.write_data.ensures.limits; length = c.write_data.ensures.length; text = c.write_data.ensures.text })

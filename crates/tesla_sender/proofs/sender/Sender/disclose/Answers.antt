@@ -4,7 +4,7 @@ use Rattle.tesla_frame.specs.Frame.{Frame}
 use Rattle.tesla_sender.specs.declared.refusal.DiscloseRefusal.{DiscloseRefusal}
 use Rattle.tesla_sender.specs.Made.{Disclose, any_due, chains_of, disclosed, disclosed_after, disclosure_frame, interval_at, made_disclosure}
 use Rattle.tesla_sender.specs.Stands.{Answers, Stands, State, number_at}
-use Rattle.tesla_sender.proofs.Logs.{disclosure_answer, disclosure_stands}
+use Rattle.tesla_sender.proofs.Logs.{disclosure_answer, disclosure_stands, spells_answered}
 use Rattle.tesla_sender.proofs.sender.Sender.disclose.Goals as goal
 
 pub returns-in-Ok-clause-answer : goal.returns-in-Ok-clause-answer
@@ -17,6 +17,12 @@ returns-in-Ok-clause-answer g c = λ log stands.
     let answer : Result ℕ DiscloseRefusal = Ok c.disclose_in.result in
     let P : Result Frame DiscloseRefusal → Type 0 = λ m. Answers answer m a.into.now c.disclose_in.new.into in
     subst P (sym made) c.disclose_in.ensures.written
+
+pub returns-in-Ok-clause-spelled : goal.returns-in-Ok-clause-spelled
+returns-in-Ok-clause-spelled g c = λ log stands.
+    let a = c.args in
+    let answer : Result ℕ DiscloseRefusal = Ok c.disclose_in.result in
+    spells_answered answer (made_disclosure a.self.now.stream log a.reading) a.into.now c.disclose_in.new.into (returns-in-Ok-clause-answer g c log stands)
 
 pub returns-in-Ok-clause-stands : goal.returns-in-Ok-clause-stands
 returns-in-Ok-clause-stands g c = λ log stands.

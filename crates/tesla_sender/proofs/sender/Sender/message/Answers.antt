@@ -4,7 +4,7 @@ use Rattle.tesla_frame.specs.Frame.{Frame}
 use Rattle.tesla_sender.specs.declared.refusal.SendRefusal.{SendRefusal}
 use Rattle.tesla_sender.specs.Made.{Message, chains_of, framed, interval_at, made_message, message_frame, name_after}
 use Rattle.tesla_sender.specs.Stands.{Answers, Stands, State, number_at}
-use Rattle.tesla_sender.proofs.Logs.{message_answer, message_stands}
+use Rattle.tesla_sender.proofs.Logs.{message_answer, message_stands, spells_answered}
 use Rattle.tesla_sender.proofs.sender.Sender.message.Goals as goal
 
 pub returns-in-Ok-clause-answer : goal.returns-in-Ok-clause-answer
@@ -17,6 +17,12 @@ returns-in-Ok-clause-answer g c = λ log stands.
     let answer : Result ℕ SendRefusal = Ok c.send.result in
     let P : Result Frame SendRefusal → Type 0 = λ m. Answers answer m a.into.now c.send.new.into in
     subst P (sym made) c.send.ensures.written
+
+pub returns-in-Ok-clause-spelled : goal.returns-in-Ok-clause-spelled
+returns-in-Ok-clause-spelled g c = λ log stands.
+    let a = c.args in
+    let answer : Result ℕ SendRefusal = Ok c.send.result in
+    spells_answered answer (made_message a.self.now.stream log a.reading a.payload.now) a.into.now c.send.new.into (returns-in-Ok-clause-answer g c log stands)
 
 pub returns-in-Ok-clause-stands : goal.returns-in-Ok-clause-stands
 returns-in-Ok-clause-stands g c = λ log stands.
