@@ -1,5 +1,6 @@
 -- The security condition: what was sent before a kept packet came told no key that reaches its interval.
 use Rattle.std.proofs.Common.{◌≡◌, ℕ, zero, suc, ◌+◌, ◌-◌, ◌/◌, ◌<◌, ◌≤◌, ℤ, pos, negsuc, ◌+ℤ◌, ◌-ℤ◌, ◌≤ℤ◌, cond, List, [], ◌∷◌, take, map, Some, None, inl, inr, sym, ap, subst, ◌∙◌, arith}
+use Rattle.std.specs.List.{Contains}
 use Rattle.std.specs.Prelude.{nat_le, option_map, slice_get, unwrap_or}
 use Rattle.std.proofs.Math.Nat.{div-zero, mul-div-le}
 use Rattle.std.proofs.lemmas.Bool.{cases_Bool, leb-true}
@@ -18,9 +19,11 @@ use Rattle.tesla_frame.specs.declared.row.KeyRow.{KeyRow}
 use Rattle.tesla_receiver.specs.Arrivals.{KeptAreSafe}
 use Rattle.tesla_receiver.specs.History.{arrivals_in}
 use Rattle.tesla_receiver.specs.declared.history.Arrival.{Arrival}
-use Rattle.tesla_sender.specs.Made.{interval_at}
-use Rattle.tesla_world.specs.World.{Moment, Sent, Came, Dated, arrival_at, came_in, dated_of}
-use Rattle.tesla_world.specs.Laws.{IsEarlierKey, SecurityCondition}
+use Rattle.tesla_receiver.specs.declared.history.Entry.{Entry}
+use Rattle.tesla_fitting.specs.Rows.{keys_of}
+use Rattle.tesla_sender.specs.Made.{Call, interval_at}
+use Rattle.tesla_world.specs.World.{Moment, Sent, Came, Dated, Joined, arrival_at, came_in, dated_of}
+use Rattle.tesla_world.specs.Laws.{KeptAreUntold, SecurityCondition}
 use Rattle.tesla_world.proofs.Sending.{IsDueKey, call_at, made_due}
 
 -- ---- arrivals
@@ -81,25 +84,40 @@ sent_within times lag sent came bound before is = interval_below times ((pos cam
 -- ---- the law
 
 -- a key that is due in an interval which the bound allows is of an earlier interval than a packet whose own key can't have been disclosed
-earlier : (cfg : Config) (seeds : List Key) (reached bound interval : ℕ) (row : KeyRow) → IsDueKey cfg seeds reached row → reached ≤ bound → bound < interval + (chain_row cfg row.chain.0).delay → IsEarlierKey cfg seeds interval row
+earlier : (cfg : Config) (seeds : List Key) (reached bound interval : ℕ) (row : KeyRow) → IsDueKey cfg seeds reached row → reached ≤ bound → bound < interval + (chain_row cfg row.chain.0).delay → row.index < interval
 earlier cfg seeds reached bound interval row is within undisclosed =
     let due : row.index + (chain_row cfg row.chain.0).delay ≤ reached = is.due in
-    record { earlier = omega arith; own = is.own }
+    omega arith
 
--- what KeptAreSafe and the reading of frames buy
-pub secure : KeptAreSafe → ((bytes : List ℕ) (frame : Frame) → IsFrame bytes frame → frame_of bytes ≡ Some frame) → SecurityCondition
-secure kept_safe read cfg seeds world log history joined bounded j came bytes arrival packet chain came_at_j arrived kept safe i sent text frame row sent_before framed carries own =
-    let before = before_from world i j (Sent sent text) sent_before in
-    let is_safe = kept_safe cfg history (arrival_at world j) arrival packet chain joined.legal arrived kept safe in
-    let number = call_at (record { setup = cfg.setup; seeds = seeds }) log world i sent text joined.sent before.1 in
+-- what frames spell is read
+abbrev pub ReadsFrames : Type 0
+ReadsFrames = (bytes : List ℕ) (frame : Frame) → IsFrame bytes frame → frame_of bytes ≡ Some frame
+
+-- a key that a sent frame carries is due in the interval of its reading
+sent_due : ReadsFrames → (cfg : Config) (seeds : List Key) (world : List Moment) (log : List Call) (history : List Entry) → Joined cfg seeds world log history → (i sent : ℕ) (text : List ℕ) (frame : Frame) (row : KeyRow) → slice_get world i ≡ Some (Sent sent text) → frame_of text ≡ Some frame → Contains (keys_of cfg frame) row → IsDueKey cfg seeds (interval_at cfg.setup.times sent) row
+sent_due read cfg seeds world log history joined i sent text frame row at framed carries =
+    let number = call_at (record { setup = cfg.setup; seeds = seeds }) log world i sent text joined.sent at in
     let made = number.1 in
     let is_sent = made.is_sent in
     let same : is_sent.frame ≡ frame = same_Some is_sent.frame frame (sym (read text is_sent.frame is_sent.spelled) ∙ framed) in
-    let due : IsDueKey cfg seeds (interval_at cfg.setup.times sent) row =
     subst (λ (n : ℕ). IsDueKey cfg seeds (interval_at cfg.setup.times n) row) (sym is_sent.reading)
-    (made_due cfg seeds (take number.0 log) made.call frame row (is_sent.made ∙ ap Some same) carries) in
+    (made_due cfg seeds (take number.0 log) made.call frame row (is_sent.made ∙ ap Some same) carries)
+
+-- what was sent before a kept packet came told no key that reaches its interval
+kept_untold : KeptAreSafe → ReadsFrames → (cfg : Config) (seeds : List Key) (world : List Moment) (log : List Call) (history : List Entry) → Joined cfg seeds world log history → KeptAreUntold cfg world history
+kept_untold kept_safe read cfg seeds world log history joined bounded j came bytes arrival packet chain came_at_j arrived kept safe i sent text frame row sent_before framed carries own =
+    let before = before_from world i j (Sent sent text) sent_before in
+    let is_safe = kept_safe cfg history (arrival_at world j) arrival packet chain joined.legal arrived kept safe in
+    let due = sent_due read cfg seeds world log history joined i sent text frame row before.1 framed carries in
     let reading : arrival.reading ≡ came = came_as world (arrivals_in history) j came bytes arrival joined.came came_at_j arrived in
     let bound : bound_of cfg.setup.times cfg.lag came ≡ Some is_safe.bound = subst (λ (n : ℕ). bound_of cfg.setup.times cfg.lag n ≡ Some is_safe.bound) reading is_safe.bounded in
     let within = sent_within cfg.setup.times cfg.lag sent came is_safe.bound (bounded i j sent came text bytes before.0 before.1 came_at_j) bound in
     earlier cfg seeds (interval_at cfg.setup.times sent) is_safe.bound packet.frame.name.interval row due within
     (subst (λ (c : ℕ). is_safe.bound < packet.frame.name.interval + (chain_row cfg c).delay) (sym own) is_safe.undisclosed)
+
+-- what KeptAreSafe and the reading of frames buy
+pub secure : KeptAreSafe → ReadsFrames → SecurityCondition
+secure kept_safe read cfg seeds world log history joined = record {
+  own = λ i sent text frame row at framed carries. (sent_due read cfg seeds world log history joined i sent text frame row at framed carries).own;
+  untold = kept_untold kept_safe read cfg seeds world log history joined;
+}

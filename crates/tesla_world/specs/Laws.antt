@@ -59,23 +59,29 @@ CommitmentLaw =
 
 -- ---- the security condition
 
--- a key that a sent frame told is of an earlier interval than this one, and the sender's own of its index
-pub record IsEarlierKey (cfg : Config) (seeds : List Key) (interval : ℕ) (row : KeyRow) : Type 0 where
-  pub earlier : row.index < interval
-  pub own : row.key ≡ senders_key cfg seeds row.chain.0 row.index
+-- each key that was told in a world is the sender's own of the index that it stands for
+abbrev pub TellsOwnKeys : Config → List Key → List Moment → Type 0
+TellsOwnKeys cfg seeds world =
+    (i sent : ℕ) (text : List ℕ) (frame : Frame) (row : KeyRow) → slice_get world i ≡ Some (Sent sent text) → frame_of text ≡ Some frame →
+    Contains (keys_of cfg frame) row → row.key ≡ senders_key cfg seeds row.chain.0 row.index
 
 -- the frames that were sent in this part of a world told no key of the chain that reaches the interval
-abbrev pub IsUntold : Config → List Key → List Moment → ℕ → ℕ → Type 0
-IsUntold cfg seeds front chain interval =
+abbrev pub IsUntold : Config → List Moment → ℕ → ℕ → Type 0
+IsUntold cfg front chain interval =
     (i sent : ℕ) (text : List ℕ) (frame : Frame) (row : KeyRow) → slice_get front i ≡ Some (Sent sent text) → frame_of text ≡ Some frame →
-    Contains (keys_of cfg frame) row → row.chain.0 ≡ chain → IsEarlierKey cfg seeds interval row
+    Contains (keys_of cfg frame) row → row.chain.0 ≡ chain → row.index < interval
 
 -- where the clock bound holds of a world, what was sent before a kept packet came told no key of a chain of its set that reaches its interval
-abbrev pub IsSecure : Config → List Key → List Moment → List Entry → Type 0
-IsSecure cfg seeds world history =
+abbrev pub KeptAreUntold : Config → List Moment → List Entry → Type 0
+KeptAreUntold cfg world history =
     IsBounded cfg.lag world → (j came : ℕ) (bytes : List ℕ) (arrival : Arrival) (packet : Packet) (chain : ℕ) → slice_get world j ≡ Some (Came came bytes) →
     slice_get (arrivals_in history) (arrival_at world j) ≡ Some arrival → packet_of arrival ≡ Some packet → has_chain packet.chains chain ≡ true →
-    IsUntold cfg seeds (take j world) chain packet.frame.name.interval
+    IsUntold cfg (take j world) chain packet.frame.name.interval
+
+-- both: a data frame writes no index, so what its key stands for is said beside
+pub record IsSecure (cfg : Config) (seeds : List Key) (world : List Moment) (history : List Entry) : Type 0 where
+  pub own : TellsOwnKeys cfg seeds world
+  pub untold : KeptAreUntold cfg world history
 
 abbrev pub SecurityCondition : Type 0
 SecurityCondition =
