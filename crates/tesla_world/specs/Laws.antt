@@ -1,5 +1,5 @@
 -- The laws over worlds and histories: what a right clock and an honest stream buy.
-use Rattle.std.specs.Prelude.{◌≡◌, ◌⊎◌, ℕ, ◌-◌, ◌+◌, ◌<◌, ◌≤◌, ℤ, pos, ◌≤ℤ◌, ◌+ℤ◌, ◌-ℤ◌, true, ◌&&◌, List, [], ◌∷◌, length, take, replicate, get_or, Some, Ok, nat_lt, slice_get}
+use Rattle.std.specs.Prelude.{◌≡◌, ◌≢◌, ◌⊎◌, ℕ, ◌-◌, ◌+◌, ◌<◌, ◌≤◌, ℤ, pos, ◌≤ℤ◌, ◌+ℤ◌, ◌-ℤ◌, true, ◌&&◌, List, [], ◌∷◌, length, take, replicate, get_or, Some, Ok, nat_lt, slice_get}
 use Rattle.std.specs.List.{Contains, list_any}
 use Rattle.tesla_base.specs.declared.names.Key.{Key}
 use Rattle.tesla_clock.specs.Safe.{has_chain}
@@ -152,3 +152,24 @@ abbrev pub TimeLaw : Type 0
 TimeLaw =
     (asked at_ask answered drift : ℕ) (lag : ℤ) (world : List Moment) → at_ask ≤ answered → HaveDrifted asked at_ask drift world →
     lag_judged answered asked drift ≡ Ok lag → IsBounded lag world
+
+-- ---- what the second half of the security condition is for
+
+-- a frame of the world tells for a chain the key of one interval later than it stands for, which is another key
+pub record TellsEarly (cfg : Config) (seeds : List Key) (world : List Moment) (chain : ℕ) : Type 0 where
+  pub i : ℕ
+  pub sent : ℕ
+  pub text : List ℕ
+  pub frame : DataFrame
+  pub row : TagRow
+  pub at : slice_get world i ≡ Some (Sent sent text)
+  pub framed : frame_of text ≡ Some (Data frame)
+  pub row_at : slice_get frame.rows chain ≡ Some row
+  pub due : (chain_row cfg chain).delay ≤ frame.name.interval
+  pub tells : row.key ≡ Some (senders_key cfg seeds chain (frame.name.interval - (chain_row cfg chain).delay + 1))
+  pub other : senders_key cfg seeds chain (frame.name.interval - (chain_row cfg chain).delay + 1) ≢ senders_key cfg seeds chain (frame.name.interval - (chain_row cfg chain).delay)
+
+-- a world in which a key is told an interval too early isn't secure, whatever came
+abbrev pub EarlyIsInsecure : Type 0
+EarlyIsInsecure =
+    (cfg : Config) (seeds : List Key) (world : List Moment) (history : List Entry) (chain : ℕ) → TellsEarly cfg seeds world chain → IsSecure cfg seeds world history → ⊥

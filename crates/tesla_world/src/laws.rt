@@ -1,6 +1,6 @@
 //! The laws over worlds and histories, as contracts of functions that do nothing.
 
-ghost use Rattle.tesla_world.specs.Laws.{CommitmentLaw, DeliveryLaw, HonestCompleteness, SecurityCondition, TimeLaw};
+ghost use Rattle.tesla_world.specs.Laws.{CommitmentLaw, DeliveryLaw, EarlyIsInsecure, HonestCompleteness, SecurityCondition, TimeLaw};
 
 /// In a legal history in which no two values on the walks of the keys of a chain collide under the one-way function, a
 /// key is good exactly where it is newer than those taken before and leads to the commitment (RFC 4082, section 3.5).
@@ -50,3 +50,9 @@ pub fn time()
 {
     tesla_sync::laws::lags();
 }
+
+/// What the second half of the security condition is for: a data frame writes no index, so a sender that tells each key
+/// one interval too early would meet the first half. Its world isn't secure.
+pub fn told_early()
+    ensures { EarlyIsInsecure }
+{}

@@ -1,0 +1,5 @@
+use Rattle.tesla_world.proofs.Early.{insecure}
+use Rattle.tesla_world.proofs.laws.told_early.Goals as goal
+
+pub returns : goal.returns
+returns c = insecure
