@@ -1,0 +1,4 @@
+pub mod Ask
+pub mod Reply
+pub mod KeyText
+pub mod Lag
