@@ -1,27 +1,32 @@
 //! The top call of the commands that run without threads of their own.
 
 ghost use Rattle.std.specs.Prelude.{◌≡◌, map, string_bytes};
-ghost use Rattle.tesla_front.specs.Came.{Came, outcome_came, status_of};
+ghost use Rattle.tesla_front.specs.Came.{Came, status_of};
 ghost use Rattle.tesla_front.specs.Run.{Runs};
 ghost use Rattle.tesla_cli.specs.Commands.{command_of, usage};
 
 use crate::{FORMS, run_words};
 use std::alloc::Global;
-use tesla_desk::{CONSOLE, Desk};
-use tesla_front::{Fault, Outcome, tell};
+use tesla_commands::{Table, run_table};
+use tesla_desk::Desk;
+use tesla_front::{FormText, Outcome};
 
-// Runs the words with the console opened before, and told on it what they came to.
-fn run<D: Desk>(alloc: Global, words: &[String], desk: &mut D) -> Outcome
-    ensures { Runs (command_of (map string_bytes words.now)) usage (map string_bytes words.now) (D.told desk.old) (D.told desk.new) (outcome_came result) }
-{
-    match desk.open_sink(CONSOLE) {
-        Ok(mut console) => {
-            let came = run_words(alloc, words, desk);
-            let told = tell(&mut console, &FORMS, came);
-            desk.close_sink(console);
-            told
-        }
-        Err(refusal) => Outcome::Failed(Fault::from(refusal)),
+// The table of these commands.
+struct Here;
+
+impl<D: Desk> Table<D> for Here {
+    ghost use Rattle.tesla_cli.specs.Commands.{command_of as command_of_words, usage as usage_lines};
+
+    ghost command_of = { command_of_words };
+
+    ghost usage = { usage_lines };
+
+    fn forms(&self) -> &'static [FormText] {
+        &FORMS
+    }
+
+    fn run_words(&self, alloc: Global, words: &[String], desk: &mut D) -> Outcome {
+        run_words(alloc, words, desk)
     }
 }
 
@@ -40,5 +45,5 @@ fn run<D: Desk>(alloc: Global, words: &[String], desk: &mut D) -> Outcome
 pub fn run_here<D: Desk>(alloc: Global, words: &[String], desk: &mut D) -> u8
     ensures { (told : Came) × (result ≡ status_of told) × Runs (command_of (map string_bytes words.now)) usage (map string_bytes words.now) (D.told desk.old) (D.told desk.new) told }
 {
-    run(alloc, words, desk).status()
+    run_table(&Here, alloc, words, desk).status()
 }
