@@ -1,0 +1,32 @@
+use Rattle.std.proofs.Common.{◌≡◌, List, [], ◌∷◌, ◌++◌, length, take, ap, subst, ◌∙◌}
+use Rattle.std.specs.Prelude.{Err, IsOk, is_ok}
+use Rattle.tesla_receiver.specs.declared.history.Entry.{Entry}
+use Rattle.tesla_sender.specs.Made.{Call, Disclose, made_disclosure}
+use Rattle.tesla_world.specs.Joint.{JointState, StandsFor}
+use Rattle.tesla_world.specs.World.{Moment}
+use Rattle.tesla_world.proofs.Standing.{made_refused, made_spelled, disclosure_sent, sent_by}
+use Rattle.tesla_world.proofs.joint.Joint.disclose.Goals as goal
+
+pub returns-in-Ok-clause-sends : goal.returns-in-Ok-clause-sends
+returns-in-Ok-clause-sends g c =
+    let a = c.args in
+    let s = c.self.inside in
+    let room = c.disclose.new.into in
+    let more : c.push.new.self.sent ≡ s.frames.sent ++ take c.in-Ok.size room ∷ [] =
+    c.push.ensures ∙ ap (λ frames. frames ++ c.new.result ∷ []) c.make_room.ensures.sent ∙ ap (λ frame. s.frames.sent ++ frame ∷ []) c.new.ensures in
+    sent_by s.sender s.receiver s.frames.sent a.self.now c.self.view_is c.disclose.new.self (Disclose c.args.reading) c.count-number.result (take c.in-Ok.size room) c.push.new.self.sent
+    (c.count-number.ensures ∙ ap length c.make_room.ensures.sent) more c.disclose.ensures.stream
+    c.in-Ok.ensures.stands
+    (λ log stands. disclosure_sent s.sender.stream log c.args.reading c.in-Ok.size _ room (c.in-Ok.ensures.answer log stands) (c.in-Ok.ensures.spelled log stands))
+
+pub returns-in-Ok-clause-refuses : goal.returns-in-Ok-clause-refuses
+returns-in-Ok-clause-refuses g c =
+    let s = c.self.inside in
+    subst (λ (joint : JointState). (world : List Moment) (log : List Call) (history : List Entry) → StandsFor joint world log history → IsOk (made_disclosure joint.sender.stream log c.args.reading)) c.self.view_is
+    (λ world log history stands. ap is_ok (made_spelled c.in-Ok.size (made_disclosure s.sender.stream log c.args.reading) _ c.disclose.new.into (c.in-Ok.ensures.answer log stands.sends) (c.in-Ok.ensures.spelled log stands.sends)).is)
+
+pub returns-in-Err-clause-refuses : goal.returns-in-Err-clause-refuses
+returns-in-Err-clause-refuses g c =
+    let s = c.self.inside in
+    subst (λ (joint : JointState). (world : List Moment) (log : List Call) (history : List Entry) → StandsFor joint world log history → made_disclosure joint.sender.stream log c.args.reading ≡ Err c.in-Err.refusal) c.self.view_is
+    (λ world log history stands. made_refused c.in-Err.refusal (made_disclosure s.sender.stream log c.args.reading) _ c.disclose.new.into (c.in-Err.ensures.answer log stands.sends))
