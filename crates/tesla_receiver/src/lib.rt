@@ -1,6 +1,7 @@
 //! The receiver: judges each arrival, and releases each authentic packet once.
 #![tactic(auto)]
 
+mod chronicle;
 mod history;
 pub mod laws;
 mod packet;
