@@ -3,11 +3,10 @@
 
 use super::*;
 use std::alloc::Global;
+use std::process::Abort;
 use std::test::Fail;
 use tesla_desk::{CONSOLE, Desk, MemoryDesk};
 use tesla_front::tell;
-
-const WORDS: &str = "lag ask reply key 10000";
 
 const KEY: &str = "3333333333333333333333333333333333333333333333333333333333333333\n";
 
@@ -40,6 +39,83 @@ const HIGH: &str = "5441534b018000000000000000";
 const LOW: &str =
     "5452455001800000000000000000000000000000001cc3e38cfe126a8beec950effe4e7e4b61ca14236f743d50357b6e22a8c04845";
 
+/// A run over these files, an ask and a reply in hexadecimal and a key, with what it has to come to.
+#[derive(Clone, Copy)]
+struct Case {
+    ask: &'static str,
+    reply: &'static str,
+    key: &'static str,
+    words: &'static str,
+    /// The status, a space and the console.
+    told: &'static str,
+}
+
+const BASE: Case = Case {
+    ask: ASK,
+    reply: REPLY,
+    key: KEY,
+    words: "lag ask reply key 10000",
+    told: "0 lag 30000\n",
+};
+
+const CASES: [Case; 10] = [
+    BASE,
+    Case {
+        ask: HIGH,
+        reply: LOW,
+        words: "lag ask reply key 0",
+        told: "0 lag -9223372036854775808\n",
+        ..BASE
+    },
+    Case {
+        ask: HIGH,
+        reply: LOW,
+        words: "lag ask reply key 4294967295",
+        told: "0 lag -9223372032559808513\n",
+        ..BASE
+    },
+    Case {
+        ask: FIRST,
+        reply: LAST,
+        words: "lag ask reply key 0",
+        told: "9 lag too large 18446744073709551615 0 0\n",
+        ..BASE
+    },
+    Case {
+        reply: OTHER,
+        told: "10 refused reply OtherAsk 4999999\n",
+        ..BASE
+    },
+    Case {
+        reply: ALTERED,
+        told: "10 refused reply BadTag\n",
+        ..BASE
+    },
+    Case {
+        reply: ASK,
+        told: "10 refused reply Malformed\n",
+        ..BASE
+    },
+    Case {
+        ask: LONG,
+        told: "3 refused ask 0 BadAsk\n",
+        ..BASE
+    },
+    Case {
+        reply: "",
+        key: "3333\n",
+        told: "3 refused key 0 BadKey\n",
+        ..BASE
+    },
+    Case {
+        ask: "",
+        reply: "",
+        key: "",
+        told: "3 refused ask 0 BadAsk\n",
+        ..BASE
+    },
+];
+
 // A desk with these files: an ask and a reply in hexadecimal, and a key.
 fn desk_with(alloc: Global, ask: &str, reply: &str, key: &str) -> Result<MemoryDesk, Fail> {
     let mut desk = MemoryDesk::new(alloc, 1_000)?;
@@ -66,49 +142,19 @@ fn told_of(alloc: Global, line: &str, desk: &mut MemoryDesk) -> Result<String, F
     Ok(format!(in alloc; "{status} {text}")?)
 }
 
-#[test]
-fn lags_and_refusals(rt: HostRuntime) -> Result<(), Fail> {
-    for (ask, reply, key, words, told) in [
-        (ASK, REPLY, KEY, WORDS, "0 lag 30000\n"),
-        (
-            HIGH,
-            LOW,
-            KEY,
-            "lag ask reply key 0",
-            "0 lag -9223372036854775808\n",
-        ),
-        (
-            HIGH,
-            LOW,
-            KEY,
-            "lag ask reply key 4294967295",
-            "0 lag -9223372032559808513\n",
-        ),
-        (
-            FIRST,
-            LAST,
-            KEY,
-            "lag ask reply key 0",
-            "9 lag too large 18446744073709551615 0 0\n",
-        ),
-        (
-            ASK,
-            OTHER,
-            KEY,
-            WORDS,
-            "10 refused reply OtherAsk 4999999\n",
-        ),
-        (ASK, ALTERED, KEY, WORDS, "10 refused reply BadTag\n"),
-        (ASK, ASK, KEY, WORDS, "10 refused reply Malformed\n"),
-        (LONG, REPLY, KEY, WORDS, "3 refused ask 0 BadAsk\n"),
-        (ASK, "", &KEY[..64], WORDS, "3 refused key 0 BadKey\n"),
-        ("", "", "", WORDS, "3 refused ask 0 BadAsk\n"),
-    ] {
-        let mut desk = desk_with(rt.alloc(), ask, reply, key)?;
-        let came = told_of(rt.alloc(), words, &mut desk)?;
-        assert_eq!(rt; came.as_str(), told);
+// Makes these runs.
+fn make(rt: &impl Abort, alloc: Global, cases: &[Case]) -> Result<(), Fail> {
+    for it in cases {
+        let mut desk = desk_with(alloc, it.ask, it.reply, it.key)?;
+        let came = told_of(alloc, it.words, &mut desk)?;
+        assert_eq!(rt; came.as_str(), it.told);
     }
     Ok(())
+}
+
+#[test]
+fn lags_and_refusals(rt: HostRuntime) -> Result<(), Fail> {
+    make(&rt, rt.alloc(), &CASES)
 }
 
 /// All three files are read before the ask is judged, which is none here.
@@ -120,7 +166,7 @@ fn faults(rt: HostRuntime) -> Result<(), Fail> {
     let mut desk = desk_with(rt.alloc(), "", REPLY, KEY)?;
     desk.set_piece("key", 7)?;
     desk.fail_call("key", 1)?;
-    let failed = told_of(rt.alloc(), WORDS, &mut desk)?;
+    let failed = told_of(rt.alloc(), BASE.words, &mut desk)?;
     assert_eq!(rt; failed.as_str(), "4 read fault\n");
     Ok(())
 }
