@@ -86,7 +86,8 @@ impl Joint {
 
     /// Sends a message at this reading of the sender's clock, in microseconds, and gives the number of its frame.
     ///
-    /// `Send`: the sender doesn't accept it. `NoMemory`: there was none for the frame. Nothing has changed after either.
+    /// `Send`: the sender doesn't accept it. `NoMemory`: there was none for the frame. After either nothing has changed, and
+    /// no step was counted.
     pub fn send<L: Ledger>(
         &mut self,
         alloc: Global,
@@ -116,8 +117,8 @@ impl Joint {
 
     /// Sends a disclosure at this reading of the sender's clock, in microseconds, and gives the number of its frame.
     ///
-    /// `Disclose`: the sender doesn't accept it. `NoMemory`: there was none for the frame. Nothing has changed after
-    /// either.
+    /// `Disclose`: the sender doesn't accept it. `NoMemory`: there was none for the frame. After either nothing has changed,
+    /// and no step was counted.
     pub fn disclose<L: Ledger>(
         &mut self,
         alloc: Global,

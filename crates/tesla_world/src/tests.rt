@@ -1,6 +1,6 @@
 //! Worlds that were worked out by hand.
 
-ghost use Rattle.std.specs.Prelude.{◌<◌, length};
+ghost use Rattle.std.specs.Prelude.{◌≡◌, ◌<◌, length};
 
 use super::*;
 use std::alloc::Global;
