@@ -5,6 +5,8 @@ use Rattle.tesla_front.specs.Command.{Command, no_command}
 use Rattle.tesla_front.specs.Usage.{usage_line}
 use Rattle.tesla_run_chain.specs.Chain.{chain}
 use Rattle.tesla_run_chain.specs.Usage as chains
+use Rattle.tesla_run_lag.specs.Lag.{lag}
+use Rattle.tesla_run_lag.specs.Usage as lags
 use Rattle.tesla_run_replay.specs.Replay.{replay}
 use Rattle.tesla_run_replay.specs.Usage as replays
 use Rattle.tesla_run_send.specs.Send.{send}
@@ -21,8 +23,9 @@ command_named word =
     where_named (bytes_eq word (codes "replay")) replay (
     where_named (bytes_eq word (codes "chain")) chain (
     where_named (bytes_eq word (codes "chain2")) chain (
-    where_named (bytes_eq word (codes "send")) send
-    no_command)))
+    where_named (bytes_eq word (codes "send")) send (
+    where_named (bytes_eq word (codes "lag")) lag
+    no_command))))
 
 -- the command of these words: the first of them names it
 abbrev pub command_of : List (List ℕ) → Command
@@ -31,7 +34,7 @@ command_of (word ∷ words) = command_named word
 
 -- the words of each form, in the order in which they are told
 abbrev pub forms : List (List ℕ)
-forms = replays.usages ++ chains.usages ++ sends.usage ∷ []
+forms = replays.usages ++ chains.usages ++ sends.usage ∷ lags.usage ∷ []
 
 -- the usage lines of all
 abbrev pub usage : List ℕ

@@ -9,11 +9,12 @@ use std::alloc::Global;
 use tesla_desk::Desk;
 use tesla_front::{FormText, Outcome};
 use tesla_run_chain::{CHAIN, CHAIN_TWO, run_chain};
+use tesla_run_lag::{LAG, run_lag};
 use tesla_run_replay::{REPLAY, run_replay};
 use tesla_run_send::{SEND, run_send};
 
 /// The forms of the commands, in the order in which they are told.
-pub const FORMS: [FormText; 4] = [REPLAY, CHAIN, CHAIN_TWO, SEND];
+pub const FORMS: [FormText; 5] = [REPLAY, CHAIN, CHAIN_TWO, SEND, LAG];
 
 /// Runs the words as those of the command that the first of them names. `Usage` where it names none, or there is no
 /// word, and then nothing was opened.
@@ -25,6 +26,7 @@ pub fn run_words<D: Desk>(alloc: Global, words: &[String], desk: &mut D) -> Outc
         [word, ..] if word.as_str() == "chain" => run_chain(alloc, words, desk),
         [word, ..] if word.as_str() == "chain2" => run_chain(alloc, words, desk),
         [word, ..] if word.as_str() == "send" => run_send(alloc, words, desk),
+        [word, ..] if word.as_str() == "lag" => run_lag(alloc, words, desk),
         _ => Outcome::Usage,
     }
 }

@@ -7,6 +7,8 @@ ghost use Rattle.tesla_front.specs.Command.{Performs, RunsAs};
 ghost use Rattle.tesla_cli.specs.Commands.{command_of};
 ghost use Rattle.tesla_run_chain.specs.Arguments.{ChainArguments, IsChain};
 ghost use Rattle.tesla_run_chain.specs.Chain.{chain};
+ghost use Rattle.tesla_run_lag.specs.Arguments.{IsLag, LagArguments};
+ghost use Rattle.tesla_run_lag.specs.Lag.{lag};
 ghost use Rattle.tesla_run_replay.specs.Arguments.{IsReplay, ReplayArguments};
 ghost use Rattle.tesla_run_replay.specs.Replay.{replay};
 ghost use Rattle.tesla_run_send.specs.Arguments.{IsSend, SendArguments};
@@ -17,4 +19,5 @@ pub fn forms_are_named()
     ensures replays { (arguments : ReplayArguments) (words : List (List ℕ)) (old new : Told) (came : Came) → IsReplay arguments words → RunsAs (command_of words) words old new came → Performs replay arguments old new came }
     ensures chains { (arguments : ChainArguments) (words : List (List ℕ)) (old new : Told) (came : Came) → IsChain arguments words → RunsAs (command_of words) words old new came → Performs chain arguments old new came }
     ensures sends { (arguments : SendArguments) (words : List (List ℕ)) (old new : Told) (came : Came) → IsSend arguments words → RunsAs (command_of words) words old new came → Performs send arguments old new came }
+    ensures lags { (arguments : LagArguments) (words : List (List ℕ)) (old new : Told) (came : Came) → IsLag arguments words → RunsAs (command_of words) words old new came → Performs lag arguments old new came }
 {}

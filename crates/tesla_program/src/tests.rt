@@ -10,7 +10,7 @@ const HEAD: &[u8] = b"Sends and receives streams that are authenticated with TES
 
 #[test]
 fn help_version_and_want_of_memory_are_printed(rt: HostRuntime) -> Result<(), Fail> {
-    let mut desk = MemoryDesk::new(rt.alloc(), 2_000)?;
+    let mut desk = MemoryDesk::new(rt.alloc(), 4_000)?;
     assert_eq!(rt; print_about(&mut desk, About::Help), 0);
     assert_eq!(rt;
         desk.page("-").ok_or("no page")?,
@@ -37,11 +37,16 @@ tesla send SETUP SECRET SCRIPT CAPTURE
     makes the frames of the messages and disclosures in SCRIPT, as the sender
     of SETUP with the seeds in SECRET, writes them to CAPTURE, with a take
     behind each, and prints how many there are.
+tesla lag ASK REPLY KEY DRIFT
+    prints how many microseconds the sender's clock is ahead at most, which
+    replay takes as LAG, from the receiver's ASK and the sender's REPLY to it.
+    KEY: the file of the key that both share
+    DRIFT: how many microseconds the clocks drift apart, 0 to 4294967295
 tesla --help
 tesla --version
 
 Status: 0 done, 1 usage, 2 setup refused, 3 input refused, 4 read fault,
-5 write fault, 6 no memory, 7 open fault.
+5 write fault, 6 no memory, 7 open fault, 9 lag too large, 10 reply refused.
 "
             .as_slice()
     );

@@ -24,3 +24,7 @@ returns-clause-chains c arguments words old new came is runs = (both_named argum
 pub returns-clause-sends : goal.returns-clause-sends
 returns-clause-sends c arguments words old new came is runs =
     (subst (λ (all : List (List ℕ)). RunsAs (command_of all) words old new came) is.spelled runs).form arguments is
+
+pub returns-clause-lags : goal.returns-clause-lags
+returns-clause-lags c arguments words old new came is runs =
+    (subst (λ (all : List (List ℕ)). RunsAs (command_of all) words old new came) is.spelled runs).form arguments is
