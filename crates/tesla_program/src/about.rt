@@ -7,6 +7,7 @@ ghost use Rattle.tesla_program.specs.About.{word_of};
 use tesla_cli::FORMS;
 use tesla_desk::{Sink, write_all};
 use tesla_front::FormText;
+use tesla_tools::FORMS as TOOLS;
 
 /// A text about the program.
 #[derive(Clone, Copy, Debug, PartialEq, Eq)]
@@ -74,7 +75,10 @@ pub fn write_about<S: Sink>(console: &mut S, about: About) -> bool
 {
     match about {
         About::Help => {
-            write_all(console, HEAD) && write_forms(console, &FORMS) && write_all(console, FOOT)
+            write_all(console, HEAD)
+                && write_forms(console, &FORMS)
+                && write_forms(console, &TOOLS)
+                && write_all(console, FOOT)
         }
         About::Version => write_all(console, b"tesla 0.1.0\n"),
     }

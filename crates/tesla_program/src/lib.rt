@@ -6,13 +6,15 @@ ghost use Rattle.std.specs.Prelude.{◌≡◌};
 ghost use Rattle.tesla_program.specs.About.{Prints};
 
 mod about;
+mod choice;
 
 use about::{About, about_in, write_about};
+use choice::run_chosen;
 use std::alloc::AllocError;
 use std::process::ExitCode;
 use std::rt::{Env, Files};
 use std::{env, io};
-use tesla_cli::{FORMS, run_here};
+use tesla_cli::FORMS;
 use tesla_desk::{CONSOLE, Desk};
 use tesla_front::{Fault, Outcome, tell};
 use tesla_live::LiveDesk;
@@ -66,14 +68,15 @@ fn run_words<R: Env + Files + Print + AllocGlobal>(rt: &R) -> u8 {
     };
     match about_in(words.as_slice()) {
         Some(about) => print_about(&mut desk, about),
-        None => run_here(rt.alloc(), words.as_slice(), &mut desk),
+        None => run_chosen(rt.alloc(), words.as_slice(), &mut desk),
     }
 }
 
 /// Runs the words that the system hands over, over its files and its console, and gives the program's status.
 ///
-/// `--help` and `--version` alone print a text. All other words are run by [`run_here`], as none at all where one of
-/// them isn't UTF-8. Where there is no memory for the words, that is told, and the status is 6.
+/// `--help` and `--version` alone print a text. All other words are run by `run_tools` where the first of them names a
+/// tool, and else by `run_here`, as none at all where one of them isn't UTF-8. Where there is no memory for the words,
+/// that is told, and the status is 6.
 pub fn run_program<R: Env + Files + Print + AllocGlobal>(rt: &R) -> ExitCode {
     ExitCode::from(run_words(rt))
 }

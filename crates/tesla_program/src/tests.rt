@@ -42,6 +42,13 @@ tesla lag ASK REPLY KEY DRIFT
     replay takes as LAG, from the receiver's ASK and the sender's REPLY to it.
     KEY: the file of the key that both share
     DRIFT: how many microseconds the clocks drift apart, 0 to 4294967295
+tesla ask READING ASK-OUT
+    writes to ASK-OUT a receiver's ask for the sender's time.
+    READING: microseconds of the receiver's clock
+tesla reply ASK KEY READING REPLY-OUT
+    answers ASK as its sender, under the shared key in KEY, and writes the
+    reply to REPLY-OUT.
+    READING: microseconds of the sender's clock
 tesla --help
 tesla --version
 
@@ -83,5 +90,39 @@ fn help_without_a_console(rt: HostRuntime) -> Result<(), Fail> {
     desk.fail_open(0)?;
     assert_eq!(rt; print_about(&mut desk, About::Help), 7);
     assert!(rt; desk.page("-").is_none());
+    Ok(())
+}
+
+/// Lines of words, with the status and the console that they have to come to.
+const CHOSEN: [(&str, u8, &str); 4] = [
+    ("ask 5000000 asked", 0, "asked 5000000\n"),
+    (
+        "ask",
+        1,
+        "usage: ask READING ASK-OUT\nusage: reply ASK KEY READING REPLY-OUT\n",
+    ),
+    (
+        "reply asked asked 5020000 replied",
+        3,
+        "refused key 0 BadKey\n",
+    ),
+    ("lag asked asked asked 10000", 3, "refused key 0 BadKey\n"),
+];
+
+#[test]
+fn words_of_both_tables(rt: HostRuntime) -> Result<(), Fail> {
+    let mut desk = MemoryDesk::new(rt.alloc(), 1_000)?;
+    for (line, status, console) in CHOSEN {
+        let mut words = Vec::new(rt.alloc());
+        for word in line.split(' ') {
+            words.push(String::from_str(rt.alloc(), word)?)?;
+        }
+        assert_eq!(rt;
+            run_chosen(rt.alloc(), words.as_slice(), &mut desk),
+            status,
+            "{line}"
+        );
+        assert_eq!(rt; desk.page("-").unwrap_or(b""), console.as_bytes(), "{line}");
+    }
     Ok(())
 }

@@ -1,0 +1,21 @@
+//! The choice of the table that words are run by.
+
+ghost use Rattle.std.specs.Prelude.{◌≡◌, map, string_bytes};
+ghost use Rattle.tesla_front.specs.Came.{Came, status_of};
+ghost use Rattle.tesla_program.specs.Choice.{RunsChosen};
+
+use std::alloc::Global;
+use tesla_cli::run_here;
+use tesla_desk::Desk;
+use tesla_tools::{is_tool, run_tools};
+
+/// Runs the words as those of a tool where the first of them names one, and else as those of the other commands, and
+/// gives the status.
+pub fn run_chosen<D: Desk>(alloc: Global, words: &[String], desk: &mut D) -> u8
+    ensures { (told : Came) × (result ≡ status_of told) × RunsChosen (map string_bytes words.now) (D.told desk.old) (D.told desk.new) told }
+{
+    if is_tool(words) {
+        return run_tools(alloc, words, desk);
+    }
+    run_here(alloc, words, desk)
+}

@@ -1,0 +1,16 @@
+use Rattle.std.proofs.Common.{map, string_bytes}
+use Rattle.tesla_front.proofs.Commands.{runs_form, runs_usage}
+use Rattle.tesla_run_ask.specs.Arguments.{ask_arguments}
+use Rattle.tesla_run_ask.specs.Asking.{ask}
+use Rattle.tesla_run_ask.proofs.Runs.{ask_files}
+use Rattle.tesla_run_ask.proofs.asking.run_ask.Goals as goal
+
+pub perform-requires : goal.perform-requires
+perform-requires g c = ask_files (ask_arguments c.in-Some.arguments) (map string_bytes c.args.words.now) c.in-Some.ensures.found
+
+pub returns-in-Some : goal.returns-in-Some
+returns-in-Some g c =
+    rw c.outcome_of.ensures (runs_form ask ask_arguments (map string_bytes c.args.words.now) c.ask_in.result c.in-Some.arguments _ _ _ c.in-Some.is c.ask_in.ensures.only c.in-Some.ensures.found c.perform.ensures)
+
+pub returns-in-None : goal.returns-in-None
+returns-in-None g c = runs_usage ask ask_arguments (map string_bytes c.args.words.now) c.ask_in.result _ c.in-None.is c.ask_in.ensures.only

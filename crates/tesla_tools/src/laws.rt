@@ -1,0 +1,18 @@
+//! Laws about the tools, as contracts of functions that do nothing.
+
+ghost use Rattle.std.specs.Prelude.{ℕ, List};
+ghost use Rattle.tesla_desk.specs.Outside.{Told};
+ghost use Rattle.tesla_front.specs.Came.{Came};
+ghost use Rattle.tesla_front.specs.Command.{Performs, RunsAs};
+ghost use Rattle.tesla_run_ask.specs.Arguments.{AskArguments, IsAskForm, IsReplyForm, ReplyArguments};
+ghost use Rattle.tesla_run_ask.specs.Asking.{ask};
+ghost use Rattle.tesla_run_ask.specs.Replying.{reply};
+ghost use Rattle.tesla_tools.specs.Commands.{IsTool, command_of};
+
+/// Words that are a form of some tool are run as that tool, and are for this table: the first word of each form names it.
+pub fn forms_are_named()
+    ensures asks { (arguments : AskArguments) (words : List (List ℕ)) (old new : Told) (came : Came) → IsAskForm arguments words → RunsAs (command_of words) words old new came → Performs ask arguments old new came }
+    ensures replies { (arguments : ReplyArguments) (words : List (List ℕ)) (old new : Told) (came : Came) → IsReplyForm arguments words → RunsAs (command_of words) words old new came → Performs reply arguments old new came }
+    ensures ask_is { (arguments : AskArguments) (words : List (List ℕ)) → IsAskForm arguments words → IsTool words }
+    ensures reply_is { (arguments : ReplyArguments) (words : List (List ℕ)) → IsReplyForm arguments words → IsTool words }
+{}
