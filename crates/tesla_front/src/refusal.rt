@@ -2,8 +2,8 @@
 
 use crate::{Fault, Lines};
 
-/// An input that a command refuses: the status that the program ends with, 2 for a setup and 3 for any other input, and
-/// the line that tells the file, the line or the offset in it, and the kind of what is wrong there.
+/// An input that a command refuses: the status that the program ends with, 2 for a setup, 3 for any other input that
+/// isn't in its grammar or is wrong, or a status of the command's own; and the line that tells what is wrong, and where.
 #[derive(Debug, Drop)]
 pub struct Refusal {
     pub status: u8,
