@@ -1,10 +1,5 @@
 //! A table of no command over a desk in memory.
 
-ghost use Rattle.std.specs.Prelude.{◌≡◌, ℕ, List, map, string_bytes};
-ghost use Rattle.tesla_front.specs.Came.{outcome_came};
-ghost use Rattle.tesla_front.specs.Command.{Command, RunsAs, no_command};
-ghost use Rattle.tesla_front.specs.Usage.{usage_of, usage_line};
-
 use super::*;
 use std::alloc::Global;
 use std::test::Fail;
@@ -21,6 +16,10 @@ const FORM: FormText = FormText {
 };
 
 impl<D: Desk> Table<D> for Nothing {
+    ghost use Rattle.std.specs.Prelude.{codes};
+    ghost use Rattle.tesla_front.specs.Command.{no_command};
+    ghost use Rattle.tesla_front.specs.Usage.{usage_line};
+
     ghost command_of = { λ words. no_command };
 
     ghost usage = { usage_line (codes "wait SECONDS") };
