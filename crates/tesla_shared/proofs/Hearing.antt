@@ -1,7 +1,6 @@
 -- Arrivals that are made of a link, one after another.
-use Rattle.std.proofs.Common.{◌≡◌, ℕ, List, [], ◌∷◌, ◌++◌, map, Option, Some, None, IfSome, true, refl, sym, ap, subst, ◌∙◌, append_assoc, append-nil, arith}
+use Rattle.std.proofs.Common.{◌≡◌, ℕ, List, [], ◌∷◌, ◌++◌, map, Option, Some, None, true, refl, sym, ap, subst, ◌∙◌, append_assoc, append-nil, arith}
 use Rattle.std.specs.List.{list_all}
-use Rattle.std.specs.Option.{option_map}
 use Rattle.std.proofs.lemmas.List.{map-append}
 use Rattle.std.proofs.lemmas.Bool.{eq-eqb}
 use Rattle.std.proofs.lemmas.List.Concat.{flat_map-append}
@@ -12,7 +11,7 @@ use Rattle.tesla_receiver.specs.declared.history.Entry.TheVariants.{Arrived, End
 use Rattle.tesla_shared.specs.declared.outside.Item.{Item}
 use Rattle.tesla_shared.specs.declared.outside.Item.TheVariants as items
 use Rattle.tesla_shared.specs.Outside.{after_items, Ticking, next_reading, ticked, Ticks}
-use Rattle.tesla_shared.specs.Workers.{datagram_in, datagrams, bytes_of, reading_of, is_of, Came, Gave, Hears, HearsOne, HearsAll, Ingests}
+use Rattle.tesla_shared.specs.Workers.{datagram_in, datagrams, bytes_of, reading_of, is_of, Came, AreNext, Gave, Hears, HearsOne, HearsAll, Ingests}
 
 -- items that are taken one after another
 pub items_twice : (left : Option (List Item)) (a b : List Item) → after_items a (after_items b left) ≡ after_items (a ++ b) left
@@ -24,11 +23,24 @@ pub items_none : (left : Option (List Item)) → left ≡ after_items [] left
 items_none None = refl
 items_none (Some rest) = refl
 
+next_more : (readings : List ℕ) (before now after : Ticking) (reading : ℕ) → AreNext readings before now → after ≡ ticked now → reading ≡ next_reading now.ahead → AreNext (readings ++ reading ∷ []) before after
+next_more [] before now after reading are ticks reads = (reads ∙ ap (λ (z : Ticking). next_reading z.ahead) are, ticks ∙ ap ticked are)
+next_more (first ∷ readings) before now after reading are ticks reads = (are.0, next_more readings (ticked before) now after reading are.1 ticks reads)
+
 -- one reading more
-pub gave_more : (readings : List ℕ) (before now after : Option Ticking) (reading : ℕ) → Gave readings before now → Ticks now after reading → Gave (readings ++ reading ∷ []) before after
-gave_more [] before now after reading gave ticks =
-    (subst (λ (z : Option Ticking). IfSome z (λ told. reading ≡ next_reading told.ahead)) gave ticks.reads, ticks.told ∙ ap (option_map ticked) gave)
-gave_more (first ∷ readings) before now after reading gave ticks = (gave.0, gave_more readings (option_map ticked before) now after reading gave.1 ticks)
+gave_more : (readings : List ℕ) (before now after : Option Ticking) (reading : ℕ) → Gave readings before now → Ticks now after reading → Gave (readings ++ reading ∷ []) before after
+gave_more readings before now None reading gave ticks = tt
+gave_more readings before None (Some after) reading gave ticks = absurd ticks
+gave_more readings None (Some now) (Some after) reading gave ticks = absurd gave
+gave_more readings (Some before) (Some now) (Some after) reading gave ticks = (
+  ap (λ (z : Ticking). z.given) ticks.0 ∙ ap (λ (front : List ℕ). front ++ next_reading now.ahead ∷ []) gave.0 ∙ append_assoc before.given readings (next_reading now.ahead ∷ []) ∙ ap (λ (r : ℕ). before.given ++ (readings ++ r ∷ [])) (sym ticks.1),
+  next_more readings before now after reading gave.1 ticks.0 ticks.1,
+)
+
+-- no reading
+gave_none : (before : Option Ticking) → Gave [] before before
+gave_none None = tt
+gave_none (Some before) = (sym (append-nil before.given), refl)
 
 -- items more, of which each datagram is an arrival
 came_more : (arrivals more : List Arrival) (taken : List Item) (left now later : Option (List Item)) → Came arrivals left now → now ≡ after_items taken later → datagrams taken ≡ map bytes_of more → Came (arrivals ++ more) left later
@@ -45,7 +57,7 @@ is_own ingest arrival same = grind (arith, eq-eqb arrival.ingest ingest same)
 pub hears_none : (ingest : ℕ) (made : List Entry) (left : Option (List Item)) (before : Option Ticking) → HearsAll ingest made made left left before before
 hears_none ingest made left before = record {
   arrivals = [];
-  hears = record { numbered = refl; came = ([], items_none left, refl); gave = refl };
+  hears = record { numbered = refl; came = ([], items_none left, refl); gave = gave_none before };
   made_are = sym (append-nil made);
 }
 

@@ -47,7 +47,8 @@ later_readings (reading ∷ (next ∷ more)) = next ∷ more
 abbrev pub ticked : Ticking → Ticking
 ticked told = record { ahead = later_readings told.ahead; given = told.given ++ next_reading told.ahead ∷ [] }
 
--- one reading was given. A clock tells after it exactly where it told before
-pub record Ticks (old new : Option Ticking) (reading : ℕ) : Type 0 where
-  pub told : new ≡ option_map ticked old
-  pub reads : IfSome old (λ before. reading ≡ next_reading before.ahead)
+-- one reading was given, and the clock tells no more, or told before and tells it
+abbrev pub Ticks : Option Ticking → Option Ticking → ℕ → Type 0
+Ticks old None reading = Unit {0}
+Ticks None (Some after) reading = ⊥
+Ticks (Some before) (Some after) reading = (after ≡ ticked before) × (reading ≡ next_reading before.ahead)

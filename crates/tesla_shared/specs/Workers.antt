@@ -1,7 +1,6 @@
 -- What the workers of a receiver do: the calls of their passes, against what links and clocks tell and sinks hold.
-use Rattle.std.specs.Prelude.{◌≡◌, ℕ, ◌==◌, Bool, true, false, List, [], ◌∷◌, ◌++◌, map, flat_map, Option, Some, None, IfSome}
+use Rattle.std.specs.Prelude.{◌≡◌, ℕ, ◌==◌, Bool, true, false, List, [], ◌∷◌, ◌++◌, map, flat_map, Option, Some, None}
 use Rattle.std.specs.List.{list_all}
-use Rattle.std.specs.Option.{option_map}
 use Rattle.tesla_desk.specs.Outside.{AppendsPrefix, with_bytes}
 use Rattle.tesla_capture.specs.Release.{release_text}
 use Rattle.tesla_receiver.specs.declared.history.Arrival.{Arrival}
@@ -38,10 +37,16 @@ is_of ingest arrival = arrival.ingest == ingest
 abbrev pub Came : List Arrival → Option (List Item) → Option (List Item) → Type 0
 Came arrivals left later = (taken : List Item) × (left ≡ after_items taken later) × (datagrams taken ≡ map bytes_of arrivals)
 
--- the clock gave these readings, and no other
+-- each of these readings is the next that the clock gives
+abbrev pub AreNext : List ℕ → Ticking → Ticking → Type 0
+AreNext [] before after = after ≡ before
+AreNext (reading ∷ readings) before after = (reading ≡ next_reading before.ahead) × AreNext readings (ticked before) after
+
+-- the clock gave these readings and no other, and tells no more, or told before and tells them
 abbrev pub Gave : List ℕ → Option Ticking → Option Ticking → Type 0
-Gave [] before after = after ≡ before
-Gave (reading ∷ readings) before after = IfSome before (λ told. reading ≡ next_reading told.ahead) × Gave readings (option_map ticked before) after
+Gave readings before None = Unit {0}
+Gave readings None (Some after) = ⊥
+Gave readings (Some before) (Some after) = (after.given ≡ before.given ++ readings) × AreNext readings before after
 
 -- each datagram that left the link is one arrival of the ingest, with one reading of the clock
 pub record Hears (ingest : ℕ) (arrivals : List Arrival) (left later : Option (List Item)) (before after : Option Ticking) : Type 0 where

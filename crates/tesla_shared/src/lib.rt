@@ -5,13 +5,13 @@
 mod acts;
 mod draining;
 mod ingesting;
-//mod memory;
+mod memory;
 mod outside;
 mod station;
 
 pub use draining::{SinkEnd, drain};
 pub use ingesting::{LinkEnd, ingest};
-//pub use memory::{Letters, Readings};
+pub use memory::{Letters, Readings};
 pub use outside::{Clock, Gate, Got, Item, Link};
 pub use station::Station;
 
