@@ -15,5 +15,5 @@ pub use memory::{Letters, Readings};
 pub use outside::{Clock, Gate, Got, Item, Link};
 pub use station::Station;
 
-//#[cfg(test)]
-//mod tests;
+#[cfg(test)]
+mod tests;
