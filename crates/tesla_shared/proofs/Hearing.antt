@@ -11,7 +11,7 @@ use Rattle.tesla_receiver.specs.declared.history.Entry.TheVariants.{Arrived, End
 use Rattle.tesla_shared.specs.declared.outside.Item.{Item}
 use Rattle.tesla_shared.specs.declared.outside.Item.TheVariants as items
 use Rattle.tesla_shared.specs.Outside.{after_items, Ticking, next_reading, ticked, Ticks}
-use Rattle.tesla_shared.specs.Workers.{datagram_in, datagrams, bytes_of, reading_of, is_of, Came, AreNext, Gave, Hears, HearsOne, HearsAll, Ingests}
+use Rattle.tesla_shared.specs.Workers.{datagram_in, datagrams, bytes_of, reading_of, is_of, Came, AreNext, Gave, HearsOne, HearsAll, Ingests}
 
 -- items that are taken one after another
 pub items_twice : (left : Option (List Item)) (a b : List Item) → after_items a (after_items b left) ≡ after_items (a ++ b) left

@@ -1,7 +1,7 @@
 -- What a link and a clock in memory tell after a call.
-use Rattle.std.proofs.Common.{◌≡◌, ℕ, zero, suc, ◌+◌, ◌-◌, ◌^◌, ◌<◌, ◌≤◌, min, nat_lt, Bool, true, false, List, [], ◌∷◌, ◌++◌, length, drop, get_or, Option, Some, None, refl, sym, subst, ap, ◌∙◌, arith}
+use Rattle.std.proofs.Common.{◌≡◌, ℕ, zero, suc, ◌+◌, ◌-◌, ◌^◌, min, nat_lt, Bool, true, false, List, [], ◌∷◌, ◌++◌, length, drop, get_or, refl, sym, subst, ap, ◌∙◌, arith}
 use Rattle.std.proofs.lemmas.Bool.Decides.{nat_tests}
-use Rattle.tesla_shared.specs.Outside.{Ticking, next_reading, later_readings, ticked, Ticks}
+use Rattle.tesla_shared.specs.Outside.{next_reading, later_readings, Ticks}
 use Rattle.tesla_shared.specs.Memory.{ahead_after, reading_after, readings_until, told_where, told_after}
 
 -- what comes after one reading more

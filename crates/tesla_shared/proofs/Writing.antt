@@ -1,11 +1,10 @@
 -- Records that are written of the answers to takes, one after another.
-use Rattle.std.proofs.Common.{◌≡◌, ℕ, ◌+◌, ◌≤◌, List, [], ◌∷◌, ◌++◌, map, length, take, Option, Some, None, true, refl, sym, ap, subst, ◌∙◌, append_assoc, append-nil, arith}
-use Rattle.std.specs.List.{list_all, flat_map}
+use Rattle.std.proofs.Common.{◌≡◌, ℕ, List, [], ◌∷◌, ◌++◌, length, Option, Some, None, true, refl, sym, ap, subst, ◌∙◌, append_assoc, append-nil, arith}
 use Rattle.std.proofs.lemmas.List.{map-append, length-append}
 use Rattle.std.proofs.lemmas.List.Concat.{flat_map-append}
 use Rattle.tesla_base.proofs.Lists.{list_all_both}
 use Rattle.tesla_desk.specs.Outside.{AppendsPrefix, with_bytes}
-use Rattle.tesla_desk.proofs.Told.{with_bytes_twice, prefix_none}
+use Rattle.tesla_desk.proofs.Told.{with_bytes_twice}
 use Rattle.tesla_capture.specs.Gathering.{Gathers}
 use Rattle.tesla_receiver.specs.declared.history.Entry.{Entry}
 use Rattle.tesla_receiver.specs.declared.history.Entry.TheVariants.{Taken}

@@ -1,5 +1,5 @@
 -- What a link and a clock in memory keep.
-use Rattle.std.specs.Prelude.{ℕ, ◌+◌, ◌-◌, ◌^◌, Bool, true, false, nat_lt, min, zero, suc, List, [], ◌∷◌, ◌++◌, length, drop, Option, Some, None, if◌then◌else◌, get_or}
+use Rattle.std.specs.Prelude.{ℕ, ◌-◌, ◌^◌, Bool, true, false, nat_lt, min, zero, suc, List, [], ◌∷◌, ◌++◌, length, drop, Option, Some, None, if◌then◌else◌, get_or}
 use Rattle.tesla_shared.specs.declared.outside.Item.{Item}
 use Rattle.tesla_shared.specs.declared.outside.Item.TheVariants as items
 use Rattle.tesla_shared.specs.declared.outside.Got.{Got}

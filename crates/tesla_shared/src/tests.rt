@@ -57,7 +57,9 @@ const FRAMES: [&str; 6] = [
 ];
 
 // When they come.
-const COMES: [u64; 6] = [1_350_000, 1_360_000, 1_550_000, 1_560_000, 1_650_000, 1_850_000];
+const COMES: [u64; 6] = [
+    1_350_000, 1_360_000, 1_550_000, 1_560_000, 1_650_000, 1_850_000,
+];
 
 // The records of the five packets: position, interval, number, chain, length and payload.
 const RECORDS: [&str; 5] = [
@@ -88,7 +90,10 @@ fn clock_of(alloc: Global, readings: &[u64]) -> Result<Readings, Fail> {
 }
 
 // A turn over a receiver with room for 16 packets and one ingest, for two passes of so many calls.
-fn opened(alloc: Global, calls: u64) -> Result<(Turn<Receiver>, Pass<Receiver>, Pass<Receiver>), Fail>
+fn opened(
+    alloc: Global,
+    calls: u64,
+) -> Result<(Turn<Receiver>, Pass<Receiver>, Pass<Receiver>), Fail>
     requires { calls ≤ 2 ^ 40 }
     ensures { IfOk result (λ t. (t.1.turn ≡ t.0) × (t.2.turn ≡ t.0) × (t.1.number ≡ 0) × (left_of t.1 ≡ calls) × (left_of t.2 ≡ calls)) }
 {
@@ -138,7 +143,15 @@ fn one_after_the_other<R: Wait>(
     let Ok(mut out) = desk.open_sink("out") else {
         return Err("not opened".into());
     };
-    let link = ingest(rt, 0, &mut link, &mut clock, &mut Counts::new(), &turn, &mut first);
+    let link = ingest(
+        rt,
+        0,
+        &mut link,
+        &mut clock,
+        &mut Counts::new(),
+        &turn,
+        &mut first,
+    );
     let sink = drain(rt, 0, &mut out, &mut Counts::new(), &turn, &mut second);
     desk.close_sink(out);
     let left = second.left();
@@ -234,7 +247,15 @@ fn hears<R: Wait>(
     requires { (pass.turn ≡ turn.now) × (0 < left_of pass) }
     ensures { OnlyCalls pass result.1 }
 {
-    let end = ingest(rt, 0, &mut link, &mut clock, &mut Counts::new(), turn, &mut pass);
+    let end = ingest(
+        rt,
+        0,
+        &mut link,
+        &mut clock,
+        &mut Counts::new(),
+        turn,
+        &mut pass,
+    );
     (end, pass)
 }
 

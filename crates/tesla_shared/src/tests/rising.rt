@@ -120,11 +120,16 @@ fn hears<R: Wait>(
 {
     let mut link = Empties { left: EACH };
     let mut clock = OneMore { count };
-    let _ = ingest(rt, number, &mut link, &mut clock, &mut Open, turn, &mut pass);
+    let _ = ingest(
+        rt, number, &mut link, &mut clock, &mut Open, turn, &mut pass,
+    );
     pass
 }
 
-fn by_two_threads<R: Threads + Wait + Sync>(rt: &R, alloc: std::alloc::Global) -> Result<Rising, NoMemory> {
+fn by_two_threads<R: Threads + Wait + Sync>(
+    rt: &R,
+    alloc: std::alloc::Global,
+) -> Result<Rising, NoMemory> {
     let rising = Rising {
         arrivals: 0,
         last: 0,

@@ -1,4 +1,4 @@
-use Rattle.std.proofs.Common.{◌≡◌, take, refl, ◌∙◌}
+use Rattle.std.proofs.Common.{take, refl, ◌∙◌}
 use Rattle.tesla_desk.proofs.Told.{appends_none}
 use Rattle.tesla_state.specs.declared.replies.Reply.TheVariants.{Given, Empty}
 use Rattle.tesla_shared.proofs.Passing.{only_more}

@@ -1,4 +1,4 @@
-use Rattle.std.proofs.Common.{◌≡◌, List, ℕ, length, take, refl, ap, arith, rules}
+use Rattle.std.proofs.Common.{◌≡◌, List, ℕ, length, take, ap, arith, rules}
 use Rattle.tesla_capture.specs.Release.{release_text}
 use Rattle.tesla_shared.proofs.Writing.{gathered_whole, gathered_prefix}
 use Rattle.tesla_shared.proofs.draining.write_whole.Goals as goal
