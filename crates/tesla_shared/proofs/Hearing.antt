@@ -1,0 +1,95 @@
+-- Arrivals that are made of a link, one after another.
+use Rattle.std.proofs.Common.{◌≡◌, ℕ, List, [], ◌∷◌, ◌++◌, map, Option, Some, None, true, refl, sym, ap, subst, ◌∙◌, append_assoc, append-nil, arith}
+use Rattle.std.specs.List.{list_all}
+use Rattle.std.proofs.lemmas.List.{map-append}
+use Rattle.std.proofs.lemmas.Bool.{eq-eqb}
+use Rattle.std.proofs.lemmas.List.Concat.{flat_map-append}
+use Rattle.tesla_base.proofs.Lists.{list_all_both}
+use Rattle.tesla_receiver.specs.declared.history.Arrival.{Arrival}
+use Rattle.tesla_receiver.specs.declared.history.Entry.{Entry}
+use Rattle.tesla_receiver.specs.declared.history.Entry.TheVariants.{Arrived, Ended}
+use Rattle.tesla_shared.specs.declared.outside.Item.{Item}
+use Rattle.tesla_shared.specs.declared.outside.Item.TheVariants as items
+use Rattle.tesla_shared.specs.Outside.{after_items, Ticking, next_reading, ticked, Ticks}
+use Rattle.tesla_shared.specs.Workers.{datagram_in, datagrams, bytes_of, reading_of, is_of, Came, AreNext, Gave, HearsOne, HearsAll, Ingests}
+
+-- items that are taken one after another
+pub items_twice : (left : Option (List Item)) (a b : List Item) → after_items a (after_items b left) ≡ after_items (a ++ b) left
+items_twice None a b = refl
+items_twice (Some rest) a b = ap (λ (all : List Item). Some all) (sym (append_assoc a b rest))
+
+-- no item was taken
+pub items_none : (left : Option (List Item)) → left ≡ after_items [] left
+items_none None = refl
+items_none (Some rest) = refl
+
+next_more : (readings : List ℕ) (before now after : Ticking) (reading : ℕ) → AreNext readings before now → after ≡ ticked now → reading ≡ next_reading now.ahead → AreNext (readings ++ reading ∷ []) before after
+next_more [] before now after reading are ticks reads = (reads ∙ ap (λ (z : Ticking). next_reading z.ahead) are, ticks ∙ ap ticked are)
+next_more (first ∷ readings) before now after reading are ticks reads = (are.0, next_more readings (ticked before) now after reading are.1 ticks reads)
+
+-- one reading more
+gave_more : (readings : List ℕ) (before now after : Option Ticking) (reading : ℕ) → Gave readings before now → Ticks now after reading → Gave (readings ++ reading ∷ []) before after
+gave_more readings before now None reading gave ticks = tt
+gave_more readings before None (Some after) reading gave ticks = absurd ticks
+gave_more readings None (Some now) (Some after) reading gave ticks = absurd gave
+gave_more readings (Some before) (Some now) (Some after) reading gave ticks = (
+  ap (λ (z : Ticking). z.given) ticks.0 ∙ ap (λ (front : List ℕ). front ++ next_reading now.ahead ∷ []) gave.0 ∙ append_assoc before.given readings (next_reading now.ahead ∷ []) ∙ ap (λ (r : ℕ). before.given ++ (readings ++ r ∷ [])) (sym ticks.1),
+  next_more readings before now after reading gave.1 ticks.0 ticks.1,
+)
+
+-- no reading
+gave_none : (before : Option Ticking) → Gave [] before before
+gave_none None = tt
+gave_none (Some before) = (sym (append-nil before.given), refl)
+
+-- items more, of which each datagram is an arrival
+came_more : (arrivals more : List Arrival) (taken : List Item) (left now later : Option (List Item)) → Came arrivals left now → now ≡ after_items taken later → datagrams taken ≡ map bytes_of more → Came (arrivals ++ more) left later
+came_more arrivals more taken left now later came next same = (
+  came.0 ++ taken,
+  came.1 ∙ ap (after_items came.0) next ∙ items_twice later came.0 taken,
+  flat_map-append datagram_in came.0 taken ∙ ap (λ (front : List (List ℕ)). front ++ datagrams taken) came.2 ∙ ap (λ (back : List (List ℕ)). map bytes_of arrivals ++ back) same ∙ sym (map-append bytes_of arrivals more),
+)
+
+is_own : (ingest : ℕ) (arrival : Arrival) → arrival.ingest ≡ ingest → list_all (is_of ingest) (arrival ∷ []) ≡ true
+is_own ingest arrival same = grind (arith, eq-eqb arrival.ingest ingest same)
+
+-- no arrival was made
+pub hears_none : (ingest : ℕ) (made : List Entry) (left : Option (List Item)) (before : Option Ticking) → HearsAll ingest made made left left before before
+hears_none ingest made left before = record {
+  arrivals = [];
+  hears = record { numbered = refl; came = ([], items_none left, refl); gave = gave_none before };
+  made_are = sym (append-nil made);
+}
+
+-- a datagram more
+pub hears_more : (ingest : ℕ) (bytes : List ℕ) (made mid now : List Entry) (left rest later : Option (List Item)) (before then after : Option Ticking) → HearsAll ingest made mid left rest before then → rest ≡ after_items (items.Datagram bytes ∷ []) later → HearsOne ingest bytes mid now then after → HearsAll ingest made now left later before after
+hears_more ingest bytes made mid now left rest later before then after all next one =
+    let more : List Arrival = one.arrival ∷ [] in record {
+      arrivals = all.arrivals ++ more;
+      hears = record {
+        numbered = list_all_both (is_of ingest) all.arrivals more all.hears.numbered (is_own ingest one.arrival one.numbered);
+        came = came_more all.arrivals more (items.Datagram bytes ∷ []) left rest later all.hears.came next (ap (λ (b : List ℕ). b ∷ []) (sym one.bytes_are));
+        gave = subst (λ (rs : List ℕ). Gave rs before after) (sym (map-append reading_of all.arrivals more)) (gave_more (map reading_of all.arrivals) before then after one.arrival.reading all.hears.gave one.ticks);
+      };
+      made_are = one.made_is ∙ ap (λ (es : List Entry). es ++ Arrived one.arrival ∷ []) all.made_are ∙ append_assoc made (map Arrived all.arrivals) (Arrived one.arrival ∷ []) ∙ ap (λ (es : List Entry). made ++ es) (sym (map-append Arrived all.arrivals more));
+    }
+
+-- a quiet more
+pub hears_quiet : (ingest : ℕ) (made now : List Entry) (left rest later : Option (List Item)) (before after : Option Ticking) → HearsAll ingest made now left rest before after → rest ≡ after_items (items.Quiet ∷ []) later → HearsAll ingest made now left later before after
+hears_quiet ingest made now left rest later before after all next = record {
+  arrivals = all.arrivals;
+  hears = record {
+    numbered = all.hears.numbered;
+    came = subst (λ (arrivals : List Arrival). Came arrivals left later) (append-nil all.arrivals) (came_more all.arrivals [] (items.Quiet ∷ []) left rest later all.hears.came next refl);
+    gave = all.hears.gave;
+  };
+  made_are = all.made_are;
+}
+
+-- the end behind the arrivals
+pub ends_after : (ingest : ℕ) (made mid now : List Entry) (left later : Option (List Item)) (before after : Option Ticking) → HearsAll ingest made mid left later before after → now ≡ mid ++ Ended ingest ∷ [] → Ingests ingest made now left later before after
+ends_after ingest made mid now left later before after all ended = record {
+  arrivals = all.arrivals;
+  hears = all.hears;
+  made_are = ended ∙ ap (λ (es : List Entry). es ++ Ended ingest ∷ []) all.made_are ∙ append_assoc made (map Arrived all.arrivals) (Ended ingest ∷ []);
+}

@@ -1,0 +1,4 @@
+pub mod Hearing
+pub mod Passing
+pub mod Writing
+pub mod Remembering

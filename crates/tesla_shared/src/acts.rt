@@ -1,0 +1,109 @@
+//! What a worker does in a turn.
+
+ghost use Rattle.std.specs.Prelude.{◌≡◌, ◌<◌, ◌^◌, ◌++◌, ◌∷◌, [], List, length};
+ghost use Rattle.tesla_receiver.specs.declared.history.Entry.{Entry};
+ghost use Rattle.tesla_receiver.specs.declared.history.Entry.TheVariants.{Arrived};
+
+use crate::outside::Clock;
+use crate::station::Station;
+use std::marker::Brand;
+use std::sync::ledger::{Blank, Ledger};
+use tesla_base::Steps;
+use tesla_receiver::{Take, Verdict};
+use tesla_turn::Act;
+
+/// Reads the clock, and makes an arrival of a datagram.
+#[derive(Drop)]
+pub(crate) struct Hear<'a, C: Clock> {
+    pub(crate) ingest: u8,
+    pub(crate) bytes: &'a [u8],
+    pub(crate) clock: &'a mut C,
+}
+
+/// When a datagram came, and its verdict.
+#[derive(Drop)]
+pub(crate) struct Heard {
+    pub(crate) reading: u64,
+    pub(crate) verdict: Verdict,
+}
+
+impl<V: Station, C: Clock> Act<V> for Hear<'_, C> {
+    ghost use Rattle.std.specs.Prelude.{◌≡◌};
+    ghost use Rattle.tesla_receiver.specs.declared.history.Entry.TheVariants.{Arrived};
+    ghost use Rattle.tesla_shared.specs.Outside.{Ticks};
+
+    type Reply = Heard;
+
+    ghost entry = { λ act heard. Arrived (record { ingest = act.ingest; reading = heard.reading; bytes = act.bytes.now; verdict = heard.verdict }) };
+
+    ghost relation = { λ before after heard. (after.ingest ≡ before.ingest) × (after.bytes ≡ before.bytes) × (after.clock.ghost_name ≡ before.clock.ghost_name) × Ticks (C.told before.clock.now) (C.told after.clock.now) heard.reading };
+
+    fn run(&mut self, value: &mut V) -> Heard {
+        let reading = self.clock.now();
+        let verdict = judge::<V, Brand>(value, self.ingest, reading, self.bytes, Blank::new(1));
+        Heard { reading, verdict }
+    }
+}
+
+/// An arrival, whose evaluations of HMAC nobody counts.
+fn judge<V: Station, L: Ledger>(
+    value: &mut V,
+    ingest: u8,
+    reading: u64,
+    bytes: &[u8],
+    blank: Blank,
+) -> Verdict
+    requires name { blank.name ≡ L.name }
+    requires parts { blank.parts ≡ L.parts }
+    requires some { 0 < L.parts }
+    requires stood { (h : List Entry) × (length h < 2 ^ 63) × V.stands value.old h }
+    ensures stands { (h : List Entry) → length h < 2 ^ 63 → V.stands value.old h → V.stands value.new (h ++ Arrived (record { ingest = ingest; reading = reading; bytes = bytes.now; verdict = result }) ∷ []) }
+    ensures config { V.config value.new ≡ V.config value.old }
+{
+    let mut steps = Steps::<L>::new(blank);
+    value.arrive(ingest, reading, bytes, &mut steps)
+}
+
+/// Takes the next released packet.
+#[derive(Drop)]
+pub(crate) struct TakeNext {
+    pub(crate) releaser: u8,
+    pub(crate) payload: [u8; 1200],
+}
+
+impl<V: Station> Act<V> for TakeNext {
+    ghost use Rattle.std.specs.Prelude.{◌≡◌};
+    ghost use Rattle.tesla_receiver.specs.declared.history.Entry.TheVariants.{Taken};
+    ghost use Rattle.tesla_state.specs.Replies.{reply_shown, KeepsBehind};
+
+    type Reply = Take;
+
+    ghost entry = { λ act reply. Taken act.releaser (reply_shown reply act.payload) };
+
+    ghost relation = { λ before after reply. (after.releaser ≡ before.releaser) × KeepsBehind reply before.payload after.payload };
+
+    fn run(&mut self, value: &mut V) -> Take {
+        value.take(self.releaser, &mut self.payload)
+    }
+}
+
+/// Ends an ingest.
+#[derive(Drop)]
+pub(crate) struct EndIngest {
+    pub(crate) ingest: u8,
+}
+
+impl<V: Station> Act<V> for EndIngest {
+    ghost use Rattle.std.specs.Prelude.{◌≡◌};
+    ghost use Rattle.tesla_receiver.specs.declared.history.Entry.TheVariants.{Ended};
+
+    type Reply = ();
+
+    ghost entry = { λ act _. Ended act.ingest };
+
+    ghost relation = { λ before after _. after ≡ before };
+
+    fn run(&mut self, value: &mut V) {
+        value.end(self.ingest);
+    }
+}

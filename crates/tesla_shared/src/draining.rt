@@ -1,0 +1,116 @@
+//! The worker of a sink.
+
+ghost use Rattle.std.specs.Prelude.{◌≡◌, ◌<◌, ◌≤◌, ◌+◌, ◌++◌, ◌∷◌, [], length, take, true, false};
+ghost use Rattle.tesla_desk.specs.Faults.{HasCause};
+ghost use Rattle.tesla_desk.specs.Outside.{AppendsPrefix, with_bytes};
+ghost use Rattle.tesla_capture.specs.Gathering.{gathered};
+ghost use Rattle.tesla_capture.specs.Release.{release_text};
+ghost use Rattle.tesla_receiver.specs.declared.history.Entry.TheVariants.{Taken};
+ghost use Rattle.tesla_state.specs.Replies.{reply_shown, KeepsBehind};
+ghost use Rattle.tesla_turn.specs.Held.{OnlyCalls, left_of};
+ghost use Rattle.tesla_shared.specs.Workers.{Drains};
+
+use crate::acts::TakeNext;
+use crate::outside::Gate;
+use crate::station::Station;
+use std::sync::Wait;
+use tesla_base::Head;
+use tesla_capture::Gatherer;
+use tesla_desk::Sink;
+use tesla_receiver::Take;
+use tesla_turn::{Pass, Turn};
+
+/// Why a worker takes no more packets.
+#[derive(Clone, Copy, Debug, PartialEq, Eq)]
+pub enum SinkEnd {
+    /// No packet waits, and all ingests have ended.
+    Over,
+    /// The sink failed.
+    Failed,
+    /// The pass had no call left.
+    Spent,
+}
+
+/// Takes released packets and writes the record of each to the sink, in one piece, until all ingests have ended or
+/// the sink fails or the pass has no call left. Where none waits it rests at the gate.
+///
+/// It waits for its turns, and nothing is promised of when it ends. It takes no memory.
+#[tactic(auto, using(crate::proofs::Writing::drains_none, crate::proofs::Writing::drains_more, crate::proofs::Writing::drains_over, crate::proofs::Writing::drains_failed, crate::proofs::Passing::only_more))]
+pub fn drain<R: Wait, V: Station, S: Sink, G: Gate>(
+    rt: &R,
+    number: u8,
+    sink: &mut S,
+    gate: &mut G,
+    turn: &Turn<V>,
+    pass: &mut Pass<V>,
+) -> SinkEnd
+    requires { pass.old.turn ≡ turn.now }
+    ensures drains { Drains number result pass.old.made pass.new.made (S.written sink.old) (S.written sink.new) }
+    ensures cause { HasCause (S.faults sink.old) (S.faults sink.new) (result ≡ SinkEnd.Failed) }
+    ensures spent { result ≡ SinkEnd.Spent → left_of pass.new ≡ 0 }
+    ensures calls { OnlyCalls pass.old pass.new }
+    ensures name { S.name sink.new ≡ S.name sink.old }
+{
+    let mut act = TakeNext {
+        releaser: number,
+        payload: [0; 1200],
+    };
+    let mut gatherer = Gatherer::new();
+    for _ in rt.forever() {
+        if pass.spent() {
+            return SinkEnd::Spent;
+        }
+        match take_once(rt, &mut act, gate, turn, pass) {
+            Take::Given(head) => {
+                if !write_whole(sink, &mut gatherer, &head, &act.payload) {
+                    return SinkEnd::Failed;
+                }
+            }
+            Take::Empty => gate.rest(),
+            Take::Over => return SinkEnd::Over,
+        }
+    }
+    unreachable!()
+}
+
+/// Takes once.
+#[tactic(auto, using(crate::proofs::Passing::one_call))]
+fn take_once<R: Wait, V: Station, G: Gate>(
+    rt: &R,
+    act: &mut TakeNext,
+    gate: &mut G,
+    turn: &Turn<V>,
+    pass: &mut Pass<V>,
+) -> Take
+    requires own { pass.old.turn ≡ turn.now }
+    requires left { 0 < left_of pass.old }
+    ensures made { pass.new.made ≡ pass.old.made ++ Taken act.old.releaser (reply_shown result act.new.payload) ∷ [] }
+    ensures releaser { act.new.releaser ≡ act.old.releaser }
+    ensures behind { KeepsBehind result act.old.payload act.new.payload }
+    ensures calls { OnlyCalls pass.old pass.new }
+{
+    gate.before();
+    let reply = turn.take_turn(rt, pass, act);
+    gate.after();
+    reply
+}
+
+/// Writes the record of a packet, whose payload is at the front of these bytes, in one piece. The gatherer is empty
+/// before, and after it where the record was written.
+fn write_whole<S: Sink>(
+    sink: &mut S,
+    gatherer: &mut Gatherer,
+    head: &Head,
+    payload: &[u8; 1200],
+) -> bool
+    requires empty { gathered gatherer.old ≡ [] }
+    requires limit { head.now.length ≤ 1200 }
+    ensures all { result ≡ true → S.written sink.new ≡ with_bytes (S.written sink.old) (release_text head.now (take head.now.length payload.now)) }
+    ensures empty { result ≡ true → gathered gatherer.new ≡ [] }
+    ensures prefix { AppendsPrefix (S.written sink.old) (S.written sink.new) (release_text head.now (take head.now.length payload.now)) }
+    ensures cause { HasCause (S.faults sink.old) (S.faults sink.new) (result ≡ false) }
+    ensures name { S.name sink.new ≡ S.name sink.old }
+{
+    let text = &payload[..usize::from(head.length)];
+    gatherer.put(sink, head, text) && gatherer.flush(sink)
+}

@@ -1,0 +1,139 @@
+//! The worker of a link.
+
+ghost use Rattle.std.specs.Prelude.{◌≡◌, ◌<◌, ◌+◌, ◌++◌, ◌∷◌, ◌↔◌, [], IfSome, map};
+ghost use Rattle.tesla_desk.specs.Faults.{HasCause};
+ghost use Rattle.tesla_receiver.specs.declared.history.Arrival.{Arrival};
+ghost use Rattle.tesla_receiver.specs.declared.history.Entry.TheVariants.{Arrived, Ended};
+ghost use Rattle.tesla_turn.specs.Held.{OnlyCalls, left_of};
+ghost use Rattle.tesla_shared.specs.Outside.{Ticks};
+ghost use Rattle.tesla_shared.specs.Workers.{HearsOne, HearsAll, Ingests};
+
+use crate::acts::{EndIngest, Hear};
+use crate::outside::{Clock, Gate, Got, Link};
+use crate::station::Station;
+use std::sync::Wait;
+use tesla_turn::{Pass, Turn};
+
+/// Why a worker asked its link for nothing more.
+#[derive(Clone, Copy, Debug, PartialEq, Eq)]
+pub enum LinkEnd {
+    /// Nothing was left.
+    Ended,
+    /// The link failed.
+    Failed,
+    /// The pass had one call left, which is kept for the end.
+    Spent,
+}
+
+/// Makes of each datagram of the link one arrival of the ingest, with a reading of the clock that is taken in the
+/// arrival's own turn, until the link ends or fails or the pass has one call left; and then ends the ingest.
+///
+/// It waits for the link and for its turns, and nothing is promised of when it ends. It takes no memory.
+#[tactic(auto, using(crate::proofs::Hearing::ends_after, crate::proofs::Passing::only_more))]
+pub fn ingest<R: Wait, V: Station, K: Link, C: Clock, G: Gate>(
+    rt: &R,
+    number: u8,
+    link: &mut K,
+    clock: &mut C,
+    gate: &mut G,
+    turn: &Turn<V>,
+    pass: &mut Pass<V>,
+) -> LinkEnd
+    requires own { pass.old.turn ≡ turn.now }
+    requires left { 0 < left_of pass.old }
+    ensures ingests { Ingests number pass.old.made pass.new.made (K.left link.old) (K.left link.new) (C.told clock.old) (C.told clock.new) }
+    ensures ended { result ≡ LinkEnd.Ended → IfSome (K.left link.new) (λ rest. rest ≡ []) }
+    ensures cause { HasCause (K.faults link.old) (K.faults link.new) (result ≡ LinkEnd.Failed) }
+    ensures spent { (result ≡ LinkEnd.Spent) ↔ (left_of pass.new ≡ 0) }
+    ensures calls { OnlyCalls pass.old pass.new }
+    ensures name { K.name link.new ≡ K.name link.old }
+{
+    let end = hear_all(rt, number, link, clock, gate, turn, pass);
+    end_once(rt, number, gate, turn, pass);
+    end
+}
+
+/// Makes an arrival of each datagram, and keeps one call.
+#[tactic(auto, using(crate::proofs::Hearing::hears_none, crate::proofs::Hearing::hears_more, crate::proofs::Hearing::hears_quiet, crate::proofs::Passing::only_more))]
+fn hear_all<R: Wait, V: Station, K: Link, C: Clock, G: Gate>(
+    rt: &R,
+    number: u8,
+    link: &mut K,
+    clock: &mut C,
+    gate: &mut G,
+    turn: &Turn<V>,
+    pass: &mut Pass<V>,
+) -> LinkEnd
+    requires own { pass.old.turn ≡ turn.now }
+    requires left { 0 < left_of pass.old }
+    ensures hears { HearsAll number pass.old.made pass.new.made (K.left link.old) (K.left link.new) (C.told clock.old) (C.told clock.new) }
+    ensures ended { result ≡ LinkEnd.Ended → IfSome (K.left link.new) (λ rest. rest ≡ []) }
+    ensures cause { HasCause (K.faults link.old) (K.faults link.new) (result ≡ LinkEnd.Failed) }
+    ensures spent { (result ≡ LinkEnd.Spent) ↔ (left_of pass.new ≡ 1) }
+    ensures left { 0 < left_of pass.new }
+    ensures calls { OnlyCalls pass.old pass.new }
+    ensures name { K.name link.new ≡ K.name link.old }
+{
+    let mut buffer = [0; 2048];
+    for _ in rt.forever() {
+        if pass.left() == 1 {
+            return LinkEnd::Spent;
+        }
+        match link.next(&mut buffer) {
+            Got::Datagram(length) => {
+                hear_once(rt, number, &buffer[..length], clock, gate, turn, pass);
+            }
+            Got::Quiet => {}
+            Got::End => return LinkEnd::Ended,
+            Got::Failed => return LinkEnd::Failed,
+        }
+    }
+    unreachable!()
+}
+
+/// Makes an arrival of a datagram.
+#[tactic(auto, using(crate::proofs::Passing::one_call))]
+fn hear_once<R: Wait, V: Station, C: Clock, G: Gate>(
+    rt: &R,
+    number: u8,
+    bytes: &[u8],
+    clock: &mut C,
+    gate: &mut G,
+    turn: &Turn<V>,
+    pass: &mut Pass<V>,
+)
+    requires own { pass.old.turn ≡ turn.now }
+    requires left { 0 < left_of pass.old }
+    ensures hears { HearsOne number bytes.now pass.old.made pass.new.made (C.told clock.old) (C.told clock.new) }
+    ensures left { left_of pass.new + 1 ≡ left_of pass.old }
+    ensures calls { OnlyCalls pass.old pass.new }
+{
+    gate.before();
+    let mut act = Hear {
+        ingest: number,
+        bytes,
+        clock,
+    };
+    let _ = turn.take_turn(rt, pass, &mut act);
+    gate.after();
+}
+
+/// Ends the ingest.
+#[tactic(auto, using(crate::proofs::Passing::one_call))]
+fn end_once<R: Wait, V: Station, G: Gate>(
+    rt: &R,
+    number: u8,
+    gate: &mut G,
+    turn: &Turn<V>,
+    pass: &mut Pass<V>,
+)
+    requires own { pass.old.turn ≡ turn.now }
+    requires left { 0 < left_of pass.old }
+    ensures made { pass.new.made ≡ pass.old.made ++ Ended number ∷ [] }
+    ensures left { left_of pass.new + 1 ≡ left_of pass.old }
+    ensures calls { OnlyCalls pass.old pass.new }
+{
+    gate.before();
+    turn.take_turn(rt, pass, &mut EndIngest { ingest: number });
+    gate.after();
+}

@@ -1,0 +1,61 @@
+//! What workers share by turns.
+
+ghost use Rattle.std.specs.Prelude.{◌≡◌, ◌<◌, ◌^◌, ◌++◌, ◌∷◌, [], List, length};
+ghost use Rattle.tesla_receiver.specs.declared.history.Entry.{Entry};
+ghost use Rattle.tesla_receiver.specs.declared.history.Entry.TheVariants.{Arrived, Taken, Ended};
+ghost use Rattle.tesla_state.specs.Replies.{reply_shown, KeepsBehind};
+
+use std::sync::ledger::Ledger;
+use tesla_base::Steps;
+use tesla_receiver::{Entry, Receiver, Take, Verdict};
+use tesla_turn::Chronicle;
+
+/// A receiver that threads share by turns. What stood for a history then stands for it with one entry more, which is
+/// the event with the answer that the call gives.
+pub trait Station: Chronicle<Entry = Entry> + Drop {
+    /// Judges a datagram of an ingest, with the reading of the receiver's clock in microseconds.
+    fn arrive<L: Ledger>(
+        &mut self,
+        ingest: u8,
+        reading: u64,
+        bytes: &[u8],
+        steps: &mut Steps<L>,
+    ) -> Verdict
+        requires { (h : List Entry) × (length h < 2 ^ 63) × Self.stands self.old h }
+        ensures stands { (h : List Entry) → length h < 2 ^ 63 → Self.stands self.old h → Self.stands self.new (h ++ Arrived (record { ingest = ingest; reading = reading; bytes = bytes.now; verdict = result }) ∷ []) }
+        ensures config { Self.config self.new ≡ Self.config self.old };
+
+    /// Gives the next released packet, whose payload is then at the front of the buffer, or says whether all
+    /// ingests have ended.
+    fn take(&mut self, releaser: u8, into: &mut [u8; 1200]) -> Take
+        requires { (h : List Entry) × (length h < 2 ^ 63) × Self.stands self.old h }
+        ensures stands { (h : List Entry) → length h < 2 ^ 63 → Self.stands self.old h → Self.stands self.new (h ++ Taken releaser (reply_shown result into.new) ∷ []) }
+        ensures behind { KeepsBehind result into.old into.new }
+        ensures config { Self.config self.new ≡ Self.config self.old };
+
+    /// Ends an ingest.
+    fn end(&mut self, ingest: u8)
+        requires { (h : List Entry) × (length h < 2 ^ 63) × Self.stands self.old h }
+        ensures stands { (h : List Entry) → length h < 2 ^ 63 → Self.stands self.old h → Self.stands self.new (h ++ Ended ingest ∷ []) }
+        ensures config { Self.config self.new ≡ Self.config self.old };
+}
+
+impl Station for Receiver {
+    fn arrive<L: Ledger>(
+        &mut self,
+        ingest: u8,
+        reading: u64,
+        bytes: &[u8],
+        steps: &mut Steps<L>,
+    ) -> Verdict {
+        Receiver::arrive(self, ingest, reading, bytes, steps)
+    }
+
+    fn take(&mut self, releaser: u8, into: &mut [u8; 1200]) -> Take {
+        Receiver::take(self, releaser, into)
+    }
+
+    fn end(&mut self, ingest: u8) {
+        Receiver::end(self, ingest);
+    }
+}
