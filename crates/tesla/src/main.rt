@@ -2,8 +2,19 @@
 #![tactic(auto)]
 
 use std::process::ExitCode;
-use tesla_program::run_program;
+use tesla_cli_live::{is_live, run_live};
+use tesla_live::{Gates, LiveDesk};
+use tesla_program::{run_program, words};
 
 fn main(rt: HostRuntime) -> ExitCode {
-    run_program(&rt)
+    let gates = Gates::new();
+    let mut desk = LiveDesk::new(&rt, &gates);
+    let words = words(&rt);
+    if let Ok(words) = &words {
+        if is_live(words.as_slice()) {
+            let done = run_live(&rt, rt.alloc(), words.as_slice(), &mut desk);
+            return ExitCode::from(done.status);
+        }
+    }
+    run_program(rt.alloc(), words, &mut desk)
 }

@@ -19,7 +19,7 @@ fn name(interval: u32, number: u16) -> Name {
 }
 
 /// A packet of this arrival and name.
-fn item(order: u64, name: Name) -> Item {
+fn item(order: u64, name: Name, released: bool) -> Item {
     let tag = WideTag {
         bytes: [7; 32],
         length: 16,
@@ -28,7 +28,7 @@ fn item(order: u64, name: Name) -> Item {
         order,
         name,
         chains: 3,
-        released: false,
+        released,
         taken: false,
         length: 4,
         payload: [116; 1200],
@@ -36,41 +36,49 @@ fn item(order: u64, name: Name) -> Item {
     }
 }
 
-/// The arrivals of the packets of an interval, in order, by the calls that lead from one to the next.
-fn arrivals(alloc: Global, buffer: &Buffer, interval: u32) -> Result<Vec<u64>, Fail> {
-    let mut arrivals = Vec::new(alloc);
+/// Whether these are the arrivals of the packets of an interval, in order, by the calls that lead from one to the next.
+fn holds(buffer: &Buffer, interval: u32, arrivals: &[u64]) -> bool {
     let mut next = buffer.first_of(interval);
-    for _ in 0..buffer.held() {
+    for order in arrivals {
         let Some(place) = next else {
-            return Ok(arrivals);
+            return false;
         };
-        arrivals.push(buffer.item(place).order)?;
+        if buffer.item(place).order != *order {
+            return false;
+        }
         next = buffer.next_of(place);
     }
-    Ok(arrivals)
+    next.is_none() && buffer.held_in(interval) as usize == arrivals.len()
 }
 
-/// The arrivals of the packets of an interval that were not released, in order, by the calls that lead from one to
-/// the next.
-fn unreleased(alloc: Global, buffer: &Buffer, interval: u32) -> Result<Vec<u64>, Fail> {
-    let mut arrivals = Vec::new(alloc);
+/// Whether these are the arrivals of the packets of an interval that were not released, in order, by the calls that lead
+/// from one to the next.
+fn holds_unreleased(buffer: &Buffer, interval: u32, arrivals: &[u64]) -> bool {
     let mut next = buffer.first_unreleased(interval);
-    for _ in 0..buffer.unreleased_in(interval) {
+    for order in arrivals {
         let Some(place) = next else {
-            return Ok(arrivals);
+            return false;
         };
-        arrivals.push(buffer.item(place).order)?;
+        if buffer.item(place).order != *order {
+            return false;
+        }
         next = buffer.next_unreleased(place);
     }
-    Ok(arrivals)
+    next.is_none() && buffer.unreleased_in(interval) as usize == arrivals.len()
 }
 
-/// Holds a packet, where there is room.
-fn hold(buffer: &mut Buffer, item: &Item) -> Option<Place> {
+/// A buffer of four places.
+fn opened(alloc: Global) -> Result<Buffer, Fail> {
+    Ok(Buffer::open(alloc, 4)?)
+}
+
+/// Holds a packet. Answers whether there is room.
+fn hold(buffer: &mut Buffer, item: &Item) -> bool {
     if buffer.held() == buffer.capacity() {
-        return None;
+        return false;
     }
-    Some(buffer.put(item))
+    buffer.put(item);
+    true
 }
 
 /// The place of a packet of an interval, so many behind its first.
@@ -96,161 +104,191 @@ fn settle(buffer: &mut Buffer, interval: u32, behind: u8, fate: Fate) -> bool {
     true
 }
 
-/// The marks of the first packet of an interval: whether it was released, and whether it was taken.
-fn marks(buffer: &Buffer, interval: u32) -> Option<(bool, bool)> {
-    let Some(place) = buffer.first_of(interval) else {
-        return None;
-    };
-    let item = buffer.item(place);
-    Some((item.released, item.taken))
-}
-
 /// What is done with a buffer.
 #[derive(Clone, Copy)]
 enum Step {
     /// A packet of an interval comes.
     Comes(u32),
+    /// A packet of this name comes; the last says whether it is released.
+    Named(u32, u16, bool),
     /// What becomes of the packet of an interval, so many behind its first.
     Settles(u32, u8, Fate),
 }
 
-/// A step, and the arrivals of the intervals 1, 5 and 9 that are held after it.
-#[derive(Clone, Copy)]
-struct Row {
-    step: Step,
-    first: &'static [u64],
-    second: &'static [u64],
-    third: &'static [u64],
-}
+use Step::*;
 
-/// The row of a step.
-fn after(step: Step, first: &'static [u64], second: &'static [u64], third: &'static [u64]) -> Row {
-    Row {
-        step,
-        first,
-        second,
-        third,
-    }
-}
-
-/// Steps in a buffer of four places, in which these intervals have one bucket.
-fn rows() -> [Row; 14] {
-    let gone = Fate::Gone;
-    [
-        after(Step::Comes(1), &[0], &[], &[]),
-        after(Step::Comes(5), &[0], &[1], &[]),
-        after(Step::Comes(1), &[0, 2], &[1], &[]),
-        after(Step::Comes(9), &[0, 2], &[1], &[3]),
-        after(Step::Settles(1, 0, gone), &[2], &[1], &[3]),
-        after(Step::Comes(5), &[2], &[1, 5], &[3]),
-        after(Step::Settles(5, 1, gone), &[2], &[1], &[3]),
-        after(Step::Comes(1), &[2, 7], &[1], &[3]),
-        after(Step::Settles(5, 0, gone), &[2, 7], &[], &[3]),
-        after(Step::Comes(1), &[2, 7, 9], &[], &[3]),
-        after(Step::Settles(1, 1, gone), &[2, 9], &[], &[3]),
-        after(Step::Settles(9, 0, gone), &[2, 9], &[], &[]),
-        after(Step::Comes(5), &[2, 9], &[12], &[]),
-        after(Step::Comes(9), &[2, 9], &[12], &[13]),
-    ]
-}
-
-/// Does what a row says. The arrival of a packet that comes is the number of its row.
+/// Does a step. The arrival of a packet that comes is the number of its step.
 fn is_done(buffer: &mut Buffer, number: u64, step: Step) -> bool {
     match step {
-        Step::Comes(interval) => hold(buffer, &item(number, name(interval, 0))).is_some(),
-        Step::Settles(interval, behind, fate) => settle(buffer, interval, behind, fate),
+        Comes(interval) => hold(buffer, &item(number, name(interval, 0), false)),
+        Named(interval, place, released) => {
+            hold(buffer, &item(number, name(interval, place), released))
+        }
+        Settles(interval, behind, fate) => settle(buffer, interval, behind, fate),
     }
 }
 
-/// Whether these arrivals of an interval are held.
-fn holds(alloc: Global, buffer: &Buffer, interval: u32, want: &[u64]) -> Result<bool, Fail> {
-    let arrivals = arrivals(alloc, buffer, interval)?;
-    Ok(arrivals.as_slice() == want && buffer.held_in(interval) as usize == want.len())
-}
+/// A step, and the arrivals of the intervals 1, 5 and 9 that are held after it.
+type Row = (Step, &'static [u64], &'static [u64], &'static [u64]);
 
-/// Whether what a row says can be done, and leaves the arrivals that it says.
-fn is_met(alloc: Global, buffer: &mut Buffer, number: u64, row: Row) -> Result<bool, Fail> {
-    Ok(
-        is_done(buffer, number, row.step)
-            && holds(alloc, buffer, 1, row.first)?
-            && holds(alloc, buffer, 5, row.second)?
-            && holds(alloc, buffer, 9, row.third)?
-            && holds(alloc, buffer, 13, &[])?,
-    )
-}
+/// Steps in a buffer of four places, in which these intervals have one bucket.
+const ONE_BUCKET: &[Row] = &[
+    (Comes(1), &[0], &[], &[]),
+    (Comes(5), &[0], &[1], &[]),
+    (Comes(1), &[0, 2], &[1], &[]),
+    (Comes(9), &[0, 2], &[1], &[3]),
+    (Settles(1, 0, Fate::Gone), &[2], &[1], &[3]),
+    (Comes(5), &[2], &[1, 5], &[3]),
+    (Settles(5, 1, Fate::Gone), &[2], &[1], &[3]),
+    (Comes(1), &[2, 7], &[1], &[3]),
+    (Settles(5, 0, Fate::Gone), &[2, 7], &[], &[3]),
+    (Comes(1), &[2, 7, 9], &[], &[3]),
+    (Settles(1, 1, Fate::Gone), &[2, 9], &[], &[3]),
+    (Settles(9, 0, Fate::Gone), &[2, 9], &[], &[]),
+    (Comes(5), &[2, 9], &[12], &[]),
+    (Comes(9), &[2, 9], &[12], &[13]),
+];
 
-#[test]
-fn the_second_of_two_packets_is_found_when_the_first_is_gone(rt: HostRuntime) -> Result<(), Fail> {
-    let mut buffer = Buffer::open(rt.alloc(), 2)?;
-    assert!(rt; buffer.capacity() == 2);
-    hold(&mut buffer, &item(0, name(1, 0)));
-    let second = hold(&mut buffer, &item(1, name(1, 1)));
-    assert!(rt; buffer.held() == 2);
-    assert!(rt; settle(&mut buffer, 1, 0, Fate::Gone));
-    assert!(rt; buffer.held() == 1);
-    assert!(rt; second.is_some() && buffer.first_of(1) == second);
-    Ok(())
+/// Whether these arrivals are held, and no others.
+fn holds_all(buffer: &Buffer, first: &[u64], second: &[u64], third: &[u64]) -> bool {
+    holds(buffer, 1, first)
+        && holds(buffer, 5, second)
+        && holds(buffer, 9, third)
+        && holds(buffer, 13, &[])
 }
 
 #[test]
 fn intervals_of_one_bucket_are_told_apart(rt: HostRuntime) -> Result<(), Fail> {
-    let alloc = rt.alloc();
-    let mut buffer = Buffer::open(alloc, 4)?;
-    for (number, row) in rows().iter().enumerate() {
-        assert!(rt; is_met(alloc, &mut buffer, number as u64, *row)?);
+    let mut buffer = opened(rt.alloc())?;
+    for (number, (step, first, second, third)) in ONE_BUCKET.iter().enumerate() {
+        let met = is_done(&mut buffer, number as u64, *step)
+            && holds_all(&buffer, first, second, third);
+        assert!(rt; met, "{number}");
     }
     Ok(())
 }
 
-#[test]
-fn a_released_packet_is_found_by_its_name_until_it_is_gone(rt: HostRuntime) -> Result<(), Fail> {
-    let mut buffer = Buffer::open(rt.alloc(), 3)?;
-    let first = hold(&mut buffer, &item(0, name(4, 1)));
-    hold(&mut buffer, &item(1, name(1, 4)));
-    assert!(rt; buffer.released_named(name(4, 1)) == None);
-    assert!(rt; settle(&mut buffer, 4, 0, Fate::Released));
-    assert!(rt; first.is_some() && buffer.released_named(name(4, 1)) == first);
-    assert!(rt; buffer.released_named(name(1, 4)) == None);
-    assert!(rt; settle(&mut buffer, 4, 0, Fate::Taken));
-    assert!(rt; marks(&buffer, 4) == Some((true, true)));
-    assert!(rt; marks(&buffer, 1) == Some((false, false)));
-    assert!(rt; settle(&mut buffer, 4, 0, Fate::Gone));
-    assert!(rt; buffer.released_named(name(4, 1)) == None);
-    Ok(())
+/// Of a packet, whether it was released, was taken, and doesn't wait to be taken.
+type Marks = Option<(bool, bool, bool)>;
+
+const RESTING: Marks = Some((false, false, true));
+
+const WAITING: Marks = Some((true, false, false));
+
+const TAKEN: Marks = Some((true, true, true));
+
+/// The arrivals of the released packets of the names (4, 1) and (1, 4), and the marks of the first packet of interval 4.
+type Told = (Option<u64>, Option<u64>, Marks);
+
+/// Steps in a buffer of four places, the arrivals of interval 1 that are held after it and those that were not released,
+/// and what is told of released packets.
+const RELEASED: &[(Step, &[u64], &[u64], Told)] = &[
+    (Named(4, 1, false), &[], &[], (None, None, RESTING)),
+    (Named(1, 4, false), &[1], &[1], (None, None, RESTING)),
+    (
+        Settles(4, 0, Fate::Released),
+        &[1],
+        &[1],
+        (Some(0), None, WAITING),
+    ),
+    (Comes(1), &[1, 3], &[1, 3], (Some(0), None, WAITING)),
+    (
+        Named(1, 0, true),
+        &[1, 3, 4],
+        &[1, 3],
+        (Some(0), None, WAITING),
+    ),
+    (
+        Settles(1, 0, Fate::Released),
+        &[1, 3, 4],
+        &[3],
+        (Some(0), Some(1), WAITING),
+    ),
+    (
+        Settles(4, 0, Fate::Taken),
+        &[1, 3, 4],
+        &[3],
+        (Some(0), Some(1), TAKEN),
+    ),
+    (
+        Settles(4, 0, Fate::Gone),
+        &[1, 3, 4],
+        &[3],
+        (None, Some(1), None),
+    ),
+    (Settles(1, 0, Fate::Gone), &[3, 4], &[3], (None, None, None)),
+];
+
+/// The arrival of a released packet of this name.
+fn order_of(buffer: &Buffer, name: Name) -> Option<u64> {
+    let Some(place) = buffer.released_named(name) else {
+        return None;
+    };
+    Some(buffer.item(place).order)
+}
+
+/// The marks of the first packet of an interval.
+fn marks(buffer: &Buffer, interval: u32) -> Marks {
+    let Some(place) = buffer.first_of(interval) else {
+        return None;
+    };
+    let item = buffer.item(place);
+    Some((item.released, item.taken, buffer.is_resting(place)))
+}
+
+fn told(buffer: &Buffer) -> Told {
+    (
+        order_of(buffer, name(4, 1)),
+        order_of(buffer, name(1, 4)),
+        marks(buffer, 4),
+    )
 }
 
 #[test]
-fn released_packets_are_left_out(rt: HostRuntime) -> Result<(), Fail> {
-    let alloc = rt.alloc();
-    let mut buffer = Buffer::open(alloc, 4)?;
-    for number in 0..3 {
-        hold(&mut buffer, &item(number, name(1, 0)));
+fn released_packets_are_found_by_their_names(rt: HostRuntime) -> Result<(), Fail> {
+    let mut buffer = opened(rt.alloc())?;
+    for (number, (step, held, unreleased, wanted)) in RELEASED.iter().enumerate() {
+        let met = is_done(&mut buffer, number as u64, *step)
+            && holds(&buffer, 1, held)
+            && holds_unreleased(&buffer, 1, unreleased);
+        assert!(rt; met && told(&buffer) == *wanted, "{number}");
     }
-    let mut released = item(3, name(1, 0));
-    released.released = true;
-    hold(&mut buffer, &released);
-    assert!(rt; unreleased(alloc, &buffer, 1)?.as_slice() == [0, 1, 2].as_slice());
-    assert!(rt; settle(&mut buffer, 1, 1, Fate::Released) && buffer.unreleased_in(1) == 2);
-    assert!(rt; unreleased(alloc, &buffer, 1)?.as_slice() == [0, 2].as_slice());
-    assert!(rt; arrivals(alloc, &buffer, 1)?.as_slice() == [0, 1, 2, 3].as_slice());
     Ok(())
+}
+
+/// Holds the packet of a data frame. Answers whether there is room, and the bytes are such a frame.
+fn hold_frame(buffer: &mut Buffer, order: u64, bytes: &[u8]) -> bool {
+    let Some(FrameView::Data(frame)) = read_frame(bytes) else {
+        return false;
+    };
+    if buffer.held() == buffer.capacity() {
+        return false;
+    }
+    buffer.put_frame(order, 1, &frame);
+    true
+}
+
+/// The first packet of an interval.
+fn first_item(buffer: &Buffer, interval: u32) -> Option<Item> {
+    let Some(place) = buffer.first_of(interval) else {
+        return None;
+    };
+    Some(*buffer.item(place))
 }
 
 #[test]
 fn a_packet_of_a_frame_has_its_parts(rt: HostRuntime) -> Result<(), Fail> {
-    let mut buffer = Buffer::open(rt.alloc(), 1)?;
-    let Some(FrameView::Data(frame)) = read_frame(TOCK) else {
-        return Err("a data frame".into());
-    };
-    let place = buffer.put_frame(8, 1, &frame);
-    let made = buffer.item(place);
-    let tag = WideTag::of(b"tag of 16 bytes.");
-    assert!(rt; made.order == 8 && made.name == name(1, 4) && made.chains == 1 && made.length == 5);
-    assert!(rt; made.payload.starts_with(b"tock!") && made.tags[0] == tag);
-    assert!(rt; buffer.is_resting(place));
-    buffer.settle(place, Fate::Released);
-    assert!(rt; !buffer.is_resting(place));
-    buffer.settle(place, Fate::Taken);
-    assert!(rt; buffer.is_resting(place));
+    let mut buffer = opened(rt.alloc())?;
+    assert!(rt; hold_frame(&mut buffer, 8, TOCK));
+    let made = first_item(&buffer, 1).ok_or("it is held")?;
+    let told = (
+        made.order,
+        made.name,
+        made.chains,
+        made.length,
+        made.tags[0],
+    );
+    assert!(rt; told == (8, name(1, 4), 1, 5, WideTag::of(b"tag of 16 bytes.")));
+    assert!(rt; made.payload.starts_with(b"tock!") && marks(&buffer, 1) == RESTING);
     Ok(())
 }

@@ -7,6 +7,3 @@ pub mod laws;
 
 pub use commands::{FORMS, run_words};
 pub use here::run_here;
-
-#[cfg(test)]
-mod tests;

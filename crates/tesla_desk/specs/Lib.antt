@@ -1,5 +1,9 @@
 pub mod Calls
+pub mod Clocks
 pub mod Faults
+pub mod Links
+pub mod Live
+pub mod LiveMemory
 pub mod Memory
 pub mod Outside
 pub mod Settings

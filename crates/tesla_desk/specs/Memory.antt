@@ -2,6 +2,8 @@
 use Rattle.std.specs.Prelude.{◌≡◌, ℕ, min, Bool, true, false, Result, Ok, Err, List, [], ◌∷◌, ◌++◌, length, ◌==◌, ◌&&◌, ◌||◌, nat_lt, if◌then◌else◌, Option, Some, None}
 use Rattle.tesla_desk.specs.Calls.{CallNumbers, new_calls, next_fails, after_call}
 use Rattle.tesla_desk.specs.Faults.{Faults, no_faults, raised}
+use Rattle.tesla_desk.specs.Live.{Live, OpenedLink}
+use Rattle.tesla_desk.specs.LiveMemory.{MadeClocks, no_clocks, wire_in, remainder_in, readings_in, letters_left, link_faults_of, link_name_of, link_calls_of, is_absent_wire}
 use Rattle.tesla_desk.specs.Outside.{Page, Untold, Absent, Holds, Opening, Opened, Told}
 use Rattle.tesla_desk.specs.Settings.{NamedSettings, no_settings, room_for, piece_for, failing_for, within_piece}
 use Rattle.tesla_desk.specs.Stored.{entries_in, page_in, left_in, left_stored, openings_in}
@@ -12,6 +14,9 @@ use Rattle.tesla_desk.specs.declared.source.ReadStep.TheVariants.{Got, End, Fail
 use Rattle.tesla_desk.specs.declared.sink.WriteStep.{WriteStep}
 use Rattle.tesla_desk.specs.declared.sink.WriteStep.TheVariants.{Took, Failed as WriteFailed}
 use Rattle.tesla_desk.specs.declared.entries.Named.{Named}
+use Rattle.tesla_desk.specs.declared.letters.Letters.{Letters}
+use Rattle.tesla_desk.specs.declared.stored_letters.StoredLetters.{StoredLetters}
+use Rattle.tesla_desk.specs.declared.stored_letters.StoredRemainder.{StoredRemainder}
 use Rattle.tesla_desk.specs.declared.stored.StoredRest.{StoredRest}
 use Rattle.tesla_desk.specs.declared.pages.Pages.{Pages}
 use Rattle.tesla_desk.specs.declared.heap.Heap.{Heap}
@@ -118,9 +123,18 @@ counts_of desk = record { reads = desk.reads; writes = desk.writes; openings = d
 abbrev pub openings_of : MemoryDesk → List Opening
 openings_of desk = openings_in (entries_in desk.asked)
 
+-- what a desk has of links and clocks
+abbrev pub live_of : MemoryDesk → Live
+live_of desk = record {
+  wire = wire_in (entries_in desk.wires);
+  left = remainder_in (entries_in desk.remainders);
+  readings = Some (readings_in desk.clocks.lists);
+  made = Some desk.clocks.made;
+}
+
 -- what a desk tells: all of it
 abbrev pub told_by : MemoryDesk → Told
-told_by desk = record { page = page_under desk; left = left_under desk; faults = counts_of desk; openings = Some (openings_of desk) }
+told_by desk = record { page = page_under desk; left = left_under desk; faults = counts_of desk; openings = Some (openings_of desk); live = live_of desk }
 
 -- what a desk was told of the objects that it opens
 abbrev pub settings_of : MemoryDesk → NamedSettings
@@ -137,13 +151,25 @@ pub record Rest : Type 0 where
   pub openings : List Opening
   pub settings : NamedSettings
   pub calls : CallNumbers
+  pub wires : List (Named StoredLetters)
+  pub remainders : List (Named StoredRemainder)
+  pub clocks : MadeClocks
 
 abbrev pub rest_of : MemoryDesk → Rest
-rest_of desk = record { closed = entries_in desk.rests; counts = counts_of desk; openings = openings_of desk; settings = settings_of desk; calls = opening_calls_of desk }
+rest_of desk = record {
+  closed = entries_in desk.rests;
+  counts = counts_of desk;
+  openings = openings_of desk;
+  settings = settings_of desk;
+  calls = opening_calls_of desk;
+  wires = entries_in desk.wires;
+  remainders = entries_in desk.remainders;
+  clocks = desk.clocks;
+}
 
--- nothing closed, no faults, no opening, nothing set, and each sink takes this many bytes
+-- nothing closed, no faults, no opening, nothing set, no letters, no readings and no clock made, and each sink takes this many bytes
 abbrev pub new_rest : ℕ → Rest
-new_rest room = record { closed = []; counts = no_faults; openings = []; settings = no_settings room; calls = new_calls [] }
+new_rest room = record { closed = []; counts = no_faults; openings = []; settings = no_settings room; calls = new_calls []; wires = []; remainders = []; clocks = no_clocks }
 
 -- the same after the closing of a source
 abbrev pub after_closed : Named StoredRest → Faults → Rest → Rest
@@ -152,6 +178,10 @@ after_closed rest counts before = record before { closed = rest ∷ before.close
 -- the same with other settings
 abbrev pub with_settings : (NamedSettings → NamedSettings) → Rest → Rest
 with_settings change before = record before { settings = change before.settings }
+
+-- the same with other clocks
+abbrev pub with_clocks : (MadeClocks → MadeClocks) → Rest → Rest
+with_clocks change before = record before { clocks = change before.clocks }
 
 -- the same with other numbers of openings
 abbrev pub with_opening_calls : (CallNumbers → CallNumbers) → Rest → Rest
@@ -207,3 +237,23 @@ MakesSource desk name (Some it) = (refuses_source desk name ≡ false) × NewSou
 abbrev pub MakesSink : MemoryDesk → List ℕ → Option Heap → Type 0
 MakesSink desk name None = next_fails (opening_calls_of desk) ≡ true
 MakesSink desk name (Some it) = (next_fails (opening_calls_of desk) ≡ false) × NewSink desk name it
+
+-- whether the next opening is refused if it is one of a link under the name: it fails by its number, or there is nothing for it
+abbrev pub refuses_link : MemoryDesk → List ℕ → Bool
+refuses_link desk name = next_fails (opening_calls_of desk) || is_absent_wire ((live_of desk).wire name)
+
+-- a new link has the letters that are there for it, and what was set for the name
+pub record NewLink (desk : MemoryDesk) (name : List ℕ) (it : Letters) : Type 0 where
+  pub named : link_name_of it ≡ name
+  pub opened : OpenedLink ((live_of desk).wire name) (Some (letters_left it))
+  pub faults : link_faults_of it ≡ 0
+  pub calls : link_calls_of it ≡ new_calls (failing_for (settings_of desk) name)
+
+-- a link is made exactly where it is not refused
+abbrev pub MakesLink : MemoryDesk → List ℕ → Option Letters → Type 0
+MakesLink desk name None = refuses_link desk name ≡ true
+MakesLink desk name (Some it) = (refuses_link desk name ≡ false) × NewLink desk name it
+
+-- the same after the closing of a link
+abbrev pub after_closed_link : Named StoredRemainder → Faults → Rest → Rest
+after_closed_link remainder counts before = record before { remainders = remainder ∷ before.remainders; counts = counts }

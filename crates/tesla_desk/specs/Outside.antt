@@ -1,7 +1,9 @@
 -- What the calls of sources, sinks and desks do to the bytes that these tell.
 use Rattle.std.specs.Prelude.{◌≡◌, ◌≢◌, ℕ, ◌<◌, ◌≤◌, Bool, nat_lt, Option, Some, None, IfSome, Result, Ok, Err, OnErr, List, [], ◌∷◌, ◌++◌, length, take}
 use Rattle.std.specs.Option.{option_map}
-use Rattle.tesla_desk.specs.Faults.{Faults, CountsOpening, after_source, after_sink}
+use Rattle.tesla_desk.specs.Faults.{Faults, CountsOpening, after_source, after_sink, raised}
+use Rattle.tesla_desk.specs.Live.{Live, remainder_of}
+use Rattle.tesla_desk.specs.declared.link.Letter.{Letter}
 use Rattle.tesla_desk.specs.declared.source.ReadStep.{ReadStep}
 use Rattle.tesla_desk.specs.declared.source.ReadStep.TheVariants.{Got, End, Failed as ReadFailed}
 use Rattle.tesla_desk.specs.declared.sink.WriteStep.{WriteStep}
@@ -74,6 +76,7 @@ Opened (Holds bytes failed) left = left ≡ Some bytes
 pub data Opening : Type 0 where
   OfSource : List ℕ → Opening
   OfSink : List ℕ → Opening
+  OfLink : List ℕ → Opening
 
 -- the openings asked for, where they are told, with one more at the end
 abbrev pub with_opening : Option (List Opening) → Opening → Option (List Opening)
@@ -93,12 +96,13 @@ with_openings told openings = option_map (λ before. before ++ openings) told
 abbrev pub AsksPrefix : List Opening → Option (List Opening) → Option (List Opening) → Type 0
 AsksPrefix openings before now = (n : ℕ) × (now ≡ with_openings before (take n openings))
 
--- what a desk tells: the page under each name, what was left of the source that was closed last under it, its counts of faults, and the openings that it was asked for
+-- what a desk tells: the page under each name, what was left of the source that was closed last under it, its counts of faults, the openings that it was asked for, and what it tells of links and clocks
 pub record Told : Type 0 where
   pub page : List ℕ → Page
   pub left : List ℕ → Option (List ℕ)
   pub faults : Faults
   pub openings : Option (List Opening)
+  pub live : Live
 
 -- what an opening of a source does to what its desk tells
 pub record OpensSource {A : Type 0} (name : List ℕ) (result : Result A OpenRefusal) (before now : Told) : Type 0 where
@@ -106,6 +110,7 @@ pub record OpensSource {A : Type 0} (name : List ℕ) (result : Result A OpenRef
   pub lefts : (n : List ℕ) → now.left n ≡ before.left n
   pub counts : CountsOpening before.faults now.faults (result ≡ Err refusals.Failed)
   pub asked : now.openings ≡ after_opening (OfSource name) result before.openings
+  pub live : now.live ≡ before.live
 
 -- what an opening of a sink does to what its desk tells
 pub record OpensSink {A : Type 0} (name : List ℕ) (result : Result A OpenRefusal) (before now : Told) : Type 0 where
@@ -114,6 +119,7 @@ pub record OpensSink {A : Type 0} (name : List ℕ) (result : Result A OpenRefus
   pub lefts : (n : List ℕ) → now.left n ≡ before.left n
   pub counts : CountsOpening before.faults now.faults (result ≡ Err refusals.Failed)
   pub asked : now.openings ≡ after_opening (OfSink name) result before.openings
+  pub live : now.live ≡ before.live
 
 -- what the closing of a source with this name, this left and this many faults does to what its desk tells
 pub record ClosesSource (name : List ℕ) (left : Option (List ℕ)) (faults : ℕ) (before now : Told) : Type 0 where
@@ -122,6 +128,7 @@ pub record ClosesSource (name : List ℕ) (left : Option (List ℕ)) (faults : �
   pub lefts : (n : List ℕ) → n ≢ name → now.left n ≡ before.left n
   pub counts : now.faults ≡ after_source before.faults faults
   pub asked : now.openings ≡ before.openings
+  pub live : now.live ≡ before.live
 
 -- what the closing of a sink with this name, these bytes and this many faults does to what its desk tells
 pub record ClosesSink (name : List ℕ) (written : Option (List ℕ)) (faults : ℕ) (before now : Told) : Type 0 where
@@ -130,3 +137,28 @@ pub record ClosesSink (name : List ℕ) (written : Option (List ℕ)) (faults : 
   pub lefts : (n : List ℕ) → now.left n ≡ before.left n
   pub counts : now.faults ≡ after_sink before.faults faults
   pub asked : now.openings ≡ before.openings
+  pub live : now.live ≡ before.live
+
+-- what an opening of a link does to what its desk tells
+pub record OpensLink {A : Type 0} (name : List ℕ) (result : Result A OpenRefusal) (before now : Told) : Type 0 where
+  pub pages : (n : List ℕ) → now.page n ≡ before.page n
+  pub lefts : (n : List ℕ) → now.left n ≡ before.left n
+  pub counts : CountsOpening before.faults now.faults (result ≡ Err refusals.Failed)
+  pub asked : now.openings ≡ after_opening (OfLink name) result before.openings
+  pub live : now.live ≡ before.live
+
+-- what the closing of a link with this name, these letters left and this many faults does to what its desk tells
+pub record ClosesLink (name : List ℕ) (left : Option (List Letter)) (faults : ℕ) (before now : Told) : Type 0 where
+  pub own : now.live.left name ≡ remainder_of left faults
+  pub others : (n : List ℕ) → n ≢ name → now.live.left n ≡ before.live.left n
+  pub wires : (n : List ℕ) → now.live.wire n ≡ before.live.wire n
+  pub clocks : (now.live.readings ≡ before.live.readings) × (now.live.made ≡ before.live.made)
+  pub pages : (n : List ℕ) → now.page n ≡ before.page n
+  pub lefts : (n : List ℕ) → now.left n ≡ before.left n
+  pub counts : now.faults ≡ after_source before.faults faults
+  pub asked : now.openings ≡ before.openings
+
+-- what the making of a clock does to what its desk tells: one clock more was made
+pub record MakesClock (before now : Told) : Type 0 where
+  pub counted : now.live.made ≡ option_map raised before.live.made
+  pub same : now ≡ record before { live = record before.live { made = now.live.made } }

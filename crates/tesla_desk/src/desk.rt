@@ -1,9 +1,10 @@
-//! The desk, which opens and closes what is outside by name.
+//! The desk, which opens and closes what is outside by name, and makes clocks and gates.
 
 ghost use Rattle.std.specs.Prelude.{◌≡◌, [], IfOk, IfSome};
-ghost use Rattle.tesla_desk.specs.Outside.{Told, Opened, OpensSource, OpensSink, ClosesSource, ClosesSink};
+ghost use Rattle.tesla_desk.specs.Live.{OpenedLink, clock_told};
+ghost use Rattle.tesla_desk.specs.Outside.{Told, Opened, OpensSource, OpensSink, OpensLink, ClosesSource, ClosesSink, ClosesLink, MakesClock};
 
-use crate::{Sink, Source};
+use crate::{Clock, Gate, Link, Sink, Source};
 use tesla_base::NoMemory;
 
 /// The name of the console, which is a sink.
@@ -29,19 +30,26 @@ impl From<NoMemory> for OpenRefusal {
     }
 }
 
-/// What opens sources and sinks, and closes them.
+/// What opens sources, sinks and links, and closes them, and makes clocks and gates.
 ///
-/// A source or a sink cannot be dropped through these bounds. So a caller has to close each one that
-/// it opened, which the compiler sees to.
+/// A source, a sink or a link cannot be dropped through these bounds. So a caller has to close each one
+/// that it opened, which the compiler sees to. What a worker in a thread of its own uses can be sent.
 pub trait Desk {
     type In: Source;
 
-    type Out: Sink;
+    type Out: Sink + Send;
+
+    type Wire: Link + Send;
+
+    type Time: Clock + Send + Drop;
+
+    type Pause: Gate + Send + Drop;
 
     /// What the desk tells: the page under each name, what was left of the source that was closed last
-    /// under it, how many sources, sinks and openings failed, and the openings asked for, in order.
+    /// under it, how many sources and links, sinks and openings failed, the openings asked for, in
+    /// order, and what it has of links and clocks.
     ///
-    /// A source or a sink that failed counts when it is closed. Each count stands still at 2^64 - 1. The
+    /// A source, a sink or a link that failed counts when it is closed. Each count stands still at 2^64 - 1. The
     /// openings are `None` where the desk does not tell them; one that does not tell stays so. An
     /// opening that found no memory is not among them.
     ghost told: { Self → Told };
@@ -71,4 +79,27 @@ pub trait Desk {
     /// exactly where this one did. It takes no memory and cannot fail.
     fn close_sink(&mut self, it: Self::Out)
         ensures desk { ClosesSink (Self.Out.name it) (Self.Out.written it) (Self.Out.faults it) (told self.old) (told self.new) };
+
+    /// A link that brings what the desk has under the name. `Failed` is answered exactly where the count
+    /// of openings rose.
+    fn open_link(&mut self, name: &str) -> Result<Self::Wire, OpenRefusal>
+        ensures opened { IfOk result (λ it. OpenedLink ((told self.old).live.wire name.now) (Self.Wire.left it)) }
+        ensures fresh { IfOk result (λ it. Self.Wire.faults it ≡ 0) }
+        ensures named { IfOk result (λ it. Self.Wire.name it ≡ name.now) }
+        ensures desk { OpensLink name.now result (told self.old) (told self.new) };
+
+    /// Closes a link. The desk has what was left of it under its name, and the count of sources and links
+    /// that failed rises exactly where this one did. It takes no memory and cannot fail.
+    fn close_link(&mut self, it: Self::Wire)
+        ensures desk { ClosesLink (Self.Wire.name it) (Self.Wire.left it) (Self.Wire.faults it) (told self.old) (told self.new) };
+
+    /// The next clock. Where the desk tells the readings of its clocks and how many it made, the clock
+    /// has those of its number, counted from 0. It takes no memory.
+    fn clock(&mut self) -> Self::Time
+        ensures told { Self.Time.told result ≡ clock_told (told self.old).live.readings (told self.old).live.made }
+        ensures desk { MakesClock (told self.old) (told self.new) };
+
+    /// A gate. It takes no memory.
+    fn gate(&mut self) -> Self::Pause
+        ensures desk { told self.new ≡ told self.old };
 }

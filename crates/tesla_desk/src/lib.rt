@@ -1,22 +1,34 @@
-//! The outside of the project: sources, sinks and the desk that opens and closes them, with what each
-//! tells of its bytes and how often it failed.
+//! The outside of the project: sources, sinks and links, clocks and gates, and the desk that opens, makes and closes
+//! them, with what each tells and how often it failed.
 #![tactic(auto)]
 
 mod calls;
+mod clock;
+mod clock_lists;
 mod desk;
 mod entries;
+mod gate;
 mod heap;
+mod letters;
+mod link;
 mod memory;
 mod pages;
+mod readings;
 mod settings;
 mod sink;
 mod source;
 mod stored;
+mod stored_letters;
 
+pub use clock::Clock;
 pub use desk::{CONSOLE, Desk, OpenRefusal};
+pub use gate::{Gate, OpenGate};
 pub use heap::Heap;
+pub use letters::Letters;
+pub use link::{Got, Letter, Link};
 pub use memory::MemoryDesk;
 pub use pages::Pages;
+pub use readings::Readings;
 pub use sink::{Sink, WriteStep, write_all};
 pub use source::{ReadStep, Source};
 pub use tesla_base::Text;

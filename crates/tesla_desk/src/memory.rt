@@ -1,23 +1,29 @@
 //! A desk in memory.
 
-ghost use Rattle.std.specs.Prelude.{◌≡◌, ◌≢◌, ◌≤◌, ◌∷◌, false, List, ℕ, [], Some, IfOk, OnOk, OnErr, is_ok, if◌then◌else◌};
+ghost use Rattle.std.specs.Prelude.{◌≡◌, ◌≢◌, ◌<◌, ◌≤◌, ◌-◌, ◌^◌, ◌∷◌, true, false, List, ℕ, [], Some, IfOk, OnOk, OnErr, is_ok, if◌then◌else◌};
+ghost use Rattle.std.specs.List.{list_all};
 ghost use Rattle.std.specs.Option.{option_map};
 ghost use Rattle.tesla_desk.specs.Calls.{next_fails, with_failing};
 ghost use Rattle.tesla_desk.specs.Faults.{after_source, after_sink};
-ghost use Rattle.tesla_desk.specs.Memory.{bytes_in, unread, source_name_of, stored_of, read_faults_of, name_of, bytes_of, write_faults_of, page_under, counts_of, told_by, settings_of, opening_calls_of, rest_of, new_rest, with_settings, with_opening_calls, after_closed, after_counted, after_failed, after_asked, Refuses, refuses_source, NewSource, NewSink, MakesSource, MakesSink};
-ghost use Rattle.tesla_desk.specs.Outside.{Untold, Absent, Holds, Opened, OfSource, OfSink, OpensSource, OpensSink, ClosesSource, ClosesSink};
+ghost use Rattle.tesla_desk.specs.Links.{fits};
+ghost use Rattle.tesla_desk.specs.Live.{OpenedLink, HoldsWire, clock_told};
+ghost use Rattle.tesla_desk.specs.LiveMemory.{readings_in, with_readings, after_made, letters_left, link_faults_of, link_name_of, remainder_stored, clock_told_of};
+ghost use Rattle.tesla_desk.specs.Memory.{bytes_in, unread, source_name_of, stored_of, read_faults_of, name_of, bytes_of, write_faults_of, page_under, counts_of, live_of, told_by, settings_of, opening_calls_of, rest_of, new_rest, with_clocks, with_settings, with_opening_calls, after_closed, after_counted, after_failed, after_asked, Refuses, refuses_source, NewSource, NewSink, MakesSource, MakesSink, after_closed_link, refuses_link, NewLink, MakesLink};
+ghost use Rattle.tesla_desk.specs.Outside.{Untold, Absent, Holds, Opened, OfSource, OfSink, OfLink, OpensSource, OpensSink, OpensLink, ClosesSource, ClosesSink, ClosesLink, MakesClock};
 ghost use Rattle.tesla_desk.specs.Settings.{with_room, with_piece, with_failing_call, room_for, piece_for, failing_for};
 ghost use Rattle.tesla_desk.specs.Stored.{opening_of};
 
 use crate::calls::Calls;
+use crate::clock_lists::ClockLists;
 use crate::entries::{Entries, Named, newest_under};
 use crate::settings::Settings;
 use crate::stored::{AskedOpening, StoredPage, StoredPages, StoredRests};
-use crate::{Desk, Heap, OpenRefusal, Pages};
+use crate::stored_letters::{StoredLetters, StoredRemainders};
+use crate::{Desk, Heap, Letter, Letters, OpenGate, OpenRefusal, Pages, Readings};
 use std::alloc::Global;
 use tesla_base::{NoMemory, Text};
 
-/// A desk whose pages are in memory. It tells all of them, and the openings that it was asked for.
+/// A desk whose pages, letters and readings are in memory. It tells all of them, and the openings that it was asked for.
 #[derive(Drop)]
 pub struct MemoryDesk {
     alloc: Global,
@@ -29,6 +35,9 @@ pub struct MemoryDesk {
     reads: u64,
     writes: u64,
     openings: u64,
+    wires: Entries<Named<StoredLetters>>,
+    remainders: StoredRemainders,
+    clocks: ClockLists,
 }
 
 impl MemoryDesk {
@@ -47,6 +56,9 @@ impl MemoryDesk {
             reads: 0,
             writes: 0,
             openings: 0,
+            wires: Entries::Empty,
+            remainders: Entries::Empty,
+            clocks: ClockLists::new(),
         })
     }
 
@@ -80,6 +92,35 @@ impl MemoryDesk {
         }
     }
 
+    /// Puts a copy of these letters there for links under the name, in the place of what was there.
+    pub fn put_letters(&mut self, name: &str, letters: &[Letter]) -> Result<(), NoMemory>
+        requires { list_all fits letters.now ≡ true }
+        ensures own { OnOk result ((live_of self.new).wire name.now ≡ HoldsWire letters.now) }
+        ensures others { (n : List ℕ) → n ≢ name.now → (live_of self.new).wire n ≡ (live_of self.old).wire n }
+        ensures err { OnErr result (rest_of self.new ≡ rest_of self.old) }
+        ensures pages { (n : List ℕ) → page_under self.new n ≡ page_under self.old n }
+        ensures rest { rest_of self.new ≡ record (rest_of self.old) { wires = (rest_of self.new).wires } }
+    {
+        let spare = Entries::spare(self.alloc)?;
+        let wire = Named {
+            name: Text::new(self.alloc, name.as_bytes())?,
+            value: StoredLetters::copy(self.alloc, letters)?,
+        };
+        self.wires.put(wire, spare);
+        Ok(())
+    }
+
+    /// Puts a copy of these readings there for the clock with this number, counted from 0, in the place of what was
+    /// there. Clock 2^64 - 1, which every further clock is, has none.
+    pub fn put_readings(&mut self, clock: u64, list: &[u64]) -> Result<(), NoMemory>
+        ensures own { clock < 2 ^ 64 - 1 → OnOk result (readings_in (rest_of self.new).clocks.lists clock ≡ list.now) }
+        ensures others { (n : ℕ) → n ≢ clock → readings_in (rest_of self.new).clocks.lists n ≡ readings_in (rest_of self.old).clocks.lists n }
+        ensures pages { (n : List ℕ) → page_under self.new n ≡ page_under self.old n }
+        ensures rest { rest_of self.new ≡ (if is_ok result then with_clocks (with_readings clock list.now) (rest_of self.old) else rest_of self.old) }
+    {
+        self.clocks.put(self.alloc, clock, list)
+    }
+
     /// Sinks that are opened under the name afterwards take `room` bytes.
     pub fn set_room(&mut self, name: &str, room: usize) -> Result<(), NoMemory>
         ensures own { OnOk result (room_for (settings_of self.new) name.now ≡ room) }
@@ -101,7 +142,7 @@ impl MemoryDesk {
         self.settings.set_piece(self.alloc, name, most)
     }
 
-    /// The opening with this number fails. Openings of sources and of sinks count together from 0, in
+    /// The opening with this number fails. Openings of sources, sinks and links count together from 0, in
     /// the order in which they are asked for; one that finds no memory is not counted. An opening after
     /// number 2^64 - 2 has no number.
     pub fn fail_open(&mut self, call: u64) -> Result<(), NoMemory>
@@ -111,7 +152,7 @@ impl MemoryDesk {
         self.calls.fail(call)
     }
 
-    /// The call with this number fails of each source and sink that is opened under the name
+    /// The call with this number fails of each source, sink and link that is opened under the name
     /// afterwards. The calls of each count from 0; one after number 2^64 - 2 has no number.
     pub fn fail_call(&mut self, name: &str, call: u64) -> Result<(), NoMemory>
         ensures own { OnOk result (failing_for (settings_of self.new) name.now ≡ call ∷ failing_for (settings_of self.old) name.now) }
@@ -150,6 +191,20 @@ impl MemoryDesk {
         Ok(Some(Heap::new(self.alloc, name, room, piece, calls)?))
     }
 
+    // A link of the letters that are there, unless the next opening is refused.
+    fn link_of(&self, name: &str) -> Result<Option<Letters>, NoMemory>
+        ensures { IfOk result (λ made. MakesLink self.now name.now made) }
+    {
+        if self.calls.next_fails() {
+            return Ok(None);
+        }
+        let Some(letters) = newest_under(&self.wires, name.as_bytes()) else {
+            return Ok(None);
+        };
+        let calls = self.settings.calls(self.alloc, name)?;
+        Ok(Some(Letters::new(self.alloc, name, letters, calls)?))
+    }
+
     // Enters an opening and counts it. The box was made before, so that this takes no memory.
     fn enter(&mut self, asked: AskedOpening, spare: Box<Entries<AskedOpening>>)
         ensures pages { (n : List ℕ) → page_under self.new n ≡ page_under self.old n }
@@ -174,6 +229,12 @@ impl Desk for MemoryDesk {
     type In = Pages;
 
     type Out = Heap;
+
+    type Wire = Letters;
+
+    type Time = Readings;
+
+    type Pause = OpenGate;
 
     ghost told = { told_by };
 
@@ -238,5 +299,52 @@ impl Desk for MemoryDesk {
             self.writes = self.writes.saturating_add(1);
         }
         self.pages.put(page, spare);
+    }
+
+    /// `Failed` exactly where the number of the opening is listed or there is nothing for such a link.
+    fn open_link(&mut self, name: &str) -> Result<Letters, OpenRefusal>
+        ensures opened { IfOk result (λ it. OpenedLink ((live_of self.old).wire name.now) (Some (letters_left it))) }
+        ensures fresh { IfOk result (λ it. link_faults_of it ≡ 0) }
+        ensures named { IfOk result (λ it. link_name_of it ≡ name.now) }
+        ensures desk { OpensLink name.now result (told_by self.old) (told_by self.new) }
+        ensures exact { Refuses (refuses_link self.old name.now) result }
+        ensures set { IfOk result (λ it. NewLink self.old name.now it) }
+        ensures rest { rest_of self.new ≡ after_asked (OfLink name.now) result (rest_of self.old) }
+    {
+        let spare = Entries::spare(self.alloc)?;
+        let asked = AskedOpening::Link(Text::new(self.alloc, name.as_bytes())?);
+        let made = self.link_of(name)?;
+        self.enter(asked, spare);
+        match made {
+            Some(it) => Ok(it),
+            None => Err(self.refuse()),
+        }
+    }
+
+    fn close_link(&mut self, it: Letters)
+        ensures desk { ClosesLink (link_name_of it) (Some (letters_left it)) (link_faults_of it) (told_by self.old) (told_by self.new) }
+        ensures counts { counts_of self.new ≡ after_source (counts_of self.old) (link_faults_of it) }
+        ensures rest { rest_of self.new ≡ record (rest_of self.old) { counts = counts_of self.new; remainders = (rest_of self.new).remainders } }
+    {
+        let (remainder, spare) = it.close();
+        if remainder.value.failed {
+            self.reads = self.reads.saturating_add(1);
+        }
+        self.remainders.put(remainder, spare);
+    }
+
+    fn clock(&mut self) -> Readings
+        ensures told { clock_told_of result ≡ clock_told (live_of self.old).readings (live_of self.old).made }
+        ensures desk { MakesClock (told_by self.old) (told_by self.new) }
+        ensures rest { rest_of self.new ≡ with_clocks after_made (rest_of self.old) }
+    {
+        Readings::new(self.clocks.next(self.alloc))
+    }
+
+    fn gate(&mut self) -> OpenGate
+        ensures desk { told_by self.new ≡ told_by self.old }
+        ensures rest { rest_of self.new ≡ rest_of self.old }
+    {
+        OpenGate
     }
 }

@@ -28,4 +28,5 @@ pub type StoredPages = Entries<Named<StoredPage>>;
 pub enum AskedOpening {
     Source(Text),
     Sink(Text),
+    Link(Text),
 }

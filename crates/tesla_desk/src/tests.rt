@@ -5,7 +5,9 @@ ghost use Rattle.tesla_desk.specs.Faults.{HasCause, HasCauses};
 ghost use Rattle.tesla_desk.specs.Outside.{AsksPrefix, Holds, OfSource, OfSink, with_bytes};
 
 use super::*;
+use std::alloc::Global;
 use std::test::Fail;
+use tesla_base::NoMemory;
 
 /// What became of a copy.
 #[derive(Clone, Copy, Debug, PartialEq, Eq)]
@@ -218,5 +220,58 @@ fn an_opening_fails_at_its_number(rt: HostRuntime) -> Result<(), Fail> {
             ReadStep::End
         ])
     );
+    Ok(())
+}
+
+// What four calls of a new link answer.
+fn four_calls<D: Desk>(desk: &mut D, name: &str) -> Result<[Got; 4], OpenRefusal> {
+    let mut link = desk.open_link(name)?;
+    let mut buffer = [0u8; 2048];
+    let mut answers = [Got::End; 4];
+    for answer in answers.iter_mut() {
+        *answer = link.next(&mut buffer);
+    }
+    desk.close_link(link);
+    Ok(answers)
+}
+
+// A desk with a quiet and a datagram of two bytes for links under one name.
+fn desk_of_a_link(alloc: Global) -> Result<MemoryDesk, NoMemory> {
+    let mut desk = MemoryDesk::new(alloc, 16)?;
+    let bytes = Text::new(alloc, b"ab")?;
+    desk.put_letters("link", &[Letter::Quiet, Letter::Datagram { bytes }])?;
+    desk.fail_call("link", 1)?;
+    Ok(desk)
+}
+
+#[test]
+fn a_link_brings_its_letters_and_fails_at_its_number(rt: HostRuntime) -> Result<(), Fail> {
+    let mut desk = desk_of_a_link(rt.alloc())?;
+    let answers = [Got::Quiet, Got::Failed, Got::Datagram(2), Got::End];
+    assert_eq!(rt; four_calls(&mut desk, "link"), Ok(answers));
+    Ok(())
+}
+
+#[test]
+fn a_link_without_letters_is_not_opened(rt: HostRuntime) -> Result<(), Fail> {
+    let mut desk = MemoryDesk::new(rt.alloc(), 16)?;
+    assert_eq!(rt; four_calls(&mut desk, "link"), Err(OpenRefusal::Failed));
+    Ok(())
+}
+
+// Three readings of a new clock.
+fn three_readings<D: Desk>(desk: &mut D) -> [u64; 3] {
+    let mut clock = desk.clock();
+    [clock.now(), clock.now(), clock.now()]
+}
+
+#[test]
+fn each_clock_gives_the_readings_of_its_number(rt: HostRuntime) -> Result<(), Fail> {
+    let mut desk = MemoryDesk::new(rt.alloc(), 16)?;
+    desk.put_readings(1, &[7, 9])?;
+    desk.put_readings(0, &[1, 2, 3])?;
+    assert_eq!(rt; three_readings(&mut desk), [1, 2, 3]);
+    assert_eq!(rt; three_readings(&mut desk), [7, 9, 9]);
+    assert_eq!(rt; three_readings(&mut desk), [0, 0, 0]);
     Ok(())
 }

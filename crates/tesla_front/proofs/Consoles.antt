@@ -57,6 +57,7 @@ console_unopened A command usage words refusal old new opens = inl (record {
   asked = asks_tried {A = A} console [] (Err refusal) old.openings new.openings opens.asked;
   pages = stays_all (codes "-") old.page new.page opens.refused opens.pages;
   lefts = opens.lefts;
+  live = opens.live;
   counts = record { reads = opens.counts.reads; writes = opens.counts.writes; openings = cause_as old.faults.openings new.faults.openings opens.counts.openings (failed_open A refusal) (open_failed A refusal) };
 })
 
@@ -67,6 +68,7 @@ pub record Tolds (usage : List ℕ) (old opened done new : Told) (came told : Ca
   pub asked : opened.openings ≡ with_opening old.openings console
   pub pages : (name : List ℕ) → name ≢ codes "-" → opened.page name ≡ old.page name
   pub lefts : (name : List ℕ) → opened.left name ≡ old.left name
+  pub live : opened.live ≡ old.live
   pub counts : opened.faults ≡ old.faults
   pub before : Option (List ℕ)
   pub empty : IfSome before (λ bytes. bytes ≡ [])
@@ -88,6 +90,7 @@ refused_run usage old opened done new came told written failed it is still =
       asked = one.closes.asked ∙ one.asked ∙ openings_none (with_opening old.openings console) ∙ openings_first old.openings console [];
       pages = λ name other. one.closes.pages name other ∙ one.pages name other;
       lefts = λ name. one.closes.lefts name ∙ one.lefts name;
+      live = one.closes.live ∙ one.live;
       is_usage = usage_stays usage told one.before written failed one.tells;
       failed = failed;
       counts = one.closes.counts ∙ ap (λ f. after_sink f failed) one.counts;

@@ -1,12 +1,13 @@
 -- The files of a command: which were asked to be opened, and what is told of them.
 use Rattle.std.specs.Prelude.{◌≡◌, ◌≢◌, ◌⊎◌, ℕ, ◌≤◌, Option, List, [], ◌∷◌, length, map, take, codes}
-use Rattle.tesla_desk.specs.Outside.{Page, Opening, OfSource, OfSink, Told, with_openings}
+use Rattle.tesla_desk.specs.Outside.{Page, Opening, OfSource, OfSink, OfLink, Told, with_openings}
 use Rattle.tesla_front.specs.Files.{HasFailed}
 
 -- the name of an opening
 abbrev pub name_of : Opening → List ℕ
 name_of (OfSource name) = name
 name_of (OfSink name) = name
+name_of (OfLink name) = name
 
 -- the opening is one of these
 abbrev pub IsAmong : Opening → List Opening → Type 0
@@ -45,4 +46,5 @@ files_told told openings = map (λ (opening : Opening). file_told told (name_of 
 abbrev pub AnyFailed : List Opening → Told → Type 0
 AnyFailed [] told = ⊥
 AnyFailed (OfSource name ∷ others) told = AnyFailed others told
+AnyFailed (OfLink name ∷ others) told = AnyFailed others told
 AnyFailed (OfSink name ∷ others) told = HasFailed (told.page name) ⊎ AnyFailed others told

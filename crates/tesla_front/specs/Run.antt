@@ -18,6 +18,7 @@ pub record HasNoConsole (old new : Told) (told : Came) : Type 0 where
   pub asked : AsksPrefix (console ∷ []) old.openings new.openings
   pub pages : (name : List ℕ) → new.page name ≡ old.page name
   pub lefts : (name : List ℕ) → new.left name ≡ old.left name
+  pub live : new.live ≡ old.live
   pub counts : CountsOpening old.faults new.faults (told ≡ Failed faults.Open)
 
 -- words that are no form: the console alone was opened, and told so
@@ -25,6 +26,7 @@ pub record TellsUsage (usage : List ℕ) (old new : Told) (told : Came) : Type 0
   pub asked : new.openings ≡ with_openings old.openings (console ∷ [])
   pub pages : (name : List ℕ) → name ≢ codes "-" → new.page name ≡ old.page name
   pub lefts : (name : List ℕ) → new.left name ≡ old.left name
+  pub live : new.live ≡ old.live
   pub is_usage : told ≡ Usage
   -- so many writes to the console failed, and nothing else did
   pub failed : ℕ

@@ -73,6 +73,7 @@ pub fn read_file<D: Desk>(
     ensures opened { IfOk result (λ _. Opens (OfSource name.now ∷ []) 1 (D.told desk.old) (D.told desk.new)) }
     ensures opens { OpensSome (OfSource name.now ∷ []) (D.told desk.old) (D.told desk.new) }
     ensures pages { (n : List ℕ) → (D.told desk.new).page n ≡ (D.told desk.old).page n }
+    ensures live { (D.told desk.new).live ≡ (D.told desk.old).live }
     ensures causes { Causes result (D.told desk.old).faults (D.told desk.new).faults }
     ensures kind { result ≡ Err Fault.Write → ⊥ }
 {

@@ -22,6 +22,3 @@ pub use refusal::{Refusal, Stop};
 pub use seeds::seeds_under;
 pub use setup::setup_under;
 pub use words::{Places, is_name, number_in, places_in, stream_in};
-
-#[cfg(test)]
-mod tests;

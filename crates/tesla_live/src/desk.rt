@@ -2,36 +2,47 @@
 
 ghost use Rattle.std.specs.Prelude.{◌≡◌, None};
 ghost use Rattle.tesla_desk.specs.Faults.{HasCause, no_faults};
+ghost use Rattle.tesla_desk.specs.Live.{untold};
 ghost use Rattle.tesla_desk.specs.Outside.{Untold};
 
 use crate::files::OpenedFiles;
+use crate::gate::{Gates, LiveGate};
 use crate::sink::Target;
-use crate::{FileSink, FileSource};
+use crate::{FileSink, FileSource, MachineClock, UdpLink, link};
 use std::io;
+use std::net::Net;
 use std::rt::Files;
+use std::sync::Wait;
+use std::time::Clock;
 use tesla_base::Text;
 use tesla_desk::{CONSOLE, Desk, OpenRefusal};
 
-/// The files of the system, and standard output under the name of the console. It tells no bytes.
+/// The files of the system, standard output under the name of the console, UDP sockets as links, the system's clock, and
+/// gates that wake one another. It tells no bytes, no letters and no readings.
 ///
 /// A regular file that it opened before, or that is standard output, is refused as a sink, whatever the
 /// name, and is neither cut nor written.
 #[derive(Drop)]
 pub struct LiveDesk<'a, R> {
     rt: &'a R,
+    gates: &'a Gates,
     opened: OpenedFiles,
     reads: u64,
     writes: u64,
     openings: u64,
 }
 
-impl<'a, R: Files + Print + AllocGlobal> LiveDesk<'a, R> {
-    /// A desk with no faults.
-    pub fn new(rt: &'a R) -> LiveDesk<'a, R>
+impl<'a, R: Files + Net + Clock + Print + AllocGlobal + Wait + Sync> LiveDesk<'a, R>
+where
+    R::File: Send,
+{
+    /// A desk with no faults, whose gates share these.
+    pub fn new(rt: &'a R, gates: &'a Gates) -> LiveDesk<'a, R>
         ensures { (⟦<LiveDesk<'a, R> as Desk>⟧.told result).faults ≡ no_faults }
     {
         LiveDesk {
             rt,
+            gates,
             opened: OpenedFiles::new(rt.alloc()),
             reads: 0,
             writes: 0,
@@ -40,12 +51,21 @@ impl<'a, R: Files + Print + AllocGlobal> LiveDesk<'a, R> {
     }
 }
 
-impl<'a, R: Files + Print + AllocGlobal> Desk for LiveDesk<'a, R> {
+impl<'a, R: Files + Net + Clock + Print + AllocGlobal + Wait + Sync> Desk for LiveDesk<'a, R>
+where
+    R::File: Send,
+{
     type In = FileSource<R::File>;
 
     type Out = FileSink<'a, R>;
 
-    ghost told = { λ desk. record { page = λ _. Untold; left = λ _. None; faults = record { reads = desk.reads; writes = desk.writes; openings = desk.openings }; openings = None } };
+    type Wire = UdpLink;
+
+    type Time = MachineClock<'a, R>;
+
+    type Pause = LiveGate<'a, R>;
+
+    ghost told = { λ desk. record { page = λ _. Untold; left = λ _. None; faults = record { reads = desk.reads; writes = desk.writes; openings = desk.openings }; openings = None; live = untold } };
 
     fn open_source(&mut self, name: &str) -> Result<FileSource<R::File>, OpenRefusal> {
         let source_name = Text::new(self.rt.alloc(), name.as_bytes())?;
@@ -66,6 +86,14 @@ impl<'a, R: Files + Print + AllocGlobal> Desk for LiveDesk<'a, R> {
         }
     }
 
+    fn open_link(&mut self, name: &str) -> Result<UdpLink, OpenRefusal> {
+        let link_name = Text::new(self.rt.alloc(), name.as_bytes())?;
+        match link::bind(self.rt, name) {
+            Ok(bound) => Ok(UdpLink::new(link_name, bound)),
+            Err(error) => Err(refusal_of(&mut self.openings, error)),
+        }
+    }
+
     fn close_source(&mut self, it: FileSource<R::File>) {
         if 0 < it.into_faults() {
             self.reads = self.reads.saturating_add(1);
@@ -76,6 +104,21 @@ impl<'a, R: Files + Print + AllocGlobal> Desk for LiveDesk<'a, R> {
         if 0 < it.into_faults() {
             self.writes = self.writes.saturating_add(1);
         }
+    }
+
+    fn close_link(&mut self, it: UdpLink) {
+        let failed = 0 < it.into_faults();
+        if failed {
+            self.reads = self.reads.saturating_add(1);
+        }
+    }
+
+    fn clock(&mut self) -> MachineClock<'a, R> {
+        MachineClock::new(self.rt)
+    }
+
+    fn gate(&mut self) -> LiveGate<'a, R> {
+        LiveGate::new(self.rt, self.gates)
     }
 }
 

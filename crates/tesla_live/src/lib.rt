@@ -1,12 +1,19 @@
-//! Files and the console of the running system as the outside of the project.
+//! Files, the console, UDP sockets and the clock of the running system as the outside of the project.
 #![tactic(auto)]
 
+mod clock;
 mod desk;
 mod files;
+mod gate;
+mod link;
+mod quiets;
 mod sink;
 mod source;
 
+pub use clock::MachineClock;
 pub use desk::LiveDesk;
+pub use gate::{Gates, LiveGate};
+pub use link::UdpLink;
 pub use sink::FileSink;
 pub use source::FileSource;
 

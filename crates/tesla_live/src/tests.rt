@@ -1,5 +1,8 @@
 //! Tests of each adapter against the running system.
 
+mod clocks;
+mod gates;
+mod links;
 mod recording;
 
 use super::*;
@@ -34,7 +37,8 @@ fn a_file_with_blanks_in_its_name_is_cut_written_and_read_back(
 ) -> Result<(), Fail> {
     let name = " written by a test ";
     fs::write(&rt, name, "a longer text")?;
-    let mut desk = LiveDesk::new(&rt);
+    let gates = Gates::new();
+    let mut desk = LiveDesk::new(&rt, &gates);
     let written = write_page(&mut desk, name, b"bytes");
     let held = fs::read(&rt, name);
     let mut buffer = [0u8; 8];
@@ -52,7 +56,8 @@ fn a_file_that_was_opened_is_not_written_under_any_name(rt: HostRuntime) -> Resu
     let (name, link) = ("opened_by_a_test", "linked_by_a_test");
     fs::write(&rt, name, "the capture")?;
     fs::hard_link(&rt, name, link)?;
-    let mut desk = LiveDesk::new(&rt);
+    let gates = Gates::new();
+    let mut desk = LiveDesk::new(&rt, &gates);
     let mut buffer = [0u8; 8];
     let read = read_once(&mut desk, name, &mut buffer);
     let refused = [
@@ -74,7 +79,8 @@ fn a_copy_of_an_opened_file_is_another_file_and_is_emptied(rt: HostRuntime) -> R
     let (name, copy) = ("copied_by_a_test", "copy_by_a_test");
     fs::write(&rt, name, "the capture")?;
     fs::write(&rt, copy, "the capture")?;
-    let mut desk = LiveDesk::new(&rt);
+    let gates = Gates::new();
+    let mut desk = LiveDesk::new(&rt, &gates);
     let mut buffer = [0u8; 8];
     let read = read_once(&mut desk, name, &mut buffer);
     let written = write_page(&mut desk, copy, b"");
@@ -90,7 +96,8 @@ fn a_copy_of_an_opened_file_is_another_file_and_is_emptied(rt: HostRuntime) -> R
 #[test]
 fn the_console_prints_what_is_written(rt: HostRuntime) -> Result<(), Fail> {
     let recording = Recording::new(&rt);
-    let mut desk = LiveDesk::new(&recording);
+    let gates = Gates::new();
+    let mut desk = LiveDesk::new(&recording, &gates);
     let written = [
         write_page(&mut desk, CONSOLE, b"a line\n"),
         write_page(&mut desk, CONSOLE, b"and more"),
@@ -106,7 +113,8 @@ fn the_console_prints_what_is_written(rt: HostRuntime) -> Result<(), Fail> {
 
 #[test]
 fn what_is_no_file_is_refused_by_name(rt: HostRuntime) {
-    let mut desk = LiveDesk::new(&rt);
+    let gates = Gates::new();
+    let mut desk = LiveDesk::new(&rt, &gates);
     let mut buffer = [0u8; 8];
     assert_eq!(rt;
         read_once(&mut desk, "no_such_file", &mut buffer),

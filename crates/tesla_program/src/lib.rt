@@ -1,5 +1,4 @@
-//! The program: the words that the system hands over, `--help` and `--version`, and the commands over the running
-//! system.
+//! The program: the words that the system hands over, `--help` and `--version`, and the commands over a desk.
 #![tactic(auto)]
 
 ghost use Rattle.std.specs.Prelude.{◌≡◌};
@@ -10,17 +9,16 @@ mod choice;
 
 use about::{About, about_in, write_about};
 use choice::run_chosen;
-use std::alloc::AllocError;
+use std::alloc::{AllocError, Global};
 use std::process::ExitCode;
-use std::rt::{Env, Files};
+use std::rt::Env;
 use std::{env, io};
 use tesla_cli::FORMS;
 use tesla_desk::{CONSOLE, Desk};
 use tesla_front::{Fault, Outcome, tell};
-use tesla_live::LiveDesk;
 
-// The words after the program's name.
-fn words<R: Env + AllocGlobal>(rt: &R) -> io::Result<Vec<String>> {
+/// The words after the program's name.
+pub fn words<R: Env + AllocGlobal>(rt: &R) -> io::Result<Vec<String>> {
     let mut words = Vec::new(rt.alloc());
     for word in env::args(rt)?.skip(1) {
         words.push(word).map_err(AllocError::from)?;
@@ -55,30 +53,33 @@ fn print_about<D: Desk>(desk: &mut D, about: About) -> u8
 }
 
 // Runs the words. One that isn't UTF-8 is in no form of a command.
-fn run_words<R: Env + Files + Print + AllocGlobal>(rt: &R) -> u8 {
-    let mut desk = LiveDesk::new(rt);
-    let words = match words(rt) {
+fn run_words<D: Desk>(alloc: Global, words: io::Result<Vec<String>>, desk: &mut D) -> u8 {
+    let words = match words {
         Ok(words) => words,
         Err(error) => {
             if error.kind() == io::ErrorKind::OutOfMemory {
-                return tell_no_memory(&mut desk);
+                return tell_no_memory(desk);
             }
-            Vec::new(rt.alloc())
+            Vec::new(alloc)
         }
     };
     match about_in(words.as_slice()) {
-        Some(about) => print_about(&mut desk, about),
-        None => run_chosen(rt.alloc(), words.as_slice(), &mut desk),
+        Some(about) => print_about(desk, about),
+        None => run_chosen(alloc, words.as_slice(), desk),
     }
 }
 
-/// Runs the words that the system hands over, over its files and its console, and gives the program's status.
+/// Runs the words that the system handed over, over a desk, and gives the program's status.
 ///
 /// `--help` and `--version` alone print a text. All other words are run by `run_tools` where the first of them names a
 /// tool, and else by `run_here`, as none at all where one of them isn't UTF-8. Where there is no memory for the words,
 /// that is told, and the status is 6.
-pub fn run_program<R: Env + Files + Print + AllocGlobal>(rt: &R) -> ExitCode {
-    ExitCode::from(run_words(rt))
+pub fn run_program<D: Desk>(
+    alloc: Global,
+    words: io::Result<Vec<String>>,
+    desk: &mut D,
+) -> ExitCode {
+    ExitCode::from(run_words(alloc, words, desk))
 }
 
 #[cfg(test)]

@@ -31,7 +31,7 @@ pub fn run_ask<D: Desk>(words: &[String], desk: &mut D) -> Outcome
 
 // Does what the words ask for.
 fn perform<D: Desk>(arguments: &AskWords<'_>, desk: &mut D) -> Result<Lines, Stop>
-    requires { AreFiles (files_of_ask (ask_arguments arguments.now)) }
+    requires files { AreFiles (files_of_ask (ask_arguments arguments.now)) }
     ensures { Performs ask (ask_arguments arguments.now) (D.told desk.old) (D.told desk.new) (came_of result) }
 {
     let message = write_ask(arguments.reading);

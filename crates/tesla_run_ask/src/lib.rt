@@ -12,6 +12,3 @@ mod writing;
 pub use asking::run_ask;
 pub use forms::{ASK, REPLY};
 pub use replying::run_reply;
-
-#[cfg(test)]
-mod tests;

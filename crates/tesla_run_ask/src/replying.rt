@@ -48,7 +48,7 @@ pub fn run_reply<D: Desk>(alloc: Global, words: &[String], desk: &mut D) -> Outc
 
 // Does what the words ask for.
 fn perform<D: Desk>(alloc: Global, arguments: &ReplyWords<'_>, desk: &mut D) -> Result<Lines, Stop>
-    requires { AreFiles (files_of_reply (reply_arguments arguments.now)) }
+    requires files { AreFiles (files_of_reply (reply_arguments arguments.now)) }
     ensures { Performs reply (reply_arguments arguments.now) (D.told desk.old) (D.told desk.new) (came_of result) }
 {
     let ask = read_file(alloc, arguments.ask, MOST_OF_ASK, desk)?;

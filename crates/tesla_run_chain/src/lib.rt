@@ -10,6 +10,3 @@ mod words;
 
 pub use forms::{CHAIN, CHAIN_TWO};
 pub use run::run_chain;
-
-#[cfg(test)]
-mod tests;

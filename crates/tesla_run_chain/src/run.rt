@@ -37,7 +37,7 @@ pub fn run_chain<D: Desk>(alloc: Global, words: &[String], desk: &mut D) -> Outc
 
 // Does what the words ask for.
 fn perform<D: Desk>(alloc: Global, arguments: &Arguments<'_>, desk: &mut D) -> Result<Lines, Stop>
-    requires { AreFiles (files_of_chain (arguments_of arguments.now)) }
+    requires files { AreFiles (files_of_chain (arguments_of arguments.now)) }
     ensures { Performs chain (arguments_of arguments.now) (D.told desk.old) (D.told desk.new) (came_of result) }
 {
     let count = arguments.delays.len() as u8;

@@ -3,7 +3,7 @@ use Rattle.std.proofs.Common.{◌≡◌, ◌≢◌, ◌∙◌, ℕ, ℤ, Option,
 use Rattle.tesla_base.specs.declared.names.Key.{Key}
 use Rattle.tesla_desk.specs.Faults.{Faults}
 use Rattle.tesla_desk.specs.Outside.{Page, Untold, Absent, Holds, Opening, Told}
-use Rattle.tesla_desk.proofs.Counts.{cause_none, cause_plain, causes_none}
+use Rattle.tesla_desk.proofs.Counts.{cause_as, cause_none, cause_plain, causes_none}
 use Rattle.tesla_front.specs.Came.{Came, Done, Usage, Refused, Failed}
 use Rattle.tesla_front.specs.Command.{Performs}
 use Rattle.tesla_front.specs.Fault.{Causes}
@@ -25,6 +25,16 @@ use Rattle.tesla_run_lag.proofs.Fronts.{ask_front, key_front, reply_front}
 -- of the first file alone it was tried whether it opens
 pub first_tried : (opening : Opening) (files : List Opening) (before now : Told) → OpensSome (opening ∷ []) before now → OpensSome (opening ∷ files) before now
 first_tried opening files before now opens = let it = opens_some opening files before now opens in (it.0, omega (arith, it.1), it.2)
+
+-- a step gave something, and the one behind it a fault: what the steps come to is that fault
+pub causes_then_fault : {A B C : Type 0} (value : A) (fault : Fault) (a b c : Faults) → Causes {A = A} (Ok value) a b → Causes {A = B} (Err fault) b c → Causes {A = C} (Err fault) a c
+causes_then_fault {C = C} value fault a b c first second =
+    let still : b ≡ a = causes_none a b first (λ e. absurd cc) (λ e. absurd cc) (λ e. absurd cc) in
+    subst (λ (f : Faults). Causes {A = C} (Err fault) f c) still (record {
+      reads = cause_as b.reads c.reads second.reads (λ e. cc) (λ e. cc);
+      writes = cause_as b.writes c.writes second.writes (λ e. cc) (λ e. cc);
+      openings = cause_as b.openings c.openings second.openings (λ e. cc) (λ e. cc);
+    })
 
 -- ---- what texts come to is no fault
 

@@ -12,6 +12,3 @@ mod words;
 
 pub use forms::LAG;
 pub use run::run_lag;
-
-#[cfg(test)]
-mod tests;

@@ -33,7 +33,7 @@ pub fn run_lag<D: Desk>(alloc: Global, words: &[String], desk: &mut D) -> Outcom
 
 // Does what the words ask for.
 fn perform<D: Desk>(alloc: Global, arguments: &Arguments<'_>, desk: &mut D) -> Result<Lines, Stop>
-    requires { AreFiles (files_of_lag (arguments_of arguments.now)) }
+    requires files { AreFiles (files_of_lag (arguments_of arguments.now)) }
     ensures { Performs lag (arguments_of arguments.now) (D.told desk.old) (D.told desk.new) (came_of result) }
 {
     match read_texts(alloc, arguments, desk) {

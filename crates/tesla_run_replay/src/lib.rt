@@ -15,6 +15,3 @@ pub use forms::REPLAY;
 pub use report::report_lines;
 pub use run::run_replay;
 pub use target::{PlayedEvent, ReceiverTarget, Target};
-
-#[cfg(test)]
-mod tests;

@@ -45,7 +45,7 @@ pub fn run_replay<D: Desk>(alloc: Global, words: &[String], desk: &mut D) -> Out
 
 // Does what the words of a replay ask for.
 fn perform<D: Desk>(alloc: Global, arguments: &Arguments<'_>, desk: &mut D) -> Result<Lines, Stop>
-    requires { AreFiles (files_of_replay (arguments_of arguments.now)) }
+    requires files { AreFiles (files_of_replay (arguments_of arguments.now)) }
     ensures { Performs replay (arguments_of arguments.now) (D.told desk.old) (D.told desk.new) (came_of result) }
 {
     match setup_under(alloc, arguments.setup, desk) {

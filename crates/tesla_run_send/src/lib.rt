@@ -12,6 +12,3 @@ mod words;
 pub use forms::SEND;
 pub use run::run_send;
 pub use script_kind::ScriptKind;
-
-#[cfg(test)]
-mod tests;

@@ -50,7 +50,7 @@ pub fn run_send<D: Desk>(alloc: Global, words: &[String], desk: &mut D) -> Outco
 
 // Does what the words ask for.
 fn perform<D: Desk>(alloc: Global, arguments: &Arguments<'_>, desk: &mut D) -> Result<Lines, Stop>
-    requires { AreFiles (files_of_send (arguments_of arguments.now)) }
+    requires files { AreFiles (files_of_send (arguments_of arguments.now)) }
     ensures { Performs send (arguments_of arguments.now) (D.told desk.old) (D.told desk.new) (came_of result) }
 {
     let setup = setup_under(alloc, arguments.setup, desk)?;

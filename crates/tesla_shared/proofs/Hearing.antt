@@ -1,5 +1,5 @@
 -- Arrivals that are made of a link, one after another.
-use Rattle.std.proofs.Common.{◌≡◌, ℕ, List, [], ◌∷◌, ◌++◌, map, Option, Some, None, true, refl, sym, ap, subst, ◌∙◌, append_assoc, append-nil, arith}
+use Rattle.std.proofs.Common.{◌≡◌, ℕ, List, [], ◌∷◌, ◌++◌, map, Option, Some, None, true, refl, sym, ap, subst, ◌∙◌, append_assoc, append-nil, length, length-append, arith}
 use Rattle.std.specs.List.{list_all}
 use Rattle.std.proofs.lemmas.List.{map-append}
 use Rattle.std.proofs.lemmas.Bool.{eq-eqb}
@@ -8,20 +8,21 @@ use Rattle.tesla_base.proofs.Lists.{list_all_both}
 use Rattle.tesla_receiver.specs.declared.history.Arrival.{Arrival}
 use Rattle.tesla_receiver.specs.declared.history.Entry.{Entry}
 use Rattle.tesla_receiver.specs.declared.history.Entry.TheVariants.{Arrived, Ended}
-use Rattle.tesla_shared.specs.declared.outside.Item.{Item}
-use Rattle.tesla_shared.specs.declared.outside.Item.TheVariants as items
-use Rattle.tesla_shared.specs.Outside.{after_items, Ticking, next_reading, ticked, Ticks}
-use Rattle.tesla_shared.specs.Workers.{datagram_in, datagrams, bytes_of, reading_of, is_of, Came, AreNext, Gave, HearsOne, HearsAll, Ingests}
+use Rattle.tesla_desk.specs.declared.link.Letter.{Letter}
+use Rattle.tesla_desk.specs.declared.link.Letter.TheVariants as letters
+use Rattle.tesla_desk.specs.Clocks.{Ticking, next_reading, ticked, Ticks}
+use Rattle.tesla_desk.specs.Links.{datagram_in, datagrams, after_letters}
+use Rattle.tesla_shared.specs.Workers.{bytes_of, reading_of, is_of, Came, AreNext, Gave, HearsOne, HearsAll, Ingests}
 
 -- items that are taken one after another
-pub items_twice : (left : Option (List Item)) (a b : List Item) → after_items a (after_items b left) ≡ after_items (a ++ b) left
-items_twice None a b = refl
-items_twice (Some rest) a b = ap (λ (all : List Item). Some all) (sym (append_assoc a b rest))
+pub letters_twice : (left : Option (List Letter)) (a b : List Letter) → after_letters a (after_letters b left) ≡ after_letters (a ++ b) left
+letters_twice None a b = refl
+letters_twice (Some rest) a b = ap (λ (all : List Letter). Some all) (sym (append_assoc a b rest))
 
 -- no item was taken
-pub items_none : (left : Option (List Item)) → left ≡ after_items [] left
-items_none None = refl
-items_none (Some rest) = refl
+pub letters_none : (left : Option (List Letter)) → left ≡ after_letters [] left
+letters_none None = refl
+letters_none (Some rest) = refl
 
 next_more : (readings : List ℕ) (before now after : Ticking) (reading : ℕ) → AreNext readings before now → after ≡ ticked now → reading ≡ next_reading now.ahead → AreNext (readings ++ reading ∷ []) before after
 next_more [] before now after reading are ticks reads = (reads ∙ ap (λ (z : Ticking). next_reading z.ahead) are, ticks ∙ ap ticked are)
@@ -29,7 +30,11 @@ next_more (first ∷ readings) before now after reading are ticks reads = (are.0
 
 -- one reading more
 gave_more : (readings : List ℕ) (before now after : Option Ticking) (reading : ℕ) → Gave readings before now → Ticks now after reading → Gave (readings ++ reading ∷ []) before after
-gave_more readings before now None reading gave ticks = tt
+gave_more readings None None None reading gave ticks = tt
+gave_more readings None (Some now) None reading gave ticks = absurd gave
+gave_more readings (Some before) None None reading gave ticks = omega (arith, length-append readings (reading ∷ []), gave)
+gave_more readings (Some before) (Some now) None reading gave ticks =
+    omega (arith, length-append readings (reading ∷ []), length-append before.given readings, ap (λ (given : List ℕ). length given) gave.0, ticks)
 gave_more readings before None (Some after) reading gave ticks = absurd ticks
 gave_more readings None (Some now) (Some after) reading gave ticks = absurd gave
 gave_more readings (Some before) (Some now) (Some after) reading gave ticks = (
@@ -43,10 +48,10 @@ gave_none None = tt
 gave_none (Some before) = (sym (append-nil before.given), refl)
 
 -- items more, of which each datagram is an arrival
-came_more : (arrivals more : List Arrival) (taken : List Item) (left now later : Option (List Item)) → Came arrivals left now → now ≡ after_items taken later → datagrams taken ≡ map bytes_of more → Came (arrivals ++ more) left later
+came_more : (arrivals more : List Arrival) (taken : List Letter) (left now later : Option (List Letter)) → Came arrivals left now → now ≡ after_letters taken later → datagrams taken ≡ map bytes_of more → Came (arrivals ++ more) left later
 came_more arrivals more taken left now later came next same = (
   came.0 ++ taken,
-  came.1 ∙ ap (after_items came.0) next ∙ items_twice later came.0 taken,
+  came.1 ∙ ap (after_letters came.0) next ∙ letters_twice later came.0 taken,
   flat_map-append datagram_in came.0 taken ∙ ap (λ (front : List (List ℕ)). front ++ datagrams taken) came.2 ∙ ap (λ (back : List (List ℕ)). map bytes_of arrivals ++ back) same ∙ sym (map-append bytes_of arrivals more),
 )
 
@@ -54,40 +59,40 @@ is_own : (ingest : ℕ) (arrival : Arrival) → arrival.ingest ≡ ingest → li
 is_own ingest arrival same = grind (arith, eq-eqb arrival.ingest ingest same)
 
 -- no arrival was made
-pub hears_none : (ingest : ℕ) (made : List Entry) (left : Option (List Item)) (before : Option Ticking) → HearsAll ingest made made left left before before
+pub hears_none : (ingest : ℕ) (made : List Entry) (left : Option (List Letter)) (before : Option Ticking) → HearsAll ingest made made left left before before
 hears_none ingest made left before = record {
   arrivals = [];
-  hears = record { numbered = refl; came = ([], items_none left, refl); gave = gave_none before };
+  hears = record { numbered = refl; came = ([], letters_none left, refl); gave = gave_none before };
   made_are = sym (append-nil made);
 }
 
 -- a datagram more
-pub hears_more : (ingest : ℕ) (bytes : List ℕ) (made mid now : List Entry) (left rest later : Option (List Item)) (before then after : Option Ticking) → HearsAll ingest made mid left rest before then → rest ≡ after_items (items.Datagram bytes ∷ []) later → HearsOne ingest bytes mid now then after → HearsAll ingest made now left later before after
+pub hears_more : (ingest : ℕ) (bytes : List ℕ) (made mid now : List Entry) (left rest later : Option (List Letter)) (before then after : Option Ticking) → HearsAll ingest made mid left rest before then → rest ≡ after_letters (letters.Datagram bytes ∷ []) later → HearsOne ingest bytes mid now then after → HearsAll ingest made now left later before after
 hears_more ingest bytes made mid now left rest later before then after all next one =
     let more : List Arrival = one.arrival ∷ [] in record {
       arrivals = all.arrivals ++ more;
       hears = record {
         numbered = list_all_both (is_of ingest) all.arrivals more all.hears.numbered (is_own ingest one.arrival one.numbered);
-        came = came_more all.arrivals more (items.Datagram bytes ∷ []) left rest later all.hears.came next (ap (λ (b : List ℕ). b ∷ []) (sym one.bytes_are));
+        came = came_more all.arrivals more (letters.Datagram bytes ∷ []) left rest later all.hears.came next (ap (λ (b : List ℕ). b ∷ []) (sym one.bytes_are));
         gave = subst (λ (rs : List ℕ). Gave rs before after) (sym (map-append reading_of all.arrivals more)) (gave_more (map reading_of all.arrivals) before then after one.arrival.reading all.hears.gave one.ticks);
       };
       made_are = one.made_is ∙ ap (λ (es : List Entry). es ++ Arrived one.arrival ∷ []) all.made_are ∙ append_assoc made (map Arrived all.arrivals) (Arrived one.arrival ∷ []) ∙ ap (λ (es : List Entry). made ++ es) (sym (map-append Arrived all.arrivals more));
     }
 
 -- a quiet more
-pub hears_quiet : (ingest : ℕ) (made now : List Entry) (left rest later : Option (List Item)) (before after : Option Ticking) → HearsAll ingest made now left rest before after → rest ≡ after_items (items.Quiet ∷ []) later → HearsAll ingest made now left later before after
+pub hears_quiet : (ingest : ℕ) (made now : List Entry) (left rest later : Option (List Letter)) (before after : Option Ticking) → HearsAll ingest made now left rest before after → rest ≡ after_letters (letters.Quiet ∷ []) later → HearsAll ingest made now left later before after
 hears_quiet ingest made now left rest later before after all next = record {
   arrivals = all.arrivals;
   hears = record {
     numbered = all.hears.numbered;
-    came = subst (λ (arrivals : List Arrival). Came arrivals left later) (append-nil all.arrivals) (came_more all.arrivals [] (items.Quiet ∷ []) left rest later all.hears.came next refl);
+    came = subst (λ (arrivals : List Arrival). Came arrivals left later) (append-nil all.arrivals) (came_more all.arrivals [] (letters.Quiet ∷ []) left rest later all.hears.came next refl);
     gave = all.hears.gave;
   };
   made_are = all.made_are;
 }
 
 -- the end behind the arrivals
-pub ends_after : (ingest : ℕ) (made mid now : List Entry) (left later : Option (List Item)) (before after : Option Ticking) → HearsAll ingest made mid left later before after → now ≡ mid ++ Ended ingest ∷ [] → Ingests ingest made now left later before after
+pub ends_after : (ingest : ℕ) (made mid now : List Entry) (left later : Option (List Letter)) (before after : Option Ticking) → HearsAll ingest made mid left later before after → now ≡ mid ++ Ended ingest ∷ [] → Ingests ingest made now left later before after
 ends_after ingest made mid now left later before after all ended = record {
   arrivals = all.arrivals;
   hears = all.hears;

@@ -1,4 +1,5 @@
 pub mod Hearing
 pub mod Passing
 pub mod Writing
-pub mod Remembering
+pub mod WholeLists
+pub mod Whole

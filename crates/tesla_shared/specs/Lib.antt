@@ -1,3 +1,2 @@
-pub mod Outside
 pub mod Workers
-pub mod Memory
+pub mod Whole

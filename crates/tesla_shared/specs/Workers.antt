@@ -1,5 +1,5 @@
 -- What the workers of a receiver do: the calls of their passes, against what links and clocks tell and sinks hold.
-use Rattle.std.specs.Prelude.{◌≡◌, ℕ, ◌==◌, Bool, true, false, List, [], ◌∷◌, ◌++◌, map, flat_map, Option, Some, None}
+use Rattle.std.specs.Prelude.{◌≡◌, ℕ, ◌+◌, ◌-◌, ◌^◌, ◌≤◌, ◌==◌, Bool, true, false, List, [], ◌∷◌, ◌++◌, length, map, flat_map, Option, Some, None}
 use Rattle.std.specs.List.{list_all}
 use Rattle.tesla_desk.specs.Outside.{AppendsPrefix, with_bytes}
 use Rattle.tesla_capture.specs.Release.{release_text}
@@ -10,18 +10,9 @@ use Rattle.tesla_state.specs.declared.replies.Reply.{Reply}
 use Rattle.tesla_state.specs.declared.replies.Reply.TheVariants.{Given, Empty, Over}
 use Rattle.tesla_shared.specs.declared.draining.SinkEnd.{SinkEnd}
 use Rattle.tesla_shared.specs.declared.draining.SinkEnd.TheVariants as ends
-use Rattle.tesla_shared.specs.declared.outside.Item.{Item}
-use Rattle.tesla_shared.specs.declared.outside.Item.TheVariants as items
-use Rattle.tesla_shared.specs.Outside.{after_items, Ticking, next_reading, ticked, Ticks}
-
--- the bytes of an item that is a datagram
-abbrev pub datagram_in : Item → List (List ℕ)
-datagram_in (items.Datagram bytes) = bytes ∷ []
-datagram_in items.Quiet = []
-
--- the datagrams among items, in order
-abbrev pub datagrams : List Item → List (List ℕ)
-datagrams taken = flat_map datagram_in taken
+use Rattle.tesla_desk.specs.declared.link.Letter.{Letter}
+use Rattle.tesla_desk.specs.Clocks.{Ticking, next_reading, ticked, Ticks}
+use Rattle.tesla_desk.specs.Links.{datagrams, after_letters}
 
 abbrev pub bytes_of : Arrival → List ℕ
 bytes_of arrival = arrival.bytes
@@ -33,23 +24,24 @@ reading_of arrival = arrival.reading
 abbrev pub is_of : ℕ → Arrival → Bool
 is_of ingest arrival = arrival.ingest == ingest
 
--- items left the link, where it tells them, and each datagram among them is one arrival, with its bytes
-abbrev pub Came : List Arrival → Option (List Item) → Option (List Item) → Type 0
-Came arrivals left later = (taken : List Item) × (left ≡ after_items taken later) × (datagrams taken ≡ map bytes_of arrivals)
+-- letters left the link, where it tells them, and each datagram among them is one arrival, with its bytes
+abbrev pub Came : List Arrival → Option (List Letter) → Option (List Letter) → Type 0
+Came arrivals left later = (taken : List Letter) × (left ≡ after_letters taken later) × (datagrams taken ≡ map bytes_of arrivals)
 
 -- each of these readings is the next that the clock gives
 abbrev pub AreNext : List ℕ → Ticking → Ticking → Type 0
 AreNext [] before after = after ≡ before
 AreNext (reading ∷ readings) before after = (reading ≡ next_reading before.ahead) × AreNext readings (ticked before) after
 
--- the clock gave these readings and no other, and tells no more, or told before and tells them
+-- the clock gave these readings and no other. A clock tells them that told before, and it goes on telling for 2^64 - 1 readings
 abbrev pub Gave : List ℕ → Option Ticking → Option Ticking → Type 0
-Gave readings before None = Unit {0}
+Gave readings None None = Unit {0}
 Gave readings None (Some after) = ⊥
+Gave readings (Some before) None = 2 ^ 64 - 1 ≤ length before.given + length readings
 Gave readings (Some before) (Some after) = (after.given ≡ before.given ++ readings) × AreNext readings before after
 
 -- each datagram that left the link is one arrival of the ingest, with one reading of the clock
-pub record Hears (ingest : ℕ) (arrivals : List Arrival) (left later : Option (List Item)) (before after : Option Ticking) : Type 0 where
+pub record Hears (ingest : ℕ) (arrivals : List Arrival) (left later : Option (List Letter)) (before after : Option Ticking) : Type 0 where
   pub numbered : list_all (is_of ingest) arrivals ≡ true
   pub came : Came arrivals left later
   pub gave : Gave (map reading_of arrivals) before after
@@ -63,13 +55,13 @@ pub record HearsOne (ingest : ℕ) (bytes : List ℕ) (made now : List Entry) (b
   pub made_is : now ≡ made ++ Arrived arrival ∷ []
 
 -- the arrivals that were made of a link
-pub record HearsAll (ingest : ℕ) (made now : List Entry) (left later : Option (List Item)) (before after : Option Ticking) : Type 0 where
+pub record HearsAll (ingest : ℕ) (made now : List Entry) (left later : Option (List Letter)) (before after : Option Ticking) : Type 0 where
   pub arrivals : List Arrival
   pub hears : Hears ingest arrivals left later before after
   pub made_are : now ≡ made ++ map Arrived arrivals
 
 -- what was made of a link: its arrivals, and then one end of the ingest
-pub record Ingests (ingest : ℕ) (made now : List Entry) (left later : Option (List Item)) (before after : Option Ticking) : Type 0 where
+pub record Ingests (ingest : ℕ) (made now : List Entry) (left later : Option (List Letter)) (before after : Option Ticking) : Type 0 where
   pub arrivals : List Arrival
   pub hears : Hears ingest arrivals left later before after
   pub made_are : now ≡ made ++ (map Arrived arrivals ++ Ended ingest ∷ [])

@@ -4,11 +4,11 @@ ghost use Rattle.std.specs.Prelude.{◌≡◌, ◌<◌, ◌^◌, ◌++◌, ◌�
 ghost use Rattle.tesla_receiver.specs.declared.history.Entry.{Entry};
 ghost use Rattle.tesla_receiver.specs.declared.history.Entry.TheVariants.{Arrived};
 
-use crate::outside::Clock;
 use crate::station::Station;
 use std::marker::Brand;
 use std::sync::ledger::{Blank, Ledger};
 use tesla_base::Steps;
+use tesla_desk::Clock;
 use tesla_receiver::{Take, Verdict};
 use tesla_turn::Act;
 
@@ -20,17 +20,18 @@ pub(crate) struct Hear<'a, C: Clock> {
     pub(crate) clock: &'a mut C,
 }
 
-/// When a datagram came, and its verdict.
+/// When a datagram came, its verdict, and whether packets may wait then.
 #[derive(Drop)]
 pub(crate) struct Heard {
     pub(crate) reading: u64,
     pub(crate) verdict: Verdict,
+    pub(crate) waits: bool,
 }
 
 impl<V: Station, C: Clock> Act<V> for Hear<'_, C> {
     ghost use Rattle.std.specs.Prelude.{◌≡◌};
     ghost use Rattle.tesla_receiver.specs.declared.history.Entry.TheVariants.{Arrived};
-    ghost use Rattle.tesla_shared.specs.Outside.{Ticks};
+    ghost use Rattle.tesla_desk.specs.Clocks.{Ticks};
 
     type Reply = Heard;
 
@@ -41,7 +42,12 @@ impl<V: Station, C: Clock> Act<V> for Hear<'_, C> {
     fn run(&mut self, value: &mut V) -> Heard {
         let reading = self.clock.now();
         let verdict = judge::<V, Brand>(value, self.ingest, reading, self.bytes, Blank::new(1));
-        Heard { reading, verdict }
+        let waits = value.may_wait();
+        Heard {
+            reading,
+            verdict,
+            waits,
+        }
     }
 }
 

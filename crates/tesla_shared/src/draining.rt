@@ -11,12 +11,11 @@ ghost use Rattle.tesla_turn.specs.Held.{OnlyCalls, left_of};
 ghost use Rattle.tesla_shared.specs.Workers.{Drains};
 
 use crate::acts::TakeNext;
-use crate::outside::Gate;
 use crate::station::Station;
 use std::sync::Wait;
 use tesla_base::Head;
 use tesla_capture::Gatherer;
-use tesla_desk::Sink;
+use tesla_desk::{Gate, Sink};
 use tesla_receiver::Take;
 use tesla_turn::{Pass, Turn};
 

@@ -5,13 +5,13 @@ ghost use Rattle.tesla_desk.specs.Faults.{HasCause};
 ghost use Rattle.tesla_receiver.specs.declared.history.Arrival.{Arrival};
 ghost use Rattle.tesla_receiver.specs.declared.history.Entry.TheVariants.{Arrived, Ended};
 ghost use Rattle.tesla_turn.specs.Held.{OnlyCalls, left_of};
-ghost use Rattle.tesla_shared.specs.Outside.{Ticks};
+ghost use Rattle.tesla_desk.specs.Clocks.{Ticks};
 ghost use Rattle.tesla_shared.specs.Workers.{HearsOne, HearsAll, Ingests};
 
 use crate::acts::{EndIngest, Hear};
-use crate::outside::{Clock, Gate, Got, Link};
 use crate::station::Station;
 use std::sync::Wait;
+use tesla_desk::{Clock, Gate, Got, Link};
 use tesla_turn::{Pass, Turn};
 
 /// Why a worker asked its link for nothing more.
@@ -83,7 +83,7 @@ fn hear_all<R: Wait, V: Station, K: Link, C: Clock, G: Gate>(
             Got::Datagram(length) => {
                 hear_once(rt, number, &buffer[..length], clock, gate, turn, pass);
             }
-            Got::Quiet => {}
+            Got::Quiet => gate.quiet(),
             Got::End => return LinkEnd::Ended,
             Got::Failed => return LinkEnd::Failed,
         }
@@ -114,7 +114,10 @@ fn hear_once<R: Wait, V: Station, C: Clock, G: Gate>(
         bytes,
         clock,
     };
-    let _ = turn.take_turn(rt, pass, &mut act);
+    let heard = turn.take_turn(rt, pass, &mut act);
+    if heard.waits {
+        gate.released();
+    }
     gate.after();
 }
 
@@ -135,5 +138,6 @@ fn end_once<R: Wait, V: Station, G: Gate>(
 {
     gate.before();
     turn.take_turn(rt, pass, &mut EndIngest { ingest: number });
+    gate.released();
     gate.after();
 }

@@ -5,14 +5,11 @@
 mod acts;
 mod draining;
 mod ingesting;
-mod memory;
-mod outside;
+pub mod laws;
 mod station;
 
 pub use draining::{SinkEnd, drain};
 pub use ingesting::{LinkEnd, ingest};
-pub use memory::{Letters, Readings};
-pub use outside::{Clock, Gate, Got, Item, Link};
 pub use station::Station;
 
 #[cfg(test)]

@@ -33,6 +33,11 @@ pub trait Station: Chronicle<Entry = Entry> + Drop {
         ensures behind { KeepsBehind result into.old into.new }
         ensures config { Self.config self.new ≡ Self.config self.old };
 
+    /// Whether packets may wait to be taken. Nothing is claimed of it: it is for those that wait outside the turn.
+    fn may_wait(&self) -> bool {
+        true
+    }
+
     /// Ends an ingest.
     fn end(&mut self, ingest: u8)
         requires { (h : List Entry) × (length h < 2 ^ 63) × Self.stands self.old h }
@@ -57,5 +62,9 @@ impl Station for Receiver {
 
     fn end(&mut self, ingest: u8) {
         Receiver::end(self, ingest);
+    }
+
+    fn may_wait(&self) -> bool {
+        0 < self.waiting()
     }
 }

@@ -1,7 +1,8 @@
-//! Workers over links, clocks and sinks in memory, with the frames of the worked examples.
+//! Workers over what a desk in memory has, with the frames of the worked examples.
 
-ghost use Rattle.std.specs.Prelude.{◌≡◌, ◌<◌, ◌≤◌, ◌+◌, ◌*◌, ◌^◌, [], IfOk, length, Some};
-ghost use Rattle.tesla_receiver.specs.Stands.{Stands};
+ghost use Rattle.std.specs.Prelude.{◌≡◌, ◌<◌, ◌≤◌, ◌^◌, true, IfOk};
+ghost use Rattle.std.specs.List.{list_all};
+ghost use Rattle.tesla_desk.specs.Links.{fits};
 ghost use Rattle.tesla_turn.specs.Held.{OnlyCalls, left_of};
 
 mod rising;
@@ -11,43 +12,60 @@ use std::alloc::Global;
 use std::sync::Wait;
 use std::test::*;
 use std::thread::{Threads, join, yield_now};
-use tesla_base::Text;
 use tesla_commit::read_setup;
-use tesla_desk::{Desk, Heap, MemoryDesk};
+use tesla_desk::{Desk, Gate, Heap, Letter, Letters, MemoryDesk, Readings, Text};
 use tesla_examples::*;
 use tesla_receiver::Receiver;
 use tesla_turn::{Pass, Turn};
 
-// Counts what it is called for, and gives the processor away where it rests.
+// Tells what it is called for, as a letter each: `b` before a turn and `a` after it, `r` for released, `q` for quiet,
+// and `e` for rest, where it gives the processor away.
 #[derive(Drop)]
-struct Counts {
-    before: u64,
-    after: u64,
-    rests: u64,
+struct Told {
+    letters: [u8; 32],
+    count: usize,
 }
 
-impl Counts {
-    fn new() -> Counts {
-        Counts {
-            before: 0,
-            after: 0,
-            rests: 0,
+impl Told {
+    fn new() -> Told {
+        Told {
+            letters: [0; 32],
+            count: 0,
         }
+    }
+
+    fn enter(&mut self, letter: u8) {
+        if let Some(place) = self.letters.get_mut(self.count) {
+            *place = letter;
+        }
+        self.count = self.count.saturating_add(1);
+    }
+
+    fn reads(&self, want: &str) -> bool {
+        self.count == want.len() && self.letters.starts_with(want.as_bytes())
     }
 }
 
-impl Gate for Counts {
+impl Gate for Told {
     fn before(&mut self) {
-        self.before = self.before.saturating_add(1);
+        self.enter(b'b');
     }
 
     fn after(&mut self) {
-        self.after = self.after.saturating_add(1);
+        self.enter(b'a');
     }
 
     fn rest(&mut self) {
-        self.rests = self.rests.saturating_add(1);
+        self.enter(b'e');
         yield_now();
+    }
+
+    fn released(&mut self) {
+        self.enter(b'r');
+    }
+
+    fn quiet(&mut self) {
+        self.enter(b'q');
     }
 }
 
@@ -70,60 +88,227 @@ const RECORDS: [&str; 5] = [
     "000000000000000400000006000000000167",
 ];
 
-// A link that brings these frames, with a quiet behind each, and then bytes that are none.
-fn link_of(alloc: Global, frames: &[&str], more: usize) -> Result<Letters, Fail> {
-    let mut items = Vec::new(alloc);
-    for digits in frames {
-        let bytes = hex::decode(alloc, digits.as_bytes())?;
-        items.push(Item::Datagram(Text::new(alloc, bytes.as_slice())?))?;
-        items.push(Item::Quiet)?;
-    }
-    if 0 < more {
-        let bytes = vec![in alloc; 0; more]?;
-        items.push(Item::Datagram(Text::new(alloc, bytes.as_slice())?))?;
-    }
-    Ok(Letters::new(Text::new(alloc, b"link")?, items))
+// A run of one worker after the other.
+struct Row {
+    name: &'static str,
+    // The name and the number of the call that fails.
+    fails: Option<(&'static str, u64)>,
+    // The calls of each pass.
+    calls: u8,
+    link: LinkEnd,
+    sink: SinkEnd,
+    // What the gate of the link is told.
+    heard: &'static str,
+    // What the gate of the sink is told.
+    drained: &'static str,
+    // How many events the receiver has, which is the length of its history.
+    events: u64,
+    records: usize,
 }
 
-fn clock_of(alloc: Global, readings: &[u64]) -> Result<Readings, Fail> {
-    Ok(Readings::new(Vec::from_slice(alloc, readings)?))
+// After each frame the link is quiet. Each record is one write, so the second write is that of the second record.
+const ROWS: [Row; 5] = [
+    Row {
+        name: "a link and then a sink",
+        fails: None,
+        calls: 20,
+        link: LinkEnd::Ended,
+        sink: SinkEnd::Over,
+        heard: "baqbaqbaqbaqbaqbraqbra",
+        drained: "babababababa",
+        events: 6 + 1 + 6,
+        records: 5,
+    },
+    Row {
+        name: "a sink that fails",
+        fails: Some(("out", 1)),
+        calls: 20,
+        link: LinkEnd::Ended,
+        sink: SinkEnd::Failed,
+        heard: "baqbaqbaqbaqbaqbraqbra",
+        drained: "baba",
+        events: 6 + 1 + 2,
+        records: 1,
+    },
+    // What came before is released, and the ingest has ended.
+    Row {
+        name: "a link that fails",
+        fails: Some(("link", 11)),
+        calls: 20,
+        link: LinkEnd::Failed,
+        sink: SinkEnd::Over,
+        heard: "baqbaqbaqbaqbaqbrabra",
+        drained: "babababababa",
+        events: 6 + 1 + 6,
+        records: 5,
+    },
+    // Five arrivals and the end, without the key.
+    Row {
+        name: "passes of six calls",
+        fails: None,
+        calls: 6,
+        link: LinkEnd::Spent,
+        sink: SinkEnd::Over,
+        heard: "baqbaqbaqbaqbabra",
+        drained: "ba",
+        events: 5 + 1 + 1,
+        records: 0,
+    },
+    Row {
+        name: "passes of seven calls",
+        fails: None,
+        calls: 7,
+        link: LinkEnd::Spent,
+        sink: SinkEnd::Over,
+        heard: "baqbaqbaqbaqbaqbrabra",
+        drained: "babababababa",
+        events: 6 + 1 + 6,
+        records: 5,
+    },
+];
+
+// A desk with the frames, a quiet after each, for links, and with their readings for the first clock.
+fn desk_of(alloc: Global, fails: Option<(&str, u64)>) -> Result<MemoryDesk, Fail> {
+    let mut desk = MemoryDesk::new(alloc, 100)?;
+    let mut letters = Vec::new(alloc);
+    for digits in FRAMES {
+        add_letters(alloc, &mut letters, digits)?;
+    }
+    desk.put_letters("link", letters.as_slice())?;
+    desk.put_readings(0, &COMES)?;
+    if let Some((name, call)) = fails {
+        desk.fail_call(name, call)?;
+    }
+    Ok(desk)
 }
 
-// A turn over a receiver with room for 16 packets and one ingest, for two passes of so many calls.
-fn opened(
-    alloc: Global,
-    calls: u64,
-) -> Result<(Turn<Receiver>, Pass<Receiver>, Pass<Receiver>), Fail>
-    requires { calls ≤ 2 ^ 40 }
-    ensures { IfOk result (λ t. (t.1.turn ≡ t.0) × (t.2.turn ≡ t.0) × (t.1.number ≡ 0) × (left_of t.1 ≡ calls) × (left_of t.2 ≡ calls)) }
+// Adds a datagram, and a quiet.
+fn add_letters(alloc: Global, letters: &mut Vec<Letter>, digits: &str) -> Result<(), Fail>
+    requires { list_all fits letters.old.items ≡ true }
+    ensures { list_all fits letters.new.items ≡ true }
 {
-    let setup = read_setup(alloc, SETUP.as_bytes())?;
-    let receiver = Receiver::open(alloc, setup, 30_000, 16, 16, 1)?;
-    let (turn, mut first) = Turn::open(alloc, receiver, 2, calls)?;
-    let Ok(second) = turn.split(&mut first) else {
-        return Err("room for a second pass".into());
-    };
-    Ok((turn, first, second))
+    let frame = hex::decode(alloc, digits.as_bytes())?;
+    if 2048 < frame.len() {
+        return Err("too long".into());
+    }
+    let bytes = Text::new(alloc, frame.as_slice())?;
+    letters.push(Letter::Datagram { bytes })?;
+    letters.push(Letter::Quiet)?;
+    Ok(())
 }
 
-// Whether the page has these records.
-fn holds(alloc: Global, desk: &MemoryDesk, records: &[&str]) -> Result<bool, Fail> {
+// The link and the sink of a desk.
+fn outside(desk: &mut MemoryDesk) -> Result<(Letters, Heap), Fail> {
+    let Ok(link) = desk.open_link("link") else {
+        return Err("no link".into());
+    };
+    let Ok(out) = desk.open_sink("out") else {
+        return Err("no sink".into());
+    };
+    Ok((link, out))
+}
+
+// Whether the sink has so many of the records.
+fn holds(alloc: Global, desk: &MemoryDesk, count: usize) -> Result<bool, Fail> {
     let mut bytes = Vec::new(alloc);
-    for digits in records {
+    for digits in RECORDS.iter().take(count) {
         let record = hex::decode(alloc, digits.as_bytes())?;
-        for byte in &record {
-            bytes.push(*byte)?;
-        }
+        bytes.extend_from_slice(record.as_slice())?;
     }
     Ok(desk.page("out").ok_or("no page")? == bytes.as_slice())
 }
 
-// How the workers ended, how many takes were made, and how many events the receiver had, which is the length of its
-// history.
+// A turn over a receiver with room for 16 packets and one ingest, and passes of so many calls: the first, one for a link
+// and one for a sink.
+#[derive(Drop)]
+struct Begun {
+    turn: Turn<Receiver>,
+    first: Pass<Receiver>,
+    link: Pass<Receiver>,
+    sink: Pass<Receiver>,
+    ghost first_of: { (first.turn ≡ turn) × (first.number ≡ 0) },
+    ghost link_of: { link.turn ≡ turn },
+    ghost sink_of: { sink.turn ≡ turn },
+}
+
+fn opened(alloc: Global, calls: u64) -> Result<Begun, Fail>
+    requires { calls ≤ 2 ^ 40 }
+    ensures { IfOk result (λ it. left_of it.link ≡ calls) }
+{
+    let setup = read_setup(alloc, SETUP.as_bytes())?;
+    let receiver = Receiver::open(alloc, setup, 30_000, 16, 16, 1)?;
+    let (turn, mut first) = Turn::open(alloc, receiver, 3, calls)?;
+    let Ok(link) = turn.split(&mut first) else {
+        return Err("room for a second pass".into());
+    };
+    let Ok(sink) = turn.split(&mut first) else {
+        return Err("room for a third pass".into());
+    };
+    Ok(Begun {
+        turn,
+        first,
+        link,
+        sink,
+    })
+}
+
+// Joins the passes and closes the turn, whose end is one that the law of the whole history speaks of. Answers how many
+// events there were.
+fn closed<R: Wait>(
+    rt: &R,
+    turn: Turn<Receiver>,
+    mut first: Pass<Receiver>,
+    link: Pass<Receiver>,
+    sink: Pass<Receiver>,
+) -> u64
+    requires own { (first.turn ≡ turn) × (link.turn ≡ turn) × (sink.turn ≡ turn) }
+    requires first { first.number ≡ 0 }
+{
+    turn.join(&mut first, link);
+    turn.join(&mut first, sink);
+    let (receiver, last) = turn.close(rt, first);
+    laws::whole_history(&receiver, &last);
+    receiver.calls()
+}
+
+// Runs the worker of a link.
+fn hears<R: Wait>(
+    rt: &R,
+    turn: &Turn<Receiver>,
+    mut pass: Pass<Receiver>,
+    link: &mut Letters,
+    mut clock: Readings,
+) -> (LinkEnd, Told, Pass<Receiver>)
+    requires { (pass.turn ≡ turn.now) × (0 < left_of pass) }
+    ensures { OnlyCalls pass result.2 }
+{
+    let mut gate = Told::new();
+    let end = ingest(rt, 0, link, &mut clock, &mut gate, turn, &mut pass);
+    (end, gate, pass)
+}
+
+// Runs the worker of a sink.
+fn drains<R: Wait>(
+    rt: &R,
+    turn: &Turn<Receiver>,
+    mut pass: Pass<Receiver>,
+    out: &mut Heap,
+) -> (SinkEnd, Told, Pass<Receiver>)
+    requires { pass.turn ≡ turn.now }
+    ensures { OnlyCalls pass result.2 }
+{
+    let mut gate = Told::new();
+    let end = drain(rt, 0, out, &mut gate, turn, &mut pass);
+    (end, gate, pass)
+}
+
+// What became of both workers, how many takes were made, and how many events there were.
 #[derive(Drop)]
 struct Ran {
     link: LinkEnd,
+    heard: Told,
     sink: SinkEnd,
+    drained: Told,
     takes: u64,
     events: u64,
 }
@@ -133,144 +318,51 @@ fn one_after_the_other<R: Wait>(
     rt: &R,
     alloc: Global,
     desk: &mut MemoryDesk,
-    mut link: Letters,
-    calls: u64,
+    calls: u8,
 ) -> Result<Ran, Fail>
-    requires { (1 ≤ calls) × (calls ≤ 2 ^ 40) }
+    requires { 0 < calls }
 {
-    let mut clock = clock_of(alloc, &COMES)?;
-    let (turn, mut first, mut second) = opened(alloc, calls)?;
-    let Ok(mut out) = desk.open_sink("out") else {
-        return Err("not opened".into());
-    };
-    let link = ingest(
-        rt,
-        0,
-        &mut link,
-        &mut clock,
-        &mut Counts::new(),
-        &turn,
-        &mut first,
-    );
-    let sink = drain(rt, 0, &mut out, &mut Counts::new(), &turn, &mut second);
+    let begun = opened(alloc, u64::from(calls))?;
+    let (mut link, mut out) = outside(desk)?;
+    let Begun {
+        turn,
+        first,
+        link: hearing,
+        sink: draining,
+    } = begun;
+    let (link_end, heard, hearing) = hears(rt, &turn, hearing, &mut link, desk.clock());
+    let (sink_end, drained, draining) = drains(rt, &turn, draining, &mut out);
+    desk.close_link(link);
     desk.close_sink(out);
-    let left = second.left();
-    turn.join(&mut first, second);
-    let (receiver, _last) = turn.close(rt, first);
     Ok(Ran {
-        link,
-        sink,
-        takes: calls.saturating_sub(left),
-        events: receiver.calls(),
+        link: link_end,
+        heard,
+        sink: sink_end,
+        drained,
+        takes: u64::from(calls).saturating_sub(draining.left()),
+        events: closed(rt, turn, first, hearing, draining),
     })
 }
 
 #[test]
-fn a_link_and_then_a_sink(rt: HostRuntime) -> Result<(), Fail> {
-    let mut desk = MemoryDesk::new(rt.alloc(), 100)?;
-    let link = link_of(rt.alloc(), &FRAMES, 0)?;
-    let ran = one_after_the_other(&rt, rt.alloc(), &mut desk, link, 20)?;
-    assert_eq!(rt; ran.link, LinkEnd::Ended);
-    assert_eq!(rt; ran.sink, SinkEnd::Over);
-    assert_eq!(rt; (ran.takes, ran.events), (6, 6 + 1 + 6));
-    assert!(rt; holds(rt.alloc(), &desk, &RECORDS)?);
+fn one_worker_after_the_other(rt: HostRuntime) -> Result<(), Fail> {
+    for row in &ROWS {
+        let mut desk = desk_of(rt.alloc(), row.fails)?;
+        let ran = one_after_the_other(&rt, rt.alloc(), &mut desk, row.calls.max(1))?;
+        assert_eq!(rt;
+            (ran.link, ran.sink, ran.events),
+            (row.link, row.sink, row.events),
+            "{}",
+            row.name
+        );
+        assert!(rt;
+            ran.heard.reads(row.heard) && ran.drained.reads(row.drained),
+            "{}",
+            row.name
+        );
+        assert!(rt; holds(rt.alloc(), &desk, row.records)?, "{}", row.name);
+    }
     Ok(())
-}
-
-// Each record is one write, so the second write is that of the second record.
-#[test]
-fn a_sink_that_fails(rt: HostRuntime) -> Result<(), Fail> {
-    let mut desk = MemoryDesk::new(rt.alloc(), 100)?;
-    desk.fail_call("out", 1)?;
-    let link = link_of(rt.alloc(), &FRAMES, 0)?;
-    let ran = one_after_the_other(&rt, rt.alloc(), &mut desk, link, 20)?;
-    assert_eq!(rt; ran.link, LinkEnd::Ended);
-    assert_eq!(rt; ran.sink, SinkEnd::Failed);
-    assert_eq!(rt; (ran.takes, ran.events), (2, 6 + 1 + 2));
-    assert!(rt; holds(rt.alloc(), &desk, &RECORDS[..1])?);
-    Ok(())
-}
-
-// What came before is released, and the ingest has ended.
-#[test]
-fn a_link_that_fails(rt: HostRuntime) -> Result<(), Fail> {
-    let mut desk = MemoryDesk::new(rt.alloc(), 100)?;
-    let link = link_of(rt.alloc(), &FRAMES, 2049)?;
-    let ran = one_after_the_other(&rt, rt.alloc(), &mut desk, link, 20)?;
-    assert_eq!(rt; ran.link, LinkEnd::Failed);
-    assert_eq!(rt; ran.sink, SinkEnd::Over);
-    assert!(rt; holds(rt.alloc(), &desk, &RECORDS)?);
-    Ok(())
-}
-
-// Six calls are five arrivals and the end, without the key.
-#[test]
-fn passes_that_are_spent(rt: HostRuntime) -> Result<(), Fail> {
-    let mut desk = MemoryDesk::new(rt.alloc(), 100)?;
-    let link = link_of(rt.alloc(), &FRAMES, 0)?;
-    let ran = one_after_the_other(&rt, rt.alloc(), &mut desk, link, 6)?;
-    assert_eq!(rt; ran.link, LinkEnd::Spent);
-    assert_eq!(rt; ran.sink, SinkEnd::Over);
-    assert_eq!(rt; ran.events, 5 + 1 + 1);
-    let link = link_of(rt.alloc(), &FRAMES, 0)?;
-    let ran = one_after_the_other(&rt, rt.alloc(), &mut desk, link, 7)?;
-    assert_eq!(rt; ran.link, LinkEnd::Spent);
-    assert_eq!(rt; ran.sink, SinkEnd::Over);
-    assert!(rt; holds(rt.alloc(), &desk, &RECORDS)?);
-    Ok(())
-}
-
-#[test]
-fn a_sink_with_nothing_to_write(rt: HostRuntime) -> Result<(), Fail> {
-    let mut desk = MemoryDesk::new(rt.alloc(), 100)?;
-    let (turn, _first, mut second) = opened(rt.alloc(), 3)?;
-    let mut gate = Counts::new();
-    let Ok(mut out) = desk.open_sink("out") else {
-        return Err("not opened".into());
-    };
-    let end = drain(&rt, 0, &mut out, &mut gate, &turn, &mut second);
-    desk.close_sink(out);
-    assert_eq!(rt; end, SinkEnd::Spent);
-    assert_eq!(rt; (gate.before, gate.after, gate.rests), (3, 3, 3));
-    assert!(rt; holds(rt.alloc(), &desk, &[])?);
-    Ok(())
-}
-
-// The worker of a link in a thread.
-fn hears<R: Wait>(
-    rt: &R,
-    turn: &Turn<Receiver>,
-    mut pass: Pass<Receiver>,
-    mut link: Letters,
-    mut clock: Readings,
-) -> (LinkEnd, Pass<Receiver>)
-    requires { (pass.turn ≡ turn.now) × (0 < left_of pass) }
-    ensures { OnlyCalls pass result.1 }
-{
-    let end = ingest(
-        rt,
-        0,
-        &mut link,
-        &mut clock,
-        &mut Counts::new(),
-        turn,
-        &mut pass,
-    );
-    (end, pass)
-}
-
-// The worker of a sink in a thread.
-fn drains<R: Wait>(
-    rt: &R,
-    turn: &Turn<Receiver>,
-    mut pass: Pass<Receiver>,
-    out: &mut Heap,
-) -> (SinkEnd, Pass<Receiver>)
-    requires { pass.turn ≡ turn.now }
-    ensures { OnlyCalls pass result.1 }
-{
-    let end = drain(rt, 0, out, &mut Counts::new(), turn, &mut pass);
-    (end, pass)
 }
 
 // Runs both workers at once.
@@ -278,46 +370,70 @@ fn side_by_side<R: Threads + Wait + Sync>(
     rt: &R,
     alloc: Global,
     desk: &mut MemoryDesk,
-    link: Letters,
 ) -> Result<Ran, Fail> {
     let calls = 1 << 40;
-    let clock = clock_of(alloc, &COMES)?;
-    let (turn, first, second) = opened(alloc, calls)?;
-    let Ok(mut out) = desk.open_sink("out") else {
-        return Err("not opened".into());
-    };
-    let ((link, mut first), (sink, second)) = join(
+    let begun = opened(alloc, calls)?;
+    let (mut link, mut out) = outside(desk)?;
+    let clock = desk.clock();
+    let Begun {
+        turn,
+        first,
+        link: hearing,
+        sink: draining,
+    } = begun;
+    let ((link_end, heard, hearing), (sink_end, drained, draining)) = join(
         rt,
-        || -> (LinkEnd, Pass<Receiver>)
-            requires { (first.turn ≡ turn) × (0 < left_of first) }
-            ensures { OnlyCalls first result.1 }
-        { hears(rt, &turn, first, link, clock) },
-        || -> (SinkEnd, Pass<Receiver>)
-            requires { second.turn ≡ turn }
-            ensures { OnlyCalls second result.1 }
-        { drains(rt, &turn, second, &mut out) },
+        || -> (LinkEnd, Told, Pass<Receiver>)
+            requires { (hearing.turn ≡ turn) × (0 < left_of hearing) }
+            ensures { OnlyCalls hearing result.2 }
+        { hears(rt, &turn, hearing, &mut link, clock) },
+        || -> (SinkEnd, Told, Pass<Receiver>)
+            requires { draining.turn ≡ turn }
+            ensures { OnlyCalls draining result.2 }
+        { drains(rt, &turn, draining, &mut out) },
     );
+    desk.close_link(link);
     desk.close_sink(out);
-    let left = second.left();
-    turn.join(&mut first, second);
-    let (receiver, _last) = turn.close(rt, first);
     Ok(Ran {
-        link,
-        sink,
-        takes: calls.saturating_sub(left),
-        events: receiver.calls(),
+        link: link_end,
+        heard,
+        sink: sink_end,
+        drained,
+        takes: calls.saturating_sub(draining.left()),
+        events: closed(rt, turn, first, hearing, draining),
     })
 }
 
+// How often the sink's worker finds nothing differs from run to run.
 #[test]
 fn a_link_and_a_sink_in_two_threads(rt: HostRuntime) -> Result<(), Fail> {
-    let mut desk = MemoryDesk::new(rt.alloc(), 100)?;
-    let link = link_of(rt.alloc(), &FRAMES, 0)?;
-    let ran = side_by_side(&rt, rt.alloc(), &mut desk, link)?;
-    assert_eq!(rt; ran.link, LinkEnd::Ended);
-    assert_eq!(rt; ran.sink, SinkEnd::Over);
+    let mut desk = desk_of(rt.alloc(), None)?;
+    let ran = side_by_side(&rt, rt.alloc(), &mut desk)?;
+    assert_eq!(rt; (ran.link, ran.sink), (LinkEnd::Ended, SinkEnd::Over));
+    assert!(rt; ran.heard.reads("baqbaqbaqbaqbaqbraqbra"));
     assert!(rt; 6 <= ran.takes);
     assert_eq!(rt; ran.events, ran.takes.saturating_add(7));
-    assert!(rt; holds(rt.alloc(), &desk, &RECORDS)?);
+    assert!(rt; holds(rt.alloc(), &desk, 5)?);
+    Ok(())
+}
+
+// Where no ingest has ended, a sink's worker rests after each take, until no call is left.
+#[test]
+fn a_sink_with_nothing_to_write(rt: HostRuntime) -> Result<(), Fail> {
+    let mut desk = desk_of(rt.alloc(), None)?;
+    let begun = opened(rt.alloc(), 3)?;
+    let (link, mut out) = outside(&mut desk)?;
+    let Begun {
+        turn,
+        first: _,
+        link: _,
+        sink,
+    } = begun;
+    let (end, gate, _pass) = drains(&rt, &turn, sink, &mut out);
+    desk.close_link(link);
+    desk.close_sink(out);
+    assert_eq!(rt; end, SinkEnd::Spent);
+    assert!(rt; gate.reads("baebaebae"));
+    assert!(rt; holds(rt.alloc(), &desk, 0)?);
     Ok(())
 }

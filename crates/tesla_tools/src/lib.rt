@@ -7,6 +7,3 @@ mod tools;
 
 pub use commands::{FORMS, is_tool, run_words};
 pub use tools::run_tools;
-
-#[cfg(test)]
-mod tests;

@@ -1,34 +1,15 @@
 //! The top call of the tools.
 
 ghost use Rattle.std.specs.Prelude.{◌≡◌, map, string_bytes};
-ghost use Rattle.tesla_front.specs.Came.{Came, status_of};
+ghost use Rattle.tesla_front.specs.Came.{Came, outcome_came, status_of};
 ghost use Rattle.tesla_front.specs.Run.{Runs};
+ghost use Rattle.tesla_front.specs.Usage.{usage_of};
 ghost use Rattle.tesla_tools.specs.Commands.{command_of, usage};
 
 use crate::{FORMS, run_words};
 use std::alloc::Global;
-use tesla_commands::{Table, run_table};
-use tesla_desk::Desk;
-use tesla_front::{FormText, Outcome};
-
-// The table of these commands.
-struct Tools;
-
-impl<D: Desk> Table<D> for Tools {
-    ghost use Rattle.tesla_tools.specs.Commands.{command_of as command_of_words, usage as usage_lines};
-
-    ghost command_of = { command_of_words };
-
-    ghost usage = { usage_lines };
-
-    fn forms(&self) -> &'static [FormText] {
-        &FORMS
-    }
-
-    fn run_words(&self, alloc: Global, words: &[String], desk: &mut D) -> Outcome {
-        run_words(alloc, words, desk)
-    }
-}
+use tesla_desk::{CONSOLE, Desk};
+use tesla_front::{Fault, FormText, Outcome, tell};
 
 /// Runs the words as those of the tool that the first of them names, over the desk, and gives its status.
 ///
@@ -43,5 +24,28 @@ impl<D: Desk> Table<D> for Tools {
 pub fn run_tools<D: Desk>(alloc: Global, words: &[String], desk: &mut D) -> u8
     ensures { (told : Came) × (result ≡ status_of told) × Runs (command_of (map string_bytes words.now)) usage (map string_bytes words.now) (D.told desk.old) (D.told desk.new) told }
 {
-    run_table(&Tools, alloc, words, desk).status()
+    run_told(alloc, words, desk).status()
+}
+
+// The same, with what it came to as it was told. A method of a trait can't run the words: that what a desk opens may be
+// sent is known to functions alone.
+fn run_told<D: Desk>(alloc: Global, words: &[String], desk: &mut D) -> Outcome
+    ensures { Runs (command_of (map string_bytes words.now)) usage (map string_bytes words.now) (D.told desk.old) (D.told desk.new) (outcome_came result) }
+{
+    match desk.open_sink(CONSOLE) {
+        Ok(mut console) => {
+            let came = run_words(alloc, words, desk);
+            let told = tell(&mut console, forms(), came);
+            desk.close_sink(console);
+            told
+        }
+        Err(refusal) => Outcome::Failed(Fault::from(refusal)),
+    }
+}
+
+// The forms of the commands, in the order in which they are told.
+fn forms() -> &'static [FormText]
+    ensures { usage_of result.now ≡ usage }
+{
+    &FORMS
 }

@@ -1,24 +1,26 @@
-//! A runtime that keeps what is printed, over the files of the running system.
+//! A runtime that keeps what is printed, over all else of the running system.
 
 use std::alloc::{AllocError, Allocator, Global};
-use std::cell::RefCell;
 use std::fmt::Display;
 use std::fs::{Metadata, OpenOptions};
 use std::io;
+use std::net::{Net, SocketAddr};
 use std::rt::Files;
+use std::sync::{Mutex, Wait};
+use std::time::{Clock, Duration};
 
-/// The host's files and memory, with what was printed so far.
-pub struct Recording<'a> {
-    host: &'a HostRuntime,
-    printed: RefCell<Vec<u8>>,
+/// The host, with what was printed so far.
+pub struct Recording<'a, R> {
+    host: &'a R,
+    printed: Mutex<Vec<u8>>,
 }
 
-impl<'a> Recording<'a> {
+impl<'a, R: AllocGlobal> Recording<'a, R> {
     /// Nothing was printed yet.
-    pub fn new(host: &'a HostRuntime) -> Recording<'a> {
+    pub fn new(host: &'a R) -> Recording<'a, R> {
         Recording {
             host,
-            printed: RefCell::new(Vec::new(host.alloc())),
+            printed: Mutex::new(Vec::new(host.alloc())),
         }
     }
 
@@ -29,7 +31,7 @@ impl<'a> Recording<'a> {
     }
 }
 
-impl Alloc for Recording<'_> {
+impl<R: AllocGlobal> Alloc for Recording<'_, R> {
     type A = Global;
 
     fn alloc(&self) -> Global {
@@ -37,7 +39,7 @@ impl Alloc for Recording<'_> {
     }
 }
 
-impl Print for Recording<'_> {
+impl<R: AllocGlobal> Print for Recording<'_, R> {
     fn print<D: Display + Drop>(&self, value: D) -> io::Result<()> {
         let text = format!(in self.alloc(); "{value}")?;
         self.write_all(text.as_bytes())
@@ -49,7 +51,7 @@ impl Print for Recording<'_> {
     }
 
     fn write_all(&self, bytes: &[u8]) -> io::Result<()> {
-        let Ok(mut printed) = self.printed.try_borrow_mut() else {
+        let Some(mut printed) = self.printed.try_lock() else {
             return Err(io::Error::from(io::ErrorKind::Other));
         };
         printed.extend_from_slice(bytes).map_err(AllocError::from)?;
@@ -57,16 +59,42 @@ impl Print for Recording<'_> {
     }
 }
 
-impl Files for Recording<'_> {
-    type File = <HostRuntime as Files>::File;
+impl<R: Wait> Wait for Recording<'_, R> {}
 
-    type Dir = <HostRuntime as Files>::Dir;
+impl<R: Clock> Clock for Recording<'_, R> {
+    fn monotonic(&self) -> io::Result<Duration> {
+        self.host.monotonic()
+    }
 
-    fn open_file(&self, how: &OpenOptions, path: &str) -> io::Result<Self::File> {
+    fn since_1970(&self) -> io::Result<Duration> {
+        self.host.since_1970()
+    }
+}
+
+impl<R: Net> Net for Recording<'_, R> {
+    type Stream = R::Stream;
+
+    type Listener = R::Listener;
+
+    fn bind(&self, addr: SocketAddr) -> io::Result<R::Listener> {
+        self.host.bind(addr)
+    }
+
+    fn connect(&self, addr: SocketAddr) -> io::Result<R::Stream> {
+        self.host.connect(addr)
+    }
+}
+
+impl<R: Files> Files for Recording<'_, R> {
+    type File = R::File;
+
+    type Dir = R::Dir;
+
+    fn open_file(&self, how: &OpenOptions, path: &str) -> io::Result<R::File> {
         self.host.open_file(how, path)
     }
 
-    fn open_dir(&self, path: &str) -> io::Result<Self::Dir> {
+    fn open_dir(&self, path: &str) -> io::Result<R::Dir> {
         self.host.open_dir(path)
     }
 

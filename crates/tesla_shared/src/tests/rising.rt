@@ -12,11 +12,12 @@ use std::sync::ledger::Ledger;
 use std::test::*;
 use std::thread::{Threads, join};
 use tesla_base::{NoMemory, Steps};
+use tesla_desk::{Clock, Got, Link, OpenGate};
 use tesla_receiver::{Entry, Take, Verdict};
 use tesla_turn::{Chronicle, Pass, Turn};
 
 // How many datagrams come to each worker.
-const EACH: u64 = 20_000;
+const EACH: u64 = 2_000;
 
 // Counts the arrivals, and sees whether their readings rise.
 #[derive(Drop)]
@@ -97,17 +98,6 @@ impl Link for Empties {
     }
 }
 
-#[derive(Drop)]
-struct Open;
-
-impl Gate for Open {
-    fn before(&mut self) {}
-
-    fn after(&mut self) {}
-
-    fn rest(&mut self) {}
-}
-
 fn hears<R: Wait>(
     rt: &R,
     number: u8,
@@ -121,7 +111,13 @@ fn hears<R: Wait>(
     let mut link = Empties { left: EACH };
     let mut clock = OneMore { count };
     let _ = ingest(
-        rt, number, &mut link, &mut clock, &mut Open, turn, &mut pass,
+        rt,
+        number,
+        &mut link,
+        &mut clock,
+        &mut OpenGate,
+        turn,
+        &mut pass,
     );
     pass
 }

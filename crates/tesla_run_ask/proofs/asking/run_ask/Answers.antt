@@ -5,8 +5,8 @@ use Rattle.tesla_run_ask.specs.Asking.{ask}
 use Rattle.tesla_run_ask.proofs.Runs.{ask_files}
 use Rattle.tesla_run_ask.proofs.asking.run_ask.Goals as goal
 
-pub perform-requires : goal.perform-requires
-perform-requires g c = ask_files (ask_arguments c.in-Some.arguments) (map string_bytes c.args.words.now) c.in-Some.ensures.found
+pub perform-requires-clause-files : goal.perform-requires-clause-files
+perform-requires-clause-files g c = λ _ _. ask_files (ask_arguments c.in-Some.arguments) (map string_bytes c.args.words.now) c.in-Some.ensures.found
 
 pub returns-in-Some : goal.returns-in-Some
 returns-in-Some g c =

@@ -5,8 +5,8 @@ use Rattle.tesla_run_ask.specs.Replying.{reply}
 use Rattle.tesla_run_ask.proofs.Runs.{reply_files}
 use Rattle.tesla_run_ask.proofs.replying.run_reply.Goals as goal
 
-pub perform-requires : goal.perform-requires
-perform-requires g c = reply_files (reply_arguments c.in-Some.arguments) (map string_bytes c.args.words.now) c.in-Some.ensures.found
+pub perform-requires-clause-files : goal.perform-requires-clause-files
+perform-requires-clause-files g c = λ _ _. reply_files (reply_arguments c.in-Some.arguments) (map string_bytes c.args.words.now) c.in-Some.ensures.found
 
 pub returns-in-Some : goal.returns-in-Some
 returns-in-Some g c =

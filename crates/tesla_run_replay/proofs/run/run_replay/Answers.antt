@@ -5,8 +5,8 @@ use Rattle.tesla_front.proofs.Commands.{runs_form, runs_usage}
 use Rattle.tesla_run_replay.proofs.Performed.{are_files}
 use Rattle.tesla_run_replay.proofs.run.run_replay.Goals as goal
 
-pub perform-requires : goal.perform-requires
-perform-requires g c = are_files (arguments_of c.in-Some.arguments) (map string_bytes c.args.words.now) c.in-Some.ensures.found
+pub perform-requires-clause-files : goal.perform-requires-clause-files
+perform-requires-clause-files g c = λ _ _. are_files (arguments_of c.in-Some.arguments) (map string_bytes c.args.words.now) c.in-Some.ensures.found
 
 pub returns-in-Some : goal.returns-in-Some
 returns-in-Some g c =

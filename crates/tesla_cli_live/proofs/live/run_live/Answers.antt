@@ -1,0 +1,41 @@
+use Rattle.std.proofs.Common.{◌∙◌, inl, inr, refl, sym, subst, ap, map, List, ℕ, string_bytes}
+use Rattle.tesla_desk.specs.Outside.{ClosesSink, OpensSink}
+use Rattle.tesla_desk.proofs.Counts.{counts_stay}
+use Rattle.tesla_front.specs.Came.{Failed, outcome_came}
+use Rattle.tesla_front.specs.Console.{Tells}
+use Rattle.tesla_front.specs.Fault.{fault_status, unopened}
+use Rattle.tesla_front.proofs.Consoles.{Tolds}
+use Rattle.tesla_cli_live.specs.Commands.{usage}
+use Rattle.tesla_cli_live.proofs.Consoles.{heard, unheard}
+use Rattle.tesla_cli_live.proofs.live.run_live.Goals as goal
+
+pub returns-in-Ok : goal.returns-in-Ok
+returns-in-Ok g c =
+    let words = map string_bytes c.args.words.now in
+    let old = g.D.Desk.told c.args.desk.now in
+    let opened = g.D.Desk.told c.open_sink.new.self in
+    let done = g.D.Desk.told c.run_receive-outcome.new.desk in
+    let new = g.D.Desk.told c.close_sink.new.self in
+    let came = outcome_came c.run_receive-outcome.result.outcome in
+    let told = outcome_came c.tell-told.result in
+    let before = g.D.Out.Sink.written c.in-Ok.console in
+    let written = g.D.Out.Sink.written c.tell-told.new.console in
+    let failed = g.D.Out.Sink.faults c.tell-told.new.console in
+    let named = c.tell-told.ensures.name ∙ c.in-Ok.ensures.named in
+    let tolds : Tolds usage old opened done new came told written failed = record {
+      asked = c.in-Ok.ensures.desk.asked;
+      pages = c.in-Ok.ensures.desk.pages;
+      lefts = c.in-Ok.ensures.desk.lefts;
+      live = c.in-Ok.ensures.desk.live;
+      counts = counts_stay old.faults opened.faults c.in-Ok.ensures.desk.counts (λ e. absurd cc);
+      before = before;
+      empty = c.in-Ok.ensures.empty;
+      tells = c.tell-told.ensures.tells;
+      closes = subst (λ (name : List ℕ). ClosesSink name written failed done new) named c.close_sink.ensures.desk;
+    } in
+    let runs = c.run_receive-outcome.ensures.runs in
+    (told, c.status.ensures, inr (heard usage words old opened done new came told c.run_receive-outcome.result.last written failed tolds runs, λ none. c.run_receive-outcome.ensures.none (runs.usage none).0))
+
+pub returns-in-Err : goal.returns-in-Err
+returns-in-Err g c =
+    (Failed (unopened c.in-Err.refusal), c.status-in-Err.ensures ∙ ap fault_status c.from.ensures, inl (unheard _ c.in-Err.refusal (g.D.Desk.told c.args.desk.now) _ c.in-Err.ensures.desk, refl))

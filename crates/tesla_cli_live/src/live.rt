@@ -1,0 +1,57 @@
+//! The top call of the live commands.
+
+ghost use Rattle.std.specs.Prelude.{◌≡◌, map, string_bytes};
+ghost use Rattle.tesla_front.specs.Came.{Came, status_of};
+ghost use Rattle.tesla_cli_live.specs.Commands.{RunsLive};
+
+use crate::FORMS;
+use std::alloc::Global;
+use std::sync::Wait;
+use std::thread::Threads;
+use tesla_desk::{CONSOLE, Desk};
+use tesla_front::{Fault, tell};
+use tesla_receiver::Receiver;
+use tesla_run_receive::{Received, run_receive};
+use tesla_turn::Last;
+
+/// What a run of a live command came to.
+#[derive(Drop)]
+pub struct Done {
+    /// The status that the program ends with.
+    pub status: u8,
+    /// The whole history of `receive`, where its links and sinks were opened and its workers ran. It takes no bytes.
+    pub last: Option<Last<Receiver>>,
+}
+
+/// Runs the words as those of the command that the first of them names, over the desk.
+///
+/// The console is opened first, and then what the command opens, each once, in the order of its form and as far as it
+/// comes. What the command came to is told on the console. It waits for links, and for the turns of its workers.
+///
+/// 0: it came to its end, and the report was told. 1: the words are no form of a command. 2: SETUP isn't a setup. 4: a link or the
+/// reading of SETUP failed. 5: a write failed. 6: there was no memory, and nothing was received. 7: something wasn't opened. 11: the calls of a worker
+/// were spent.
+pub fn run_live<R: Threads + Wait + Sync, D: Desk>(
+    rt: &R,
+    alloc: Global,
+    words: &[String],
+    desk: &mut D,
+) -> Done
+    ensures { (told : Came) × (result.status ≡ status_of told) × RunsLive (map string_bytes words.now) (D.told desk.old) (D.told desk.new) result.last told }
+{
+    match desk.open_sink(CONSOLE) {
+        Ok(mut console) => {
+            let Received { outcome, last } = run_receive(rt, alloc, words, desk);
+            let told = tell(&mut console, &FORMS, outcome);
+            desk.close_sink(console);
+            Done {
+                status: told.status(),
+                last,
+            }
+        }
+        Err(refusal) => Done {
+            status: Fault::from(refusal).status(),
+            last: None,
+        },
+    }
+}

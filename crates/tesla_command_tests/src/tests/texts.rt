@@ -1,0 +1,60 @@
+//! The lines of faults and of the longest refusal and count, which no run over a desk in memory comes to.
+
+use std::alloc::Global;
+use std::test::Fail;
+use tesla_base::NoMemory;
+use tesla_desk::{CONSOLE, Desk, MemoryDesk, OpenRefusal};
+use tesla_front::{Fault, Lines, Outcome, Stop, add_count, outcome_of, refused, tell};
+
+// Tells a console what a run came to: the status, a space and what the console holds then.
+fn told_of(alloc: Global, came: Outcome) -> Result<String, Fail> {
+    let mut desk = MemoryDesk::new(alloc, 1_000)?;
+    let Ok(mut console) = desk.open_sink(CONSOLE) else {
+        return Err("no console".into());
+    };
+    let told = tell(&mut console, &[], came);
+    desk.close_sink(console);
+    super::told_of(alloc, told.status(), &desk)
+}
+
+// The same of a fault.
+fn fault_of(alloc: Global, fault: Fault) -> Result<String, Fail> {
+    told_of(alloc, outcome_of(Err(Stop::from(fault))))
+}
+
+#[test]
+fn faults(rt: HostRuntime) -> Result<(), Fail> {
+    for (fault, want) in [
+        (Fault::Read, "4 read fault\n"),
+        (Fault::Write, "5 write fault\n"),
+        (Fault::from(NoMemory), "6 no memory\n"),
+        (Fault::from(OpenRefusal::NoMemory), "6 no memory\n"),
+        (Fault::from(OpenRefusal::Failed), "7 open fault\n"),
+    ] {
+        assert_eq!(rt; fault_of(rt.alloc(), fault)?.as_str(), want);
+    }
+    Ok(())
+}
+
+#[test]
+fn longest_refusal(rt: HostRuntime) -> Result<(), Fail> {
+    let refusal = refused(3, "ninebytes", u64::MAX, "twenty-bytes-of-kind");
+    let told = told_of(rt.alloc(), outcome_of(Err(Stop::from(refusal))))?;
+    assert_eq!(rt;
+        told.as_str(),
+        "3 refused ninebytes 18446744073709551615 twenty-bytes-of-kind\n"
+    );
+    Ok(())
+}
+
+#[test]
+fn counts(rt: HostRuntime) {
+    let mut lines = Lines::new();
+    add_count(&mut lines, "malformed", 0);
+    add_count(&mut lines, "kept", 2);
+    add_count(&mut lines, "given", u64::MAX);
+    assert_eq!(rt;
+        lines.as_str(),
+        "malformed 0\nkept 2\ngiven 18446744073709551615\n"
+    );
+}

@@ -1,0 +1,33 @@
+//! A gate, at which a worker waits.
+
+/// What a worker does around its turns, as pausing, waking others or counting. Nothing is claimed of it.
+pub trait Gate {
+    /// Is called before each turn.
+    fn before(&mut self);
+
+    /// Is called after each turn.
+    fn after(&mut self);
+
+    /// Is called where a take gave nothing, and by itself where a link was quiet.
+    fn rest(&mut self);
+
+    /// Is called behind a turn, before `after`, where something may be taken then: packets wait, or an ingest has ended.
+    fn released(&mut self) {}
+
+    /// Is called where a link was quiet. A link that waits by itself needs no further rest.
+    fn quiet(&mut self) {
+        self.rest();
+    }
+}
+
+/// A gate that does nothing.
+#[derive(Drop)]
+pub struct OpenGate;
+
+impl Gate for OpenGate {
+    fn before(&mut self) {}
+
+    fn after(&mut self) {}
+
+    fn rest(&mut self) {}
+}

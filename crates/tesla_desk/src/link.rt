@@ -1,0 +1,66 @@
+//! A link, which brings datagrams.
+
+ghost use Rattle.std.specs.Prelude.{◌≡◌, IfOk};
+
+use std::alloc::Global;
+use tesla_base::{NoMemory, Text};
+
+/// What a link brings: a datagram, or the news that none came for a while.
+#[derive(Debug, Drop)]
+pub enum Letter {
+    Datagram { bytes: Text },
+    Quiet,
+}
+
+impl Letter {
+    /// A letter like this one.
+    pub fn copy(&self, alloc: Global) -> Result<Letter, NoMemory>
+        ensures { IfOk result (λ letter. letter ≡ self.now) }
+    {
+        match self {
+            Letter::Datagram { bytes } => Ok(Letter::Datagram {
+                bytes: Text::new(alloc, bytes.bytes())?,
+            }),
+            Letter::Quiet => Ok(Letter::Quiet),
+        }
+    }
+}
+
+/// What a link answers.
+#[derive(Clone, Copy, Debug, PartialEq, Eq)]
+pub enum Got {
+    /// A datagram of this many bytes, at most 2,048, which stand at the front of the buffer.
+    Datagram(usize),
+    /// None came for a while.
+    Quiet,
+    /// Nothing is left.
+    End,
+    /// The call failed, and what is left is unchanged.
+    Failed,
+}
+
+/// Datagrams that come one after another.
+pub trait Link {
+    ghost use Rattle.std.specs.Prelude.{◌≡◌, Option, List, ℕ};
+    ghost use Rattle.tesla_desk.specs.Faults.{HasCause};
+    ghost use Rattle.tesla_desk.specs.Links.{Gets};
+    ghost use Rattle.tesla_desk.specs.declared.link.Got.{Got};
+    ghost use Rattle.tesla_desk.specs.declared.link.Letter.{Letter};
+
+    /// The letters that are left; `None` where the link does not tell them. One that does not tell
+    /// stays so.
+    ghost left: { Self → Option (List Letter) };
+
+    /// How often a call failed. The count stands still at 2^64 - 1.
+    ghost faults: { Self → ℕ };
+
+    /// The name that the link was opened under.
+    ghost name: { Self → List ℕ };
+
+    /// Takes the next letter, and puts a datagram, of at most 2,048 bytes, at the front of the buffer.
+    /// `Failed` is answered exactly where the count of faults rose.
+    fn next(&mut self, into: &mut [u8; 2048]) -> Got
+        ensures step { Gets (left self.old) (left self.new) into.new result }
+        ensures cause { HasCause (faults self.old) (faults self.new) (result ≡ Got.Failed) }
+        ensures name { name self.new ≡ name self.old };
+}

@@ -1,0 +1,100 @@
+//! Gates at which workers of the running system wait for one another.
+
+use std::sync::Wait;
+use std::sync::atomic::AtomicU64;
+use std::sync::atomic::Ordering::SeqCst;
+use std::time::Duration;
+use tesla_desk::Gate;
+
+/// How many milliseconds a gate rests at most.
+const REST: u64 = 100;
+
+/// What the gates of one desk share.
+#[derive(Drop)]
+pub struct Gates {
+    // How often something was released.
+    generation: AtomicU64,
+    // How many gates rest.
+    resting: AtomicU64,
+}
+
+impl Gates {
+    /// Nothing was released yet, and no gate rests.
+    pub fn new() -> Gates {
+        Gates {
+            generation: AtomicU64::new(0),
+            resting: AtomicU64::new(0),
+        }
+    }
+
+    fn generation(&self) -> u64 {
+        self.generation.load(SeqCst)
+    }
+
+    // Ends the rest of each gate. A gate is counted before it looks at the generation for the last time, so it is
+    // either counted here or sees that the generation is another.
+    fn release(&self) {
+        self.generation.fetch_add(1, SeqCst);
+        if 0 < self.resting.load(SeqCst) {
+            self.generation.wake_all();
+        }
+    }
+
+    // Rests while the generation is this one. The system compares 32 bits of it.
+    fn rest<R: Wait>(&self, rt: &R, generation: u64) {
+        self.resting.fetch_add(1, SeqCst);
+        let seen = (generation % (1 << 32)) as u32;
+        self.generation
+            .park_timeout(rt, seen, Duration::from_millis(REST));
+        self.resting.fetch_sub(1, SeqCst);
+    }
+}
+
+/// A gate that rests until another gate of its desk, behind a turn, tells that something was released, and at most 100
+/// milliseconds. What was told since `before` ends the rest at once.
+#[derive(Drop)]
+pub struct LiveGate<'a, R> {
+    rt: &'a R,
+    gates: &'a Gates,
+    // The generation before the turn.
+    seen: u64,
+    // Whether something was released since then, at this gate.
+    marked: bool,
+}
+
+impl<'a, R> LiveGate<'a, R> {
+    /// A gate that shares this with others.
+    pub(crate) fn new(rt: &'a R, gates: &'a Gates) -> LiveGate<'a, R> {
+        LiveGate {
+            rt,
+            gates,
+            seen: gates.generation(),
+            marked: false,
+        }
+    }
+}
+
+impl<'a, R: Wait> Gate for LiveGate<'a, R> {
+    fn before(&mut self) {
+        self.seen = self.gates.generation();
+        self.marked = false;
+    }
+
+    /// Wakes the gates that rest, where something was released. It asks the system only where one rests.
+    fn after(&mut self) {
+        if self.marked {
+            self.gates.release();
+        }
+    }
+
+    fn rest(&mut self) {
+        self.gates.rest(self.rt, self.seen);
+    }
+
+    fn released(&mut self) {
+        self.marked = true;
+    }
+
+    /// Does nothing, since a link waits by itself.
+    fn quiet(&mut self) {}
+}

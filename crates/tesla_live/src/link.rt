@@ -1,0 +1,134 @@
+//! A link over a UDP socket.
+
+ghost use Rattle.std.specs.Prelude.{◌≡◌, ◌⊎◌, List, ℕ, None};
+ghost use Rattle.tesla_desk.specs.Faults.{HasCause};
+ghost use Rattle.tesla_desk.specs.Links.{Gets};
+
+use crate::quiets::Quiets;
+use libc::net as c;
+use std::io;
+use std::io::ErrorKind;
+use std::net::{Net, UdpSocket};
+use std::os::fd::AsRawFd;
+use std::time::Duration;
+use tesla_base::{Text, read_decimal};
+use tesla_desk::{Got, Link};
+
+/// How many milliseconds a link waits for a datagram until it is quiet.
+const WAIT: u64 = 100;
+
+/// For how many bytes of datagrams that wait the system is asked.
+const BUFFER: i32 = 4 << 20;
+
+/// A socket that is bound to an address, and how many quiets in a row end its link.
+#[derive(Drop)]
+pub(crate) struct Bound {
+    socket: UdpSocket,
+    limit: u64,
+}
+
+/// Binds the address in a link's name, `ADDRESS:PORT/QUIETS`. A name of another form is an error.
+pub(crate) fn bind<R: Net>(rt: &R, name: &str) -> io::Result<Bound> {
+    let Some((address, quiets)) = name.rsplit_once('/') else {
+        return Err(io::Error::from(ErrorKind::InvalidInput));
+    };
+    let Ok(limit) = read_decimal(quiets.as_bytes()) else {
+        return Err(io::Error::from(ErrorKind::InvalidInput));
+    };
+    let socket = UdpSocket::bind(rt, address)?;
+    socket.set_read_timeout(Some(Duration::from_millis(WAIT)))?;
+    ask_for_buffer(&socket);
+    Ok(Bound { socket, limit })
+}
+
+// Asks for the buffer. A socket whose system gives less, or refuses, brings datagrams all the same.
+fn ask_for_buffer(socket: &UdpSocket) {
+    let mut value = [0u8; 16];
+    value[..4].copy_from_slice(&BUFFER.to_ne_bytes());
+    let _ = unsafe { c::setsockopt(socket.as_raw_fd(), c::SOL_SOCKET, c::SO_RCVBUF, &value, 4) };
+}
+
+/// A UDP socket that brings datagrams until it was quiet as often in a row as its name says. What comes isn't told.
+pub struct UdpLink {
+    name: Text,
+    socket: UdpSocket,
+    quiets: Quiets,
+    faults: u64,
+}
+
+impl UdpLink {
+    /// A link under this name, which has not failed yet.
+    pub(crate) fn new(name: Text, bound: Bound) -> UdpLink
+        ensures name { result.name ≡ name }
+        ensures faults { result.faults ≡ 0 }
+    {
+        let Bound { socket, limit } = bound;
+        UdpLink {
+            name,
+            socket,
+            quiets: Quiets::new(limit),
+            faults: 0,
+        }
+    }
+
+    /// How often its calls failed. The socket is closed.
+    pub(crate) fn into_faults(self) -> u64
+        ensures { result ≡ self.faults }
+    {
+        let UdpLink {
+            name: _,
+            socket: _,
+            quiets: _,
+            faults,
+        } = self;
+        faults
+    }
+
+    // What a call answers that brought no datagram, by the kind of its error. A receive that was interrupted, as of a
+    // program that was stopped and goes on, is quiet too, and isn't counted towards the end.
+    fn miss(&mut self, kind: ErrorKind) -> Got
+        ensures cause { HasCause self.old.faults self.new.faults (result ≡ Got.Failed) }
+        ensures name { self.new.name ≡ self.old.name }
+        ensures step { (into : List ℕ) → Gets None None into result }
+        ensures interrupted { kind ≡ ErrorKind.Interrupted → (result ≡ Got.Quiet) × (self.new.quiets ≡ self.old.quiets) }
+        ensures quiet { result ≡ Got.Quiet → (kind ≡ ErrorKind.Interrupted) ⊎ (kind ≡ ErrorKind.WouldBlock) ⊎ (kind ≡ ErrorKind.TimedOut) }
+    {
+        match kind {
+            ErrorKind::Interrupted => Got::Quiet,
+            ErrorKind::WouldBlock | ErrorKind::TimedOut => {
+                self.quiets.add();
+                if self.quiets.are_over() {
+                    Got::End
+                } else {
+                    Got::Quiet
+                }
+            }
+            _ => {
+                self.faults = self.faults.saturating_add(1);
+                Got::Failed
+            }
+        }
+    }
+}
+
+impl Link for UdpLink {
+    ghost left = { λ _. None };
+
+    ghost faults = { λ it. it.faults };
+
+    ghost name = { λ it. it.name };
+
+    /// Asks the system once, unless the link has ended. Of a longer datagram the bytes behind the first 2,048 are lost.
+    fn next(&mut self, into: &mut [u8; 2048]) -> Got {
+        if self.quiets.are_over() {
+            return Got::End;
+        }
+        match self.socket.recv(into) {
+            Ok(length) => {
+                self.quiets.clear();
+                Got::Datagram(length)
+            }
+            Err(error) => self.miss(error.kind()),
+        }
+    }
+}

@@ -1,0 +1,9 @@
+//! Lists of names in one word.
+#![tactic(auto)]
+
+mod names;
+
+pub use names::{Names, read_names};
+
+#[cfg(test)]
+mod tests;

@@ -1,0 +1,76 @@
+-- What the words of the command receive ask for.
+use Rattle.std.specs.Prelude.{◌≡◌, ◌≢◌, ℕ, suc, ℤ, Bool, List, [], ◌∷◌, ◌++◌, length, map, ◌≤◌, codes, FitsSigned}
+use Rattle.std.specs.Fmt.{signed_decimal}
+use Rattle.std.specs.Int.{w64}
+use Rattle.tesla_desk.specs.Outside.{Opening, OfSource, OfSink, OfLink}
+use Rattle.tesla_front.specs.Words.{IsName, ArePlaces}
+use Rattle.tesla_front.specs.declared.words.Places.{Places}
+use Rattle.tesla_names.specs.Names.{AreNames}
+use Rattle.tesla_run_receive.specs.declared.arguments.Arguments.{Arguments}
+
+-- the names of the setup, of the links and of the sinks, the lag, and how many packets are held at most
+pub record ReceiveArguments : Type 0 where
+  pub setup : List ℕ
+  pub lag : ℤ
+  pub places : Places
+  pub links : List (List ℕ)
+  pub sinks : List (List ℕ)
+
+-- what the words that were read ask for
+abbrev pub arguments_of : Arguments → ReceiveArguments
+arguments_of words =
+    record { setup = words.setup.now; lag = words.lag; places = words.places; links = words.links; sinks = words.sinks }
+
+-- none of the names is this one
+abbrev pub AreOthers : List ℕ → List (List ℕ) → Type 0
+AreOthers name [] = Unit {0}
+AreOthers name (other ∷ others) = (other ≢ name) × AreOthers name others
+
+-- the words are the form 'receive SETUP LAG CAPACITY LINKS SINKS'
+pub record IsReceive (arguments : ReceiveArguments) (words : List (List ℕ)) : Type 0 where
+  pub capacity : List ℕ
+  pub links : List ℕ
+  pub sinks : List ℕ
+  pub spelled : words ≡ codes "receive" ∷ arguments.setup ∷ signed_decimal arguments.lag ∷ capacity ∷ links ∷ sinks ∷ []
+  pub lag : FitsSigned w64 arguments.lag
+  pub places : ArePlaces capacity arguments.places
+  pub setup : IsName arguments.setup
+  pub links_are : AreNames links arguments.links
+  pub sinks_are : AreNames sinks arguments.sinks
+  -- no output is the input
+  pub outputs : AreOthers arguments.setup arguments.sinks
+
+-- a worker that the words ask for: of the link or of the sink under a name, with its number among those of its kind
+pub data Wanted : Type 0 where
+  WantedLink : (ingest : ℕ) (name : List ℕ) → Wanted
+  WantedSink : (releaser : ℕ) (name : List ℕ) → Wanted
+
+-- a worker for each link, numbered from the first argument on
+abbrev pub links_wanted : ℕ → List (List ℕ) → List Wanted
+links_wanted number [] = []
+links_wanted number (name ∷ names) = WantedLink number name ∷ links_wanted (suc number) names
+
+-- a worker for each sink, numbered from the first argument on
+abbrev pub sinks_wanted : ℕ → List (List ℕ) → List Wanted
+sinks_wanted number [] = []
+sinks_wanted number (name ∷ names) = WantedSink number name ∷ sinks_wanted (suc number) names
+
+-- the workers that the words ask for: of the links, and then of the sinks
+abbrev pub workers_wanted : ReceiveArguments → List Wanted
+workers_wanted arguments = links_wanted 0 arguments.links ++ sinks_wanted 0 arguments.sinks
+
+-- what is opened for a worker
+abbrev pub opening_for : Wanted → Opening
+opening_for (WantedLink ingest name) = OfLink name
+opening_for (WantedSink releaser name) = OfSink name
+
+-- there are 1 to 32 links and sinks
+pub record AreFew (arguments : ReceiveArguments) : Type 0 where
+  pub some_links : 1 ≤ length arguments.links
+  pub few_links : length arguments.links ≤ 32
+  pub some_sinks : 1 ≤ length arguments.sinks
+  pub few_sinks : length arguments.sinks ≤ 32
+
+-- what is opened, in order: the setup, the links and the sinks
+abbrev pub files_of_receive : ReceiveArguments → List Opening
+files_of_receive arguments = OfSource arguments.setup ∷ map opening_for (workers_wanted arguments)

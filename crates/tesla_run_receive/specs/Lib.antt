@@ -1,0 +1,4 @@
+pub mod Arguments
+pub mod Session
+pub mod Receive
+pub mod Usage

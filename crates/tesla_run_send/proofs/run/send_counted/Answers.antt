@@ -1,0 +1,12 @@
+use Rattle.std.proofs.lemmas.Result.{err_from_is_err_and}
+use Rattle.tesla_sender.specs.Made.{Stream}
+use Rattle.tesla_run_send.proofs.Runs.{seeded_none}
+use Rattle.tesla_run_send.proofs.run.send_counted.Goals as goal
+
+pub returns-in_err-sender : goal.returns-in_err-sender
+returns-in_err-sender g c =
+    let stream : Stream = record { setup = c.args.setup; seeds = c.args.seeds.now } in
+    let stop = c.in_err-sender.field-0.0 in
+    let desk = g.D.Desk.told c.args.desk.now in
+    let p = err_from_is_err_and c.from_residual.result c.from_residual.ensures.1 in
+    record { sends = rw (p.1, p.2) (seeded_none stream c.args.arguments.now.script.now c.args.arguments.now.out.now desk stop c.in_err-sender.ensures.refused) }
