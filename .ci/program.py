@@ -1,4 +1,4 @@
-"""Trials of a built program, for .ci/names and .ci/texts.
+"""Trials of a built program, for .ci/names, .ci/texts and .ci/live.
 
 A trial is a run in a folder of its own with copies of some files. After it the status, what was printed and what the
 files hold are compared, and every file has to be as it was where nothing else is said.
@@ -33,6 +33,7 @@ TOOLS = b"""\
 usage: ask READING ASK-OUT
 usage: reply ASK KEY READING REPLY-OUT
 """
+LIVE = b"usage: receive SETUP LAG CAPACITY LINKS SINKS\n"
 OPEN, READ, WRITE = b"open fault\n", b"read fault\n", b"write fault\n"
 
 # An exchange of times, and the key that both sides share. Another program made the reply.
@@ -86,8 +87,12 @@ class Trials:
             kind = "WRONG" if said else "ok"
         except PermissionError as error:
             kind, said = "skipped", [f"permissions don't bind here: {error}"]
+        self.entered(name, kind, said)
+
+    def entered(self, name, kind, said):
+        """Counts a trial of that name, and prints what it came to."""
         self.counts[kind] += 1
-        print(f"{kind:7} {name}", *said, sep="\n        ")
+        print(f"{kind:7} {name}", *said, sep="\n        ", flush=True)
 
 
 def shown(it):

@@ -2,7 +2,7 @@
 #![tactic(auto)]
 
 use std::process::ExitCode;
-use tesla_cli_live::{is_live, run_live};
+use tesla_cli_live::{FORMS, is_live, run_live};
 use tesla_live::{Gates, LiveDesk};
 use tesla_program::{run_program, words};
 
@@ -16,5 +16,5 @@ fn main(rt: HostRuntime) -> ExitCode {
             return ExitCode::from(done.status);
         }
     }
-    run_program(rt.alloc(), words, &mut desk)
+    run_program(rt.alloc(), words, &FORMS, &mut desk)
 }

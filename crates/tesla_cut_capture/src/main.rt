@@ -1,0 +1,13 @@
+//! The program `tesla` again, whose stored run is a capture that ends within a record.
+#![tactic(auto)]
+
+use std::process::ExitCode;
+use tesla_live::{Gates, LiveDesk};
+use tesla_program::{run_program, words};
+
+fn main(rt: HostRuntime) -> ExitCode {
+    let gates = Gates::new();
+    let mut desk = LiveDesk::new(&rt, &gates);
+    let words = words(&rt);
+    run_program(rt.alloc(), words, &[], &mut desk)
+}

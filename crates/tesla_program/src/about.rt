@@ -26,7 +26,8 @@ const FOOT: &[u8] = b"tesla --help
 tesla --version
 
 Status: 0 done, 1 usage, 2 setup refused, 3 input refused, 4 read fault,
-5 write fault, 6 no memory, 7 open fault, 9 lag too large, 10 reply refused.
+5 write fault, 6 no memory, 7 open fault, 9 lag too large, 10 reply refused,
+11 calls spent.
 ";
 
 /// The text that one word alone asks for. `None` where the words are something else.
@@ -68,8 +69,9 @@ fn write_forms<S: Sink>(console: &mut S, forms: &[FormText]) -> bool
     }
 }
 
-/// Writes a text about the program. False: a write failed, and the sink's count of faults rose.
-pub fn write_about<S: Sink>(console: &mut S, about: About) -> bool
+/// Writes a text about the program, whose further commands have these forms. False: a write failed, and the sink's count
+/// of faults rose.
+pub fn write_about<S: Sink>(console: &mut S, about: About, further: &[FormText]) -> bool
     ensures cause { HasCause (S.faults console.old) (S.faults console.new) (result ≡ false) }
     ensures name { S.name console.new ≡ S.name console.old }
 {
@@ -77,6 +79,7 @@ pub fn write_about<S: Sink>(console: &mut S, about: About) -> bool
         About::Help => {
             write_all(console, HEAD)
                 && write_forms(console, &FORMS)
+                && write_forms(console, further)
                 && write_forms(console, &TOOLS)
                 && write_all(console, FOOT)
         }

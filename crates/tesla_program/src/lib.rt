@@ -15,7 +15,7 @@ use std::rt::Env;
 use std::{env, io};
 use tesla_cli::FORMS;
 use tesla_desk::{CONSOLE, Desk};
-use tesla_front::{Fault, Outcome, tell};
+use tesla_front::{Fault, FormText, Outcome, tell};
 
 /// The words after the program's name.
 pub fn words<R: Env + AllocGlobal>(rt: &R) -> io::Result<Vec<String>> {
@@ -37,14 +37,14 @@ fn tell_no_memory<D: Desk>(desk: &mut D) -> u8
     Fault::NoMemory.status()
 }
 
-// Prints a text about the program, and gives the status of that: 0, 5 exactly where a write failed, 7 exactly where the
+// Prints a text about the program with these further forms, and gives the status of that: 0, 5 exactly where a write failed, 7 exactly where the
 // console wasn't opened, or 6 where there was no memory for that.
-fn print_about<D: Desk>(desk: &mut D, about: About) -> u8
+fn print_about<D: Desk>(desk: &mut D, about: About, further: &[FormText]) -> u8
     ensures { Prints (D.told desk.old) (D.told desk.new) result }
 {
     match desk.open_sink(CONSOLE) {
         Ok(mut console) => {
-            let done = write_about(&mut console, about);
+            let done = write_about(&mut console, about, further);
             desk.close_sink(console);
             if done { 0 } else { Fault::Write.status() }
         }
@@ -53,7 +53,12 @@ fn print_about<D: Desk>(desk: &mut D, about: About) -> u8
 }
 
 // Runs the words. One that isn't UTF-8 is in no form of a command.
-fn run_words<D: Desk>(alloc: Global, words: io::Result<Vec<String>>, desk: &mut D) -> u8 {
+fn run_words<D: Desk>(
+    alloc: Global,
+    words: io::Result<Vec<String>>,
+    further: &[FormText],
+    desk: &mut D,
+) -> u8 {
     let words = match words {
         Ok(words) => words,
         Err(error) => {
@@ -64,22 +69,23 @@ fn run_words<D: Desk>(alloc: Global, words: io::Result<Vec<String>>, desk: &mut 
         }
     };
     match about_in(words.as_slice()) {
-        Some(about) => print_about(desk, about),
+        Some(about) => print_about(desk, about, further),
         None => run_chosen(alloc, words.as_slice(), desk),
     }
 }
 
 /// Runs the words that the system handed over, over a desk, and gives the program's status.
 ///
-/// `--help` and `--version` alone print a text. All other words are run by `run_tools` where the first of them names a
+/// `--help` and `--version` alone print a text; the help also has these further forms, of commands that the caller runs by itself. All other words are run by `run_tools` where the first of them names a
 /// tool, and else by `run_here`, as none at all where one of them isn't UTF-8. Where there is no memory for the words,
 /// that is told, and the status is 6.
 pub fn run_program<D: Desk>(
     alloc: Global,
     words: io::Result<Vec<String>>,
+    further: &[FormText],
     desk: &mut D,
 ) -> ExitCode {
-    ExitCode::from(run_words(alloc, words, desk))
+    ExitCode::from(run_words(alloc, words, further, desk))
 }
 
 #[cfg(test)]

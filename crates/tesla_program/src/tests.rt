@@ -23,7 +23,7 @@ fn want_of_memory_is_told(rt: HostRuntime) -> Result<(), Fail> {
 fn help_on_a_console_that_fails(rt: HostRuntime) -> Result<(), Fail> {
     let mut desk = MemoryDesk::new(rt.alloc(), 2_000)?;
     desk.fail_call("-", 1)?;
-    assert_eq!(rt; print_about(&mut desk, About::Help), 5);
+    assert_eq!(rt; print_about(&mut desk, About::Help, &[]), 5);
     assert_eq!(rt; desk.page("-").unwrap_or(b"no page"), HEAD);
     Ok(())
 }
@@ -31,7 +31,7 @@ fn help_on_a_console_that_fails(rt: HostRuntime) -> Result<(), Fail> {
 #[test]
 fn version_on_a_full_console(rt: HostRuntime) -> Result<(), Fail> {
     let mut desk = MemoryDesk::new(rt.alloc(), 5)?;
-    assert_eq!(rt; print_about(&mut desk, About::Version), 5);
+    assert_eq!(rt; print_about(&mut desk, About::Version, &[]), 5);
     assert_eq!(rt; desk.page("-").unwrap_or(b"no page"), b"tesla".as_slice());
     Ok(())
 }
@@ -40,7 +40,7 @@ fn version_on_a_full_console(rt: HostRuntime) -> Result<(), Fail> {
 fn help_without_a_console(rt: HostRuntime) -> Result<(), Fail> {
     let mut desk = MemoryDesk::new(rt.alloc(), 2_000)?;
     desk.fail_open(0)?;
-    assert_eq!(rt; print_about(&mut desk, About::Help), 7);
+    assert_eq!(rt; print_about(&mut desk, About::Help, &[]), 7);
     assert!(rt; desk.page("-").is_none());
     Ok(())
 }
