@@ -1,6 +1,7 @@
 -- A console that was opened before, told what came, and closed.
 use Rattle.std.proofs.Common.{◌≡◌, ◌∙◌, ◌≢◌, ◌⊎◌, inl, inr, ◌<◌, ℕ, Bool, true, false, nat_lt, Option, Some, None, IfSome, Result, Err, List, [], ◌∷◌, take, codes, refl, sym, ap, subst, arith}
 use Rattle.std.proofs.lemmas.Bool.Decides.{nat_tests}
+use Rattle.tesla_desk.specs.Live.{Live}
 use Rattle.tesla_desk.specs.Faults.{Faults, HasCausesBeside, after_sink}
 use Rattle.tesla_desk.specs.Outside.{Page, Holds, Told, Opening, OfSink, OpensSink, ClosesSink, with_opening, with_openings, page_of}
 use Rattle.tesla_desk.specs.declared.desk.OpenRefusal.{OpenRefusal}
@@ -13,7 +14,7 @@ use Rattle.tesla_front.specs.Console.{Shows, Tells}
 use Rattle.tesla_front.specs.Fault.{unopened}
 use Rattle.tesla_front.specs.Files.{HasFailed}
 use Rattle.tesla_front.specs.Openings.{AnyFailed, AreFiles, File, files_told}
-use Rattle.tesla_front.specs.Run.{HasConsole, IsDoneAs, Runs, TellsUsage, console}
+use Rattle.tesla_front.specs.Run.{HasConsole, HasNoConsole, IsDoneAs, Runs, TellsUsage, console}
 use Rattle.tesla_front.specs.declared.fault.Fault.TheVariants as faults
 use Rattle.tesla_front.proofs.Openings.{files_same, stays_all}
 
@@ -51,15 +52,18 @@ open_failed A refused.Failed e = refl
 open_failed A refused.NoMemory e = absurd cc
 
 -- nothing else was opened then
-pub console_unopened : (A : Type 0) (command : Command) (usage : List ℕ) (words : List (List ℕ)) (refusal : OpenRefusal) (old new : Told) → OpensSink {A = A} (codes "-") (Err refusal) old new → Runs command usage words old new (Failed (unopened refusal))
-console_unopened A command usage words refusal old new opens = inl (record {
+pub unopened_console : (A : Type 0) (refusal : OpenRefusal) (old new : Told) → OpensSink {A = A} (codes "-") (Err refusal) old new → HasNoConsole old new (Failed (unopened refusal))
+unopened_console A refusal old new opens = record {
   fault = no_console refusal;
   asked = asks_tried {A = A} console [] (Err refusal) old.openings new.openings opens.asked;
   pages = stays_all (codes "-") old.page new.page opens.refused opens.pages;
   lefts = opens.lefts;
   live = opens.live;
   counts = record { reads = opens.counts.reads; writes = opens.counts.writes; openings = cause_as old.faults.openings new.faults.openings opens.counts.openings (failed_open A refusal) (open_failed A refusal) };
-})
+}
+
+pub console_unopened : (A : Type 0) (command : Command) (usage : List ℕ) (words : List (List ℕ)) (refusal : OpenRefusal) (old new : Told) → OpensSink {A = A} (codes "-") (Err refusal) old new → Runs command usage words old new (Failed (unopened refusal))
+console_unopened A command usage words refusal old new opens = inl (unopened_console A refusal old new opens)
 
 -- ---- the console was opened
 
@@ -136,3 +140,11 @@ console_opened command usage words old opened done new came told written failed 
   no_form = λ none. let usage_is = runs.usage none in refused_run usage old opened done new came told written failed it usage_is.0 usage_is.1;
   form = λ arguments spelled. done_run command usage arguments old opened done new came told written failed it (runs.form arguments spelled);
 }
+
+-- the same of a command that is told what the desk has of links and clocks, of which the console changes nothing
+pub live_console_opened : (command : Live → Live → Command) (usage : List ℕ) (words : List (List ℕ)) (old opened done new : Told) (came told : Came) (written : Option (List ℕ)) (failed : ℕ) → Tolds usage old opened done new came told written failed
+    → RunsAs (command opened.live done.live) words opened done came → HasConsole (command old.live new.live) usage words old new told
+live_console_opened command usage words old opened done new came told written failed it runs =
+    subst (λ (live : Live). HasConsole (command live new.live) usage words old new told) it.live
+    (subst (λ (live : Live). HasConsole (command opened.live live) usage words old new told) (sym it.closes.live)
+    (console_opened (command opened.live done.live) usage words old opened done new came told written failed it runs))

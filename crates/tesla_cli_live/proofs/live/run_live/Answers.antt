@@ -1,12 +1,12 @@
 use Rattle.std.proofs.Common.{◌∙◌, inl, inr, refl, sym, subst, ap, map, List, ℕ, string_bytes}
+use Rattle.tesla_desk.specs.Live.{Live}
 use Rattle.tesla_desk.specs.Outside.{ClosesSink, OpensSink}
 use Rattle.tesla_desk.proofs.Counts.{counts_stay}
 use Rattle.tesla_front.specs.Came.{Failed, outcome_came}
 use Rattle.tesla_front.specs.Console.{Tells}
 use Rattle.tesla_front.specs.Fault.{fault_status, unopened}
-use Rattle.tesla_front.proofs.Consoles.{Tolds}
-use Rattle.tesla_cli_live.specs.Commands.{usage}
-use Rattle.tesla_cli_live.proofs.Consoles.{heard, unheard}
+use Rattle.tesla_front.proofs.Consoles.{Tolds, live_console_opened, unopened_console}
+use Rattle.tesla_cli_live.specs.Commands.{command, usage}
 use Rattle.tesla_cli_live.proofs.live.run_live.Goals as goal
 
 pub returns-in-Ok : goal.returns-in-Ok
@@ -33,9 +33,10 @@ returns-in-Ok g c =
       tells = c.tell-told.ensures.tells;
       closes = subst (λ (name : List ℕ). ClosesSink name written failed done new) named c.close_sink.ensures.desk;
     } in
+    let last = c.run_receive-outcome.result.last in
     let runs = c.run_receive-outcome.ensures.runs in
-    (told, c.status.ensures, inr (heard usage words old opened done new came told c.run_receive-outcome.result.last written failed tolds runs, λ none. c.run_receive-outcome.ensures.none (runs.usage none).0))
+    (told, c.status.ensures, inr (live_console_opened (λ (before after : Live). command before after last) usage words old opened done new came told written failed tolds runs, λ none. c.run_receive-outcome.ensures.none (runs.usage none).0))
 
 pub returns-in-Err : goal.returns-in-Err
 returns-in-Err g c =
-    (Failed (unopened c.in-Err.refusal), c.status-in-Err.ensures ∙ ap fault_status c.from.ensures, inl (unheard _ c.in-Err.refusal (g.D.Desk.told c.args.desk.now) _ c.in-Err.ensures.desk, refl))
+    (Failed (unopened c.in-Err.refusal), c.status-in-Err.ensures ∙ ap fault_status c.from.ensures, inl (unopened_console _ c.in-Err.refusal (g.D.Desk.told c.args.desk.now) _ c.in-Err.ensures.desk, refl))
