@@ -2,8 +2,9 @@
 #![tactic(auto)]
 
 use std::process::ExitCode;
-use tesla_cli_live::{FORMS, is_live, run_live};
+use tesla_cli_live::{is_live, run_live};
 use tesla_live::{Gates, LiveDesk};
+use tesla_live_tools::{is_live_tool, run_live_tools};
 use tesla_program::{run_program, words};
 
 fn main(rt: HostRuntime) -> ExitCode {
@@ -15,6 +16,14 @@ fn main(rt: HostRuntime) -> ExitCode {
             let done = run_live(&rt, rt.alloc(), words.as_slice(), &mut desk);
             return ExitCode::from(done.status);
         }
+        if is_live_tool(words.as_slice()) {
+            let done = run_live_tools(&rt, words.as_slice(), &mut desk);
+            return ExitCode::from(done.status);
+        }
     }
-    run_program(rt.alloc(), words, &FORMS, &mut desk)
+    let further = [
+        tesla_cli_live::FORMS.as_slice(),
+        tesla_live_tools::FORMS.as_slice(),
+    ];
+    run_program(rt.alloc(), words, &further, &mut desk)
 }

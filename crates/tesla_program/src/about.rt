@@ -69,9 +69,25 @@ fn write_forms<S: Sink>(console: &mut S, forms: &[FormText]) -> bool
     }
 }
 
-/// Writes a text about the program, whose further commands have these forms. False: a write failed, and the sink's count
+// Writes the help on the forms of these tables. False: a write failed.
+fn write_tables<S: Sink>(console: &mut S, tables: &[&[FormText]]) -> bool
+    ensures cause { HasCause (S.faults console.old) (S.faults console.new) (result ≡ false) }
+    ensures name { S.name console.new ≡ S.name console.old }
+{
+    match tables {
+        [table, tables @ ..] => {
+            if !write_forms(console, table) {
+                return false;
+            }
+            write_tables(console, tables)
+        }
+        [] => true,
+    }
+}
+
+/// Writes a text about the program, whose further commands have the forms of these tables. False: a write failed, and the sink's count
 /// of faults rose.
-pub fn write_about<S: Sink>(console: &mut S, about: About, further: &[FormText]) -> bool
+pub fn write_about<S: Sink>(console: &mut S, about: About, further: &[&[FormText]]) -> bool
     ensures cause { HasCause (S.faults console.old) (S.faults console.new) (result ≡ false) }
     ensures name { S.name console.new ≡ S.name console.old }
 {
@@ -79,7 +95,7 @@ pub fn write_about<S: Sink>(console: &mut S, about: About, further: &[FormText])
         About::Help => {
             write_all(console, HEAD)
                 && write_forms(console, &FORMS)
-                && write_forms(console, further)
+                && write_tables(console, further)
                 && write_forms(console, &TOOLS)
                 && write_all(console, FOOT)
         }

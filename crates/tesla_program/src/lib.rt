@@ -37,9 +37,9 @@ fn tell_no_memory<D: Desk>(desk: &mut D) -> u8
     Fault::NoMemory.status()
 }
 
-// Prints a text about the program with these further forms, and gives the status of that: 0, 5 exactly where a write failed, 7 exactly where the
+// Prints a text about the program with the forms of these further tables, and gives the status of that: 0, 5 exactly where a write failed, 7 exactly where the
 // console wasn't opened, or 6 where there was no memory for that.
-fn print_about<D: Desk>(desk: &mut D, about: About, further: &[FormText]) -> u8
+fn print_about<D: Desk>(desk: &mut D, about: About, further: &[&[FormText]]) -> u8
     ensures { Prints (D.told desk.old) (D.told desk.new) result }
 {
     match desk.open_sink(CONSOLE) {
@@ -56,7 +56,7 @@ fn print_about<D: Desk>(desk: &mut D, about: About, further: &[FormText]) -> u8
 fn run_words<D: Desk>(
     alloc: Global,
     words: io::Result<Vec<String>>,
-    further: &[FormText],
+    further: &[&[FormText]],
     desk: &mut D,
 ) -> u8 {
     let words = match words {
@@ -76,13 +76,13 @@ fn run_words<D: Desk>(
 
 /// Runs the words that the system handed over, over a desk, and gives the program's status.
 ///
-/// `--help` and `--version` alone print a text; the help also has these further forms, of commands that the caller runs by itself. All other words are run by `run_tools` where the first of them names a
+/// `--help` and `--version` alone print a text; the help also has the forms of these further tables, of commands that the caller runs by itself. All other words are run by `run_tools` where the first of them names a
 /// tool, and else by `run_here`, as none at all where one of them isn't UTF-8. Where there is no memory for the words,
 /// that is told, and the status is 6.
 pub fn run_program<D: Desk>(
     alloc: Global,
     words: io::Result<Vec<String>>,
-    further: &[FormText],
+    further: &[&[FormText]],
     desk: &mut D,
 ) -> ExitCode {
     ExitCode::from(run_words(alloc, words, further, desk))

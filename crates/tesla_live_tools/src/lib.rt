@@ -1,0 +1,8 @@
+//! The live tools, which run over a live stream beside those that receive it: which word names each, and one run of them.
+#![tactic(auto)]
+
+mod commands;
+mod live_tools;
+
+pub use commands::{FORMS, is_live_tool};
+pub use live_tools::run_live_tools;
