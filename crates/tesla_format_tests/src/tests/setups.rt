@@ -1,10 +1,10 @@
 //! The base setup, a setup of version 2, and texts that are refused.
 
-use super::*;
 use std::alloc::{AllocError, Global};
 use std::test::Fail;
 use tesla_base::{Key, StreamId};
 use tesla_clock::Schedule;
+use tesla_commit::*;
 use tesla_examples::SETUP;
 
 // A setup of version 2, with the greatest numbers that there may be.

@@ -2,9 +2,9 @@
 
 ghost use Rattle.std.specs.Prelude.{◌≡◌, ◌+◌, ◌*◌, ◌≤◌, length};
 
-use super::*;
 use std::test::*;
 use tesla_base::{ChainNo, Key, Name, StreamId, WideTag};
+use tesla_frame::*;
 
 const HI: [u8; 59] = [
     0x54, 0x53, 0x4c, 0x41, 0x01, 0x01, 0x00, 0x00, 0x00, 0x00, 0x00, 0x00, 0x00, 0xa7, 0x00, 0x00,

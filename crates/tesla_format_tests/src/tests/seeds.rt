@@ -1,9 +1,9 @@
 //! A text of two seeds, and texts that are refused.
 
-use super::*;
 use std::alloc::{AllocError, Global};
 use std::test::Fail;
 use tesla_base::{Key, Kind};
+use tesla_seeds::*;
 
 const SEEDS: &str =
     "tesla-seeds 1\nseed 0123456789abcdef0123456789abcdef0123456789abcdef0123456789abcdef\nseed 2222222222222222222222222222222222222222222222222222222222222222\n";
