@@ -1,6 +1,7 @@
 //! Runs with one answer, whatever the threads do.
 
 /// A run over a desk in memory, and what it has to come to. All is plain text, so that a proof has little to look at.
+#[derive(Drop)]
 pub struct Run {
     pub name: &'static str,
     pub words: &'static str,
