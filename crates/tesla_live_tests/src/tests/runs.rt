@@ -134,7 +134,7 @@ const RUNS: &[Run] = &[
         name: "the console fails",
         words: BOTH,
         set: "fails 0 -",
-        told: "5 00000000000000000000000100000000026869",
+        told: "5 write fault\n00000000000000000000000100000000026869",
     },
 ];
 
