@@ -22,3 +22,6 @@ pub use script::ScriptReader;
 pub use sizes::{LONGEST_DATAGRAM, LONGEST_PAYLOAD};
 pub use tesla_base::Head;
 pub use writing::{write_arrival, write_head, write_record, write_take};
+
+#[cfg(test)]
+mod tests;

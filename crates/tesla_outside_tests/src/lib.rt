@@ -1,4 +1,4 @@
-//! Tests of the outside, in memory and of the running system, and of the files of records over it.
+//! Tests of the outside: the desk in memory, and the running system.
 #![tactic(auto)]
 
 #[cfg(test)]

@@ -1,5 +1,4 @@
-//! A module for each crate that is tested.
+//! A module for each desk.
 
 mod memory;
-mod records;
 mod system;

@@ -3,12 +3,12 @@
 ghost use Rattle.std.specs.Prelude.{◌≤◌, [], Some, take};
 
 use super::CAPTURE;
-use std::test::Fail;
-use tesla_base::Kind;
-use tesla_capture::{
+use crate::{
     CaptureFormat, Gatherer, Head, RecordKind, ScriptFormat, laws, write_arrival, write_head,
     write_record, write_take,
 };
+use std::test::Fail;
+use tesla_base::Kind;
 use tesla_desk::{Sink, WriteStep};
 
 const HEAD: Head = Head {

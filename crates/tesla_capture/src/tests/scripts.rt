@@ -1,7 +1,7 @@
 //! A script, read, cut and damaged.
 
 use super::{LIMIT, Pieces};
-use tesla_capture::{LONGEST_PAYLOAD, RecordKind, ScriptReader, ScriptStep};
+use crate::{LONGEST_PAYLOAD, RecordKind, ScriptReader, ScriptStep};
 use tesla_desk::Source;
 
 /// A message "e" at 1,850,000, and a disclosure at 2,350,000.

@@ -5,6 +5,9 @@ ghost use Rattle.tesla_turn.specs.Examples.{IsLegal};
 ghost use Rattle.tesla_turn.specs.Held.{OnlyCalls, left_of};
 ghost use Rattle.tesla_turn.specs.History.{entries};
 
+use super::*;
+use crate::examples::{Add, Append, Numbers, Sum};
+use crate::laws::one_history;
 use std::alloc::Global;
 use std::process::Abort;
 use std::sync::Wait;
@@ -13,9 +16,6 @@ use std::sync::atomic::Ordering::SeqCst;
 use std::test::*;
 use std::thread::{Threads, join, yield_now};
 use tesla_base::NoMemory;
-use tesla_turn::examples::{Add, Append, Numbers, Sum};
-use tesla_turn::laws::one_history;
-use tesla_turn::*;
 
 // Appends `count` numbers, from `first` on.
 fn append_all<R: Wait>(

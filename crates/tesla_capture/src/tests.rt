@@ -2,7 +2,7 @@
 
 ghost use Rattle.std.specs.Prelude.{◌<◌, [], Some};
 
-use tesla_capture::*;
+use super::*;
 use tesla_desk::{ReadStep, Source};
 
 /// An arrival of "hi" at 5, a take, and an arrival of nothing at 2^63.
