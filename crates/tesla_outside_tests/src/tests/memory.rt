@@ -18,7 +18,7 @@ const ROWS: [(&str, &str); 9] = [
         "room 3 small,write small,write other,read other",
         "3 0 4 1 4 1 end end end ",
     ),
-    ("fails 0 to,write to,read to", "failed 1 1 end end end end "),
+    ("fails 0 to,write to,read to", "failed 1 failed 1 end end end "),
     ("piece 2 to,write to", "2 1 "),
     ("read nothing,link nothing", "unopened unopened "),
     (
