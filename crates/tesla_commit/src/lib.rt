@@ -18,6 +18,3 @@ pub use parsing::read_setup;
 pub use refusal::{SetupKind, SetupRefusal};
 pub use setup::Setup;
 pub use writing::write_setup;
-
-#[cfg(test)]
-mod tests;

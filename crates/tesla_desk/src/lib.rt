@@ -32,6 +32,3 @@ pub use readings::Readings;
 pub use sink::{Sink, WriteStep, write_all};
 pub use source::{ReadStep, Source};
 pub use tesla_base::Text;
-
-#[cfg(test)]
-mod tests;

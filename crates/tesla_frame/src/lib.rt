@@ -13,6 +13,3 @@ pub use reading::read_frame;
 pub use row::KeyRow;
 pub use view::{DataView, FrameView, KeysView};
 pub use writing::{write_data, write_disclosure};
-
-#[cfg(test)]
-mod tests;

@@ -6,6 +6,3 @@ mod verifier;
 
 pub use offer::Offer;
 pub use verifier::Verifier;
-
-#[cfg(test)]
-mod tests;

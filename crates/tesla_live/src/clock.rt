@@ -15,7 +15,7 @@ pub struct MachineClock<'a, R> {
 
 impl<'a, R> MachineClock<'a, R> {
     /// The clock of this system.
-    pub(crate) fn new(rt: &'a R) -> MachineClock<'a, R> {
+    pub fn new(rt: &'a R) -> MachineClock<'a, R> {
         MachineClock { rt }
     }
 }
@@ -23,11 +23,12 @@ impl<'a, R> MachineClock<'a, R> {
 impl<'a, R: time::Clock> Clock for MachineClock<'a, R> {
     ghost told = { λ _. None };
 
-    /// 0 where the system's clock can't be read or stands before 1970.
+    /// 2^64 - 1 where the system's clock can't be read or stands before 1970: no packet is safe at that reading, so a clock
+    /// that fails makes nothing authentic.
     fn now(&mut self) -> u64 {
         match self.rt.since_1970() {
             Ok(since) => micros(since),
-            Err(_) => 0,
+            Err(_) => u64::MAX,
         }
     }
 }

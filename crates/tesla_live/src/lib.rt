@@ -16,6 +16,3 @@ pub use gate::{Gates, LiveGate};
 pub use link::UdpLink;
 pub use sink::FileSink;
 pub use source::FileSource;
-
-#[cfg(test)]
-mod tests;

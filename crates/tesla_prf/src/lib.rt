@@ -10,6 +10,3 @@ pub use hmac::hmac_sha256;
 pub use keys::{mac_key, next_key, walk_back};
 pub use prepared::PreparedKey;
 pub use tags::{same, tag, wide_tag};
-
-#[cfg(test)]
-mod tests;

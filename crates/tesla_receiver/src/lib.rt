@@ -13,8 +13,3 @@ pub use packet::Packet;
 pub use receiver::Receiver;
 pub use tesla_fitting::{Config, Verdict};
 pub use tesla_state::{Release, Reply, Report, Take};
-
-#[cfg(test)]
-mod examples;
-#[cfg(test)]
-mod tests;

@@ -10,6 +10,3 @@ pub use laws::seed_texts;
 pub use reading::read_seeds;
 pub use refusal::{SeedsKind, SeedsRefusal};
 pub use seeds::Seeds;
-
-#[cfg(test)]
-mod tests;

@@ -12,8 +12,3 @@ mod writing;
 
 pub use refusal::{DiscloseRefusal, SendRefusal, SenderRefusal};
 pub use sender::Sender;
-
-#[cfg(test)]
-mod examples;
-#[cfg(test)]
-mod tests;

@@ -11,6 +11,3 @@ mod station;
 pub use draining::{SinkEnd, drain};
 pub use ingesting::{LinkEnd, ingest};
 pub use station::Station;
-
-#[cfg(test)]
-mod tests;

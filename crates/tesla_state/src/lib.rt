@@ -15,8 +15,6 @@ mod report;
 mod state;
 mod store;
 mod taking;
-#[cfg(test)]
-mod tests;
 mod trying;
 
 pub use replies::{Reply, Take};

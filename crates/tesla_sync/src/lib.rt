@@ -12,6 +12,3 @@ pub use ask::{read_ask, write_ask};
 pub use key::read_key;
 pub use lag::{LagTooLarge, lag_of};
 pub use reply::{SyncRefusal, read_reply, write_reply};
-
-#[cfg(test)]
-mod tests;

@@ -8,6 +8,3 @@ mod refusal;
 
 pub use joint::Joint;
 pub use refusal::{JointRefusal, NoSuch};
-
-#[cfg(test)]
-mod tests;

@@ -1,6 +1,7 @@
 //! Runs with one answer, whatever the threads do.
 
 /// A run over a desk in memory, and what it has to come to. All is plain text, so that a proof has little to look at.
+#[derive(Drop)]
 pub struct Run {
     pub name: &'static str,
     pub words: &'static str,
@@ -133,7 +134,7 @@ const RUNS: &[Run] = &[
         name: "the console fails",
         words: BOTH,
         set: "fails 0 -",
-        told: "5 00000000000000000000000100000000026869",
+        told: "5 write fault\n00000000000000000000000100000000026869",
     },
 ];
 

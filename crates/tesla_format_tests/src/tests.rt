@@ -1,0 +1,5 @@
+//! A module for each format.
+
+mod frames;
+mod seeds;
+mod setups;

@@ -1,0 +1,4 @@
+//! A module for each desk.
+
+mod memory;
+mod system;

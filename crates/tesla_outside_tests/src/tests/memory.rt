@@ -1,0 +1,166 @@
+//! What a desk in memory does, by lines of words: what no clause says is that calls which can want memory give what they
+//! are asked for.
+
+use std::alloc::Global;
+use std::test::*;
+use tesla_base::NoMemory;
+use tesla_desk::*;
+
+/// Lines of words, each behind a comma, and what the calls of a source, a sink, a link or a clock in them answer.
+const ROWS: [(&str, &str); 9] = [
+    ("page from abcdef,read from", "4 2 end end end "),
+    (
+        "page from abcdef,fails 1 from,read from",
+        "4 failed 2 end end ",
+    ),
+    ("page from abcde,piece 2 from,read from", "2 2 1 end end "),
+    (
+        "room 3 small,write small,write other,read other",
+        "3 0 4 1 4 1 end end end ",
+    ),
+    ("fails 0 to,write to,read to", "failed 1 failed 1 end end end "),
+    ("piece 2 to,write to", "2 1 "),
+    ("read nothing,link nothing", "unopened unopened "),
+    (
+        "unopened 1,write page,read page,read page",
+        "4 1 unopened 4 1 end end end ",
+    ),
+    (
+        "letters link,fails 1 link,link link,clock,clock,clock",
+        "quiet failed 2 end 1 2 3 7 9 9 0 0 0 ",
+    ),
+];
+
+// Adds what five reads of a new source answer, into 4 bytes each.
+fn reads<D: Desk>(desk: &mut D, name: &str, told: &mut String) -> Result<(), Fail> {
+    let Ok(mut source) = desk.open_source(name) else {
+        return Ok(told.push_str("unopened ")?);
+    };
+    let mut buffer = [0u8; 4];
+    let mut steps = [ReadStep::End; 5];
+    for step in steps.iter_mut() {
+        *step = source.read(&mut buffer);
+    }
+    desk.close_source(source);
+    for step in steps {
+        match step {
+            ReadStep::Got(count) => write!(told, "{count} ")?,
+            ReadStep::End => told.push_str("end ")?,
+            ReadStep::Failed => told.push_str("failed ")?,
+        }
+    }
+    Ok(())
+}
+
+// Adds what two writes of a new sink answer, of 4 bytes and of one.
+fn writes<D: Desk>(desk: &mut D, name: &str, told: &mut String) -> Result<(), Fail> {
+    let Ok(mut sink) = desk.open_sink(name) else {
+        return Ok(told.push_str("unopened ")?);
+    };
+    let steps = [sink.write(b"abcd"), sink.write(b"e")];
+    desk.close_sink(sink);
+    for step in steps {
+        match step {
+            WriteStep::Took(count) => write!(told, "{count} ")?,
+            WriteStep::Failed => told.push_str("failed ")?,
+        }
+    }
+    Ok(())
+}
+
+// Adds what four calls of a new link answer.
+fn hears<D: Desk>(desk: &mut D, name: &str, told: &mut String) -> Result<(), Fail> {
+    let Ok(mut link) = desk.open_link(name) else {
+        return Ok(told.push_str("unopened ")?);
+    };
+    let mut buffer = [0u8; 2048];
+    let mut answers = [Got::End; 4];
+    for answer in answers.iter_mut() {
+        *answer = link.next(&mut buffer);
+    }
+    desk.close_link(link);
+    for answer in answers {
+        match answer {
+            Got::Datagram(count) => write!(told, "{count} ")?,
+            Got::Quiet => told.push_str("quiet ")?,
+            Got::End => told.push_str("end ")?,
+            Got::Failed => told.push_str("failed ")?,
+        }
+    }
+    Ok(())
+}
+
+// Adds three readings of a new clock.
+fn ticks<D: Desk>(desk: &mut D, told: &mut String) -> Result<(), Fail> {
+    let mut clock = desk.clock();
+    for _ in 0..3 {
+        write!(told, "{} ", clock.now())?;
+    }
+    Ok(())
+}
+
+// A desk in memory with readings for two clocks, whose sinks take 16 bytes.
+fn new_desk(alloc: Global) -> Result<MemoryDesk, NoMemory> {
+    let mut desk = MemoryDesk::new(alloc, 16)?;
+    desk.put_readings(1, &[7, 9])?;
+    desk.put_readings(0, &[1, 2, 3])?;
+    Ok(desk)
+}
+
+// Puts a quiet, and a datagram of two bytes.
+fn put_letters(alloc: Global, desk: &mut MemoryDesk, name: &str) -> Result<(), NoMemory> {
+    let bytes = Text::new(alloc, b"ab")?;
+    desk.put_letters(name, &[Letter::Quiet, Letter::Datagram { bytes }])
+}
+
+// Sets something of a desk.
+fn set(desk: &mut MemoryDesk, kind: &str, number: u32, name: &str) -> Result<(), Fail> {
+    match kind {
+        "room" => desk.set_room(name, number as usize)?,
+        "piece" => desk.set_piece(name, (number as usize).max(1))?,
+        "fails" => desk.fail_call(name, number as u64)?,
+        _ => desk.fail_open(number as u64)?,
+    }
+    Ok(())
+}
+
+// Does what a line says, and adds what the calls in it answer.
+fn does(alloc: Global, desk: &mut MemoryDesk, line: &str, told: &mut String) -> Result<(), Fail> {
+    let (kind, rest) = line.split_once(' ').unwrap_or((line, ""));
+    match kind {
+        "read" => return reads(desk, rest, told),
+        "write" => return writes(desk, rest, told),
+        "link" => return hears(desk, rest, told),
+        "clock" => return ticks(desk, told),
+        "letters" => return Ok(put_letters(alloc, desk, rest)?),
+        _ => {}
+    }
+    let (first, name) = rest.split_once(' ').unwrap_or((rest, ""));
+    match kind {
+        "page" => Ok(desk.put_page(first, name.as_bytes())?),
+        _ => set(desk, kind, first.parse()?, name),
+    }
+}
+
+#[test]
+fn lines_of_words(rt: HostRuntime) -> Result<(), Fail> {
+    for (lines, want) in ROWS {
+        let mut desk = new_desk(rt.alloc())?;
+        let mut told = String::new(rt.alloc());
+        for line in lines.split(',') {
+            does(rt.alloc(), &mut desk, line, &mut told)?;
+        }
+        assert_eq!(rt; told.as_str(), want, "{lines}");
+    }
+    Ok(())
+}
+
+#[test]
+fn a_page_is_what_was_written(rt: HostRuntime) -> Result<(), Fail> {
+    let mut desk = new_desk(rt.alloc())?;
+    let mut told = String::new(rt.alloc());
+    writes(&mut desk, "to", &mut told)?;
+    assert_eq!(rt; desk.page("to"), Some(b"abcde".as_slice()));
+    assert!(rt; desk.page("nothing").is_none());
+    Ok(())
+}

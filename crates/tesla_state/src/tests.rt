@@ -1,1 +1,0 @@
-//! What is here is tested by the worked examples of `tesla_receiver`.
