@@ -34,6 +34,7 @@ usage: ask READING ASK-OUT
 usage: reply ASK KEY READING REPLY-OUT
 """
 LIVE = b"usage: receive SETUP LAG CAPACITY LINKS SINKS\n"
+LIVE_TOOLS = b"usage: capture LINK CAPTURE\n"
 OPEN, READ, WRITE = b"open fault\n", b"read fault\n", b"write fault\n"
 
 # An exchange of times, and the key that both sides share. Another program made the reply.
