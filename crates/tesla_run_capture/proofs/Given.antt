@@ -1,0 +1,73 @@
+-- The readings that a clock gives, and what is heard with them.
+use Rattle.std.proofs.Common.{◌≡◌, ◌∙◌, ℕ, ◌+◌, ◌-◌, ◌^◌, ◌<◌, List, [], ◌∷◌, ◌++◌, length, map, Option, Some, None, refl, sym, ap, subst, append_assoc, append-nil, arith}
+use Rattle.std.proofs.lemmas.List.{length-append, length-map, map-append}
+use Rattle.std.proofs.lemmas.List.Concat.{flat_map-append}
+use Rattle.tesla_desk.specs.Clocks.{Ticking, Ticks, next_reading}
+use Rattle.tesla_desk.specs.Links.{after_letters, datagram_in, datagrams}
+use Rattle.tesla_desk.specs.Live.{clock_told}
+use Rattle.tesla_desk.specs.declared.link.Letter.{Letter}
+use Rattle.tesla_desk.specs.declared.link.Letter.TheVariants as letters
+use Rattle.tesla_run_capture.specs.Readings.{Gives, readings_from}
+use Rattle.tesla_run_capture.specs.Heard.{Heard, ReadWhere, bytes_of, reading_of}
+use Rattle.tesla_run_capture.specs.Recording.{Hears}
+
+-- ---- readings
+
+-- one reading more
+pub gives_more : (readings : List ℕ) (before mid after : Option Ticking) (reading : ℕ) → Gives readings before mid → Ticks mid after reading → Gives (readings ++ reading ∷ []) before after
+gives_more [] before mid after reading gives ticks = (after, subst (λ (told : Option Ticking). Ticks told after reading) gives ticks, refl)
+gives_more (first ∷ readings) before mid after reading gives ticks = (gives.0, gives.1, gives_more readings gives.0 mid after reading gives.2 ticks)
+
+-- a clock that tells its readings gave the first of them
+first_by : (reading : ℕ) (readings : List ℕ) (before : Ticking) (mid after : Option Ticking) → length before.given + length (reading ∷ readings) < 2 ^ 64 - 1 → Ticks (Some before) mid reading → Gives readings mid after
+    → ((next : Ticking) → length next.given + length readings < 2 ^ 64 - 1 → Gives readings (Some next) after → readings ≡ readings_from (length readings) next.ahead)
+    → reading ∷ readings ≡ readings_from (length (reading ∷ readings)) before.ahead
+first_by reading readings before None after few ticks gives others = absurd (omega (arith, few, ticks))
+first_by reading readings before (Some next) after few ticks gives others =
+    let given : length next.given ≡ length before.given + 1 = ap (λ (t : Ticking). length t.given) ticks.0 ∙ length-append before.given (next_reading before.ahead ∷ []) in
+    let rest : readings ≡ readings_from (length readings) next.ahead = others next (omega (arith, few, given)) gives in
+    ap (λ (r : ℕ). r ∷ readings) ticks.1 ∙ ap (λ (rs : List ℕ). next_reading before.ahead ∷ rs) (rest ∙ ap (λ (t : Ticking). readings_from (length readings) t.ahead) ticks.0)
+
+first_readings : (readings : List ℕ) (before : Ticking) (after : Option Ticking) → length before.given + length readings < 2 ^ 64 - 1 → Gives readings (Some before) after → readings ≡ readings_from (length readings) before.ahead
+first_readings [] before after few gives = refl
+first_readings (reading ∷ readings) before after few gives = first_by reading readings before gives.0 after few gives.1 gives.2 (λ next fits more. first_readings readings next after fits more)
+
+-- what was heard has the first readings of the clock that was made for it
+pub read_where : (heard : List Heard) (readings : Option (ℕ → List ℕ)) (made : Option ℕ) (after : Option Ticking) → length heard < 2 ^ 64 - 1 → Gives (map reading_of heard) (clock_told readings made) after → ReadWhere heard readings made
+read_where heard None made after few gives = tt
+read_where heard (Some readings) None after few gives = tt
+read_where heard (Some readings) (Some made) after few gives =
+    let size : length (map reading_of heard) ≡ length heard = length-map heard reading_of in
+    first_readings (map reading_of heard) (record { ahead = readings made; given = [] }) after (omega (arith, few, size)) gives ∙ ap (λ (n : ℕ). readings_from n (readings made)) size
+
+-- ---- letters
+
+letters_twice : (left : Option (List Letter)) (a b : List Letter) → after_letters a (after_letters b left) ≡ after_letters (a ++ b) left
+letters_twice None a b = refl
+letters_twice (Some rest) a b = ap (λ (all : List Letter). Some all) (sym (append_assoc a b rest))
+
+pub letters_none : (left : Option (List Letter)) → left ≡ after_letters [] left
+letters_none None = refl
+letters_none (Some rest) = refl
+
+-- nothing was heard
+pub hears_none : (left : Option (List Letter)) (before : Option Ticking) → Hears [] left left before before
+hears_none left before = record { taken = []; left_is = letters_none left; heard_are = refl; gives = refl }
+
+-- a datagram more
+pub hears_more : (heard : List Heard) (one : Heard) (left now later : Option (List Letter)) (before then after : Option Ticking) → Hears heard left now before then → now ≡ after_letters (letters.Datagram one.bytes ∷ []) later → Ticks then after one.reading → Hears (heard ++ one ∷ []) left later before after
+hears_more heard one left now later before then after hears next ticks = record {
+  taken = hears.taken ++ letters.Datagram one.bytes ∷ [];
+  left_is = hears.left_is ∙ ap (λ (l : Option (List Letter)). after_letters hears.taken l) next ∙ letters_twice later hears.taken (letters.Datagram one.bytes ∷ []);
+  heard_are = flat_map-append datagram_in hears.taken (letters.Datagram one.bytes ∷ []) ∙ ap (λ (front : List (List ℕ)). front ++ one.bytes ∷ []) hears.heard_are ∙ sym (map-append bytes_of heard (one ∷ []));
+  gives = subst (λ (rs : List ℕ). Gives rs before after) (sym (map-append reading_of heard (one ∷ []))) (gives_more (map reading_of heard) before then after one.reading hears.gives ticks);
+}
+
+-- a quiet more
+pub hears_quiet : (heard : List Heard) (left now later : Option (List Letter)) (before after : Option Ticking) → Hears heard left now before after → now ≡ after_letters (letters.Quiet ∷ []) later → Hears heard left later before after
+hears_quiet heard left now later before after hears next = record {
+  taken = hears.taken ++ letters.Quiet ∷ [];
+  left_is = hears.left_is ∙ ap (λ (l : Option (List Letter)). after_letters hears.taken l) next ∙ letters_twice later hears.taken (letters.Quiet ∷ []);
+  heard_are = flat_map-append datagram_in hears.taken (letters.Quiet ∷ []) ∙ append-nil (datagrams hears.taken) ∙ hears.heard_are;
+  gives = hears.gives;
+}

@@ -1,0 +1,6 @@
+pub mod ThreeWords
+pub mod Given
+pub mod Kept
+pub mod Filed
+pub mod Paged
+pub mod Performed

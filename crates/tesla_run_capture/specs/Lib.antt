@@ -1,0 +1,7 @@
+pub mod Arguments
+pub mod Readings
+pub mod Heard
+pub mod Recording
+pub mod Capture
+pub mod Steps
+pub mod Usage
