@@ -10,3 +10,6 @@ mod words;
 
 pub use forms::CAPTURE;
 pub use run::run_capture;
+
+#[cfg(test)]
+mod tests;
