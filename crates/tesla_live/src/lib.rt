@@ -6,6 +6,7 @@ mod desk;
 mod files;
 mod gate;
 mod link;
+mod post;
 mod quiets;
 mod sink;
 mod source;
@@ -14,6 +15,7 @@ pub use clock::MachineClock;
 pub use desk::LiveDesk;
 pub use gate::{Gates, LiveGate};
 pub use link::UdpLink;
+pub use post::UdpPost;
 pub use sink::FileSink;
 pub use source::FileSource;
 
