@@ -1,3 +1,4 @@
 pub mod Counts
+pub mod Mail
 pub mod Told
 pub mod Remembering

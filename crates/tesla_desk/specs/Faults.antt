@@ -25,7 +25,7 @@ pub record HasCauseBeside (hidden : Type 0) (before now : ℕ) (failed : Type 0)
   pub rose : failed → Rose before now
   pub still : (failed → ⊥) → (hidden → ⊥) → now ≡ before
 
--- how many sources, sinks and openings of a desk failed
+-- how many sources and links, sinks and posts, and openings of a desk failed
 pub record Faults : Type 0 where
   pub reads : ℕ
   pub writes : ℕ

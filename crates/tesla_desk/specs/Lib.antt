@@ -6,5 +6,6 @@ pub mod Live
 pub mod LiveMemory
 pub mod Memory
 pub mod Outside
+pub mod Posts
 pub mod Settings
 pub mod Stored

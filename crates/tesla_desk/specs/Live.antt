@@ -1,4 +1,4 @@
--- What a desk tells of links and clocks, which bring what happens while it is running.
+-- What a desk tells of links, posts and clocks, which are what happens while it is running.
 use Rattle.std.specs.Prelude.{◌≡◌, ℕ, Bool, nat_lt, List, [], Option, Some, None}
 use Rattle.tesla_desk.specs.Clocks.{Ticking}
 use Rattle.tesla_desk.specs.declared.link.Letter.{Letter}
@@ -19,16 +19,28 @@ abbrev pub remainder_of : Option (List Letter) → ℕ → Option Remainder
 remainder_of None faults = None
 remainder_of (Some letters) faults = Some (record { letters = letters; failed = nat_lt 0 faults })
 
--- what a desk tells beside its files: what it has for links under each name, what was left of the link that was closed last under it, the readings of each clock by its number, and how many clocks it made
+-- what a desk has of posts under a name: it doesn't tell, none was closed, or the datagrams that the post that was closed last sent, and whether it failed
+pub data Mail : Type 0 where
+  UntoldMail : Mail
+  AbsentMail : Mail
+  HoldsMail : List (List ℕ) → Bool → Mail
+
+-- the mail under the name of a closed post, from the datagrams that it told and its count of faults
+abbrev pub mail_of : Option (List (List ℕ)) → ℕ → Mail
+mail_of None faults = UntoldMail
+mail_of (Some sent) faults = HoldsMail sent (nat_lt 0 faults)
+
+-- what a desk tells beside its files: what it has for links under each name, what was left of the link that was closed last under it, the mail of posts under each name, the readings of each clock by its number, and how many clocks it made
 pub record Live : Type 0 where
   pub wire : List ℕ → Wire
   pub left : List ℕ → Option Remainder
+  pub mail : List ℕ → Mail
   pub readings : Option (ℕ → List ℕ)
   pub made : Option ℕ
 
 -- nothing is told
 abbrev pub untold : Live
-untold = record { wire = λ _. UntoldWire; left = λ _. None; readings = None; made = None }
+untold = record { wire = λ _. UntoldWire; left = λ _. None; mail = λ _. UntoldMail; readings = None; made = None }
 
 -- a new link has what its desk tells under the name
 abbrev pub OpenedLink : Wire → Option (List Letter) → Type 0

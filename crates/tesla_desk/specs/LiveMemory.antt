@@ -1,9 +1,9 @@
--- What a link and a clock in memory keep.
-use Rattle.std.specs.Prelude.{◌≡◌, ℕ, ◌-◌, ◌^◌, Bool, true, false, nat_lt, min, ◌≤◌, zero, suc, List, [], ◌∷◌, ◌++◌, length, drop, Option, Some, None, if◌then◌else◌, get_or, option_map, ◌==◌}
+-- What a link, a post and a clock in memory keep.
+use Rattle.std.specs.Prelude.{◌≡◌, ℕ, ◌-◌, ◌^◌, ◌||◌, Bool, true, false, nat_lt, min, max, ◌≤◌, zero, suc, List, [], ◌∷◌, ◌++◌, length, take, drop, Option, Some, None, if◌then◌else◌, get_or, option_map, ◌==◌}
 use Rattle.tesla_desk.specs.Calls.{CallNumbers, next_fails}
 use Rattle.tesla_desk.specs.Faults.{raised}
 use Rattle.tesla_desk.specs.Clocks.{Ticking}
-use Rattle.tesla_desk.specs.Live.{Wire, AbsentWire, HoldsWire, Remainder}
+use Rattle.tesla_desk.specs.Live.{Wire, AbsentWire, HoldsWire, Remainder, Mail, AbsentMail, HoldsMail}
 use Rattle.tesla_desk.specs.Stored.{newest}
 use Rattle.tesla_desk.specs.declared.entries.Named.{Named}
 use Rattle.tesla_desk.specs.declared.letters.Letters.{Letters}
@@ -11,6 +11,10 @@ use Rattle.tesla_desk.specs.declared.link.Letter.{Letter}
 use Rattle.tesla_desk.specs.declared.link.Letter.TheVariants as letters
 use Rattle.tesla_desk.specs.declared.link.Got.{Got}
 use Rattle.tesla_desk.specs.declared.link.Got.TheVariants.{Datagram, Quiet, End, Failed}
+use Rattle.tesla_desk.specs.declared.outbox.Outbox.{Outbox}
+use Rattle.tesla_desk.specs.declared.post.PostStep.{PostStep}
+use Rattle.tesla_desk.specs.declared.post.PostStep.TheVariants as posts
+use Rattle.tesla_desk.specs.declared.stored_mail.StoredMail.{StoredMail}
 use Rattle.tesla_desk.specs.declared.readings.Readings.{Readings}
 use Rattle.tesla_desk.specs.declared.clock_lists.ClockList.{ClockList}
 use Rattle.tesla_desk.specs.declared.stored_letters.StoredLetters.{StoredLetters}
@@ -65,6 +69,66 @@ link_answer link = if next_fails (link_calls_of link) then Failed else answer_of
 abbrev pub is_absent_wire : Wire → Bool
 is_absent_wire (HoldsWire letters) = false
 is_absent_wire _ = true
+
+-- ---- posts
+
+-- datagrams of these lengths that stand one behind another
+abbrev pub cut : List ℕ → List ℕ → List (List ℕ)
+cut [] bytes = []
+cut (size ∷ more) bytes = take size bytes ∷ cut more (drop size bytes)
+
+-- the datagrams that are stored of a post
+abbrev pub datagrams_stored : StoredMail → List (List ℕ)
+datagrams_stored stored = cut stored.lengths.items stored.bytes.items
+
+-- the mail of a closed post, where one is stored
+abbrev pub mail_stored : Option StoredMail → Mail
+mail_stored None = AbsentMail
+mail_stored (Some stored) = HoldsMail (datagrams_stored stored) stored.failed
+
+abbrev pub mail_in : List (Named StoredMail) → List ℕ → Mail
+mail_in mails name = mail_stored (newest mails name)
+
+-- the datagrams of mail
+abbrev pub datagrams_in : Mail → List (List ℕ)
+datagrams_in (HoldsMail sent failed) = sent
+datagrams_in _ = []
+
+-- the datagrams that a post sent
+abbrev pub sent_by : Outbox → List (List ℕ)
+sent_by post = datagrams_stored post.mail.value
+
+abbrev pub post_faults_of : Outbox → ℕ
+post_faults_of post = post.faults
+
+abbrev pub post_name_of : Outbox → List ℕ
+post_name_of post = post.mail.name
+
+-- the calls of a post, by number
+abbrev pub post_calls_of : Outbox → CallNumbers
+post_calls_of post = post.calls
+
+-- how many bytes a post still takes
+abbrev pub post_room_of : Outbox → ℕ
+post_room_of post = post.room
+
+-- how much of the room a datagram of this length takes: as many bytes as it has, and one where it has none
+abbrev pub room_taken : ℕ → ℕ
+room_taken size = max size 1
+
+-- what a post answers to a datagram of this length
+abbrev pub post_answer : ℕ → Outbox → PostStep
+post_answer size post = if next_fails (post_calls_of post) || nat_lt (post_room_of post) (room_taken size) then posts.Failed else posts.Sent
+
+-- the room after a datagram of this length with this answer
+abbrev pub post_room_after : ℕ → PostStep → ℕ → ℕ
+post_room_after size posts.Sent room = room - room_taken size
+post_room_after size posts.Failed room = room
+
+-- the count of faults after this answer
+abbrev pub post_faults_after : PostStep → ℕ → ℕ
+post_faults_after posts.Sent faults = faults
+post_faults_after posts.Failed faults = raised faults
 
 -- ---- clocks
 

@@ -3,7 +3,7 @@ use Rattle.std.specs.Prelude.{◌≡◌, ℕ, min, Bool, true, false, Result, Ok
 use Rattle.tesla_desk.specs.Calls.{CallNumbers, new_calls, next_fails, after_call}
 use Rattle.tesla_desk.specs.Faults.{Faults, no_faults, raised}
 use Rattle.tesla_desk.specs.Live.{Live, OpenedLink}
-use Rattle.tesla_desk.specs.LiveMemory.{MadeClocks, no_clocks, wire_in, remainder_in, readings_in, letters_left, link_faults_of, link_name_of, link_calls_of, is_absent_wire}
+use Rattle.tesla_desk.specs.LiveMemory.{MadeClocks, no_clocks, wire_in, remainder_in, readings_in, mail_in, sent_by, post_faults_of, post_name_of, post_calls_of, post_room_of, letters_left, link_faults_of, link_name_of, link_calls_of, is_absent_wire}
 use Rattle.tesla_desk.specs.Outside.{Page, Untold, Absent, Holds, Opening, Opened, Told}
 use Rattle.tesla_desk.specs.Settings.{NamedSettings, no_settings, room_for, piece_for, failing_for, within_piece}
 use Rattle.tesla_desk.specs.Stored.{entries_in, page_in, left_in, left_stored, openings_in}
@@ -17,6 +17,8 @@ use Rattle.tesla_desk.specs.declared.entries.Named.{Named}
 use Rattle.tesla_desk.specs.declared.letters.Letters.{Letters}
 use Rattle.tesla_desk.specs.declared.stored_letters.StoredLetters.{StoredLetters}
 use Rattle.tesla_desk.specs.declared.stored_letters.StoredRemainder.{StoredRemainder}
+use Rattle.tesla_desk.specs.declared.outbox.Outbox.{Outbox}
+use Rattle.tesla_desk.specs.declared.stored_mail.StoredMail.{StoredMail}
 use Rattle.tesla_desk.specs.declared.stored.StoredRest.{StoredRest}
 use Rattle.tesla_desk.specs.declared.pages.Pages.{Pages}
 use Rattle.tesla_desk.specs.declared.heap.Heap.{Heap}
@@ -123,11 +125,12 @@ counts_of desk = record { reads = desk.reads; writes = desk.writes; openings = d
 abbrev pub openings_of : MemoryDesk → List Opening
 openings_of desk = openings_in (entries_in desk.asked)
 
--- what a desk has of links and clocks
+-- what a desk has of links, posts and clocks
 abbrev pub live_of : MemoryDesk → Live
 live_of desk = record {
   wire = wire_in (entries_in desk.wires);
   left = remainder_in (entries_in desk.remainders);
+  mail = mail_in (entries_in desk.mails);
   readings = Some (readings_in desk.clocks.lists);
   made = Some desk.clocks.made;
 }
@@ -153,6 +156,7 @@ pub record Rest : Type 0 where
   pub calls : CallNumbers
   pub wires : List (Named StoredLetters)
   pub remainders : List (Named StoredRemainder)
+  pub mails : List (Named StoredMail)
   pub clocks : MadeClocks
 
 abbrev pub rest_of : MemoryDesk → Rest
@@ -164,12 +168,13 @@ rest_of desk = record {
   calls = opening_calls_of desk;
   wires = entries_in desk.wires;
   remainders = entries_in desk.remainders;
+  mails = entries_in desk.mails;
   clocks = desk.clocks;
 }
 
--- nothing closed, no faults, no opening, nothing set, no letters, no readings and no clock made, and each sink takes this many bytes
+-- nothing closed, no faults, no opening, nothing set, no letters, no mail, no readings and no clock made, and each sink and post takes this many bytes
 abbrev pub new_rest : ℕ → Rest
-new_rest room = record { closed = []; counts = no_faults; openings = []; settings = no_settings room; calls = new_calls []; wires = []; remainders = []; clocks = no_clocks }
+new_rest room = record { closed = []; counts = no_faults; openings = []; settings = no_settings room; calls = new_calls []; wires = []; remainders = []; mails = []; clocks = no_clocks }
 
 -- the same after the closing of a source
 abbrev pub after_closed : Named StoredRest → Faults → Rest → Rest
@@ -257,3 +262,16 @@ MakesLink desk name (Some it) = (refuses_link desk name ≡ false) × NewLink de
 -- the same after the closing of a link
 abbrev pub after_closed_link : Named StoredRemainder → Faults → Rest → Rest
 after_closed_link remainder counts before = record before { remainders = remainder ∷ before.remainders; counts = counts }
+
+-- a new post has what was set for the name
+pub record NewPost (desk : MemoryDesk) (name : List ℕ) (it : Outbox) : Type 0 where
+  pub named : post_name_of it ≡ name
+  pub empty : sent_by it ≡ []
+  pub faults : post_faults_of it ≡ 0
+  pub room : post_room_of it ≡ room_for (settings_of desk) name
+  pub calls : post_calls_of it ≡ new_calls (failing_for (settings_of desk) name)
+
+-- a post is made exactly where its opening does not fail by its number
+abbrev pub MakesPost : MemoryDesk → List ℕ → Option Outbox → Type 0
+MakesPost desk name None = next_fails (opening_calls_of desk) ≡ true
+MakesPost desk name (Some it) = (next_fails (opening_calls_of desk) ≡ false) × NewPost desk name it

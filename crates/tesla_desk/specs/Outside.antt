@@ -2,7 +2,7 @@
 use Rattle.std.specs.Prelude.{◌≡◌, ◌≢◌, ℕ, ◌<◌, ◌≤◌, Bool, nat_lt, Option, Some, None, IfSome, Result, Ok, Err, OnErr, List, [], ◌∷◌, ◌++◌, length, take}
 use Rattle.std.specs.Option.{option_map}
 use Rattle.tesla_desk.specs.Faults.{Faults, CountsOpening, after_source, after_sink, raised}
-use Rattle.tesla_desk.specs.Live.{Live, remainder_of}
+use Rattle.tesla_desk.specs.Live.{Live, remainder_of, mail_of}
 use Rattle.tesla_desk.specs.declared.link.Letter.{Letter}
 use Rattle.tesla_desk.specs.declared.source.ReadStep.{ReadStep}
 use Rattle.tesla_desk.specs.declared.source.ReadStep.TheVariants.{Got, End, Failed as ReadFailed}
@@ -77,6 +77,7 @@ pub data Opening : Type 0 where
   OfSource : List ℕ → Opening
   OfSink : List ℕ → Opening
   OfLink : List ℕ → Opening
+  OfPost : List ℕ → Opening
 
 -- the openings asked for, where they are told, with one more at the end
 abbrev pub with_opening : Option (List Opening) → Opening → Option (List Opening)
@@ -96,7 +97,7 @@ with_openings told openings = option_map (λ before. before ++ openings) told
 abbrev pub AsksPrefix : List Opening → Option (List Opening) → Option (List Opening) → Type 0
 AsksPrefix openings before now = (n : ℕ) × (now ≡ with_openings before (take n openings))
 
--- what a desk tells: the page under each name, what was left of the source that was closed last under it, its counts of faults, the openings that it was asked for, and what it tells of links and clocks
+-- what a desk tells: the page under each name, what was left of the source that was closed last under it, its counts of faults, the openings that it was asked for, and what it tells of links, posts and clocks
 pub record Told : Type 0 where
   pub page : List ℕ → Page
   pub left : List ℕ → Option (List ℕ)
@@ -152,10 +153,31 @@ pub record ClosesLink (name : List ℕ) (left : Option (List Letter)) (faults : 
   pub own : now.live.left name ≡ remainder_of left faults
   pub others : (n : List ℕ) → n ≢ name → now.live.left n ≡ before.live.left n
   pub wires : (n : List ℕ) → now.live.wire n ≡ before.live.wire n
+  pub mails : (n : List ℕ) → now.live.mail n ≡ before.live.mail n
   pub clocks : (now.live.readings ≡ before.live.readings) × (now.live.made ≡ before.live.made)
   pub pages : (n : List ℕ) → now.page n ≡ before.page n
   pub lefts : (n : List ℕ) → now.left n ≡ before.left n
   pub counts : now.faults ≡ after_source before.faults faults
+  pub asked : now.openings ≡ before.openings
+
+-- what an opening of a post does to what its desk tells
+pub record OpensPost {A : Type 0} (name : List ℕ) (result : Result A OpenRefusal) (before now : Told) : Type 0 where
+  pub pages : (n : List ℕ) → now.page n ≡ before.page n
+  pub lefts : (n : List ℕ) → now.left n ≡ before.left n
+  pub counts : CountsOpening before.faults now.faults (result ≡ Err refusals.Failed)
+  pub asked : now.openings ≡ after_opening (OfPost name) result before.openings
+  pub live : now.live ≡ before.live
+
+-- what the closing of a post with this name, these datagrams and this many faults does to what its desk tells
+pub record ClosesPost (name : List ℕ) (sent : Option (List (List ℕ))) (faults : ℕ) (before now : Told) : Type 0 where
+  pub own : now.live.mail name ≡ mail_of sent faults
+  pub others : (n : List ℕ) → n ≢ name → now.live.mail n ≡ before.live.mail n
+  pub wires : (n : List ℕ) → now.live.wire n ≡ before.live.wire n
+  pub remainders : (n : List ℕ) → now.live.left n ≡ before.live.left n
+  pub clocks : (now.live.readings ≡ before.live.readings) × (now.live.made ≡ before.live.made)
+  pub pages : (n : List ℕ) → now.page n ≡ before.page n
+  pub lefts : (n : List ℕ) → now.left n ≡ before.left n
+  pub counts : now.faults ≡ after_sink before.faults faults
   pub asked : now.openings ≡ before.openings
 
 -- what the making of a clock does to what its desk tells: one clock more was made

@@ -3,7 +3,7 @@ use Rattle.std.specs.Prelude.{ℕ, min, List, [], ◌∷◌, Option, Some, None}
 use Rattle.tesla_desk.specs.Stored.{newest, values_under}
 use Rattle.tesla_desk.specs.declared.entries.Named.{Named}
 
--- the room of each sink for which none was set; and rooms, greatest pieces and numbers of failing calls under names, the newest first
+-- the room of each sink and post for which none was set; and rooms, greatest pieces and numbers of failing calls under names, the newest first
 pub record NamedSettings : Type 0 where
   pub room : ℕ
   pub rooms : List (Named ℕ)
@@ -31,7 +31,7 @@ abbrev pub value_or : Option ℕ → ℕ → ℕ
 value_or None other = other
 value_or (Some value) other = value
 
--- the room of a sink under a name: the newest that was set for it, or else that of all
+-- the room of a sink or a post under a name: the newest that was set for it, or else that of all
 abbrev pub room_for : NamedSettings → List ℕ → ℕ
 room_for it name = value_or (newest it.rooms name) it.room
 

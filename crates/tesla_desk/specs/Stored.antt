@@ -1,12 +1,12 @@
 -- What a desk in memory keeps.
 use Rattle.std.specs.Prelude.{ℕ, List, [], ◌∷◌, ◌++◌, Option, Some, None, option_map, drop, bytes_eq, if◌then◌else◌}
-use Rattle.tesla_desk.specs.Outside.{Page, Absent, Holds, Opening, OfSource, OfSink, OfLink}
+use Rattle.tesla_desk.specs.Outside.{Page, Absent, Holds, Opening, OfSource, OfSink, OfLink, OfPost}
 use Rattle.tesla_desk.specs.declared.entries.Entries.{Entries, Empty, Newest'}
 use Rattle.tesla_desk.specs.declared.entries.Named.{Named}
 use Rattle.tesla_desk.specs.declared.stored.StoredPage.{StoredPage}
 use Rattle.tesla_desk.specs.declared.stored.StoredRest.{StoredRest}
 use Rattle.tesla_desk.specs.declared.stored.AskedOpening.{AskedOpening}
-use Rattle.tesla_desk.specs.declared.stored.AskedOpening.TheVariants.{Source, Sink, Link}
+use Rattle.tesla_desk.specs.declared.stored.AskedOpening.TheVariants.{Source, Sink, Link, Post}
 
 -- the entries, the newest first
 abbrev pub entries_in : {A : Type 0} → Entries A → List A
@@ -45,6 +45,7 @@ abbrev pub opening_of : AskedOpening → Opening
 opening_of (Source name) = OfSource name
 opening_of (Sink name) = OfSink name
 opening_of (Link name) = OfLink name
+opening_of (Post name) = OfPost name
 
 -- the openings in the order in which they were asked for, from entries of which the newest is the first
 abbrev pub openings_in : List AskedOpening → List Opening

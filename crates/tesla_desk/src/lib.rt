@@ -1,4 +1,4 @@
-//! The outside of the project: sources, sinks and links, clocks and gates, and the desk that opens, makes and closes
+//! The outside of the project: sources, sinks, links and posts, clocks and gates, and the desk that opens, makes and closes
 //! them, with what each tells and how often it failed.
 #![tactic(auto)]
 
@@ -12,13 +12,16 @@ mod heap;
 mod letters;
 mod link;
 mod memory;
+mod outbox;
 mod pages;
+mod post;
 mod readings;
 mod settings;
 mod sink;
 mod source;
 mod stored;
 mod stored_letters;
+mod stored_mail;
 
 pub use clock::Clock;
 pub use desk::{CONSOLE, Desk, OpenRefusal};
@@ -27,7 +30,9 @@ pub use heap::Heap;
 pub use letters::Letters;
 pub use link::{Got, Letter, Link};
 pub use memory::MemoryDesk;
+pub use outbox::Outbox;
 pub use pages::Pages;
+pub use post::{Post, PostStep};
 pub use readings::Readings;
 pub use sink::{Sink, WriteStep, write_all};
 pub use source::{ReadStep, Source};

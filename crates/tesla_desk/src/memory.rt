@@ -1,15 +1,15 @@
 //! A desk in memory.
 
 ghost use Rattle.std.specs.Prelude.{◌≡◌, ◌≢◌, ◌<◌, ◌≤◌, ◌-◌, ◌^◌, ◌∷◌, true, false, List, ℕ, [], Some, IfOk, OnOk, OnErr, is_ok, if◌then◌else◌};
-ghost use Rattle.std.specs.List.{list_all};
+ghost use Rattle.std.specs.List.{list_all, slice_get};
 ghost use Rattle.std.specs.Option.{option_map};
 ghost use Rattle.tesla_desk.specs.Calls.{next_fails, with_failing};
 ghost use Rattle.tesla_desk.specs.Faults.{after_source, after_sink};
 ghost use Rattle.tesla_desk.specs.Links.{fits};
 ghost use Rattle.tesla_desk.specs.Live.{OpenedLink, HoldsWire, clock_told};
-ghost use Rattle.tesla_desk.specs.LiveMemory.{readings_in, with_readings, after_made, letters_left, link_faults_of, link_name_of, remainder_stored, clock_told_of};
-ghost use Rattle.tesla_desk.specs.Memory.{bytes_in, unread, source_name_of, stored_of, read_faults_of, name_of, bytes_of, write_faults_of, page_under, counts_of, live_of, told_by, settings_of, opening_calls_of, rest_of, new_rest, with_clocks, with_settings, with_opening_calls, after_closed, after_counted, after_failed, after_asked, Refuses, refuses_source, NewSource, NewSink, MakesSource, MakesSink, after_closed_link, refuses_link, NewLink, MakesLink};
-ghost use Rattle.tesla_desk.specs.Outside.{Untold, Absent, Holds, Opened, OfSource, OfSink, OfLink, OpensSource, OpensSink, OpensLink, ClosesSource, ClosesSink, ClosesLink, MakesClock};
+ghost use Rattle.tesla_desk.specs.LiveMemory.{readings_in, with_readings, after_made, letters_left, link_faults_of, link_name_of, remainder_stored, clock_told_of, datagrams_in, sent_by, post_faults_of, post_name_of};
+ghost use Rattle.tesla_desk.specs.Memory.{bytes_in, unread, source_name_of, stored_of, read_faults_of, name_of, bytes_of, write_faults_of, page_under, counts_of, live_of, told_by, settings_of, opening_calls_of, rest_of, new_rest, with_clocks, with_settings, with_opening_calls, after_closed, after_counted, after_failed, after_asked, Refuses, refuses_source, NewSource, NewSink, MakesSource, MakesSink, after_closed_link, refuses_link, NewLink, MakesLink, NewPost, MakesPost};
+ghost use Rattle.tesla_desk.specs.Outside.{Untold, Absent, Holds, Opened, OfSource, OfSink, OfLink, OfPost, OpensSource, OpensSink, OpensLink, OpensPost, ClosesSource, ClosesSink, ClosesLink, ClosesPost, MakesClock};
 ghost use Rattle.tesla_desk.specs.Settings.{with_room, with_piece, with_failing_call, room_for, piece_for, failing_for};
 ghost use Rattle.tesla_desk.specs.Stored.{opening_of};
 
@@ -19,11 +19,12 @@ use crate::entries::{Entries, Named, newest_under};
 use crate::settings::Settings;
 use crate::stored::{AskedOpening, StoredPage, StoredPages, StoredRests};
 use crate::stored_letters::{StoredLetters, StoredRemainders};
-use crate::{Desk, Heap, Letter, Letters, OpenGate, OpenRefusal, Pages, Readings};
+use crate::stored_mail::StoredMails;
+use crate::{Desk, Heap, Letter, Letters, OpenGate, OpenRefusal, Outbox, Pages, Readings};
 use std::alloc::Global;
 use tesla_base::{NoMemory, Text};
 
-/// A desk whose pages, letters and readings are in memory. It tells all of them, and the openings that it was asked for.
+/// A desk whose pages, letters, mail and readings are in memory. It tells all of them, and the openings that it was asked for.
 #[derive(Drop)]
 pub struct MemoryDesk {
     alloc: Global,
@@ -37,11 +38,12 @@ pub struct MemoryDesk {
     openings: u64,
     wires: Entries<Named<StoredLetters>>,
     remainders: StoredRemainders,
+    mails: StoredMails,
     clocks: ClockLists,
 }
 
 impl MemoryDesk {
-    /// A desk with no page and no faults, each of whose sinks takes `room` bytes.
+    /// A desk with no page and no faults, each of whose sinks and posts takes `room` bytes.
     pub fn new(alloc: Global, room: usize) -> Result<MemoryDesk, NoMemory>
         ensures pages { IfOk result (λ desk. (n : List ℕ) → page_under desk n ≡ Absent) }
         ensures rest { IfOk result (λ desk. rest_of desk ≡ new_rest room) }
@@ -58,6 +60,7 @@ impl MemoryDesk {
             openings: 0,
             wires: Entries::Empty,
             remainders: Entries::Empty,
+            mails: Entries::Empty,
             clocks: ClockLists::new(),
         })
     }
@@ -92,6 +95,17 @@ impl MemoryDesk {
         }
     }
 
+    /// The datagram with this number, counted from 0, of those that the post sent that was closed last under the name;
+    /// `None` exactly where there is none.
+    pub fn posted(&self, name: &str, number: usize) -> Option<&[u8]>
+        ensures { option_map (λ datagram. datagram.now) result ≡ slice_get (datagrams_in ((told_by self.now).live.mail name.now)) number }
+    {
+        match newest_under(&self.mails, name.as_bytes()) {
+            Some(stored) => stored.datagram(number),
+            None => None,
+        }
+    }
+
     /// Puts a copy of these letters there for links under the name, in the place of what was there.
     pub fn put_letters(&mut self, name: &str, letters: &[Letter]) -> Result<(), NoMemory>
         requires { list_all fits letters.now ≡ true }
@@ -121,7 +135,7 @@ impl MemoryDesk {
         self.clocks.put(self.alloc, clock, list)
     }
 
-    /// Sinks that are opened under the name afterwards take `room` bytes.
+    /// Sinks and posts that are opened under the name afterwards take `room` bytes.
     pub fn set_room(&mut self, name: &str, room: usize) -> Result<(), NoMemory>
         ensures own { OnOk result (room_for (settings_of self.new) name.now ≡ room) }
         ensures others { (n : List ℕ) → n ≢ name.now → room_for (settings_of self.new) n ≡ room_for (settings_of self.old) n }
@@ -142,9 +156,9 @@ impl MemoryDesk {
         self.settings.set_piece(self.alloc, name, most)
     }
 
-    /// The opening with this number fails. Openings of sources, sinks and links count together from 0, in
-    /// the order in which they are asked for; one that finds no memory is not counted. An opening after
-    /// number 2^64 - 2 has no number.
+    /// The opening with this number fails. Openings of sources, sinks, links and posts count together from 0,
+    /// in the order in which they are asked for; one that finds no memory is not counted. An opening
+    /// after number 2^64 - 2 has no number.
     pub fn fail_open(&mut self, call: u64) -> Result<(), NoMemory>
         ensures pages { (n : List ℕ) → page_under self.new n ≡ page_under self.old n }
         ensures rest { rest_of self.new ≡ (if is_ok result then with_opening_calls (with_failing call) (rest_of self.old) else rest_of self.old) }
@@ -152,7 +166,7 @@ impl MemoryDesk {
         self.calls.fail(call)
     }
 
-    /// The call with this number fails of each source, sink and link that is opened under the name
+    /// The call with this number fails of each source, sink, link and post that is opened under the name
     /// afterwards. The calls of each count from 0; one after number 2^64 - 2 has no number.
     pub fn fail_call(&mut self, name: &str, call: u64) -> Result<(), NoMemory>
         ensures own { OnOk result (failing_for (settings_of self.new) name.now ≡ call ∷ failing_for (settings_of self.old) name.now) }
@@ -205,6 +219,18 @@ impl MemoryDesk {
         Ok(Some(Letters::new(self.alloc, name, letters, calls)?))
     }
 
+    // A post under the name, unless the next opening fails.
+    fn post_of(&self, name: &str) -> Result<Option<Outbox>, NoMemory>
+        ensures { IfOk result (λ made. MakesPost self.now name.now made) }
+    {
+        if self.calls.next_fails() {
+            return Ok(None);
+        }
+        let calls = self.settings.calls(self.alloc, name)?;
+        let room = self.settings.room(name);
+        Ok(Some(Outbox::new(self.alloc, name, room, calls)?))
+    }
+
     // Enters an opening and counts it. The box was made before, so that this takes no memory.
     fn enter(&mut self, asked: AskedOpening, spare: Box<Entries<AskedOpening>>)
         ensures pages { (n : List ℕ) → page_under self.new n ≡ page_under self.old n }
@@ -231,6 +257,8 @@ impl Desk for MemoryDesk {
     type Out = Heap;
 
     type Wire = Letters;
+
+    type Port = Outbox;
 
     type Time = Readings;
 
@@ -331,6 +359,38 @@ impl Desk for MemoryDesk {
             self.reads = self.reads.saturating_add(1);
         }
         self.remainders.put(remainder, spare);
+    }
+
+    /// `Failed` exactly where the number of the opening is listed.
+    fn open_post(&mut self, name: &str) -> Result<Outbox, OpenRefusal>
+        ensures empty { IfOk result (λ it. sent_by it ≡ []) }
+        ensures fresh { IfOk result (λ it. post_faults_of it ≡ 0) }
+        ensures named { IfOk result (λ it. post_name_of it ≡ name.now) }
+        ensures desk { OpensPost name.now result (told_by self.old) (told_by self.new) }
+        ensures exact { Refuses (next_fails (opening_calls_of self.old)) result }
+        ensures set { IfOk result (λ it. NewPost self.old name.now it) }
+        ensures rest { rest_of self.new ≡ after_asked (OfPost name.now) result (rest_of self.old) }
+    {
+        let spare = Entries::spare(self.alloc)?;
+        let asked = AskedOpening::Post(Text::new(self.alloc, name.as_bytes())?);
+        let made = self.post_of(name)?;
+        self.enter(asked, spare);
+        match made {
+            Some(it) => Ok(it),
+            None => Err(self.refuse()),
+        }
+    }
+
+    fn close_post(&mut self, it: Outbox)
+        ensures desk { ClosesPost (post_name_of it) (Some (sent_by it)) (post_faults_of it) (told_by self.old) (told_by self.new) }
+        ensures counts { counts_of self.new ≡ after_sink (counts_of self.old) (post_faults_of it) }
+        ensures rest { rest_of self.new ≡ record (rest_of self.old) { counts = counts_of self.new; mails = (rest_of self.new).mails } }
+    {
+        let (mail, spare) = it.close();
+        if mail.value.failed {
+            self.writes = self.writes.saturating_add(1);
+        }
+        self.mails.put(mail, spare);
     }
 
     fn clock(&mut self) -> Readings

@@ -30,7 +30,7 @@ impl Model for Settings {
 }
 
 impl Settings {
-    /// Nothing said of any name. Sinks have this room.
+    /// Nothing said of any name. Sinks and posts have this room.
     pub fn new(room: usize) -> Settings
         ensures { result ≡ no_settings room }
     {
@@ -42,7 +42,7 @@ impl Settings {
         }
     }
 
-    /// Sets the room of sinks under the name.
+    /// Sets the room of sinks and posts under the name.
     pub fn set_room(&mut self, alloc: Global, name: &str, room: usize) -> Result<(), NoMemory>
         ensures { self.new ≡ (if is_ok result then with_room name.now room self.old else self.old) }
     {
@@ -57,14 +57,14 @@ impl Settings {
         put_under(&mut self.pieces, alloc, name, most)
     }
 
-    /// Lets the call with this number fail, of each source and sink under the name.
+    /// Lets the call with this number fail, of each source, sink, link and post under the name.
     pub fn fail_call(&mut self, alloc: Global, name: &str, call: u64) -> Result<(), NoMemory>
         ensures { self.new ≡ (if is_ok result then with_failing_call name.now call self.old else self.old) }
     {
         put_under(&mut self.failing, alloc, name, call)
     }
 
-    /// How many bytes a sink under the name takes.
+    /// How many bytes a sink or a post under the name takes.
     pub fn room(&self, name: &str) -> usize
         ensures { result ≡ room_for self.now name.now }
     {
@@ -85,7 +85,7 @@ impl Settings {
         }
     }
 
-    /// The calls of a source or a sink under the name.
+    /// The calls of a source, a sink, a link or a post under the name.
     pub fn calls(&self, alloc: Global, name: &str) -> Result<Calls, NoMemory>
         ensures { IfOk result (λ calls. calls ≡ new_calls (failing_for self.now name.now)) }
     {

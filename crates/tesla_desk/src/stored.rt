@@ -29,4 +29,5 @@ pub enum AskedOpening {
     Source(Text),
     Sink(Text),
     Link(Text),
+    Post(Text),
 }

@@ -3,7 +3,7 @@ use Rattle.std.proofs.Common.{◌≡◌, ◌∙◌, ◌≢◌, ◌⊎◌, inl, i
 use Rattle.std.proofs.lemmas.Bool.Decides.{nat_tests}
 use Rattle.tesla_desk.specs.Live.{Live}
 use Rattle.tesla_desk.specs.Faults.{Faults, HasCausesBeside, after_sink}
-use Rattle.tesla_desk.specs.Outside.{Page, Holds, Told, Opening, OfSink, OpensSink, ClosesSink, with_opening, with_openings, page_of}
+use Rattle.tesla_desk.specs.Outside.{Page, Holds, Told, Opening, OfSink, OfPost, OpensSink, ClosesSink, with_opening, with_openings, page_of}
 use Rattle.tesla_desk.specs.declared.desk.OpenRefusal.{OpenRefusal}
 use Rattle.tesla_desk.specs.declared.desk.OpenRefusal.TheVariants as refused
 use Rattle.tesla_desk.proofs.Counts.{cause_as}
@@ -12,7 +12,7 @@ use Rattle.tesla_front.specs.Came.{Came, Usage, Failed, text_of}
 use Rattle.tesla_front.specs.Command.{Command, Performs, RunsAs}
 use Rattle.tesla_front.specs.Console.{Shows, Tells}
 use Rattle.tesla_front.specs.Fault.{unopened}
-use Rattle.tesla_front.specs.Files.{HasFailed}
+use Rattle.tesla_front.specs.Files.{HasFailed, HasFailedMail}
 use Rattle.tesla_front.specs.Openings.{AnyFailed, AreFiles, File, files_told}
 use Rattle.tesla_front.specs.Run.{HasConsole, HasNoConsole, IsDoneAs, Runs, TellsUsage, console}
 use Rattle.tesla_front.specs.declared.fault.Fault.TheVariants as faults
@@ -101,12 +101,14 @@ refused_run usage old opened done new came told written failed it is still =
       shows = shown usage old opened opened new Usage told written failed one;
     }
 
--- an output that failed is none whose page the console's closing changes
-failed_stays : (files : List Opening) (done new : Told) → AreFiles files → ((name : List ℕ) → name ≢ codes "-" → new.page name ≡ done.page name) → AnyFailed files done → AnyFailed files new
-failed_stays [] done new named pages failed = failed
-failed_stays (OfSink name ∷ files) done new named pages (inl own) = inl (subst (λ (p : Page). HasFailed p) (sym (pages name named.0)) own)
-failed_stays (OfSink name ∷ files) done new named pages (inr others) = inr (failed_stays files done new named.1 pages others)
-failed_stays (opening ∷ files) done new named pages failed = failed_stays files done new named.1 pages failed
+-- an output that failed is none whose page or mail the console's closing changes
+failed_stays : (files : List Opening) (done new : Told) → AreFiles files → ((name : List ℕ) → name ≢ codes "-" → new.page name ≡ done.page name) → new.live ≡ done.live → AnyFailed files done → AnyFailed files new
+failed_stays [] done new named pages live failed = failed
+failed_stays (OfSink name ∷ files) done new named pages live (inl own) = inl (subst (λ (p : Page). HasFailed p) (sym (pages name named.0)) own)
+failed_stays (OfSink name ∷ files) done new named pages live (inr others) = inr (failed_stays files done new named.1 pages live others)
+failed_stays (OfPost name ∷ files) done new named pages live (inl own) = inl (subst (λ (l : Live). HasFailedMail (l.mail name)) (sym live) own)
+failed_stays (OfPost name ∷ files) done new named pages live (inr others) = inr (failed_stays files done new named.1 pages live others)
+failed_stays (opening ∷ files) done new named pages live failed = failed_stays files done new named.1 pages live failed
 
 wider : (files : List Opening) (came : Came) (old counts : Faults) (done new : Told) → (AnyFailed files done → AnyFailed files new)
     → HasCausesBeside ((came ≡ Failed faults.Read) × AnyFailed files done) old counts (came ≡ Failed faults.Read) (came ≡ Failed faults.Write) (came ≡ Failed faults.Open)
@@ -127,7 +129,7 @@ done_run command usage arguments old opened done new came told written failed it
   does = subst (λ (files : List File). command.Does arguments performs.opened files (files_told new (command.files arguments)) came) (files_same (command.files arguments) old opened performs.named it.pages it.lefts)
       (subst (λ (files : List File). command.Does arguments performs.opened (files_told opened (command.files arguments)) files came) (sym (files_same (command.files arguments) done new performs.named it.closes.pages it.closes.lefts)) performs.does);
   before_console = done.faults;
-  counts = wider (command.files arguments) came old.faults done.faults done new (failed_stays (command.files arguments) done new performs.named it.closes.pages)
+  counts = wider (command.files arguments) came old.faults done.faults done new (failed_stays (command.files arguments) done new performs.named it.closes.pages it.closes.live)
       (subst (λ (f : Faults). HasCausesBeside ((came ≡ Failed faults.Read) × AnyFailed (command.files arguments) done) f done.faults (came ≡ Failed faults.Read) (came ≡ Failed faults.Write) (came ≡ Failed faults.Open)) it.counts performs.counts);
   failed = failed;
   closed = it.closes.counts;

@@ -1,5 +1,6 @@
 -- Files that are opened and read.
 use Rattle.std.specs.Prelude.{◌≡◌, ◌≢◌, ℕ, ◌+◌, ◌≤◌, true, Option, IfSome, Result, Ok, Err, List, [], ◌++◌, length, take}
+use Rattle.tesla_desk.specs.Live.{Mail, UntoldMail, AbsentMail, HoldsMail}
 use Rattle.tesla_desk.specs.Outside.{Page, Untold, Absent, Holds, after_bytes}
 use Rattle.tesla_front.specs.Came.{Came, Refused, Failed}
 use Rattle.tesla_front.specs.declared.fault.Fault.{Fault}
@@ -16,6 +17,12 @@ abbrev pub HasFailed : Page → Type 0
 HasFailed Untold = Unit {0}
 HasFailed Absent = ⊥
 HasFailed (Holds bytes failed) = failed ≡ true
+
+-- the post that was closed last under the name failed, where that is told
+abbrev pub HasFailedMail : Mail → Type 0
+HasFailedMail UntoldMail = Unit {0}
+HasFailedMail AbsentMail = ⊥
+HasFailedMail (HoldsMail sent failed) = failed ≡ true
 
 -- why a file isn't taken: there is one, and where its text is told this is why; or something else went wrong, but no write
 abbrev pub IsRefusedIn : Page → (List ℕ → Came → Type 0) → Came → Type 0

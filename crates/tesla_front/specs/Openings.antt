@@ -1,13 +1,14 @@
 -- The files of a command: which were asked to be opened, and what is told of them.
 use Rattle.std.specs.Prelude.{◌≡◌, ◌≢◌, ◌⊎◌, ℕ, ◌≤◌, Option, List, [], ◌∷◌, length, map, take, codes}
-use Rattle.tesla_desk.specs.Outside.{Page, Opening, OfSource, OfSink, OfLink, Told, with_openings}
-use Rattle.tesla_front.specs.Files.{HasFailed}
+use Rattle.tesla_desk.specs.Outside.{Page, Opening, OfSource, OfSink, OfLink, OfPost, Told, with_openings}
+use Rattle.tesla_front.specs.Files.{HasFailed, HasFailedMail}
 
 -- the name of an opening
 abbrev pub name_of : Opening → List ℕ
 name_of (OfSource name) = name
 name_of (OfSink name) = name
 name_of (OfLink name) = name
+name_of (OfPost name) = name
 
 -- the opening is one of these
 abbrev pub IsAmong : Opening → List Opening → Type 0
@@ -48,3 +49,4 @@ AnyFailed [] told = ⊥
 AnyFailed (OfSource name ∷ others) told = AnyFailed others told
 AnyFailed (OfLink name ∷ others) told = AnyFailed others told
 AnyFailed (OfSink name ∷ others) told = HasFailed (told.page name) ⊎ AnyFailed others told
+AnyFailed (OfPost name ∷ others) told = HasFailedMail (told.live.mail name) ⊎ AnyFailed others told

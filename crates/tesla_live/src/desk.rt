@@ -1,14 +1,14 @@
 //! The desk of the running system.
 
 ghost use Rattle.std.specs.Prelude.{◌≡◌, None};
-ghost use Rattle.tesla_desk.specs.Faults.{HasCause, no_faults};
+ghost use Rattle.tesla_desk.specs.Faults.{HasCause, no_faults, raised_where_failed};
 ghost use Rattle.tesla_desk.specs.Live.{untold};
 ghost use Rattle.tesla_desk.specs.Outside.{Untold};
 
 use crate::files::OpenedFiles;
 use crate::gate::{Gates, LiveGate};
 use crate::sink::Target;
-use crate::{FileSink, FileSource, MachineClock, UdpLink, link};
+use crate::{FileSink, FileSource, MachineClock, UdpLink, UdpPost, link, post};
 use std::io;
 use std::net::Net;
 use std::rt::Files;
@@ -17,8 +17,8 @@ use std::time::Clock;
 use tesla_base::Text;
 use tesla_desk::{CONSOLE, Desk, OpenRefusal};
 
-/// The files of the system, standard output under the name of the console, UDP sockets as links, the system's clock, and
-/// gates that wake one another. It tells no bytes, no letters and no readings.
+/// The files of the system, standard output under the name of the console, UDP sockets as links and posts, the system's
+/// clock, and gates that wake one another. It tells no bytes, no letters, no mail and no readings.
 ///
 /// A regular file that it opened before, or that is standard output, is refused as a sink, whatever the
 /// name, and is neither cut nor written.
@@ -61,6 +61,8 @@ where
 
     type Wire = UdpLink;
 
+    type Port = UdpPost;
+
     type Time = MachineClock<'a, R>;
 
     type Pause = LiveGate<'a, R>;
@@ -94,23 +96,28 @@ where
         }
     }
 
-    fn close_source(&mut self, it: FileSource<R::File>) {
-        if 0 < it.into_faults() {
-            self.reads = self.reads.saturating_add(1);
+    fn open_post(&mut self, name: &str) -> Result<UdpPost, OpenRefusal> {
+        let post_name = Text::new(self.rt.alloc(), name.as_bytes())?;
+        match post::direct(self.rt, name) {
+            Ok(directed) => Ok(UdpPost::new(post_name, directed)),
+            Err(error) => Err(refusal_of(&mut self.openings, error)),
         }
+    }
+
+    fn close_source(&mut self, it: FileSource<R::File>) {
+        count_failed(&mut self.reads, it.into_faults());
     }
 
     fn close_sink(&mut self, it: FileSink<'a, R>) {
-        if 0 < it.into_faults() {
-            self.writes = self.writes.saturating_add(1);
-        }
+        count_failed(&mut self.writes, it.into_faults());
     }
 
     fn close_link(&mut self, it: UdpLink) {
-        let failed = 0 < it.into_faults();
-        if failed {
-            self.reads = self.reads.saturating_add(1);
-        }
+        count_failed(&mut self.reads, it.into_faults());
+    }
+
+    fn close_post(&mut self, it: UdpPost) {
+        count_failed(&mut self.writes, it.into_faults());
     }
 
     fn clock(&mut self) -> MachineClock<'a, R> {
@@ -119,6 +126,15 @@ where
 
     fn gate(&mut self) -> LiveGate<'a, R> {
         LiveGate::new(self.rt, self.gates)
+    }
+}
+
+// Counts an object that failed, by how often it did.
+fn count_failed(count: &mut u64, faults: u64)
+    ensures { count.new ≡ raised_where_failed faults count.old }
+{
+    if 0 < faults {
+        *count = count.saturating_add(1);
     }
 }
 

@@ -4,7 +4,7 @@ use Rattle.std.specs.List.{list_any}
 use Rattle.std.proofs.lemmas.Bool.Decides.{nat_tests}
 use Rattle.tesla_desk.specs.Faults.{Faults, HasCause, HasCauses, HasCausesBeside, CountsOpening, after_source, after_sink}
 use Rattle.tesla_desk.specs.Live.{Wire}
-use Rattle.tesla_desk.specs.Outside.{Told, Page, Opening, OfSource, OfSink, OfLink, MakesClock, page_of}
+use Rattle.tesla_desk.specs.Outside.{Told, Page, Opening, OfSource, OfSink, OfLink, OfPost, MakesClock, page_of}
 use Rattle.tesla_desk.specs.declared.desk.OpenRefusal.{OpenRefusal}
 use Rattle.tesla_desk.specs.declared.desk.OpenRefusal.TheVariants as refusals
 use Rattle.tesla_desk.proofs.Counts.{cause_as, cause_none, cause_plain, causes_both, causes_opening, causes_plain, causes_sink, causes_source, causes_then, counts_stay}
@@ -157,6 +157,7 @@ abbrev pub AreApart : List Opening → Type 0
 AreApart [] = Unit {0}
 AreApart (OfSource name ∷ others) = AreApart others
 AreApart (OfLink name ∷ others) = AreApart others
+AreApart (OfPost name ∷ others) = AreApart others
 AreApart (OfSink name ∷ others) = (IsAmong (OfSink name) others → ⊥) × AreApart others
 
 none_among : (name : List ℕ) (releaser : ℕ) (names : List (List ℕ)) → IsNoneOf name names → IsAmong (OfSink name) (map opening_for (sinks_wanted releaser names)) → ⊥
@@ -211,6 +212,8 @@ any_failed (OfSource own ∷ others) now name (inl same) failed = absurd cc
 any_failed (OfSource own ∷ others) now name (inr among) failed = any_failed others now name among failed
 any_failed (OfLink own ∷ others) now name (inl same) failed = absurd cc
 any_failed (OfLink own ∷ others) now name (inr among) failed = any_failed others now name among failed
+any_failed (OfPost own ∷ others) now name (inl same) failed = absurd cc
+any_failed (OfPost own ∷ others) now name (inr among) failed = inr (any_failed others now name among failed)
 any_failed (OfSink own ∷ others) now name (inl same) failed = inl (let is : name ≡ own = cc in subst (λ (n : List ℕ). HasFailed (now.page n)) is failed)
 any_failed (OfSink own ∷ others) now name (inr among) failed = inr (any_failed others now name among failed)
 

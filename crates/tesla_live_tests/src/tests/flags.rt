@@ -11,7 +11,7 @@ use std::sync::atomic::Ordering::SeqCst;
 use std::test::*;
 use std::thread::{Threads, yield_now};
 use tesla_cli_live::run_live;
-use tesla_desk::{Desk, Gate, Heap, Letters, MemoryDesk, OpenRefusal, Pages, Readings};
+use tesla_desk::{Desk, Gate, Heap, Letters, MemoryDesk, OpenRefusal, Outbox, Pages, Readings};
 
 /// How many workers there are.
 const WORKERS: u64 = 4;
@@ -71,6 +71,8 @@ impl<'a> Desk for FlagDesk<'a> {
 
     type Wire = Letters;
 
+    type Port = Outbox;
+
     type Time = Readings;
 
     type Pause = FlagGate<'a>;
@@ -99,6 +101,14 @@ impl<'a> Desk for FlagDesk<'a> {
 
     fn close_link(&mut self, it: Letters) {
         self.desk.close_link(it);
+    }
+
+    fn open_post(&mut self, name: &str) -> Result<Outbox, OpenRefusal> {
+        self.desk.open_post(name)
+    }
+
+    fn close_post(&mut self, it: Outbox) {
+        self.desk.close_post(it);
     }
 
     fn clock(&mut self) -> Readings {

@@ -6,8 +6,8 @@ use std::test::*;
 use tesla_base::NoMemory;
 use tesla_desk::*;
 
-/// Lines of words, each behind a comma, and what the calls of a source, a sink, a link or a clock in them answer.
-const ROWS: [(&str, &str); 9] = [
+/// Lines of words, each behind a comma, and what the calls of a source, a sink, a link, a post or a clock in them answer.
+const ROWS: [(&str, &str); 13] = [
     ("page from abcdef,read from", "4 2 end end end "),
     (
         "page from abcdef,fails 1 from,read from",
@@ -18,7 +18,10 @@ const ROWS: [(&str, &str); 9] = [
         "room 3 small,write small,write other,read other",
         "3 0 4 1 4 1 end end end ",
     ),
-    ("fails 0 to,write to,read to", "failed 1 failed 1 end end end "),
+    (
+        "fails 0 to,write to,read to",
+        "failed 1 failed 1 end end end ",
+    ),
     ("piece 2 to,write to", "2 1 "),
     ("read nothing,link nothing", "unopened unopened "),
     (
@@ -28,6 +31,22 @@ const ROWS: [(&str, &str); 9] = [
     (
         "letters link,fails 1 link,link link,clock,clock,clock",
         "quiet failed 2 end 1 2 3 7 9 9 0 0 0 ",
+    ),
+    (
+        "post to,posted to,posted nothing",
+        "sent sent sent 4 0 2 none none none none none ",
+    ),
+    (
+        "room 5 to,post to,posted to",
+        "sent sent failed 4 0 none none ",
+    ),
+    (
+        "post to,fails 0 to,post to,posted to",
+        "sent sent sent failed sent sent 0 2 none none ",
+    ),
+    (
+        "unopened 1,post to,post to,posted to",
+        "sent sent sent unopened 4 0 2 none ",
     ),
 ];
 
@@ -90,6 +109,33 @@ fn hears<D: Desk>(desk: &mut D, name: &str, told: &mut String) -> Result<(), Fai
     Ok(())
 }
 
+// Adds what three calls of a new post answer, with 4 bytes, with none and with 2.
+fn posts<D: Desk>(desk: &mut D, name: &str, told: &mut String) -> Result<(), Fail> {
+    let Ok(mut post) = desk.open_post(name) else {
+        return Ok(told.push_str("unopened ")?);
+    };
+    let steps = [post.send(b"abcd"), post.send(b""), post.send(b"ef")];
+    desk.close_post(post);
+    for step in steps {
+        match step {
+            PostStep::Sent => told.push_str("sent ")?,
+            PostStep::Failed => told.push_str("failed ")?,
+        }
+    }
+    Ok(())
+}
+
+// Adds the lengths of the first four datagrams that a closed post sent.
+fn posted(desk: &MemoryDesk, name: &str, told: &mut String) -> Result<(), Fail> {
+    for number in 0..4 {
+        match desk.posted(name, number) {
+            Some(datagram) => write!(told, "{} ", datagram.len())?,
+            None => told.push_str("none ")?,
+        }
+    }
+    Ok(())
+}
+
 // Adds three readings of a new clock.
 fn ticks<D: Desk>(desk: &mut D, told: &mut String) -> Result<(), Fail> {
     let mut clock = desk.clock();
@@ -131,6 +177,8 @@ fn does(alloc: Global, desk: &mut MemoryDesk, line: &str, told: &mut String) -> 
         "read" => return reads(desk, rest, told),
         "write" => return writes(desk, rest, told),
         "link" => return hears(desk, rest, told),
+        "post" => return posts(desk, rest, told),
+        "posted" => return posted(desk, rest, told),
         "clock" => return ticks(desk, told),
         "letters" => return Ok(put_letters(alloc, desk, rest)?),
         _ => {}
@@ -162,5 +210,15 @@ fn a_page_is_what_was_written(rt: HostRuntime) -> Result<(), Fail> {
     writes(&mut desk, "to", &mut told)?;
     assert_eq!(rt; desk.page("to"), Some(b"abcde".as_slice()));
     assert!(rt; desk.page("nothing").is_none());
+    Ok(())
+}
+
+#[test]
+fn mail_is_what_was_sent(rt: HostRuntime) -> Result<(), Fail> {
+    let mut desk = new_desk(rt.alloc())?;
+    let mut told = String::new(rt.alloc());
+    posts(&mut desk, "to", &mut told)?;
+    assert_eq!(rt; desk.posted("to", 0), Some(b"abcd".as_slice()));
+    assert_eq!(rt; desk.posted("to", 2), Some(b"ef".as_slice()));
     Ok(())
 }

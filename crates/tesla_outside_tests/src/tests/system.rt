@@ -3,6 +3,7 @@
 mod clocks;
 mod gates;
 mod links;
+mod posts;
 mod recording;
 
 use recording::Recording;
