@@ -32,6 +32,7 @@ touches_nothing : (link : List ℕ) (before now : Live) → now ≡ before → T
 touches_nothing link before now same = record {
   wires = λ name. ap (λ (l : Live). l.wire name) same;
   others = λ name other. ap (λ (l : Live). l.left name) same;
+  mails = λ name. ap (λ (l : Live). l.mail name) same;
   readings = ap (λ (l : Live). l.readings) same;
 }
 
@@ -102,6 +103,7 @@ touches_closed : (link : List ℕ) (left : Option (List Letter)) (missed : ℕ) 
 touches_closed link left missed before mid now touches closes = record {
   wires = λ name. closes.wires name ∙ touches.wires name;
   others = λ name other. closes.others name other ∙ touches.others name other;
+  mails = λ name. closes.mails name ∙ touches.mails name;
   readings = closes.clocks.0 ∙ touches.readings;
 }
 
@@ -173,6 +175,7 @@ module _ (arguments : CaptureArguments) (left : Option (List Letter)) (written :
       let closed : runs.between.live ≡ runs.made.live = runs.sink_closed.live in record {
         wires = λ name. runs.link_closed.wires name ∙ ap (λ (l : Live). l.wire name) closed ∙ ap (λ (t : Told). t.live.wire name) runs.makes ∙ ap (λ (l : Live). l.wire name) same;
         others = λ name other. runs.link_closed.others name other ∙ ap (λ (l : Live). l.left name) closed ∙ ap (λ (t : Told). t.live.left name) runs.makes ∙ ap (λ (l : Live). l.left name) same;
+        mails = λ name. runs.link_closed.mails name ∙ ap (λ (l : Live). l.mail name) closed ∙ ap (λ (t : Told). t.live.mail name) runs.makes ∙ ap (λ (l : Live). l.mail name) same;
         readings = runs.link_closed.clocks.0 ∙ ap (λ (l : Live). l.readings) closed ∙ ap (λ (t : Told). t.live.readings) runs.makes ∙ ap (λ (l : Live). l.readings) same;
       }
 

@@ -86,10 +86,11 @@ pub record Captures (arguments : CaptureArguments) (before now : Live) (out : Pa
 
 -- ---- the command
 
--- what is told of links and clocks is as before, but for what is left of this link and how many clocks were made
+-- what is told of links, posts and clocks is as before, but for what is left of this link and how many clocks were made
 pub record TouchesLink (link : List ℕ) (before now : Live) : Type 0 where
   pub wires : (name : List ℕ) → now.wire name ≡ before.wire name
   pub others : (name : List ℕ) → name ≢ link → now.left name ≡ before.left name
+  pub mails : (name : List ℕ) → now.mail name ≡ before.mail name
   pub readings : now.readings ≡ before.readings
 
 -- what the run does: nothing was received; or both were opened, and what the link brought was recorded
