@@ -2,8 +2,9 @@
 use Rattle.std.proofs.Common.{◌≡◌, ◌∙◌, ◌⊎◌, inl, inr, ℕ, ◌+◌, ◌<◌, ◌≤◌, Bool, true, false, Result, Ok, Err, List, [], ◌∷◌, ◌++◌, length, map, take, Option, IfSome, refl, sym, ap, subst, append_assoc, arith}
 use Rattle.std.proofs.Math.Seq.{take-append-add}
 use Rattle.std.proofs.lemmas.List.{length-append}
+use Rattle.std.specs.List.{AllByRecursion}
 use Rattle.std.specs.Prelude.{flat_map}
-use Rattle.tesla_capture.specs.Capture.{Arrives, Takes, head, limit, record_text}
+use Rattle.tesla_capture.specs.Capture.{Arrives, Takes, IsRecord, head, limit, record_text}
 use Rattle.tesla_capture.specs.Gathering.{gathered}
 use Rattle.tesla_desk.specs.Clocks.{Ticking}
 use Rattle.tesla_desk.specs.Faults.{Rose}
@@ -14,7 +15,7 @@ use Rattle.tesla_desk.proofs.Told.{with_bytes_twice, with_more}
 use Rattle.tesla_front.specs.declared.fault.Fault.{Fault}
 use Rattle.tesla_front.specs.declared.fault.Fault.TheVariants as faults
 use Rattle.tesla_run_capture.specs.Readings.{Gives}
-use Rattle.tesla_run_capture.specs.Heard.{BreaksOff, Heard, IsFull, piece_of, pieces_of, reading_of, records_in, text_of}
+use Rattle.tesla_run_capture.specs.Heard.{BreaksOff, Heard, IsFull, IsHeard, piece_of, pieces_of, reading_of, records_in, records_of, text_of}
 use Rattle.tesla_run_capture.specs.Recording.{ComesTo, HearsLast, HearsOn, Records, RecordsFile}
 use Rattle.tesla_run_capture.specs.declared.recorder.Recorder.{Recorder}
 use Rattle.tesla_run_capture.proofs.Given.{letters_none, read_where}
@@ -37,6 +38,11 @@ text_size heard = ap (λ (t : List ℕ). length t) (text_is heard) ∙ length-ap
 few_heard : (heard : List Heard) → length heard ≤ length (pieces_of heard)
 few_heard [] = omega arith
 few_heard (one ∷ heard) = omega (arith, few_heard heard, length-append (piece_of one) (pieces_of heard), length-append (record_text (Arrives one.reading one.bytes)) (record_text Takes))
+
+-- the records of what was heard have the limits
+all_records : (heard : List Heard) → AllByRecursion IsHeard heard → AllByRecursion IsRecord (records_of heard)
+all_records [] all = tt
+all_records (one ∷ heard) all = (all.0, (tt, all_records heard all.1))
 
 -- ---- behind the head
 
@@ -129,7 +135,7 @@ filed result left later readings made before after written mid kept failed clock
   left_is = records.hears.left_is;
   heard_are = records.hears.heard_are;
   clock = read_where records.heard readings made after (omega (arith, records.fits, text_size records.heard, few_heard records.heard)) (subst (λ (b : Option Ticking). Gives (map reading_of records.heard) b after) clock records.hears.gives);
-  fits = records.fits;
+  is_capture = record { limits = all_records records.heard records.hears.limits; spelled = refl; fits = records.fits };
   comes = comes_after result records.heard later written mid kept failed first records.comes;
 }
 
@@ -141,6 +147,6 @@ filed_nothing left readings made written kept failed front = record {
   left_is = letters_none left;
   heard_are = refl;
   clock = read_where [] readings made (clock_told readings made) (omega arith) refl;
-  fits = omega arith;
+  is_capture = record { limits = tt; spelled = refl; fits = omega arith };
   comes = record { front = front; few = omega arith };
 }

@@ -1,5 +1,6 @@
 -- The readings that a clock gives, and what is heard with them.
 use Rattle.std.proofs.Common.{◌≡◌, ◌∙◌, ℕ, ◌+◌, ◌-◌, ◌^◌, ◌<◌, List, [], ◌∷◌, ◌++◌, length, map, Option, Some, None, refl, sym, ap, subst, append_assoc, append-nil, arith}
+use Rattle.std.specs.List.{AllByRecursion}
 use Rattle.std.proofs.lemmas.List.{length-append, length-map, map-append}
 use Rattle.std.proofs.lemmas.List.Concat.{flat_map-append}
 use Rattle.tesla_desk.specs.Clocks.{Ticking, Ticks, next_reading}
@@ -8,7 +9,7 @@ use Rattle.tesla_desk.specs.Live.{clock_told}
 use Rattle.tesla_desk.specs.declared.link.Letter.{Letter}
 use Rattle.tesla_desk.specs.declared.link.Letter.TheVariants as letters
 use Rattle.tesla_run_capture.specs.Readings.{Gives, readings_from}
-use Rattle.tesla_run_capture.specs.Heard.{Heard, ReadWhere, bytes_of, reading_of}
+use Rattle.tesla_run_capture.specs.Heard.{Heard, IsHeard, ReadWhere, bytes_of, reading_of}
 use Rattle.tesla_run_capture.specs.Recording.{Hears}
 
 -- ---- readings
@@ -40,6 +41,11 @@ read_where heard (Some readings) (Some made) after few gives =
     let size : length (map reading_of heard) ≡ length heard = length-map heard reading_of in
     first_readings (map reading_of heard) (record { ahead = readings made; given = [] }) after (omega (arith, few, size)) gives ∙ ap (λ (n : ℕ). readings_from n (readings made)) size
 
+-- one more has the limits
+all_more : (heard : List Heard) (one : Heard) → AllByRecursion IsHeard heard → IsHeard one → AllByRecursion IsHeard (heard ++ one ∷ [])
+all_more [] one all is = (is, tt)
+all_more (first ∷ heard) one all is = (all.0, all_more heard one all.1 is)
+
 -- ---- letters
 
 letters_twice : (left : Option (List Letter)) (a b : List Letter) → after_letters a (after_letters b left) ≡ after_letters (a ++ b) left
@@ -52,15 +58,16 @@ letters_none (Some rest) = refl
 
 -- nothing was heard
 pub hears_none : (left : Option (List Letter)) (before : Option Ticking) → Hears [] left left before before
-hears_none left before = record { taken = []; left_is = letters_none left; heard_are = refl; gives = refl }
+hears_none left before = record { taken = []; left_is = letters_none left; heard_are = refl; gives = refl; limits = tt }
 
 -- a datagram more
-pub hears_more : (heard : List Heard) (one : Heard) (left now later : Option (List Letter)) (before then after : Option Ticking) → Hears heard left now before then → now ≡ after_letters (letters.Datagram one.bytes ∷ []) later → Ticks then after one.reading → Hears (heard ++ one ∷ []) left later before after
-hears_more heard one left now later before then after hears next ticks = record {
+pub hears_more : (heard : List Heard) (one : Heard) (left now later : Option (List Letter)) (before then after : Option Ticking) → Hears heard left now before then → now ≡ after_letters (letters.Datagram one.bytes ∷ []) later → Ticks then after one.reading → IsHeard one → Hears (heard ++ one ∷ []) left later before after
+hears_more heard one left now later before then after hears next ticks is = record {
   taken = hears.taken ++ letters.Datagram one.bytes ∷ [];
   left_is = hears.left_is ∙ ap (λ (l : Option (List Letter)). after_letters hears.taken l) next ∙ letters_twice later hears.taken (letters.Datagram one.bytes ∷ []);
   heard_are = flat_map-append datagram_in hears.taken (letters.Datagram one.bytes ∷ []) ∙ ap (λ (front : List (List ℕ)). front ++ one.bytes ∷ []) hears.heard_are ∙ sym (map-append bytes_of heard (one ∷ []));
   gives = subst (λ (rs : List ℕ). Gives rs before after) (sym (map-append reading_of heard (one ∷ []))) (gives_more (map reading_of heard) before then after one.reading hears.gives ticks);
+  limits = all_more heard one hears.limits is;
 }
 
 -- a quiet more
@@ -70,4 +77,5 @@ hears_quiet heard left now later before after hears next = record {
   left_is = hears.left_is ∙ ap (λ (l : Option (List Letter)). after_letters hears.taken l) next ∙ letters_twice later hears.taken (letters.Quiet ∷ []);
   heard_are = flat_map-append datagram_in hears.taken (letters.Quiet ∷ []) ∙ append-nil (datagrams hears.taken) ∙ hears.heard_are;
   gives = hears.gives;
+  limits = hears.limits;
 }

@@ -92,7 +92,7 @@ hears_put bytes old new left now later before then after written mid kept on nex
     let one : Heard = record { reading = puts.reading; bytes = bytes } in
     let pieces = pieces_more on.heard one in record {
       heard = on.heard ++ one ∷ [];
-      hears = hears_more on.heard one left now later before then after on.hears next puts.ticks;
+      hears = hears_more on.heard one left now later before then after on.hears next puts.ticks puts.limits;
       keeps = record {
         gathers = subst (λ (t : List ℕ). Gathers written kept (gathered new.gatherer) t) (sym pieces) (gathers_both written mid kept (gathered old.gatherer) (gathered new.gatherer) (pieces_of on.heard) (piece_of one) on.keeps.gathers (puts.put refl));
         count = puts.count refl ∙ omega (arith, on.keeps.count, length-append on.heard (one ∷ []));
@@ -107,7 +107,7 @@ hears_lost bytes old new left now later before then after written mid kept short
     let pieces = pieces_more on.heard one in
     let held = gathered_most old within in record {
       heard = on.heard ++ one ∷ [];
-      hears = hears_more on.heard one left now later before then after on.hears next puts.ticks;
+      hears = hears_more on.heard one left now later before then after on.hears next puts.ticks puts.limits;
       fits = omega (arith, room, short, on.keeps.size, ap (λ (t : List ℕ). length t) pieces, length-append (pieces_of on.heard) (piece_of one), piece_size one);
       breaks = subst (λ (t : List ℕ). BreaksOff t written kept) (sym pieces) (breaks_behind written mid kept (gathered old.gatherer) (pieces_of on.heard) (piece_of one) on.keeps.gathers (puts.front refl) (omega (arith, held, piece_size one, short)));
     }

@@ -81,7 +81,7 @@ captures arguments before now out result left later written kept missed failed o
   heard = records.heard;
   link = subst (λ (r : Option Remainder). LeftWhere records.heard (before.wire arguments.link) r) (sym rest) (left_where records.heard records.taken (before.wire arguments.link) left later missed opened records.left_is records.heard_are);
   clock = records.clock;
-  fits = records.fits;
+  is_capture = records.is_capture;
   ends = subst (λ (r : Option Remainder). EndsAs records.heard r out (came_with result)) (sym rest)
       (subst (λ (p : Page). EndsAs records.heard (remainder_of later missed) p (came_with result)) (sym page) (ends_as result records.heard later written kept missed failed empty write records.comes));
 }

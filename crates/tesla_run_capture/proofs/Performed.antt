@@ -1,6 +1,7 @@
 -- What the command did, from its openings and closings.
 use Rattle.std.proofs.Common.{◌≡◌, ◌∙◌, ◌⊎◌, inl, inr, ◌<◌, ℕ, suc, false, Result, Ok, Err, List, [], ◌∷◌, Option, Some, IfSome, refl, sym, ap, subst}
-use Rattle.tesla_desk.specs.Faults.{Faults, CountsOpening, HasCause, HasCauseBeside, HasCausesBeside, after_sink, after_source}
+use Rattle.std.specs.Option.{option_map}
+use Rattle.tesla_desk.specs.Faults.{raised, Faults, CountsOpening, HasCause, HasCauseBeside, HasCausesBeside, after_sink, after_source}
 use Rattle.tesla_desk.specs.Live.{Live, OpenedLink, Remainder, UntoldWire, AbsentWire, HoldsWire, Wire, remainder_of}
 use Rattle.tesla_desk.specs.Outside.{ClosesLink, ClosesSink, OfLink, OfSink, OpensLink, OpensSink, Told, page_of}
 use Rattle.tesla_desk.specs.declared.desk.OpenRefusal.{OpenRefusal}
@@ -28,12 +29,17 @@ are_files arguments words is = (is.link_is.file, (is.out_is.file, tt))
 
 -- ---- what is told of links and clocks
 
+made_after : (before mid now : Live) → now.made ≡ mid.made → (mid.made ≡ before.made) ⊎ (mid.made ≡ option_map raised before.made) → (now.made ≡ before.made) ⊎ (now.made ≡ option_map raised before.made)
+made_after before mid now same (inl none) = inl (same ∙ none)
+made_after before mid now same (inr one) = inr (same ∙ one)
+
 touches_nothing : (link : List ℕ) (before now : Live) → now ≡ before → TouchesLink link before now
 touches_nothing link before now same = record {
   wires = λ name. ap (λ (l : Live). l.wire name) same;
   others = λ name other. ap (λ (l : Live). l.left name) same;
   mails = λ name. ap (λ (l : Live). l.mail name) same;
   readings = ap (λ (l : Live). l.readings) same;
+  made = inl (ap (λ (l : Live). l.made) same);
 }
 
 -- ---- the link wasn't opened
@@ -105,6 +111,7 @@ touches_closed link left missed before mid now touches closes = record {
   others = λ name other. closes.others name other ∙ touches.others name other;
   mails = λ name. closes.mails name ∙ touches.mails name;
   readings = closes.clocks.0 ∙ touches.readings;
+  made = made_after before.live mid.live now.live closes.clocks.1 touches.made;
 }
 
 pub performs_unfiled : {A B : Type 0} (arguments : CaptureArguments) (it : A) (refusal : OpenRefusal) (fault : Fault) (name : List ℕ) (left : Option (List Letter)) (missed : ℕ) (before mid tried now : Told) → AreFiles (files_of_capture arguments) → fault ≡ unopened refusal → name ≡ arguments.link → missed ≡ 0 → OpenedLink (before.live.wire arguments.link) left → OpensLink {A = A} arguments.link (Ok it) before mid → OpensSink {A = B} arguments.out (Err refusal) mid tried → ClosesLink name left missed tried now → Performs (capture before.live now.live) arguments before now (Failed fault)
@@ -146,7 +153,7 @@ no_open (Err faults.Open) heard text later written kept failed comes e = absurd 
 
 module _ (arguments : CaptureArguments) (left : Option (List Letter)) (written : Option (List ℕ)) (before opened now : Told) (came : Came) (runs : RunsOpened arguments.link arguments.out left written opened now came) where
   made_faults : runs.made.faults ≡ opened.faults
-  made_faults = ap (λ (t : Told). t.faults) runs.makes
+  made_faults = ap (λ (t : Told). t.faults) runs.makes.0
 
   -- the counts rise for what the recording came to
   opened_counts : HasCausesBeside ((came ≡ Failed faults.Read) × AnyFailed (files_of_capture arguments) now) runs.made.faults now.faults (came ≡ Failed faults.Read) (came ≡ Failed faults.Write) (came ≡ Failed faults.Open)
@@ -164,19 +171,20 @@ module _ (arguments : CaptureArguments) (left : Option (List Letter)) (written :
   -- the file was asked to be opened, and it alone has changed
   opened_file : {B : Type 0} (it : B) (mid : Told) → OpensSink {A = B} arguments.out (Ok it) mid opened → Opens (OfSink arguments.out ∷ []) 1 mid now
   opened_file it mid opens =
-      let openings : runs.made.openings ≡ opened.openings = ap (λ (t : Told). t.openings) runs.makes in
+      let openings : runs.made.openings ≡ opened.openings = ap (λ (t : Told). t.openings) runs.makes.0 in
       opens_first (OfSink arguments.out) [] mid now (runs.link_closed.asked ∙ runs.sink_closed.asked ∙ openings ∙ opens.asked)
-      (λ name none. let other = not_first name arguments.out [] none in runs.link_closed.pages name ∙ runs.sink_closed.pages name other ∙ ap (λ (t : Told). t.page name) runs.makes ∙ opens.pages name other)
-      (λ name none. runs.link_closed.lefts name ∙ runs.sink_closed.lefts name ∙ ap (λ (t : Told). t.left name) runs.makes ∙ opens.lefts name)
+      (λ name none. let other = not_first name arguments.out [] none in runs.link_closed.pages name ∙ runs.sink_closed.pages name other ∙ ap (λ (t : Told). t.page name) runs.makes.0 ∙ opens.pages name other)
+      (λ name none. runs.link_closed.lefts name ∙ runs.sink_closed.lefts name ∙ ap (λ (t : Told). t.left name) runs.makes.0 ∙ opens.lefts name)
 
   -- what is told of links has changed for this link alone
   opened_touches : opened.live ≡ before.live → TouchesLink arguments.link before.live now.live
   opened_touches same =
       let closed : runs.between.live ≡ runs.made.live = runs.sink_closed.live in record {
-        wires = λ name. runs.link_closed.wires name ∙ ap (λ (l : Live). l.wire name) closed ∙ ap (λ (t : Told). t.live.wire name) runs.makes ∙ ap (λ (l : Live). l.wire name) same;
-        others = λ name other. runs.link_closed.others name other ∙ ap (λ (l : Live). l.left name) closed ∙ ap (λ (t : Told). t.live.left name) runs.makes ∙ ap (λ (l : Live). l.left name) same;
-        mails = λ name. runs.link_closed.mails name ∙ ap (λ (l : Live). l.mail name) closed ∙ ap (λ (t : Told). t.live.mail name) runs.makes ∙ ap (λ (l : Live). l.mail name) same;
-        readings = runs.link_closed.clocks.0 ∙ ap (λ (l : Live). l.readings) closed ∙ ap (λ (t : Told). t.live.readings) runs.makes ∙ ap (λ (l : Live). l.readings) same;
+        mails = λ name. runs.link_closed.mails name ∙ ap (λ (l : Live). l.mail name) closed ∙ ap (λ (t : Told). t.live.mail name) runs.makes.0 ∙ ap (λ (l : Live). l.mail name) same;
+        wires = λ name. runs.link_closed.wires name ∙ ap (λ (l : Live). l.wire name) closed ∙ ap (λ (t : Told). t.live.wire name) runs.makes.0 ∙ ap (λ (l : Live). l.wire name) same;
+        others = λ name other. runs.link_closed.others name other ∙ ap (λ (l : Live). l.left name) closed ∙ ap (λ (t : Told). t.live.left name) runs.makes.0 ∙ ap (λ (l : Live). l.left name) same;
+        readings = runs.link_closed.clocks.0 ∙ ap (λ (l : Live). l.readings) closed ∙ ap (λ (t : Told). t.live.readings) runs.makes.0 ∙ ap (λ (l : Live). l.readings) same;
+        made = made_after before.live runs.made.live now.live (runs.link_closed.clocks.1 ∙ ap (λ (l : Live). l.made) closed) (subst (λ (l : Live). (runs.made.live.made ≡ l.made) ⊎ (runs.made.live.made ≡ option_map raised l.made)) same runs.makes.1);
       }
 
   -- what was recorded is what is told

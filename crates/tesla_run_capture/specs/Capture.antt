@@ -1,6 +1,8 @@
 -- What the command capture does.
 use Rattle.std.specs.Prelude.{◌≡◌, ◌≢◌, ◌⊎◌, ℕ, ◌+◌, ◌≤◌, true, false, List, [], ◌∷◌, ◌++◌, length, map, Option, Some, None, codes}
-use Rattle.tesla_capture.specs.Capture.{limit}
+use Rattle.std.specs.Option.{option_map}
+use Rattle.tesla_capture.specs.Capture.{IsCapture}
+use Rattle.tesla_desk.specs.Faults.{raised}
 use Rattle.tesla_desk.specs.Links.{datagrams}
 use Rattle.tesla_desk.specs.Live.{Live, Wire, UntoldWire, AbsentWire, HoldsWire, Remainder}
 use Rattle.tesla_desk.specs.Outside.{Page, Untold, Absent, Holds}
@@ -12,7 +14,7 @@ use Rattle.tesla_front.specs.Lines.{count_line}
 use Rattle.tesla_front.specs.Openings.{File}
 use Rattle.tesla_front.specs.declared.fault.Fault.TheVariants as faults
 use Rattle.tesla_run_capture.specs.Arguments.{CaptureArguments, IsCaptureForm, files_of_capture}
-use Rattle.tesla_run_capture.specs.Heard.{Heard, IsFull, ReadWhere, bytes_of, held_most, text_of}
+use Rattle.tesla_run_capture.specs.Heard.{Heard, IsFull, ReadWhere, bytes_of, held_most, records_of, text_of}
 
 -- the line that tells how many datagrams were captured
 abbrev pub captured_line : ℕ → List ℕ
@@ -81,17 +83,19 @@ pub record Captures (arguments : CaptureArguments) (before now : Live) (out : Pa
   pub heard : List Heard
   pub link : LeftWhere heard (before.wire arguments.link) (now.left arguments.link)
   pub clock : ReadWhere heard before.readings before.made
-  pub fits : length (text_of heard) ≤ limit
+  -- they make a capture in its grammar, which has an arrival and a take of each
+  pub is_capture : IsCapture (text_of heard) (records_of heard)
   pub ends : EndsAs heard (now.left arguments.link) out came
 
 -- ---- the command
 
--- what is told of links, posts and clocks is as before, but for what is left of this link and how many clocks were made
+-- what is told of links, posts and clocks is as before, but for what is left of this link, and that one clock may have been made
 pub record TouchesLink (link : List ℕ) (before now : Live) : Type 0 where
   pub wires : (name : List ℕ) → now.wire name ≡ before.wire name
   pub others : (name : List ℕ) → name ≢ link → now.left name ≡ before.left name
   pub mails : (name : List ℕ) → now.mail name ≡ before.mail name
   pub readings : now.readings ≡ before.readings
+  pub made : (now.made ≡ before.made) ⊎ (now.made ≡ option_map raised before.made)
 
 -- what the run does: nothing was received; or both were opened, and what the link brought was recorded
 abbrev pub DoesCapture : Live → Live → CaptureArguments → ℕ → List File → List File → Came → Type 0

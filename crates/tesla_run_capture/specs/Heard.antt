@@ -1,6 +1,6 @@
 -- What was heard of a link, and its capture.
 use Rattle.std.specs.Prelude.{◌≡◌, ℕ, ◌+◌, ◌-◌, ◌<◌, ◌≤◌, List, [], ◌∷◌, ◌++◌, length, map, flat_map, Option, Some}
-use Rattle.tesla_capture.specs.Capture.{Record, Arrives, Takes, capture_text, record_text, limit}
+use Rattle.tesla_capture.specs.Capture.{Record, Arrives, Takes, IsRecord, capture_text, record_text, limit}
 use Rattle.tesla_desk.specs.Outside.{AppendsPrefix}
 use Rattle.tesla_run_capture.specs.Readings.{readings_from}
 
@@ -15,13 +15,21 @@ reading_of one = one.reading
 abbrev pub bytes_of : Heard → List ℕ
 bytes_of one = one.bytes
 
+-- the limits of its fields
+abbrev pub IsHeard : Heard → Type 0
+IsHeard one = IsRecord (Arrives one.reading one.bytes)
+
 -- its records: an arrival, and a take behind it
 abbrev pub records_in : Heard → List Record
 records_in one = Arrives one.reading one.bytes ∷ Takes ∷ []
 
--- the capture of what was heard, in order
+-- the records of what was heard, in order
+abbrev pub records_of : List Heard → List Record
+records_of heard = flat_map records_in heard
+
+-- the capture of what was heard
 abbrev pub text_of : List Heard → List ℕ
-text_of heard = capture_text (flat_map records_in heard)
+text_of heard = capture_text (records_of heard)
 
 -- the bytes of the records of a datagram
 abbrev pub piece_of : Heard → List ℕ

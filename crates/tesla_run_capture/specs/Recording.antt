@@ -1,6 +1,7 @@
 -- What is recorded of a link that is open, with an open clock and an open sink.
 use Rattle.std.specs.Prelude.{◌≡◌, ◌⊎◌, ℕ, ◌+◌, ◌<◌, ◌≤◌, Bool, true, false, List, [], ◌++◌, length, map, Option, IfSome, Result, Ok, Err}
-use Rattle.tesla_capture.specs.Capture.{limit}
+use Rattle.std.specs.List.{AllByRecursion}
+use Rattle.tesla_capture.specs.Capture.{IsCapture, limit}
 use Rattle.tesla_capture.specs.Gathering.{Gathers, gathered}
 use Rattle.tesla_desk.specs.Clocks.{Ticking, Ticks}
 use Rattle.tesla_desk.specs.Links.{datagrams, after_letters}
@@ -8,7 +9,7 @@ use Rattle.tesla_desk.specs.Outside.{AppendsPrefix, with_bytes}
 use Rattle.tesla_desk.specs.declared.link.Letter.{Letter}
 use Rattle.tesla_front.specs.declared.fault.Fault.{Fault}
 use Rattle.tesla_front.specs.declared.fault.Fault.TheVariants as faults
-use Rattle.tesla_run_capture.specs.Heard.{BreaksOff, Heard, IsFull, ReadWhere, bytes_of, piece_of, pieces_of, reading_of, text_of}
+use Rattle.tesla_run_capture.specs.Heard.{BreaksOff, Heard, IsFull, IsHeard, ReadWhere, bytes_of, piece_of, pieces_of, reading_of, records_of, text_of}
 use Rattle.tesla_run_capture.specs.Readings.{Gives}
 use Rattle.tesla_run_capture.specs.declared.recorder.Recorder.{Recorder}
 use Rattle.tesla_run_capture.specs.declared.recording.Hearing.{Hearing}
@@ -22,11 +23,13 @@ pub record Hears (heard : List Heard) (left later : Option (List Letter)) (befor
   pub left_is : left ≡ after_letters taken later
   pub heard_are : datagrams taken ≡ map bytes_of heard
   pub gives : Gives (map reading_of heard) before after
+  pub limits : AllByRecursion IsHeard heard
 
 -- the records of one datagram were put behind those gathered, with one reading of the clock, or a front of these was written
 pub record Puts (bytes : List ℕ) (old new : Recorder) (written kept : Option (List ℕ)) (before after : Option Ticking) (whole : Bool) : Type 0 where
   pub reading : ℕ
   pub ticks : Ticks before after reading
+  pub limits : IsHeard (record { reading = reading; bytes = bytes })
   pub put : whole ≡ true → Gathers written kept (gathered new.gatherer) (gathered old.gatherer ++ piece_of (record { reading = reading; bytes = bytes }))
   pub count : whole ≡ true → new.count ≡ old.count + 1
   pub size : whole ≡ true → new.size ≡ old.size + (12 + length bytes)
@@ -80,5 +83,5 @@ pub record RecordsFile (result : Result ℕ Fault) (left later : Option (List Le
   pub left_is : left ≡ after_letters taken later
   pub heard_are : datagrams taken ≡ map bytes_of heard
   pub clock : ReadWhere heard readings made
-  pub fits : length (text_of heard) ≤ limit
+  pub is_capture : IsCapture (text_of heard) (records_of heard)
   pub comes : ComesTo result heard (text_of heard) later written kept failed

@@ -1,6 +1,7 @@
 -- A run of the command between its openings and its end.
-use Rattle.std.specs.Prelude.{◌≡◌, ℕ, ◌<◌, List, Option, Result, Ok, Err}
-use Rattle.tesla_desk.specs.Faults.{HasCause, HasCauseBeside}
+use Rattle.std.specs.Prelude.{◌≡◌, ◌⊎◌, ℕ, ◌<◌, List, Option, Result, Ok, Err}
+use Rattle.std.specs.Option.{option_map}
+use Rattle.tesla_desk.specs.Faults.{HasCause, HasCauseBeside, raised}
 use Rattle.tesla_desk.specs.Outside.{ClosesLink, ClosesSink, Told}
 use Rattle.tesla_desk.specs.declared.link.Letter.{Letter}
 use Rattle.tesla_front.specs.Came.{Came, Done, Failed}
@@ -14,9 +15,9 @@ abbrev pub came_with : Result ℕ Fault → Came
 came_with (Ok count) = Done (captured_line count)
 came_with (Err fault) = Failed fault
 
--- nothing that is told has changed, but for how many clocks were made
+-- nothing that is told has changed, but that one clock may have been made
 abbrev pub MakesSome : Told → Told → Type 0
-MakesSome before now = now ≡ record before { live = record before.live { made = now.live.made } }
+MakesSome before now = (now ≡ record before { live = record before.live { made = now.live.made } }) × ((now.live.made ≡ before.live.made) ⊎ (now.live.made ≡ option_map raised before.live.made))
 
 -- an open link was recorded on an open sink, and then both were closed
 pub record RunsOpened (link out : List ℕ) (left : Option (List Letter)) (written : Option (List ℕ)) (old new : Told) (came : Came) : Type 0 where

@@ -4,7 +4,7 @@ ghost use Rattle.std.specs.Prelude.{◌≡◌, ◌≤◌, ◌-◌, ◌^◌, ◌+
 ghost use Rattle.tesla_capture.specs.Gathering.{Gathers, gathered};
 ghost use Rattle.tesla_desk.specs.Faults.{HasCause};
 ghost use Rattle.tesla_desk.specs.Outside.{AppendsPrefix, with_bytes};
-ghost use Rattle.tesla_run_capture.specs.Heard.{IsFull, piece_of};
+ghost use Rattle.tesla_run_capture.specs.Heard.{IsFull, IsHeard, piece_of};
 
 use tesla_capture::Gatherer;
 use tesla_desk::{Clock, Sink};
@@ -35,6 +35,7 @@ pub struct Recorder {
 // Puts the records of a datagram behind those gathered: an arrival at this reading, and a take. False: a write failed.
 fn put_records<S: Sink>(gatherer: &mut Gatherer, reading: u64, bytes: &[u8], sink: &mut S) -> bool
     requires { length bytes.now ≤ 2048 }
+    ensures limits { IsHeard (record { reading = reading; bytes = bytes.now }) }
     ensures all { result ≡ true → Gathers (S.written sink.old) (S.written sink.new) (gathered gatherer.new) (gathered gatherer.old ++ piece_of (record { reading = reading; bytes = bytes.now })) }
     ensures prefix { result ≡ false → AppendsPrefix (S.written sink.old) (S.written sink.new) (gathered gatherer.old ++ piece_of (record { reading = reading; bytes = bytes.now })) }
     ensures cause { HasCause (S.faults sink.old) (S.faults sink.new) (result ≡ false) }
