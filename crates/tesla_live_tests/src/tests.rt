@@ -5,6 +5,7 @@ ghost use Rattle.std.specs.List.{list_all};
 ghost use Rattle.tesla_desk.specs.Links.{fits};
 
 mod flags;
+mod recordings;
 mod runs;
 
 use runs::Run;

@@ -10,6 +10,3 @@ mod words;
 
 pub use forms::CAPTURE;
 pub use run::run_capture;
-
-#[cfg(test)]
-mod tests;

@@ -1,12 +1,12 @@
 //! Runs over a desk in memory: settings of a desk go in, and the status, the line and the file of the capture come out.
 
-use super::*;
 use std::alloc::Global;
 use std::sync::Wait;
 use std::test::*;
 use tesla_base::Text;
 use tesla_desk::{Letter, MemoryDesk};
 use tesla_front::Outcome;
+use tesla_run_capture::run_capture;
 
 /// What is set of a desk, with a comma between two, and what a run then comes to: its status, its line, and the bytes of
 /// the file in hexadecimal. The link brings "ab", a quiet, nothing and "xyz".
