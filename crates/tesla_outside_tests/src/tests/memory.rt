@@ -136,6 +136,14 @@ fn posted(desk: &MemoryDesk, name: &str, told: &mut String) -> Result<(), Fail> 
     Ok(())
 }
 
+// Whether this is the datagram with this number that a closed post sent.
+fn is_posted(desk: &MemoryDesk, name: &str, number: usize, datagram: &[u8]) -> bool {
+    match desk.posted(name, number) {
+        Some(found) => found == datagram,
+        None => false,
+    }
+}
+
 // Adds three readings of a new clock.
 fn ticks<D: Desk>(desk: &mut D, told: &mut String) -> Result<(), Fail> {
     let mut clock = desk.clock();
@@ -218,7 +226,12 @@ fn mail_is_what_was_sent(rt: HostRuntime) -> Result<(), Fail> {
     let mut desk = new_desk(rt.alloc())?;
     let mut told = String::new(rt.alloc());
     posts(&mut desk, "to", &mut told)?;
-    assert_eq!(rt; desk.posted("to", 0), Some(b"abcd".as_slice()));
-    assert_eq!(rt; desk.posted("to", 2), Some(b"ef".as_slice()));
+    let found = [
+        is_posted(&desk, "to", 0, b"abcd"),
+        is_posted(&desk, "to", 1, b""),
+        is_posted(&desk, "to", 2, b"ef"),
+        is_posted(&desk, "to", 2, b"abcd"),
+    ];
+    assert_eq!(rt; found, [true, true, true, false]);
     Ok(())
 }
