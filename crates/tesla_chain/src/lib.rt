@@ -7,3 +7,6 @@ mod walker;
 
 pub use keys::key_at;
 pub use walker::Walker;
+
+#[cfg(test)]
+mod tests;

@@ -1,6 +1,5 @@
 //! A module for each crate that is tested.
 
-mod chains;
 mod exchange;
 mod functions;
 mod offers;
