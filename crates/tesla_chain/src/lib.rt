@@ -7,6 +7,3 @@ mod walker;
 
 pub use keys::key_at;
 pub use walker::Walker;
-
-#[cfg(test)]
-mod tests;

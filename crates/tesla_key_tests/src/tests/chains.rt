@@ -3,12 +3,12 @@
 ghost use Rattle.std.specs.Prelude.{◌≡◌, ◌+◌, ◌-◌, ◌<◌, ◌≤◌, length};
 ghost use Rattle.tesla_chain.specs.Cost.{W};
 
-use crate::{Walker, key_at};
 use std::alloc::Global;
 use std::marker::Brand;
 use std::sync::ledger::{Blank, Ledger};
 use std::test::*;
 use tesla_base::{Key, NoMemory, Steps};
+use tesla_chain::{Walker, key_at};
 
 /// The keys of index 0 to 8. What is left of it from any place on is a chain too, with the same seed.
 const CHAIN: [Key; 9] = [

@@ -1,6 +1,6 @@
 use Rattle.std.proofs.Common.{◌≡◌, ◌+◌, ◌-◌, ◌≤◌, length}
 use Rattle.tesla_chain.specs.Cost.{W}
-use Rattle.tesla_chain.proofs.tests.gives.Given as goal
+use Rattle.tesla_key_tests.proofs.tests.chains.gives.Given as goal
 
 abbrev pub invariant-loop-key : goal.invariant-loop-key
 invariant-loop-key g l = record {
