@@ -89,7 +89,7 @@ fn walker_to_its_end(rt: HostRuntime) -> Result<(), NoMemory> {
 }
 
 /// A chain of eight keys takes at most 40 steps.
-#[tactic(auto, unfolding(crate::specs::Cost::bits, crate::specs::Cost::halvings))]
+#[tactic(auto, unfolding(tesla_chain::specs::Cost::bits, tesla_chain::specs::Cost::halvings))]
 fn life_of_eight<L: Ledger>(alloc: Global, steps: &mut Steps<L>) -> Result<bool, NoMemory>
     ensures { steps.new ≤ steps.old + 40 }
 {
@@ -97,7 +97,7 @@ fn life_of_eight<L: Ledger>(alloc: Global, steps: &mut Steps<L>) -> Result<bool,
 }
 
 /// A chain of seven keys takes at most 28 steps.
-#[tactic(auto, unfolding(crate::specs::Cost::bits, crate::specs::Cost::halvings))]
+#[tactic(auto, unfolding(tesla_chain::specs::Cost::bits, tesla_chain::specs::Cost::halvings))]
 fn life_of_seven<L: Ledger>(alloc: Global, steps: &mut Steps<L>) -> Result<bool, NoMemory>
     ensures { steps.new ≤ steps.old + 28 }
 {
