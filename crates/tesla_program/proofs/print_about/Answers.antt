@@ -1,0 +1,44 @@
+use Rattle.std.proofs.Common.{◌≡◌, ◌⊎◌, ◌∙◌, inl, inr, ℕ, Result, Err, codes, refl, sym, subst, ap}
+use Rattle.tesla_desk.proofs.Counts.{causes_opening}
+use Rattle.tesla_desk.specs.Outside.{Told, OpensSink}
+use Rattle.tesla_desk.specs.declared.desk.OpenRefusal.{OpenRefusal}
+use Rattle.tesla_desk.specs.declared.desk.OpenRefusal.TheVariants as refused
+use Rattle.tesla_front.specs.Came.{Failed}
+use Rattle.tesla_front.specs.Fault.{fault_status, unopened}
+use Rattle.tesla_front.specs.declared.fault.Fault.TheVariants as faults
+use Rattle.tesla_front.proofs.Consoles.{unopened_console}
+use Rattle.tesla_program.specs.About.{Prints}
+use Rattle.tesla_program.proofs.print_about.Goals as goal
+
+status_unopened : (refusal : OpenRefusal) → (fault_status (unopened refusal) ≡ 0) ⊎ (fault_status (unopened refusal) ≡ 5) ⊎ (fault_status (unopened refusal) ≡ 6) ⊎ (fault_status (unopened refusal) ≡ 7)
+status_unopened refused.Failed = inr (inr (inr refl))
+status_unopened refused.NoMemory = inr (inr (inl refl))
+
+no_write : (refusal : OpenRefusal) → fault_status (unopened refusal) ≡ 5 → ⊥
+no_write refused.Failed e = cc
+no_write refused.NoMemory e = cc
+
+open_by : (refusal : OpenRefusal) → fault_status (unopened refusal) ≡ 7 → Failed (unopened refusal) ≡ Failed faults.Open
+open_by refused.Failed e = refl
+open_by refused.NoMemory e = absurd cc
+
+by_open : (refusal : OpenRefusal) → Failed (unopened refusal) ≡ Failed faults.Open → fault_status (unopened refusal) ≡ 7
+by_open refused.Failed e = refl
+by_open refused.NoMemory e = absurd cc
+
+-- the console wasn't opened
+unprinted : (A : Type 0) (refusal : OpenRefusal) (old new : Told) → OpensSink {A = A} (codes "-") (Err refusal) old new → Prints old new (fault_status (unopened refusal))
+unprinted A refusal old new opens =
+    let none = unopened_console A refusal old new opens in record {
+      asked = none.asked;
+      pages = λ name other. none.pages name;
+      lefts = none.lefts;
+      status_is = status_unopened refusal;
+      counts = causes_opening old.faults new.faults none.counts (λ e. e) (no_write refusal) (open_by refusal) (by_open refusal);
+    }
+
+pub returns-in-Err : goal.returns-in-Err
+returns-in-Err g c =
+    let before = g.D.Desk.told c.args.desk.now in
+    let after = g.D.Desk.told c.open_sink.new.self in
+    subst (λ (status : ℕ). Prints before after status) (sym (c.status-in-Err.ensures ∙ ap fault_status c.from.ensures)) (unprinted _ c.in-Err.refusal before after c.in-Err.ensures.desk)
