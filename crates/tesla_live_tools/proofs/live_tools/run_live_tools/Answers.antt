@@ -31,8 +31,8 @@ returns-in-Ok g c =
       tells = c.tell-told.ensures.tells;
       closes = subst (λ (name : List ℕ). ClosesSink name written failed done new) named c.close_sink.ensures.desk;
     } in
-    (told, c.status.ensures, inr (live_console_opened command usage words old opened done new came told written failed tolds c.run_capture-outcome.ensures), refl)
+    (told, c.status.ensures, (inr (live_console_opened command usage words old opened done new came told written failed tolds c.run_capture-outcome.ensures), refl))
 
 pub returns-in-Err : goal.returns-in-Err
 returns-in-Err g c =
-    (Failed (unopened c.in-Err.refusal), c.status-in-Err.ensures ∙ ap fault_status c.from.ensures, inl (unopened_console _ c.in-Err.refusal (g.D.Desk.told c.args.desk.now) _ c.in-Err.ensures.desk), refl)
+    (Failed (unopened c.in-Err.refusal), c.status-in-Err.ensures ∙ ap fault_status c.from.ensures, (inl (unopened_console _ c.in-Err.refusal (g.D.Desk.told c.args.desk.now) _ c.in-Err.ensures.desk), refl))
