@@ -1,6 +1,6 @@
 //! Whole runs over a desk in memory: words go in; the status, the console and the pages of the sinks come out.
 
-ghost use Rattle.std.specs.Prelude.{◌≡◌, true};
+ghost use Rattle.std.specs.Prelude.{◌≡◌, true, IfOk};
 ghost use Rattle.std.specs.List.{list_all};
 ghost use Rattle.tesla_desk.specs.Links.{fits};
 
@@ -34,7 +34,7 @@ const RELEASED: &str = "00000000000000000000000100000000026869";
 
 // The frames, with a quiet before each.
 fn letters_of(alloc: Global, frames: &[&str]) -> Result<Vec<Letter>, Fail>
-    ensures { Rattle.std.specs.Prelude.IfOk result (λ it. list_all fits it.items ≡ true) }
+    ensures { IfOk result (λ it. list_all fits it.items ≡ true) }
 {
     let mut letters = Vec::new(alloc);
     for digits in frames {
