@@ -5,13 +5,14 @@ ghost use Rattle.tesla_front.specs.Came.{Came, status_of};
 ghost use Rattle.tesla_cli_live.specs.Commands.{RunsLive};
 
 use crate::FORMS;
+use crate::commands::run_words;
 use std::alloc::Global;
 use std::sync::Wait;
 use std::thread::Threads;
 use tesla_desk::{CONSOLE, Desk};
 use tesla_front::{Fault, tell};
 use tesla_receiver::Receiver;
-use tesla_run_receive::{Received, run_receive};
+use tesla_run_receive::Received;
 use tesla_turn::Last;
 
 /// What a run of a live command came to.
@@ -19,18 +20,21 @@ use tesla_turn::Last;
 pub struct Done {
     /// The status that the program ends with.
     pub status: u8,
-    /// The whole history of `receive`, where its links and sinks were opened and its workers ran. It takes no bytes.
+    /// The whole history of `receive`, where its links and sinks were opened and its workers ran; `None` of every other
+    /// command. It takes no bytes.
     pub last: Option<Last<Receiver>>,
 }
 
 /// Runs the words as those of the command that the first of them names, over the desk.
 ///
 /// The console is opened first, and then what the command opens, each once, in the order of its form and as far as it
-/// comes. What the command came to is told on the console. It waits for links, and for the turns of its workers.
+/// comes. What the command came to is told on the console. It waits for links, for the turns of its workers, and for the
+/// readings of clocks.
 ///
-/// 0: it came to its end, and the report was told. 1: the words are no form of a command. 2: SETUP isn't a setup. 4: a link or the
-/// reading of SETUP failed. 5: a write failed. 6: there was no memory, and nothing was received. 7: something wasn't opened. 11: the calls of a worker
-/// were spent.
+/// 0: it came to its end, and the report was told. 1: the words are no form of a command. 2: SETUP isn't a setup. 3: CAPTURE
+/// is no capture, and the arrivals before the place that is refused were sent. 4: a link, or a read of SETUP or CAPTURE,
+/// failed. 5: a write or a post failed. 6: there was no memory, and nothing was received or sent. 7: something wasn't
+/// opened. 11: the calls of a worker were spent.
 pub fn run_live<R: Threads + Wait + Sync, D: Desk>(
     rt: &R,
     alloc: Global,
@@ -41,7 +45,7 @@ pub fn run_live<R: Threads + Wait + Sync, D: Desk>(
 {
     match desk.open_sink(CONSOLE) {
         Ok(mut console) => {
-            let Received { outcome, last } = run_receive(rt, alloc, words, desk);
+            let Received { outcome, last } = run_words(rt, alloc, words, desk);
             let told = tell(&mut console, &FORMS, outcome);
             desk.close_sink(console);
             Done {

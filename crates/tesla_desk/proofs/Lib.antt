@@ -1,4 +1,5 @@
 pub mod Counts
+pub mod Given
 pub mod Mail
 pub mod Told
 pub mod Remembering

@@ -2,8 +2,10 @@
 use Rattle.std.proofs.Common.{◌≡◌, ◌∙◌, ℕ, suc, min, ◌≤◌, ◌<◌, Option, Some, None, IfSome, Result, Ok, Err, Bool, ◌+◌, ◌-◌, List, [], ◌∷◌, ◌++◌, refl, ap, sym, append_assoc, append-nil, length-append, arith, length, take, drop}
 use Rattle.std.proofs.Math.Seq.{take-add, take-append-add, take-length, take-append_seam}
 use Rattle.std.proofs.lemmas.List.{drop-drop, length-take-le, take-append-drop, take-append-le, take_min, take_rest}
+use Rattle.tesla_desk.specs.Live.{Wire, UntoldWire, AbsentWire, HoldsWire, OpenedLink, LeavesAll, remainder_of}
 use Rattle.tesla_desk.specs.Outside.{with_bytes, after_bytes, AppendsPrefix, Brings, Ends, Opened, Page, Untold, Absent, Holds, page_of, Opening, with_opening, with_openings, after_opening, AsksPrefix}
 use Rattle.tesla_desk.specs.declared.desk.OpenRefusal.{OpenRefusal}
+use Rattle.tesla_desk.specs.declared.link.Letter.{Letter}
 use Rattle.tesla_desk.specs.declared.desk.OpenRefusal.TheVariants as refusals
 
 -- two pieces one after another are one piece
@@ -159,3 +161,11 @@ asks_longer openings more before now front =
 -- what asks for nothing leaves what was asked for
 pub asks_same : (openings : List Opening) (before mid now : Option (List Opening)) → now ≡ mid → AsksPrefix openings before mid → AsksPrefix openings before now
 asks_same openings before mid now same front = (front.0, same ∙ front.1)
+
+-- ---- links
+
+-- what was there for a link of which no call was made is left
+pub leaves_all : (wire : Wire) (left : Option (List Letter)) (count : ℕ) → OpenedLink wire left → count ≡ 0 → LeavesAll wire (remainder_of left count)
+leaves_all UntoldWire left count opened none = tt
+leaves_all AbsentWire left count opened none = tt
+leaves_all (HoldsWire letters) left count opened none = ap (λ (l : Option (List Letter)). remainder_of l count) opened ∙ ap (λ n. remainder_of (Some letters) n) none

@@ -1,5 +1,5 @@
 -- What a desk tells of links, posts and clocks, which are what happens while it is running.
-use Rattle.std.specs.Prelude.{◌≡◌, ℕ, Bool, nat_lt, List, [], Option, Some, None}
+use Rattle.std.specs.Prelude.{◌≡◌, ℕ, Bool, false, nat_lt, List, [], Option, Some, None}
 use Rattle.tesla_desk.specs.Clocks.{Ticking}
 use Rattle.tesla_desk.specs.declared.link.Letter.{Letter}
 
@@ -18,6 +18,11 @@ pub record Remainder : Type 0 where
 abbrev pub remainder_of : Option (List Letter) → ℕ → Option Remainder
 remainder_of None faults = None
 remainder_of (Some letters) faults = Some (record { letters = letters; failed = nat_lt 0 faults })
+
+-- no letter left a link: it wasn't closed, or all that was there for it is left
+abbrev pub LeavesAll : Wire → Option Remainder → Type 0
+LeavesAll (HoldsWire letters) remainder = remainder ≡ Some (record { letters = letters; failed = false })
+LeavesAll _ remainder = Unit {0}
 
 -- what a desk has of posts under a name: it doesn't tell, none was closed, or the datagrams that the post that was closed last sent, and whether it failed
 pub data Mail : Type 0 where

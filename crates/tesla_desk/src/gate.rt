@@ -14,6 +14,11 @@ pub trait Gate {
     /// Is called behind a turn, before `after`, where something may be taken then: packets wait, or an ingest has ended.
     fn released(&mut self) {}
 
+    /// Is called in place of `rest` where nothing is due for so many microseconds. A gate rests no longer than that.
+    fn rest_for(&mut self, _microseconds: u64) {
+        self.rest();
+    }
+
     /// Is called where a link was quiet. A link that waits by itself needs no further rest.
     fn quiet(&mut self) {
         self.rest();

@@ -6,8 +6,8 @@ use std::sync::atomic::Ordering::SeqCst;
 use std::time::Duration;
 use tesla_desk::Gate;
 
-/// How many milliseconds a gate rests at most.
-const REST: u64 = 100;
+/// How many microseconds a gate rests at most.
+const REST: u64 = 100_000;
 
 /// What the gates of one desk share.
 #[derive(Drop)]
@@ -40,12 +40,11 @@ impl Gates {
         }
     }
 
-    // Rests while the generation is this one. The system compares 32 bits of it.
-    fn rest<R: Wait>(&self, rt: &R, generation: u64) {
+    // Rests while the generation is this one, so long at most. The system compares 32 bits of it.
+    fn rest<R: Wait>(&self, rt: &R, generation: u64, most: Duration) {
         self.resting.fetch_add(1, SeqCst);
         let seen = (generation % (1 << 32)) as u32;
-        self.generation
-            .park_timeout(rt, seen, Duration::from_millis(REST));
+        self.generation.park_timeout(rt, seen, most);
         self.resting.fetch_sub(1, SeqCst);
     }
 }
@@ -88,7 +87,13 @@ impl<'a, R: Wait> Gate for LiveGate<'a, R> {
     }
 
     fn rest(&mut self) {
-        self.gates.rest(self.rt, self.seen);
+        self.rest_for(REST);
+    }
+
+    /// Rests so long, and at most 100 milliseconds.
+    fn rest_for(&mut self, microseconds: u64) {
+        let most = Duration::from_micros(microseconds.min(REST));
+        self.gates.rest(self.rt, self.seen, most);
     }
 
     fn released(&mut self) {

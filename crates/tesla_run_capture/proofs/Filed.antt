@@ -6,7 +6,7 @@ use Rattle.std.specs.List.{AllByRecursion}
 use Rattle.std.specs.Prelude.{flat_map}
 use Rattle.tesla_capture.specs.Capture.{Arrives, Takes, IsRecord, head, limit, record_text}
 use Rattle.tesla_capture.specs.Gathering.{gathered}
-use Rattle.tesla_desk.specs.Clocks.{Ticking}
+use Rattle.tesla_desk.specs.Clocks.{Gives, Ticking}
 use Rattle.tesla_desk.specs.Faults.{Rose}
 use Rattle.tesla_desk.specs.Live.{clock_told}
 use Rattle.tesla_desk.specs.Outside.{AppendsPrefix, with_bytes}
@@ -14,7 +14,6 @@ use Rattle.tesla_desk.specs.declared.link.Letter.{Letter}
 use Rattle.tesla_desk.proofs.Told.{with_bytes_twice, with_more}
 use Rattle.tesla_front.specs.declared.fault.Fault.{Fault}
 use Rattle.tesla_front.specs.declared.fault.Fault.TheVariants as faults
-use Rattle.tesla_run_capture.specs.Readings.{Gives}
 use Rattle.tesla_run_capture.specs.Heard.{BreaksOff, Heard, IsFull, IsHeard, piece_of, pieces_of, reading_of, records_in, records_of, text_of}
 use Rattle.tesla_run_capture.specs.Recording.{ComesTo, HearsLast, HearsOn, Records, RecordsFile}
 use Rattle.tesla_run_capture.specs.declared.recorder.Recorder.{Recorder}

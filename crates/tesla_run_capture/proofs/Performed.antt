@@ -2,11 +2,12 @@
 use Rattle.std.proofs.Common.{◌≡◌, ◌∙◌, ◌⊎◌, inl, inr, ◌<◌, ℕ, suc, false, Result, Ok, Err, List, [], ◌∷◌, Option, Some, IfSome, refl, sym, ap, subst}
 use Rattle.std.specs.Option.{option_map}
 use Rattle.tesla_desk.specs.Faults.{raised, Faults, CountsOpening, HasCause, HasCauseBeside, HasCausesBeside, after_sink, after_source}
-use Rattle.tesla_desk.specs.Live.{Live, OpenedLink, Remainder, UntoldWire, AbsentWire, HoldsWire, Wire, remainder_of}
+use Rattle.tesla_desk.specs.Live.{LeavesAll, Live, OpenedLink, Remainder}
 use Rattle.tesla_desk.specs.Outside.{ClosesLink, ClosesSink, OfLink, OfSink, OpensLink, OpensSink, Told, page_of}
 use Rattle.tesla_desk.specs.declared.desk.OpenRefusal.{OpenRefusal}
 use Rattle.tesla_desk.specs.declared.desk.OpenRefusal.TheVariants as refusals
 use Rattle.tesla_desk.specs.declared.link.Letter.{Letter}
+use Rattle.tesla_desk.proofs.Told.{leaves_all}
 use Rattle.tesla_desk.proofs.Counts.{causes_as, causes_closed, causes_opening, causes_plain, causes_then, counts_stay}
 use Rattle.tesla_front.specs.Came.{Came, Failed}
 use Rattle.tesla_front.specs.Command.{Performs}
@@ -17,7 +18,7 @@ use Rattle.tesla_front.specs.declared.fault.Fault.{Fault}
 use Rattle.tesla_front.specs.declared.fault.Fault.TheVariants as faults
 use Rattle.tesla_front.proofs.Openings.{not_first, opens_first, opens_none, opens_then, pages_tried}
 use Rattle.tesla_run_capture.specs.Arguments.{CaptureArguments, IsCaptureForm, files_of_capture}
-use Rattle.tesla_run_capture.specs.Capture.{Captures, TouchesLink, LeavesAll, capture}
+use Rattle.tesla_run_capture.specs.Capture.{Captures, TouchesLink, capture}
 use Rattle.tesla_run_capture.specs.Heard.{Heard, text_of}
 use Rattle.tesla_run_capture.specs.Recording.{ComesTo, RecordsFile}
 use Rattle.tesla_run_capture.specs.Steps.{MakesSome, RunsOpened, came_with}
@@ -76,14 +77,6 @@ performs_unlinked {A} arguments refusal fault before now named is tried =
     })
 
 -- ---- the file wasn't opened
-
--- what was there for a link of which no call was made is left
-leaves_all : (wire : Wire) (left : Option (List Letter)) (missed : ℕ) → OpenedLink wire left → missed ≡ 0 → LeavesAll wire (remainder_of left missed)
-leaves_all UntoldWire left missed opened none = tt
-leaves_all AbsentWire left missed opened none = absurd opened
-leaves_all (HoldsWire letters) left missed opened none =
-    let fresh : remainder_of (Some letters) missed ≡ Some (record { letters = letters; failed = false }) = ap (λ (n : ℕ). remainder_of (Some letters) n) none in
-    ap (λ (l : Option (List Letter)). remainder_of l missed) opened ∙ fresh
 
 -- a link that didn't fail raises no count when it is closed
 fresh_closed : (before now : Faults) (missed : ℕ) → now ≡ after_source before missed → missed ≡ 0 → now ≡ before

@@ -4,7 +4,7 @@ use Rattle.std.specs.Option.{option_map}
 use Rattle.tesla_capture.specs.Capture.{IsCapture}
 use Rattle.tesla_desk.specs.Faults.{raised}
 use Rattle.tesla_desk.specs.Links.{datagrams}
-use Rattle.tesla_desk.specs.Live.{Live, Wire, UntoldWire, AbsentWire, HoldsWire, Remainder}
+use Rattle.tesla_desk.specs.Live.{Live, Wire, UntoldWire, AbsentWire, HoldsWire, Remainder, LeavesAll}
 use Rattle.tesla_desk.specs.Outside.{Page, Untold, Absent, Holds}
 use Rattle.tesla_desk.specs.declared.link.Letter.{Letter}
 use Rattle.tesla_front.specs.Came.{Came, Done, Failed}
@@ -21,11 +21,6 @@ abbrev pub captured_line : ℕ → List ℕ
 captured_line count = count_line (codes "captured") count
 
 -- ---- nothing was received
-
--- no letter left the link: it wasn't closed in this run, or all that was there for it is left
-abbrev pub LeavesAll : Wire → Option Remainder → Type 0
-LeavesAll (HoldsWire letters) remainder = remainder ≡ Some (record { letters = letters; failed = false })
-LeavesAll _ remainder = Unit {0}
 
 -- the link or the file of the capture wasn't opened, or there was no memory: the file is as before
 pub record Stops (arguments : CaptureArguments) (before now : Live) (out out_now : File) (came : Came) : Type 0 where

@@ -1,8 +1,8 @@
 -- What was heard of a link, and its capture.
 use Rattle.std.specs.Prelude.{◌≡◌, ℕ, ◌+◌, ◌-◌, ◌<◌, ◌≤◌, List, [], ◌∷◌, ◌++◌, length, map, flat_map, Option, Some}
 use Rattle.tesla_capture.specs.Capture.{Record, Arrives, Takes, IsRecord, capture_text, record_text, limit}
+use Rattle.tesla_desk.specs.Clocks.{readings_from}
 use Rattle.tesla_desk.specs.Outside.{AppendsPrefix}
-use Rattle.tesla_run_capture.specs.Readings.{readings_from}
 
 -- a datagram that left the link, with the reading of the clock that was taken right after
 pub record Heard : Type 0 where

@@ -1,5 +1,4 @@
 pub mod Arguments
-pub mod Readings
 pub mod Heard
 pub mod Recording
 pub mod Capture

@@ -3,14 +3,13 @@ use Rattle.std.specs.Prelude.{◌≡◌, ◌⊎◌, ℕ, ◌+◌, ◌<◌, ◌�
 use Rattle.std.specs.List.{AllByRecursion}
 use Rattle.tesla_capture.specs.Capture.{IsCapture, limit}
 use Rattle.tesla_capture.specs.Gathering.{Gathers, gathered}
-use Rattle.tesla_desk.specs.Clocks.{Ticking, Ticks}
+use Rattle.tesla_desk.specs.Clocks.{Gives, Ticking, Ticks}
 use Rattle.tesla_desk.specs.Links.{datagrams, after_letters}
 use Rattle.tesla_desk.specs.Outside.{AppendsPrefix, with_bytes}
 use Rattle.tesla_desk.specs.declared.link.Letter.{Letter}
 use Rattle.tesla_front.specs.declared.fault.Fault.{Fault}
 use Rattle.tesla_front.specs.declared.fault.Fault.TheVariants as faults
 use Rattle.tesla_run_capture.specs.Heard.{BreaksOff, Heard, IsFull, IsHeard, ReadWhere, bytes_of, piece_of, pieces_of, reading_of, records_of, text_of}
-use Rattle.tesla_run_capture.specs.Readings.{Gives}
 use Rattle.tesla_run_capture.specs.declared.recorder.Recorder.{Recorder}
 use Rattle.tesla_run_capture.specs.declared.recording.Hearing.{Hearing}
 use Rattle.tesla_run_capture.specs.declared.recording.Hearing.TheVariants as hearings

@@ -2,7 +2,7 @@
 use Rattle.std.proofs.Common.{◌≡◌, ◌≢◌, ℕ, suc, ◌+◌, ◌-◌, ◌^◌, ◌<◌, ◌≤◌, nat_lt, false, List, [], ◌∷◌, ◌++◌, length, map, get_or, Option, Some, None, IfSome, option_map, refl, sym, ap, subst, ◌∙◌, arith, ⊎_elim}
 use Rattle.std.proofs.lemmas.Bool.Decides.{nat_tests}
 use Rattle.std.proofs.lemmas.List.{length-append, length-map}
-use Rattle.tesla_desk.specs.Clocks.{Ticking, next_reading, ticked}
+use Rattle.tesla_desk.specs.Clocks.{Ticking, next_reading, readings_from, ticked}
 use Rattle.tesla_desk.specs.Faults.{HasCause, raised}
 use Rattle.tesla_desk.specs.Live.{Live, Wire, UntoldWire, AbsentWire, HoldsWire, Remainder, clock_told, remainder_of}
 use Rattle.tesla_desk.specs.Outside.{Told}
@@ -16,7 +16,7 @@ use Rattle.tesla_shared.specs.Workers.{AreNext, Came, Gave, bytes_of, reading_of
 use Rattle.tesla_shared.specs.declared.ingesting.LinkEnd.{LinkEnd}
 use Rattle.tesla_shared.specs.declared.ingesting.LinkEnd.TheVariants as link_ends
 use Rattle.tesla_turn.specs.Held.{left_of}
-use Rattle.tesla_run_receive.specs.Receive.{HeardLinks, LeftWhere, ReadWhere, clock_after, entries_of_ingest, readings_from}
+use Rattle.tesla_run_receive.specs.Receive.{HeardLinks, LeftWhere, ReadWhere, clock_after, entries_of_ingest}
 use Rattle.tesla_run_receive.specs.Session.{PassSeen, ClosesWorkers, calls_most}
 use Rattle.tesla_run_receive.proofs.Made.{LinkDid, LinkWork, LinksDid, link_arrivals, link_name, link_seen}
 

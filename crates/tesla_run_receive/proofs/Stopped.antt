@@ -1,10 +1,11 @@
 -- What a session leaves of its links and sinks where no worker ran.
 use Rattle.std.proofs.Common.{◌≡◌, ◌∙◌, ◌⊎◌, inl, inr, ℕ, suc, Option, Some, None, Result, Err, IfSome, List, [], ◌∷◌, ◌++◌, length, map, drop, refl, sym, ap, subst}
-use Rattle.tesla_desk.specs.Live.{Live, Wire, UntoldWire, AbsentWire, HoldsWire, Remainder, OpenedLink, remainder_of}
+use Rattle.tesla_desk.specs.Live.{Live, Wire, Remainder, OpenedLink, LeavesAll, remainder_of}
 use Rattle.tesla_desk.specs.Outside.{Told, OfSink, MakesClock, page_of}
 use Rattle.tesla_desk.specs.declared.desk.OpenRefusal.{OpenRefusal}
 use Rattle.tesla_desk.specs.declared.desk.OpenRefusal.TheVariants as refusals
 use Rattle.tesla_desk.specs.declared.link.Letter.{Letter}
+use Rattle.tesla_desk.proofs.Told.{leaves_all}
 use Rattle.tesla_fitting.specs.declared.config.Config.{Config}
 use Rattle.tesla_front.specs.Came.{Came, Failed}
 use Rattle.tesla_front.specs.Fault.{unopened}
@@ -15,7 +16,7 @@ use Rattle.tesla_front.specs.declared.fault.Fault.TheVariants as faults
 use Rattle.tesla_receiver.specs.declared.history.Entry.{Entry}
 use Rattle.tesla_turn.specs.Held.{Ended}
 use Rattle.tesla_run_receive.specs.Arguments.{ReceiveArguments, Wanted, WantedLink, WantedSink, links_wanted, sinks_wanted, workers_wanted, opening_for}
-use Rattle.tesla_run_receive.specs.Receive.{LeavesAll, UnheardLinks, UnwrittenSinks, Stops}
+use Rattle.tesla_run_receive.specs.Receive.{UnheardLinks, UnwrittenSinks, Stops}
 use Rattle.tesla_run_receive.specs.Session.{PassSeen, Seen, SeenLink, SeenSink, OpensWorker, RefusesWorker, OpensWorkers, ClosesWorkers, UnopenedSession, RefusedSession}
 use Rattle.tesla_run_receive.proofs.Opened.{opening_of, opens_workers, same_or_not}
 
@@ -91,11 +92,6 @@ fresh_workers (wanted ∷ others) before now first later workers result (inr (wo
 empty_page : (written : Option (List ℕ)) (count : ℕ) → IfSome written (λ bytes. bytes ≡ []) → HoldsWhere (page_of written count) (λ bytes. bytes ≡ [])
 empty_page None count empty = tt
 empty_page (Some bytes) count empty = empty
-
-leaves_all : (wire : Wire) (left : Option (List Letter)) (count : ℕ) → OpenedLink wire left → count ≡ 0 → LeavesAll wire (remainder_of left count)
-leaves_all UntoldWire left count opened none = tt
-leaves_all AbsentWire left count opened none = tt
-leaves_all (HoldsWire letters) left count opened none = ap (λ (l : Option (List Letter)). remainder_of l count) opened ∙ ap (λ n. remainder_of (Some letters) n) none
 
 left_on : (wire : Wire) (first mid now : Option Remainder) → now ≡ mid → (mid ≡ first) ⊎ LeavesAll wire mid → (now ≡ first) ⊎ LeavesAll wire now
 left_on wire first mid now same (inl is) = inl (same ∙ is)

@@ -2,10 +2,10 @@
 use Rattle.std.specs.Prelude.{◌≡◌, ◌⊎◌, ℕ, zero, suc, ◌<◌, ◌≤◌, true, false, List, [], ◌∷◌, ◌++◌, length, map, drop, Option, Some, None}
 use Rattle.std.specs.List.{list_all, Contains}
 use Rattle.tesla_commit.specs.Parts.{Parts}
-use Rattle.tesla_desk.specs.Clocks.{next_reading, later_readings}
+use Rattle.tesla_desk.specs.Clocks.{readings_from}
 use Rattle.tesla_desk.specs.Faults.{raised}
 use Rattle.tesla_desk.specs.Links.{datagrams}
-use Rattle.tesla_desk.specs.Live.{Live, Wire, UntoldWire, AbsentWire, HoldsWire, Remainder}
+use Rattle.tesla_desk.specs.Live.{Live, Wire, UntoldWire, AbsentWire, HoldsWire, Remainder, LeavesAll}
 use Rattle.tesla_desk.specs.Outside.{Page, Untold, Absent, Holds}
 use Rattle.tesla_desk.specs.declared.link.Letter.{Letter}
 use Rattle.tesla_fitting.specs.declared.config.Config.{Config}
@@ -35,11 +35,6 @@ config_of arguments setup =
     record { setup = setup; lag = arguments.lag; capacity = arguments.places.capacity; quota = arguments.places.quota; ingests = length arguments.links }
 
 -- ---- links
-
--- so many readings of a clock that has these to come
-abbrev pub readings_from : ℕ → List ℕ → List ℕ
-readings_from zero ahead = []
-readings_from (suc n) ahead = next_reading ahead ∷ readings_from n (later_readings ahead)
 
 -- the number of the clock that is made so many clocks later: the number stands still at the end of its type
 abbrev pub clock_after : ℕ → ℕ → ℕ
@@ -135,10 +130,6 @@ pub record Receives (arguments : ReceiveArguments) (before now : Live) (last : O
 -- ---- nothing was received
 
 -- no letter left a link: it wasn't closed in this run, or all that was there for it is left
-abbrev pub LeavesAll : Wire → Option Remainder → Type 0
-LeavesAll (HoldsWire letters) remainder = remainder ≡ Some (record { letters = letters; failed = false })
-LeavesAll _ remainder = Unit {0}
-
 abbrev pub UnheardLinks : List (List ℕ) → Live → Live → Type 0
 UnheardLinks [] before now = Unit {0}
 UnheardLinks (name ∷ names) before now = ((now.left name ≡ before.left name) ⊎ LeavesAll (before.wire name) (now.left name)) × UnheardLinks names before now

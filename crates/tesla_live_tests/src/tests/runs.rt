@@ -18,7 +18,8 @@ pub const NOTHING: &str =
     "0 arrivals 0\nmalformed 0\nforeign 0\nmisfit 0\nfuture 0\nbadkey 0\nlate 0\nrepeat 0\nfull 0\nkept 0\nkeys 0\ngiven 0\n";
 
 /// What is told of words that are no form.
-pub const FORM: &str = "1 usage: receive SETUP LAG CAPACITY LINKS SINKS\n6265666f7265";
+pub const FORM: &str =
+    "1 usage: receive SETUP LAG CAPACITY LINKS SINKS\nusage: relay CAPACITY LINK POSTS\nusage: play CAPTURE POSTS\n6265666f7265";
 
 /// What is told where both messages are kept.
 pub const BOTH_KEPT: &str =

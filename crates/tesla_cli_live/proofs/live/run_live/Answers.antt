@@ -6,7 +6,7 @@ use Rattle.tesla_front.specs.Came.{Failed, outcome_came}
 use Rattle.tesla_front.specs.Console.{Tells}
 use Rattle.tesla_front.specs.Fault.{fault_status, unopened}
 use Rattle.tesla_front.proofs.Consoles.{Tolds, live_console_opened, unopened_console}
-use Rattle.tesla_cli_live.specs.Commands.{command, usage}
+use Rattle.tesla_cli_live.specs.Commands.{command_of, usage}
 use Rattle.tesla_cli_live.proofs.live.run_live.Goals as goal
 
 pub returns-in-Ok : goal.returns-in-Ok
@@ -14,9 +14,9 @@ returns-in-Ok g c =
     let words = map string_bytes c.args.words.now in
     let old = g.D.Desk.told c.args.desk.now in
     let opened = g.D.Desk.told c.open_sink.new.self in
-    let done = g.D.Desk.told c.run_receive-outcome.new.desk in
+    let done = g.D.Desk.told c.run_words-outcome.new.desk in
     let new = g.D.Desk.told c.close_sink.new.self in
-    let came = outcome_came c.run_receive-outcome.result.outcome in
+    let came = outcome_came c.run_words-outcome.result.outcome in
     let told = outcome_came c.tell-told.result in
     let before = g.D.Out.Sink.written c.in-Ok.console in
     let written = g.D.Out.Sink.written c.tell-told.new.console in
@@ -33,9 +33,9 @@ returns-in-Ok g c =
       tells = c.tell-told.ensures.tells;
       closes = subst (λ (name : List ℕ). ClosesSink name written failed done new) named c.close_sink.ensures.desk;
     } in
-    let last = c.run_receive-outcome.result.last in
-    let runs = c.run_receive-outcome.ensures.runs in
-    (told, c.status.ensures, inr (live_console_opened (λ (before after : Live). command before after last) usage words old opened done new came told written failed tolds runs, λ none. c.run_receive-outcome.ensures.none (runs.usage none).0))
+    let last = c.run_words-outcome.result.last in
+    let runs = c.run_words-outcome.ensures.runs in
+    (told, c.status.ensures, inr (live_console_opened (λ (before after : Live). command_of before after last words) usage words old opened done new came told written failed tolds runs, λ none. c.run_words-outcome.ensures.none (runs.usage none).0, c.run_words-outcome.ensures.others))
 
 pub returns-in-Err : goal.returns-in-Err
 returns-in-Err g c =

@@ -1,0 +1,27 @@
+//! Laws about the live commands, as contracts of functions that do nothing.
+
+ghost use Rattle.std.specs.Prelude.{ℕ, List, Option};
+ghost use Rattle.tesla_desk.specs.Live.{Live};
+ghost use Rattle.tesla_desk.specs.Outside.{Told};
+ghost use Rattle.tesla_front.specs.Came.{Came};
+ghost use Rattle.tesla_front.specs.Command.{Performs, RunsAs};
+ghost use Rattle.tesla_receiver.specs.declared.history.Entry.{Entry};
+ghost use Rattle.tesla_run_play.specs.Arguments.{IsPlayForm, PlayArguments};
+ghost use Rattle.tesla_run_play.specs.Playing.{play};
+ghost use Rattle.tesla_run_receive.specs.Arguments.{IsReceive, ReceiveArguments};
+ghost use Rattle.tesla_run_receive.specs.Receive.{receive};
+ghost use Rattle.tesla_run_relay.specs.Arguments.{IsRelayForm, RelayArguments};
+ghost use Rattle.tesla_run_relay.specs.Relay.{relay};
+ghost use Rattle.tesla_turn.specs.Held.{Ended};
+ghost use Rattle.tesla_cli_live.specs.Commands.{IsLive, command_of};
+
+/// Words that are a form of some command are run as that command, and are for this table: the first word of each form
+/// names it.
+pub fn forms_are_named()
+    ensures receives { (arguments : ReceiveArguments) (words : List (List ℕ)) (before now : Live) (last : Option (Ended Entry)) (old new : Told) (came : Came) → IsReceive arguments words → RunsAs (command_of before now last words) words old new came → Performs (receive before now last) arguments old new came }
+    ensures relays { (arguments : RelayArguments) (words : List (List ℕ)) (before now : Live) (last : Option (Ended Entry)) (old new : Told) (came : Came) → IsRelayForm arguments words → RunsAs (command_of before now last words) words old new came → Performs (relay before now) arguments old new came }
+    ensures plays { (arguments : PlayArguments) (words : List (List ℕ)) (before now : Live) (last : Option (Ended Entry)) (old new : Told) (came : Came) → IsPlayForm arguments words → RunsAs (command_of before now last words) words old new came → Performs (play before now) arguments old new came }
+    ensures receive_is { (arguments : ReceiveArguments) (words : List (List ℕ)) → IsReceive arguments words → IsLive words }
+    ensures relay_is { (arguments : RelayArguments) (words : List (List ℕ)) → IsRelayForm arguments words → IsLive words }
+    ensures play_is { (arguments : PlayArguments) (words : List (List ℕ)) → IsPlayForm arguments words → IsLive words }
+{}

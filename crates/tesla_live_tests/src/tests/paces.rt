@@ -1,0 +1,191 @@
+//! How many datagrams a relay drops for a post that is slower than its link, and for one that keeps up with it. Gates pace
+//! the threads, since no contract says when each is at work.
+
+ghost use Rattle.std.specs.Prelude.{◌≡◌, ◌≤◌, [], None};
+
+use std::alloc::Global;
+use std::sync::Wait;
+use std::sync::atomic::AtomicU64;
+use std::sync::atomic::Ordering::SeqCst;
+use std::test::*;
+use std::thread::{Threads, yield_now};
+use tesla_desk::{Gate, Got, Link, Post, PostStep};
+use tesla_relay::{PostCount, relay};
+
+/// How many datagrams the link brings.
+const DATAGRAMS: u8 = 5;
+
+/// How often a gate looks whether it may go on, at most.
+const LOOKS: u64 = 1_000_000;
+
+/// What the threads share.
+#[derive(Drop)]
+struct Pace {
+    // How many turns the link's gate saw end.
+    heard: AtomicU64,
+    // How many datagrams the post sent, and the last bytes of them, one behind another.
+    sent: AtomicU64,
+    bytes: AtomicU64,
+    // How many gates looked in vain.
+    missed: AtomicU64,
+}
+
+/// What a gate waits for before each turn.
+#[derive(Clone, Copy)]
+enum Hold {
+    Nothing,
+    /// All datagrams were heard.
+    AllHeard,
+    /// What was heard is sent.
+    AllSent,
+}
+
+#[derive(Drop)]
+struct PaceGate<'a> {
+    pace: &'a Pace,
+    hold: Hold,
+    is_of_link: bool,
+}
+
+impl PaceGate<'_> {
+    // Whether what it waits for has come.
+    fn is_free(&self) -> bool {
+        let heard = self.pace.heard.load(SeqCst);
+        match self.hold {
+            Hold::Nothing => true,
+            Hold::AllHeard => u64::from(DATAGRAMS) <= heard,
+            Hold::AllSent => heard <= self.pace.sent.load(SeqCst),
+        }
+    }
+}
+
+impl Gate for PaceGate<'_> {
+    fn before(&mut self) {
+        for _ in 0..LOOKS {
+            if self.is_free() {
+                return;
+            }
+            yield_now();
+        }
+        self.pace.missed.fetch_add(1, SeqCst);
+    }
+
+    fn after(&mut self) {
+        if self.is_of_link {
+            self.pace.heard.fetch_add(1, SeqCst);
+        }
+    }
+
+    fn rest(&mut self) {
+        yield_now();
+    }
+}
+
+/// A link that brings datagrams of one byte, which are numbered from 1.
+#[derive(Drop)]
+struct Numbers {
+    last: u8,
+}
+
+impl Link for Numbers {
+    ghost left = { λ _. None };
+
+    ghost faults = { λ _. 0 };
+
+    ghost name = { λ _. [] };
+
+    fn next(&mut self, into: &mut [u8; 2048]) -> Got {
+        if DATAGRAMS <= self.last {
+            return Got::End;
+        }
+        self.last += 1;
+        into[0] = self.last;
+        Got::Datagram(1)
+    }
+}
+
+/// A post that never fails, and counts.
+#[derive(Drop)]
+struct PacedPost<'a> {
+    pace: &'a Pace,
+}
+
+impl Post for PacedPost<'_> {
+    ghost sent = { λ _. None };
+
+    ghost faults = { λ _. 0 };
+
+    ghost name = { λ _. [] };
+
+    fn send(&mut self, datagram: &[u8]) -> PostStep {
+        for byte in datagram {
+            let bytes = self.pace.bytes.load(SeqCst);
+            self.pace
+                .bytes
+                .store((bytes << 8) | u64::from(*byte), SeqCst);
+        }
+        self.pace.sent.fetch_add(1, SeqCst);
+        PostStep::Sent
+    }
+}
+
+// Nothing was heard or sent yet.
+fn new_pace() -> Pace {
+    Pace {
+        heard: AtomicU64::new(0),
+        sent: AtomicU64::new(0),
+        bytes: AtomicU64::new(0),
+        missed: AtomicU64::new(0),
+    }
+}
+
+// What a relay to one post comes to, where the link and the post are held so.
+fn count_of<R: Threads + Wait + Sync>(
+    rt: &R,
+    alloc: Global,
+    pace: &Pace,
+    capacity: u32,
+    link_hold: Hold,
+    post_hold: Hold,
+) -> Result<PostCount, Fail>
+    requires { (1 ≤ capacity) × (capacity ≤ 4096) }
+{
+    let mut posts = Vec::new(alloc);
+    posts.push(PacedPost { pace })?;
+    let mut gates = Vec::new(alloc);
+    gates.push(PaceGate {
+        pace,
+        hold: post_hold,
+        is_of_link: false,
+    })?;
+    let mut link = Numbers { last: 0 };
+    let mut gate = PaceGate {
+        pace,
+        hold: link_hold,
+        is_of_link: true,
+    };
+    let relayed = relay(
+        rt, alloc, &mut link, &mut gate, &mut posts, &mut gates, capacity,
+    )?;
+    Ok(relayed.post(0))
+}
+
+#[test]
+fn slow_post_drops(rt: HostRuntime) -> Result<(), Fail> {
+    let pace = new_pace();
+    let count = count_of(&rt, rt.alloc(), &pace, 2, Hold::Nothing, Hold::AllHeard)?;
+    assert_eq!(rt; pace.missed.load(SeqCst), 0);
+    assert_eq!(rt; (count.sent, count.dropped), (2, 3));
+    assert_eq!(rt; pace.bytes.load(SeqCst), 0x0102);
+    Ok(())
+}
+
+#[test]
+fn fast_post_drops_nothing(rt: HostRuntime) -> Result<(), Fail> {
+    let pace = new_pace();
+    let count = count_of(&rt, rt.alloc(), &pace, 1, Hold::AllSent, Hold::Nothing)?;
+    assert_eq!(rt; pace.missed.load(SeqCst), 0);
+    assert_eq!(rt; (count.sent, count.dropped), (5, 0));
+    assert_eq!(rt; pace.bytes.load(SeqCst), 0x01_0203_0405);
+    Ok(())
+}

@@ -1,0 +1,111 @@
+-- The opening of posts, as openings of files.
+use Rattle.std.proofs.Common.{◌≡◌, ◌∙◌, inl, inr, ℕ, suc, Result, Ok, Err, List, [], ◌∷◌, map, refl, sym, ap, subst, arith}
+use Rattle.tesla_desk.specs.Faults.{Faults, CountsOpening}
+use Rattle.tesla_desk.specs.Outside.{Told, Opening, OfPost, OpensPost}
+use Rattle.tesla_desk.specs.declared.desk.OpenRefusal.{OpenRefusal}
+use Rattle.tesla_desk.specs.declared.desk.OpenRefusal.TheVariants as refusals
+use Rattle.tesla_desk.proofs.Counts.{cause_as, counts_stay}
+use Rattle.tesla_front.specs.Fault.{unopened}
+use Rattle.tesla_front.specs.Openings.{Opens, OpensSome}
+use Rattle.tesla_front.specs.declared.fault.Fault.{Fault}
+use Rattle.tesla_front.specs.declared.fault.Fault.TheVariants as faults
+use Rattle.tesla_front.proofs.Openings.{opens_first, opens_none, opens_some, opens_then}
+use Rattle.tesla_posts.specs.Opened.{OpensNotAll, OpensTo, post_name}
+use Rattle.tesla_posts.specs.Opening.{OpensEach, OpensOne, RefusesOne}
+use Rattle.tesla_posts.specs.Posts.{PostSeen}
+
+-- what a desk does behind openings doesn't change which there were, where it changes no page and nothing that is left
+pub opens_still : (files : List Opening) (opened : ℕ) (before mid now : Told) → Opens files opened before mid → now.openings ≡ mid.openings → ((name : List ℕ) → now.page name ≡ mid.page name) → ((name : List ℕ) → now.left name ≡ mid.left name) → Opens files opened before now
+opens_still files opened before mid now opens asked pages lefts = record {
+  asked = asked ∙ opens.asked;
+  pages = λ name none. pages name ∙ opens.pages name none;
+  lefts = λ name none. lefts name ∙ opens.lefts name none;
+}
+
+-- ---- one opening
+
+one_opened : (name : List ℕ) (before now : Told) (post : PostSeen) → OpensOne name before now post → Opens (OfPost name ∷ []) 1 before now
+one_opened name before now post one = opens_first (OfPost name) [] before now one.opens.asked (λ n none. one.opens.pages n) (λ n none. one.opens.lefts n)
+
+one_tried : {A : Type 0} (name : List ℕ) (refusal : OpenRefusal) (before now : Told) → OpensPost {A = A} name (Err refusal) before now → OpensSome (OfPost name ∷ []) before now
+one_tried name refusals.Failed before now tried = (1, omega arith, opens_first (OfPost name) [] before now tried.asked (λ n none. tried.pages n) (λ n none. tried.lefts n))
+one_tried name refusals.NoMemory before now tried = (0, omega arith, opens_none (OfPost name ∷ []) before now tried.asked tried.pages tried.lefts)
+
+refused_cause : (refusal : OpenRefusal) (before now : Told) → CountsOpening before.faults now.faults (◌≡◌ {A = Result (Unit {0}) OpenRefusal} (Err refusal) (Err refusals.Failed)) → OpensNotAll (unopened refusal) before now
+refused_cause refusals.Failed before now counts = record {
+  cause = inl refl;
+  counts = record { reads = counts.reads; writes = counts.writes; openings = cause_as before.faults.openings now.faults.openings counts.openings (λ e. refl) (λ e. refl) };
+}
+refused_cause refusals.NoMemory before now counts = record {
+  cause = inr refl;
+  counts = record { reads = counts.reads; writes = counts.writes; openings = cause_as before.faults.openings now.faults.openings counts.openings (λ e. absurd cc) (λ e. absurd cc) };
+}
+
+refused_by : (refusal : OpenRefusal) (fault own : Fault) (before now : Told) (result : Result (Unit {0}) Fault) → own ≡ unopened refusal → result ≡ Err own → result ≡ Err fault → OpensNotAll (unopened refusal) before now → OpensNotAll fault before now
+refused_by refusal fault own before now result own_is is also not_all =
+    let same : unopened refusal ≡ fault = cc in
+    subst (λ (f : Fault). OpensNotAll f before now) same not_all
+
+-- ---- all openings
+
+opens_nothing : (before now : Told) (result : Result (Unit {0}) Fault) → now ≡ before → result ≡ Ok tt → OpensTo [] [] before now result
+opens_nothing before now result same whole = record {
+  opened = 0;
+  few = omega arith;
+  opens = opens_none [] before now (ap (λ (t : Told). t.openings) same) (λ name. ap (λ (t : Told). t.page name) same) (λ name. ap (λ (t : Told). t.left name) same);
+  live = ap (λ (t : Told). t.live) same;
+  pages = λ name. ap (λ (t : Told). t.page name) same;
+  lefts = λ name. ap (λ (t : Told). t.left name) same;
+  fresh = tt;
+  names_are = refl;
+  whole = λ e. record { all = refl; names_are = refl; counts = ap (λ (t : Told). t.faults) same };
+  refused = λ fault e. absurd cc;
+}
+
+opens_refused : (name : List ℕ) (names : List (List ℕ)) (before now : Told) (fault : Fault) (result : Result (Unit {0}) Fault) → RefusesOne name before now fault → result ≡ Err fault → OpensTo (name ∷ names) [] before now result
+opens_refused name names before now fault result (refusal, tried, fault_is) is =
+    let some = opens_some (OfPost name) (map OfPost names) before now (one_tried {A = Unit {0}} name refusal before now tried) in
+    record {
+      opened = some.0;
+      few = omega (arith, some.1);
+      opens = some.2;
+      live = tried.live;
+      pages = tried.pages;
+      lefts = tried.lefts;
+      fresh = tt;
+      names_are = refl;
+      whole = λ e. absurd cc;
+      refused = λ other also. refused_by refusal other fault before now result fault_is is also (refused_cause refusal before now tried.counts);
+    }
+
+opens_more : (name : List ℕ) (names : List (List ℕ)) (post : PostSeen) (posts : List PostSeen) (before mid now : Told) (result : Result (Unit {0}) Fault) → OpensOne name before mid post → OpensTo names posts mid now result → OpensTo (name ∷ names) (post ∷ posts) before now result
+opens_more name names post posts before mid now result one rest =
+    let first : mid.faults ≡ before.faults = counts_stay before.faults mid.faults one.opens.counts (λ e. absurd cc) in
+    record {
+      opened = suc rest.opened;
+      few = omega (arith, rest.few);
+      opens = opens_then (OfPost name) (map OfPost names) rest.opened before mid now (one_opened name before mid post one) rest.opens;
+      live = rest.live ∙ one.opens.live;
+      pages = λ n. rest.pages n ∙ one.opens.pages n;
+      lefts = λ n. rest.lefts n ∙ one.opens.lefts n;
+      fresh = ((one.empty, one.fresh), rest.fresh);
+      names_are = ap (λ n. n ∷ map post_name posts) one.name_is ∙ ap (λ ns. name ∷ ns) rest.names_are;
+      whole = λ e. let all = rest.whole e in record {
+        all = ap suc all.all;
+        names_are = ap (λ n. n ∷ map post_name posts) one.name_is ∙ ap (λ ns. name ∷ ns) all.names_are;
+        counts = all.counts ∙ first;
+      };
+      refused = λ fault e. let not_all = rest.refused fault e in record {
+        cause = not_all.cause;
+        counts = subst (λ (f : Faults). CountsOpening f now.faults (fault ≡ faults.Open)) first not_all.counts;
+      };
+    }
+
+-- posts were opened in order, until an opening was refused
+pub opens_to : (names : List (List ℕ)) (before now : Told) (posts : List PostSeen) (result : Result (Unit {0}) Fault) → OpensEach names before now posts result → OpensTo names posts before now result
+opens_to [] before now posts result (posts_are, same, whole) =
+    subst (λ (ps : List PostSeen). OpensTo [] ps before now result) (sym posts_are) (opens_nothing before now result same whole)
+opens_to (name ∷ names) before now posts result (inl (fault, refused, posts_are, is)) =
+    subst (λ (ps : List PostSeen). OpensTo (name ∷ names) ps before now result) (sym posts_are) (opens_refused name names before now fault result refused is)
+opens_to (name ∷ names) before now posts result (inr (post, others, mid, posts_are, one, rest)) =
+    subst (λ (ps : List PostSeen). OpensTo (name ∷ names) ps before now result) (sym posts_are) (opens_more name names post others before mid now result one (opens_to names mid now others result rest))

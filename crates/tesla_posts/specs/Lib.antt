@@ -1,0 +1,4 @@
+pub mod Closed
+pub mod Opened
+pub mod Opening
+pub mod Posts

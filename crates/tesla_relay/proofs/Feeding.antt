@@ -1,0 +1,139 @@
+-- What a feed has put in and dropped, one datagram later.
+use Rattle.std.proofs.Common.{◌≡◌, ◌∙◌, ℕ, suc, ◌+◌, ◌-◌, ◌^◌, ◌≤◌, min, Bool, true, false, List, [], ◌∷◌, ◌++◌, length, take, refl, sym, ap, subst, arith}
+use Rattle.std.specs.Arc.{arc_value}
+use Rattle.std.specs.List.{AllByRecursion}
+use Rattle.std.proofs.lemmas.List.{length-append}
+use Rattle.std.proofs.lemmas.List.Concat.{flat_map-append}
+use Rattle.tesla_relay.specs.Feeding.{text_in, texts, Closed, Fed, IsDatagram, IsFeeding, Keeps}
+use Rattle.tesla_relay.specs.Line.{put_log}
+use Rattle.tesla_relay.specs.Relay.{counted, kept_of, dropped_in, DropsBehind}
+use Rattle.crossbeam_queue.specs.Passes.{view, IsSamePass, ruled_capacity}
+use Rattle.tesla_relay.specs.declared.feed.Feed.{Feed}
+use Rattle.tesla_relay.specs.declared.line.Log.{Log}
+use Rattle.tesla_relay.specs.declared.line.Item.{Item}
+use Rattle.tesla_relay.specs.declared.line.Item.TheVariants.{Datagram, End}
+
+-- ---- marks
+
+kept_one : (marks : List Bool) (came : List (List ℕ)) (datagram : List ℕ) → length marks ≡ length came → kept_of (marks ++ true ∷ []) (came ++ datagram ∷ []) ≡ kept_of marks came ++ datagram ∷ []
+kept_one [] [] datagram same = refl
+kept_one [] (d ∷ came) datagram same = absurd (omega (arith, same))
+kept_one (m ∷ marks) [] datagram same = absurd (omega (arith, same))
+kept_one (true ∷ marks) (d ∷ came) datagram same = ap (λ rest. d ∷ rest) (kept_one marks came datagram (omega (arith, same)))
+kept_one (false ∷ marks) (d ∷ came) datagram same = kept_one marks came datagram (omega (arith, same))
+
+kept_none : (marks : List Bool) (came : List (List ℕ)) (datagram : List ℕ) → length marks ≡ length came → kept_of (marks ++ false ∷ []) (came ++ datagram ∷ []) ≡ kept_of marks came
+kept_none [] [] datagram same = refl
+kept_none [] (d ∷ came) datagram same = absurd (omega (arith, same))
+kept_none (m ∷ marks) [] datagram same = absurd (omega (arith, same))
+kept_none (true ∷ marks) (d ∷ came) datagram same = ap (λ rest. d ∷ rest) (kept_none marks came datagram (omega (arith, same)))
+kept_none (false ∷ marks) (d ∷ came) datagram same = kept_none marks came datagram (omega (arith, same))
+
+dropped_one : (marks : List Bool) → dropped_in (marks ++ false ∷ []) ≡ suc (dropped_in marks)
+dropped_one [] = refl
+dropped_one (true ∷ marks) = dropped_one marks
+dropped_one (false ∷ marks) = ap suc (dropped_one marks)
+
+dropped_none : (marks : List Bool) → dropped_in (marks ++ true ∷ []) ≡ dropped_in marks
+dropped_none [] = refl
+dropped_none (true ∷ marks) = dropped_none marks
+dropped_none (false ∷ marks) = ap suc (dropped_none marks)
+
+behind_one : (capacity before : ℕ) (marks : List Bool) → DropsBehind capacity before marks → DropsBehind capacity before (marks ++ true ∷ [])
+behind_one capacity before [] behind = tt
+behind_one capacity before (true ∷ marks) behind = behind_one capacity (suc before) marks behind
+behind_one capacity before (false ∷ marks) behind = (behind.0, behind_one capacity before marks behind.1)
+
+-- a datagram more is dropped behind all that were kept
+behind_drop : (capacity before : ℕ) (marks : List Bool) (came : List (List ℕ)) → length marks ≡ length came → capacity ≤ before + length (kept_of marks came) → DropsBehind capacity before marks → DropsBehind capacity before (marks ++ false ∷ [])
+behind_drop capacity before [] [] same full behind = (omega (arith, full), tt)
+behind_drop capacity before [] (d ∷ came) same full behind = absurd (omega (arith, same))
+behind_drop capacity before (m ∷ marks) [] same full behind = absurd (omega (arith, same))
+behind_drop capacity before (true ∷ marks) (d ∷ came) same full behind = behind_drop capacity (suc before) marks came (omega (arith, same)) (omega (arith, full)) behind
+behind_drop capacity before (false ∷ marks) (d ∷ came) same full behind = (behind.0, behind_drop capacity before marks came (omega (arith, same)) full behind.1)
+
+-- ---- items
+
+all_more : (items : List Item) (item : Item) → AllByRecursion IsDatagram items → IsDatagram item → AllByRecursion IsDatagram (items ++ item ∷ [])
+all_more [] item all is = (is, tt)
+all_more (first ∷ items) item all is = (all.0, all_more items item all.1 is)
+
+texts_count : (items : List Item) → AllByRecursion IsDatagram items → length (texts items) ≡ length items
+texts_count [] all = refl
+texts_count (Datagram size bytes ∷ items) all = ap suc (texts_count items all.1)
+texts_count (End ∷ items) all = absurd all.0
+
+pub keeps_more : (capacity : ℕ) (came : List (List ℕ)) (items : List Item) (dropped size : ℕ) (bytes : List ℕ) → Keeps capacity came items dropped → Keeps capacity (came ++ take size bytes ∷ []) (items ++ Datagram size bytes ∷ []) dropped
+keeps_more capacity came items dropped size bytes keeps = record {
+  marks = keeps.marks ++ true ∷ [];
+  each = length-append keeps.marks (true ∷ []) ∙ ap (λ n. n + 1) keeps.each ∙ sym (length-append came (take size bytes ∷ []));
+  full = behind_one capacity 0 keeps.marks keeps.full;
+  texts_are = flat_map-append text_in items (Datagram size bytes ∷ []) ∙ ap (λ front. front ++ take size bytes ∷ []) keeps.texts_are ∙ sym (kept_one keeps.marks came (take size bytes) keeps.each);
+  whole = all_more items (Datagram size bytes) keeps.whole tt;
+  dropped_is = keeps.dropped_is ∙ ap counted (sym (dropped_none keeps.marks));
+}
+
+pub keeps_drop : (capacity : ℕ) (came : List (List ℕ)) (items : List Item) (dropped more : ℕ) (datagram : List ℕ) → capacity ≤ length items → more ≡ min (dropped + 1) (2 ^ 64 - 1) → Keeps capacity came items dropped → Keeps capacity (came ++ datagram ∷ []) items more
+keeps_drop capacity came items dropped more datagram full is keeps =
+    let stored : length items ≡ length (kept_of keeps.marks came) = sym (texts_count items keeps.whole) ∙ ap length keeps.texts_are in record {
+      marks = keeps.marks ++ false ∷ [];
+      each = length-append keeps.marks (false ∷ []) ∙ ap (λ n. n + 1) keeps.each ∙ sym (length-append came (datagram ∷ []));
+      full = behind_drop capacity 0 keeps.marks came keeps.each (omega (arith, full, stored)) keeps.full;
+      texts_are = keeps.texts_are ∙ sym (kept_none keeps.marks came datagram keeps.each);
+      whole = keeps.whole;
+      dropped_is = is ∙ omega (arith, keeps.dropped_is) ∙ ap counted (sym (dropped_one keeps.marks));
+    }
+
+-- ---- feeds
+
+-- a datagram more was put in
+pub fed_more : (came : List (List ℕ)) (old new : Feed) (size : ℕ) (bytes : List ℕ) → view new.pass ≡ put_log ((view old.pass).put ++ Datagram size bytes ∷ []) → new.capacity ≡ old.capacity → new.dropped ≡ old.dropped → Fed came old → Fed (came ++ take size bytes ∷ []) new
+fed_more came old new size bytes put capacity dropped fed =
+    let items : (view old.pass).put ≡ fed.0 = ap (λ (l : Log). l.put) fed.1 in (
+      fed.0 ++ Datagram size bytes ∷ [],
+      put ∙ ap (λ (is : List Item). put_log (is ++ Datagram size bytes ∷ [])) items,
+      subst (λ (n : ℕ). Keeps new.capacity (came ++ take size bytes ∷ []) (fed.0 ++ Datagram size bytes ∷ []) n) (sym dropped)
+          (subst (λ (n : ℕ). Keeps n (came ++ take size bytes ∷ []) (fed.0 ++ Datagram size bytes ∷ []) old.dropped) (sym capacity) (keeps_more old.capacity came fed.0 old.dropped size bytes fed.2)),
+    )
+
+-- a datagram more was dropped
+pub fed_drops : (came : List (List ℕ)) (old new : Feed) (datagram : List ℕ) → old.capacity ≤ length (view old.pass).put → view new.pass ≡ view old.pass → new.capacity ≡ old.capacity → new.dropped ≡ min (old.dropped + 1) (2 ^ 64 - 1) → Fed came old → Fed (came ++ datagram ∷ []) new
+fed_drops came old new datagram full same capacity dropped fed =
+    let items : length (view old.pass).put ≡ length fed.0 = ap (λ (l : Log). length l.put) fed.1 in (
+      fed.0,
+      same ∙ fed.1,
+      subst (λ (n : ℕ). Keeps n (came ++ datagram ∷ []) fed.0 new.dropped) (sym capacity) (keeps_drop old.capacity came fed.0 old.dropped new.dropped datagram (omega (arith, full, items)) dropped fed.2),
+    )
+
+moved : {L I : Type 0} (a b : L) → b ≡ a → (f : L → I) → f b ≡ f a
+moved a b same f = ap f same
+
+-- the feed goes on behind an item that was put in, or wasn't
+pub feeding_more : (old new : Feed) (item : Item) → IsFeeding old → IsSamePass old.pass new.pass → new.line ≡ old.line → new.capacity ≡ old.capacity → new.taken ≡ old.taken + 1 → view new.pass ≡ put_log ((view old.pass).put ++ item ∷ []) → IsFeeding new
+feeding_more old new item feeding pass line capacity taken put =
+    let items : (view old.pass).put ≡ feeding.items = ap (λ (l : Log). l.put) feeding.view_is in record {
+      own = (pass.0 ∙ feeding.own.0 ∙ moved new.line old.line (sym line) (λ l. (arc_value l).table.shared.table_id), pass.2 ∙ feeding.own.1);
+      items = feeding.items ++ item ∷ [];
+      view_is = put ∙ ap (λ (is : List Item). put_log (is ++ item ∷ [])) items;
+      taken_is = taken ∙ ap (λ n. n + 1) feeding.taken_is ∙ sym (length-append feeding.items (item ∷ []));
+      room = ap (λ l. ruled_capacity (arc_value l)) line ∙ feeding.room ∙ ap (λ n. n + 1) (sym capacity);
+      few = subst (λ n. n ≤ 4096) (sym capacity) feeding.few;
+    }
+
+pub feeding_same : (old new : Feed) → IsFeeding old → IsSamePass old.pass new.pass → new.line ≡ old.line → new.capacity ≡ old.capacity → new.taken ≡ old.taken → view new.pass ≡ view old.pass → IsFeeding new
+feeding_same old new feeding pass line capacity taken same = record {
+  own = (pass.0 ∙ feeding.own.0 ∙ moved new.line old.line (sym line) (λ l. (arc_value l).table.shared.table_id), pass.2 ∙ feeding.own.1);
+  items = feeding.items;
+  view_is = same ∙ feeding.view_is;
+  taken_is = taken ∙ feeding.taken_is;
+  room = ap (λ l. ruled_capacity (arc_value l)) line ∙ feeding.room ∙ ap (λ n. n + 1) (sym capacity);
+  few = subst (λ n. n ≤ 4096) (sym capacity) feeding.few;
+}
+
+-- the end was put in
+pub fed_closed : (came : List (List ℕ)) (old new : Feed) → view new.pass ≡ put_log ((view old.pass).put ++ End ∷ []) → new.capacity ≡ old.capacity → new.dropped ≡ old.dropped → Fed came old → Closed came new
+fed_closed came old new put capacity dropped fed = (
+  fed.0,
+  put ∙ ap (λ (l : Log). put_log (l.put ++ End ∷ [])) fed.1,
+  subst (λ (n : ℕ). Keeps new.capacity came fed.0 n) (sym dropped) (subst (λ (n : ℕ). Keeps n came fed.0 old.dropped) (sym capacity) fed.2),
+)

@@ -1,0 +1,9 @@
+use Rattle.std.proofs.Common.{rules}
+use Rattle.tesla_relay.proofs.Moves.{merges, totals}
+use Rattle.tesla_relay.proofs.line.settle.Goals as goal
+
+pub absorb-requires-clause-rule : goal.absorb-requires-clause-rule
+absorb-requires-clause-rule c = merges _ _ _ _ (search rules) (search rules)
+
+pub learn_as-requires-clause-rule : goal.learn_as-requires-clause-rule
+learn_as-requires-clause-rule c = totals _ _ (search rules) (search rules)

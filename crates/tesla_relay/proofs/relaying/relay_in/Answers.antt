@@ -1,0 +1,115 @@
+use Rattle.std.proofs.Common.{rules, ◌≡◌, ◌∙◌, List, map, ap, sym, subst, subst₂, length, arith}
+use Rattle.std.proofs.lemmas.List.{length-map, map-id}
+use Rattle.tesla_desk.specs.Links.{datagrams}
+use Rattle.tesla_posts.specs.Posts.{PostSeen}
+use Rattle.tesla_relay.specs.Feeding.{ServerSeen}
+use Rattle.tesla_relay.specs.Lists.{AreFeeding, AreServing, Each, FeedsAll, ServesAll}
+use Rattle.tesla_relay.specs.Queues.{Ending, Starting}
+use Rattle.tesla_relay.specs.Relay.{RelaysPosts}
+use Rattle.tesla_relay.specs.declared.feed.Feed.{Feed}
+use Rattle.tesla_relay.specs.declared.relayed.PostCount.{PostCount}
+use Rattle.tesla_relay.proofs.Queued.{adds_all, all_written, each_length, gives_all, starting_ending, starting_feeding, starting_length, starting_serving}
+use Rattle.tesla_relay.proofs.relaying.relay_in.Goals as goal
+
+pub run_all-end-requires-clause-some : goal.run_all-end-requires-clause-some
+run_all-end-requires-clause-some g c κs within =
+    let seen : g.row.P.Denot → PostSeen = λ post. record { name = g.P.Post.name post; sent = g.P.Post.sent post; faults = g.P.Post.faults post } in
+    let posts = map seen c.args.posts.now.items in let feeds = c.take_in.new.feeds.items in let servers = c.take_in.new.servers.items in
+    let capacity = c.requires.new.0 in
+    let starting : Starting capacity posts feeds servers = adds_all (Starting capacity) posts c.args.rooms.feeds.items feeds c.args.rooms.servers.items servers c.requires.rooms.0 c.requires.rooms.1 (c.take_in.ensures.starting capacity c.requires.new.1) in
+    let size = starting_length capacity posts feeds servers starting in
+    let told : length posts ≡ length c.args.posts.now.items = length-map c.args.posts.now.items seen in
+    omega (arith, size, told, c.requires.some.0, ap (λ (l : List ServerSeen). length l) c.as_mut_slice-2.ensures.value)
+
+pub run_all-end-requires-clause-feeding : goal.run_all-end-requires-clause-feeding
+run_all-end-requires-clause-feeding g c κs within =
+    let seen : g.row.P.Denot → PostSeen = λ post. record { name = g.P.Post.name post; sent = g.P.Post.sent post; faults = g.P.Post.faults post } in
+    let posts = map seen c.args.posts.now.items in let feeds = c.take_in.new.feeds.items in let servers = c.take_in.new.servers.items in
+    let capacity = c.requires.new.0 in
+    let starting : Starting capacity posts feeds servers = adds_all (Starting capacity) posts c.args.rooms.feeds.items feeds c.args.rooms.servers.items servers c.requires.rooms.0 c.requires.rooms.1 (c.take_in.ensures.starting capacity c.requires.new.1) in
+    subst AreFeeding (sym c.as_mut_slice.ensures.value) (starting_feeding capacity posts feeds servers starting)
+
+pub run_all-end-requires-clause-serving : goal.run_all-end-requires-clause-serving
+run_all-end-requires-clause-serving g c κs within =
+    let seen : g.row.P.Denot → PostSeen = λ post. record { name = g.P.Post.name post; sent = g.P.Post.sent post; faults = g.P.Post.faults post } in
+    let posts = map seen c.args.posts.now.items in let feeds = c.take_in.new.feeds.items in let servers = c.take_in.new.servers.items in
+    let capacity = c.requires.new.0 in
+    let starting : Starting capacity posts feeds servers = adds_all (Starting capacity) posts c.args.rooms.feeds.items feeds c.args.rooms.servers.items servers c.requires.rooms.0 c.requires.rooms.1 (c.take_in.ensures.starting capacity c.requires.new.1) in
+    subst AreServing (sym (map-id c.as_mut_slice-2.result.now ∙ c.as_mut_slice-2.ensures.value)) (starting_serving capacity posts feeds servers starting)
+
+pub give_back-requires-clause-ending : goal.give_back-requires-clause-ending
+give_back-requires-clause-ending g c =
+    let seen : g.row.P.Denot → PostSeen = λ post. record { name = g.P.Post.name post; sent = g.P.Post.sent post; faults = g.P.Post.faults post } in
+    let posts = map seen c.args.posts.now.items in let feeds = c.take_in.new.feeds.items in let servers = c.take_in.new.servers.items in
+    let capacity = c.requires.new.0 in let new = c.requires.new.1 in
+    let starting : Starting capacity posts feeds servers = adds_all (Starting capacity) posts c.args.rooms.feeds.items feeds c.args.rooms.servers.items servers c.requires.rooms.0 c.requires.rooms.1 (c.take_in.ensures.starting capacity new) in
+    let hears = c.run_all-end.ensures.hears.hears in let came = datagrams hears.taken in
+    let fed : Each (FeedsAll came) feeds c.run_all-end.new.feeds = subst (λ (l : List Feed). Each (FeedsAll came) l c.run_all-end.new.feeds) c.as_mut_slice.ensures.value hears.feeds in
+    let served : Each ServesAll servers c.run_all-end.new.servers =
+    subst₂ (λ (a b : List ServerSeen). Each ServesAll a b) (map-id c.as_mut_slice-2.result.now ∙ c.as_mut_slice-2.ensures.value) (map-id c.run_all-end.new.servers) c.run_all-end.ensures.serves in
+    let ending : Ending capacity came posts c.run_all-end.new.feeds c.run_all-end.new.servers = starting_ending capacity came posts feeds c.run_all-end.new.feeds servers c.run_all-end.new.servers starting fed served in
+    let all_fed = all_written c.take_in.new.feeds.len c.run_all-end.new.feeds feeds (omega (arith, c.run_all-end.auto.feeds, c.as_mut_slice.ensures.len)) in
+    let all_served = all_written c.take_in.new.servers.len c.run_all-end.new.servers servers (omega (arith, c.run_all-end.auto.servers, c.as_mut_slice-2.ensures.len)) in
+    (capacity, came, posts, subst₂ (λ (f : List Feed) (s : List ServerSeen). Ending capacity came posts f s) (sym all_fed) (sym all_served) ending)
+
+pub give_back-requires-clause-space : goal.give_back-requires-clause-space
+give_back-requires-clause-space g c =
+    let seen : g.row.P.Denot → PostSeen = λ post. record { name = g.P.Post.name post; sent = g.P.Post.sent post; faults = g.P.Post.faults post } in
+    let posts = map seen c.args.posts.now.items in let feeds = c.take_in.new.feeds.items in let servers = c.take_in.new.servers.items in
+    let capacity = c.requires.new.0 in let new = c.requires.new.1 in
+    let starting : Starting capacity posts feeds servers = adds_all (Starting capacity) posts c.args.rooms.feeds.items feeds c.args.rooms.servers.items servers c.requires.rooms.0 c.requires.rooms.1 (c.take_in.ensures.starting capacity new) in
+    let hears = c.run_all-end.ensures.hears.hears in let came = datagrams hears.taken in
+    let fed : Each (FeedsAll came) feeds c.run_all-end.new.feeds = subst (λ (l : List Feed). Each (FeedsAll came) l c.run_all-end.new.feeds) c.as_mut_slice.ensures.value hears.feeds in
+    let served : Each ServesAll servers c.run_all-end.new.servers =
+    subst₂ (λ (a b : List ServerSeen). Each ServesAll a b) (map-id c.as_mut_slice-2.result.now ∙ c.as_mut_slice-2.ensures.value) (map-id c.run_all-end.new.servers) c.run_all-end.ensures.serves in
+    let ending : Ending capacity came posts c.run_all-end.new.feeds c.run_all-end.new.servers = starting_ending capacity came posts feeds c.run_all-end.new.feeds servers c.run_all-end.new.servers starting fed served in
+    let all_fed = all_written c.take_in.new.feeds.len c.run_all-end.new.feeds feeds (omega (arith, c.run_all-end.auto.feeds, c.as_mut_slice.ensures.len)) in
+    let all_served = all_written c.take_in.new.servers.len c.run_all-end.new.servers servers (omega (arith, c.run_all-end.auto.servers, c.as_mut_slice-2.ensures.len)) in
+    let size = starting_length capacity posts feeds servers starting in
+    let told : length posts ≡ length c.args.posts.now.items = length-map c.args.posts.now.items seen in
+    let many = each_length ServesAll servers c.run_all-end.new.servers served in
+    let written = ap (λ (l : List ServerSeen). length l) all_served in
+    (grind (arith, size, told, many, written, c.take_in.ensures.empty.0, c.take_in.ensures.capacity.0, c.requires.some.2), grind (arith, size, told, many, written, c.take_in.ensures.empty.1, c.take_in.ensures.capacity.1, c.requires.some.2))
+
+pub give_back-requires-clause-room : goal.give_back-requires-clause-room
+give_back-requires-clause-room g c =
+    let seen : g.row.P.Denot → PostSeen = λ post. record { name = g.P.Post.name post; sent = g.P.Post.sent post; faults = g.P.Post.faults post } in
+    let posts = map seen c.args.posts.now.items in let feeds = c.take_in.new.feeds.items in let servers = c.take_in.new.servers.items in
+    let capacity = c.requires.new.0 in let new = c.requires.new.1 in
+    let starting : Starting capacity posts feeds servers = adds_all (Starting capacity) posts c.args.rooms.feeds.items feeds c.args.rooms.servers.items servers c.requires.rooms.0 c.requires.rooms.1 (c.take_in.ensures.starting capacity new) in
+    let hears = c.run_all-end.ensures.hears.hears in let came = datagrams hears.taken in
+    let fed : Each (FeedsAll came) feeds c.run_all-end.new.feeds = subst (λ (l : List Feed). Each (FeedsAll came) l c.run_all-end.new.feeds) c.as_mut_slice.ensures.value hears.feeds in
+    let served : Each ServesAll servers c.run_all-end.new.servers =
+    subst₂ (λ (a b : List ServerSeen). Each ServesAll a b) (map-id c.as_mut_slice-2.result.now ∙ c.as_mut_slice-2.ensures.value) (map-id c.run_all-end.new.servers) c.run_all-end.ensures.serves in
+    let ending : Ending capacity came posts c.run_all-end.new.feeds c.run_all-end.new.servers = starting_ending capacity came posts feeds c.run_all-end.new.feeds servers c.run_all-end.new.servers starting fed served in
+    let all_fed = all_written c.take_in.new.feeds.len c.run_all-end.new.feeds feeds (omega (arith, c.run_all-end.auto.feeds, c.as_mut_slice.ensures.len)) in
+    let all_served = all_written c.take_in.new.servers.len c.run_all-end.new.servers servers (omega (arith, c.run_all-end.auto.servers, c.as_mut_slice-2.ensures.len)) in
+    let size = starting_length capacity posts feeds servers starting in
+    let told : length posts ≡ length c.args.posts.now.items = length-map c.args.posts.now.items seen in
+    let many = each_length ServesAll servers c.run_all-end.new.servers served in
+    let written = ap (λ (l : List ServerSeen). length l) all_served in
+    let none = ap (λ (l : List PostCount). length l) c.new-counts.ensures in
+    omega (arith, size, told, many, written, none, c.requires.some.1)
+
+pub returns-clause-relays : goal.returns-clause-relays
+returns-clause-relays g c =
+    let seen : g.row.P.Denot → PostSeen = λ post. record { name = g.P.Post.name post; sent = g.P.Post.sent post; faults = g.P.Post.faults post } in
+    let posts = map seen c.args.posts.now.items in let feeds = c.take_in.new.feeds.items in let servers = c.take_in.new.servers.items in
+    λ capacity new.
+    let starting : Starting capacity posts feeds servers = adds_all (Starting capacity) posts c.args.rooms.feeds.items feeds c.args.rooms.servers.items servers c.requires.rooms.0 c.requires.rooms.1 (c.take_in.ensures.starting capacity new) in
+    let hears = c.run_all-end.ensures.hears.hears in let came = datagrams hears.taken in
+    let fed : Each (FeedsAll came) feeds c.run_all-end.new.feeds = subst (λ (l : List Feed). Each (FeedsAll came) l c.run_all-end.new.feeds) c.as_mut_slice.ensures.value hears.feeds in
+    let served : Each ServesAll servers c.run_all-end.new.servers =
+    subst₂ (λ (a b : List ServerSeen). Each ServesAll a b) (map-id c.as_mut_slice-2.result.now ∙ c.as_mut_slice-2.ensures.value) (map-id c.run_all-end.new.servers) c.run_all-end.ensures.serves in
+    let ending : Ending capacity came posts c.run_all-end.new.feeds c.run_all-end.new.servers = starting_ending capacity came posts feeds c.run_all-end.new.feeds servers c.run_all-end.new.servers starting fed served in
+    let all_fed = all_written c.take_in.new.feeds.len c.run_all-end.new.feeds feeds (omega (arith, c.run_all-end.auto.feeds, c.as_mut_slice.ensures.len)) in
+    let all_served = all_written c.take_in.new.servers.len c.run_all-end.new.servers servers (omega (arith, c.run_all-end.auto.servers, c.as_mut_slice-2.ensures.len)) in
+    let gives = c.give_back.ensures.given capacity came posts (subst₂ (λ (f : List Feed) (s : List ServerSeen). Ending capacity came posts f s) (sym all_fed) (sym all_served) ending) in
+    let relays : RelaysPosts capacity came posts (map seen c.give_back.new.posts.items) c.give_back.new.counts.items =
+    gives_all (RelaysPosts capacity came) posts _ (map seen c.give_back.new.posts.items) c.new-counts.result.items c.give_back.new.counts.items (ap (λ ps. map seen ps) c.take_in.ensures.empty.0) (search rules) gives in
+    record {
+      taken = hears.taken;
+      left_is = hears.left_is;
+      posts = subst (λ (cs : List PostCount). RelaysPosts capacity came posts (map seen c.give_back.new.posts.items) cs) (sym c.new.ensures.1) relays;
+      ended = λ is. hears.ended (sym c.new.ensures.0 ∙ is);
+    }

@@ -1,0 +1,10 @@
+use Rattle.std.proofs.Common.{map}
+use Rattle.tesla_relay.proofs.Heard.{are_serving, seen_serving_at, serve_all_then}
+use Rattle.tesla_relay.proofs.serving.run_here.Goals as goal
+
+pub serve_all-requires-clause-serving : goal.serve_all-requires-clause-serving
+serve_all-requires-clause-serving g c κs within = λ i d inside. let seen = g.W.Serve.seen in
+    seen_serving_at seen c.hear_all-end.new.here i d inside (are_serving (map seen c.args.servers.now) (map seen c.hear_all-end.new.here) c.hear_all-end.ensures.here)
+
+pub returns-clause-serves : goal.returns-clause-serves
+returns-clause-serves g c = let seen = g.W.Serve.seen in serve_all_then (map seen c.args.servers.now) (map seen c.hear_all-end.new.here) (map seen c.serve_all.new.servers) c.hear_all-end.ensures.here c.serve_all.ensures

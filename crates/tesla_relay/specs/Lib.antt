@@ -1,0 +1,5 @@
+pub mod Line
+pub mod Relay
+pub mod Feeding
+pub mod Lists
+pub mod Queues

@@ -1,0 +1,65 @@
+-- What a relay does: which datagrams it drops for a post, and what each post sends.
+use Rattle.std.specs.Prelude.{◌≡◌, ℕ, suc, ◌-◌, ◌^◌, ◌≤◌, min, Bool, true, false, List, [], ◌∷◌, length, take, Option, IfSome}
+use Rattle.tesla_desk.specs.Faults.{HasCause}
+use Rattle.tesla_desk.specs.Links.{after_letters, datagrams}
+use Rattle.tesla_desk.specs.declared.link.Letter.{Letter}
+use Rattle.tesla_posts.specs.Posts.{PostSeen, with_datagrams}
+use Rattle.tesla_relay.specs.declared.relayed.PostCount.{PostCount}
+use Rattle.tesla_relay.specs.declared.relayed.RelayEnd.{RelayEnd}
+use Rattle.tesla_relay.specs.declared.relayed.RelayEnd.TheVariants.{Ended}
+
+-- a number as a counter of 64 bits tells it, which stands still at its end
+abbrev pub counted : ℕ → ℕ
+counted n = min n (2 ^ 64 - 1)
+
+-- ---- which datagrams are dropped
+
+-- the datagrams that weren't dropped: of each a mark tells whether it was kept
+abbrev pub kept_of : List Bool → List (List ℕ) → List (List ℕ)
+kept_of (true ∷ marks) (datagram ∷ more) = datagram ∷ kept_of marks more
+kept_of (false ∷ marks) (datagram ∷ more) = kept_of marks more
+kept_of _ _ = []
+
+-- how many were dropped
+abbrev pub dropped_in : List Bool → ℕ
+dropped_in [] = 0
+dropped_in (true ∷ marks) = dropped_in marks
+dropped_in (false ∷ marks) = suc (dropped_in marks)
+
+-- none was dropped but behind so many that were kept, told how many were kept before these
+abbrev pub DropsBehind : ℕ → ℕ → List Bool → Type 0
+DropsBehind capacity before [] = Unit {0}
+DropsBehind capacity before (true ∷ marks) = DropsBehind capacity (suc before) marks
+DropsBehind capacity before (false ∷ marks) = (capacity ≤ before) × DropsBehind capacity before marks
+
+-- ---- what a post sends
+
+-- a post sent, of these datagrams, those that weren't dropped for it, in order and each once; where it failed, a front of them
+pub record RelaysPost (capacity : ℕ) (came : List (List ℕ)) (old new : PostSeen) (count : PostCount) : Type 0 where
+  pub marks : List Bool
+  pub each : length marks ≡ length came
+  pub full : DropsBehind capacity 0 marks
+  pub sends : ℕ
+  pub few : sends ≤ length (kept_of marks came)
+  pub all : count.failed ≡ false → sends ≡ length (kept_of marks came)
+  pub sent : new.sent ≡ with_datagrams old.sent (take sends (kept_of marks came))
+  pub name : new.name ≡ old.name
+  pub cause : HasCause old.faults new.faults (count.failed ≡ true)
+  -- the counts tell it
+  pub sent_count : count.sent ≡ counted sends
+  pub dropped_count : count.dropped ≡ counted (dropped_in marks)
+
+-- the same of each post, as it was and as it is, with its count
+abbrev pub RelaysPosts : ℕ → List (List ℕ) → List PostSeen → List PostSeen → List PostCount → Type 0
+RelaysPosts capacity came [] [] [] = Unit {0}
+RelaysPosts capacity came (old ∷ olds) (new ∷ news) (count ∷ counts) = RelaysPost capacity came old new count × RelaysPosts capacity came olds news counts
+RelaysPosts capacity came olds news counts = ⊥
+
+-- ---- a run
+
+-- what left the link was relayed to the posts, and where it came to the link's end nothing is left
+pub record Relays (capacity : ℕ) (left later : Option (List Letter)) (olds news : List PostSeen) (end : RelayEnd) (counts : List PostCount) : Type 0 where
+  pub taken : List Letter
+  pub left_is : left ≡ after_letters taken later
+  pub posts : RelaysPosts capacity (datagrams taken) olds news counts
+  pub ended : end ≡ Ended → IfSome later (λ rest. rest ≡ [])

@@ -1,0 +1,123 @@
+//! The link, whose datagrams are put into all queues.
+
+ghost use Rattle.std.specs.Prelude.{All, ◌≡◌, ◌≤◌, ◌∷◌, [], ℕ, List, IfSome, take, length, map};
+ghost use Rattle.tesla_desk.specs.Faults.{HasCause};
+ghost use Rattle.tesla_relay.specs.Feeding.{IsFeeding, IsServing, ServesOn};
+ghost use Rattle.tesla_relay.specs.Lists.{AreFeeding, AreServing, Each, FeedsAll, FeedsOn, HearsLink, HearsOn};
+
+use crate::feed::Feed;
+use crate::relayed::RelayEnd;
+use crate::server::Serve;
+use std::sync::Wait;
+use std::thread::{Threads, for_each_mut};
+use tesla_desk::{Gate, Got, Link};
+
+// Puts a datagram, which stands at the front of these bytes, into each queue that has room. All is done in this thread.
+fn offer_all<R: Threads + Wait + Sync>(rt: &R, feeds: &mut [Feed], length: u16, bytes: &[u8; 2048])
+    requires feeding { All IsFeeding feeds.old }
+    ensures { Each (FeedsOn (take length bytes.now ∷ [])) feeds.old feeds.new }
+{
+    let offer = |_place: usize, feed: &mut Feed|
+        requires { IsFeeding feed.now }
+        ensures { FeedsOn (take length bytes.entry.now ∷ []) feed.entry.now feed.exit.now }
+    { feed.offer(rt, length, bytes) };
+    for_each_mut(rt, feeds, 1, &offer);
+}
+
+// Puts the end into each queue. All is done in this thread.
+fn close_all<R: Threads + Wait + Sync>(rt: &R, feeds: &mut [Feed])
+    requires feeding { All IsFeeding feeds.old }
+    ensures { Each (FeedsAll []) feeds.old feeds.new }
+{
+    let close = |_place: usize, feed: &mut Feed|
+        requires { IsFeeding feed.now }
+        ensures { FeedsAll [] feed.entry.now feed.exit.now }
+    { feed.close(rt) };
+    for_each_mut(rt, feeds, 1, &close);
+}
+
+// Sends what stands in the queues of these servers. All is done in this thread.
+fn empty_all<R: Threads + Wait + Sync, W: Serve + Send>(rt: &R, servers: &mut [W])
+    requires serving { All (λ server. IsServing (W.seen server)) servers.old }
+    ensures { Each ServesOn (map W.seen servers.old) (map W.seen servers.new) }
+{
+    let empty = |_place: usize, server: &mut W|
+        requires { IsServing (W.seen server.now) }
+        ensures { ServesOn (W.seen server.entry.now) (W.seen server.exit.now) }
+    { server.serve_now(rt) };
+    for_each_mut(rt, servers, 1, &empty);
+}
+
+// Puts a datagram into the queues, with the gate around it, and serves those that stand here.
+fn hand_on<R: Threads + Wait + Sync, G: Gate, W: Serve + Send>(
+    rt: &R,
+    gate: &mut G,
+    feeds: &mut [Feed],
+    here: &mut [W],
+    length: usize,
+    bytes: &[u8; 2048],
+)
+    requires few { length ≤ 2048 }
+    requires feeding { AreFeeding feeds.old }
+    requires serving { AreServing (map W.seen here.old) }
+    ensures feeds { Each (FeedsOn (take length bytes.now ∷ [])) feeds.old feeds.new }
+    ensures here { Each ServesOn (map W.seen here.old) (map W.seen here.new) }
+{
+    gate.before();
+    offer_all(rt, feeds, length as u16, bytes);
+    gate.released();
+    gate.after();
+    empty_all(rt, here);
+}
+
+#[tactic(auto, using(crate::proofs::Heard::hears_none, crate::proofs::Heard::hears_quiet, crate::proofs::Heard::hears_more, crate::proofs::Heard::hears_same, crate::proofs::Heard::serve_none, crate::proofs::Heard::serve_then, crate::proofs::Heard::are_feeding, crate::proofs::Heard::are_serving))]
+// Puts each datagram of the link into the queues, until the link ends or fails.
+fn hear<R: Threads + Wait + Sync, K: Link, G: Gate, W: Serve + Send>(
+    rt: &R,
+    link: &mut K,
+    gate: &mut G,
+    feeds: &mut [Feed],
+    here: &mut [W],
+) -> RelayEnd
+    requires feeding { AreFeeding feeds.old }
+    requires serving { AreServing (map W.seen here.old) }
+    ensures hears { HearsOn (K.left link.old) (K.left link.new) feeds.old feeds.new }
+    ensures ended { result ≡ RelayEnd.Ended → IfSome (K.left link.new) (λ rest. rest ≡ []) }
+    ensures here { Each ServesOn (map W.seen here.old) (map W.seen here.new) }
+    ensures cause { HasCause (K.faults link.old) (K.faults link.new) (result ≡ RelayEnd.Failed) }
+    ensures name { K.name link.new ≡ K.name link.old }
+{
+    let mut buffer = [0; 2048];
+    for _ in rt.forever() {
+        match link.next(&mut buffer) {
+            Got::Datagram(length) => hand_on(rt, gate, feeds, here, length, &buffer),
+            Got::Quiet => {}
+            Got::End => return RelayEnd::Ended,
+            Got::Failed => return RelayEnd::Failed,
+        }
+    }
+    unreachable!()
+}
+
+#[tactic(auto, using(crate::proofs::Heard::hears_end, crate::proofs::Heard::are_feeding))]
+/// Puts each datagram of the link into the queues, until the link ends or fails, and then the end. The servers that stand
+/// here are served behind each datagram. It waits for the link.
+pub fn hear_all<R: Threads + Wait + Sync, K: Link, G: Gate, W: Serve + Send>(
+    rt: &R,
+    link: &mut K,
+    gate: &mut G,
+    feeds: &mut [Feed],
+    here: &mut [W],
+) -> RelayEnd
+    requires feeding { AreFeeding feeds.old }
+    requires serving { AreServing (map W.seen here.old) }
+    ensures hears { HearsLink result (K.left link.old) (K.left link.new) (K.faults link.old) (K.faults link.new) (K.name link.old) (K.name link.new) feeds.old feeds.new }
+    ensures here { Each ServesOn (map W.seen here.old) (map W.seen here.new) }
+{
+    let end = hear(rt, link, gate, feeds, here);
+    gate.before();
+    close_all(rt, feeds);
+    gate.released();
+    gate.after();
+    end
+}

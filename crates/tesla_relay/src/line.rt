@@ -1,0 +1,156 @@
+//! The queue that stands before a post, and the rule that it is under: what went in comes out, in order and once.
+
+ghost use Rattle.std.specs.Prelude.{◌≡◌, ◌<◌, ◌≤◌, ◌+◌, ◌∷◌, [], ◌++◌, List, true, false, length, IfOk, MatchOption};
+ghost use Rattle.crossbeam_queue.specs.Passes.{view, IsSamePass, IsPassOf, ruled_capacity};
+ghost use Rattle.tesla_relay.specs.Line.{put_log, popped_log};
+ghost use Rattle.tesla_relay.specs.declared.line.Item.{Item};
+
+use crossbeam_queue::protocol::{Join, Lesson, Outcome, Protocol, Split};
+use crossbeam_queue::{Pass, RuledArrayQueue};
+use std::alloc::Global;
+use std::collections::LinkedList;
+use std::sync::Wait;
+use tesla_base::NoMemory;
+
+/// What stands in a queue: a datagram, at the front of its bytes, or the news that none follows.
+#[derive(Drop)]
+pub enum Item {
+    Datagram { length: u16, bytes: [u8; 2048] },
+    End,
+}
+
+/// What a pass may do, and what it has put in and taken out. No value of it is made.
+pub struct Log {
+    pub puts: bool,
+    pub pops: bool,
+    pub put: LinkedList<Item>,
+    pub popped: LinkedList<Item>,
+}
+
+/// The rule: what was put in is what was taken out and then what the queue holds.
+pub struct InOrder;
+
+impl Protocol<Item, Log> for InOrder {
+    ghost use Rattle.std.specs.Prelude.{true, []};
+    ghost use Rattle.tesla_relay.specs.Line.{log, IsInOrder};
+
+    ghost holds = { IsInOrder };
+
+    ghost first = { log true true [] [] };
+}
+
+/// One pass puts in, and another takes out.
+pub struct Ends;
+
+impl Split<Log> for Ends {
+    ghost use Rattle.std.specs.Prelude.{[]};
+    ghost use Rattle.tesla_relay.specs.Line.{put_log, popped_log};
+
+    ghost left = { λ v. put_log v.put };
+
+    ghost right = { λ v. popped_log v.popped };
+}
+
+impl Join<Log> for Ends {
+    ghost use Rattle.std.specs.Prelude.{true, false, []};
+    ghost use Rattle.tesla_relay.specs.Line.{log};
+
+    ghost both = { λ v w. log true true v.put w.popped };
+
+    ghost spent = { log false false [] [] };
+}
+
+/// What putting in an item does, and what the one who puts in learns.
+struct Puts;
+
+impl Outcome<Item, Log> for Puts {
+    ghost use Rattle.std.specs.Prelude.{◌≡◌, ◌++◌, ◌∷◌, []};
+    ghost use Rattle.tesla_relay.specs.Line.{log};
+
+    ghost then = { λ v x w. w ≡ log v.puts v.pops (v.put ++ x ∷ []) v.popped };
+}
+
+impl Lesson<Item, Log> for Puts {
+    ghost use Rattle.tesla_relay.specs.Line.{Offered};
+
+    ghost fact = { λ v items. Offered v.put items };
+}
+
+/// What taking out an item does.
+struct Pops;
+
+impl Outcome<Item, Log> for Pops {
+    ghost use Rattle.std.specs.Prelude.{◌≡◌, ◌++◌, ◌∷◌, []};
+    ghost use Rattle.tesla_relay.specs.Line.{log};
+
+    ghost then = { λ v x w. w ≡ log v.puts v.pops v.put (v.popped ++ x ∷ []) };
+}
+
+/// What both together know of the queue.
+struct Total;
+
+impl Lesson<Item, Log> for Total {
+    ghost use Rattle.std.specs.Prelude.{◌≡◌, ◌++◌};
+
+    ghost fact = { λ v items. v.put ≡ v.popped ++ items };
+}
+
+/// A queue under this rule.
+pub type Line = RuledArrayQueue<Item, Log, InOrder>;
+
+/// What the queue shows to one who puts in or takes out.
+pub type LinePass = Pass<Item, Log>;
+
+/// A queue with so many places, empty, and its two passes: one puts in, the other takes out.
+pub fn new_line(alloc: Global, places: usize) -> Result<(Line, LinePass, LinePass), NoMemory>
+    requires { 0 < places }
+    ensures own { IfOk result (λ made. IsPassOf made.0 made.1 × IsPassOf made.0 made.2) }
+    ensures room { IfOk result (λ made. ruled_capacity made.0 ≡ places) }
+    ensures empty { IfOk result (λ made. (view made.1 ≡ put_log []) × (view made.2 ≡ popped_log [])) }
+{
+    let (line, mut put) = Line::ruled(alloc, places)?;
+    let popped = line.another::<Ends>(&mut put);
+    Ok((line, put, popped))
+}
+
+/// How many items the queue holds at most, at one moment.
+pub fn length_of<R: Wait>(rt: &R, line: &Line, pass: &mut LinePass) -> usize
+    requires own { IsPassOf line.now pass.old }
+    requires puts { (view pass.old).puts ≡ true }
+    ensures own { IsSamePass pass.old pass.new × (view pass.new ≡ view pass.old) }
+    ensures most { result ≤ length (view pass.old).put }
+{
+    line.len_as::<Puts, R>(rt, pass)
+}
+
+/// Puts an item in. False: the queue was full at one moment.
+pub fn put_in<R: Wait>(rt: &R, line: &Line, pass: &mut LinePass, item: Item) -> bool
+    requires own { IsPassOf line.now pass.old }
+    requires puts { (put : List Item) × (view pass.old ≡ put_log put) }
+    ensures own { IsSamePass pass.old pass.new }
+    ensures put { result ≡ true → view pass.new ≡ put_log ((view pass.old).put ++ item ∷ []) }
+    ensures full { result ≡ false → (view pass.new ≡ view pass.old) × (ruled_capacity line.now ≤ length (view pass.old).put) }
+{
+    line.push_as::<Puts, R>(rt, pass, item).is_ok()
+}
+
+/// Takes the oldest item out. `None`: there was none at one moment, or another was being put in.
+pub fn take_out(line: &Line, pass: &mut LinePass) -> Option<Item>
+    requires own { IsPassOf line.now pass.old }
+    requires pops { (popped : List Item) × (view pass.old ≡ popped_log popped) }
+    ensures own { IsSamePass pass.old pass.new }
+    ensures taken { MatchOption result (view pass.new ≡ view pass.old) (λ item. view pass.new ≡ popped_log ((view pass.old).popped ++ item ∷ [])) }
+{
+    line.try_pop_as::<Pops>(pass)
+}
+
+/// What was put in is what was taken out, and then what the queue holds: both passes are given up.
+pub fn settle(line: &Line, put: &mut LinePass, popped: LinePass)
+    requires own { IsPassOf line.now put.old × IsPassOf line.now popped }
+    requires puts { (view put.old).puts ≡ true }
+    requires pops { (view popped).pops ≡ true }
+    ensures { (items : List Item) × ((view put.old).put ≡ (view popped).popped ++ items) }
+{
+    line.absorb::<Ends>(put, popped);
+    line.learn_as::<Total>(put);
+}

@@ -1,0 +1,146 @@
+//! The queues before the posts, from their making to the counts.
+
+ghost use Rattle.std.specs.Prelude.{◌≡◌, ◌<◌, ◌≤◌, ◌+◌, [], ℕ, List, IfOk, length, map, vec_len, vec_capacity};
+ghost use Rattle.tesla_posts.specs.Posts.{PostSeen};
+ghost use Rattle.tesla_relay.specs.Lists.{Ends};
+ghost use Rattle.tesla_relay.specs.Queues.{Adds, AreNew, Ending, GivesBack, IsEnding, IsNew, Starting};
+ghost use Rattle.tesla_relay.specs.Relay.{RelaysPost, RelaysPosts};
+
+use crate::feed::Feed;
+use crate::line::{Line, LinePass, new_line, settle};
+use crate::relayed::{MOST, PostCount};
+use crate::server::Server;
+use arrayvec::ArrayVec;
+use std::alloc::Global;
+use std::sync::Arc;
+use tesla_base::NoMemory;
+use tesla_desk::{Gate, Post};
+
+/// A queue: the feed that puts in, and the end at which a server takes out.
+#[derive(Drop)]
+pub struct Queue {
+    pub feed: Feed,
+    pub line: Arc<Line>,
+    pub pass: LinePass,
+}
+
+// A queue for so many datagrams.
+fn new_queue(alloc: Global, capacity: usize) -> Result<Queue, NoMemory>
+    requires { (1 ≤ capacity) × (capacity ≤ 4096) }
+    ensures { IfOk result (λ queue. IsNew capacity queue) }
+{
+    let (line, put, popped) = new_line(alloc, capacity + 1)?;
+    let line = Arc::new(alloc, line)?;
+    let other = Arc::try_clone(&line)?;
+    Ok(Queue {
+        feed: Feed::new(line, put, capacity),
+        line: other,
+        pass: popped,
+    })
+}
+
+/// Makes so many queues for so many datagrams each.
+pub fn new_queues(
+    alloc: Global,
+    count: usize,
+    capacity: usize,
+    queues: &mut Vec<Queue>,
+) -> Result<(), NoMemory>
+    requires capacity { (1 ≤ capacity) × (capacity ≤ 4096) }
+    requires space { vec_len queues.old + count ≤ vec_capacity queues.old }
+    requires new { AreNew capacity queues.old.items }
+    ensures { IfOk result (λ _. AreNew capacity queues.new.items × (length queues.new.items ≡ length queues.old.items + count)) }
+{
+    if count == 0 {
+        return Ok(());
+    }
+    let queue = new_queue(alloc, capacity)?;
+    queues.push_reserved(queue);
+    new_queues(alloc, count - 1, capacity, queues)
+}
+
+/// Makes a server of each post with its gate, at a queue of its own. The feeds and the servers stand in the order of the
+/// posts from the last to the first.
+pub fn take_in<P: Post, G: Gate>(
+    queues: &mut Vec<Queue>,
+    posts: &mut Vec<P>,
+    gates: &mut Vec<G>,
+    feeds: &mut Vec<Feed>,
+    servers: &mut Vec<Server<P, G>>,
+)
+    requires same { (length queues.old.items ≡ length posts.old.items) × (length gates.old.items ≡ length posts.old.items) }
+    requires space { (vec_len feeds.old + length posts.old.items ≤ vec_capacity feeds.old) × (vec_len servers.old + length posts.old.items ≤ vec_capacity servers.old) }
+    ensures starting { (capacity : ℕ) → AreNew capacity queues.old.items → Adds (Starting capacity) (map (λ post. record { name = P.name post; sent = P.sent post; faults = P.faults post }) posts.old.items) feeds.old.items feeds.new.items servers.old.items servers.new.items }
+    ensures empty { (posts.new.items ≡ []) × (gates.new.items ≡ []) }
+    ensures capacity { (vec_capacity posts.new ≡ vec_capacity posts.old) × (vec_capacity gates.new ≡ vec_capacity gates.old) }
+{
+    let Some(post) = posts.pop() else {
+        return;
+    };
+    let Some(gate) = gates.pop() else {
+        unreachable!()
+    };
+    let Some(queue) = queues.pop() else {
+        unreachable!()
+    };
+    let Queue { feed, line, pass } = queue;
+    feeds.push_reserved(feed);
+    servers.push_reserved(Server::new(post, gate, line, pass));
+    take_in(queues, posts, gates, feeds, servers);
+}
+
+// What a feed and a server come to: the post, its gate, and what became of the datagrams for it.
+fn settle_one<P: Post, G: Gate>(feed: Feed, server: Server<P, G>) -> (P, (G, PostCount))
+    requires { IsEnding feed server }
+    ensures { (capacity : ℕ) (came : List (List ℕ)) (start : PostSeen) → Ends capacity came start feed server → RelaysPost capacity came start (record { name = P.name result.0; sent = P.sent result.0; faults = P.faults result.0 }) result.1.1 }
+{
+    let Feed {
+        line,
+        pass: mut put,
+        capacity: _,
+        taken: _,
+        dropped,
+    } = feed;
+    let Server {
+        post,
+        gate,
+        line: _,
+        pass: popped,
+        sent,
+        failed,
+    } = server;
+    settle(&line, &mut put, popped);
+    let count = PostCount {
+        sent,
+        dropped,
+        failed,
+    };
+    (post, (gate, count))
+}
+
+/// Gives the posts and their gates back, in their order, and puts what became of the datagrams for each behind the counts.
+pub fn give_back<P: Post, G: Gate>(
+    feeds: &mut Vec<Feed>,
+    servers: &mut Vec<Server<P, G>>,
+    posts: &mut Vec<P>,
+    gates: &mut Vec<G>,
+    counts: &mut ArrayVec<PostCount, MOST>,
+)
+    requires ending { (capacity : ℕ) × (came : List (List ℕ)) × (places : List PostSeen) × Ending capacity came places feeds.old.items servers.old.items }
+    requires space { (vec_len posts.old + length servers.old.items ≤ vec_capacity posts.old) × (vec_len gates.old + length servers.old.items ≤ vec_capacity gates.old) }
+    requires room { length counts.old.items + length servers.old.items ≤ 32 }
+    ensures given { (capacity : ℕ) (came : List (List ℕ)) (places : List PostSeen) → Ending capacity came places feeds.old.items servers.old.items → GivesBack (RelaysPosts capacity came) places (map (λ post. record { name = P.name post; sent = P.sent post; faults = P.faults post }) posts.old.items) (map (λ post. record { name = P.name post; sent = P.sent post; faults = P.faults post }) posts.new.items) counts.old.items counts.new.items }
+    ensures empty { servers.new.items ≡ [] }
+{
+    let Some(server) = servers.pop() else {
+        return;
+    };
+    let Some(feed) = feeds.pop() else {
+        unreachable!()
+    };
+    let (post, (gate, count)) = settle_one(feed, server);
+    posts.push_reserved(post);
+    gates.push_reserved(gate);
+    counts.push(count);
+    give_back(feeds, servers, posts, gates, counts);
+}

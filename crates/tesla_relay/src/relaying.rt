@@ -1,0 +1,111 @@
+//! The relay of a link to posts.
+
+ghost use Rattle.std.specs.Prelude.{◌≡◌, ◌≤◌, [], ℕ, IfOk, MatchResult, OnErr, map, length, vec_capacity};
+ghost use Rattle.tesla_desk.specs.Faults.{HasCause};
+ghost use Rattle.tesla_relay.specs.Queues.{AreNew};
+ghost use Rattle.tesla_relay.specs.Relay.{Relays};
+ghost use Rattle.tesla_relay.specs.declared.relayed.RelayEnd.TheVariants.{Failed};
+
+use crate::feed::Feed;
+use crate::queues::{Queue, give_back, new_queues, take_in};
+use crate::relayed::Relayed;
+use crate::server::Server;
+use crate::serving::run_all;
+use arrayvec::ArrayVec;
+use std::alloc::Global;
+use std::sync::Wait;
+use std::thread::Threads;
+use tesla_base::NoMemory;
+use tesla_desk::{Gate, Link, Post};
+
+// All that a run needs beside the link and the posts.
+struct Rooms<P: Post, G: Gate> {
+    queues: Vec<Queue>,
+    feeds: Vec<Feed>,
+    servers: Vec<Server<P, G>>,
+}
+
+// Takes all memory that a run needs.
+fn make_rooms<P: Post, G: Gate>(
+    alloc: Global,
+    count: usize,
+    capacity: usize,
+) -> Result<Rooms<P, G>, NoMemory>
+    requires { (1 ≤ capacity) × (capacity ≤ 4096) }
+    ensures queues { IfOk result (λ it. AreNew capacity it.queues.items × (length it.queues.items ≡ count)) }
+    ensures none { IfOk result (λ it. (it.feeds.items ≡ []) × (it.servers.items ≡ [])) }
+    ensures space { IfOk result (λ it. (count ≤ vec_capacity it.feeds) × (count ≤ vec_capacity it.servers)) }
+{
+    let mut queues = Vec::with_capacity(alloc, count)?;
+    new_queues(alloc, count, capacity, &mut queues)?;
+    let feeds = Vec::with_capacity(alloc, count)?;
+    let servers = Vec::with_capacity(alloc, count)?;
+    Ok(Rooms {
+        queues,
+        feeds,
+        servers,
+    })
+}
+
+// Relays the link with these rooms.
+fn relay_in<R: Threads + Wait + Sync, K: Link, P: Post + Send, G: Gate + Send>(
+    rt: &R,
+    link: &mut K,
+    gate: &mut G,
+    posts: &mut Vec<P>,
+    gates: &mut Vec<G>,
+    rooms: Rooms<P, G>,
+) -> Relayed
+    requires some { (1 ≤ length posts.old.items) × (length posts.old.items ≤ 32) × (length gates.old.items ≡ length posts.old.items) }
+    requires rooms { (rooms.feeds.items ≡ []) × (rooms.servers.items ≡ []) × (length rooms.queues.items ≡ length posts.old.items) × (length posts.old.items ≤ vec_capacity rooms.feeds) × (length posts.old.items ≤ vec_capacity rooms.servers) }
+    requires new { (capacity : ℕ) × AreNew capacity rooms.queues.items }
+    ensures relays { (capacity : ℕ) → AreNew capacity rooms.queues.items → Relays capacity (K.left link.old) (K.left link.new) (map (λ post. record { name = P.name post; sent = P.sent post; faults = P.faults post }) posts.old.items) (map (λ post. record { name = P.name post; sent = P.sent post; faults = P.faults post }) posts.new.items) result.end result.counts.items }
+    ensures cause { HasCause (K.faults link.old) (K.faults link.new) (result.end ≡ Failed) }
+    ensures name { K.name link.new ≡ K.name link.old }
+{
+    let Rooms {
+        mut queues,
+        mut feeds,
+        mut servers,
+    } = rooms;
+    take_in(&mut queues, posts, gates, &mut feeds, &mut servers);
+    let end = run_all(rt, link, gate, feeds.as_mut_slice(), servers.as_mut_slice());
+    let mut counts = ArrayVec::new();
+    give_back(&mut feeds, &mut servers, posts, gates, &mut counts);
+    servers.destroy_empty();
+    Relayed::new(end, counts)
+}
+
+/// Hands each datagram of the link on to all posts, until the link ends or fails and all that was kept for the posts is
+/// sent. Before each post stands a queue of `capacity` datagrams; one that finds it full is dropped for that post, and so is
+/// any behind 2^62 - 2 others.
+///
+/// The caller reads the link, with `gate` around each datagram that it puts into the queues, and around the end. Each post
+/// sends in a thread of its own, with its own gate around each datagram; where so many threads can't be made, the caller
+/// sends what is in the queues behind each datagram. A post that failed sends no more, and the others go on. The posts and
+/// their gates are given back in their order.
+///
+/// `Err`: there was no memory, and nothing was read. It waits for the link, and nothing is promised of when it ends.
+pub fn relay<R: Threads + Wait + Sync, K: Link, P: Post + Send, G: Gate + Send>(
+    rt: &R,
+    alloc: Global,
+    link: &mut K,
+    gate: &mut G,
+    posts: &mut Vec<P>,
+    gates: &mut Vec<G>,
+    capacity: u32,
+) -> Result<Relayed, NoMemory>
+    requires some { (1 ≤ length posts.old.items) × (length posts.old.items ≤ 32) }
+    requires gates { length gates.old.items ≡ length posts.old.items }
+    requires capacity { (1 ≤ capacity) × (capacity ≤ 4096) }
+    ensures relays { IfOk result (λ it. Relays capacity (K.left link.old) (K.left link.new) (map (λ post. record { name = P.name post; sent = P.sent post; faults = P.faults post }) posts.old.items) (map (λ post. record { name = P.name post; sent = P.sent post; faults = P.faults post }) posts.new.items) it.end it.counts.items) }
+    ensures unread { OnErr result (K.left link.new ≡ K.left link.old) }
+    ensures untouched { OnErr result (posts.new.items ≡ posts.old.items) }
+    ensures cause { HasCause (K.faults link.old) (K.faults link.new) (MatchResult result (λ it. it.end ≡ Failed) (λ _. ⊥)) }
+    ensures name { K.name link.new ≡ K.name link.old }
+{
+    match make_rooms(alloc, posts.len(), capacity as usize) {
+        Ok(rooms) => Ok(relay_in(rt, link, gate, posts, gates, rooms)),
+        Err(refusal) => Err(refusal),
+    }
+}

@@ -1,0 +1,160 @@
+//! What sends the datagrams of the queue before one post.
+
+ghost use Rattle.std.specs.Prelude.{◌≡◌, ◌≤◌, ◌++◌, ◌∷◌, [], ℕ, List, true, false, length, take};
+ghost use Rattle.std.specs.Arc.{arc_value};
+ghost use Rattle.crossbeam_queue.specs.Passes.{view, IsSamePass};
+ghost use Rattle.tesla_desk.specs.Faults.{HasCause};
+ghost use Rattle.tesla_posts.specs.Posts.{PostSeen};
+ghost use Rattle.tesla_relay.specs.Feeding.{IsServing, IsDone, IsSameServer, ServerSeen, ServesOn, SendsNext};
+ghost use Rattle.tesla_relay.specs.Lists.{ServesAll};
+ghost use Rattle.tesla_relay.specs.Line.{popped_log};
+
+use crate::line::{Item, Line, LinePass, take_out};
+use std::marker::Model;
+use std::sync::{Arc, Wait};
+use tesla_desk::{Gate, Post, PostStep};
+
+/// What a server found in its queue.
+#[derive(Clone, Copy, Debug, PartialEq, Eq)]
+enum Served {
+    /// A datagram, which was sent unless the post had failed.
+    Datagram,
+    /// Nothing.
+    Nothing,
+    /// The end.
+    End,
+}
+
+/// What sends the datagrams of the queue before one post.
+pub struct Server<P: Post, G: Gate> {
+    pub post: P,
+    pub gate: G,
+    pub line: Arc<Line>,
+    pub pass: LinePass,
+    /// How many were sent. The count stands still at 2^64 - 1.
+    pub sent: u64,
+    /// Whether the post failed.
+    pub failed: bool,
+}
+
+impl<P: Post, G: Gate> Model for Server<P, G> {
+    ghost use Rattle.std.specs.Arc.{arc_value};
+    ghost use Rattle.tesla_relay.specs.Feeding.{ServerSeen};
+
+    ghost Value = { ServerSeen };
+
+    ghost view = { λ it. record { post = record { name = P.name it.post; sent = P.sent it.post; faults = P.faults it.post }; table = (arc_value it.line).table.shared.table_id; pass = it.pass; sent = it.sent; failed = it.failed } };
+}
+
+impl<P: Post, G: Gate> Server<P, G> {
+    /// A server that has sent nothing.
+    pub fn new(post: P, gate: G, line: Arc<Line>, pass: LinePass) -> Server<P, G>
+        ensures post { result.post ≡ record { name = P.name post; sent = P.sent post; faults = P.faults post } }
+        ensures pass { (result.table ≡ (arc_value line).table.shared.table_id) × (result.pass ≡ pass) }
+        ensures counts { (result.sent ≡ 0) × (result.failed ≡ false) }
+    {
+        Server {
+            post,
+            gate,
+            line,
+            pass,
+            sent: 0,
+            failed: false,
+        }
+    }
+
+    // Sends a datagram, unless the post has failed.
+    fn send(&mut self, datagram: &[u8])
+        requires { length datagram.now ≤ 2048 }
+        ensures { SendsNext datagram.now self.old self.new }
+    {
+        if self.failed {
+            return;
+        }
+        match self.post.send(datagram) {
+            PostStep::Sent => self.sent = self.sent.saturating_add(1),
+            PostStep::Failed => self.failed = true,
+        }
+    }
+
+    // Takes the oldest item out, and sends it where it is a datagram.
+    fn step(&mut self) -> Served
+        requires { IsServing self.old }
+        ensures on { ServesOn self.old self.new }
+        ensures done { result ≡ Served.End → IsDone self.new }
+    {
+        match take_out(&self.line, &mut self.pass) {
+            Some(Item::Datagram { length, bytes }) => {
+                let size = usize::from(length).min(bytes.len());
+                self.send(&bytes[..size]);
+                Served::Datagram
+            }
+            Some(Item::End) => Served::End,
+            None => Served::Nothing,
+        }
+    }
+
+    /// Sends what comes through the queue, until its end comes. Where nothing is there it rests at the gate.
+    pub fn serve<R: Wait>(&mut self, rt: &R)
+        requires { IsServing self.old }
+        ensures on { ServesOn self.old self.new }
+        ensures done { IsDone self.new }
+    {
+        for _ in rt.forever() {
+            self.gate.before();
+            let served = self.step();
+            self.gate.after();
+            match served {
+                Served::Datagram => {}
+                Served::Nothing => self.gate.rest(),
+                Served::End => return,
+            }
+        }
+        unreachable!()
+    }
+
+    /// Sends what the queue holds now.
+    pub fn empty<R: Wait>(&mut self, rt: &R)
+        requires { IsServing self.old }
+        ensures { ServesOn self.old self.new }
+    {
+        for _ in rt.forever() {
+            self.gate.before();
+            let served = self.step();
+            self.gate.after();
+            match served {
+                Served::Datagram => {}
+                Served::Nothing | Served::End => return,
+            }
+        }
+        unreachable!()
+    }
+}
+
+/// What serves a queue.
+pub trait Serve {
+    /// What is seen of it.
+    ghost seen: { Self → ServerSeen };
+
+    /// Sends what comes through the queue, until its end comes.
+    fn serve_on<R: Wait>(&mut self, rt: &R)
+        requires { IsServing (seen self.old) }
+        ensures { ServesAll (seen self.old) (seen self.new) };
+
+    /// Sends what the queue holds now.
+    fn serve_now<R: Wait>(&mut self, rt: &R)
+        requires { IsServing (seen self.old) }
+        ensures { ServesOn (seen self.old) (seen self.new) };
+}
+
+impl<P: Post, G: Gate> Serve for Server<P, G> {
+    ghost seen = { λ it. it };
+
+    fn serve_on<R: Wait>(&mut self, rt: &R) {
+        self.serve(rt);
+    }
+
+    fn serve_now<R: Wait>(&mut self, rt: &R) {
+        self.empty(rt);
+    }
+}

@@ -1,0 +1,3 @@
+pub mod ThreeWords
+pub mod Sent
+pub mod Performed

@@ -1,0 +1,346 @@
+-- What the command did, from its openings and closings.
+use Rattle.std.proofs.Common.{◌≡◌, ◌∙◌, ◌⊎◌, inl, inr, ℕ, zero, suc, Ok, Err, List, [], ◌∷◌, Option, Some, None, map, length, take, refl, sym, ap, subst, arith}
+use Rattle.std.specs.Option.{option_map}
+use Rattle.tesla_desk.specs.Clocks.{Gives, Ticking}
+use Rattle.tesla_desk.specs.Faults.{Faults, HasCauses, HasCausesBeside, after_source, raised}
+use Rattle.tesla_desk.specs.Live.{Live, clock_told}
+use Rattle.tesla_desk.specs.Outside.{ClosesSource, Holds, OfPost, OfSource, Opened, OpensSource, Page, Told, Untold, Absent}
+use Rattle.tesla_desk.specs.declared.desk.OpenRefusal.{OpenRefusal}
+use Rattle.tesla_desk.specs.declared.desk.OpenRefusal.TheVariants as refusals
+use Rattle.tesla_desk.proofs.Counts.{cause_as, cause_none, causes_both, causes_opening, causes_plain, causes_source, causes_then, counts_stay}
+use Rattle.tesla_desk.proofs.Given.{first_readings}
+use Rattle.tesla_front.specs.Came.{Came, Failed}
+use Rattle.tesla_front.specs.Command.{Performs}
+use Rattle.tesla_front.specs.Fault.{unopened}
+use Rattle.tesla_front.specs.Files.{HoldsWhere}
+use Rattle.tesla_front.specs.Openings.{AnyFailed, AreFiles, Opens}
+use Rattle.tesla_front.specs.declared.fault.Fault.{Fault}
+use Rattle.tesla_front.specs.declared.fault.Fault.TheVariants as faults
+use Rattle.tesla_front.proofs.Openings.{not_first_read, opens_first, opens_none, opens_some, opens_then, source_tried}
+use Rattle.tesla_names.specs.Names.{AreDistinct, AreListNames, IsNoneOf}
+use Rattle.tesla_play.specs.Play.{FileTo, Played, bytes_of}
+use Rattle.tesla_play.specs.declared.playing.PlayEnd.{PlayEnd}
+use Rattle.tesla_play.specs.declared.playing.PlayEnd.TheVariants as ends
+use Rattle.tesla_posts.specs.Closed.{AnyFaulty, ClosesTo, IsUnsent}
+use Rattle.tesla_posts.specs.Opened.{OpensNotAll, OpensTo, post_name}
+use Rattle.tesla_posts.specs.Opening.{ClosesPosts}
+use Rattle.tesla_posts.specs.Posts.{PostSeen}
+use Rattle.tesla_posts.proofs.Closings.{closes_to, fresh_counts, fresh_mails}
+use Rattle.tesla_posts.proofs.Openings.{opens_still, opens_to}
+use Rattle.tesla_run_play.specs.Arguments.{PlayArguments, IsPlayForm, files_of_play}
+use Rattle.tesla_run_play.specs.Playing.{PostsHold, ReadWhere, TouchesPosts, came_with, play}
+use Rattle.tesla_run_play.specs.Steps.{OpensAndPlays, PlaysOpen, Refuses, RunsOpened}
+use Rattle.tesla_run_play.proofs.Sent.{end_faulty, faulty_end, names_stay, posts_hold}
+
+-- ---- names
+
+posts_are_files : (names : List (List ℕ)) → AreListNames names → AreFiles (map OfPost names)
+posts_are_files [] are = tt
+posts_are_files (name ∷ names) (own, others) = (own.named.file, posts_are_files names others)
+
+-- none of the files is the console
+are_files : (arguments : PlayArguments) (words : List (List ℕ)) → IsPlayForm arguments words → AreFiles (files_of_play arguments)
+are_files arguments words is = (is.capture_is.file, posts_are_files arguments.posts is.posts_are.each)
+
+none_of_first : (n : ℕ) (name : List ℕ) (names : List (List ℕ)) → IsNoneOf name names → IsNoneOf name (take n names)
+none_of_first zero name names none = tt
+none_of_first (suc n) name [] none = tt
+none_of_first (suc n) name (other ∷ names) none = (none.0, none_of_first n name names none.1)
+
+-- ---- faults
+
+-- an opening that was refused raised the count of openings where it failed, and no other count rose
+not_all_counts : {hidden : Type 0} (fault : Fault) (before now : Told) → OpensNotAll fault before now → HasCausesBeside hidden before.faults now.faults (Failed fault ≡ Failed faults.Read) (Failed fault ≡ Failed faults.Write) (Failed fault ≡ Failed faults.Open)
+not_all_counts {hidden} fault before now not_all =
+    causes_plain {hidden = hidden} before.faults now.faults
+    (causes_opening before.faults now.faults not_all.counts (λ e. no_read fault e not_all.cause) (λ e. no_write fault e not_all.cause) (λ e. open_is fault e) (λ e. ap Failed e)) where
+      no_read : (f : Fault) → Failed f ≡ Failed faults.Read → (f ≡ faults.Open) ⊎ (f ≡ faults.NoMemory) → ⊥
+      no_read f e (inl refused) = cc
+      no_read f e (inr memory) = cc
+
+      no_write : (f : Fault) → Failed f ≡ Failed faults.Write → (f ≡ faults.Open) ⊎ (f ≡ faults.NoMemory) → ⊥
+      no_write f e (inl refused) = cc
+      no_write f e (inr memory) = cc
+
+      open_is : (f : Fault) → Failed f ≡ Failed faults.Open → f ≡ faults.Open
+      open_is f e = cc
+
+came_cause : (fault : Fault) → (fault ≡ faults.Open) ⊎ (fault ≡ faults.NoMemory) → (Failed fault ≡ Failed faults.Open) ⊎ (Failed fault ≡ Failed faults.NoMemory)
+came_cause fault (inl refused) = inl (ap Failed refused)
+came_cause fault (inr memory) = inr (ap Failed memory)
+
+-- ---- what is told of links, posts and clocks
+
+touches_nothing : (posts : List (List ℕ)) (before now : Live) → now ≡ before → TouchesPosts posts before now
+touches_nothing posts before now same = record {
+  wires = λ name. ap (λ (l : Live). l.wire name) same;
+  lefts = λ name. ap (λ (l : Live). l.left name) same;
+  mails = λ name none. ap (λ (l : Live). l.mail name) same;
+  readings = ap (λ (l : Live). l.readings) same;
+}
+
+-- ---- nothing was opened
+
+-- there was no room for the posts
+pub performs_roomless : (arguments : PlayArguments) (words : List (List ℕ)) (before : Told) → IsPlayForm arguments words → Performs (play before.live before.live) arguments before before (Failed faults.NoMemory)
+performs_roomless arguments words before is = record {
+  named = are_files arguments words is;
+  opened = 0;
+  opens = opens_none (files_of_play arguments) before before refl (λ name. refl) (λ name. refl);
+  does = (touches_nothing arguments.posts before.live before.live refl, inl (record { unread = inl refl; unsent = λ name. inl refl; made = refl; cause = inr refl }));
+  counts = causes_plain before.faults before.faults (record {
+    reads = cause_none before.faults.reads before.faults.reads refl (λ e. absurd cc);
+    writes = cause_none before.faults.writes before.faults.writes refl (λ e. absurd cc);
+    openings = cause_none before.faults.openings before.faults.openings refl (λ e. absurd cc);
+  });
+}
+
+source_not_all : {A : Type 0} (name : List ℕ) (refusal : OpenRefusal) (before now : Told) → OpensSource {A = A} name (Err refusal) before now → OpensNotAll (unopened refusal) before now
+source_not_all name refusals.Failed before now tried = record {
+  cause = inl refl;
+  counts = record { reads = tried.counts.reads; writes = tried.counts.writes; openings = cause_as before.faults.openings now.faults.openings tried.counts.openings (λ e. refl) (λ e. refl) };
+}
+source_not_all name refusals.NoMemory before now tried = record {
+  cause = inr refl;
+  counts = record { reads = tried.counts.reads; writes = tried.counts.writes; openings = cause_as before.faults.openings now.faults.openings tried.counts.openings (λ e. absurd cc) (λ e. absurd cc) };
+}
+
+-- the capture wasn't opened
+pub performs_unopened : {A : Type 0} (arguments : PlayArguments) (words : List (List ℕ)) (refusal : OpenRefusal) (fault : Fault) (before now : Told) → IsPlayForm arguments words → fault ≡ unopened refusal → OpensSource {A = A} arguments.capture (Err refusal) before now → Performs (play before.live now.live) arguments before now (Failed fault)
+performs_unopened {A} arguments words refusal fault before now is fault_is tried =
+    let some = opens_some (OfSource arguments.capture) (map OfPost arguments.posts) before now (source_tried {A = A} arguments.capture (Err refusal) before now tried) in
+    let not_all = source_not_all {A = A} arguments.capture refusal before now tried in
+    subst (λ (f : Fault). Performs (play before.live now.live) arguments before now (Failed f)) (sym fault_is) (record {
+      named = are_files arguments words is;
+      opened = some.0;
+      opens = some.2;
+      does = (
+        touches_nothing arguments.posts before.live now.live tried.live,
+        inl (record {
+          unread = inl (tried.lefts arguments.capture);
+          unsent = λ name. inl (ap (λ (l : Live). l.mail name) tried.live);
+          made = ap (λ (l : Live). l.made) tried.live;
+          cause = came_cause (unopened refusal) not_all.cause;
+        }),
+      );
+      counts = not_all_counts (unopened refusal) before now not_all;
+    })
+
+-- ---- the capture was opened
+
+left_where : (page : Page) (left later : Option (List ℕ)) → Opened page left → later ≡ left → HoldsWhere page (λ bytes. later ≡ Some bytes)
+left_where Untold left later opened same = tt
+left_where Absent left later opened same = opened
+left_where (Holds bytes failed) left later opened same = same ∙ opened
+
+file_where : (end : PlayEnd) (page : Page) (left later now : Option (List ℕ)) (played : List Played) → Opened page left → now ≡ later → ((bytes : List ℕ) → left ≡ Some bytes → FileTo end bytes later played) → HoldsWhere page (λ bytes. FileTo end bytes now played)
+file_where end Untold left later now played opened same file = tt
+file_where end Absent left later now played opened same file = opened
+file_where end (Holds bytes failed) left later now played opened same file = subst (λ (l : Option (List ℕ)). FileTo end bytes l played) (sym same) (file bytes opened)
+
+read_where : (readings : List ℕ) (all : Option (ℕ → List ℕ)) (made : Option ℕ) (after : Option Ticking) → Gives readings (clock_told all made) after → ReadWhere readings all made
+read_where readings None made after gives = tt
+read_where readings (Some all) None after gives = tt
+read_where readings (Some all) (Some made) after gives = λ few. first_readings readings (record { ahead = all made; given = [] }) after (omega (arith, few)) gives
+
+ends_read : (end : PlayEnd) → came_with end ≡ Failed faults.Read → end ≡ ends.ReadFault
+ends_read (ends.Ended sent) e = absurd cc
+ends_read (ends.Refused place kind) e = absurd cc
+ends_read ends.ReadFault e = refl
+ends_read ends.PostFault e = absurd cc
+
+ends_write : (end : PlayEnd) → came_with end ≡ Failed faults.Write → end ≡ ends.PostFault
+ends_write (ends.Ended sent) e = absurd cc
+ends_write (ends.Refused place kind) e = absurd cc
+ends_write ends.ReadFault e = absurd cc
+ends_write ends.PostFault e = refl
+
+ends_open : (end : PlayEnd) → came_with end ≡ Failed faults.Open → ⊥
+ends_open (ends.Ended sent) e = absurd cc
+ends_open (ends.Refused place kind) e = absurd cc
+ends_open ends.ReadFault e = absurd cc
+ends_open ends.PostFault e = absurd cc
+
+unsent_after : (name : List ℕ) (before tried closed now : Live) → tried ≡ before → now ≡ closed → (closed.mail name ≡ tried.mail name) ⊎ IsUnsent (closed.mail name) → (now.mail name ≡ before.mail name) ⊎ IsUnsent (now.mail name)
+unsent_after name before tried closed now first last (inl same) = inl (ap (λ (l : Live). l.mail name) last ∙ same ∙ ap (λ (l : Live). l.mail name) first)
+unsent_after name before tried closed now first last (inr unsent) = inr (subst (λ (l : Live). IsUnsent (l.mail name)) (sym last) unsent)
+
+either_read : (end : PlayEnd) → ⊥ ⊎ (came_with end ≡ Failed faults.Read) → came_with end ≡ Failed faults.Read
+either_read end (inl never) = absurd never
+either_read end (inr read) = read
+
+either_write : (posts : List PostSeen) (end : PlayEnd) → (AnyFaulty posts → came_with end ≡ Failed faults.Write) → AnyFaulty posts ⊎ ⊥ → came_with end ≡ Failed faults.Write
+either_write posts end write (inl failed) = write failed
+either_write posts end write (inr never) = absurd never
+
+neither : ⊥ ⊎ ⊥ → ⊥
+neither (inl never) = never
+neither (inr never) = never
+
+module _ (arguments : PlayArguments) (words : List (List ℕ)) (left : Option (List ℕ)) (before mid now : Told) (is : IsPlayForm arguments words) (opened : Opened (before.page arguments.capture) left) (source_live : mid.live ≡ before.live) (source_counts : mid.faults ≡ before.faults) (source_opens : Opens (OfSource arguments.capture ∷ []) 1 before mid) (posts : List PostSeen) (tried closed : Told) (later : Option (List ℕ)) (missed : ℕ)
+    (closes : ClosesTo posts tried closed) (source_closed : ClosesSource arguments.capture later missed closed now) where
+  -- the capture and so many posts were asked to be opened, and nothing else was
+  all_opens : (n : ℕ) → Opens (map OfPost arguments.posts) n mid tried → Opens (files_of_play arguments) (suc n) before now
+  all_opens n opens =
+      let still = opens_still (map OfPost arguments.posts) n mid tried closed opens closes.asked closes.pages closes.lefts in
+      let both = opens_then (OfSource arguments.capture) (map OfPost arguments.posts) n before mid closed source_opens still in
+      record {
+        asked = source_closed.asked ∙ both.asked;
+        pages = λ name none. source_closed.pages name ∙ both.pages name none;
+        lefts = λ name none. source_closed.lefts name (not_first_read name arguments.capture (take n (map OfPost arguments.posts)) none) ∙ both.lefts name none;
+      }
+
+  all_touches : tried.live ≡ record before.live { made = tried.live.made } → ((name : List ℕ) → IsNoneOf name arguments.posts → IsNoneOf name (map post_name posts)) → TouchesPosts arguments.posts before.live now.live
+  all_touches same none_of = record {
+    wires = λ name. ap (λ (l : Live). l.wire name) source_closed.live ∙ closes.wires name ∙ ap (λ (l : Live). l.wire name) same;
+    lefts = λ name. ap (λ (l : Live). l.left name) source_closed.live ∙ closes.remainders name ∙ ap (λ (l : Live). l.left name) same;
+    mails = λ name none. ap (λ (l : Live). l.mail name) source_closed.live ∙ closes.others name (none_of name none) ∙ ap (λ (l : Live). l.mail name) same;
+    readings = ap (λ (l : Live). l.readings) source_closed.live ∙ closes.clocks.0 ∙ ap (λ (l : Live). l.readings) same;
+  }
+
+  all_made : now.live.made ≡ tried.live.made
+  all_made = ap (λ (l : Live). l.made) source_closed.live ∙ closes.clocks.1
+
+  fresh_closed : missed ≡ 0 → now.faults ≡ closed.faults
+  fresh_closed none = source_closed.counts ∙ ap (λ (n : ℕ). after_source closed.faults n) none
+
+  -- ---- a post wasn't opened
+
+  module _ (posts_closed : ClosesPosts posts tried closed) (came : Came) (refuses : Refuses arguments.posts left later 0 missed mid tried posts came) where
+    refused_to : OpensTo arguments.posts posts mid tried (Err refuses.fault)
+    refused_to = subst (λ (ps : List PostSeen). OpensTo arguments.posts ps mid tried (Err refuses.fault)) (sym refuses.opens.1) (opens_to arguments.posts mid tried refuses.opens.0 (Err refuses.fault) refuses.opens.2)
+
+    refused_live : tried.live ≡ before.live
+    refused_live = refused_to.live ∙ source_live
+
+    refused_alone : tried.live ≡ record before.live { made = tried.live.made }
+    refused_alone = refused_live ∙ ap (λ (made : Option ℕ). let it : Live = record before.live { made = made } in it) (sym (ap (λ (l : Live). l.made) refused_live))
+
+    refused_unsent : (name : List ℕ) → (now.live.mail name ≡ before.live.mail name) ⊎ IsUnsent (now.live.mail name)
+    refused_unsent name = unsent_after name before.live tried.live closed.live now.live refused_live source_closed.live (fresh_mails posts tried closed refused_to.fresh posts_closed name)
+
+    refused_faults : now.faults ≡ tried.faults
+    refused_faults = fresh_closed refuses.same.1 ∙ fresh_counts posts tried closed refused_to.fresh closes
+
+    pub performs_refused : Performs (play before.live now.live) arguments before now came
+    performs_refused =
+        let fault = refuses.fault in
+        let not_all = refused_to.refused fault refl in
+        let counts = causes_then before.faults mid.faults tried.faults source_counts (not_all_counts {hidden = (Failed fault ≡ Failed faults.Read) × AnyFailed (files_of_play arguments) now} fault mid tried not_all) in
+        subst (λ (c : Came). Performs (play before.live now.live) arguments before now c) (sym refuses.came_is) (record {
+          named = are_files arguments words is;
+          opened = suc refused_to.opened;
+          opens = all_opens refused_to.opened refused_to.opens;
+          does = (
+            all_touches refused_alone (λ name none. subst (λ (ns : List (List ℕ)). IsNoneOf name ns) (sym refused_to.names_are) (none_of_first (length posts) name arguments.posts none)),
+            inl (record {
+              unread = inr (left_where (before.page arguments.capture) left (now.left arguments.capture) opened (source_closed.own ∙ refuses.same.0));
+              unsent = refused_unsent;
+              made = all_made ∙ ap (λ (l : Live). l.made) refused_live;
+              cause = came_cause fault not_all.cause;
+            }),
+          );
+          counts = subst (λ (f : Faults). HasCausesBeside ((Failed fault ≡ Failed faults.Read) × AnyFailed (files_of_play arguments) now) before.faults f (Failed fault ≡ Failed faults.Read) (Failed fault ≡ Failed faults.Write) (Failed fault ≡ Failed faults.Open)) (sym refused_faults) counts;
+        })
+
+  -- ---- all were opened
+
+  module _ (came : Came) (open_plays : PlaysOpen arguments.posts left later 0 missed mid tried posts came) where
+    played_to : OpensTo arguments.posts open_plays.fresh mid open_plays.opened (Ok tt)
+    played_to = subst (λ (ps : List PostSeen). OpensTo arguments.posts ps mid open_plays.opened (Ok tt)) (sym open_plays.opens.1) (opens_to arguments.posts mid open_plays.opened open_plays.opens.0 (Ok tt) open_plays.opens.2)
+
+    played_live : open_plays.opened.live ≡ before.live
+    played_live = played_to.live ∙ source_live
+
+    played_alone : tried.live ≡ record before.live { made = tried.live.made }
+    played_alone = ap (λ (t : Told). t.live) open_plays.made.makes.same ∙ ap (λ (l : Live). let it : Live = record l { made = tried.live.made } in it) played_live
+
+    played_opens : Opens (map OfPost arguments.posts) played_to.opened mid tried
+    played_opens =
+        let same = open_plays.made.makes.same in
+        opens_still (map OfPost arguments.posts) played_to.opened mid open_plays.opened tried played_to.opens (ap (λ (t : Told). t.openings) same) (λ name. ap (λ (t : Told). t.page name) same) (λ name. ap (λ (t : Told). t.left name) same)
+
+    played_names : map post_name posts ≡ arguments.posts
+    played_names = names_stay open_plays.end (map bytes_of open_plays.made.plays.played) open_plays.fresh posts open_plays.made.plays.posts_are ∙ (played_to.whole refl).names_are
+
+    played_posts : PostsHold open_plays.end (map bytes_of open_plays.made.plays.played) arguments.posts now.live
+    played_posts =
+        let sent = map bytes_of open_plays.made.plays.played in
+        let distinct : AreDistinct (map post_name posts) = subst AreDistinct (sym played_names) is.posts_are.distinct in
+        let held = posts_hold open_plays.end sent open_plays.fresh posts closed played_to.fresh open_plays.made.plays.posts_are (closes.mails distinct) in
+        subst (λ (l : Live). PostsHold open_plays.end sent arguments.posts l) (sym source_closed.live)
+        (subst (λ (names : List (List ℕ)). PostsHold open_plays.end sent names closed.live) (played_to.whole refl).names_are held)
+
+    played_made : now.live.made ≡ option_map raised before.live.made
+    played_made = all_made ∙ open_plays.made.makes.counted ∙ ap (λ (l : Live). option_map raised l.made) played_live
+
+    played_clock : ReadWhere open_plays.made.plays.readings before.live.readings before.live.made
+    played_clock =
+        subst (λ (l : Live). ReadWhere open_plays.made.plays.readings l.readings l.made) played_live
+        (read_where open_plays.made.plays.readings open_plays.opened.live.readings open_plays.opened.live.made open_plays.made.after open_plays.made.plays.gives)
+
+    played_file : HoldsWhere (before.page arguments.capture) (λ bytes. FileTo open_plays.end bytes (now.left arguments.capture) open_plays.made.plays.played)
+    played_file = file_where open_plays.end (before.page arguments.capture) left later (now.left arguments.capture) open_plays.made.plays.played opened source_closed.own open_plays.made.plays.file
+
+    played_faults : tried.faults ≡ before.faults
+    played_faults = ap (λ (t : Told). t.faults) open_plays.made.makes.same ∙ (played_to.whole refl).counts ∙ source_counts
+
+    played_causes : HasCauses tried.faults now.faults (came_with open_plays.end ≡ Failed faults.Read) (came_with open_plays.end ≡ Failed faults.Write) (came_with open_plays.end ≡ Failed faults.Open)
+    played_causes =
+        let end = open_plays.end in
+        let sent = map bytes_of open_plays.made.plays.played in
+        let first : HasCauses tried.faults closed.faults ⊥ (AnyFaulty posts) ⊥ = record {
+          reads = cause_none tried.faults.reads closed.faults.reads closes.reads (λ never. never);
+          writes = closes.writes;
+          openings = cause_none tried.faults.openings closed.faults.openings closes.openings (λ never. never);
+        } in
+        let then : HasCauses closed.faults now.faults (came_with end ≡ Failed faults.Read) ⊥ ⊥ =
+        causes_source {write = ⊥} {opening = ⊥} closed.faults now.faults missed source_closed.counts open_plays.read (ends_read end) (λ e. ap came_with e) (λ never. never) (λ never. never) in
+        causes_both tried.faults closed.faults now.faults first then
+        (λ e. inr e) (λ which. either_read end which)
+        (λ e. inl (end_faulty end sent open_plays.fresh posts played_to.fresh open_plays.made.plays.posts_are (ends_write end e)))
+        (λ which. either_write posts end (λ failed. ap came_with (faulty_end end sent open_plays.fresh posts played_to.fresh open_plays.made.plays.posts_are failed)) which)
+        (λ e. absurd (ends_open end e)) (λ which. absurd (neither which))
+
+    pub performs_played : Performs (play before.live now.live) arguments before now came
+    performs_played =
+        subst (λ (c : Came). Performs (play before.live now.live) arguments before now c) (sym open_plays.came_is) (record {
+          named = are_files arguments words is;
+          opened = suc played_to.opened;
+          opens = all_opens played_to.opened played_opens;
+          does = (
+            all_touches played_alone (λ name none. subst (λ (ns : List (List ℕ)). IsNoneOf name ns) (sym played_names) none),
+            inr (
+              ap suc (played_to.whole refl).all,
+              record {
+                end = open_plays.end;
+                came_is = refl;
+                played = open_plays.made.plays.played;
+                limits = open_plays.made.plays.limits;
+                readings = open_plays.made.plays.readings;
+                paced = open_plays.made.plays.paced;
+                clock = played_clock;
+                made = played_made;
+                file = played_file;
+                count = open_plays.made.plays.count;
+                posts = played_posts;
+              },
+            ),
+          );
+          counts = causes_then before.faults tried.faults now.faults played_faults (causes_plain tried.faults now.faults played_causes);
+        })
+
+performs_tried : (arguments : PlayArguments) (words : List (List ℕ)) (left : Option (List ℕ)) (before mid now : Told) (is : IsPlayForm arguments words) (opened : Opened (before.page arguments.capture) left) (source_live : mid.live ≡ before.live) (source_counts : mid.faults ≡ before.faults) (source_opens : Opens (OfSource arguments.capture ∷ []) 1 before mid) (posts : List PostSeen) (tried closed : Told) (later : Option (List ℕ)) (missed : ℕ)
+    (posts_closed : ClosesPosts posts tried closed) (source_closed : ClosesSource arguments.capture later missed closed now) (came : Came) → OpensAndPlays arguments.posts left later 0 missed mid tried posts came → Performs (play before.live now.live) arguments before now came
+performs_tried arguments words left before mid now is opened source_live source_counts source_opens posts tried closed later missed posts_closed source_closed came (inl refuses) =
+    performs_refused arguments words left before mid now is opened source_live source_counts source_opens posts tried closed later missed (closes_to posts tried closed posts_closed) source_closed posts_closed came refuses
+performs_tried arguments words left before mid now is opened source_live source_counts source_opens posts tried closed later missed posts_closed source_closed came (inr open_plays) =
+    performs_played arguments words left before mid now is opened source_live source_counts source_opens posts tried closed later missed (closes_to posts tried closed posts_closed) source_closed came open_plays
+
+-- the capture was opened, and then the posts were, and all was closed
+pub performs_opened : {A : Type 0} (arguments : PlayArguments) (words : List (List ℕ)) (it : A) (name : List ℕ) (names : List (List ℕ)) (left : Option (List ℕ)) (before mid now : Told) (came : Came) → IsPlayForm arguments words → name ≡ arguments.capture → names ≡ arguments.posts → Opened (before.page arguments.capture) left → OpensSource {A = A} arguments.capture (Ok it) before mid → RunsOpened names name left mid now came → Performs (play before.live now.live) arguments before now came
+performs_opened {A} arguments words it name names left before mid now came is own posts_are opened opens runs =
+    let tries = subst (λ (ns : List (List ℕ)). OpensAndPlays ns left runs.later 0 runs.missed mid runs.tried runs.posts came) posts_are runs.tries in
+    let source_closed = subst (λ (n : List ℕ). ClosesSource n runs.later runs.missed runs.closed now) own runs.source_closed in
+    let first = opens_first (OfSource arguments.capture) [] before mid opens.asked (λ n none. opens.pages n) (λ n none. opens.lefts n) in
+    performs_tried arguments words left before mid now is opened opens.live (counts_stay before.faults mid.faults opens.counts (λ e. absurd cc)) first runs.posts runs.tried runs.closed runs.later runs.missed runs.posts_closed source_closed came tries

@@ -1,0 +1,4 @@
+pub mod Arguments
+pub mod Playing
+pub mod Steps
+pub mod Usage

@@ -1,0 +1,148 @@
+//! A run of the command `play`.
+
+ghost use Rattle.std.specs.Prelude.{◌≡◌, ◌≤◌, ℕ, [], List, length, map, string_bytes, vec_capacity};
+ghost use Rattle.tesla_desk.specs.Faults.{HasCause};
+ghost use Rattle.tesla_front.specs.Came.{outcome_came};
+ghost use Rattle.tesla_front.specs.Command.{Performs, RunsAs};
+ghost use Rattle.tesla_posts.specs.Opening.{name_of};
+ghost use Rattle.tesla_posts.specs.Posts.{PostSeen};
+ghost use Rattle.tesla_run_play.specs.Arguments.{IsPlayForm, arguments_of};
+ghost use Rattle.tesla_run_play.specs.Playing.{came_with, play};
+ghost use Rattle.tesla_run_play.specs.Steps.{OpensAndPlays, PlaysMade, RunsOpened};
+
+use crate::arguments::Arguments;
+use crate::words::arguments_in;
+use std::alloc::Global;
+use std::sync::Wait;
+use tesla_base::Kind;
+use tesla_desk::Desk;
+use tesla_front::{Fault, Lines, Outcome, add_count, refused};
+use tesla_play::{PlayEnd, play};
+use tesla_posts::{close_posts, open_posts};
+
+/// Runs the words as those of `play`: the arrivals of CAPTURE are sent, each to all of POSTS in their order, once the next clock
+/// gives the arrival's reading. Takes are skipped. Room for the posts is taken first, then CAPTURE is opened, and then the posts.
+///
+/// `Done` with the line of how many arrivals there were. `Refused` where CAPTURE is no capture, with the first place that is
+/// refused, and then the arrivals before it were sent. `Usage` exactly where the words are no form, and then nothing was
+/// opened. `Failed` with what went wrong first, `Read`, `Write` and `Open` only where the desk's count of that rose: after a
+/// failed read, or a post that failed, nothing is sent. It waits for the clock.
+pub fn run_play<R: Wait, D: Desk>(rt: &R, alloc: Global, words: &[String], desk: &mut D) -> Outcome
+    ensures { RunsAs (play (D.told desk.old).live (D.told desk.new).live) (map string_bytes words.now) (D.told desk.old) (D.told desk.new) (outcome_came result) }
+{
+    match arguments_in(words) {
+        Some(arguments) => perform(rt, alloc, &arguments, desk),
+        None => Outcome::Usage,
+    }
+}
+
+// Does what the words ask for, with room for the posts.
+fn perform<R: Wait, D: Desk>(
+    rt: &R,
+    alloc: Global,
+    arguments: &Arguments<'_>,
+    desk: &mut D,
+) -> Outcome
+    requires form { (spelled : List (List ℕ)) × IsPlayForm (arguments_of arguments.now) spelled }
+    ensures { Performs (play (D.told desk.old).live (D.told desk.new).live) (arguments_of arguments.now) (D.told desk.old) (D.told desk.new) (outcome_came result) }
+{
+    let Ok(mut posts) = Vec::with_capacity(alloc, arguments.posts.len()) else {
+        return Outcome::Failed(Fault::NoMemory);
+    };
+    let outcome = play_named(rt, arguments, desk, &mut posts);
+    posts.destroy_empty();
+    outcome
+}
+
+// Opens the capture, and plays it.
+fn play_named<R: Wait, D: Desk>(
+    rt: &R,
+    arguments: &Arguments<'_>,
+    desk: &mut D,
+    posts: &mut Vec<D::Port>,
+) -> Outcome
+    requires form { (spelled : List (List ℕ)) × IsPlayForm (arguments_of arguments.now) spelled }
+    requires empty { posts.old.items ≡ [] }
+    requires room { length arguments.now.posts ≤ vec_capacity posts.old }
+    ensures performs { Performs (play (D.told desk.old).live (D.told desk.new).live) (arguments_of arguments.now) (D.told desk.old) (D.told desk.new) (outcome_came result) }
+    ensures none { posts.new.items ≡ [] }
+{
+    match desk.open_source(arguments.capture) {
+        Ok(source) => run_opened(rt, arguments.posts.as_slice(), source, desk, posts),
+        Err(refusal) => Outcome::Failed(Fault::from(refusal)),
+    }
+}
+
+// Plays an open capture to the posts under these names, and closes all.
+fn run_opened<R: Wait, D: Desk>(
+    rt: &R,
+    names: &[&str],
+    mut source: D::In,
+    desk: &mut D,
+    posts: &mut Vec<D::Port>,
+) -> Outcome
+    requires fresh { D.In.faults source ≡ 0 }
+    requires empty { posts.old.items ≡ [] }
+    requires room { length names.now ≤ vec_capacity posts.old }
+    ensures runs { RunsOpened (map name_of names.now) (D.In.name source) (D.In.left source) (D.told desk.old) (D.told desk.new) (outcome_came result) }
+    ensures none { posts.new.items ≡ [] }
+{
+    let outcome = open_and_play(rt, names, &mut source, desk, posts);
+    close_posts(desk, posts);
+    desk.close_source(source);
+    outcome
+}
+
+// Opens the posts, and plays the capture to them.
+fn open_and_play<R: Wait, D: Desk>(
+    rt: &R,
+    names: &[&str],
+    source: &mut D::In,
+    desk: &mut D,
+    posts: &mut Vec<D::Port>,
+) -> Outcome
+    requires empty { posts.old.items ≡ [] }
+    requires room { length names.now ≤ vec_capacity posts.old }
+    ensures plays { OpensAndPlays (map name_of names.now) (D.In.left source.old) (D.In.left source.new) (D.In.faults source.old) (D.In.faults source.new) (D.told desk.old) (D.told desk.new) (map (λ post. record { name = D.Port.name post; sent = D.Port.sent post; faults = D.Port.faults post }) posts.new.items) (outcome_came result) }
+    ensures name { D.In.name source.new ≡ D.In.name source.old }
+{
+    match open_posts(desk, names, posts) {
+        Ok(()) => told(play_made(rt, source, desk, posts)),
+        Err(fault) => Outcome::Failed(fault),
+    }
+}
+
+// Plays the capture to open posts, with a new clock and a new gate.
+fn play_made<R: Wait, D: Desk>(
+    rt: &R,
+    source: &mut D::In,
+    desk: &mut D,
+    posts: &mut Vec<D::Port>,
+) -> PlayEnd
+    ensures plays { let seen : List D.Port → List PostSeen = λ posts. map (λ post. record { name = D.Port.name post; sent = D.Port.sent post; faults = D.Port.faults post }) posts in
+        PlaysMade result (D.In.left source.old) (D.In.left source.new) (seen posts.old.items) (seen posts.new.items) (D.told desk.old) (D.told desk.new) }
+    ensures cause { HasCause (D.In.faults source.old) (D.In.faults source.new) (result ≡ PlayEnd.ReadFault) }
+    ensures name { D.In.name source.new ≡ D.In.name source.old }
+{
+    let mut clock = desk.clock();
+    let mut gate = desk.gate();
+    play(rt, source, &mut clock, posts.as_mut_slice(), &mut gate)
+}
+
+// What a play comes to.
+fn told(end: PlayEnd) -> Outcome
+    ensures { outcome_came result ≡ came_with end }
+{
+    match end {
+        PlayEnd::Ended { sent } => {
+            let mut lines = Lines::new();
+            add_count(&mut lines, "played", sent);
+            Outcome::Done(lines)
+        }
+        PlayEnd::Refused { place, kind } => {
+            Outcome::Refused(refused(3, "capture", place, kind.name()))
+        }
+        PlayEnd::ReadFault => Outcome::Failed(Fault::Read),
+        PlayEnd::PostFault => Outcome::Failed(Fault::Write),
+    }
+}

@@ -1,0 +1,6 @@
+mod Counted
+mod FourWords
+mod Mailed
+mod Performed
+mod Sized
+mod Steps

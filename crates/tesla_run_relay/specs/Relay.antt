@@ -1,0 +1,106 @@
+-- What the command relay does.
+use Rattle.std.specs.Prelude.{◌≡◌, ◌≢◌, ◌⊎◌, ℕ, suc, ◌≤◌, Bool, true, false, List, [], ◌∷◌, ◌++◌, length, take, Option, Some, None}
+use Rattle.std.specs.List.{list_any}
+use Rattle.tesla_desk.specs.Links.{datagrams}
+use Rattle.tesla_desk.specs.Live.{Live, Wire, UntoldWire, AbsentWire, HoldsWire, Remainder, LeavesAll, Mail, UntoldMail, AbsentMail, HoldsMail}
+use Rattle.tesla_desk.specs.declared.link.Letter.{Letter}
+use Rattle.tesla_front.specs.Came.{Came, Done, Failed}
+use Rattle.tesla_front.specs.Command.{Command}
+use Rattle.tesla_front.specs.Openings.{File}
+use Rattle.tesla_front.specs.declared.fault.Fault.TheVariants as faults
+use Rattle.tesla_names.specs.Names.{IsNoneOf}
+use Rattle.tesla_posts.specs.Closed.{IsUnsent}
+use Rattle.tesla_relay.specs.Relay.{counted, kept_of, dropped_in, DropsBehind}
+use Rattle.tesla_relay.specs.declared.relayed.PostCount.{PostCount}
+use Rattle.tesla_run_relay.specs.Arguments.{RelayArguments, IsRelayForm, files_of_relay}
+use Rattle.tesla_run_relay.specs.Lines.{has_failed, lines_from}
+
+-- ---- nothing was relayed
+
+-- the link or a post wasn't opened, or there was no memory: no letter left the link, and no post sent anything
+pub record Stops (arguments : RelayArguments) (before now : Live) (came : Came) : Type 0 where
+  pub unheard : (now.left arguments.link ≡ before.left arguments.link) ⊎ LeavesAll (before.wire arguments.link) (now.left arguments.link)
+  pub unsent : (name : List ℕ) → (now.mail name ≡ before.mail name) ⊎ IsUnsent (now.mail name)
+  pub cause : (came ≡ Failed faults.Open) ⊎ (came ≡ Failed faults.NoMemory)
+
+-- ---- the link
+
+-- these letters left the link, in order, where the desk tells letters
+abbrev pub LeftWhere : List Letter → Wire → Option Remainder → Type 0
+LeftWhere taken (HoldsWire letters) (Some remainder) = letters ≡ taken ++ remainder.letters
+LeftWhere taken (HoldsWire letters) None = ⊥
+LeftWhere taken AbsentWire remainder = ⊥
+LeftWhere taken UntoldWire remainder = Unit {0}
+
+-- nothing is left of the link, and it didn't fail, where that is told
+abbrev pub HasEnded : Option Remainder → Type 0
+HasEnded None = Unit {0}
+HasEnded (Some remainder) = (remainder.letters ≡ []) × (remainder.failed ≡ false)
+
+-- the link failed, where that is told
+abbrev pub HasBroken : Option Remainder → Type 0
+HasBroken None = Unit {0}
+HasBroken (Some remainder) = remainder.failed ≡ true
+
+-- ---- the posts
+
+-- the post sent these datagrams and failed so, where that is told
+abbrev pub HoldsSent : List (List ℕ) → Bool → Mail → Type 0
+HoldsSent datagrams failed UntoldMail = Unit {0}
+HoldsSent datagrams failed AbsentMail = ⊥
+HoldsSent datagrams failed (HoldsMail sent has_failed) = (sent ≡ datagrams) × (has_failed ≡ failed)
+
+-- of the datagrams that came a post sent those that weren't dropped for it, in order and each once; where it failed, a front of them
+pub record SendsPost (capacity : ℕ) (came : List (List ℕ)) (mail : Mail) (count : PostCount) : Type 0 where
+  -- of each datagram a mark tells whether it was kept for the post, and none was dropped but behind as many others as the queue holds
+  pub marks : List Bool
+  pub each : length marks ≡ length came
+  pub full : DropsBehind capacity 0 marks
+  pub sends : ℕ
+  pub few : sends ≤ length (kept_of marks came)
+  pub all : count.failed ≡ false → sends ≡ length (kept_of marks came)
+  pub sent : HoldsSent (take sends (kept_of marks came)) count.failed mail
+  pub sent_count : count.sent ≡ counted sends
+  pub dropped_count : count.dropped ≡ counted (dropped_in marks)
+
+-- the same of each post, with the mail under its name and its count
+abbrev pub SendPosts : ℕ → List (List ℕ) → List (List ℕ) → Live → List PostCount → Type 0
+SendPosts capacity came [] now [] = Unit {0}
+SendPosts capacity came (name ∷ names) now (count ∷ counts) = SendsPost capacity came (now.mail name) count × SendPosts capacity came names now counts
+SendPosts capacity came names now counts = ⊥
+
+-- ---- a run
+
+-- how it ends: all letters left the link and no post failed, which the lines of the counts tell; the link failed; or a post failed and all letters left the link
+abbrev pub EndsAs : Option Remainder → List PostCount → Came → Type 0
+EndsAs remainder counts (Done text) = (text ≡ lines_from 0 counts) × (list_any has_failed counts ≡ false) × HasEnded remainder
+EndsAs remainder counts (Failed faults.Read) = HasBroken remainder
+EndsAs remainder counts (Failed faults.Write) = (list_any has_failed counts ≡ true) × HasEnded remainder
+EndsAs remainder counts _ = ⊥
+
+-- the datagrams of the link were relayed to all posts
+pub record RelaysLink (arguments : RelayArguments) (before now : Live) (came : Came) : Type 0 where
+  pub taken : List Letter
+  pub link : LeftWhere taken (before.wire arguments.link) (now.left arguments.link)
+  pub counts : List PostCount
+  pub posts : SendPosts arguments.capacity (datagrams taken) arguments.posts now counts
+  pub ends : EndsAs (now.left arguments.link) counts came
+
+-- ---- the command
+
+-- what is told of links, posts and clocks is as before, but for what is left of this link and the mail of these posts
+pub record TouchesPosts (link : List ℕ) (posts : List (List ℕ)) (before now : Live) : Type 0 where
+  pub wires : (name : List ℕ) → now.wire name ≡ before.wire name
+  pub others : (name : List ℕ) → name ≢ link → now.left name ≡ before.left name
+  pub mails : (name : List ℕ) → IsNoneOf name posts → now.mail name ≡ before.mail name
+  pub clocks : (now.readings ≡ before.readings) × (now.made ≡ before.made)
+
+-- what the run does: nothing was relayed; or all were opened, and what the link brought was relayed
+abbrev pub DoesRelay : Live → Live → RelayArguments → ℕ → List File → List File → Came → Type 0
+DoesRelay before now arguments opened files files_now came =
+    TouchesPosts arguments.link arguments.posts before now
+    × (Stops arguments before now came ⊎ ((opened ≡ suc (length arguments.posts)) × RelaysLink arguments before now came))
+
+-- the command, told what the desk has of links and posts before and afterwards: its words, its files and what it does
+abbrev pub relay : Live → Live → Command
+relay before now = record { Arguments = RelayArguments; IsForm = IsRelayForm; files = files_of_relay; Does = DoesRelay before now }

@@ -1,0 +1,181 @@
+//! A run of the command `relay`.
+
+ghost use Rattle.std.specs.Prelude.{◌≡◌, ◌≤◌, [], ℕ, List, IfOk, MatchResult, OnErr, length, map, string_bytes, vec_capacity};
+ghost use Rattle.tesla_desk.specs.Faults.{HasCause};
+ghost use Rattle.tesla_front.specs.Came.{outcome_came};
+ghost use Rattle.tesla_front.specs.Command.{Performs, RunsAs};
+ghost use Rattle.tesla_posts.specs.Posts.{PostSeen};
+ghost use Rattle.tesla_relay.specs.Relay.{Relays};
+ghost use Rattle.tesla_relay.specs.declared.relayed.RelayEnd.TheVariants as ends;
+ghost use Rattle.tesla_run_relay.specs.Arguments.{IsRelayForm, arguments_of};
+ghost use Rattle.tesla_run_relay.specs.Relay.{relay};
+ghost use Rattle.tesla_run_relay.specs.Steps.{RunsLinked, RunsPosts};
+
+use crate::arguments::Arguments;
+use crate::gates::make_gates;
+use crate::lines::outcome_of;
+use crate::words::arguments_in;
+use std::alloc::Global;
+use std::sync::Wait;
+use std::thread::Threads;
+use tesla_base::NoMemory;
+use tesla_desk::Desk;
+use tesla_front::{Fault, Outcome};
+use tesla_posts::{close_posts, open_posts};
+use tesla_relay::{Relayed, relay};
+
+/// Runs the words as those of `relay`: hands each datagram that leaves LINK on to all POSTS, before each of which stands a
+/// queue of CAPACITY datagrams; one that finds it full is dropped for that post. All memory but that of the openings is asked
+/// for before the first datagram. LINK is opened first, and then the posts in order, until an opening is refused.
+///
+/// `Done` with a line for each post of how many datagrams it sent and how many were dropped: LINK has ended, and no post
+/// failed. `Usage` exactly where the words are no form, and then nothing was opened. `Failed` with `Read`: LINK failed, and
+/// what came before was relayed; with `Write`: LINK has ended, and a post failed; with `Open` or `NoMemory`: nothing was
+/// relayed. `Read`, `Write` and `Open` come only where the desk's count of that rose. It waits for the link.
+pub fn run_relay<R: Threads + Wait + Sync, D: Desk>(
+    rt: &R,
+    alloc: Global,
+    words: &[String],
+    desk: &mut D,
+) -> Outcome
+    ensures { RunsAs (relay (D.told desk.old).live (D.told desk.new).live) (map string_bytes words.now) (D.told desk.old) (D.told desk.new) (outcome_came result) }
+{
+    match arguments_in(words) {
+        Some(arguments) => perform(rt, alloc, &arguments, desk),
+        None => Outcome::Usage,
+    }
+}
+
+// Does what the words ask for.
+fn perform<R: Threads + Wait + Sync, D: Desk>(
+    rt: &R,
+    alloc: Global,
+    arguments: &Arguments<'_>,
+    desk: &mut D,
+) -> Outcome
+    requires form { (spelled : List (List ℕ)) × IsRelayForm (arguments_of arguments.now) spelled }
+    ensures { Performs (relay (D.told desk.old).live (D.told desk.new).live) (arguments_of arguments.now) (D.told desk.old) (D.told desk.new) (outcome_came result) }
+{
+    match room_for(alloc, arguments.posts.len()) {
+        Ok(room) => run_in(rt, alloc, arguments, room, desk),
+        Err(_) => Outcome::Failed(Fault::NoMemory),
+    }
+}
+
+// Room for posts and for their gates.
+struct Room<D: Desk> {
+    posts: Vec<D::Port>,
+    gates: Vec<D::Pause>,
+}
+
+// Room for so many posts.
+fn room_for<D: Desk>(alloc: Global, posts: usize) -> Result<Room<D>, NoMemory>
+    requires { posts ≤ 32 }
+    ensures posts { IfOk result (λ it. (it.posts.items ≡ []) × (posts ≤ vec_capacity it.posts)) }
+    ensures gates { IfOk result (λ it. (it.gates.items ≡ []) × (posts ≤ vec_capacity it.gates)) }
+{
+    let gates = Vec::with_capacity(alloc, posts)?;
+    let posts = Vec::with_capacity(alloc, posts)?;
+    Ok(Room { posts, gates })
+}
+
+// Gives the room back.
+fn give_back<D: Desk>(room: Room<D>)
+    requires { room.posts.items ≡ [] }
+{
+    let Room { posts, gates: _ } = room;
+    posts.destroy_empty();
+}
+
+// Opens the link, and relays it to the posts.
+fn run_in<R: Threads + Wait + Sync, D: Desk>(
+    rt: &R,
+    alloc: Global,
+    arguments: &Arguments<'_>,
+    room: Room<D>,
+    desk: &mut D,
+) -> Outcome
+    requires form { (spelled : List (List ℕ)) × IsRelayForm (arguments_of arguments.now) spelled }
+    requires posts { (room.posts.items ≡ []) × (length arguments.now.posts ≤ vec_capacity room.posts) }
+    requires gates { (room.gates.items ≡ []) × (length arguments.now.posts ≤ vec_capacity room.gates) }
+    ensures { Performs (relay (D.told desk.old).live (D.told desk.new).live) (arguments_of arguments.now) (D.told desk.old) (D.told desk.new) (outcome_came result) }
+{
+    match desk.open_link(arguments.link) {
+        Ok(link) => run_linked(rt, alloc, arguments, room, link, desk),
+        Err(refusal) => {
+            give_back(room);
+            Outcome::Failed(Fault::from(refusal))
+        }
+    }
+}
+
+// Opens the posts, relays an open link to them, and closes them and the link.
+fn run_linked<R: Threads + Wait + Sync, D: Desk>(
+    rt: &R,
+    alloc: Global,
+    arguments: &Arguments<'_>,
+    mut room: Room<D>,
+    mut link: D::Wire,
+    desk: &mut D,
+) -> Outcome
+    requires some { (1 ≤ length arguments.now.posts) × (length arguments.now.posts ≤ 32) }
+    requires posts { (room.posts.items ≡ []) × (length arguments.now.posts ≤ vec_capacity room.posts) }
+    requires gates { (room.gates.items ≡ []) × (length arguments.now.posts ≤ vec_capacity room.gates) }
+    requires fresh { D.Wire.faults link ≡ 0 }
+    ensures { RunsLinked arguments.now.capacity arguments.now.posts (D.Wire.name link) (D.Wire.left link) (D.told desk.old) (D.told desk.new) (outcome_came result) }
+{
+    let outcome = run_posts(rt, alloc, arguments, &mut room, &mut link, desk);
+    close_posts(desk, &mut room.posts);
+    give_back(room);
+    desk.close_link(link);
+    outcome
+}
+
+// Opens the posts, and relays an open link to them.
+fn run_posts<R: Threads + Wait + Sync, D: Desk>(
+    rt: &R,
+    alloc: Global,
+    arguments: &Arguments<'_>,
+    room: &mut Room<D>,
+    link: &mut D::Wire,
+    desk: &mut D,
+) -> Outcome
+    requires some { (1 ≤ length arguments.now.posts) × (length arguments.now.posts ≤ 32) }
+    requires posts { (room.old.posts.items ≡ []) × (length arguments.now.posts ≤ vec_capacity room.old.posts) }
+    requires gates { (room.old.gates.items ≡ []) × (length arguments.now.posts ≤ vec_capacity room.old.gates) }
+    ensures runs { RunsPosts arguments.now.capacity arguments.now.posts (D.Wire.left link.old) (D.Wire.left link.new) (D.Wire.faults link.old) (D.Wire.faults link.new) (D.told desk.old) (D.told desk.new) (map (λ post. record { name = D.Port.name post; sent = D.Port.sent post; faults = D.Port.faults post }) room.new.posts.items) (outcome_came result) }
+    ensures name { D.Wire.name link.new ≡ D.Wire.name link.old }
+{
+    match open_posts(desk, arguments.posts.as_slice(), &mut room.posts) {
+        Ok(()) => match relay_opened(rt, alloc, arguments.capacity, link, room, desk) {
+            Ok(relayed) => outcome_of(&relayed, arguments.posts.len() as u8),
+            Err(_) => Outcome::Failed(Fault::NoMemory),
+        },
+        Err(fault) => Outcome::Failed(fault),
+    }
+}
+
+// Relays an open link to open posts.
+fn relay_opened<R: Threads + Wait + Sync, D: Desk>(
+    rt: &R,
+    alloc: Global,
+    capacity: u32,
+    link: &mut D::Wire,
+    room: &mut Room<D>,
+    desk: &mut D,
+) -> Result<Relayed, NoMemory>
+    requires some { (1 ≤ length room.old.posts.items) × (length room.old.posts.items ≤ 32) }
+    requires gates { (room.old.gates.items ≡ []) × (length room.old.posts.items ≤ vec_capacity room.old.gates) }
+    requires capacity { (1 ≤ capacity) × (capacity ≤ 4096) }
+    ensures relays { IfOk result (λ it. Relays capacity (D.Wire.left link.old) (D.Wire.left link.new) (map (λ post. record { name = D.Port.name post; sent = D.Port.sent post; faults = D.Port.faults post }) room.old.posts.items) (map (λ post. record { name = D.Port.name post; sent = D.Port.sent post; faults = D.Port.faults post }) room.new.posts.items) it.end it.counts.items) }
+    ensures unread { OnErr result (D.Wire.left link.new ≡ D.Wire.left link.old) }
+    ensures untouched { OnErr result (room.new.posts.items ≡ room.old.posts.items) }
+    ensures cause { HasCause (D.Wire.faults link.old) (D.Wire.faults link.new) (MatchResult result (λ it. it.end ≡ ends.Failed) (λ _. ⊥)) }
+    ensures name { D.Wire.name link.new ≡ D.Wire.name link.old }
+    ensures desk { D.told desk.new ≡ D.told desk.old }
+{
+    let mut gate = desk.gate();
+    let Room { posts, gates } = room;
+    make_gates(desk, posts.len(), gates);
+    relay(rt, alloc, link, &mut gate, posts, gates, capacity)
+}
