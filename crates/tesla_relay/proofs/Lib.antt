@@ -4,3 +4,4 @@ pub mod Moves
 pub mod Queued
 pub mod Sending
 pub mod Settled
+pub mod Sized

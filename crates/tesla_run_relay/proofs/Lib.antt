@@ -2,5 +2,4 @@ mod Counted
 mod FourWords
 mod Mailed
 mod Performed
-mod Sized
 mod Steps

@@ -10,13 +10,13 @@ use Rattle.tesla_posts.specs.Opened.{post_name}
 use Rattle.tesla_posts.specs.Opening.{OpensEach, OpensPosts}
 use Rattle.tesla_posts.specs.Posts.{PostSeen}
 use Rattle.tesla_posts.proofs.Openings.{opens_to}
+use Rattle.tesla_relay.proofs.Sized.{each_counted}
 use Rattle.tesla_relay.specs.Relay.{Relays}
 use Rattle.tesla_relay.specs.declared.relayed.PostCount.{PostCount}
 use Rattle.tesla_relay.specs.declared.relayed.RelayEnd.{RelayEnd}
 use Rattle.tesla_relay.specs.declared.relayed.RelayEnd.TheVariants as ends
 use Rattle.tesla_run_relay.specs.Lines.{came_with}
 use Rattle.tesla_run_relay.specs.Steps.{RunsPosts}
-use Rattle.tesla_run_relay.proofs.Sized.{each_counted}
 
 module _ {P : Type 0} (seen : P → PostSeen) (names wanted : List (List ℕ)) (before mid : Told) (old : List PostSeen) (posts : List P) where
   -- the posts that were opened are all that there are
