@@ -1,9 +1,9 @@
 use Rattle.std.proofs.Common.{◌∙◌, inl, inr, refl, sym, subst, ap, map, List, ℕ, string_bytes}
 use Rattle.tesla_desk.specs.Live.{Live}
-use Rattle.tesla_desk.specs.Outside.{ClosesSink, OpensSink}
+use Rattle.tesla_desk.specs.Outside.{ClosesSink}
 use Rattle.tesla_desk.proofs.Counts.{counts_stay}
 use Rattle.tesla_front.specs.Came.{Failed, outcome_came}
-use Rattle.tesla_front.specs.Console.{Tells}
+use Rattle.tesla_front.specs.Command.{IsNoForm}
 use Rattle.tesla_front.specs.Fault.{fault_status, unopened}
 use Rattle.tesla_front.proofs.Consoles.{Tolds, live_console_opened, unopened_console}
 use Rattle.tesla_cli_live.specs.Commands.{command_of, usage}
@@ -35,7 +35,9 @@ returns-in-Ok g c =
     } in
     let last = c.run_words-outcome.result.last in
     let runs = c.run_words-outcome.ensures.runs in
-    (told, c.status.ensures, inr (live_console_opened (λ (before after : Live). command_of before after last words) usage words old opened done new came told written failed tolds runs, λ none. c.run_words-outcome.ensures.none (runs.usage none).0, c.run_words-outcome.ensures.others))
+    let unformed : IsNoForm (command_of old.live new.live last words) words → IsNoForm (command_of opened.live done.live last words) words =
+    λ none. subst (λ (live : Live). IsNoForm (command_of opened.live live last words) words) tolds.closes.live (subst (λ (live : Live). IsNoForm (command_of live new.live last words) words) (sym tolds.live) none) in
+    (told, c.status.ensures, inr (live_console_opened (λ (before after : Live). command_of before after last words) usage words old opened done new came told written failed tolds runs, λ none. c.run_words-outcome.ensures.none (runs.usage (unformed none)).0, c.run_words-outcome.ensures.others))
 
 pub returns-in-Err : goal.returns-in-Err
 returns-in-Err g c =
