@@ -33,7 +33,7 @@ TOOLS = b"""\
 usage: ask READING ASK-OUT
 usage: reply ASK KEY READING REPLY-OUT
 """
-LIVE = b"usage: receive SETUP LAG CAPACITY LINKS SINKS\n"
+LIVE = b"usage: receive SETUP LAG CAPACITY LINKS SINKS\nusage: relay CAPACITY LINK POSTS\nusage: play CAPTURE POSTS\n"
 LIVE_TOOLS = b"usage: capture LINK CAPTURE\n"
 OPEN, READ, WRITE = b"open fault\n", b"read fault\n", b"write fault\n"
 
