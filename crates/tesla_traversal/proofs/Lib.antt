@@ -1,0 +1,4 @@
+pub mod Levels
+pub mod Leaving
+pub mod Opened
+pub mod Passing
