@@ -7,7 +7,7 @@ use Rattle.tesla_traversal.specs.declared.level.Level.{Level}
 use Rattle.tesla_traversal.specs.Levels.{Stand}
 
 -- there are levels enough for the chain, and no more than its length has binary digits; they stand as long as a key is
--- left to give
+-- left to give, where the marks of used up levels are free, which are those above the seed
 pub record IsKept (last given : ℕ) (seed commitment : Key) (levels : List Level) : Type 0 where
   pub most : last ≤ 2 ^ 20
   pub within : given ≤ last

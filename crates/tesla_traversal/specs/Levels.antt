@@ -8,13 +8,14 @@ use Rattle.tesla_traversal.specs.declared.level.Level.{Level}
 -- Levels stand from the highest on, and the span of a level with n levels below it is 2^n. The next key to give is at the
 -- distance `base + ahead`, `base` is a multiple of twice the first level's span, and `ahead` is less than that.
 
--- each mark stands at the odd multiple of its level's span that is the highest up to the next key
-abbrev pub Marks : Key → ℕ → ℕ → List Level → Type 0
-Marks seed base ahead [] = Unit {0}
-Marks seed base ahead (level ∷ lower) =
+-- each mark stands at the odd multiple of its level's span that is the highest up to the next key. This is said of the
+-- first levels, whose marks stand above the base, only where their span is more than `free`.
+abbrev pub Marks : Key → ℕ → ℕ → ℕ → List Level → Type 0
+Marks seed base ahead free [] = Unit {0}
+Marks seed base ahead free (level ∷ lower) =
     let span = 2 ^ length lower in
-    (ahead < span → (level.mark ≡ walk seed (base - span)) × Marks seed base ahead lower)
-    × (span ≤ ahead → (level.mark ≡ walk seed (base + span)) × Marks seed (base + span) (ahead - span) lower)
+    (ahead < span → (free < span → level.mark ≡ walk seed (base - span)) × Marks seed base ahead free lower)
+    × (span ≤ ahead → (level.mark ≡ walk seed (base + span)) × Marks seed (base + span) (ahead - span) 0 lower)
 
 -- where the next key is a level's mark or below it, by less than the span, the level's traveller is as far above the
 -- mark: it meets the next key there. This is said of the travellers nearer to the seed than `reached`.
@@ -26,7 +27,7 @@ Travellers seed base ahead reached (level ∷ lower) =
     (ahead < span → Travellers seed base ahead reached lower)
     × (span ≤ ahead → (place < reached → level.traveller ≡ walk seed place) × Travellers seed (base + span) (ahead - span) reached lower)
 
--- both
-pub record Stand (seed : Key) (base ahead reached : ℕ) (levels : List Level) : Type 0 where
-  pub marks : Marks seed base ahead levels
-  pub travellers : Travellers seed base ahead reached levels
+-- both, of all travellers
+pub record Stand (seed : Key) (base ahead free : ℕ) (levels : List Level) : Type 0 where
+  pub marks : Marks seed base ahead free levels
+  pub travellers : (reached : ℕ) → Travellers seed base ahead reached levels

@@ -34,3 +34,11 @@ pub record HasGiven (before after : Traversing) : Type 0 where
   pub given : after.given ≡ before.given + 1
   pub within : after.given ≤ after.last
   pub kept : after.kept ≤ 2 * bits after.last + 2
+
+-- what becomes of a traversal that has gone on to the key of this index
+pub record HasComeTo (index : ℕ) (before after : Traversing) : Type 0 where
+  pub seed : after.seed ≡ before.seed
+  pub last : after.last ≡ before.last
+  pub given : after.given ≡ index
+  pub within : after.given ≤ after.last
+  pub kept : after.kept ≤ 2 * bits after.last + 2

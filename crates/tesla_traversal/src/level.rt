@@ -27,8 +27,8 @@ pub fn span(lower: &[Level]) -> u32
 }
 
 /// Lets each level's traveller begin at the mark above it. `high` is the mark above the first level.
-fn set_out(levels: &mut [Level], high: Key)
-    ensures { (seed : Key) (base top ahead reached : ℕ) → top ≡ base + 2 ^ length levels.old → ahead + 1 ≡ 2 ^ length levels.old → high ≡ walk seed base → Marks seed top 0 levels.old → Stand seed base ahead reached levels.new }
+pub fn set_out(levels: &mut [Level], high: Key)
+    ensures { (seed : Key) (base top ahead free : ℕ) → top ≡ base + 2 ^ length levels.old → ahead + 1 ≡ 2 ^ length levels.old → high ≡ walk seed base → Marks seed top 0 0 levels.old → Stand seed base ahead free levels.new }
 {
     let Some((level, lower)) = levels.split_first_mut() else {
         return;
@@ -49,8 +49,8 @@ pub fn pass<L: Ledger>(
     requires some { 0 < ahead }
     requires within { ahead < 2 ^ length levels.old }
     requires few { length levels.old ≤ 20 }
-    ensures key { (seed : Key) (base : ℕ) → Marks seed base ahead levels.old → result ≡ walk seed (base + ahead) }
-    ensures stand { (seed : Key) (base left reached : ℕ) → ahead ≡ left + 1 → base + ahead < reached → high ≡ walk seed base → traveller ≡ walk seed (base - ahead) → Stand seed base ahead reached levels.old → Stand seed base left reached levels.new }
+    ensures key { (seed : Key) (base free : ℕ) → Marks seed base ahead free levels.old → result ≡ walk seed (base + ahead) }
+    ensures stand { (seed : Key) (base left free : ℕ) → ahead ≡ left + 1 → high ≡ walk seed base → traveller ≡ walk seed (base - ahead) → Stand seed base ahead free levels.old → Stand seed base left free levels.new }
     ensures cost { steps.new ≤ steps.old + length levels.old }
 {
     let Some((level, lower)) = levels.split_first_mut() else {

@@ -3,6 +3,7 @@
 
 mod level;
 mod opening;
+mod skipping;
 mod traversal;
 
 pub use traversal::Traversal;

@@ -15,7 +15,7 @@ fn leave_mark(levels: &mut [Level], ahead: u32, key: Key)
     requires some { 0 < ahead }
     requires within { ahead < 2 ^ length levels.old }
     requires few { length levels.old ≤ 20 }
-    ensures marks { (seed : Key) (base before : ℕ) → ahead ≡ before + 1 → key ≡ walk seed (base + ahead) → Marks seed base before levels.old → Marks seed base ahead levels.new }
+    ensures marks { (seed : Key) (base before free : ℕ) → ahead ≡ before + 1 → key ≡ walk seed (base + ahead) → Marks seed base before free levels.old → Marks seed base ahead free levels.new }
     ensures travellers { (seed : Key) (base given reached : ℕ) → Travellers seed base given reached levels.old → Travellers seed base given reached levels.new }
 {
     let Some((level, lower)) = levels.split_first_mut() else {
@@ -37,7 +37,7 @@ fn leave_traveller(levels: &mut [Level], ahead: u32, at: u32, key: Key)
     requires within { ahead < 2 ^ length levels.old }
     requires few { length levels.old ≤ 20 }
     requires near { at ≤ ahead }
-    ensures marks { (seed : Key) (base given : ℕ) → Marks seed base given levels.old → Marks seed base given levels.new }
+    ensures marks { (seed : Key) (base given free : ℕ) → Marks seed base given free levels.old → Marks seed base given free levels.new }
     ensures travellers { (seed : Key) (base reached : ℕ) → reached ≡ (base + at) + 1 → key ≡ walk seed (base + at) → Travellers seed base ahead (base + at) levels.old → Travellers seed base ahead reached levels.new }
 {
     let Some((level, lower)) = levels.split_first_mut() else {
@@ -53,18 +53,17 @@ fn leave_traveller(levels: &mut [Level], ahead: u32, at: u32, key: Key)
     }
 }
 
-/// Walks from the seed to the key at the distance `ahead`, and leaves in the levels what a traversal keeps that gives this
-/// key next.
-pub fn fill<L: Ledger>(levels: &mut [Level], ahead: u32, seed: Key, steps: &mut Steps<L>) -> Key
+/// Walks from the mark `high` to the key that is `ahead` keys below it, and leaves in the levels what a traversal keeps that
+/// gives this key next.
+pub fn fill<L: Ledger>(levels: &mut [Level], ahead: u32, high: Key, steps: &mut Steps<L>) -> Key
     requires within { ahead < 2 ^ length levels.old }
     requires few { length levels.old ≤ 20 }
-    requires marks { Marks seed 0 0 levels.old }
-    requires travellers { Travellers seed 0 ahead 1 levels.old }
-    ensures key { result ≡ walk seed ahead }
-    ensures stand { Stand seed 0 ahead (ahead + 1) levels.new }
+    ensures key { result ≡ walk high ahead }
+    ensures stand { (seed : Key) (base free : ℕ) → high ≡ walk seed base → Marks seed base 0 free levels.old → Stand seed base ahead free levels.new }
     ensures cost { steps.new ≡ steps.old + ahead }
 {
-    let mut key = seed;
+    leave_traveller(levels, ahead, 0, high);
+    let mut key = high;
     for before in 0..ahead {
         key = next_key(&key, steps);
         leave_mark(levels, before + 1, key);

@@ -3,10 +3,11 @@
 ghost use Rattle.std.specs.Prelude.{◌≡◌, ◌+◌, ◌*◌, ◌-◌, ◌^◌, ◌<◌, ◌≤◌, Some, codes, IfOk, OnErr};
 ghost use Rattle.tesla_prf.specs.Keys.{walk};
 ghost use Rattle.tesla_chain.specs.Cost.{bits};
-ghost use Rattle.tesla_traversal.specs.Traversal.{HasGiven, IsOpened, next_given};
+ghost use Rattle.tesla_traversal.specs.Traversal.{HasComeTo, HasGiven, IsOpened, next_given};
 
 use crate::level::{Level, pass};
 use crate::opening::fill;
+use crate::skipping::skip;
 use std::alloc::Global;
 use std::fmt;
 use std::marker::Model;
@@ -109,6 +110,28 @@ impl Traversal {
             self.seed,
             steps,
         ))
+    }
+
+    /// Goes on over the keys up to the one of `index`, which is above those that were given and at most `last`, and gives
+    /// this one. For `d` indexes that takes at most `d * (bits(last) - bits(d) + 1)` counted steps, and at most
+    /// `last - index`. It takes no memory, as `next` does. No key is prepared.
+    pub fn advance<L: Ledger>(&mut self, index: u32, steps: &mut Steps<L>) -> Key
+        requires after { self.old.given < index }
+        requires within { index ≤ self.old.last }
+        ensures key { result ≡ walk self.old.seed (self.old.last - index) }
+        ensures given { HasComeTo index self.old self.new }
+        ensures call { let gap = index - self.old.given in steps.new ≤ steps.old + gap * ((bits self.old.last - bits gap) + 1) }
+        ensures whole { steps.new ≤ steps.old + (self.old.last - index) }
+        ensures left { steps.new + self.new.left ≤ steps.old + self.old.left }
+        ensures reserved { self.new.reserved ≡ self.old.reserved }
+    {
+        let ahead = self.last - self.given - 1;
+        self.given = index;
+        if index == self.last {
+            return self.seed;
+        }
+        let left = self.last - index - 1;
+        skip(self.levels.as_mut_slice(), ahead, left, self.seed, steps)
     }
 
     /// The commitment of the chain: its key of index 0.
