@@ -6,6 +6,7 @@ use Rattle.tesla_prf.proofs.Walks.{walk_none}
 use Rattle.tesla_traversal.specs.declared.level.Level.{Level}
 use Rattle.tesla_traversal.specs.Kept.{IsKept}
 use Rattle.tesla_traversal.specs.Levels.{Stand}
+use Rattle.tesla_traversal.specs.Traversal.{Traversing}
 
 -- its levels stand at the next key
 pub passed : (last given : ℕ) (seed commitment : Key) (levels after : List Level) → IsKept last given seed commitment levels → given < last → 0 < last - (given + 1) → length after ≡ length levels
@@ -39,3 +40,8 @@ came last given index ahead left seed commitment levels after is beyond within s
       short = rw same is.short;
       stand = λ h. subst Q end (rest seed 0 last last (omega arith) (omega arith) (sym (walk_none seed)) (subst P (sym start) (is.stand (omega arith))));
     }
+
+-- two of the same stand before an index alike
+pub ordered : (one self : Traversing) (index : ℕ) → one ≡ self → self.given < index → index ≤ self.last → (one.given < index) × (index ≤ one.last)
+ordered one self index same after within =
+    (subst (λ (t : Traversing). t.given < index) (sym same) after, subst (λ (t : Traversing). index ≤ t.last) (sym same) within)

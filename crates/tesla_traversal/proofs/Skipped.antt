@@ -55,6 +55,15 @@ turned seed base ahead free span level lower mid spans above within stand marks 
     let deeper = far_of seed base ahead free span level lower spans above stand in
     marks seed (base + span) (omega arith) (starts seed base ahead free span level lower spans above within stand) (afresh seed (base + span) (ahead - span) 0 (ahead - span) lower (omega arith) (omega arith) deeper.marks)
 
+-- and then the levels themselves, once their travellers have set out again
+pub turned_full : (seed : Key) (base ahead left free more span : ℕ) (high : Key) (level : Level) (lower mid after : List Level) → length mid ≡ length lower → span ≡ 2 ^ length lower → span ≤ ahead → left + 1 ≡ span → ahead < 2 ^ length (level ∷ lower) → high ≡ walk seed base → Stand seed base ahead free (level ∷ lower)
+    → ((seed : Key) (base : ℕ) → ahead - span < base → level.traveller ≡ walk seed (base - ((ahead - span) + 1)) → Marks seed base 0 (ahead - span) lower → Marks seed base 0 0 mid)
+    → ((seed : Key) (base top ahead free : ℕ) → top ≡ base + 2 ^ length mid → ahead + 1 ≡ 2 ^ length mid → high ≡ walk seed base → Marks seed top 0 0 mid → Stand seed base ahead free after)
+    → Stand seed base left more after
+turned_full seed base ahead left free more span high level lower mid after same spans above last within top stand marks set_out =
+    let span_mid = same_span lower mid same in
+    set_out seed base (base + span) left more (omega arith) (omega arith) top (turned seed base ahead free span level lower mid spans above within stand marks)
+
 pub crossed : (seed : Key) (base ahead left more span : ℕ) (level : Level) (lower after : List Level) → length after ≡ length lower → span ≡ 2 ^ length lower → span ≤ ahead → left < span → ahead ≤ more → Stand seed base left more after → Stand seed base left more (level ∷ after)
 crossed seed base ahead left more span level lower after same spans above low within rest =
     let span_after = same_span lower after same in

@@ -8,8 +8,8 @@ use Rattle.tesla_traversal.specs.declared.level.Level.{Level}
 -- Levels stand from the highest on, and the span of a level with n levels below it is 2^n. The next key to give is at the
 -- distance `base + ahead`, `base` is a multiple of twice the first level's span, and `ahead` is less than that.
 
--- each mark stands at the odd multiple of its level's span that is the highest up to the next key. This is said of the
--- first levels, whose marks stand above the base, only where their span is more than `free`.
+-- each mark stands at the greatest odd multiple of its level's span that is not beyond the next key. Of the first levels,
+-- whose marks are nearer to the seed than the base, this is said only where their span is more than `free`.
 abbrev pub Marks : Key → ℕ → ℕ → ℕ → List Level → Type 0
 Marks seed base ahead free [] = Unit {0}
 Marks seed base ahead free (level ∷ lower) =
@@ -17,8 +17,9 @@ Marks seed base ahead free (level ∷ lower) =
     (ahead < span → (free < span → level.mark ≡ walk seed (base - span)) × Marks seed base ahead free lower)
     × (span ≤ ahead → (level.mark ≡ walk seed (base + span)) × Marks seed (base + span) (ahead - span) 0 lower)
 
--- where the next key is a level's mark or below it, by less than the span, the level's traveller is as far above the
--- mark: it meets the next key there. This is said of the travellers nearer to the seed than `reached`.
+-- where the next key is a level's mark, or beyond it by less than the span, the level's traveller has as many steps to go
+-- to the key after the mark as there are keys from the next one to the mark. This is said of the travellers nearer to the
+-- seed than `reached`.
 abbrev pub Travellers : Key → ℕ → ℕ → ℕ → List Level → Type 0
 Travellers seed base ahead reached [] = Unit {0}
 Travellers seed base ahead reached (level ∷ lower) =

@@ -37,8 +37,9 @@ pub fn set_out(levels: &mut [Level], high: Key)
     set_out(lower, level.mark);
 }
 
-/// Gives the key that is `ahead` keys below the mark `high`, and goes on to the one after it: each traveller of a level that
-/// is not yet used up walks one step. `traveller` is the one that comes down from `high`.
+/// Gives the key that is `ahead` keys below the mark `high`, and goes on to the one after it: each traveller that is not
+/// yet at the end of its way walks one step. `traveller` is the key that the one of the level above has come to, `ahead`
+/// keys above `high`.
 pub fn pass<L: Ledger>(
     levels: &mut [Level],
     ahead: u32,

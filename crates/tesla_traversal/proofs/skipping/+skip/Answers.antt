@@ -8,7 +8,7 @@ use Rattle.tesla_traversal.proofs.Free.{afresh}
 use Rattle.tesla_traversal.proofs.Leaving.{below}
 use Rattle.tesla_traversal.proofs.Levels.{at, doubled, near, same_span}
 use Rattle.tesla_traversal.proofs.Savings.{each_far, each_filled, each_near, each_over, whole_way}
-use Rattle.tesla_traversal.proofs.Skipped.{crossed, far_of, mark_of, skipped_far, skipped_near, starts, turned}
+use Rattle.tesla_traversal.proofs.Skipped.{crossed, far_of, mark_of, skipped_far, skipped_near, starts, turned_full}
 use Rattle.tesla_traversal.proofs.skipping.+skip.Goals as goal
 
 -- the levels are filled from the mark
@@ -96,53 +96,41 @@ returns-then-span-left-clause-each g t c = λ digits extra few fits own both.
 pub returns-then-left-span-clause-stand : goal.returns-then-left-span-clause-stand
 returns-then-left-span-clause-stand g t c = λ seed base free more wider inside top.
     let parts : c.args.levels.now ≡ c.in-Some.level.now ∷ c.in-Some.lower.now = c.in-Some.ensures.cases.0 in
-    let span = c.span-span.result in
-    let spans = c.span-span.ensures in
-    let ahead = c.args.ahead in
     let level = c.in-Some.level.now in
     let lower = c.in-Some.lower.now in
-    let above : span ≤ ahead = omega (arith, c.if-ahead-span.false) in
-    let within : ahead < 2 ^ length (level ∷ lower) = rw parts at c.requires.within in
-    let mid = c.walk_down.new.levels in
-    let spanned = same_span lower mid c.walk_down.auto.levels in
+    let spans = c.span-span.ensures in
+    let above : c.span-span.result ≤ c.args.ahead = omega (arith, c.if-ahead-span.false) in
+    let within : c.args.ahead < 2 ^ length (level ∷ lower) = rw parts at c.requires.within in
     rw parts (λ stand.
-    crossed seed base ahead c.args.left more span level lower c.set_out.new.levels (c.set_out.auto.levels ∙ c.walk_down.auto.levels) spans above (omega (arith, c.if-span-left.false)) inside
-    (c.set_out.ensures seed base (base + span) c.args.left more (omega (arith, spanned, spans)) (omega (arith, spanned, spans, c.if-left-span.true)) top (turned seed base ahead free span level lower mid spans above within stand c.walk_down.ensures.marks)))
+    crossed seed base c.args.ahead c.args.left more c.span-span.result level lower c.set_out.new.levels (c.set_out.auto.levels ∙ c.walk_down.auto.levels) spans above (omega (arith, c.if-span-left.false)) inside
+    (turned_full seed base c.args.ahead c.args.left free more c.span-span.result c.args.high level lower c.walk_down.new.levels c.set_out.new.levels c.walk_down.auto.levels spans above c.if-left-span.true within top stand c.walk_down.ensures.marks c.set_out.ensures))
 
 pub returns-clause-key : goal.returns-clause-key
 returns-clause-key g t c = λ seed base free top.
     let parts : c.args.levels.now ≡ c.in-Some.level.now ∷ c.in-Some.lower.now = c.in-Some.ensures.cases.0 in
-    let span = c.span-span.result in
-    let spans = c.span-span.ensures in
-    let ahead = c.args.ahead in
     let level = c.in-Some.level.now in
     let lower = c.in-Some.lower.now in
-    let above : span ≤ ahead = omega (arith, c.if-ahead-span.false) in
-    let within : ahead < 2 ^ length (level ∷ lower) = rw parts at c.requires.within in
-    let mid = c.walk_down.new.levels in
-    let spanned = same_span lower mid c.walk_down.auto.levels in
-    let some : 0 < span = omega (arith, spans, pow_pos (length lower)) in
+    let spans = c.span-span.ensures in
+    let above : c.span-span.result ≤ c.args.ahead = omega (arith, c.if-ahead-span.false) in
+    let within : c.args.ahead < 2 ^ length (level ∷ lower) = rw parts at c.requires.within in
+    let last : (c.span-span.result - 1) + 1 ≡ c.span-span.result = omega (arith, spans, pow_pos (length lower)) in
     rw parts (λ stand.
     c.skip-2.ensures.key seed base 0 top
-    (c.set_out.ensures seed base (base + span) (span - 1) 0 (omega (arith, spanned, spans)) (omega (arith, spanned, spans)) top (turned seed base ahead free span level lower mid spans above within stand c.walk_down.ensures.marks)))
+    (turned_full seed base c.args.ahead (c.span-span.result - 1) free 0 c.span-span.result c.args.high level lower c.walk_down.new.levels c.set_out.new.levels c.walk_down.auto.levels spans above last within top stand c.walk_down.ensures.marks c.set_out.ensures))
 
 pub returns-clause-stand : goal.returns-clause-stand
 returns-clause-stand g t c = λ seed base free more wider inside top.
     let parts : c.args.levels.now ≡ c.in-Some.level.now ∷ c.in-Some.lower.now = c.in-Some.ensures.cases.0 in
-    let span = c.span-span.result in
-    let spans = c.span-span.ensures in
-    let ahead = c.args.ahead in
     let level = c.in-Some.level.now in
     let lower = c.in-Some.lower.now in
-    let above : span ≤ ahead = omega (arith, c.if-ahead-span.false) in
-    let within : ahead < 2 ^ length (level ∷ lower) = rw parts at c.requires.within in
-    let mid = c.walk_down.new.levels in
-    let spanned = same_span lower mid c.walk_down.auto.levels in
-    let some : 0 < span = omega (arith, spans, pow_pos (length lower)) in
+    let spans = c.span-span.ensures in
+    let above : c.span-span.result ≤ c.args.ahead = omega (arith, c.if-ahead-span.false) in
+    let within : c.args.ahead < 2 ^ length (level ∷ lower) = rw parts at c.requires.within in
+    let last : (c.span-span.result - 1) + 1 ≡ c.span-span.result = omega (arith, spans, pow_pos (length lower)) in
     rw parts (λ stand.
-    crossed seed base ahead c.args.left more span level lower c.skip-2.new.levels (c.skip-2.auto.levels ∙ c.set_out.auto.levels ∙ c.walk_down.auto.levels) spans above (omega (arith, c.if-span-left.false)) inside
+    crossed seed base c.args.ahead c.args.left more c.span-span.result level lower c.skip-2.new.levels (c.skip-2.auto.levels ∙ c.set_out.auto.levels ∙ c.walk_down.auto.levels) spans above (omega (arith, c.if-span-left.false)) inside
     (c.skip-2.ensures.stand seed base 0 more (omega arith) (omega arith) top
-    (c.set_out.ensures seed base (base + span) (span - 1) 0 (omega (arith, spanned, spans)) (omega (arith, spanned, spans)) top (turned seed base ahead free span level lower mid spans above within stand c.walk_down.ensures.marks))))
+    (turned_full seed base c.args.ahead (c.span-span.result - 1) free 0 c.span-span.result c.args.high level lower c.walk_down.new.levels c.set_out.new.levels c.walk_down.auto.levels spans above last within top stand c.walk_down.ensures.marks c.set_out.ensures)))
 
 pub returns-clause-each : goal.returns-clause-each
 returns-clause-each g t c = λ digits extra few fits own both.
