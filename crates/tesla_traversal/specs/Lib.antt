@@ -1,0 +1,3 @@
+pub mod Levels
+pub mod Traversal
+pub mod Kept
