@@ -23,7 +23,8 @@ use tesla_state::{ReceiverState, Report, Take};
 /// all taken when it is opened.
 #[derive(Drop)]
 pub struct Receiver {
-    kept: ReceiverState,
+    // In a place of its own, since a receiver that threads share is moved at each turn.
+    kept: Box<ReceiverState>,
 }
 
 impl Model for Receiver {
@@ -31,7 +32,7 @@ impl Model for Receiver {
 
     ghost Value = { State };
 
-    ghost view = { λ r. r.kept };
+    ghost view = { λ r. r.kept.value };
 }
 
 impl Receiver {
@@ -55,8 +56,9 @@ impl Receiver {
         ensures config { IfOk result (λ r. r.config ≡ record { setup = setup; lag = lag; capacity = capacity; quota = quota; ingests = ingests }) }
         ensures stands { IfOk result (λ r. Stands r []) }
     {
+        let state = ReceiverState::open(alloc, setup, lag, capacity, quota, ingests)?;
         Ok(Receiver {
-            kept: ReceiverState::open(alloc, setup, lag, capacity, quota, ingests)?,
+            kept: Box::new(alloc, state)?,
         })
     }
 

@@ -53,8 +53,8 @@ impl<V: Chronicle + Drop> Turn<V> {
             calls: _,
             first: _,
         } = pass;
-        let Turn { table, parked } = self;
-        let value = enter(rt, &table.shared, &parked, &mut seat);
+        let Turn { table, entrance } = self;
+        let value = enter(rt, &table.shared, &entrance, &mut seat);
         give_back(&table.shared, &mut seat);
         let last = Last {
             badge: seat.into_badge(),

@@ -4,6 +4,7 @@
 mod chronicle;
 mod close;
 mod crossing;
+mod entrance;
 pub mod examples;
 pub mod laws;
 mod pass;

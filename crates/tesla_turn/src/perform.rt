@@ -6,7 +6,7 @@ use crate::chronicle::{Act, Chronicle};
 use crate::pass::Pass;
 use crate::seats::{hand_on, put_back};
 use crate::turn::Turn;
-use crate::wait::{enter, wake};
+use crate::wait::enter;
 use std::marker::Brand;
 use std::sync::Wait;
 
@@ -59,12 +59,12 @@ impl<V: Chronicle + Drop> Turn<V> {
         ensures value { Stood V.config V.stands pass.new }
     {
         let top = &self.table.shared;
-        let mut value = enter(rt, top, &self.parked, &mut pass.seat);
+        let mut value = enter(rt, top, &self.entrance, &mut pass.seat);
         let reply = act.run(&mut value);
         put_back(top, &mut pass.seat, value);
         hand_on::<V, A, Brand>(top, &mut pass.seat, act, &reply);
         pass.left -= 1;
-        wake(top, &self.parked);
+        self.entrance.leave();
         reply
     }
 }

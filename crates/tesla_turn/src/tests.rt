@@ -6,6 +6,7 @@ ghost use Rattle.tesla_turn.specs.Held.{OnlyCalls, left_of};
 ghost use Rattle.tesla_turn.specs.History.{entries};
 
 use super::*;
+use crate::entrance::AWAITED;
 use crate::examples::{Add, Append, Numbers, Sum};
 use crate::laws::one_history;
 use std::alloc::Global;
@@ -155,38 +156,37 @@ fn rest() {
     }
 }
 
-// Begins a round, and adds 1 once so many threads are counted as parked. The reply says whether they were.
+// Begins a round, and adds 1 once others sleep before the entrance. The reply says whether any did.
 #[derive(Drop)]
 struct KeepTurn<'a> {
     turn: &'a Turn<Sum>,
     rounds: &'a Rounds,
-    others: u64,
 }
 
 impl Act<Sum> for KeepTurn<'_> {
-    ghost use Rattle.std.specs.Prelude.{◌≡◌};
+    ghost use Rattle.std.specs.Prelude.{};
 
     type Reply = bool;
 
     ghost entry = { λ _ _. 1 };
 
-    ghost relation = { λ before after _. after.others ≡ before.others };
+    ghost relation = { λ _ _ _. Unit {0} };
 
     fn run(&mut self, value: &mut Sum) -> bool {
         let turn = self.turn;
         self.rounds.begun.fetch_add(1, SeqCst);
-        let seen = comes_to(&turn.parked, self.others);
-        // Who is counted sleeps a little later.
+        let seen = comes_to(&turn.entrance.state, AWAITED);
+        // Who leaves word sleeps a little later.
         rest();
         // A thread may wake for no reason. It then sleeps again, behind the others.
-        turn.table.shared.wake_one(1);
+        turn.entrance.state.wake_one();
         rest();
         value.total = value.total.wrapping_add(1);
         seen
     }
 }
 
-// In each round it keeps the turn until the others are counted as parked, and then sees that each has had its turn.
+// In each round it keeps the turn until others sleep, and then sees that each has had its turn.
 fn lead<R: Abort + Wait>(
     rt: &R,
     turn: &Turn<Sum>,
@@ -198,14 +198,9 @@ fn lead<R: Abort + Wait>(
     ensures { OnlyCalls pass result }
 {
     for _ in 0..ROUNDS {
-        let mut act = KeepTurn {
-            turn,
-            rounds,
-            others,
-        };
+        let mut act = KeepTurn { turn, rounds };
         assert!(rt; turn.perform(rt, &mut pass, &mut act) == Ok(true));
         assert!(rt; comes_to(&rounds.ended, others));
-        assert!(rt; turn.parked.load(SeqCst) == 0);
         rounds.ended.store(0, SeqCst);
     }
     pass
@@ -242,7 +237,7 @@ fn a_thread_parks_while_another_acts(rt: HostRuntime) -> Result<(), Fail> {
     Ok(())
 }
 
-// If only one were woken, it would be one whose turn hasn't come, and it would sleep again.
+// Were those that sleep not woken one after the other, some would sleep on.
 #[test]
 fn all_that_park_are_woken(rt: HostRuntime) -> Result<(), Fail> {
     let (turn, mut first) = Turn::open(rt.alloc(), Sum { total: 0 }, 4, ROUNDS)?;

@@ -4,6 +4,7 @@ ghost use Rattle.tesla_turn.specs.Steps.{IsTurn, first_view};
 ghost use Rattle.tesla_turn.specs.Held.{first_pass};
 
 use crate::chronicle::Chronicle;
+use crate::entrance::Entrance;
 use crate::pass::Pass;
 use crate::rule::{Law, Plan};
 use crate::view::View;
@@ -11,18 +12,17 @@ use atomic_table::{Refused, Seat, Table};
 use std::alloc::Global;
 use std::marker::Model;
 use std::snapshot::Snapshot;
-use std::sync::atomic::AtomicU64;
 use tesla_base::NoMemory;
 
 /// A value that threads share by turns. Threads share it by `&`.
 ///
 /// It has two words, of which the first counts the tickets that were drawn and the second the turns that
-/// were passed, one slot for the value, and a count of the threads that park. The history is not kept:
+/// were passed, one slot for the value, and the entrance at which threads wait. The history is not kept:
 /// it stands in proofs alone.
 #[derive(Drop)]
 pub struct Turn<V: Chronicle + Drop> {
     pub(crate) table: Table<Option<V>, View<V::Config, V::Entry>, Plan<V>, Law<V>, Global>,
-    pub(crate) parked: AtomicU64,
+    pub(crate) entrance: Entrance,
 }
 
 impl<V: Chronicle + Drop> Model for Turn<V> {
@@ -61,7 +61,7 @@ impl<V: Chronicle + Drop> Turn<V> {
         let (table, seat) = lay(alloc, slots, &plan)?;
         let turn = Turn {
             table,
-            parked: AtomicU64::new(0),
+            entrance: Entrance::new(),
         };
         let first = Pass {
             seat,
