@@ -1,5 +1,5 @@
 -- What a feed has put in and dropped, one datagram later.
-use Rattle.std.proofs.Common.{◌≡◌, ◌∙◌, ℕ, suc, ◌+◌, ◌-◌, ◌^◌, ◌≤◌, min, Bool, true, false, List, [], ◌∷◌, ◌++◌, length, take, refl, sym, ap, subst, arith}
+use Rattle.std.proofs.Common.{◌≡◌, ◌∙◌, ℕ, suc, ◌+◌, ◌-◌, ◌^◌, ◌≤◌, min, Bool, true, false, List, [], ◌∷◌, ◌++◌, length, refl, sym, ap, subst, arith, append-nil}
 use Rattle.std.specs.Arc.{arc_value}
 use Rattle.std.specs.List.{AllByRecursion}
 use Rattle.std.proofs.lemmas.List.{length-append}
@@ -63,13 +63,21 @@ texts_count [] all = refl
 texts_count (Datagram size bytes ∷ items) all = ap suc (texts_count items all.1)
 texts_count (End ∷ items) all = absurd all.0
 
-pub keeps_more : (capacity : ℕ) (came : List (List ℕ)) (items : List Item) (dropped size : ℕ) (bytes : List ℕ) → Keeps capacity came items dropped → Keeps capacity (came ++ take size bytes ∷ []) (items ++ Datagram size bytes ∷ []) dropped
-keeps_more capacity came items dropped size bytes keeps = record {
+-- one text more
+pub texts_more : (items : List Item) (item : Item) (datagram : List ℕ) → text_in item ≡ datagram ∷ [] → texts (items ++ item ∷ []) ≡ texts items ++ datagram ∷ []
+texts_more items item datagram is = flat_map-append text_in items (item ∷ []) ∙ ap (λ (own : List (List ℕ)). texts items ++ own) (append-nil (text_in item) ∙ is)
+
+is_datagram : (item : Item) (datagram : List ℕ) → text_in item ≡ datagram ∷ [] → IsDatagram item
+is_datagram (Datagram size bytes) datagram is = tt
+is_datagram End datagram is = absurd (omega (arith, ap (λ (l : List (List ℕ)). length l) is))
+
+pub keeps_more : (capacity : ℕ) (came : List (List ℕ)) (items : List Item) (dropped : ℕ) (item : Item) (datagram : List ℕ) → text_in item ≡ datagram ∷ [] → Keeps capacity came items dropped → Keeps capacity (came ++ datagram ∷ []) (items ++ item ∷ []) dropped
+keeps_more capacity came items dropped item datagram is keeps = record {
   marks = keeps.marks ++ true ∷ [];
-  each = length-append keeps.marks (true ∷ []) ∙ ap (λ n. n + 1) keeps.each ∙ sym (length-append came (take size bytes ∷ []));
+  each = length-append keeps.marks (true ∷ []) ∙ ap (λ n. n + 1) keeps.each ∙ sym (length-append came (datagram ∷ []));
   full = behind_one capacity 0 keeps.marks keeps.full;
-  texts_are = flat_map-append text_in items (Datagram size bytes ∷ []) ∙ ap (λ front. front ++ take size bytes ∷ []) keeps.texts_are ∙ sym (kept_one keeps.marks came (take size bytes) keeps.each);
-  whole = all_more items (Datagram size bytes) keeps.whole tt;
+  texts_are = texts_more items item datagram is ∙ ap (λ front. front ++ datagram ∷ []) keeps.texts_are ∙ sym (kept_one keeps.marks came datagram keeps.each);
+  whole = all_more items item keeps.whole (is_datagram item datagram is);
   dropped_is = keeps.dropped_is ∙ ap counted (sym (dropped_none keeps.marks));
 }
 
@@ -87,13 +95,13 @@ keeps_drop capacity came items dropped more datagram full is keeps =
 -- ---- feeds
 
 -- a datagram more was put in
-pub fed_more : (came : List (List ℕ)) (old new : Feed) (size : ℕ) (bytes : List ℕ) → view new.pass ≡ put_log ((view old.pass).put ++ Datagram size bytes ∷ []) → new.capacity ≡ old.capacity → new.dropped ≡ old.dropped → Fed came old → Fed (came ++ take size bytes ∷ []) new
-fed_more came old new size bytes put capacity dropped fed =
+pub fed_more : (came : List (List ℕ)) (old new : Feed) (item : Item) (datagram : List ℕ) → text_in item ≡ datagram ∷ [] → view new.pass ≡ put_log ((view old.pass).put ++ item ∷ []) → new.capacity ≡ old.capacity → new.dropped ≡ old.dropped → Fed came old → Fed (came ++ datagram ∷ []) new
+fed_more came old new item datagram is put capacity dropped fed =
     let items : (view old.pass).put ≡ fed.0 = ap (λ (l : Log). l.put) fed.1 in (
-      fed.0 ++ Datagram size bytes ∷ [],
-      put ∙ ap (λ (is : List Item). put_log (is ++ Datagram size bytes ∷ [])) items,
-      subst (λ (n : ℕ). Keeps new.capacity (came ++ take size bytes ∷ []) (fed.0 ++ Datagram size bytes ∷ []) n) (sym dropped)
-          (subst (λ (n : ℕ). Keeps n (came ++ take size bytes ∷ []) (fed.0 ++ Datagram size bytes ∷ []) old.dropped) (sym capacity) (keeps_more old.capacity came fed.0 old.dropped size bytes fed.2)),
+      fed.0 ++ item ∷ [],
+      put ∙ ap (λ (is : List Item). put_log (is ++ item ∷ [])) items,
+      subst (λ (n : ℕ). Keeps new.capacity (came ++ datagram ∷ []) (fed.0 ++ item ∷ []) n) (sym dropped)
+          (subst (λ (n : ℕ). Keeps n (came ++ datagram ∷ []) (fed.0 ++ item ∷ []) old.dropped) (sym capacity) (keeps_more old.capacity came fed.0 old.dropped item datagram is fed.2)),
     )
 
 -- a datagram more was dropped

@@ -1,6 +1,6 @@
 -- What a server has sent, one item later.
-use Rattle.std.proofs.Common.{◌≡◌, ◌∙◌, ℕ, ◌+◌, ◌≤◌, min, Bool, true, false, true≢false, List, [], ◌∷◌, ◌++◌, length, take, Option, Some, None, refl, sym, ap, subst, arith, append-nil, append_assoc}
-use Rattle.std.proofs.lemmas.List.{length-append, take-append-le, take_min}
+use Rattle.std.proofs.Common.{◌≡◌, ◌∙◌, ℕ, ◌+◌, ◌≤◌, Bool, true, false, true≢false, List, [], ◌∷◌, ◌++◌, length, take, Option, Some, None, refl, sym, ap, subst, arith, append-nil, append_assoc}
+use Rattle.std.proofs.lemmas.List.{length-append, take-append-le}
 use Rattle.std.proofs.lemmas.List.Concat.{flat_map-append}
 use Rattle.std.proofs.Math.Seq.{take-length}
 use Rattle.crossbeam_queue.specs.Passes.{Pass, view}
@@ -9,18 +9,16 @@ use Rattle.tesla_desk.specs.Posts.{with_datagram}
 use Rattle.tesla_posts.specs.Posts.{PostSeen, with_datagrams}
 use Rattle.tesla_relay.specs.Feeding.{text_in, texts, IsServing, SendsNext, Served, ServerSeen, ServesOn}
 use Rattle.tesla_relay.specs.Line.{popped_log}
+use Rattle.tesla_relay.proofs.Feeding.{texts_more}
 use Rattle.tesla_relay.specs.declared.line.Log.{Log}
 use Rattle.tesla_relay.specs.declared.line.Item.{Item}
-use Rattle.tesla_relay.specs.declared.line.Item.TheVariants.{Datagram, End}
+use Rattle.tesla_relay.specs.declared.line.Item.TheVariants.{End}
 
 -- ---- what was sent
 
 sent_more : (sent : Option (List (List ℕ))) (front : List (List ℕ)) (datagram : List ℕ) → with_datagram (with_datagrams sent front) datagram ≡ with_datagrams sent (front ++ datagram ∷ [])
 sent_more None front datagram = refl
 sent_more (Some before) front datagram = ap (λ all. Some all) (append_assoc before front (datagram ∷ []))
-
-texts_more : (popped : List Item) (size : ℕ) (bytes : List ℕ) → texts (popped ++ Datagram size bytes ∷ []) ≡ texts popped ++ take size bytes ∷ []
-texts_more popped size bytes = flat_map-append text_in popped (Datagram size bytes ∷ [])
 
 texts_end : (popped : List Item) → texts (popped ++ End ∷ []) ≡ texts popped
 texts_end popped = flat_map-append text_in popped (End ∷ []) ∙ append-nil (texts popped)
@@ -36,20 +34,20 @@ take_more all datagram n whole =
 
 -- ---- one item later
 
-module _ (start : PostSeen) (old new : ServerSeen) (pass : Pass Item Log) (size : ℕ) (bytes : List ℕ) (taken : view pass ≡ popped_log ((view old.pass).popped ++ Datagram size bytes ∷ [])) (next : SendsNext (take size bytes) (record old { pass = pass }) new) (served : Served start old) where
-  view_is : view new.pass ≡ popped_log (served.popped ++ Datagram size bytes ∷ [])
-  view_is = ap (λ (p : Pass Item Log). view p) next.pass ∙ taken ∙ ap (λ (l : Log). popped_log (l.popped ++ Datagram size bytes ∷ [])) served.view_is
+module _ (start : PostSeen) (old new : ServerSeen) (pass : Pass Item Log) (item : Item) (datagram : List ℕ) (is : text_in item ≡ datagram ∷ []) (taken : view pass ≡ popped_log ((view old.pass).popped ++ item ∷ [])) (next : SendsNext datagram (record old { pass = pass }) new) (served : Served start old) where
+  view_is : view new.pass ≡ popped_log (served.popped ++ item ∷ [])
+  view_is = ap (λ (p : Pass Item Log). view p) next.pass ∙ taken ∙ ap (λ (l : Log). popped_log (l.popped ++ item ∷ [])) served.view_is
 
-  more : length (texts (served.popped ++ Datagram size bytes ∷ [])) ≡ length (texts served.popped) + 1
-  more = ap (λ (ts : List (List ℕ)). length ts) (texts_more served.popped size bytes) ∙ length-append (texts served.popped) (take size bytes ∷ [])
+  more : length (texts (served.popped ++ item ∷ [])) ≡ length (texts served.popped) + 1
+  more = ap (λ (ts : List (List ℕ)). length ts) (texts_more served.popped item datagram is) ∙ length-append (texts served.popped) (datagram ∷ [])
 
   -- no more was sent
-  front : take served.sends (texts (served.popped ++ Datagram size bytes ∷ [])) ≡ take served.sends (texts served.popped)
-  front = ap (λ (ts : List (List ℕ)). take served.sends ts) (texts_more served.popped size bytes) ∙ take_front (texts served.popped) (take size bytes) served.sends served.few
+  front : take served.sends (texts (served.popped ++ item ∷ [])) ≡ take served.sends (texts served.popped)
+  front = ap (λ (ts : List (List ℕ)). take served.sends ts) (texts_more served.popped item datagram is) ∙ take_front (texts served.popped) datagram served.sends served.few
 
   stays_failed : new.failed ≡ true → new.post.sent ≡ old.post.sent → new.sent ≡ old.sent → HasCause start.faults new.post.faults (new.failed ≡ true) → Served start new
   stays_failed failed sent count cause = record {
-    popped = served.popped ++ Datagram size bytes ∷ [];
+    popped = served.popped ++ item ∷ [];
     view_is = view_is;
     sends = served.sends;
     few = omega (arith, served.few, more);
@@ -86,22 +84,22 @@ module _ (start : PostSeen) (old new : ServerSeen) (pass : Pass Item Log) (size 
   sends_one : old.failed ≡ false → new.failed ≡ false → Served start new
   sends_one was now =
       let sent = next.sent was now in let whole : served.sends ≡ length (texts served.popped) = served.all was in record {
-        popped = served.popped ++ Datagram size bytes ∷ [];
+        popped = served.popped ++ item ∷ [];
         view_is = view_is;
         sends = served.sends + 1;
         few = omega (arith, whole, more);
         all = λ fine. omega (arith, whole, more);
-        sent = sent.0 ∙ ap (λ (s : Option (List (List ℕ))). with_datagram s (take size bytes)) served.sent ∙ sent_more start.sent (take served.sends (texts served.popped)) (take size bytes)
-            ∙ ap (λ (ts : List (List ℕ)). with_datagrams start.sent ts) (sym (ap (λ (ts : List (List ℕ)). take (served.sends + 1) ts) (texts_more served.popped size bytes) ∙ take_more (texts served.popped) (take size bytes) served.sends whole));
+        sent = sent.0 ∙ ap (λ (s : Option (List (List ℕ))). with_datagram s datagram) served.sent ∙ sent_more start.sent (take served.sends (texts served.popped)) datagram
+            ∙ ap (λ (ts : List (List ℕ)). with_datagrams start.sent ts) (sym (ap (λ (ts : List (List ℕ)). take (served.sends + 1) ts) (texts_more served.popped item datagram is) ∙ take_more (texts served.popped) datagram served.sends whole));
         name = next.name ∙ served.name;
         cause = later_cause was;
         count = sent.1 ∙ omega (arith, served.count);
       }
 
   by_bools : (was now : Bool) → old.failed ≡ was → new.failed ≡ now → Served start new
-  by_bools true now is is_now = skips is
-  by_bools false true is is_now = breaks is is_now
-  by_bools false false is is_now = sends_one is is_now
+  by_bools true now was is_now = skips was
+  by_bools false true was is_now = breaks was is_now
+  by_bools false false was is_now = sends_one was is_now
 
   pub served_more : Served start new
   served_more = by_bools old.failed new.failed refl refl
@@ -127,20 +125,15 @@ served_none start old pass same served = record { popped = served.popped; view_i
 -- ---- a server goes on
 
 -- it took out a datagram and handed it to its post
-pub serves_datagram : (old new : ServerSeen) (pass : Pass Item Log) (size : ℕ) (bytes datagram : List ℕ) → IsServing old → pass.table_id ≡ old.pass.table_id → pass.me.1 ≡ old.pass.me.1 → view pass ≡ popped_log ((view old.pass).popped ++ Datagram size bytes ∷ []) → datagram ≡ take size bytes → SendsNext datagram (record old { pass = pass }) new → ServesOn old new
-serves_datagram old new pass size bytes datagram serving table whole taken is sends =
-    let next : SendsNext (take size bytes) (record old { pass = pass }) new = subst (λ (d : List ℕ). SendsNext d (record old { pass = pass }) new) is sends in
+pub serves_datagram : (old new : ServerSeen) (pass : Pass Item Log) (item : Item) (datagram : List ℕ) → text_in item ≡ datagram ∷ [] → IsServing old → pass.table_id ≡ old.pass.table_id → pass.me.1 ≡ old.pass.me.1 → view pass ≡ popped_log ((view old.pass).popped ++ item ∷ []) → SendsNext datagram (record old { pass = pass }) new → ServesOn old new
+serves_datagram old new pass item datagram is serving table whole taken next =
     let own : new.pass.table_id ≡ old.pass.table_id = ap (λ (p : Pass Item Log). p.table_id) next.pass ∙ table in record {
       serving = record {
         table = own ∙ serving.table ∙ sym next.table;
         whole = ap (λ (p : Pass Item Log). p.me.1) next.pass ∙ whole ∙ serving.whole;
-        popped = (view old.pass).popped ++ Datagram size bytes ∷ [];
+        popped = (view old.pass).popped ++ item ∷ [];
         view_is = ap (λ (p : Pass Item Log). view p) next.pass ∙ taken;
       };
       same = record { table = next.table; pass = own };
-      served = λ start served. served_more start old new pass size bytes taken next served;
+      served = λ start served. served_more start old new pass item datagram is taken next served;
     }
-
--- as many bytes as there are, and no more, are a datagram
-pub cut_is : (n size most : ℕ) (bytes : List ℕ) → length bytes ≡ most → n ≡ min size most → take n bytes ≡ take size bytes
-cut_is n size most bytes whole is = ap (λ k. take k bytes) (is ∙ ap (λ k. min size k) (sym whole)) ∙ take_min size bytes

@@ -16,7 +16,7 @@ use Rattle.tesla_relay.specs.declared.feed.Feed.{Feed}
 
 -- the datagram that an item is
 abbrev pub text_in : Item → List (List ℕ)
-text_in (Datagram size bytes) = take size bytes ∷ []
+text_in (Datagram size bytes) = take size bytes.value ∷ []
 text_in End = []
 
 -- the datagrams among items

@@ -2,24 +2,35 @@
 
 ghost use Rattle.std.specs.Prelude.{◌≡◌, ◌<◌, ◌≤◌, ◌+◌, ◌-◌, ◌^◌, ◌∷◌, ◌++◌, [], ℕ, List, true, false, length, take};
 ghost use Rattle.crossbeam_queue.specs.Passes.{view, IsSamePass};
-ghost use Rattle.tesla_relay.specs.Feeding.{IsFeeding};
+ghost use Rattle.tesla_relay.specs.Feeding.{text_in, IsFeeding};
 ghost use Rattle.tesla_relay.specs.Line.{put_log};
 ghost use Rattle.tesla_relay.specs.Lists.{FeedsAll, FeedsOn};
 ghost use Rattle.tesla_relay.specs.declared.line.Item.{Item};
 ghost use Rattle.tesla_relay.specs.declared.line.Item.TheVariants.{Datagram, End};
 
-use crate::line::{Item, Line, LinePass, length_of, put_in};
+use crate::buffers::{Buffer, FreeBuffers, give_buffer, take_buffer};
+use crate::line::{Item, Line, LinePass, datagram_in, length_of, put_in};
 use std::sync::{Arc, Wait};
 use std::thread;
 
 /// How many datagrams are put into a queue at most, before it takes no more.
 const MOST_TAKEN: u64 = (1 << 62) - 2;
 
+// Copies a datagram of this size, and none of the bytes behind it.
+fn copy_datagram(size: u16, from: &[u8; 2048], to: &mut [u8; 2048])
+    ensures { take size to.new ≡ take size from.now }
+{
+    let datagram = datagram_in(size, from);
+    to[..datagram.len()].copy_from_slice(datagram);
+}
+
 /// What puts datagrams into the queue of one post, and counts those that it drops.
 #[derive(Drop)]
 pub struct Feed {
     pub line: Arc<Line>,
     pub pass: LinePass,
+    // Where the buffers for the datagrams come from.
+    pub free: Arc<FreeBuffers>,
     // How many datagrams the queue holds at most. It has one place more, for the end.
     pub capacity: usize,
     // How many were put in.
@@ -30,7 +41,7 @@ pub struct Feed {
 
 impl Feed {
     /// A feed that has put nothing in.
-    pub fn new(line: Arc<Line>, pass: LinePass, capacity: usize) -> Feed
+    pub fn new(line: Arc<Line>, pass: LinePass, free: Arc<FreeBuffers>, capacity: usize) -> Feed
         ensures line { result.line ≡ line }
         ensures pass { result.pass ≡ pass }
         ensures counts { (result.capacity ≡ capacity) × (result.taken ≡ 0) × (result.dropped ≡ 0) }
@@ -38,6 +49,7 @@ impl Feed {
         Feed {
             line,
             pass,
+            free,
             capacity,
             taken: 0,
             dropped: 0,
@@ -58,15 +70,53 @@ impl Feed {
         length_of(rt, &self.line, &mut self.pass) < self.capacity
     }
 
-    // Puts an item in where there is room.
-    fn put<R: Wait>(&mut self, rt: &R, item: Item) -> bool
+    // A copy of a datagram. It waits until there is a buffer for it.
+    fn copy_of<R: Wait>(&self, rt: &R, size: u16, bytes: &[u8; 2048]) -> Buffer
+        ensures { take size result.value ≡ take size bytes.now }
+    {
+        let mut buffer = take_buffer(rt, &self.free);
+        copy_datagram(size, bytes, &mut buffer);
+        buffer
+    }
+
+    // Gives the buffer of an item back.
+    fn give_back<R: Wait>(&self, rt: &R, item: Item) {
+        if let Item::Datagram { length: _, bytes } = item {
+            give_buffer(rt, &self.free, bytes);
+        }
+    }
+
+    // Puts a copy of a datagram in.
+    fn put_copy<R: Wait>(&mut self, rt: &R, size: u16, bytes: &[u8; 2048]) -> bool
         requires { IsFeeding self.old }
-        ensures put { result ≡ true → (view self.new.pass ≡ put_log ((view self.old.pass).put ++ item ∷ [])) × (self.new.taken ≡ self.old.taken) × (self.old.taken ≤ 2 ^ 62 - 3) }
+        ensures put { result ≡ true → (item : Item) × (text_in item ≡ take size bytes.now ∷ []) × (view self.new.pass ≡ put_log ((view self.old.pass).put ++ item ∷ [])) }
+        ensures full { result ≡ false → (self.old.capacity ≤ length (view self.old.pass).put) × (view self.new.pass ≡ view self.old.pass) }
+        ensures pass { IsSamePass self.old.pass self.new.pass }
+        ensures same { (self.new.line ≡ self.old.line) × (self.new.capacity ≡ self.old.capacity) × (self.new.taken ≡ self.old.taken) × (self.new.dropped ≡ self.old.dropped) }
+    {
+        let copy = self.copy_of(rt, size, bytes);
+        let item = Item::Datagram {
+            length: size,
+            bytes: copy,
+        };
+        match put_in(rt, &self.line, &mut self.pass, item) {
+            Ok(()) => true,
+            Err(item) => {
+                self.give_back(rt, item);
+                false
+            }
+        }
+    }
+
+    // Puts a datagram in where there is room.
+    fn put<R: Wait>(&mut self, rt: &R, size: u16, bytes: &[u8; 2048]) -> bool
+        requires { IsFeeding self.old }
+        ensures put { result ≡ true → (item : Item) × (text_in item ≡ take size bytes.now ∷ []) × (view self.new.pass ≡ put_log ((view self.old.pass).put ++ item ∷ [])) × (self.new.taken ≡ self.old.taken) × (self.old.taken ≤ 2 ^ 62 - 3) }
         ensures full { result ≡ false → (self.old.capacity ≤ length (view self.old.pass).put) × (view self.new.pass ≡ view self.old.pass) × (self.new.taken ≡ self.old.taken) }
         ensures pass { IsSamePass self.old.pass self.new.pass }
         ensures same { (self.new.line ≡ self.old.line) × (self.new.capacity ≡ self.old.capacity) × (self.new.dropped ≡ self.old.dropped) }
     {
-        self.has_room(rt) && put_in(rt, &self.line, &mut self.pass, item)
+        self.has_room(rt) && self.put_copy(rt, size, bytes)
     }
 
     /// Puts a datagram in, which stands at the front of these bytes, or drops it where the queue holds as many as it may.
@@ -74,11 +124,7 @@ impl Feed {
         requires { IsFeeding self.old }
         ensures { FeedsOn (take length bytes.now ∷ []) self.old self.new }
     {
-        let item = Item::Datagram {
-            length,
-            bytes: *bytes,
-        };
-        if self.put(rt, item) {
+        if self.put(rt, length, bytes) {
             self.taken += 1;
         } else {
             self.dropped = self.dropped.saturating_add(1);
@@ -91,7 +137,7 @@ impl Feed {
         ensures { FeedsAll [] self.old self.new }
     {
         for _ in rt.forever() {
-            if put_in(rt, &self.line, &mut self.pass, Item::End) {
+            if put_in(rt, &self.line, &mut self.pass, Item::End).is_ok() {
                 return;
             }
             thread::yield_now();

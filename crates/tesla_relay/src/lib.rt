@@ -1,6 +1,7 @@
 //! The relay, which hands the datagrams of one link on to many posts.
 #![tactic(auto)]
 
+mod buffers;
 mod feed;
 mod hearing;
 mod line;

@@ -1,10 +1,11 @@
 //! The queue that stands before a post, and the rule that it is under: what went in comes out, in order and once.
 
-ghost use Rattle.std.specs.Prelude.{◌≡◌, ◌<◌, ◌≤◌, ◌+◌, ◌∷◌, [], ◌++◌, List, true, false, length, IfOk, MatchOption};
+ghost use Rattle.std.specs.Prelude.{◌≡◌, ◌<◌, ◌≤◌, ◌+◌, ◌∷◌, [], ◌++◌, List, true, length, take, IfOk, IfErr, MatchOption};
 ghost use Rattle.crossbeam_queue.specs.Passes.{view, IsSamePass, IsPassOf, ruled_capacity};
 ghost use Rattle.tesla_relay.specs.Line.{put_log, popped_log};
 ghost use Rattle.tesla_relay.specs.declared.line.Item.{Item};
 
+use crate::buffers::Buffer;
 use crossbeam_queue::protocol::{Join, Lesson, Outcome, Protocol, Split};
 use crossbeam_queue::{Pass, RuledArrayQueue};
 use std::alloc::Global;
@@ -15,8 +16,16 @@ use tesla_base::NoMemory;
 /// What stands in a queue: a datagram, at the front of its bytes, or the news that none follows.
 #[derive(Drop)]
 pub enum Item {
-    Datagram { length: u16, bytes: [u8; 2048] },
+    Datagram { length: u16, bytes: Buffer },
     End,
+}
+
+/// The datagram of this size at the front of these bytes.
+pub fn datagram_in(size: u16, bytes: &[u8; 2048]) -> &[u8]
+    ensures datagram { result.now ≡ take size bytes.now }
+    ensures few { length result.now ≤ 2048 }
+{
+    &bytes[..usize::from(size).min(2048)]
 }
 
 /// What a pass may do, and what it has put in and taken out. No value of it is made.
@@ -123,15 +132,15 @@ pub fn length_of<R: Wait>(rt: &R, line: &Line, pass: &mut LinePass) -> usize
     line.len_as::<Puts, R>(rt, pass)
 }
 
-/// Puts an item in. False: the queue was full at one moment.
-pub fn put_in<R: Wait>(rt: &R, line: &Line, pass: &mut LinePass, item: Item) -> bool
+/// Puts an item in. `Err`: the queue was full at one moment, and the item is given back.
+pub fn put_in<R: Wait>(rt: &R, line: &Line, pass: &mut LinePass, item: Item) -> Result<(), Item>
     requires own { IsPassOf line.now pass.old }
     requires puts { (put : List Item) × (view pass.old ≡ put_log put) }
     ensures own { IsSamePass pass.old pass.new }
-    ensures put { result ≡ true → view pass.new ≡ put_log ((view pass.old).put ++ item ∷ []) }
-    ensures full { result ≡ false → (view pass.new ≡ view pass.old) × (ruled_capacity line.now ≤ length (view pass.old).put) }
+    ensures put { IfOk result (λ _. view pass.new ≡ put_log ((view pass.old).put ++ item ∷ [])) }
+    ensures full { IfErr result (λ _. (view pass.new ≡ view pass.old) × (ruled_capacity line.now ≤ length (view pass.old).put)) }
 {
-    line.push_as::<Puts, R>(rt, pass, item).is_ok()
+    line.push_as::<Puts, R>(rt, pass, item)
 }
 
 /// Takes the oldest item out. `None`: there was none at one moment, or another was being put in.

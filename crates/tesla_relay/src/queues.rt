@@ -6,6 +6,7 @@ ghost use Rattle.tesla_relay.specs.Lists.{Ends};
 ghost use Rattle.tesla_relay.specs.Queues.{Adds, AreNew, Ending, GivesBack, IsEnding, IsNew, Starting};
 ghost use Rattle.tesla_relay.specs.Relay.{RelaysPost, RelaysPosts};
 
+use crate::buffers::{FreeBuffers, new_buffers};
 use crate::feed::Feed;
 use crate::line::{Line, LinePass, new_line, settle};
 use crate::relayed::{MOST, PostCount};
@@ -22,9 +23,11 @@ pub struct Queue {
     pub feed: Feed,
     pub line: Arc<Line>,
     pub pass: LinePass,
+    pub free: Arc<FreeBuffers>,
 }
 
-// A queue for so many datagrams.
+// A queue for so many datagrams, with two buffers more than it has places: one datagram may be on its way in, and one on its
+// way out.
 fn new_queue(alloc: Global, capacity: usize) -> Result<Queue, NoMemory>
     requires { (1 ≤ capacity) × (capacity ≤ 4096) }
     ensures { IfOk result (λ queue. IsNew capacity queue) }
@@ -32,10 +35,13 @@ fn new_queue(alloc: Global, capacity: usize) -> Result<Queue, NoMemory>
     let (line, put, popped) = new_line(alloc, capacity + 1)?;
     let line = Arc::new(alloc, line)?;
     let other = Arc::try_clone(&line)?;
+    let free = Arc::new(alloc, new_buffers(alloc, capacity + 3)?)?;
+    let same = Arc::try_clone(&free)?;
     Ok(Queue {
-        feed: Feed::new(line, put, capacity),
+        feed: Feed::new(line, put, free, capacity),
         line: other,
         pass: popped,
+        free: same,
     })
 }
 
@@ -83,9 +89,14 @@ pub fn take_in<P: Post, G: Gate>(
     let Some(queue) = queues.pop() else {
         unreachable!()
     };
-    let Queue { feed, line, pass } = queue;
+    let Queue {
+        feed,
+        line,
+        pass,
+        free,
+    } = queue;
     feeds.push_reserved(feed);
-    servers.push_reserved(Server::new(post, gate, line, pass));
+    servers.push_reserved(Server::new(post, gate, line, pass, free));
     take_in(queues, posts, gates, feeds, servers);
 }
 
@@ -97,6 +108,7 @@ fn settle_one<P: Post, G: Gate>(feed: Feed, server: Server<P, G>) -> (P, (G, Pos
     let Feed {
         line,
         pass: mut put,
+        free: _,
         capacity: _,
         taken: _,
         dropped,
@@ -106,6 +118,7 @@ fn settle_one<P: Post, G: Gate>(feed: Feed, server: Server<P, G>) -> (P, (G, Pos
         gate,
         line: _,
         pass: popped,
+        free: _,
         sent,
         failed,
     } = server;

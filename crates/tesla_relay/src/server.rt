@@ -9,7 +9,8 @@ ghost use Rattle.tesla_relay.specs.Feeding.{IsServing, IsDone, IsSameServer, Ser
 ghost use Rattle.tesla_relay.specs.Lists.{ServesAll};
 ghost use Rattle.tesla_relay.specs.Line.{popped_log};
 
-use crate::line::{Item, Line, LinePass, take_out};
+use crate::buffers::{FreeBuffers, give_buffer};
+use crate::line::{Item, Line, LinePass, datagram_in, take_out};
 use std::marker::Model;
 use std::sync::{Arc, Wait};
 use tesla_desk::{Gate, Post, PostStep};
@@ -31,6 +32,8 @@ pub struct Server<P: Post, G: Gate> {
     pub gate: G,
     pub line: Arc<Line>,
     pub pass: LinePass,
+    // Where a buffer goes once its datagram is sent.
+    pub free: Arc<FreeBuffers>,
     /// How many were sent. The count stands still at 2^64 - 1.
     pub sent: u64,
     /// Whether the post failed.
@@ -48,7 +51,13 @@ impl<P: Post, G: Gate> Model for Server<P, G> {
 
 impl<P: Post, G: Gate> Server<P, G> {
     /// A server that has sent nothing.
-    pub fn new(post: P, gate: G, line: Arc<Line>, pass: LinePass) -> Server<P, G>
+    pub fn new(
+        post: P,
+        gate: G,
+        line: Arc<Line>,
+        pass: LinePass,
+        free: Arc<FreeBuffers>,
+    ) -> Server<P, G>
         ensures post { result.post ≡ record { name = P.name post; sent = P.sent post; faults = P.faults post } }
         ensures pass { (result.table ≡ (arc_value line).table.shared.table_id) × (result.pass ≡ pass) }
         ensures counts { (result.sent ≡ 0) × (result.failed ≡ false) }
@@ -58,6 +67,7 @@ impl<P: Post, G: Gate> Server<P, G> {
             gate,
             line,
             pass,
+            free,
             sent: 0,
             failed: false,
         }
@@ -78,15 +88,15 @@ impl<P: Post, G: Gate> Server<P, G> {
     }
 
     // Takes the oldest item out, and sends it where it is a datagram.
-    fn step(&mut self) -> Served
+    fn step<R: Wait>(&mut self, rt: &R) -> Served
         requires { IsServing self.old }
         ensures on { ServesOn self.old self.new }
         ensures done { result ≡ Served.End → IsDone self.new }
     {
         match take_out(&self.line, &mut self.pass) {
             Some(Item::Datagram { length, bytes }) => {
-                let size = usize::from(length).min(bytes.len());
-                self.send(&bytes[..size]);
+                self.send(datagram_in(length, &bytes));
+                give_buffer(rt, &self.free, bytes);
                 Served::Datagram
             }
             Some(Item::End) => Served::End,
@@ -102,7 +112,7 @@ impl<P: Post, G: Gate> Server<P, G> {
     {
         for _ in rt.forever() {
             self.gate.before();
-            let served = self.step();
+            let served = self.step(rt);
             self.gate.after();
             match served {
                 Served::Datagram => {}
@@ -120,7 +130,7 @@ impl<P: Post, G: Gate> Server<P, G> {
     {
         for _ in rt.forever() {
             self.gate.before();
-            let served = self.step();
+            let served = self.step(rt);
             self.gate.after();
             match served {
                 Served::Datagram => {}

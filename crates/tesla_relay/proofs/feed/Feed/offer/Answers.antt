@@ -1,16 +1,15 @@
 use Rattle.std.proofs.Common.{◌∙◌, ◌+◌, ◌-◌, ◌^◌, ap, min, take}
 use Rattle.tesla_relay.specs.declared.feed.Feed.{Feed}
-use Rattle.tesla_relay.specs.declared.line.Item.TheVariants.{Datagram}
 use Rattle.tesla_relay.proofs.Feeding.{fed_more, fed_drops, feeding_more, feeding_same}
 use Rattle.tesla_relay.proofs.feed.Feed.offer.Goals as goal
 
 pub returns-then-put : goal.returns-then-put
 returns-then-put g c =
-    let put = c.put.ensures.put c.if-put.true in let same = c.put.ensures.same in let pass = c.put.ensures.pass in
+    let put = c.put.ensures.put c.if-put.true in let item = put.0 in let same = c.put.ensures.same in let pass = c.put.ensures.pass in
     let new : Feed = record c.put.new.self { taken = c.put.new.self.taken + 1 } in record {
-      feeding = feeding_more c.args.self.now new (Datagram c.args.length c.args.bytes.now) c.requires pass same.0 same.1 (ap (λ n. n + 1) put.1) put.0;
+      feeding = feeding_more c.args.self.now new item c.requires pass same.0 same.1 (ap (λ n. n + 1) put.3) put.2;
       same = record { table = pass.0; capacity = same.1 };
-      fed = λ came fed. fed_more came c.args.self.now c.put.new.self c.args.length c.args.bytes.now put.0 same.1 same.2 fed;
+      fed = λ came fed. fed_more came c.args.self.now c.put.new.self item (take c.args.length c.args.bytes.now) put.1 put.2 same.1 same.2 fed;
     }
 
 pub returns-else-put : goal.returns-else-put
