@@ -63,7 +63,7 @@ impl Sender {
     /// the setup's index that it gives isn't the setup's key.
     ///
     /// Over a sender's whole life, its opening included, it takes at most `C * (W(N) + N + 2 m)` counted steps for
-    /// `C` chains of `N` keys and `m` accepted messages, with `W(N)` as for a walker. Beside the counted steps,
+    /// `C` chains of `N` keys and `m` accepted messages, with `W(N)` as for a traversal. Beside the counted steps,
     /// opening prepares one key for each chain that it opens, so at most `C`, and an accepted message one for each
     /// chain where it is the first of its interval, so at most `C` too; no other call prepares a key. To prepare a
     /// key takes two compressions of SHA-256.
