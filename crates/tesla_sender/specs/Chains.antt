@@ -8,6 +8,7 @@ use Rattle.tesla_base.specs.declared.names.Name.{Name}
 use Rattle.tesla_base.specs.declared.names.WideTag.{WideTag}
 use Rattle.tesla_commit.specs.Parts.{Parts}
 use Rattle.tesla_prf.specs.Keys.{mac_of}
+use Rattle.tesla_sender.specs.Cost.{steps_along}
 use Rattle.tesla_sender.specs.Made.{Chain, key_of, row_of}
 use Rattle.tesla_sender.specs.declared.refusal.SenderRefusal.{SenderRefusal}
 use Rattle.tesla_sender.specs.declared.refusal.SenderRefusal.TheVariants.{WrongSeed, NoMemory}
@@ -70,6 +71,10 @@ chain_in now = now.chain
 
 abbrev pub left_in : Progress → ℕ
 left_in now = now.left
+
+-- the most steps in which the keys up to that of the interval are made
+abbrev pub steps_to : ℕ → Progress → ℕ
+steps_to interval now = steps_along now.reached interval now.chain
 
 abbrev pub reserved_in : Progress → ℕ
 reserved_in now = now.reserved

@@ -1,9 +1,9 @@
 //! One key chain of a sender.
 
 ghost use Rattle.std.specs.Prelude.{◌≡◌, ◌+◌, ◌-◌, ◌^◌, ◌<◌, ◌≤◌, nat_lt, min, option_to_list, IfOk, IfErr};
-ghost use Rattle.tesla_chain.specs.Cost.{W};
+ghost use Rattle.tesla_chain.specs.Cost.{W, bits};
 ghost use Rattle.tesla_sender.specs.Made.{key_of, key_due, due_row};
-ghost use Rattle.tesla_sender.specs.Chains.{IsFresh, IsRefusedFor, left_after, tag_made};
+ghost use Rattle.tesla_sender.specs.Chains.{IsFresh, IsRefusedFor, left_after, steps_to, tag_made};
 
 use crate::SenderRefusal;
 use circular_buffer::HeapCircularBuffer;
@@ -114,6 +114,7 @@ impl SendingChain {
         ensures same { self.new.chain ≡ self.old.chain }
         ensures reached { self.new.reached ≡ self.old.reached + 1 }
         ensures tagging { self.new.tagging ≡ self.old.tagging }
+        ensures call { steps.new ≤ steps.old + bits self.old.chain.last }
         ensures left { steps.new + self.new.left ≤ steps.old + self.old.left }
         ensures reserved { self.new.reserved ≡ self.old.reserved }
     {
@@ -124,13 +125,15 @@ impl SendingChain {
         self.reached += 1;
     }
 
-    /// Makes the keys up to that of an interval. No key is prepared.
+    /// Makes the keys up to that of an interval, each in at most `bits(N)` counted steps for a chain of `N` keys, with
+    /// `bits(N)` the number of binary digits. No key is prepared.
     pub fn advance<L: Ledger>(&mut self, interval: u32, steps: &mut Steps<L>)
         requires later { self.old.reached ≤ interval }
         requires within { interval ≤ self.old.chain.last }
         ensures same { self.new.chain ≡ self.old.chain }
         ensures reached { self.new.reached ≡ interval }
         ensures tagging { self.new.tagging ≡ self.old.tagging }
+        ensures call { steps.new ≤ steps.old + steps_to interval self.old }
         ensures left { steps.new + self.new.left ≤ steps.old + self.old.left }
         ensures reserved { self.new.reserved ≡ self.old.reserved }
     {
@@ -180,6 +183,7 @@ impl SendingChain {
         ensures same { self.new.chain ≡ self.old.chain }
         ensures reached { self.new.reached ≡ interval }
         ensures tagging { self.new.tagging ≡ interval }
+        ensures call { steps.new ≤ steps.old + steps_to interval self.old + 1 }
         ensures left { steps.new + self.new.left ≤ steps.old + self.old.left + 1 }
         ensures reserved { self.new.reserved ≡ self.old.reserved }
     {
