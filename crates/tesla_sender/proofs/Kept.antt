@@ -6,10 +6,10 @@ use Rattle.std.proofs.lemmas.List.{length-append, length-drop, drop-append-le, d
 use Rattle.circular_buffer.specs.Buffer.{Buffer, buffer, keep_last}
 use Rattle.tesla_base.proofs.Lists.{slice_get-append}
 use Rattle.tesla_base.specs.declared.names.Key.{Key}
-use Rattle.tesla_chain.specs.Walker.{Walking, IsOpened, HasGiven, next_given}
 use Rattle.tesla_prf.specs.Keys.{mac_of}
 use Rattle.tesla_sender.specs.Made.{key_of}
 use Rattle.tesla_sender.specs.Chains.{keys_to, IsUsed}
+use Rattle.tesla_traversal.specs.Traversal.{Traversing, IsOpened, HasGiven, next_given}
 
 -- ---- lists
 
@@ -102,15 +102,15 @@ kept_back last seed n c back kept found is near within looked =
     let chosen : found ≡ slice_get kept (length kept - back - 1) = rw there at looked in
     chosen ∙ kept_key last seed n c back kept is near within
 
--- what a walker gives next
-pub next_key : (walker : Walking) (key : Key) → walker.given < walker.last → Some key ≡ next_given walker → key ≡ key_of walker.last walker.seed (walker.given + 1)
-next_key walker key some is =
-    let there : nat_lt walker.given walker.last ≡ true = lt-ltb walker.given walker.last some in
-    let given : Some key ≡ Some (key_of walker.last walker.seed (walker.given + 1)) = rw there at is in
+-- what a traversal gives next
+pub next_key : (traversal : Traversing) (key : Key) → traversal.given < traversal.last → Some key ≡ next_given traversal → key ≡ key_of traversal.last traversal.seed (traversal.given + 1)
+next_key traversal key some is =
+    let there : nat_lt traversal.given traversal.last ≡ true = lt-ltb traversal.given traversal.last some in
+    let given : Some key ≡ Some (key_of traversal.last traversal.seed (traversal.given + 1)) = rw there at is in
     cc
 
 -- what is true of each chain, once the next key was made
-pub used_more : (delay last : ℕ) (before after : Walking) (kept more : Buffer Key) (reached tagging : ℕ) (prepared key : Key) → IsUsed delay last before kept reached tagging prepared → before.given < before.last → HasGiven before after → Some key ≡ next_given before → more ≡ buffer (keep_last kept.capacity (kept.items ++ key ∷ [])) kept.capacity → IsUsed delay last after more (reached + 1) tagging prepared
+pub used_more : (delay last : ℕ) (before after : Traversing) (kept more : Buffer Key) (reached tagging : ℕ) (prepared key : Key) → IsUsed delay last before kept reached tagging prepared → before.given < before.last → HasGiven before after → Some key ≡ next_given before → more ≡ buffer (keep_last kept.capacity (kept.items ++ key ∷ [])) kept.capacity → IsUsed delay last after more (reached + 1) tagging prepared
 used_more delay last before after kept more reached tagging prepared key used some gives given pushed =
     let next : key ≡ key_of before.last before.seed (reached + 1) = next_key before key some given ∙ ap (λ n. key_of before.last before.seed (n + 1)) used.given in
     let room : more.capacity ≡ kept.capacity = ap (λ (b : Buffer Key). b.capacity) pushed in
@@ -131,8 +131,8 @@ used_more delay last before after kept more reached tagging prepared key used so
     }
 
 -- what is true of a chain of which no key was made yet
-pub used_none : (delay last : ℕ) (seed prepared : Key) (walker : Walking) (kept : Buffer Key) → IsOpened seed last walker → 1 ≤ last → last ≤ 2 ^ 20 → kept ≡ buffer [] (delay + 1) → IsUsed delay last walker kept 0 0 prepared
-used_none delay last seed prepared walker kept is some most empty =
+pub used_none : (delay last : ℕ) (seed prepared : Key) (traversal : Traversing) (kept : Buffer Key) → IsOpened seed last traversal → 1 ≤ last → last ≤ 2 ^ 20 → kept ≡ buffer [] (delay + 1) → IsUsed delay last traversal kept 0 0 prepared
+used_none delay last seed prepared traversal kept is some most empty =
     record {
       given = is.given;
       whole = is.last;
@@ -142,6 +142,6 @@ used_none delay last seed prepared walker kept is some most empty =
       capacity = ap (λ (b : Buffer Key). b.capacity) empty;
       keys =
           ap (λ (b : Buffer Key). b.items) empty
-          ∙ sym (ap (keep_last (delay + 1)) (keys_none walker.last walker.seed) ∙ drop_none (0 - (delay + 1)));
+          ∙ sym (ap (keep_last (delay + 1)) (keys_none traversal.last traversal.seed) ∙ drop_none (0 - (delay + 1)));
       mac = λ h. absurd (omega arith);
     }

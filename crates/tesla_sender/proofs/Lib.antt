@@ -1,4 +1,5 @@
 pub mod Kept
+pub mod Costs
 pub mod Places
 pub mod Tags
 pub mod Frames

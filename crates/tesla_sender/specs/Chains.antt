@@ -6,15 +6,16 @@ use Rattle.tesla_base.specs.Tag.{wide_tag}
 use Rattle.tesla_base.specs.declared.names.Key.{Key}
 use Rattle.tesla_base.specs.declared.names.Name.{Name}
 use Rattle.tesla_base.specs.declared.names.WideTag.{WideTag}
-use Rattle.tesla_chain.specs.Walker.{Walking}
 use Rattle.tesla_commit.specs.Parts.{Parts}
 use Rattle.tesla_prf.specs.Keys.{mac_of}
+use Rattle.tesla_sender.specs.Cost.{steps_along}
 use Rattle.tesla_sender.specs.Made.{Chain, key_of, row_of}
 use Rattle.tesla_sender.specs.declared.refusal.SenderRefusal.{SenderRefusal}
 use Rattle.tesla_sender.specs.declared.refusal.SenderRefusal.TheVariants.{WrongSeed, NoMemory}
+use Rattle.tesla_traversal.specs.Traversal.{Traversing}
 
 -- how far a chain has come: its keys of index 1 to `reached` were made, the MAC key of interval `tagging` is
--- prepared, none where that is 0, the other keys still take at most `left` steps, and its tables, the walker's
+-- prepared, none where that is 0, the other keys still take at most `left` steps, and its tables, the traversal's
 -- and the ring of the last keys, have room for `reserved` entries
 pub record Progress : Type 0 where
   pub chain : Chain
@@ -28,17 +29,17 @@ unfoldable pub keys_to : ℕ → Key → ℕ → List Key
 keys_to last seed zero = []
 keys_to last seed (suc n) = keys_to last seed n ++ key_of last seed (suc n) ∷ []
 
--- what is true of each chain: its walker gave the keys of index 1 to `reached`, of which the last `delay + 1`
+-- what is true of each chain: its traversal gave the keys of index 1 to `reached`, of which the last `delay + 1`
 -- are kept
-pub record IsUsed (delay last : ℕ) (walker : Walking) (kept : Buffer Key) (reached tagging : ℕ) (prepared : Key) : Type 0 where
-  pub given : walker.given ≡ reached
-  pub whole : walker.last ≡ last
-  pub some : 1 ≤ walker.last
-  pub within : reached ≤ walker.last
-  pub most : walker.last ≤ 2 ^ 20
+pub record IsUsed (delay last : ℕ) (traversal : Traversing) (kept : Buffer Key) (reached tagging : ℕ) (prepared : Key) : Type 0 where
+  pub given : traversal.given ≡ reached
+  pub whole : traversal.last ≡ last
+  pub some : 1 ≤ traversal.last
+  pub within : reached ≤ traversal.last
+  pub most : traversal.last ≤ 2 ^ 20
   pub capacity : kept.capacity ≡ delay + 1
-  pub keys : kept.items ≡ keep_last (delay + 1) (keys_to walker.last walker.seed reached)
-  pub mac : 0 < tagging → prepared ≡ mac_of (key_of walker.last walker.seed tagging)
+  pub keys : kept.items ≡ keep_last (delay + 1) (keys_to traversal.last traversal.seed reached)
+  pub mac : 0 < tagging → prepared ≡ mac_of (key_of traversal.last traversal.seed tagging)
 
 -- the seed gives the key of the setup
 abbrev pub is_right : Chain → Bool
@@ -70,6 +71,10 @@ chain_in now = now.chain
 
 abbrev pub left_in : Progress → ℕ
 left_in now = now.left
+
+-- the most steps in which the keys up to that of the interval are made
+abbrev pub steps_to : ℕ → Progress → ℕ
+steps_to interval now = steps_along now.reached interval now.chain
 
 abbrev pub reserved_in : Progress → ℕ
 reserved_in now = now.reserved

@@ -1,4 +1,5 @@
 pub mod Made
+pub mod Cost
 pub mod Chains
 pub mod Stands
 pub mod Senders

@@ -1,9 +1,9 @@
 //! One key chain of a sender.
 
 ghost use Rattle.std.specs.Prelude.{◌≡◌, ◌+◌, ◌-◌, ◌^◌, ◌<◌, ◌≤◌, nat_lt, min, option_to_list, IfOk, IfErr};
-ghost use Rattle.tesla_chain.specs.Cost.{W};
+ghost use Rattle.tesla_chain.specs.Cost.{W, bits};
 ghost use Rattle.tesla_sender.specs.Made.{key_of, key_due, due_row};
-ghost use Rattle.tesla_sender.specs.Chains.{IsFresh, IsRefusedFor, left_after, tag_made};
+ghost use Rattle.tesla_sender.specs.Chains.{IsFresh, IsRefusedFor, left_after, steps_to, tag_made};
 
 use crate::SenderRefusal;
 use circular_buffer::HeapCircularBuffer;
@@ -11,19 +11,20 @@ use std::alloc::Global;
 use std::marker::Model;
 use std::sync::ledger::Ledger;
 use tesla_base::{ChainNo, Key, Name, Steps, WideTag};
-use tesla_chain::{Walker, key_at};
+use tesla_chain::key_at;
 use tesla_commit::{ChainRow, Setup};
 use tesla_frame::KeyRow;
 use tesla_prf::{PreparedKey, mac_key};
+use tesla_traversal::Traversal;
 
-/// A key chain as far as it was used: the walker that gives its keys in order, the last keys that it gave, up
+/// A key chain as far as it was used: the traversal that gives its keys in order, the last keys that it gave, up
 /// to the one that is disclosed `delay` intervals later, and the MAC key of the last interval with a message.
 #[derive(Drop)]
 pub struct SendingChain {
     number: ChainNo,
     row: ChainRow,
     last: u32,
-    walker: Walker,
+    traversal: Traversal,
     kept: HeapCircularBuffer<Key>,
     reached: u32,
     tagging: u32,
@@ -37,33 +38,33 @@ impl Model for SendingChain {
     ghost Value = { Progress };
 
     ghost view = { λ c. record {
-      chain = record { number = c.number.0; row = c.row; seed = c.walker.seed; last = c.last };
+      chain = record { number = c.number.0; row = c.row; seed = c.traversal.seed; last = c.last };
       reached = c.reached;
       tagging = c.tagging;
-      left = c.walker.left;
-      reserved = c.walker.reserved + c.kept.capacity;
+      left = c.traversal.left;
+      reserved = c.traversal.reserved + c.kept.capacity;
     } };
 
-    ghost invariant = { λ c. IsUsed c.row.delay c.last c.walker c.kept c.reached c.tagging c.mac };
+    ghost invariant = { λ c. IsUsed c.row.delay c.last c.traversal c.kept c.reached c.tagging c.mac };
 }
 
-/// The key of an index of the walker's chain, whose key of index `last` is the seed. The commitment is known
+/// The key of an index of the traversal's chain, whose key of index `last` is the seed. The commitment is known
 /// already; another key is walked to.
 fn key_made<L: Ledger>(
-    walker: &Walker,
+    traversal: &Traversal,
     seed: &Key,
     last: u32,
     index: u32,
     steps: &mut Steps<L>,
 ) -> Key
-    requires seed { walker.now.seed ≡ seed.now }
-    requires last { walker.now.last ≡ last }
+    requires seed { traversal.now.seed ≡ seed.now }
+    requires last { traversal.now.last ≡ last }
     requires within { index ≤ last }
     ensures value { result ≡ key_of last seed.now index }
     ensures cost { steps.new ≤ steps.old + last }
 {
     if index == 0 {
-        return walker.commitment();
+        return traversal.commitment();
     }
     key_at(seed, last, index, steps)
 }
@@ -87,8 +88,8 @@ impl SendingChain {
         ensures refused { IfErr result (IsRefusedFor (record { number = number.0; row = row; seed = seed; last = last })) }
         ensures cost { steps.new + left_after result ≤ steps.old + (W last + last) }
     {
-        let walker = Walker::open(alloc, seed, last, steps)?;
-        let made = key_made(&walker, &seed, last, row.index, steps);
+        let traversal = Traversal::open(alloc, seed, last, steps)?;
+        let made = key_made(&traversal, &seed, last, row.index, steps);
         if made.0.as_slice() != row.key.0.as_slice() {
             return Err(SenderRefusal::WrongSeed {
                 chain: number,
@@ -99,7 +100,7 @@ impl SendingChain {
             number,
             row,
             last,
-            walker,
+            traversal,
             kept: HeapCircularBuffer::with_capacity(alloc, row.delay as usize + 1)?,
             reached: 0,
             tagging: 0,
@@ -113,23 +114,26 @@ impl SendingChain {
         ensures same { self.new.chain ≡ self.old.chain }
         ensures reached { self.new.reached ≡ self.old.reached + 1 }
         ensures tagging { self.new.tagging ≡ self.old.tagging }
+        ensures call { steps.new ≤ steps.old + bits self.old.chain.last }
         ensures left { steps.new + self.new.left ≤ steps.old + self.old.left }
         ensures reserved { self.new.reserved ≡ self.old.reserved }
     {
-        let Some(key) = self.walker.next(steps) else {
+        let Some(key) = self.traversal.next(steps) else {
             unreachable!()
         };
         self.kept.push_back(key);
         self.reached += 1;
     }
 
-    /// Makes the keys up to that of an interval. No key is prepared.
+    /// Makes the keys up to that of an interval, each in at most `bits(N)` counted steps for a chain of `N` keys, with
+    /// `bits(N)` the number of binary digits. No key is prepared.
     pub fn advance<L: Ledger>(&mut self, interval: u32, steps: &mut Steps<L>)
         requires later { self.old.reached ≤ interval }
         requires within { interval ≤ self.old.chain.last }
         ensures same { self.new.chain ≡ self.old.chain }
         ensures reached { self.new.reached ≡ interval }
         ensures tagging { self.new.tagging ≡ self.old.tagging }
+        ensures call { steps.new ≤ steps.old + steps_to interval self.old }
         ensures left { steps.new + self.new.left ≤ steps.old + self.old.left }
         ensures reserved { self.new.reserved ≡ self.old.reserved }
     {
@@ -179,6 +183,7 @@ impl SendingChain {
         ensures same { self.new.chain ≡ self.old.chain }
         ensures reached { self.new.reached ≡ interval }
         ensures tagging { self.new.tagging ≡ interval }
+        ensures call { steps.new ≤ steps.old + steps_to interval self.old + 1 }
         ensures left { steps.new + self.new.left ≤ steps.old + self.old.left + 1 }
         ensures reserved { self.new.reserved ≡ self.old.reserved }
     {

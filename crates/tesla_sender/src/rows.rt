@@ -4,7 +4,7 @@ ghost use Rattle.std.specs.Prelude.{◌≡◌, ◌+◌, ◌≤◌, ◌++◌, len
 ghost use Rattle.std.specs.List.{All, AllByRecursion, flat_map, sum_by};
 ghost use Rattle.tesla_frame.specs.Written.{HasLength};
 ghost use Rattle.tesla_sender.specs.Made.{any_due, due_row, key_due};
-ghost use Rattle.tesla_sender.specs.Chains.{chain_in, left_in, reserved_by, IsReady, HasReached, IsPrepared, CanDisclose, tag_made};
+ghost use Rattle.tesla_sender.specs.Chains.{chain_in, left_in, reserved_by, IsReady, HasReached, IsPrepared, CanDisclose, steps_to, tag_made};
 
 use crate::chain::SendingChain;
 use std::sync::ledger::Ledger;
@@ -19,6 +19,7 @@ pub fn prepare_all<L: Ledger>(chains: &mut Vec<SendingChain>, interval: u32, ste
     requires ready { All (IsReady interval) chains.old.items }
     ensures same { map chain_in chains.new.items ≡ map chain_in chains.old.items }
     ensures prepared { All (IsPrepared interval) chains.new.items }
+    ensures call { steps.new ≤ steps.old + sum_by (steps_to interval) chains.old.items + length chains.old.items }
     ensures left { steps.new + sum_by left_in chains.new.items ≤ steps.old + sum_by left_in chains.old.items + length chains.old.items }
     ensures reserved { reserved_by (vec_capacity chains.new) chains.new.items ≡ reserved_by (vec_capacity chains.old) chains.old.items }
 {
@@ -32,6 +33,7 @@ pub fn advance_all<L: Ledger>(chains: &mut Vec<SendingChain>, interval: u32, ste
     requires { All (IsReady interval) chains.old.items }
     ensures same { map chain_in chains.new.items ≡ map chain_in chains.old.items }
     ensures reached { All (HasReached interval) chains.new.items }
+    ensures call { steps.new ≤ steps.old + sum_by (steps_to interval) chains.old.items }
     ensures left { steps.new + sum_by left_in chains.new.items ≤ steps.old + sum_by left_in chains.old.items }
     ensures reserved { reserved_by (vec_capacity chains.new) chains.new.items ≡ reserved_by (vec_capacity chains.old) chains.old.items }
 {

@@ -4,6 +4,7 @@ ghost use Rattle.std.specs.Prelude.{◌≡◌, ◌+◌, ◌*◌, ◌^◌, ◌<�
 ghost use Rattle.tesla_frame.specs.Frame.{Frame};
 ghost use Rattle.tesla_sender.specs.Made.{Call, Message, Disclose, any_due, chains_of, disclosed_after, disclosure_frame, interval_at, made_disclosure, made_message, message_frame, name_after};
 ghost use Rattle.tesla_chain.specs.Cost.{W};
+ghost use Rattle.tesla_sender.specs.Cost.{steps_between};
 ghost use Rattle.tesla_sender.specs.Opening.{IsRefusal, left_of, seeds_refused};
 ghost use Rattle.tesla_sender.specs.Stands.{Answers, IsWritten, Spells, Stands, log_after, number_at};
 
@@ -63,7 +64,7 @@ impl Sender {
     /// the setup's index that it gives isn't the setup's key.
     ///
     /// Over a sender's whole life, its opening included, it takes at most `C * (W(N) + N + 2 m)` counted steps for
-    /// `C` chains of `N` keys and `m` accepted messages, with `W(N)` as for a walker. Beside the counted steps,
+    /// `C` chains of `N` keys and `m` accepted messages, with `W(N)` as for a traversal. Beside the counted steps,
     /// opening prepares one key for each chain that it opens, so at most `C`, and an accepted message one for each
     /// chain where it is the first of its interval, so at most `C` too; no other call prepares a key. To prepare a
     /// key takes two compressions of SHA-256.
@@ -107,6 +108,7 @@ impl Sender {
         ensures written { IsWritten (message_frame self.old.stream.setup (chains_of self.old.stream) name payload.now) result into.old into.new }
         ensures after { self.new ≡ record { stream = self.old.stream; latest = name.interval; used = name.number + 1; left = self.new.left; reserved = self.new.reserved } }
         ensures cost { steps.new + self.new.left ≤ steps.old + self.old.left + 2 * length self.old.stream.setup.rows }
+        ensures call { steps.new ≤ steps.old + steps_between self.old.stream self.old.latest name.interval + 2 * length self.old.stream.setup.rows }
         ensures reserved { self.new.reserved ≡ self.old.reserved }
     {
         prepare_all(&mut self.chains, name.interval, steps);
@@ -135,7 +137,9 @@ impl Sender {
     /// The refusals are those of [`SendRefusal`], in its order. After a refusal nothing has changed. It takes no
     /// memory: what was reserved at opening stays as it was.
     ///
-    /// Beside the counted steps, the first message of an interval prepares one key for each chain, of two
+    /// It takes at most `C * (d * bits(N) + 2)` counted steps for `C` chains of `N` keys, where it goes on by `d`
+    /// intervals from that of the last accepted call, at first from interval 0, and `bits(N)` is the number of binary
+    /// digits. Beside the counted steps, the first message of an interval prepares one key for each chain, of two
     /// compressions of SHA-256 each; a later one, or one that is refused, prepares none.
     pub fn message<L: Ledger>(
         &mut self,
@@ -149,6 +153,7 @@ impl Sender {
         ensures stands { (log : List Call) → Stands self.old log → Stands self.new (log_after log (Message reading payload.now) result) }
         ensures stream { self.new.stream ≡ self.old.stream }
         ensures cost { steps.new + self.new.left ≤ steps.old + self.old.left + 2 * length self.old.stream.setup.rows }
+        ensures call { steps.new ≤ steps.old + steps_between self.old.stream self.old.latest (interval_at self.old.stream.setup.times reading) + 2 * length self.old.stream.setup.rows }
         ensures refused { OnErr result ((self.new ≡ self.old) × (into.new ≡ into.old) × (steps.new ≡ steps.old)) }
         ensures room { IfOk result (λ length. length ≤ 2048) }
         ensures reserved { self.new.reserved ≡ self.old.reserved }
@@ -171,6 +176,7 @@ impl Sender {
         ensures written { IsWritten (disclosure_frame self.old.stream.setup (chains_of self.old.stream) interval) result into.old into.new }
         ensures after { self.new ≡ record { stream = self.old.stream; latest = interval; used = number_at self.old.latest self.old.used interval; left = self.new.left; reserved = self.new.reserved } }
         ensures cost { steps.new + self.new.left ≤ steps.old + self.old.left }
+        ensures call { steps.new ≤ steps.old + steps_between self.old.stream self.old.latest interval }
         ensures reserved { self.new.reserved ≡ self.old.reserved }
     {
         let last = u64::from(self.setup.schedule().last());
@@ -192,8 +198,10 @@ impl Sender {
     /// delay is below `x`: the key of index `x - delay`, or the last one.
     ///
     /// The refusals are those of [`DiscloseRefusal`], in its order. After a refusal nothing has changed. It takes
-    /// no memory: what was reserved at opening stays as it was. It prepares no key, so no compressions of SHA-256
-    /// stand beside the counted steps.
+    /// no memory: what was reserved at opening stays as it was.
+    ///
+    /// It takes at most `C * d * bits(N)` counted steps, as for a message, where intervals after the last one don't
+    /// count. It prepares no key, so no compressions of SHA-256 stand beside the counted steps.
     pub fn disclose<L: Ledger>(
         &mut self,
         reading: u64,
@@ -205,6 +213,7 @@ impl Sender {
         ensures stands { (log : List Call) → Stands self.old log → Stands self.new (log_after log (Disclose reading) result) }
         ensures stream { self.new.stream ≡ self.old.stream }
         ensures cost { steps.new + self.new.left ≤ steps.old + self.old.left }
+        ensures call { steps.new ≤ steps.old + steps_between self.old.stream self.old.latest (interval_at self.old.stream.setup.times reading) }
         ensures refused { OnErr result ((self.new ≡ self.old) × (into.new ≡ into.old) × (steps.new ≡ steps.old)) }
         ensures room { IfOk result (λ length. length ≤ 2048) }
         ensures reserved { self.new.reserved ≡ self.old.reserved }

@@ -2,7 +2,8 @@ use Rattle.std.proofs.Common.{◌≡◌, ◌<◌, ◌∙◌, ap, get_or, length,
 use Rattle.std.proofs.Math.Seq.{map-set_same}
 use Rattle.std.proofs.lemmas.List.Elements.{AllWithin-more_set}
 use Rattle.std.proofs.lemmas.List.Sums.{sum_by-set}
-use Rattle.tesla_sender.specs.Chains.{chain_in, left_in, reserved_in, IsReady, HasReached}
+use Rattle.tesla_sender.specs.Chains.{chain_in, left_in, reserved_in, steps_to, IsReady, HasReached}
+use Rattle.tesla_sender.proofs.Costs.{none_further}
 use Rattle.tesla_sender.proofs.Places.{after_set}
 use Rattle.tesla_sender.proofs.rows.advance_all.Goals as goal
 
@@ -16,6 +17,9 @@ loop-i-preserved g c =
     let here : i < length xs = omega (arith, c.loop-i-test.true, kept.count) in
     let sums = sum_by-set left_in xs i now was here in
     let left : left_in was ≡ left_in (get_or xs i was) = ap left_in c.index_mut.ensures.value in
+    let most = sum_by-set (steps_to c.args.interval) xs i now was here in
+    let costs : steps_to c.args.interval was ≡ steps_to c.args.interval (get_or xs i was) = ap (steps_to c.args.interval) c.index_mut.ensures.value in
+    let done = none_further c.args.interval now c.advance.ensures.reached in
     let rooms = sum_by-set reserved_in xs i now was here in
     let room : reserved_in was ≡ reserved_in (get_or xs i was) = ap reserved_in c.index_mut.ensures.value in
     record {
@@ -24,5 +28,6 @@ loop-i-preserved g c =
       done = AllWithin-more_set xs i now here (HasReached c.args.interval) kept.done c.advance.ensures.reached;
       ready = after_set (IsReady c.args.interval) xs i now kept.ready;
       left = omega (arith, sums, left, kept.left, c.advance.ensures.left);
+      call = omega (arith, most, costs, done, kept.call, c.advance.ensures.call);
       reserved = omega (arith, rooms, room, kept.reserved, c.advance.ensures.reserved);
     }

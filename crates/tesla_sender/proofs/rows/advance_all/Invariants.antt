@@ -1,6 +1,6 @@
 use Rattle.std.proofs.Common.{◌≡◌, ◌+◌, ◌≤◌, length, map, vec_capacity}
 use Rattle.std.specs.List.{AllWithin, sum_by}
-use Rattle.tesla_sender.specs.Chains.{chain_in, left_in, reserved_by, IsReady, HasReached}
+use Rattle.tesla_sender.specs.Chains.{chain_in, left_in, reserved_by, steps_to, IsReady, HasReached}
 use Rattle.tesla_sender.proofs.rows.advance_all.Given as goal
 
 abbrev pub invariant-loop-i : goal.invariant-loop-i
@@ -10,5 +10,6 @@ invariant-loop-i g l = record {
   done : AllWithin (HasReached l.interval) l.chains.items 0 l.i;
   ready : AllWithin (IsReady l.interval) l.chains.items l.i (length l.chains.items);
   left : l.steps + sum_by left_in l.chains.items ≤ l.fn.steps + sum_by left_in l.fn.chains.items;
+  call : l.steps + sum_by (steps_to l.interval) l.chains.items ≤ l.fn.steps + sum_by (steps_to l.interval) l.fn.chains.items;
   reserved : reserved_by (vec_capacity l.chains) l.chains.items ≡ reserved_by (vec_capacity l.fn.chains) l.fn.chains.items;
 }

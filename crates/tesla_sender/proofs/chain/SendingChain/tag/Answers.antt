@@ -11,10 +11,10 @@ returns-clause-value g c =
     let a = c.args in
     let s = c.self.inside in
     let used = c.self.invariant in
-    let chain : Chain = record { number = s.number.0; row = s.row; seed = s.walker.seed; last = s.last } in
+    let chain : Chain = record { number = s.number.0; row = s.row; seed = s.traversal.seed; last = s.last } in
     let view : chain ≡ a.self.now.chain = ap (λ (p : Progress). p.chain) c.self.view_is in
     let tagging : s.tagging ≡ a.name.interval = ap (λ (p : Progress). p.tagging) c.self.view_is ∙ c.requires.prepared in
-    let mac : s.mac ≡ mac_of (key_of s.last s.walker.seed a.name.interval) = used.mac (omega (arith, tagging, c.requires.some)) ∙ ap (λ l. mac_of (key_of l s.walker.seed s.tagging)) used.whole ∙ ap (λ i. mac_of (key_of s.last s.walker.seed i)) tagging in
+    let mac : s.mac ≡ mac_of (key_of s.last s.traversal.seed a.name.interval) = used.mac (omega (arith, tagging, c.requires.some)) ∙ ap (λ l. mac_of (key_of l s.traversal.seed s.tagging)) used.whole ∙ ap (λ i. mac_of (key_of s.last s.traversal.seed i)) tagging in
     let made = tag_is_made a.setup.now a.name a.payload.now chain s.mac mac in
     let stream = c.stream.ensures in
     let size = c.tag_length-length.ensures.value in
