@@ -5,7 +5,8 @@ use Rattle.tesla_chain.specs.Cost.{bits}
 use Rattle.tesla_sender.specs.Made.{Chain, Stream, chains_of}
 
 -- going on with a chain from the key of one index to that of another: for each key as many steps as the number of the
--- chain's keys has binary digits; and over a long way no more than the walk from the seed, and `delay + 1` keys
+-- chain's keys has binary digits. Over a long way it is no more than the walk from the seed to that key, and for each of
+-- the last `delay + 1` keys one step more than there are digits
 abbrev pub steps_along : ℕ → ℕ → Chain → ℕ
 steps_along from to chain =
     let digits = bits chain.last in
