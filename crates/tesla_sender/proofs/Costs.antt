@@ -1,5 +1,6 @@
 -- What going on with the chains costs.
-use Rattle.std.proofs.Common.{◌≡◌, ℕ, ◌-◌, List, [], ◌∷◌, map, refl, ◌∙◌, ap, zero, suc, arith}
+use Rattle.std.proofs.Common.{◌≡◌, ℕ, ◌+◌, ◌-◌, ◌*◌, ◌≤◌, List, [], ◌∷◌, map, refl, ◌∙◌, ap, zero, suc, arith}
+use Rattle.std.proofs.Math.Nat.{add-mul, mul-add}
 use Rattle.std.proofs.lemmas.List.Sums.{sum_by-cons}
 use Rattle.std.specs.Prelude.{min}
 use Rattle.std.specs.List.{All, sum_by}
@@ -28,3 +29,9 @@ pub all_along : (setup : Parts) (chains : List Progress) (latest used interval :
 all_along setup chains latest used interval is =
     along (min latest setup.times.last) (min interval setup.times.last) chains is.reached
     ∙ ap (λ (all : List Chain). sum_by (steps_along (min latest setup.times.last) (min interval setup.times.last)) all) is.same
+
+-- a long way, over whose first part the traversal advances at once
+pub far_cost : (way gap room last index to digits old middle new : ℕ) → way ≡ gap + room → to ≡ index + room → to ≤ last → middle ≤ old + gap * digits → middle ≤ old + (last - index) → new ≤ middle + room * digits → new ≤ old + min (way * digits) ((last - to) + room * (digits + 1))
+far_cost way gap room last index to digits old middle new is at within each whole cost =
+    let sum : way * digits ≡ gap * digits + room * digits = ap (λ (n : ℕ). n * digits) is ∙ add-mul gap room digits in
+    omega (arith, each, whole, cost, sum, mul-add room digits 1)

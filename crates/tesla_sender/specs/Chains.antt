@@ -1,7 +1,7 @@
 -- What a contract sees of a chain of a sender.
 use Rattle.std.specs.Prelude.{◌≡◌, ℕ, zero, suc, ◌+◌, ◌^◌, ◌<◌, ◌≤◌, Bool, true, false, ◌⊎◌, List, [], ◌∷◌, ◌++◌, Result, Ok, Err, bytes_eq, min}
 use Rattle.std.specs.List.{sum_by}
-use Rattle.circular_buffer.specs.Buffer.{Buffer, keep_last}
+use Rattle.circular_buffer.specs.Buffer.{Buffer, buffer, keep_last}
 use Rattle.tesla_base.specs.Tag.{wide_tag}
 use Rattle.tesla_base.specs.declared.names.Key.{Key}
 use Rattle.tesla_base.specs.declared.names.Name.{Name}
@@ -28,6 +28,19 @@ pub record Progress : Type 0 where
 unfoldable pub keys_to : ℕ → Key → ℕ → List Key
 keys_to last seed zero = []
 keys_to last seed (suc n) = keys_to last seed n ++ key_of last seed (suc n) ∷ []
+
+-- the keys of the next n indexes
+unfoldable pub keys_after : ℕ → Key → ℕ → ℕ → List Key
+keys_after last seed from zero = []
+keys_after last seed from (suc n) = keys_after last seed from n ++ key_of last seed (from + suc n) ∷ []
+
+-- what becomes of a traversal and of the ring of the last keys once so many keys more were made
+pub record HasKept (count : ℕ) (before after : Traversing) (ring now : Buffer Key) : Type 0 where
+  pub seed : after.seed ≡ before.seed
+  pub last : after.last ≡ before.last
+  pub given : after.given ≡ before.given + count
+  pub reserved : after.reserved ≡ before.reserved
+  pub kept : now ≡ buffer (keep_last ring.capacity (ring.items ++ keys_after before.last before.seed before.given count)) ring.capacity
 
 -- what is true of each chain: its traversal gave the keys of index 1 to `reached`, of which the last `delay + 1`
 -- are kept

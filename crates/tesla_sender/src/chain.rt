@@ -1,9 +1,9 @@
 //! One key chain of a sender.
 
-ghost use Rattle.std.specs.Prelude.{◌≡◌, ◌+◌, ◌-◌, ◌^◌, ◌<◌, ◌≤◌, nat_lt, min, option_to_list, IfOk, IfErr};
+ghost use Rattle.std.specs.Prelude.{◌≡◌, ◌+◌, ◌-◌, ◌*◌, length, ◌^◌, ◌<◌, ◌≤◌, nat_lt, min, option_to_list, IfOk, IfErr};
 ghost use Rattle.tesla_chain.specs.Cost.{W, bits};
 ghost use Rattle.tesla_sender.specs.Made.{key_of, key_due, due_row};
-ghost use Rattle.tesla_sender.specs.Chains.{IsFresh, IsRefusedFor, left_after, steps_to, tag_made};
+ghost use Rattle.tesla_sender.specs.Chains.{HasKept, IsFresh, IsRefusedFor, left_after, steps_to, tag_made};
 
 use crate::SenderRefusal;
 use circular_buffer::HeapCircularBuffer;
@@ -69,6 +69,28 @@ fn key_made<L: Ledger>(
     key_at(seed, last, index, steps)
 }
 
+/// Makes the next keys, each in at most `bits(N)` counted steps, and puts them into the ring, which drops its oldest
+/// keys where it is full.
+fn keep_keys<L: Ledger>(
+    traversal: &mut Traversal,
+    kept: &mut HeapCircularBuffer<Key>,
+    count: u32,
+    steps: &mut Steps<L>,
+)
+    requires within { traversal.old.given + count ≤ traversal.old.last }
+    requires room { length kept.old.items ≤ kept.old.capacity }
+    ensures kept { HasKept count traversal.old traversal.new kept.old kept.new }
+    ensures call { steps.new ≤ steps.old + count * bits traversal.old.last }
+    ensures left { steps.new + traversal.new.left ≤ steps.old + traversal.old.left }
+{
+    for _ in 0..count {
+        let Some(key) = traversal.next(steps) else {
+            unreachable!()
+        };
+        kept.push_back(key);
+    }
+}
+
 impl SendingChain {
     /// The chain of this number, row of the setup and seed, whose key of index `last` the seed is. All memory
     /// is taken here. `WrongSeed` where the seed doesn't give the key of the row. Beside the counted steps it
@@ -108,25 +130,9 @@ impl SendingChain {
         })
     }
 
-    /// Makes the next key, the one of the interval after `reached`.
-    fn step<L: Ledger>(&mut self, steps: &mut Steps<L>)
-        requires { self.old.reached < self.old.chain.last }
-        ensures same { self.new.chain ≡ self.old.chain }
-        ensures reached { self.new.reached ≡ self.old.reached + 1 }
-        ensures tagging { self.new.tagging ≡ self.old.tagging }
-        ensures call { steps.new ≤ steps.old + bits self.old.chain.last }
-        ensures left { steps.new + self.new.left ≤ steps.old + self.old.left }
-        ensures reserved { self.new.reserved ≡ self.old.reserved }
-    {
-        let Some(key) = self.traversal.next(steps) else {
-            unreachable!()
-        };
-        self.kept.push_back(key);
-        self.reached += 1;
-    }
-
     /// Makes the keys up to that of an interval, each in at most `bits(N)` counted steps for a chain of `N` keys, with
-    /// `bits(N)` the number of binary digits. No key is prepared.
+    /// `bits(N)` the number of binary digits. Over a longer way than the ring has room for, only the last ones are made
+    /// one by one: the traversal advances over those before at once. No key is prepared.
     pub fn advance<L: Ledger>(&mut self, interval: u32, steps: &mut Steps<L>)
         requires later { self.old.reached ≤ interval }
         requires within { interval ≤ self.old.chain.last }
@@ -137,9 +143,15 @@ impl SendingChain {
         ensures left { steps.new + self.new.left ≤ steps.old + self.old.left }
         ensures reserved { self.new.reserved ≡ self.old.reserved }
     {
-        for _ in self.reached..interval {
-            self.step(steps);
+        let room = u32::from(self.row.delay) + 1;
+        let way = interval - self.reached;
+        self.reached = interval;
+        if way <= room {
+            keep_keys(&mut self.traversal, &mut self.kept, way, steps);
+            return;
         }
+        self.traversal.advance(interval - room, steps);
+        keep_keys(&mut self.traversal, &mut self.kept, room, steps);
     }
 
     /// The key of an interval that is at most `delay` before the one reached.
