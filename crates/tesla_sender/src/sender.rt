@@ -140,8 +140,8 @@ impl Sender {
     /// It takes at most `C * (d * bits(N) + 2)` counted steps for `C` chains of `N` keys, where it goes on by `d`
     /// intervals from that of the last accepted call, at first from interval 0, and `bits(N)` is the number of binary
     /// digits. Over a long way, it takes no more on a chain than the walk from the seed to the key of its interval,
-    /// `(delay + 1) * (bits(N) + 1)` and the 2. Beside the counted steps, the first message of an interval prepares one key for each chain, of two
-    /// compressions of SHA-256 each; a later one, or one that is refused, prepares none.
+    /// `(delay + 1) * (bits(N) + 1)` and the 2. Beside the counted steps, the first message of an interval prepares one
+    /// key for each chain, of two compressions of SHA-256 each; a later one, or one that is refused, prepares none.
     pub fn message<L: Ledger>(
         &mut self,
         reading: u64,
@@ -202,7 +202,8 @@ impl Sender {
     /// no memory: what was reserved at opening stays as it was.
     ///
     /// It takes at most `C * d * bits(N)` counted steps, and over a long way no more than a message without its 2,
-    /// where intervals after the last one don't count. It prepares no key, so no compressions of SHA-256 stand beside the counted steps.
+    /// where intervals after the last one don't count. It prepares no key, so no compressions of SHA-256 stand beside
+    /// the counted steps.
     pub fn disclose<L: Ledger>(
         &mut self,
         reading: u64,
