@@ -1,7 +1,7 @@
 //! Work to be timed from outside. Without words, or with others than these, nothing is done.
 //!
 //! `frames VERSION BYTES CHAINS TIMES` reads a data frame so many times. `compressions COUNT` hashes so many blocks, and
-//! `evaluations COUNT` evaluates HMAC so many times. `walk LAST KEYS` opens a walker of a chain of that many keys, and
+//! `evaluations COUNT` evaluates HMAC so many times. `walk LAST KEYS` opens a traversal of a chain of that many keys, and
 //! asks it for the first of them. Each prints a number that depends on the work.
 #![tactic(auto)]
 
