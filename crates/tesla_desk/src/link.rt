@@ -63,4 +63,13 @@ pub trait Link {
         ensures step { Gets (left self.old) (left self.new) into.new result }
         ensures cause { HasCause (faults self.old) (faults self.new) (result ≡ Got.Failed) }
         ensures name { name self.new ≡ name self.old };
+
+    /// Is told that something else is due in so many microseconds: the next call of `next` that brings nothing is to be
+    /// quiet by then. Nothing is claimed of how long it waits, and this call takes nothing.
+    fn wait_at_most(&mut self, _microseconds: u64)
+        ensures left { left self.new ≡ left self.old }
+        ensures faults { faults self.new ≡ faults self.old }
+        ensures name { name self.new ≡ name self.old }
+    {
+    }
 }
