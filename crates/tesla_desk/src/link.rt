@@ -70,6 +70,5 @@ pub trait Link {
         ensures left { left self.new ≡ left self.old }
         ensures faults { faults self.new ≡ faults self.old }
         ensures name { name self.new ≡ name self.old }
-    {
-    }
+    {}
 }
