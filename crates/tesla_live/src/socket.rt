@@ -4,7 +4,7 @@ ghost use Rattle.std.specs.Prelude.{◌≡◌, ◌≤◌, IfOk, IfErr, IfSome, N
 
 use crate::quiets::WAIT;
 use libc::net as c;
-use libc::types::timespec;
+use libc::types::{pollfd, timespec};
 use std::io;
 use std::io::ErrorKind;
 use std::net::UdpSocket;
@@ -24,19 +24,13 @@ pub(crate) struct TimedSocket {
     socket: UdpSocket,
     // The wait that it was told last, in microseconds.
     told: Option<u64>,
-    // The wait that the system was told last, in microseconds.
-    timeout: u64,
 }
 
 impl TimedSocket {
     /// A socket that was told no wait.
     pub(crate) fn new(socket: UdpSocket) -> io::Result<TimedSocket> {
         socket.set_read_timeout(Some(Duration::from_micros(WAIT)))?;
-        Ok(TimedSocket {
-            socket,
-            told: None,
-            timeout: WAIT,
-        })
+        Ok(TimedSocket { socket, told: None })
     }
 
     /// Is told to wait so many microseconds from now on, at least 1 and at most 100,000. The system isn't asked.
@@ -59,12 +53,11 @@ impl TimedSocket {
         if let Some(length) = self.receive_at_once(into) {
             return Ok(length);
         }
-        self.set_timeout(wait);
         let start = monotonic();
-        match self.receive_waiting(into) {
+        match self.receive_within(wait, into) {
             Ok(length) => Ok(length),
             Err(kind) => {
-                // The system may wait longer than it was told, by some milliseconds.
+                // The system may wait longer than it was told.
                 let waited = monotonic().saturating_sub(start).max(wait).min(WAIT);
                 Err(Missed { kind, waited })
             }
@@ -89,17 +82,25 @@ impl TimedSocket {
         }
     }
 
-    // Tells the system how long to wait, where that is new to it. A system that refuses goes on with the wait before.
-    fn set_timeout(&mut self, wait: u64)
-        ensures { self.new.told ≡ self.old.told }
+    // The next datagram, where it comes within so many microseconds. The system's own limit to a receive is rounded up
+    // to its tick of some milliseconds, and that of a poll to a millisecond.
+    fn receive_within(&self, wait: u64, into: &mut [u8; 2048]) -> Result<usize, ErrorKind>
+        ensures { IfOk result (λ length. length ≤ 2048) }
     {
-        if wait == self.timeout {
-            return;
+        let mut asked = [pollfd {
+            fd: self.socket.as_raw_fd(),
+            events: c::POLLIN,
+            revents: 0,
+        }];
+        let milliseconds = i32::try_from(wait.div_ceil(1_000)).unwrap_or(i32::MAX);
+        let ready = c::poll(&mut asked, milliseconds);
+        if ready < 0 {
+            return Err(ErrorKind::Interrupted);
         }
-        let most = Duration::from_micros(wait);
-        if self.socket.set_read_timeout(Some(most)).is_ok() {
-            self.timeout = wait;
+        if ready == 0 {
+            return Err(ErrorKind::WouldBlock);
         }
+        self.receive_waiting(into)
     }
 }
 
