@@ -9,6 +9,7 @@ mod link;
 mod post;
 mod quiets;
 mod sink;
+mod socket;
 mod source;
 
 pub use clock::MachineClock;

@@ -1,21 +1,18 @@
 //! A link over a UDP socket.
 
-ghost use Rattle.std.specs.Prelude.{◌≡◌, ◌⊎◌, List, ℕ, None};
+ghost use Rattle.std.specs.Prelude.{◌≡◌, ◌⊎◌, ◌+◌, ◌-◌, ◌^◌, min, List, ℕ, None};
 ghost use Rattle.tesla_desk.specs.Faults.{HasCause};
 ghost use Rattle.tesla_desk.specs.Links.{Gets};
 
 use crate::quiets::Quiets;
+use crate::socket::{Missed, TimedSocket};
 use libc::net as c;
 use std::io;
 use std::io::ErrorKind;
 use std::net::{Net, UdpSocket};
 use std::os::fd::AsRawFd;
-use std::time::Duration;
 use tesla_base::{Text, read_decimal};
 use tesla_desk::{Got, Link};
-
-/// How many milliseconds a link waits for a datagram until it is quiet.
-const WAIT: u64 = 100;
 
 /// For how many bytes of datagrams that wait the system is asked.
 const BUFFER: i32 = 4 << 20;
@@ -23,7 +20,7 @@ const BUFFER: i32 = 4 << 20;
 /// A socket that is bound to an address, and how many quiets in a row end its link.
 #[derive(Drop)]
 pub(crate) struct Bound {
-    socket: UdpSocket,
+    socket: TimedSocket,
     limit: u64,
 }
 
@@ -36,8 +33,8 @@ pub(crate) fn bind<R: Net>(rt: &R, name: &str) -> io::Result<Bound> {
         return Err(io::Error::from(ErrorKind::InvalidInput));
     };
     let socket = UdpSocket::bind(rt, address)?;
-    socket.set_read_timeout(Some(Duration::from_millis(WAIT)))?;
     ask_for_buffer(&socket);
+    let socket = TimedSocket::new(socket)?;
     Ok(Bound { socket, limit })
 }
 
@@ -48,10 +45,11 @@ fn ask_for_buffer(socket: &UdpSocket) {
     let _ = unsafe { c::setsockopt(socket.as_raw_fd(), c::SOL_SOCKET, c::SO_RCVBUF, &value, 4) };
 }
 
-/// A UDP socket that brings datagrams until it was quiet as often in a row as its name says. What comes isn't told.
+/// A UDP socket that brings datagrams until it was quiet for as many tenths of a second in a row as its name says. What
+/// comes isn't told.
 pub struct UdpLink {
     name: Text,
-    socket: UdpSocket,
+    socket: TimedSocket,
     quiets: Quiets,
     faults: u64,
 }
@@ -86,17 +84,18 @@ impl UdpLink {
 
     // What a call answers that brought no datagram, by the kind of its error. A receive that was interrupted, as of a
     // program that was stopped and goes on, is quiet too, and isn't counted towards the end.
-    fn miss(&mut self, kind: ErrorKind) -> Got
+    fn miss(&mut self, missed: Missed) -> Got
         ensures cause { HasCause self.old.faults self.new.faults (result ≡ Got.Failed) }
         ensures name { self.new.name ≡ self.old.name }
         ensures step { (into : List ℕ) → Gets None None into result }
-        ensures interrupted { kind ≡ ErrorKind.Interrupted → (result ≡ Got.Quiet) × (self.new.quiets ≡ self.old.quiets) }
-        ensures quiet { result ≡ Got.Quiet → (kind ≡ ErrorKind.Interrupted) ⊎ (kind ≡ ErrorKind.WouldBlock) ⊎ (kind ≡ ErrorKind.TimedOut) }
+        ensures interrupted { missed.kind ≡ ErrorKind.Interrupted → (result ≡ Got.Quiet) × (self.new.quiets ≡ self.old.quiets) }
+        ensures quiet { result ≡ Got.Quiet → (missed.kind ≡ ErrorKind.Interrupted) ⊎ (missed.kind ≡ ErrorKind.WouldBlock) ⊎ (missed.kind ≡ ErrorKind.TimedOut) }
+        ensures counted { (missed.kind ≡ ErrorKind.WouldBlock) ⊎ (missed.kind ≡ ErrorKind.TimedOut) → self.new.quiets ≡ record { limit = self.old.quiets.limit; waited = min (self.old.quiets.waited + missed.waited) (2 ^ 64 - 1) } }
     {
-        match kind {
+        match missed.kind {
             ErrorKind::Interrupted => Got::Quiet,
             ErrorKind::WouldBlock | ErrorKind::TimedOut => {
-                self.quiets.add();
+                self.quiets.add(missed.waited);
                 if self.quiets.are_over() {
                     Got::End
                 } else {
@@ -118,17 +117,24 @@ impl Link for UdpLink {
 
     ghost name = { λ it. it.name };
 
-    /// Asks the system once, unless the link has ended. Of a longer datagram the bytes behind the first 2,048 are lost.
+    /// Asks the system once, unless the link has ended, and a second time only where the link was told a wait and no
+    /// datagram is there. Of a longer datagram the bytes behind the first 2,048 are lost.
     fn next(&mut self, into: &mut [u8; 2048]) -> Got {
         if self.quiets.are_over() {
             return Got::End;
         }
-        match self.socket.recv(into) {
+        match self.socket.receive(into) {
             Ok(length) => {
                 self.quiets.clear();
                 Got::Datagram(length)
             }
-            Err(error) => self.miss(error.kind()),
+            Err(missed) => self.miss(missed),
         }
+    }
+
+    /// The calls of `next` wait so long from now on, until another wait is told: at least a microsecond, and at most 100
+    /// milliseconds.
+    fn wait_at_most(&mut self, microseconds: u64) {
+        self.socket.wait_at_most(microseconds);
     }
 }

@@ -40,6 +40,29 @@ fn hear_two<D: Desk>(
     Ok(heard)
 }
 
+// Sends a datagram to a new link that is told a wait of 5 milliseconds. Gives the first answer, how many of the next 20
+// are quiets, and the one behind these.
+fn hear_told<D: Desk>(
+    desk: &mut D,
+    name: &str,
+    to: SocketAddr,
+    sender: &UdpSocket,
+) -> Result<((Got, u8), u32, (Got, u8)), OpenRefusal> {
+    let mut link = desk.open_link(name)?;
+    link.wait_at_most(5_000);
+    let _ = sender.send_to(b"first", to);
+    let first = hear(&mut link);
+    let mut quiets = 0u32;
+    for _ in 0..20 {
+        if hear(&mut link).0 == Got::Quiet {
+            quiets = quiets.saturating_add(1);
+        }
+    }
+    let last = hear(&mut link);
+    desk.close_link(link);
+    Ok((first, quiets, last))
+}
+
 // Why the link isn't opened.
 fn refusal<D: Desk>(desk: &mut D, name: &str) -> Option<OpenRefusal> {
     match desk.open_link(name) {
@@ -76,6 +99,24 @@ fn datagrams_come_until_the_link_was_quiet(rt: HostRuntime) -> Result<(), Fail> 
             "{name}"
         );
     }
+    Ok(())
+}
+
+#[test]
+fn a_link_that_is_told_a_wait_is_quiet_sooner_and_ends_as_late(
+    rt: HostRuntime,
+) -> Result<(), Fail> {
+    let gates = Gates::new();
+    let mut desk = LiveDesk::new(&rt, &gates);
+    let (to, sender) = free_port(&rt, "127.0.0.1")?;
+    let name = format!(in rt.alloc(); "{to}/1")?;
+    let Ok((first, quiets, last)) = hear_told(&mut desk, name.as_str(), to, &sender) else {
+        panic!(rt; "{name}")
+    };
+    assert_eq!(rt; first, (Got::Datagram(5), b'f'));
+    // The system may make each wait longer, and 20 of 5 milliseconds are the whole tenth of a second.
+    assert!(rt; 2 <= quiets && quiets < 20, "{quiets}");
+    assert_eq!(rt; last, (Got::End, 0));
     Ok(())
 }
 

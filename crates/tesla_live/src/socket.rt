@@ -1,0 +1,116 @@
+//! A UDP socket that brings a datagram, or waited for one.
+
+ghost use Rattle.std.specs.Prelude.{◌≡◌, ◌≤◌, IfOk, IfErr, IfSome, None};
+
+use crate::quiets::WAIT;
+use libc::net as c;
+use libc::types::{pollfd, timespec};
+use std::io;
+use std::io::ErrorKind;
+use std::net::UdpSocket;
+use std::os::fd::AsRawFd;
+use std::time::Duration;
+
+/// Why a call brought no datagram, and for how many microseconds it waited.
+#[derive(Clone, Copy)]
+pub(crate) struct Missed {
+    pub(crate) kind: ErrorKind,
+    pub(crate) waited: u64,
+}
+
+/// A socket, and how long it waits for a datagram: 100 milliseconds, until it is told another wait.
+#[derive(Drop)]
+pub(crate) struct TimedSocket {
+    socket: UdpSocket,
+    // The wait that it was told last, in microseconds.
+    told: Option<u64>,
+}
+
+impl TimedSocket {
+    /// A socket that was told no wait.
+    pub(crate) fn new(socket: UdpSocket) -> io::Result<TimedSocket> {
+        socket.set_read_timeout(Some(Duration::from_micros(WAIT)))?;
+        Ok(TimedSocket { socket, told: None })
+    }
+
+    /// Is told to wait so many microseconds from now on, at least 1 and at most 100,000. The system isn't asked.
+    pub(crate) fn wait_at_most(&mut self, microseconds: u64) {
+        self.told = Some(microseconds.clamp(1, WAIT));
+    }
+
+    /// Asks the system for a datagram. One that was told no wait asks once. One that was told a wait asks first for a
+    /// datagram that is there already, and waits only where there is none.
+    pub(crate) fn receive(&mut self, into: &mut [u8; 2048]) -> Result<usize, Missed>
+        ensures fits { IfOk result (λ length. length ≤ 2048) }
+        ensures waited { IfErr result (λ missed. missed.waited ≤ 100000) }
+        ensures untold { self.old.told ≡ None → IfErr result (λ missed. missed.waited ≡ 100000) }
+    {
+        let Some(wait) = self.told else {
+            return self
+                .receive_waiting(into)
+                .map_err(|kind| Missed { kind, waited: WAIT });
+        };
+        if let Some(length) = self.receive_at_once(into) {
+            return Ok(length);
+        }
+        let start = monotonic();
+        match self.receive_within(wait, into) {
+            Ok(length) => Ok(length),
+            Err(kind) => {
+                // The system may wait longer than it was told.
+                let waited = monotonic().saturating_sub(start).max(wait).min(WAIT);
+                Err(Missed { kind, waited })
+            }
+        }
+    }
+
+    // A datagram that is there already.
+    fn receive_at_once(&self, into: &mut [u8; 2048]) -> Option<usize>
+        ensures { IfSome result (λ length. length ≤ 2048) }
+    {
+        let got = unsafe { c::recv(self.socket.as_raw_fd(), into, c::MSG_DONTWAIT) };
+        usize::try_from(got).ok()
+    }
+
+    // The next datagram, where it comes in time.
+    fn receive_waiting(&self, into: &mut [u8; 2048]) -> Result<usize, ErrorKind>
+        ensures { IfOk result (λ length. length ≤ 2048) }
+    {
+        match self.socket.recv(into) {
+            Ok(length) => Ok(length),
+            Err(error) => Err(error.kind()),
+        }
+    }
+
+    // The next datagram, where it comes within so many microseconds. The system's own limit to a receive is rounded up
+    // to its tick of some milliseconds, and that of a poll to a millisecond.
+    fn receive_within(&self, wait: u64, into: &mut [u8; 2048]) -> Result<usize, ErrorKind>
+        ensures { IfOk result (λ length. length ≤ 2048) }
+    {
+        let mut asked = [pollfd {
+            fd: self.socket.as_raw_fd(),
+            events: c::POLLIN,
+            revents: 0,
+        }];
+        let milliseconds = i32::try_from(wait.div_ceil(1_000)).unwrap_or(i32::MAX);
+        let ready = c::poll(&mut asked, milliseconds);
+        if ready < 0 {
+            return Err(ErrorKind::Interrupted);
+        }
+        if ready == 0 {
+            return Err(ErrorKind::WouldBlock);
+        }
+        self.receive_waiting(into)
+    }
+}
+
+// Microseconds of the system's clock that isn't set back.
+fn monotonic() -> u64 {
+    let mut time = timespec {
+        tv_sec: 0,
+        tv_nsec: 0,
+    };
+    let _ = libc::clock_gettime(libc::CLOCK_MONOTONIC, &mut time);
+    let seconds = time.tv_sec.unsigned_abs().saturating_mul(1_000_000);
+    seconds.saturating_add(time.tv_nsec.unsigned_abs() / 1_000)
+}
