@@ -1,4 +1,1 @@
 pub mod Cost
-pub mod Marks
-pub mod Walker
-pub mod Kept

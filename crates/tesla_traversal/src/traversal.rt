@@ -113,14 +113,15 @@ impl Traversal {
     }
 
     /// Goes on over the keys up to the one of `index`, which is above those that were given and at most `last`, and gives
-    /// this one. For `d` indexes that takes at most `d * (bits(last) - bits(d) + 1)` counted steps, and at most
-    /// `last - index`. It takes no memory, as `next` does. No key is prepared.
+    /// this one. For `d` indexes that takes at most `d * (bits(last) - bits(d) + 1)` counted steps, so at most `bits(last)`
+    /// for each of them, and at most `last - index` in all. It takes no memory, as `next` does. No key is prepared.
     pub fn advance<L: Ledger>(&mut self, index: u32, steps: &mut Steps<L>) -> Key
         requires after { self.old.given < index }
         requires within { index ≤ self.old.last }
         ensures key { result ≡ walk self.old.seed (self.old.last - index) }
         ensures given { HasComeTo index self.old self.new }
         ensures call { let gap = index - self.old.given in steps.new ≤ steps.old + gap * ((bits self.old.last - bits gap) + 1) }
+        ensures each { steps.new ≤ steps.old + (index - self.old.given) * bits self.old.last }
         ensures whole { steps.new ≤ steps.old + (self.old.last - index) }
         ensures left { steps.new + self.new.left ≤ steps.old + self.old.left }
         ensures reserved { self.new.reserved ≡ self.old.reserved }

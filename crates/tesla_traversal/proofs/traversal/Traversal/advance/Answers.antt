@@ -7,7 +7,7 @@ use Rattle.tesla_traversal.specs.declared.level.Level.{Level}
 use Rattle.tesla_traversal.specs.Kept.{IsKept}
 use Rattle.tesla_traversal.specs.Levels.{Stand}
 use Rattle.tesla_traversal.specs.Traversal.{Traversing}
-use Rattle.tesla_traversal.proofs.Digits.{call_cost, left_after}
+use Rattle.tesla_traversal.proofs.Digits.{by_keys, call_cost, left_after}
 use Rattle.tesla_traversal.proofs.Levels.{at}
 use Rattle.tesla_traversal.proofs.Passing.{came, ordered}
 use Rattle.tesla_traversal.proofs.traversal.Traversal.advance.Goals as goal
@@ -49,6 +49,9 @@ returns-clause-call g c =
     let power : 2 ^ length c.as_mut_slice.result.now ≡ 2 ^ length t.levels.items = ap (λ (n : ℕ). 2 ^ n) size in
     subst (λ (self : Traversing). c.skip.new.steps ≤ c.args.steps.now + (index - self.given) * ((bits self.last - bits (index - self.given)) + 1)) c.self.view_is
     (call_cost (index - t.given) (t.last - t.given - 1) (t.last - index - 1) (length c.as_mut_slice.result.now) t.last c.args.steps.now c.skip.new.steps (omega (arith, order.0, order.1, c.if-index-self.false)) (omega (arith, order.0, order.1, c.if-index-self.false)) (omega (arith, order.0, order.1, kept.enough, power)) (omega (arith, order.1)) (omega (arith, kept.few, size)) c.skip.ensures.each)
+
+pub returns-clause-each : goal.returns-clause-each
+returns-clause-each g c = omega (arith, returns-clause-call g c, by_keys (c.args.index - c.args.self.now.given) c.args.self.now.last (omega (arith, c.requires.after)) (omega (arith, c.requires.within)))
 
 pub returns-clause-left : goal.returns-clause-left
 returns-clause-left g c =
