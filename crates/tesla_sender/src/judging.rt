@@ -13,7 +13,7 @@ use tesla_base::Name;
 use tesla_clock::Schedule;
 
 /// The interval of a reading, 0 before the start.
-fn interval_at(schedule: Schedule, reading: u64) -> u64
+pub fn interval_at(schedule: Schedule, reading: u64) -> u64
     ensures { result ≡ interval_at schedule reading }
 {
     match schedule.interval_at(reading) {

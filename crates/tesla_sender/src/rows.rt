@@ -3,7 +3,7 @@
 ghost use Rattle.std.specs.Prelude.{◌≡◌, ◌+◌, ◌≤◌, ◌++◌, length, map, take, min, vec_capacity};
 ghost use Rattle.std.specs.List.{All, AllByRecursion, flat_map, sum_by};
 ghost use Rattle.tesla_frame.specs.Written.{HasLength};
-ghost use Rattle.tesla_sender.specs.Made.{any_due, due_row, key_due};
+ghost use Rattle.tesla_sender.specs.Made.{any_due, due_row, key_due, tells_all, tells_newer};
 ghost use Rattle.tesla_sender.specs.Chains.{chain_in, left_in, reserved_by, IsReady, HasReached, IsPrepared, CanDisclose, steps_to, tag_made};
 
 use crate::chain::SendingChain;
@@ -111,5 +111,30 @@ pub fn any_due(chains: &[SendingChain], interval: u64) -> bool
     match chains {
         [chain, chains @ ..] => chain.is_due(interval) || any_due(chains, interval),
         [] => false,
+    }
+}
+
+/// Whether on some chain a call in an interval tells a newer key than one in the interval `before`.
+pub fn tells_newer(chains: &[SendingChain], before: u64, interval: u64) -> bool
+    ensures { result ≡ tells_newer before interval (map chain_in chains.now) }
+{
+    match chains {
+        [chain, chains @ ..] => {
+            chain.index_told(before) < chain.index_told(interval)
+                || tells_newer(chains, before, interval)
+        }
+        [] => false,
+    }
+}
+
+/// Whether on every chain a call in an interval tells the key of this index or a newer one.
+pub fn tells_all(chains: &[SendingChain], index: u64, interval: u64) -> bool
+    ensures { result ≡ tells_all index interval (map chain_in chains.now) }
+{
+    match chains {
+        [chain, chains @ ..] => {
+            index <= chain.index_told(interval) && tells_all(chains, index, interval)
+        }
+        [] => true,
     }
 }

@@ -2,17 +2,17 @@
 
 ghost use Rattle.std.specs.Prelude.{◌≡◌, ◌+◌, ◌*◌, ◌^◌, ◌<◌, ◌≤◌, true, List, [], length, None, Some, codes, IfErr, IfOk, OnErr};
 ghost use Rattle.tesla_frame.specs.Frame.{Frame};
-ghost use Rattle.tesla_sender.specs.Made.{Call, Message, Disclose, any_due, chains_of, disclosed_after, disclosure_frame, interval_at, made_disclosure, made_message, message_frame, name_after};
+ghost use Rattle.tesla_sender.specs.Made.{Call, Message, Disclose, any_due, chains_of, disclosed_after, disclosure_frame, interval_at, made_disclosure, made_message, message_frame, name_after, tells_all, tells_newer};
 ghost use Rattle.tesla_chain.specs.Cost.{W};
 ghost use Rattle.tesla_sender.specs.Cost.{steps_between};
 ghost use Rattle.tesla_sender.specs.Opening.{IsRefusal, left_of, seeds_refused};
 ghost use Rattle.tesla_sender.specs.Stands.{Answers, IsWritten, Spells, Stands, log_after, number_at};
 
 use crate::chain::SendingChain;
-use crate::judging::{judge_disclosure, judge_message, number_at};
+use crate::judging::{interval_at, judge_disclosure, judge_message, number_at};
 use crate::limits::FRAME_ROOM;
 use crate::opening::open_chains;
-use crate::rows::{advance_all, prepare_all};
+use crate::rows::{advance_all, prepare_all, tells_all, tells_newer};
 use crate::writing::{write_due, write_message};
 use crate::{DiscloseRefusal, SendRefusal, SenderRefusal};
 use std::alloc::Global;
@@ -20,6 +20,7 @@ use std::fmt;
 use std::marker::Model;
 use std::sync::ledger::Ledger;
 use tesla_base::{Name, Steps};
+use tesla_clock::Schedule;
 use tesla_commit::Setup;
 use tesla_seeds::Seeds;
 
@@ -90,6 +91,34 @@ impl Sender {
             }),
             Err(refusal) => Err(refusal),
         }
+    }
+
+    /// When the intervals of the stream begin, and how many there are.
+    pub fn schedule(&self) -> Schedule
+        ensures { result ≡ self.now.stream.setup.times }
+    {
+        self.setup.schedule()
+    }
+
+    /// The interval of a reading of the sender's clock, in microseconds: 0 before the start.
+    pub fn interval_at(&self, reading: u64) -> u64
+        ensures { result ≡ interval_at self.now.stream.setup.times reading }
+    {
+        interval_at(self.setup.schedule(), reading)
+    }
+
+    /// Whether on some chain a call in an interval tells a newer key than one in the interval `before`.
+    pub fn tells_newer(&self, before: u64, interval: u64) -> bool
+        ensures { result ≡ tells_newer before interval (chains_of self.now.stream) }
+    {
+        tells_newer(&self.chains, before, interval)
+    }
+
+    /// Whether on every chain a call in an interval tells the key of this index or a newer one.
+    pub fn tells_all(&self, index: u64, interval: u64) -> bool
+        ensures { result ≡ tells_all index interval (chains_of self.now.stream) }
+    {
+        tells_all(&self.chains, index, interval)
     }
 
     /// Writes the frame of an accepted message of that name.
