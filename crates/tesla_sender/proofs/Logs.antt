@@ -18,9 +18,6 @@ use Rattle.tesla_sender.specs.Stands.{Answers, AreAcceptedAfter, IsAccepted, IsW
 abbrev ok_name : Name → Result Name SendRefusal
 ok_name name = Ok name
 
-abbrev ok_interval : ℕ → Result ℕ DiscloseRefusal
-ok_interval interval = Ok interval
-
 -- the one way to a name
 chosen : (a b c d e : Bool) (r s t u v : SendRefusal) (made name : Name) → (if a then Err r else if b then Err s else if c then Err t else if d then Err u else if e then Ok made else Err v) ≡ ok_name name → (a ≡ false) × (b ≡ false) × (c ≡ false) × (d ≡ false) × (e ≡ true) × (made ≡ name)
 chosen true b c d e r s t u v made name is = absurd cc
@@ -201,10 +198,6 @@ disclosure_stands sender after log reading (Ok size) before now old new stands a
     let ok = answered_ok size (made_disclosure sender.stream log reading) before now (disclosure_answered sender log reading (Ok size) before now stands answer) in
     subst (λ s. Stands s (log ++ Disclose reading ∷ [])) (sym gone) (disclosure_more sender log reading after.left stands ok)
 disclosure_stands sender after log reading (Err refusal) before now old new stands answer gone same = subst (λ s. Stands s log) (sym same.0) stands
-
--- a sender that was just opened stands for no call
-pub none_stands : (sender : State) → sender.latest ≡ 0 → sender.used ≡ 0 → Stands sender []
-none_stands sender latest used = record { accepted = tt; latest = latest; used = used }
 
 -- ---- the frame that was written
 

@@ -24,7 +24,7 @@ pub fn interval_at(schedule: Schedule, reading: u64) -> u64
 
 /// How many messages of the interval were accepted, where so many were of the interval `latest`, and none of a
 /// later one.
-pub fn number_at(latest: u64, used: u32, interval: u64) -> u32
+fn number_at(latest: u64, used: u32, interval: u64) -> u32
     ensures { result ≡ number_at latest used interval }
 {
     if interval == latest { used } else { 0 }

@@ -9,7 +9,7 @@ ghost use Rattle.tesla_sender.specs.Opening.{IsRefusal, left_of, seeds_refused};
 ghost use Rattle.tesla_sender.specs.Stands.{Answers, IsWritten, Spells, Stands, gone_on, interval_next, log_after, name_next, sent_in, told_disclosure, told_message};
 
 use crate::chain::SendingChain;
-use crate::judging::{interval_at, judge_disclosure, judge_message, number_at};
+use crate::judging::{interval_at, judge_disclosure, judge_message};
 use crate::limits::FRAME_ROOM;
 use crate::opening::open_chains;
 use crate::rows::{advance_all, prepare_all, tells_all, tells_newer};
@@ -27,7 +27,7 @@ use tesla_seeds::Seeds;
 /// A sender of one stream (RFC 4082, sections 3.2 to 3.4): it makes the frames of messages and of disclosures.
 ///
 /// Contracts see its stream, which is its setup with a seed for each chain, and the logs that it stands for: the
-/// calls that it accepted, in order. It keeps the last `delay + 1` keys of each chain, and nothing of the log but
+/// calls that it accepted, in order. It keeps the last `delay + 2` keys of each chain, and nothing of the log but
 /// the interval and the number of the last calls. Contracts also see how many entries its tables have room for,
 /// the table of its chains and those of each chain; the setup's own table, which no call changes, isn't among
 /// them. Its `Debug` text shows no byte of a key.
@@ -121,13 +121,14 @@ impl Sender {
         tells_all(&self.chains, index, interval)
     }
 
-    /// Goes on to an interval: from here on it answers as if its last accepted call were of that interval. The keys of
-    /// each chain are made up to that of the interval, or of the last one. It writes nothing and takes no memory.
+    /// Goes on to an interval: from here on it answers as if its last accepted call were of that interval, whose
+    /// messages are counted on where it was that already. The keys of each chain are made up to that of the interval,
+    /// or of the last one. It writes nothing and takes no memory.
     ///
     /// It takes at most `C * d * bits(N)` counted steps for `C` chains of `N` keys, where it goes on by `d` intervals
     /// from that of the last accepted call, and `bits(N)` is the number of binary digits; intervals after the last one
     /// don't count. Over a long way it takes no more on a chain than the walk from the seed to the key of the interval
-    /// and `(delay + 1) * (bits(N) + 1)`. It prepares no key, so no compressions of SHA-256 stand beside the counted
+    /// and `(delay + 2) * (bits(N) + 1)`. It prepares no key, so no compressions of SHA-256 stand beside the counted
     /// steps.
     pub fn begin_at<L: Ledger>(&mut self, interval: u64, steps: &mut Steps<L>)
         requires later { self.old.latest ≤ interval }
@@ -135,14 +136,17 @@ impl Sender {
         ensures cost { steps.new + self.new.left ≤ steps.old + self.old.left }
         ensures call { steps.new ≤ steps.old + steps_between self.old.stream self.old.latest interval }
     {
+        if interval == self.latest {
+            return;
+        }
         let last = u64::from(self.setup.schedule().last());
         advance_all(&mut self.chains, interval.min(last) as u32, steps);
-        self.used = number_at(self.latest, self.used, interval);
+        self.used = 0;
         self.latest = interval;
     }
 
-    /// Makes the keys of the interval after that of the last accepted call ahead of time, where that is at most the last
-    /// one, so that a first message there waits for no key. Nothing else changes, and a second call makes none.
+    /// Makes the keys of the interval after that of the last accepted call ahead of time, where that is at most the
+    /// last one, so that a first message there waits for no key. Nothing else changes, and a second call makes none.
     ///
     /// It takes at most `C * bits(N)` counted steps for `C` chains of `N` keys, with `bits(N)` the number of binary
     /// digits. It takes no memory and prepares no key.
@@ -175,8 +179,8 @@ impl Sender {
         ensures call { steps.new ≤ steps.old + steps_between self.old.stream self.old.latest name.interval + 2 * length self.old.stream.setup.rows }
         ensures reserved { self.new.reserved ≡ self.old.reserved }
     {
+        self.begin_at(u64::from(name.interval), steps);
         prepare_all(&mut self.chains, name.interval, steps);
-        self.latest = u64::from(name.interval);
         self.used = u32::from(name.number) + 1;
         write_message(&self.chains, &self.setup, name, payload, into, steps)
     }
@@ -225,7 +229,7 @@ impl Sender {
     /// It takes at most `C * (d * bits(N) + 2)` counted steps for `C` chains of `N` keys, where it goes on by `d`
     /// intervals from that of the last accepted call, at first from interval 0, and `bits(N)` is the number of binary
     /// digits. Over a long way, it takes no more on a chain than the walk from the seed to the key of its interval,
-    /// `(delay + 1) * (bits(N) + 1)` and the 2. Beside the counted steps, the first message of an interval prepares one
+    /// `(delay + 2) * (bits(N) + 1)` and the 2. Beside the counted steps, the first message of an interval prepares one
     /// key for each chain, of two compressions of SHA-256 each; a later one, or one that is refused, prepares none.
     pub fn message<L: Ledger>(
         &mut self,
