@@ -168,7 +168,7 @@ kept_more count start before after kept now more key is some gives same given pu
     }
 
 -- what is true of each chain, once the keys up to that of another index were made
-used_to : (delay last : ℕ) (before after : Traversing) (kept now : Buffer Key) (reached index tagging : ℕ) (prepared : Key) → IsUsed delay last before kept reached tagging prepared → after.seed ≡ before.seed → after.last ≡ before.last → after.given ≡ index → index ≤ last → now.capacity ≡ kept.capacity → now.items ≡ keep_last (delay + 1) (keys_to before.last before.seed index) → IsUsed delay last after now index tagging prepared
+used_to : (delay last : ℕ) (before after : Traversing) (kept now : Buffer Key) (reached index tagging : ℕ) (prepared : Key) → IsUsed delay last before kept reached tagging prepared → after.seed ≡ before.seed → after.last ≡ before.last → after.given ≡ index → index ≤ last → now.capacity ≡ kept.capacity → now.items ≡ keep_last (delay + 2) (keys_to before.last before.seed index) → IsUsed delay last after now index tagging prepared
 used_to delay last before after kept now reached index tagging prepared used seed whole given within room items =
     let same : (n : ℕ) → key_of after.last after.seed n ≡ key_of before.last before.seed n = λ n. ap (λ l. key_of l after.seed n) whole ∙ ap (λ s. key_of before.last s n) seed in
     record {
@@ -178,7 +178,7 @@ used_to delay last before after kept now reached index tagging prepared used see
       within = omega (arith, used.whole, whole);
       most = omega (arith, used.most, whole);
       capacity = room ∙ used.capacity;
-      keys = items ∙ sym (ap (λ l. keep_last (delay + 1) (keys_to l after.seed index)) whole ∙ ap (λ s. keep_last (delay + 1) (keys_to before.last s index)) seed);
+      keys = items ∙ sym (ap (λ l. keep_last (delay + 2) (keys_to l after.seed index)) whole ∙ ap (λ s. keep_last (delay + 2) (keys_to before.last s index)) seed);
       mac = λ h. used.mac h ∙ ap mac_of (sym (same tagging));
     }
 
@@ -188,25 +188,25 @@ used_near delay last before after kept now reached count index tagging prepared 
     let keys = keys_after before.last before.seed in
     let items : now.items ≡ keep_last kept.capacity (kept.items ++ keys before.given count) = ap (λ (b : Buffer Key). b.items) is.kept in
     used_to delay last before after kept now reached index tagging prepared used is.seed is.last (omega (arith, is.given, used.given)) within (ap (λ (b : Buffer Key). b.capacity) is.kept)
-    (items ∙ ap (λ c. keep_last c (kept.items ++ keys before.given count)) used.capacity ∙ ap (λ n. keep_last (delay + 1) (kept.items ++ keys n count)) used.given
-    ∙ ap (λ ks. keep_last (delay + 1) (ks ++ keys reached count)) used.keys ∙ keep_append (delay + 1) (keys_to before.last before.seed reached) (keys reached count)
-    ∙ ap (keep_last (delay + 1)) (joined before.last before.seed reached count) ∙ ap (λ n. keep_last (delay + 1) (keys_to before.last before.seed n)) way)
+    (items ∙ ap (λ c. keep_last c (kept.items ++ keys before.given count)) used.capacity ∙ ap (λ n. keep_last (delay + 2) (kept.items ++ keys n count)) used.given
+    ∙ ap (λ ks. keep_last (delay + 2) (ks ++ keys reached count)) used.keys ∙ keep_append (delay + 2) (keys_to before.last before.seed reached) (keys reached count)
+    ∙ ap (keep_last (delay + 2)) (joined before.last before.seed reached count) ∙ ap (λ n. keep_last (delay + 2) (keys_to before.last before.seed n)) way)
 
 -- where only the last ones were
-pub used_far : (delay last : ℕ) (before middle after : Traversing) (kept now : Buffer Key) (reached from index tagging : ℕ) (prepared : Key) → IsUsed delay last before kept reached tagging prepared → HasComeTo from before middle → HasKept (delay + 1) middle after kept now → from + (delay + 1) ≡ index → index ≤ last → IsUsed delay last after now index tagging prepared
+pub used_far : (delay last : ℕ) (before middle after : Traversing) (kept now : Buffer Key) (reached from index tagging : ℕ) (prepared : Key) → IsUsed delay last before kept reached tagging prepared → HasComeTo from before middle → HasKept (delay + 2) middle after kept now → from + (delay + 2) ≡ index → index ≤ last → IsUsed delay last after now index tagging prepared
 used_far delay last before middle after kept now reached from index tagging prepared used comes is way within =
-    let keys : List Key = keys_after before.last before.seed from (delay + 1) in
-    let size : length keys ≡ delay + 1 = count_after before.last before.seed from (delay + 1) in
-    let same : keys_after middle.last middle.seed middle.given (delay + 1) ≡ keys =
-    ap (λ l. keys_after l middle.seed middle.given (delay + 1)) comes.last ∙ ap (λ s. keys_after before.last s middle.given (delay + 1)) comes.seed ∙ ap (λ n. keys_after before.last before.seed n (delay + 1)) comes.given in
-    let items : now.items ≡ keep_last kept.capacity (kept.items ++ keys_after middle.last middle.seed middle.given (delay + 1)) = ap (λ (b : Buffer Key). b.items) is.kept in
+    let keys : List Key = keys_after before.last before.seed from (delay + 2) in
+    let size : length keys ≡ delay + 2 = count_after before.last before.seed from (delay + 2) in
+    let same : keys_after middle.last middle.seed middle.given (delay + 2) ≡ keys =
+    ap (λ l. keys_after l middle.seed middle.given (delay + 2)) comes.last ∙ ap (λ s. keys_after before.last s middle.given (delay + 2)) comes.seed ∙ ap (λ n. keys_after before.last before.seed n (delay + 2)) comes.given in
+    let items : now.items ≡ keep_last kept.capacity (kept.items ++ keys_after middle.last middle.seed middle.given (delay + 2)) = ap (λ (b : Buffer Key). b.items) is.kept in
     used_to delay last before after kept now reached index tagging prepared used (is.seed ∙ comes.seed) (is.last ∙ comes.last) (omega (arith, is.given, comes.given)) within (ap (λ (b : Buffer Key). b.capacity) is.kept)
-    (items ∙ ap (λ c. keep_last c (kept.items ++ keys_after middle.last middle.seed middle.given (delay + 1))) used.capacity ∙ ap (λ ks. keep_last (delay + 1) (kept.items ++ ks)) same
-    ∙ keep_behind (delay + 1) kept.items keys size ∙ sym (keep_behind (delay + 1) (keys_to before.last before.seed from) keys size)
-    ∙ ap (keep_last (delay + 1)) (joined before.last before.seed from (delay + 1)) ∙ ap (λ n. keep_last (delay + 1) (keys_to before.last before.seed n)) way)
+    (items ∙ ap (λ c. keep_last c (kept.items ++ keys_after middle.last middle.seed middle.given (delay + 2))) used.capacity ∙ ap (λ ks. keep_last (delay + 2) (kept.items ++ ks)) same
+    ∙ keep_behind (delay + 2) kept.items keys size ∙ sym (keep_behind (delay + 2) (keys_to before.last before.seed from) keys size)
+    ∙ ap (keep_last (delay + 2)) (joined before.last before.seed from (delay + 2)) ∙ ap (λ n. keep_last (delay + 2) (keys_to before.last before.seed n)) way)
 
 -- what is true of a chain of which no key was made yet
-pub used_none : (delay last : ℕ) (seed prepared : Key) (traversal : Traversing) (kept : Buffer Key) → IsOpened seed last traversal → 1 ≤ last → last ≤ 2 ^ 20 → kept ≡ buffer [] (delay + 1) → IsUsed delay last traversal kept 0 0 prepared
+pub used_none : (delay last : ℕ) (seed prepared : Key) (traversal : Traversing) (kept : Buffer Key) → IsOpened seed last traversal → 1 ≤ last → last ≤ 2 ^ 20 → kept ≡ buffer [] (delay + 2) → IsUsed delay last traversal kept 0 0 prepared
 used_none delay last seed prepared traversal kept is some most empty =
     record {
       given = is.given;
@@ -217,6 +217,6 @@ used_none delay last seed prepared traversal kept is some most empty =
       capacity = ap (λ (b : Buffer Key). b.capacity) empty;
       keys =
           ap (λ (b : Buffer Key). b.items) empty
-          ∙ sym (ap (keep_last (delay + 1)) (keys_none traversal.last traversal.seed) ∙ drop_none (0 - (delay + 1)));
+          ∙ sym (ap (keep_last (delay + 2)) (keys_none traversal.last traversal.seed) ∙ drop_none (0 - (delay + 2)));
       mac = λ h. absurd (omega arith);
     }

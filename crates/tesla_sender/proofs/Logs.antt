@@ -1,6 +1,6 @@
 -- Logs of accepted calls, and the frames that are written.
 use Rattle.std.proofs.Common.{◌≡◌, ℕ, zero, suc, ◌+◌, ◌<◌, ◌≤◌, Bool, true, false, cond, List, [], ◌∷◌, ◌++◌, length, take, drop, refl, sym, ◌∙◌, ap, subst, inl, inr, append_assoc, arith}
-use Rattle.std.specs.Prelude.{Result, Ok, Err, IsOk, is_ok, nat_lt, eqb, if◌then◌else◌}
+use Rattle.std.specs.Prelude.{Result, Ok, Err, IsOk, IfOk, OnErr, nat_lt, eqb, if◌then◌else◌}
 use Rattle.std.proofs.lemmas.Bool.{cases_lt, ltb-false, ltb-true, lt-ltb, ne_eqb, eq-eqb}
 use Rattle.std.proofs.Math.Seq.{take-append_seam}
 use Rattle.std.proofs.lemmas.List.{append-nil}
@@ -11,15 +11,12 @@ use Rattle.tesla_frame.specs.Frame.{Frame, frame_text}
 use Rattle.tesla_sender.specs.declared.refusal.DiscloseRefusal.{DiscloseRefusal}
 use Rattle.tesla_sender.specs.declared.refusal.SendRefusal.{SendRefusal}
 use Rattle.tesla_sender.specs.Made.{Call, Message, Disclose, Stream, any_due, chains_of, disclosed, disclosed_after, framed, interval_at, interval_in, is_message_of, latest_of, made_disclosure, made_message, messages_of, name_after, name_of}
-use Rattle.tesla_sender.specs.Stands.{Answers, AreAcceptedAfter, IsAccepted, IsWritten, Spells, Stands, State, number_at}
+use Rattle.tesla_sender.specs.Stands.{Answers, AreAcceptedAfter, IsAccepted, IsWritten, Spells, Stands, State, gone_on, log_after, number_at, sent_in, told_disclosure, told_message}
 
 -- ---- what an accepted call tells
 
 abbrev ok_name : Name → Result Name SendRefusal
 ok_name name = Ok name
-
-abbrev ok_interval : ℕ → Result ℕ DiscloseRefusal
-ok_interval interval = Ok interval
 
 -- the one way to a name
 chosen : (a b c d e : Bool) (r s t u v : SendRefusal) (made name : Name) → (if a then Err r else if b then Err s else if c then Err t else if d then Err u else if e then Ok made else Err v) ≡ ok_name name → (a ≡ false) × (b ≡ false) × (c ≡ false) × (d ≡ false) × (e ≡ true) × (made ≡ name)
@@ -126,8 +123,8 @@ number_is sender log interval stands later =
           ap (λ b. if b then sender.used else 0) here ∙ stands.used ∙ ap (λ i. messages_of times i log) (sym same)
     ]
 
--- the answer to a message, by what the sender keeps
-pub message_answer : (sender : State) (log : List Call) (reading : ℕ) (payload : List ℕ) → Stands sender log → made_message sender.stream log reading payload ≡ framed sender.stream payload (name_after sender.stream.setup.times sender.latest (number_at sender.latest sender.used (interval_at sender.stream.setup.times reading)) reading payload)
+-- the answer to a message, by the state alone
+message_answer : (sender : State) (log : List Call) (reading : ℕ) (payload : List ℕ) → Stands sender log → made_message sender.stream log reading payload ≡ told_message sender reading payload
 unfolding made_message
 message_answer sender log reading payload stands =
     let times = sender.stream.setup.times in
@@ -142,69 +139,65 @@ message_answer sender log reading payload stands =
     ] in
     ap (framed sender.stream payload) (before ∙ same)
 
+pub message_answered : (sender : State) (log : List Call) (reading : ℕ) (payload : List ℕ) (told : Result ℕ SendRefusal) (before now : List ℕ) → Stands sender log → Answers told (told_message sender reading payload) before now → Answers told (made_message sender.stream log reading payload) before now
+message_answered sender log reading payload told before now stands answer =
+    subst (λ made. Answers told made before now) (sym (message_answer sender log reading payload stands)) answer
+
 -- the answer to a disclosure
-pub disclosure_answer : (sender : State) (log : List Call) (reading : ℕ) → Stands sender log → made_disclosure sender.stream log reading ≡ disclosed sender.stream (disclosed_after sender.stream.setup.times sender.latest (any_due (interval_at sender.stream.setup.times reading) (chains_of sender.stream)) reading)
+disclosure_answer : (sender : State) (log : List Call) (reading : ℕ) → Stands sender log → made_disclosure sender.stream log reading ≡ told_disclosure sender reading
 unfolding made_disclosure
 disclosure_answer sender log reading stands =
     let times = sender.stream.setup.times in
     ap (λ b. disclosed sender.stream (disclosed_after times b (any_due (interval_at times reading) (chains_of sender.stream)) reading)) (sym stands.latest)
 
--- ---- the log after an accepted call
+pub disclosure_answered : (sender : State) (log : List Call) (reading : ℕ) (told : Result ℕ DiscloseRefusal) (before now : List ℕ) → Stands sender log → Answers told (told_disclosure sender reading) before now → Answers told (made_disclosure sender.stream log reading) before now
+disclosure_answered sender log reading told before now stands answer =
+    subst (λ made. Answers told made before now) (sym (disclosure_answer sender log reading stands)) answer
 
-pub message_stands : (sender : State) (log : List Call) (reading left reserved : ℕ) (payload : List ℕ) (name : Name) → Stands sender log → name_after sender.stream.setup.times sender.latest (number_at sender.latest sender.used (interval_at sender.stream.setup.times reading)) reading payload ≡ Ok name → Stands (record { stream = sender.stream; latest = name.interval; used = name.number + 1; left = left; reserved = reserved }) (log ++ Message reading payload ∷ [])
-message_stands sender log reading left reserved payload name stands is =
+-- ---- the log after a call
+
+-- where it is answered by a frame, the call is accepted
+answered_ok : {E : Type 0} (size : ℕ) (made : Result Frame E) (before now : List ℕ) → Answers (Ok size) made before now → IsOk made
+answered_ok size (Ok frame) before now answer = refl
+answered_ok size (Err refusal) before now answer = absurd answer
+
+message_more : (sender : State) (log : List Call) (reading left : ℕ) (payload : List ℕ) → Stands sender log → IsOk (made_message sender.stream log reading payload) → Stands (sent_in sender (interval_at sender.stream.setup.times reading) left) (log ++ Message reading payload ∷ [])
+message_more sender log reading left payload stands ok =
     let times = sender.stream.setup.times in
     let interval = interval_at times reading in
-    let of = named times _ _ reading payload name is in
-    let answer = message_answer sender log reading payload stands in
-    let ok : IsOk (made_message sender.stream log reading payload) = ap is_ok (answer ∙ ap (framed sender.stream payload) is) in
-    let at : interval ≡ name.interval = ap (λ (n : Name). n.interval) of.is in
-    let number : number_at sender.latest sender.used interval ≡ name.number = ap (λ (n : Name). n.number) of.is in
-    let here : is_message_of times name.interval (Message reading payload) ≡ true = eq-eqb _ _ at in
-    let one : cond {A = ℕ} (is_message_of times name.interval (Message reading payload)) 1 0 ≡ 1 = ap (λ b. cond {A = ℕ} b 1 0) here in
-    let counted : number_at sender.latest sender.used interval ≡ messages_of times interval log = number_is sender log interval stands of.later in
-    let same : messages_of times interval log ≡ messages_of times name.interval log = ap (λ i. messages_of times i log) at in
+    let later : sender.latest ≤ interval = omega (arith, stands.latest, later_message sender.stream log reading payload ok) in
+    let here : is_message_of times interval (Message reading payload) ≡ true = eq-eqb _ _ refl in
+    let one : cond {A = ℕ} (is_message_of times interval (Message reading payload)) 1 0 ≡ 1 = ap (λ b. cond {A = ℕ} b 1 0) here in
     record {
       accepted = accepted_more sender.stream [] log (Message reading payload) stands.accepted ok;
-      latest = sym (latest_more times log (Message reading payload) ∙ at);
-      used = omega (arith, messages_more times name.interval log (Message reading payload), one, counted, same, number);
+      latest = sym (latest_more times log (Message reading payload));
+      used = omega (arith, messages_more times interval log (Message reading payload), one, number_is sender log interval stands later);
     }
 
--- the interval of a disclosure is that of its reading, which is no earlier one
-pub record IsDisclosed (times : Times) (before : ℕ) (due : Bool) (reading interval : ℕ) : Type 0 where
-  pub later : before ≤ interval
-  pub some : due ≡ true
-  pub is : interval_at times reading ≡ interval
-
-due_ways : (a due : Bool) (r s : DiscloseRefusal) (made interval : ℕ) → (if a then Err r else if due then Ok made else Err s) ≡ ok_interval interval → (a ≡ false) × (due ≡ true) × (made ≡ interval)
-due_ways true due r s made interval is = absurd cc
-due_ways false true r s made interval is = (refl, refl, cc)
-due_ways false false r s made interval is = absurd cc
-
-pub disclosed_is : (times : Times) (before : ℕ) (due : Bool) (reading interval : ℕ) → disclosed_after times before due reading ≡ Ok interval → IsDisclosed times before due reading interval
-disclosed_is times before due reading interval is =
-    let ways = due_ways _ due _ _ (interval_at times reading) interval is in
-    record {
-      later = omega (arith, ltb-false _ _ ways.0, ways.2);
-      some = ways.1;
-      is = ways.2;
-    }
-
-pub disclosure_stands : (sender : State) (log : List Call) (reading interval left reserved : ℕ) → Stands sender log → disclosed_after sender.stream.setup.times sender.latest (any_due (interval_at sender.stream.setup.times reading) (chains_of sender.stream)) reading ≡ Ok interval → Stands (record { stream = sender.stream; latest = interval; used = number_at sender.latest sender.used interval; left = left; reserved = reserved }) (log ++ Disclose reading ∷ [])
-disclosure_stands sender log reading interval left reserved stands is =
+disclosure_more : (sender : State) (log : List Call) (reading left : ℕ) → Stands sender log → IsOk (made_disclosure sender.stream log reading) → Stands (gone_on sender (interval_at sender.stream.setup.times reading) left) (log ++ Disclose reading ∷ [])
+disclosure_more sender log reading left stands ok =
     let times = sender.stream.setup.times in
-    let of = disclosed_is times sender.latest _ reading interval is in
-    let answer = disclosure_answer sender log reading stands in
-    let ok : IsOk (made_disclosure sender.stream log reading) = ap is_ok (answer ∙ ap (disclosed sender.stream) is) in
+    let interval = interval_at times reading in
+    let later : sender.latest ≤ interval = omega (arith, stands.latest, later_disclosure sender.stream log reading ok) in
     record {
       accepted = accepted_more sender.stream [] log (Disclose reading) stands.accepted ok;
-      latest = sym (latest_more times log (Disclose reading) ∙ of.is);
-      used = omega (arith, messages_more times interval log (Disclose reading), number_is sender log interval stands of.later);
+      latest = sym (latest_more times log (Disclose reading));
+      used = omega (arith, messages_more times interval log (Disclose reading), number_is sender log interval stands later);
     }
 
--- a sender that was just opened stands for no call
-pub none_stands : (sender : State) → sender.latest ≡ 0 → sender.used ≡ 0 → Stands sender []
-none_stands sender latest used = record { accepted = tt; latest = latest; used = used }
+-- what a sender stands for after a message, accepted or not
+pub message_stands : (sender after : State) (log : List Call) (reading : ℕ) (payload : List ℕ) (told : Result ℕ SendRefusal) (before now : List ℕ) (old new : ℕ) → Stands sender log → Answers told (told_message sender reading payload) before now → IfOk told (λ _. after ≡ sent_in sender (interval_at sender.stream.setup.times reading) after.left) → OnErr told ((after ≡ sender) × (now ≡ before) × (new ≡ old)) → Stands after (log_after log (Message reading payload) told)
+message_stands sender after log reading payload (Ok size) before now old new stands answer sent same =
+    let ok = answered_ok size (made_message sender.stream log reading payload) before now (message_answered sender log reading payload (Ok size) before now stands answer) in
+    subst (λ s. Stands s (log ++ Message reading payload ∷ [])) (sym sent) (message_more sender log reading after.left payload stands ok)
+message_stands sender after log reading payload (Err refusal) before now old new stands answer sent same = subst (λ s. Stands s log) (sym same.0) stands
+
+-- the same of a disclosure
+pub disclosure_stands : (sender after : State) (log : List Call) (reading : ℕ) (told : Result ℕ DiscloseRefusal) (before now : List ℕ) (old new : ℕ) → Stands sender log → Answers told (told_disclosure sender reading) before now → IfOk told (λ _. after ≡ gone_on sender (interval_at sender.stream.setup.times reading) after.left) → OnErr told ((after ≡ sender) × (now ≡ before) × (new ≡ old)) → Stands after (log_after log (Disclose reading) told)
+disclosure_stands sender after log reading (Ok size) before now old new stands answer gone same =
+    let ok = answered_ok size (made_disclosure sender.stream log reading) before now (disclosure_answered sender log reading (Ok size) before now stands answer) in
+    subst (λ s. Stands s (log ++ Disclose reading ∷ [])) (sym gone) (disclosure_more sender log reading after.left stands ok)
+disclosure_stands sender after log reading (Err refusal) before now old new stands answer gone same = subst (λ s. Stands s log) (sym same.0) stands
 
 -- ---- the frame that was written
 

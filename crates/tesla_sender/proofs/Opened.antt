@@ -131,6 +131,6 @@ sender_opened setup seeds now same fresh =
     record {
       same = fresh.same ∙ ap chains_of (sym (stream_back setup seeds now same fresh));
       count = omega (arith, lengths, length-map now chain_in, chains_length setup.times.last 0 setup.rows seeds same);
-      reached = λ k d within. omega (arith, fresh.reached k d within);
+      reached = λ k d within. record { least = omega (arith, fresh.reached k d within); most = omega (arith, fresh.reached k d within) };
       few = omega arith;
     }

@@ -42,7 +42,7 @@ pub record HasKept (count : ℕ) (before after : Traversing) (ring now : Buffer 
   pub reserved : after.reserved ≡ before.reserved
   pub kept : now ≡ buffer (keep_last ring.capacity (ring.items ++ keys_after before.last before.seed before.given count)) ring.capacity
 
--- what is true of each chain: its traversal gave the keys of index 1 to `reached`, of which the last `delay + 1`
+-- what is true of each chain: its traversal gave the keys of index 1 to `reached`, of which the last `delay + 2`
 -- are kept
 pub record IsUsed (delay last : ℕ) (traversal : Traversing) (kept : Buffer Key) (reached tagging : ℕ) (prepared : Key) : Type 0 where
   pub given : traversal.given ≡ reached
@@ -50,8 +50,8 @@ pub record IsUsed (delay last : ℕ) (traversal : Traversing) (kept : Buffer Key
   pub some : 1 ≤ traversal.last
   pub within : reached ≤ traversal.last
   pub most : traversal.last ≤ 2 ^ 20
-  pub capacity : kept.capacity ≡ delay + 1
-  pub keys : kept.items ≡ keep_last (delay + 1) (keys_to traversal.last traversal.seed reached)
+  pub capacity : kept.capacity ≡ delay + 2
+  pub keys : kept.items ≡ keep_last (delay + 2) (keys_to traversal.last traversal.seed reached)
   pub mac : 0 < tagging → prepared ≡ mac_of (key_of traversal.last traversal.seed tagging)
 
 -- the seed gives the key of the setup
@@ -105,14 +105,21 @@ pub record IsReady (interval : ℕ) (now : Progress) : Type 0 where
 abbrev pub HasReached : ℕ → Progress → Type 0
 HasReached interval now = now.reached ≡ interval
 
+-- a chain whose keys were made up to that of the interval, or up to that of the next one; none comes after its last one
+pub record HasMade (interval : ℕ) (now : Progress) : Type 0 where
+  pub least : min interval now.chain.last ≤ now.reached
+  pub most : now.reached ≤ min (interval + 1) now.chain.last
+
+-- a chain with the key of the interval, which isn't after its last one
+pub record CanTag (interval : ℕ) (now : Progress) : Type 0 where
+  pub within : interval ≤ now.chain.last
+  pub made : HasMade interval now
+
 -- a chain with the MAC key of the interval too
 pub record IsPrepared (interval : ℕ) (now : Progress) : Type 0 where
-  pub reached : now.reached ≡ interval
+  pub within : interval ≤ now.chain.last
+  pub made : HasMade interval now
   pub tagging : now.tagging ≡ interval
-
--- a chain with the keys that a disclosure in the interval may carry
-abbrev pub CanDisclose : ℕ → Progress → Type 0
-CanDisclose interval now = now.reached ≡ min interval now.chain.last
 
 -- the tag of a message on a chain
 unfoldable pub tag_made : Parts → Name → List ℕ → Chain → WideTag

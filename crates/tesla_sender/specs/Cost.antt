@@ -6,11 +6,11 @@ use Rattle.tesla_sender.specs.Made.{Chain, Stream, chains_of}
 
 -- going on with a chain from the key of one index to that of another: for each key as many steps as the number of the
 -- chain's keys has binary digits. Over a long way it is no more than the walk from the seed to that key, and for each of
--- the last `delay + 1` keys one step more than there are digits
+-- the last `delay + 2` keys one step more than there are digits
 abbrev pub steps_along : ℕ → ℕ → Chain → ℕ
 steps_along from to chain =
     let digits = bits chain.last in
-    min ((to - from) * digits) ((chain.last - to) + (chain.row.delay + 1) * (digits + 1))
+    min ((to - from) * digits) ((chain.last - to) + (chain.row.delay + 2) * (digits + 1))
 
 -- going on with all chains to an interval, after a call in the interval `before`; keys are made up to the last interval
 abbrev pub steps_between : Stream → ℕ → ℕ → ℕ

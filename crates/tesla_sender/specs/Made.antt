@@ -1,6 +1,6 @@
 -- What a sender makes: the answer to a message or a disclosure, after the calls that it accepted before (RFC 4082, sections 3.2 to 3.4).
-use Rattle.std.specs.Prelude.{ℕ, ◌+◌, ◌-◌, Bool, false, List, [], ◌∷◌, length, map, Option, Some, None, Result, Ok, Err, nat_lt, ◌==◌, if◌then◌else◌, min, unwrap_or}
-use Rattle.std.specs.List.{count_by, flat_map, fold, list_any}
+use Rattle.std.specs.Prelude.{ℕ, ◌+◌, ◌-◌, Bool, false, List, [], ◌∷◌, length, map, Option, Some, None, Result, Ok, Err, nat_le, nat_lt, ◌==◌, if◌then◌else◌, min, unwrap_or}
+use Rattle.std.specs.List.{count_by, flat_map, fold, list_all, list_any}
 use Rattle.tesla_base.specs.declared.names.Key.{Key}
 use Rattle.tesla_base.specs.declared.names.Name.{Name}
 use Rattle.tesla_clock.specs.Schedule.{Times, interval_of}
@@ -127,6 +127,18 @@ due_row interval chain =
 
 abbrev pub due_rows : List Chain → ℕ → List KeyRow
 due_rows chains interval = flat_map (due_row interval) chains
+
+-- the index of the key of a chain that the frame of a call in the interval tells: that of `delay` intervals before, or the last one; 0 where it tells none
+abbrev pub index_told : ℕ → Chain → ℕ
+index_told interval chain = min (interval - chain.row.delay) chain.last
+
+-- on some chain a call in an interval tells a newer key than one in the interval `before`
+abbrev pub tells_newer : ℕ → ℕ → List Chain → Bool
+tells_newer before interval chains = list_any (λ chain. nat_lt (index_told before chain) (index_told interval chain)) chains
+
+-- on every chain a call in an interval tells the key of index `index` or a newer one
+abbrev pub tells_all : ℕ → ℕ → List Chain → Bool
+tells_all index interval chains = list_all (λ chain. nat_le index (index_told interval chain)) chains
 
 -- some chain has a key to disclose in the interval
 abbrev pub any_due : ℕ → List Chain → Bool

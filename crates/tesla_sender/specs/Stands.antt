@@ -1,8 +1,11 @@
 -- The logs that a sender stands for, and the answers of its calls.
-use Rattle.std.specs.Prelude.{◌≡◌, ℕ, List, [], ◌∷◌, ◌++◌, length, take, Result, Ok, Err, IsOk, ◌==◌, if◌then◌else◌}
+use Rattle.std.specs.Prelude.{◌≡◌, ℕ, ◌+◌, List, [], ◌∷◌, ◌++◌, length, take, Result, Ok, Err, IsOk, ◌==◌, if◌then◌else◌}
+use Rattle.tesla_base.specs.declared.names.Name.{Name}
 use Rattle.tesla_frame.specs.Frame.{Frame, HasLimits, IsFrame, frame_text}
 use Rattle.tesla_frame.specs.Written.{Begins}
-use Rattle.tesla_sender.specs.Made.{Call, Message, Disclose, Stream, latest_of, messages_of, made_message, made_disclosure}
+use Rattle.tesla_sender.specs.declared.refusal.DiscloseRefusal.{DiscloseRefusal}
+use Rattle.tesla_sender.specs.declared.refusal.SendRefusal.{SendRefusal}
+use Rattle.tesla_sender.specs.Made.{Call, Message, Disclose, Stream, any_due, chains_of, disclosed, disclosed_after, framed, interval_at, latest_of, messages_of, made_message, made_disclosure, name_after}
 
 -- what a contract sees of a sender: its stream, the interval of the last accepted call, how many messages of
 -- that interval were accepted, the most steps that the keys still take, and how many entries its tables have
@@ -18,6 +21,50 @@ pub record State : Type 0 where
 -- later one
 abbrev pub number_at : ℕ → ℕ → ℕ → ℕ
 number_at latest used interval = if interval == latest then used else 0
+
+-- ---- a call, by the state alone
+
+-- the name of a message
+abbrev pub name_next : State → ℕ → List ℕ → Result Name SendRefusal
+name_next sender reading payload =
+    let times = sender.stream.setup.times in
+    name_after times sender.latest (number_at sender.latest sender.used (interval_at times reading)) reading payload
+
+-- the answer to a message
+abbrev pub told_message : State → ℕ → List ℕ → Result Frame SendRefusal
+told_message sender reading payload = framed sender.stream payload (name_next sender reading payload)
+
+-- the interval of a disclosure
+abbrev pub interval_next : State → ℕ → Result ℕ DiscloseRefusal
+interval_next sender reading =
+    let times = sender.stream.setup.times in
+    disclosed_after times sender.latest (any_due (interval_at times reading) (chains_of sender.stream)) reading
+
+-- the answer to a disclosure
+abbrev pub told_disclosure : State → ℕ → Result Frame DiscloseRefusal
+told_disclosure sender reading = disclosed sender.stream (interval_next sender reading)
+
+-- the sender goes on to the interval, after which the keys still take at most `left` steps
+abbrev pub gone_on : State → ℕ → ℕ → State
+gone_on sender interval left = record {
+  stream = sender.stream;
+  latest = interval;
+  used = number_at sender.latest sender.used interval;
+  left = left;
+  reserved = sender.reserved;
+}
+
+-- the same, with one message more
+abbrev pub sent_in : State → ℕ → ℕ → State
+sent_in sender interval left = record {
+  stream = sender.stream;
+  latest = interval;
+  used = number_at sender.latest sender.used interval + 1;
+  left = left;
+  reserved = sender.reserved;
+}
+
+-- ---- a call, by the log
 
 -- the call is accepted after that log
 abbrev pub IsAccepted : Stream → List Call → Call → Type 0

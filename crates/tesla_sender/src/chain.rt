@@ -1,9 +1,9 @@
 //! One key chain of a sender.
 
-ghost use Rattle.std.specs.Prelude.{◌≡◌, ◌+◌, ◌-◌, ◌*◌, length, ◌^◌, ◌<◌, ◌≤◌, nat_lt, min, option_to_list, IfOk, IfErr};
+ghost use Rattle.std.specs.Prelude.{◌≡◌, ◌+◌, ◌-◌, ◌*◌, length, ◌^◌, ◌<◌, ◌≤◌, nat_lt, option_to_list, IfOk, IfErr};
 ghost use Rattle.tesla_chain.specs.Cost.{W, bits};
-ghost use Rattle.tesla_sender.specs.Made.{key_of, key_due, due_row};
-ghost use Rattle.tesla_sender.specs.Chains.{HasKept, IsFresh, IsRefusedFor, left_after, steps_to, tag_made};
+ghost use Rattle.tesla_sender.specs.Made.{key_of, key_due, due_row, index_told};
+ghost use Rattle.tesla_sender.specs.Chains.{HasKept, HasMade, IsFresh, IsRefusedFor, left_after, steps_to, tag_made};
 
 use crate::SenderRefusal;
 use circular_buffer::HeapCircularBuffer;
@@ -17,8 +17,9 @@ use tesla_frame::KeyRow;
 use tesla_prf::{PreparedKey, mac_key};
 use tesla_traversal::Traversal;
 
-/// A key chain as far as it was used: the traversal that gives its keys in order, the last keys that it gave, up
-/// to the one that is disclosed `delay` intervals later, and the MAC key of the last interval with a message.
+/// A key chain as far as it was used: the traversal that gives its keys in order, the last keys that it gave, and the
+/// MAC key of the last interval with a message. With the key of the interval after the present one, the last keys still
+/// go back to the one that is disclosed in the present one, `delay` intervals before.
 #[derive(Drop)]
 pub struct SendingChain {
     number: ChainNo,
@@ -123,7 +124,7 @@ impl SendingChain {
             row,
             last,
             traversal,
-            kept: HeapCircularBuffer::with_capacity(alloc, row.delay as usize + 1)?,
+            kept: HeapCircularBuffer::with_capacity(alloc, row.delay as usize + 2)?,
             reached: 0,
             tagging: 0,
             mac: PreparedKey::new(&seed),
@@ -143,7 +144,7 @@ impl SendingChain {
         ensures left { steps.new + self.new.left ≤ steps.old + self.old.left }
         ensures reserved { self.new.reserved ≡ self.old.reserved }
     {
-        let room = u32::from(self.row.delay) + 1;
+        let room = u32::from(self.row.delay) + 2;
         let way = interval - self.reached;
         self.reached = interval;
         if way <= room {
@@ -154,11 +155,11 @@ impl SendingChain {
         keep_keys(&mut self.traversal, &mut self.kept, room, steps);
     }
 
-    /// The key of an interval that is at most `delay` before the one reached.
+    /// The key of an interval that is at most `delay + 1` before the one reached.
     fn key(&self, index: u32) -> Key
         requires some { 1 ≤ index }
         requires within { index ≤ self.now.reached }
-        requires kept { self.now.reached ≤ index + self.now.chain.row.delay }
+        requires kept { self.now.reached ≤ index + (self.now.chain.row.delay + 1) }
         ensures { result ≡ key_of self.now.chain.last self.now.chain.seed index }
     {
         match self.kept.nth_back((self.reached - index) as usize) {
@@ -167,45 +168,32 @@ impl SendingChain {
         }
     }
 
-    /// Makes the MAC key of the interval reached, where it isn't there: then one key is prepared beside the
-    /// counted step.
-    fn make_mac<L: Ledger>(&mut self, steps: &mut Steps<L>)
-        requires { 1 ≤ self.old.reached }
+    /// Makes the MAC key of an interval, where it isn't there: one counted step, and one key is prepared beside it. The
+    /// interval's key, and at most the next one, were made.
+    pub fn make_mac<L: Ledger>(&mut self, interval: u32, steps: &mut Steps<L>)
+        requires some { 1 ≤ interval }
+        requires within { interval ≤ self.old.chain.last }
+        requires made { HasMade interval self.old }
         ensures same { self.new.chain ≡ self.old.chain }
         ensures reached { self.new.reached ≡ self.old.reached }
-        ensures tagging { self.new.tagging ≡ self.old.reached }
+        ensures tagging { self.new.tagging ≡ interval }
         ensures left { self.new.left ≡ self.old.left }
         ensures reserved { self.new.reserved ≡ self.old.reserved }
         ensures cost { steps.new ≤ steps.old + 1 }
     {
-        if self.tagging == self.reached {
+        if self.tagging == interval {
             return;
         }
-        let key = self.key(self.reached);
+        let key = self.key(interval);
         self.mac = PreparedKey::new(&mac_key(&key, steps));
-        self.tagging = self.reached;
+        self.tagging = interval;
     }
 
-    /// Makes the keys up to that of an interval, and its MAC key. Beside the counted steps it prepares at most one
-    /// key.
-    pub fn prepare<L: Ledger>(&mut self, interval: u32, steps: &mut Steps<L>)
-        requires some { 1 ≤ interval }
-        requires later { self.old.reached ≤ interval }
-        requires within { interval ≤ self.old.chain.last }
-        ensures same { self.new.chain ≡ self.old.chain }
-        ensures reached { self.new.reached ≡ interval }
-        ensures tagging { self.new.tagging ≡ interval }
-        ensures call { steps.new ≤ steps.old + steps_to interval self.old + 1 }
-        ensures left { steps.new + self.new.left ≤ steps.old + self.old.left + 1 }
-        ensures reserved { self.new.reserved ≡ self.old.reserved }
-    {
-        self.advance(interval, steps);
-        self.make_mac(steps);
-    }
-
-    /// The key that a message of the interval reached discloses, where there is one.
+    /// The key that a message of the interval discloses, where there is one. The interval's key, and at most the next
+    /// one, were made.
     pub fn key_due(&self, interval: u32) -> Option<Key>
-        requires { self.now.reached ≡ interval }
+        requires within { interval ≤ self.now.chain.last }
+        requires made { HasMade interval self.now }
         ensures { result ≡ key_due interval self.now.chain }
     {
         let delay = u32::from(self.row.delay);
@@ -242,10 +230,19 @@ impl SendingChain {
         u64::from(self.row.delay) < interval
     }
 
+    /// The index of the key that a call in the interval tells for the chain, 0 where it tells none.
+    pub fn index_told(&self, interval: u64) -> u64
+        ensures { result ≡ index_told interval self.now.chain }
+    {
+        interval
+            .saturating_sub(u64::from(self.row.delay))
+            .min(u64::from(self.last))
+    }
+
     /// What a disclosure in the interval carries for the chain: its key of `delay` intervals before, or its
-    /// last one. The keys up to that interval, or the last, were made.
+    /// last one. The keys up to that of the interval, or of the next one, were made, none after the last.
     pub fn row_due(&self, interval: u64) -> Option<KeyRow>
-        requires { self.now.reached ≡ min interval self.now.chain.last }
+        requires { HasMade interval self.now }
         ensures { option_to_list result ≡ due_row interval self.now.chain }
     {
         if !self.is_due(interval) {

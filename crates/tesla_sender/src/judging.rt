@@ -13,7 +13,7 @@ use tesla_base::Name;
 use tesla_clock::Schedule;
 
 /// The interval of a reading, 0 before the start.
-fn interval_at(schedule: Schedule, reading: u64) -> u64
+pub fn interval_at(schedule: Schedule, reading: u64) -> u64
     ensures { result ≡ interval_at schedule reading }
 {
     match schedule.interval_at(reading) {
@@ -24,7 +24,7 @@ fn interval_at(schedule: Schedule, reading: u64) -> u64
 
 /// How many messages of the interval were accepted, where so many were of the interval `latest`, and none of a
 /// later one.
-pub fn number_at(latest: u64, used: u32, interval: u64) -> u32
+fn number_at(latest: u64, used: u32, interval: u64) -> u32
     ensures { result ≡ number_at latest used interval }
 {
     if interval == latest { used } else { 0 }

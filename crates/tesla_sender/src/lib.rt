@@ -10,5 +10,6 @@ mod rows;
 mod sender;
 mod writing;
 
+pub use limits::FRAME_ROOM;
 pub use refusal::{DiscloseRefusal, SendRefusal, SenderRefusal};
 pub use sender::Sender;

@@ -1,10 +1,10 @@
 //! What all the chains of a sender do for a message or a disclosure.
 
-ghost use Rattle.std.specs.Prelude.{◌≡◌, ◌+◌, ◌≤◌, ◌++◌, length, map, take, min, vec_capacity};
+ghost use Rattle.std.specs.Prelude.{◌≡◌, ◌+◌, ◌≤◌, ◌++◌, length, map, take, vec_capacity};
 ghost use Rattle.std.specs.List.{All, AllByRecursion, flat_map, sum_by};
 ghost use Rattle.tesla_frame.specs.Written.{HasLength};
-ghost use Rattle.tesla_sender.specs.Made.{any_due, due_row, key_due};
-ghost use Rattle.tesla_sender.specs.Chains.{chain_in, left_in, reserved_by, IsReady, HasReached, IsPrepared, CanDisclose, steps_to, tag_made};
+ghost use Rattle.tesla_sender.specs.Made.{any_due, due_row, key_due, tells_all, tells_newer};
+ghost use Rattle.tesla_sender.specs.Chains.{chain_in, left_in, reserved_by, CanTag, HasMade, HasReached, IsPrepared, IsReady, steps_to, tag_made};
 
 use crate::chain::SendingChain;
 use std::sync::ledger::Ledger;
@@ -12,19 +12,19 @@ use tesla_base::{Key, Name, Steps, WideTag};
 use tesla_commit::Setup;
 use tesla_frame::KeyRow;
 
-/// Makes the keys of each chain up to that of an interval, and its MAC key. Beside the counted steps it prepares at
-/// most one key a chain.
+/// Makes the MAC key of each chain of an interval, where it isn't there: at most one counted step a chain, and one key
+/// a chain is prepared beside it.
 pub fn prepare_all<L: Ledger>(chains: &mut Vec<SendingChain>, interval: u32, steps: &mut Steps<L>)
     requires some { 1 ≤ interval }
-    requires ready { All (IsReady interval) chains.old.items }
+    requires made { All (CanTag interval) chains.old.items }
     ensures same { map chain_in chains.new.items ≡ map chain_in chains.old.items }
     ensures prepared { All (IsPrepared interval) chains.new.items }
-    ensures call { steps.new ≤ steps.old + sum_by (steps_to interval) chains.old.items + length chains.old.items }
-    ensures left { steps.new + sum_by left_in chains.new.items ≤ steps.old + sum_by left_in chains.old.items + length chains.old.items }
+    ensures cost { steps.new ≤ steps.old + length chains.old.items }
+    ensures left { sum_by left_in chains.new.items ≡ sum_by left_in chains.old.items }
     ensures reserved { reserved_by (vec_capacity chains.new) chains.new.items ≡ reserved_by (vec_capacity chains.old) chains.old.items }
 {
     for i in 0..chains.len() {
-        chains[i].prepare(interval, steps);
+        chains[i].make_mac(interval, steps);
     }
 }
 
@@ -87,7 +87,7 @@ pub fn put_keys(chains: &[SendingChain], interval: u32, at: usize, keys: &mut [O
 /// place after them.
 pub fn put_due(chains: &[SendingChain], interval: u64, at: usize, rows: &mut [KeyRow]) -> usize
     requires room { at + length chains.now ≤ length rows.old }
-    requires made { All (CanDisclose interval) chains.now }
+    requires made { All (HasMade interval) chains.now }
     ensures next { result ≡ at + length (flat_map (due_row interval) (map chain_in chains.now)) }
     ensures few { result ≤ at + length chains.now }
     ensures rows { take result rows.new ≡ take at rows.old ++ flat_map (due_row interval) (map chain_in chains.now) }
@@ -111,5 +111,30 @@ pub fn any_due(chains: &[SendingChain], interval: u64) -> bool
     match chains {
         [chain, chains @ ..] => chain.is_due(interval) || any_due(chains, interval),
         [] => false,
+    }
+}
+
+/// Whether on some chain a call in an interval tells a newer key than one in the interval `before`.
+pub fn tells_newer(chains: &[SendingChain], before: u64, interval: u64) -> bool
+    ensures { result ≡ tells_newer before interval (map chain_in chains.now) }
+{
+    match chains {
+        [chain, chains @ ..] => {
+            chain.index_told(before) < chain.index_told(interval)
+                || tells_newer(chains, before, interval)
+        }
+        [] => false,
+    }
+}
+
+/// Whether on every chain a call in an interval tells the key of this index or a newer one.
+pub fn tells_all(chains: &[SendingChain], index: u64, interval: u64) -> bool
+    ensures { result ≡ tells_all index interval (map chain_in chains.now) }
+{
+    match chains {
+        [chain, chains @ ..] => {
+            index <= chain.index_told(interval) && tells_all(chains, index, interval)
+        }
+        [] => true,
     }
 }

@@ -2,17 +2,17 @@
 
 ghost use Rattle.std.specs.Prelude.{◌≡◌, ◌+◌, ◌*◌, ◌^◌, ◌<◌, ◌≤◌, true, List, [], length, None, Some, codes, IfErr, IfOk, OnErr};
 ghost use Rattle.tesla_frame.specs.Frame.{Frame};
-ghost use Rattle.tesla_sender.specs.Made.{Call, Message, Disclose, any_due, chains_of, disclosed_after, disclosure_frame, interval_at, made_disclosure, made_message, message_frame, name_after};
-ghost use Rattle.tesla_chain.specs.Cost.{W};
+ghost use Rattle.tesla_sender.specs.Made.{Call, Message, Disclose, any_due, chains_of, disclosure_frame, interval_at, made_disclosure, made_message, message_frame, tells_all, tells_newer};
+ghost use Rattle.tesla_chain.specs.Cost.{W, bits};
 ghost use Rattle.tesla_sender.specs.Cost.{steps_between};
 ghost use Rattle.tesla_sender.specs.Opening.{IsRefusal, left_of, seeds_refused};
-ghost use Rattle.tesla_sender.specs.Stands.{Answers, IsWritten, Spells, Stands, log_after, number_at};
+ghost use Rattle.tesla_sender.specs.Stands.{Answers, IsWritten, Spells, Stands, gone_on, interval_next, log_after, name_next, sent_in, told_disclosure, told_message};
 
 use crate::chain::SendingChain;
-use crate::judging::{judge_disclosure, judge_message, number_at};
+use crate::judging::{interval_at, judge_disclosure, judge_message};
 use crate::limits::FRAME_ROOM;
 use crate::opening::open_chains;
-use crate::rows::{advance_all, prepare_all};
+use crate::rows::{advance_all, prepare_all, tells_all, tells_newer};
 use crate::writing::{write_due, write_message};
 use crate::{DiscloseRefusal, SendRefusal, SenderRefusal};
 use std::alloc::Global;
@@ -20,13 +20,14 @@ use std::fmt;
 use std::marker::Model;
 use std::sync::ledger::Ledger;
 use tesla_base::{Name, Steps};
+use tesla_clock::Schedule;
 use tesla_commit::Setup;
 use tesla_seeds::Seeds;
 
 /// A sender of one stream (RFC 4082, sections 3.2 to 3.4): it makes the frames of messages and of disclosures.
 ///
 /// Contracts see its stream, which is its setup with a seed for each chain, and the logs that it stands for: the
-/// calls that it accepted, in order. It keeps the last `delay + 1` keys of each chain, and nothing of the log but
+/// calls that it accepted, in order. It keeps the last `delay + 2` keys of each chain, and nothing of the log but
 /// the interval and the number of the last calls. Contracts also see how many entries its tables have room for,
 /// the table of its chains and those of each chain; the setup's own table, which no call changes, isn't among
 /// them. Its `Debug` text shows no byte of a key.
@@ -92,6 +93,73 @@ impl Sender {
         }
     }
 
+    /// When the intervals of the stream begin, and how many there are.
+    pub fn schedule(&self) -> Schedule
+        ensures { result ≡ self.now.stream.setup.times }
+    {
+        self.setup.schedule()
+    }
+
+    /// The interval of a reading of the sender's clock, in microseconds: 0 before the start.
+    pub fn interval_at(&self, reading: u64) -> u64
+        ensures { result ≡ interval_at self.now.stream.setup.times reading }
+    {
+        interval_at(self.setup.schedule(), reading)
+    }
+
+    /// Whether on some chain a call in an interval tells a newer key than one in the interval `before`.
+    pub fn tells_newer(&self, before: u64, interval: u64) -> bool
+        ensures { result ≡ tells_newer before interval (chains_of self.now.stream) }
+    {
+        tells_newer(&self.chains, before, interval)
+    }
+
+    /// Whether on every chain a call in an interval tells the key of this index or a newer one.
+    pub fn tells_all(&self, index: u64, interval: u64) -> bool
+        ensures { result ≡ tells_all index interval (chains_of self.now.stream) }
+    {
+        tells_all(&self.chains, index, interval)
+    }
+
+    /// Goes on to an interval: from here on it answers as if its last accepted call were of that interval, whose
+    /// messages are counted on where it was that already. The keys of each chain are made up to that of the interval,
+    /// or of the last one. It writes nothing and takes no memory.
+    ///
+    /// It takes at most `C * d * bits(N)` counted steps for `C` chains of `N` keys, where it goes on by `d` intervals
+    /// from that of the last accepted call, and `bits(N)` is the number of binary digits; intervals after the last one
+    /// don't count. Over a long way it takes no more on a chain than the walk from the seed to the key of the interval
+    /// and `(delay + 2) * (bits(N) + 1)`. It prepares no key, so no compressions of SHA-256 stand beside the counted
+    /// steps.
+    pub fn begin_at<L: Ledger>(&mut self, interval: u64, steps: &mut Steps<L>)
+        requires later { self.old.latest ≤ interval }
+        ensures after { self.new ≡ gone_on self.old interval self.new.left }
+        ensures cost { steps.new + self.new.left ≤ steps.old + self.old.left }
+        ensures call { steps.new ≤ steps.old + steps_between self.old.stream self.old.latest interval }
+    {
+        if interval == self.latest {
+            return;
+        }
+        let last = u64::from(self.setup.schedule().last());
+        advance_all(&mut self.chains, interval.min(last) as u32, steps);
+        self.used = 0;
+        self.latest = interval;
+    }
+
+    /// Makes the keys of the interval after that of the last accepted call ahead of time, where that is at most the
+    /// last one, so that a first message there waits for no key. Nothing else changes, and a second call makes none.
+    ///
+    /// It takes at most `C * bits(N)` counted steps for `C` chains of `N` keys, with `bits(N)` the number of binary
+    /// digits. It takes no memory and prepares no key.
+    pub fn make_next<L: Ledger>(&mut self, steps: &mut Steps<L>)
+        ensures same { self.new ≡ record { stream = self.old.stream; latest = self.old.latest; used = self.old.used; left = self.new.left; reserved = self.old.reserved } }
+        ensures cost { steps.new + self.new.left ≤ steps.old + self.old.left }
+        ensures call { steps.new ≤ steps.old + length self.old.stream.setup.rows * bits self.old.stream.setup.times.last }
+    {
+        if self.latest < u64::from(self.setup.schedule().last()) {
+            advance_all(&mut self.chains, self.latest as u32 + 1, steps);
+        }
+    }
+
     /// Writes the frame of an accepted message of that name.
     fn send<L: Ledger>(
         &mut self,
@@ -111,15 +179,15 @@ impl Sender {
         ensures call { steps.new ≤ steps.old + steps_between self.old.stream self.old.latest name.interval + 2 * length self.old.stream.setup.rows }
         ensures reserved { self.new.reserved ≡ self.old.reserved }
     {
+        self.begin_at(u64::from(name.interval), steps);
         prepare_all(&mut self.chains, name.interval, steps);
-        self.latest = u64::from(name.interval);
         self.used = u32::from(name.number) + 1;
         write_message(&self.chains, &self.setup, name, payload, into, steps)
     }
 
     /// The name of a message at this reading.
     fn name_of(&self, reading: u64, payload: &[u8]) -> Result<Name, SendRefusal>
-        ensures { result ≡ name_after self.now.stream.setup.times self.now.latest (number_at self.now.latest self.now.used (interval_at self.now.stream.setup.times reading)) reading payload.now }
+        ensures { result ≡ name_next self.now reading payload.now }
     {
         judge_message(
             self.setup.schedule(),
@@ -128,6 +196,27 @@ impl Sender {
             reading,
             payload,
         )
+    }
+
+    /// Answers a message, by the interval and the number of the last calls.
+    fn answer_message<L: Ledger>(
+        &mut self,
+        reading: u64,
+        payload: &[u8],
+        into: &mut [u8; FRAME_ROOM],
+        steps: &mut Steps<L>,
+    ) -> Result<usize, SendRefusal>
+        ensures told { Answers result (told_message self.old reading payload.now) into.old into.new }
+        ensures after { IfOk result (λ _. self.new ≡ sent_in self.old (interval_at self.old.stream.setup.times reading) self.new.left) }
+        ensures cost { steps.new + self.new.left ≤ steps.old + self.old.left + 2 * length self.old.stream.setup.rows }
+        ensures call { steps.new ≤ steps.old + steps_between self.old.stream self.old.latest (interval_at self.old.stream.setup.times reading) + 2 * length self.old.stream.setup.rows }
+        ensures refused { OnErr result ((self.new ≡ self.old) × (into.new ≡ into.old) × (steps.new ≡ steps.old)) }
+        ensures room { IfOk result (λ length. length ≤ 2048) }
+    {
+        match self.name_of(reading, payload) {
+            Ok(name) => Ok(self.send(name, payload, into, steps)),
+            Err(refusal) => Err(refusal),
+        }
     }
 
     /// Makes the data frame of a message at this reading of the sender's clock, in microseconds, at the front of
@@ -140,7 +229,7 @@ impl Sender {
     /// It takes at most `C * (d * bits(N) + 2)` counted steps for `C` chains of `N` keys, where it goes on by `d`
     /// intervals from that of the last accepted call, at first from interval 0, and `bits(N)` is the number of binary
     /// digits. Over a long way, it takes no more on a chain than the walk from the seed to the key of its interval,
-    /// `(delay + 1) * (bits(N) + 1)` and the 2. Beside the counted steps, the first message of an interval prepares one
+    /// `(delay + 2) * (bits(N) + 1)` and the 2. Beside the counted steps, the first message of an interval prepares one
     /// key for each chain, of two compressions of SHA-256 each; a later one, or one that is refused, prepares none.
     pub fn message<L: Ledger>(
         &mut self,
@@ -149,6 +238,8 @@ impl Sender {
         into: &mut [u8; FRAME_ROOM],
         steps: &mut Steps<L>,
     ) -> Result<usize, SendRefusal>
+        ensures told { Answers result (told_message self.old reading payload.now) into.old into.new }
+        ensures after { IfOk result (λ _. self.new ≡ sent_in self.old (interval_at self.old.stream.setup.times reading) self.new.left) }
         ensures answer { (log : List Call) → Stands self.old log → Answers result (made_message self.old.stream log reading payload.now) into.old into.new }
         ensures spelled { (log : List Call) → Stands self.old log → Spells result (made_message self.old.stream log reading payload.now) into.new }
         ensures stands { (log : List Call) → Stands self.old log → Stands self.new (log_after log (Message reading payload.now) result) }
@@ -159,10 +250,7 @@ impl Sender {
         ensures room { IfOk result (λ length. length ≤ 2048) }
         ensures reserved { self.new.reserved ≡ self.old.reserved }
     {
-        match self.name_of(reading, payload) {
-            Ok(name) => Ok(self.send(name, payload, into, steps)),
-            Err(refusal) => Err(refusal),
-        }
+        self.answer_message(reading, payload, into, steps)
     }
 
     /// Writes the frame of an accepted disclosure in that interval.
@@ -175,23 +263,39 @@ impl Sender {
         requires later { self.old.latest ≤ interval }
         requires due { any_due interval (chains_of self.old.stream) ≡ true }
         ensures written { IsWritten (disclosure_frame self.old.stream.setup (chains_of self.old.stream) interval) result into.old into.new }
-        ensures after { self.new ≡ record { stream = self.old.stream; latest = interval; used = number_at self.old.latest self.old.used interval; left = self.new.left; reserved = self.new.reserved } }
+        ensures after { self.new ≡ gone_on self.old interval self.new.left }
         ensures cost { steps.new + self.new.left ≤ steps.old + self.old.left }
         ensures call { steps.new ≤ steps.old + steps_between self.old.stream self.old.latest interval }
-        ensures reserved { self.new.reserved ≡ self.old.reserved }
     {
-        let last = u64::from(self.setup.schedule().last());
-        advance_all(&mut self.chains, interval.min(last) as u32, steps);
-        self.used = number_at(self.latest, self.used, interval);
-        self.latest = interval;
+        self.begin_at(interval, steps);
         write_due(&self.chains, &self.setup, interval, into)
     }
 
     /// The interval of a disclosure at this reading.
     fn interval_of(&self, reading: u64) -> Result<u64, DiscloseRefusal>
-        ensures { result ≡ disclosed_after self.now.stream.setup.times self.now.latest (any_due (interval_at self.now.stream.setup.times reading) (chains_of self.now.stream)) reading }
+        ensures { result ≡ interval_next self.now reading }
     {
         judge_disclosure(&self.chains, self.setup.schedule(), self.latest, reading)
+    }
+
+    /// Answers a disclosure, by the interval of the last call.
+    fn answer_disclosure<L: Ledger>(
+        &mut self,
+        reading: u64,
+        into: &mut [u8; FRAME_ROOM],
+        steps: &mut Steps<L>,
+    ) -> Result<usize, DiscloseRefusal>
+        ensures told { Answers result (told_disclosure self.old reading) into.old into.new }
+        ensures after { IfOk result (λ _. self.new ≡ gone_on self.old (interval_at self.old.stream.setup.times reading) self.new.left) }
+        ensures cost { steps.new + self.new.left ≤ steps.old + self.old.left }
+        ensures call { steps.new ≤ steps.old + steps_between self.old.stream self.old.latest (interval_at self.old.stream.setup.times reading) }
+        ensures refused { OnErr result ((self.new ≡ self.old) × (into.new ≡ into.old) × (steps.new ≡ steps.old)) }
+        ensures room { IfOk result (λ length. length ≤ 2048) }
+    {
+        match self.interval_of(reading) {
+            Ok(interval) => Ok(self.disclose_in(interval, into, steps)),
+            Err(refusal) => Err(refusal),
+        }
     }
 
     /// Makes the disclosure frame of this reading of the sender's clock, in microseconds, at the front of `into`,
@@ -210,6 +314,8 @@ impl Sender {
         into: &mut [u8; FRAME_ROOM],
         steps: &mut Steps<L>,
     ) -> Result<usize, DiscloseRefusal>
+        ensures told { Answers result (told_disclosure self.old reading) into.old into.new }
+        ensures after { IfOk result (λ _. self.new ≡ gone_on self.old (interval_at self.old.stream.setup.times reading) self.new.left) }
         ensures answer { (log : List Call) → Stands self.old log → Answers result (made_disclosure self.old.stream log reading) into.old into.new }
         ensures spelled { (log : List Call) → Stands self.old log → Spells result (made_disclosure self.old.stream log reading) into.new }
         ensures stands { (log : List Call) → Stands self.old log → Stands self.new (log_after log (Disclose reading) result) }
@@ -220,10 +326,7 @@ impl Sender {
         ensures room { IfOk result (λ length. length ≤ 2048) }
         ensures reserved { self.new.reserved ≡ self.old.reserved }
     {
-        match self.interval_of(reading) {
-            Ok(interval) => Ok(self.disclose_in(interval, into, steps)),
-            Err(refusal) => Err(refusal),
-        }
+        self.answer_disclosure(reading, into, steps)
     }
 }
 

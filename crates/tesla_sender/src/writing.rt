@@ -3,7 +3,7 @@
 ghost use Rattle.std.specs.Prelude.{◌≡◌, ◌+◌, ◌≤◌, true, length, map};
 ghost use Rattle.std.specs.List.{All};
 ghost use Rattle.tesla_sender.specs.Made.{any_due, disclosure_frame, message_frame};
-ghost use Rattle.tesla_sender.specs.Chains.{chain_in, AreNumbered, CanDisclose, IsPrepared};
+ghost use Rattle.tesla_sender.specs.Chains.{chain_in, AreNumbered, HasMade, IsPrepared};
 ghost use Rattle.tesla_sender.specs.Stands.{IsWritten};
 
 use crate::chain::SendingChain;
@@ -60,7 +60,7 @@ pub fn write_due(
 ) -> usize
     requires same { length chains.now ≡ length setup.now.rows }
     requires numbered { AreNumbered 0 (map chain_in chains.now) }
-    requires made { All (CanDisclose interval) chains.now }
+    requires made { All (HasMade interval) chains.now }
     requires due { any_due interval (map chain_in chains.now) ≡ true }
     ensures { IsWritten (disclosure_frame setup.now (map chain_in chains.now) interval) result into.old into.new }
 {

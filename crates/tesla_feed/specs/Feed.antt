@@ -1,0 +1,85 @@
+-- What a run of a feed comes to: which readings of the clock and which items of the link it took, and what each post sent.
+use Rattle.std.specs.Prelude.{◌≡◌, ℕ, ◌+◌, ◌<◌, ◌≤◌, Bool, true, false, List, [], ◌∷◌, ◌++◌, length, map, take, Option, IfSome}
+use Rattle.std.specs.List.{AllByRecursion, list_all, list_any}
+use Rattle.tesla_clock.specs.Schedule.{Times}
+use Rattle.tesla_desk.specs.Clocks.{Gives, Ticking}
+use Rattle.tesla_desk.specs.Faults.{HasCause}
+use Rattle.tesla_desk.specs.Links.{after_letters}
+use Rattle.tesla_desk.specs.declared.link.Letter.{Letter}
+use Rattle.tesla_posts.specs.Posts.{PostSeen, with_datagrams}
+use Rattle.tesla_sender.specs.Made.{Stream, interval_at}
+use Rattle.tesla_feed.specs.Fed.{Event, Came, Rested, Feeding, after_event, counts_of, datagrams_of, fed, first_interval, is_all_told, reading_of}
+use Rattle.tesla_feed.specs.declared.feeding.FeedEnd.{FeedEnd}
+
+-- ---- events
+
+-- an item that left the link, with the reading of the clock that was taken right after
+pub record Heard : Type 0 where
+  pub reading : ℕ
+  pub letter : Letter
+
+abbrev pub letter_of : Heard → Letter
+letter_of one = one.letter
+
+abbrev pub came_of : Heard → Event
+came_of one = Came one.reading one.letter
+
+abbrev pub rested_at : ℕ → Event
+rested_at reading = Rested reading
+
+-- items left the link, and then the gate rested
+abbrev pub events_of : List Heard → List ℕ → List Event
+events_of heard rests = map came_of heard ++ map rested_at rests
+
+-- before each of these rests a key of the last message was still to be told
+abbrev pub AreNeeded : Stream → ℕ → Feeding → List ℕ → Type 0
+AreNeeded stream first made [] = Unit {0}
+AreNeeded stream first made (reading ∷ rests) = (is_all_told stream made.log ≡ false) × AreNeeded stream first (after_event stream first made (Rested reading)) rests
+
+-- ---- posts
+
+-- a post sent these datagrams, in order and each once; where it failed, a front of them
+pub record SendsPost (datagrams : List (List ℕ)) (before now : PostSeen) (failed : Bool) : Type 0 where
+  pub sends : ℕ
+  pub all : failed ≡ false → sends ≡ length datagrams
+  pub front : failed ≡ true → sends < length datagrams
+  pub sent : now.sent ≡ with_datagrams before.sent (take sends datagrams)
+  pub name : now.name ≡ before.name
+  pub cause : HasCause before.faults now.faults (failed ≡ true)
+
+-- the same of each post, as it was and as it is, told which failed
+abbrev pub SendPosts : List (List ℕ) → List PostSeen → List PostSeen → List Bool → Type 0
+SendPosts datagrams [] [] [] = Unit {0}
+SendPosts datagrams (before ∷ befores) (now ∷ nows) (failed ∷ others) = SendsPost datagrams before now failed × SendPosts datagrams befores nows others
+SendPosts datagrams befores nows failed = ⊥
+
+abbrev pub has_failed : Bool → Bool
+has_failed failed = failed
+
+-- ---- a run
+
+-- what the feed of a stream comes to, over a link that has this left before and that afterwards, with a clock that told this before and that afterwards, and posts that are seen so before and so now
+pub record Feeds (stream : Stream) (result : FeedEnd) (left later : Option (List Letter)) (before after : Option Ticking) (posts posts_now : List PostSeen) : Type 0 where
+  -- the readings: that of the opening, those before the first interval had begun, the first one then, and one for each event
+  pub opening : ℕ
+  pub early : List ℕ
+  pub begun : ℕ
+  pub heard : List Heard
+  pub rests : List ℕ
+  pub gives : Gives (opening ∷ early ++ begun ∷ map reading_of (events_of heard rests)) before after
+  pub waits : AllByRecursion (λ reading. interval_at stream.setup.times reading < first_interval stream.setup.times opening) early
+  pub begins : first_interval stream.setup.times opening ≤ interval_at stream.setup.times begun
+  -- the items left the link, in order
+  pub left_is : left ≡ after_letters (map letter_of heard) later
+  -- what was made, and what the posts sent of it
+  pub made : Feeding
+  pub made_is : made ≡ fed stream opening (events_of heard rests)
+  pub failed : List Bool
+  pub posts_are : SendPosts (datagrams_of stream made.log) posts posts_now failed
+  -- why it rested, and why it ended: all posts failed, or all keys of the last message were told after the end or the failure of the link
+  pub needed : AreNeeded stream (first_interval stream.setup.times opening) (fed stream opening (map came_of heard)) rests
+  pub told : list_all has_failed failed ≡ false → is_all_told stream made.log ≡ true
+  pub ended : list_all has_failed failed ≡ false → result.link_failed ≡ false → IfSome later (λ rest. rest ≡ [])
+  -- what it tells
+  pub counts : result.counts ≡ counts_of made
+  pub some_failed : result.post_failed ≡ list_any has_failed failed

@@ -1,0 +1,4 @@
+pub mod Fed
+pub mod Feed
+pub mod Steps
+pub mod Laws

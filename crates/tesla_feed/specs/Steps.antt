@@ -1,0 +1,133 @@
+-- What the inner steps of a feed come to.
+use Rattle.std.specs.Prelude.{◌≡◌, ◌×◌, ℕ, ◌+◌, ◌-◌, ◌^◌, ◌<◌, ◌≤◌, Bool, true, false, ◌&&◌, List, [], ◌∷◌, ◌++◌, length, map, min, nat_le, nat_lt, take, Option, Some, None, IfSome}
+use Rattle.std.specs.List.{AllByRecursion, fold, list_all}
+use denote.Ref.{Bor}
+use Rattle.tesla_clock.specs.Schedule.{Times}
+use Rattle.tesla_desk.specs.Clocks.{Gives, Ticking}
+use Rattle.tesla_desk.specs.Faults.{HasCause}
+use Rattle.tesla_desk.specs.Links.{after_letters}
+use Rattle.tesla_desk.specs.declared.link.Letter.{Letter}
+use Rattle.tesla_desk.specs.declared.link.Letter.TheVariants as letters
+use Rattle.tesla_posts.specs.Posts.{PostSeen, with_datagrams}
+use Rattle.tesla_sender.specs.Made.{Call, Chain, Stream, chains_of, index_told, interval_at, latest_of, messages_of, tells_all, tells_newer}
+use Rattle.tesla_sender.specs.declared.refusal.SendRefusal.{SendRefusal}
+use Rattle.tesla_sender.specs.declared.refusal.SendRefusal.TheVariants as unsent
+use Rattle.tesla_feed.specs.Fed.{Event, Came, Rested, Feeding, after_event, after_none, counts_of, datagram_of, datagrams_of, last_message, latest_from, nothing_fed, reading_of, told_by}
+use Rattle.tesla_feed.specs.Feed.{AreNeeded, Heard, SendPosts, came_of, has_failed, letter_of, rested_at}
+use Rattle.tesla_feed.specs.declared.counts.FeedCounts.{FeedCounts}
+use Rattle.tesla_feed.specs.declared.feeder.Feeder.{Feeder}
+use Rattle.tesla_feed.specs.declared.hearing.Hearing.{Hearing}
+use Rattle.tesla_feed.specs.declared.hearing.Hearing.TheVariants as hearings
+
+-- ---- counts
+
+-- a count of 64 bits after one more
+abbrev pub one_more : ℕ → ℕ
+one_more n = min (n + 1) (2 ^ 64 - 1)
+
+-- the counts after a message that is refused
+abbrev pub after_refusal : FeedCounts → SendRefusal → FeedCounts
+after_refusal counts (unsent.TooLong length) = record counts { too_long = one_more counts.too_long }
+after_refusal counts (unsent.Early reading) = record counts { early = one_more counts.early }
+after_refusal counts (unsent.Over interval) = record counts { over = one_more counts.over }
+after_refusal counts (unsent.Backward interval) = record counts { backward = one_more counts.backward }
+after_refusal counts (unsent.IntervalFull interval) = record counts { full = one_more counts.full }
+
+-- ---- the sender of a feed
+
+-- a disclosure in the interval is due, told the first interval and that of the last call
+abbrev pub is_due_after : Stream → ℕ → ℕ → ℕ → Bool
+is_due_after stream first latest interval = nat_le first interval && (nat_le latest interval && tells_newer latest interval (chains_of stream))
+
+-- the key of the interval of the last message was told on every chain, told the interval of the last call
+abbrev pub is_told_after : Stream → ℕ → ℕ → Bool
+is_told_after stream message latest = tells_all message latest (chains_of stream)
+
+-- a feeder of the stream, whose first interval this is, remembers what it needs of what was made
+pub record StandsFor (stream : Stream) (first : ℕ) (feeder : Feeder) (made : Feeding) : Type 0 where
+  pub stream_is : feeder.sender.stream ≡ stream
+  pub first_is : feeder.first ≡ first
+  pub from : feeder.sender.latest ≡ latest_from stream.setup.times first made.log
+  pub used : feeder.sender.used ≡ messages_of stream.setup.times feeder.sender.latest made.log
+  -- no message was sent in an interval after that
+  pub none_later : (interval : ℕ) → feeder.sender.latest < interval → messages_of stream.setup.times interval made.log ≡ 0
+  pub latest : feeder.latest ≡ latest_of stream.setup.times made.log
+  pub told : (chain : Chain) → told_by stream.setup.times made.log chain ≡ index_told feeder.latest chain
+  pub message : feeder.message ≡ last_message stream.setup.times made.log
+  pub counts : feeder.counts ≡ counts_of made
+
+-- a call more was made, and the datagram of its frame stands at the front of the room; or none was made
+abbrev pub Adds : Stream → List Call → List Call → Option ℕ → List ℕ → Type 0
+Adds stream before now None frame = now ≡ before
+Adds stream before now (Some size) frame = (call : Call) × (now ≡ before ++ call ∷ []) × (datagram_of stream before call ≡ take size frame ∷ []) × (size ≤ 2048)
+
+-- the feeder stands for what was made and this, and gives the length of the frame that was added
+pub record Makes (stream : Stream) (first : ℕ) (made after : Feeding) (feeder : Feeder) (result : Option ℕ) : Type 0 where
+  pub stands : StandsFor stream first feeder after
+  pub adds : Adds stream made.log after.log result feeder.frame
+
+-- ---- posts
+
+-- a datagram was handed to a post that hadn't failed, which sent it or failed; or it had failed, and is as before
+pub record HandsPost (datagram : List ℕ) (before now : PostSeen) (failed failed_now : Bool) : Type 0 where
+  pub name : now.name ≡ before.name
+  pub sent : failed_now ≡ false → now.sent ≡ with_datagrams before.sent (datagram ∷ [])
+  pub unsent : failed_now ≡ true → now.sent ≡ before.sent
+  pub cause : failed ≡ false → HasCause before.faults now.faults (failed_now ≡ true)
+  pub stays : failed ≡ true → (failed_now ≡ true) × (now.faults ≡ before.faults)
+
+-- the same of each post, with the marks of those that have failed
+abbrev pub HandPosts : List ℕ → List PostSeen → List PostSeen → List Bool → List Bool → Type 0
+HandPosts datagram [] [] [] [] = Unit {0}
+HandPosts datagram (before ∷ befores) (now ∷ nows) (failed ∷ others) (failed_now ∷ others_now) = HandsPost datagram before now failed failed_now × HandPosts datagram befores nows others others_now
+HandPosts datagram befores nows failed failed_now = ⊥
+
+-- ---- events
+
+-- what came: the bytes of a message, or none
+abbrev pub bytes_in : Option (Bor (List ℕ)) → Option (List ℕ)
+bytes_in None = None
+bytes_in (Some bytes) = Some bytes.now
+
+-- what is made after an item that is a message, or none
+abbrev pub after_item : Stream → ℕ → Feeding → ℕ → Option (List ℕ) → Feeding
+after_item stream first made reading (Some bytes) = after_event stream first made (Came reading (letters.Datagram bytes))
+after_item stream first made reading None = after_none stream first made reading
+
+-- this was made, and the posts, seen so at first, sent it
+pub record Goes (stream : Stream) (first : ℕ) (made : Feeding) (first_posts : List PostSeen) (feeder : Feeder) (posts : List PostSeen) (failed : List Bool) : Type 0 where
+  pub stands : StandsFor stream first feeder made
+  pub sends : SendPosts (datagrams_of stream made.log) first_posts posts failed
+
+-- the clock was read until the feeder's first interval had begun
+pub record Awaits (feeder now : Feeder) (before after : Option Ticking) : Type 0 where
+  pub early : List ℕ
+  pub begun : ℕ
+  pub gives : Gives (early ++ begun ∷ []) before after
+  pub waits : AllByRecursion (λ reading. interval_at feeder.sender.stream.setup.times reading < feeder.first) early
+  pub begins : feeder.first ≤ interval_at feeder.sender.stream.setup.times begun
+  pub same : now ≡ record feeder { reading = begun }
+
+-- what these events make of what was made before
+abbrev pub fed_after : Stream → ℕ → Feeding → List Event → Feeding
+fed_after stream first made events = fold (after_event stream first) made events
+
+-- items left the link, and what they ask for was done
+pub record Hears (stream : Stream) (first : ℕ) (feeder : Feeder) (failed : List Bool) (left later : Option (List Letter)) (before after : Option Ticking) (posts posts_now : List PostSeen) : Type 0 where
+  pub heard : List Heard
+  pub gives : Gives (map reading_of (map came_of heard)) before after
+  pub left_is : left ≡ after_letters (map letter_of heard) later
+  pub goes : Goes stream first (fed_after stream first nothing_fed (map came_of heard)) posts feeder posts_now failed
+
+-- why no more items were taken
+abbrev pub StopsHearing : Hearing → List Bool → Option (List Letter) → Type 0
+StopsHearing hearings.Ended failed later = IfSome later (λ rest. rest ≡ [])
+StopsHearing hearings.LinkFailed failed later = Unit {0}
+StopsHearing hearings.Unheard failed later = list_all has_failed failed ≡ true
+
+-- the gate rested, and what that asks for was done
+pub record Rests (stream : Stream) (first : ℕ) (made : Feeding) (first_posts : List PostSeen) (feeder : Feeder) (failed : List Bool) (before after : Option Ticking) (posts : List PostSeen) : Type 0 where
+  pub rests : List ℕ
+  pub gives : Gives (map reading_of (map rested_at rests)) before after
+  pub needed : AreNeeded stream first made rests
+  pub goes : Goes stream first (fed_after stream first made (map rested_at rests)) first_posts feeder posts failed

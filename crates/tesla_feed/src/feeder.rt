@@ -1,0 +1,154 @@
+//! The sender of a feed: which calls are made of it, and what it refuses.
+
+ghost use Rattle.std.specs.Prelude.{◌≡◌, ◌+◌, [], Some};
+ghost use Rattle.tesla_sender.specs.Made.{interval_at};
+ghost use Rattle.tesla_sender.specs.Stands.{Stands};
+ghost use Rattle.tesla_feed.specs.Fed.{Came, Feeding, after_event, after_none, first_interval, nothing_fed};
+ghost use Rattle.tesla_feed.specs.Steps.{Makes, StandsFor, is_due_after, is_told_after};
+ghost use Rattle.tesla_desk.specs.declared.link.Letter.TheVariants as letters;
+
+use crate::FeedCounts;
+use std::sync::ledger::Ledger;
+use tesla_base::Steps;
+use tesla_sender::{FRAME_ROOM, Sender};
+
+/// A sender with its room for a frame, and what a feed remembers of the calls that it made.
+#[derive(Drop)]
+pub struct Feeder {
+    sender: Sender,
+    /// The frame that was made last stands at its front.
+    pub frame: [u8; FRAME_ROOM],
+    // The first interval in which a call is made.
+    first: u64,
+    // The intervals of the last call and of the last message, 0 where there is none.
+    latest: u64,
+    message: u64,
+    // The last reading of the clock.
+    reading: u64,
+    counts: FeedCounts,
+}
+
+impl Feeder {
+    /// The feeder of a sender that has accepted no call, opened at this reading of the clock: it makes its calls after the
+    /// interval of that. The keys up to that of its first interval are made.
+    pub fn open<L: Ledger>(mut sender: Sender, opening: u64, steps: &mut Steps<L>) -> Feeder
+        requires { Stands sender [] }
+        ensures stands { StandsFor sender.stream (first_interval sender.stream.setup.times opening) result nothing_fed }
+    {
+        let first = sender.interval_at(opening) + 1;
+        sender.begin_at(first, steps);
+        Feeder {
+            sender,
+            frame: [0; FRAME_ROOM],
+            first,
+            latest: 0,
+            message: 0,
+            reading: opening,
+            counts: FeedCounts::new(),
+        }
+    }
+
+    /// What was counted.
+    pub fn counts(&self) -> FeedCounts
+        ensures { result ≡ self.now.counts }
+    {
+        self.counts
+    }
+
+    /// Notes a reading of the clock, and tells whether the first interval has begun by it.
+    pub fn has_begun(&mut self, reading: u64) -> bool
+        ensures begun { result ≡ nat_le self.old.first (interval_at self.old.sender.stream.setup.times reading) }
+        ensures same { self.new ≡ record self.old { reading = reading } }
+    {
+        self.reading = reading;
+        self.first <= self.sender.interval_at(reading)
+    }
+
+    /// Makes the frame of a message that came at this reading, or where it is refused that of a disclosure that is due, and
+    /// gives its length. `None`: no frame is made.
+    pub fn message<L: Ledger>(
+        &mut self,
+        reading: u64,
+        payload: &[u8],
+        steps: &mut Steps<L>,
+    ) -> Option<usize>
+        ensures { (made : Feeding) → StandsFor self.old.sender.stream self.old.first self.old made → Makes self.old.sender.stream self.old.first made (after_event self.old.sender.stream self.old.first made (Came reading (letters.Datagram payload.now))) self.new result }
+    {
+        match self
+            .sender
+            .message(reading, payload, &mut self.frame, steps)
+        {
+            Ok(length) => {
+                self.reading = reading;
+                self.latest = self.sender.interval_at(reading);
+                self.message = self.latest;
+                self.counts.messages = self.counts.messages.saturating_add(1);
+                Some(length)
+            }
+            Err(refusal) => {
+                self.counts.refuse(refusal);
+                self.disclose(reading, steps)
+            }
+        }
+    }
+
+    /// Makes the frame of a disclosure at this reading, where one is due, and gives its length. `None`: none is due.
+    pub fn disclose<L: Ledger>(&mut self, reading: u64, steps: &mut Steps<L>) -> Option<usize>
+        ensures { (made : Feeding) → StandsFor self.old.sender.stream self.old.first self.old made → Makes self.old.sender.stream self.old.first made (after_none self.old.sender.stream self.old.first made reading) self.new result }
+    {
+        self.reading = reading;
+        let interval = self.sender.interval_at(reading);
+        if !self.is_due(interval) {
+            return None;
+        }
+        let Ok(length) = self.sender.disclose(reading, &mut self.frame, steps) else {
+            unreachable!()
+        };
+        self.latest = interval;
+        self.counts.disclosures = self.counts.disclosures.saturating_add(1);
+        Some(length)
+    }
+
+    // Whether a disclosure in an interval would tell a newer key.
+    fn is_due(&self, interval: u64) -> bool
+        ensures { result ≡ is_due_after self.now.sender.stream self.now.first self.now.latest interval }
+    {
+        self.first <= interval
+            && self.latest <= interval
+            && self.sender.tells_newer(self.latest, interval)
+    }
+
+    /// Whether the key of the last message was told on every chain.
+    pub fn has_told_all(&self) -> bool
+        ensures { result ≡ is_told_after self.now.sender.stream self.now.message self.now.latest }
+    {
+        self.sender.tells_all(self.message, self.latest)
+    }
+
+    /// Makes the keys of the next interval, before it begins. Nothing is changed that the next calls answer.
+    pub fn make_next<L: Ledger>(&mut self, steps: &mut Steps<L>)
+        ensures { (made : Feeding) → StandsFor self.old.sender.stream self.old.first self.old made → StandsFor self.old.sender.stream self.old.first self.new made }
+    {
+        self.sender.make_next(steps);
+    }
+
+    /// How many microseconds after the last reading the first interval begins.
+    pub fn until_first(&self) -> u64 {
+        self.until(self.first)
+    }
+
+    /// How many microseconds after the last reading the next interval begins.
+    pub fn until_next(&self) -> u64 {
+        self.until(self.sender.interval_at(self.reading).saturating_add(1))
+    }
+
+    // How many microseconds after the last reading an interval begins, 0 where it has begun.
+    fn until(&self, interval: u64) -> u64 {
+        let schedule = self.sender.schedule();
+        let after = interval.saturating_mul(u64::from(schedule.length()));
+        schedule
+            .start()
+            .saturating_add(after)
+            .saturating_sub(self.reading)
+    }
+}

@@ -1,0 +1,140 @@
+//! What a feed does at each event, and the two loops of it: while the link brings items, and afterwards.
+
+ghost use Rattle.std.specs.Prelude.{◌≡◌, ◌≤◌, Bool, List, false, length, map, replicate};
+ghost use Rattle.std.specs.List.{All};
+ghost use Rattle.tesla_desk.specs.Faults.{HasCause};
+ghost use Rattle.tesla_posts.specs.Posts.{PostSeen};
+ghost use Rattle.tesla_feed.specs.Feed.{has_failed};
+ghost use Rattle.tesla_feed.specs.Fed.{Feeding, nothing_fed};
+ghost use Rattle.tesla_feed.specs.Steps.{Awaits, Goes, HearsAll, RestsAll, StandsFor, after_item, bytes_in};
+
+use crate::feeder::Feeder;
+use crate::posts::{hand, have_all_failed};
+use std::sync::Wait;
+use std::sync::ledger::Ledger;
+use tesla_base::Steps;
+use tesla_desk::{Clock, Gate, Got, Link, Post};
+
+/// Why a feed asks its link for nothing more.
+#[derive(Clone, Copy, Debug, PartialEq, Eq)]
+pub enum Hearing {
+    /// Nothing was left.
+    Ended,
+    /// The link failed.
+    LinkFailed,
+    /// All posts have failed.
+    Unheard,
+}
+
+/// Reads the clock until the first interval of the feed has begun. The gate rests between two readings.
+pub fn wait_to_begin<R: Wait, C: Clock, G: Gate>(
+    rt: &R,
+    feeder: &mut Feeder,
+    clock: &mut C,
+    gate: &mut G,
+)
+    ensures { Awaits feeder.old feeder.new (C.told clock.old) (C.told clock.new) }
+{
+    for _ in rt.forever() {
+        if feeder.has_begun(clock.now()) {
+            return;
+        }
+        gate.rest_for(feeder.until_first());
+    }
+    unreachable!()
+}
+
+// Does what an event at this reading asks for: a message came, or none did.
+fn take_event<L: Ledger, P: Post>(
+    feeder: &mut Feeder,
+    reading: u64,
+    payload: Option<&[u8]>,
+    posts: &mut [P],
+    failed: &mut [bool],
+    steps: &mut Steps<L>,
+)
+    requires each { length failed.old ≡ length posts.old }
+    ensures goes { let seen : List P → List PostSeen = λ posts. map (λ post. record { name = P.name post; sent = P.sent post; faults = P.faults post }) posts in
+        (made : Feeding) (first_posts : List PostSeen) → Goes feeder.old.sender.stream feeder.old.first made first_posts feeder.old (seen posts.old) failed.old
+        → Goes feeder.old.sender.stream feeder.old.first (after_item feeder.old.sender.stream feeder.old.first made reading (bytes_in payload)) first_posts feeder.new (seen posts.new) failed.new }
+    ensures each { (length posts.new ≡ length posts.old) × (length failed.new ≡ length failed.old) }
+{
+    let made = match payload {
+        Some(payload) => feeder.message(reading, payload, steps),
+        None => feeder.disclose(reading, steps),
+    };
+    if let Some(length) = made {
+        hand(&feeder.frame[..length], posts, failed);
+    }
+}
+
+/// Takes one item after another off the link, and does what it asks for at one reading of the clock, until the link ends or fails
+/// or all posts have failed. Where no message came the keys of the next interval are made. It waits for the link.
+pub fn hear_all<R: Wait, L: Ledger, K: Link, C: Clock, P: Post>(
+    rt: &R,
+    feeder: &mut Feeder,
+    link: &mut K,
+    clock: &mut C,
+    posts: &mut [P],
+    failed: &mut [bool],
+    steps: &mut Steps<L>,
+) -> Hearing
+    requires each { length failed.old ≡ length posts.old }
+    requires goes { let seen : List P → List PostSeen = λ posts. map (λ post. record { name = P.name post; sent = P.sent post; faults = P.faults post }) posts in
+        Goes feeder.old.sender.stream feeder.old.first nothing_fed (seen posts.old) feeder.old (seen posts.old) failed.old }
+    ensures hears { let seen : List P → List PostSeen = λ posts. map (λ post. record { name = P.name post; sent = P.sent post; faults = P.faults post }) posts in
+        Hears feeder.old.sender.stream feeder.old.first feeder.new failed.new (K.left link.old) (K.left link.new) (C.told clock.old) (C.told clock.new) (seen posts.old) (seen posts.new) }
+    ensures stops { StopsHearing result failed.new (K.left link.new) }
+    ensures cause { HasCause (K.faults link.old) (K.faults link.new) (result ≡ Hearing.LinkFailed) }
+    ensures name { K.name link.new ≡ K.name link.old }
+    ensures each { (length posts.new ≡ length posts.old) × (length failed.new ≡ length failed.old) }
+{
+    let mut buffer = [0; 2048];
+    for _ in rt.forever() {
+        if have_all_failed(failed) {
+            return Hearing::Unheard;
+        }
+        let payload = match link.next(&mut buffer) {
+            Got::Datagram(length) => Some(&buffer[..length]),
+            Got::Quiet => None,
+            Got::End => return Hearing::Ended,
+            Got::Failed => return Hearing::LinkFailed,
+        };
+        let reading = clock.now();
+        take_event(feeder, reading, payload, posts, failed, steps);
+        if payload.is_none() {
+            feeder.make_next(steps);
+        }
+        link.wait_at_most(feeder.until_next());
+    }
+    unreachable!()
+}
+
+/// Lets the gate rest until the next interval begins, and does what is due then, until the key of the last message was told on
+/// every chain or all posts have failed.
+pub fn tell_rest<R: Wait, L: Ledger, C: Clock, P: Post, G: Gate>(
+    rt: &R,
+    feeder: &mut Feeder,
+    clock: &mut C,
+    posts: &mut [P],
+    failed: &mut [bool],
+    gate: &mut G,
+    steps: &mut Steps<L>,
+)
+    requires each { length failed.old ≡ length posts.old }
+    ensures rests { let seen : List P → List PostSeen = λ posts. map (λ post. record { name = P.name post; sent = P.sent post; faults = P.faults post }) posts in
+        (made : Feeding) (first_posts : List PostSeen) → Goes feeder.old.sender.stream feeder.old.first made first_posts feeder.old (seen posts.old) failed.old
+        → Rests feeder.old.sender.stream feeder.old.first made first_posts feeder.new failed.new (C.told clock.old) (C.told clock.new) (seen posts.new) }
+    ensures ends { list_all has_failed failed.new ≡ false → is_told_after feeder.new.sender.stream feeder.new.message feeder.new.latest ≡ true }
+{
+    for _ in rt.forever() {
+        if have_all_failed(failed) || feeder.has_told_all() {
+            return;
+        }
+        gate.rest_for(feeder.until_next());
+        let reading = clock.now();
+        take_event(feeder, reading, None, posts, failed, steps);
+        feeder.make_next(steps);
+    }
+    unreachable!()
+}
