@@ -10,5 +10,5 @@ mod script_kind;
 mod words;
 
 pub use forms::SEND;
-pub use run::run_send;
+pub use run::{run_send, sender_of};
 pub use script_kind::ScriptKind;

@@ -106,8 +106,10 @@ fn send_counted<L: SendLedger, D: Desk>(
     send_files(sender, steps, arguments, desk)
 }
 
-// The sender of a setup and seeds.
-fn sender_of<L: Ledger>(
+/// The sender of a setup and of the seeds of its chains, as many as these. All its memory is taken here.
+///
+/// `Refused` with the line of the first seed that doesn't give the key of the setup, and `Failed` with `NoMemory`.
+pub fn sender_of<L: Ledger>(
     alloc: Global,
     setup: Setup,
     seeds: &Seeds,
