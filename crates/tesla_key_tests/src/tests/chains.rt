@@ -49,12 +49,12 @@ fn gives_next<L: Ledger>(traversal: &mut Traversal, keys: &[&str], steps: &mut S
     true
 }
 
-/// Whether a traversal has this chain's commitment, gives its other keys in order, then none, and keeps so many keys.
-/// What its whole life costs follows from the clauses of its calls.
+/// Whether a traversal has this chain's commitment, gives its other keys in order, then none, and keeps no more
+/// than `most` keys. What its whole life costs follows from the clauses of its calls.
 fn gives<L: Ledger>(
     alloc: Global,
     chain: &[&str],
-    kept: u32,
+    most: u32,
     steps: &mut Steps<L>,
 ) -> Result<bool, NoMemory>
     requires some { 2 ≤ length chain.now }
@@ -62,8 +62,8 @@ fn gives<L: Ledger>(
     ensures { steps.new ≤ steps.old + W (length chain.now - 1) }
 {
     let mut traversal = Traversal::open(alloc, SEED, chain.len() as u32 - 1, steps)?;
-    let begins = is_spelled(traversal.commitment(), chain[0]) && traversal.kept() == kept;
-    let goes_on = gives_next(&mut traversal, &chain[1..], steps) && traversal.kept() == kept;
+    let begins = is_spelled(traversal.commitment(), chain[0]) && traversal.kept() <= most;
+    let goes_on = gives_next(&mut traversal, &chain[1..], steps) && traversal.kept() <= most;
     Ok(begins && goes_on && traversal.next(steps).is_none())
 }
 
@@ -201,7 +201,7 @@ fn gives_longest<L: Ledger>(alloc: Global, blank: Blank) -> Result<bool, NoMemor
 {
     let mut steps = Steps::<L>::new(blank);
     let mut traversal = Traversal::open(alloc, SEED, MOST, &mut steps)?;
-    let mut met = is_spelled(traversal.commitment(), LONGEST[0]) && traversal.kept() == 42;
+    let mut met = is_spelled(traversal.commitment(), LONGEST[0]) && traversal.kept() <= 42;
     for given in 0..65_536u32 {
         let key = next_of_longest(&mut traversal, &mut steps);
         if let Some(digits) = LONGEST.get(given as usize + 1) {

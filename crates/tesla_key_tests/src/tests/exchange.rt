@@ -22,8 +22,8 @@ fn asks(rt: HostRuntime) -> Result<(), Fail> {
         (u64::MAX, "5441534b01ffffffffffffffff"),
     ] {
         let text = hex::decode(rt.alloc(), text.as_bytes())?;
-        assert_eq!(rt; write_ask(t_r).as_slice(), text.as_slice());
-        assert_eq!(rt; read_ask(text.as_slice()), Some(t_r));
+        assert!(rt; write_ask(t_r).as_slice() == text.as_slice());
+        assert!(rt; read_ask(text.as_slice()) == Some(t_r));
     }
     for text in [
         "",
@@ -33,7 +33,7 @@ fn asks(rt: HostRuntime) -> Result<(), Fail> {
         "545245500100000000004c4b40",
     ] {
         let bytes = hex::decode(rt.alloc(), text.as_bytes())?;
-        assert_eq!(rt; read_ask(bytes.as_slice()), None, "at {text}");
+        assert!(rt; read_ask(bytes.as_slice()).is_none(), "at {text}");
     }
     Ok(())
 }
@@ -68,9 +68,9 @@ fn replies(rt: HostRuntime) -> Result<(), Fail> {
     ] {
         let text = hex::decode(rt.alloc(), text.as_bytes())?;
         let made = reply_to::<Brand>(Blank::new(1), t_r, t_s);
-        assert_eq!(rt; made.as_slice(), text.as_slice());
+        assert!(rt; made.as_slice() == text.as_slice());
         let read = time_in::<Brand>(Blank::new(1), text.as_slice(), t_r);
-        assert_eq!(rt; read, Ok(t_s));
+        assert!(rt; read == Ok(t_s));
     }
     Ok(())
 }
@@ -79,12 +79,12 @@ fn replies(rt: HostRuntime) -> Result<(), Fail> {
 fn replies_that_are_refused(rt: HostRuntime) {
     let mut reply = reply_to::<Brand>(Blank::new(1), 5_000_000, 5_020_000);
     let ask = time_in::<Brand>(Blank::new(1), &write_ask(5_000_000), 5_000_000);
-    assert_eq!(rt; ask, Err(SyncRefusal::Malformed));
+    assert!(rt; ask == Err(SyncRefusal::Malformed));
     let other = time_in::<Brand>(Blank::new(1), &reply, 4_999_999);
-    assert_eq!(rt; other, Err(SyncRefusal::OtherAsk(5_000_000)));
+    assert!(rt; other == Err(SyncRefusal::OtherAsk(5_000_000)));
     reply[52] ^= 1;
     let altered = time_in::<Brand>(Blank::new(1), &reply, 4_999_999);
-    assert_eq!(rt; altered, Err(SyncRefusal::BadTag));
+    assert!(rt; altered == Err(SyncRefusal::BadTag));
 }
 
 #[test]

@@ -84,8 +84,8 @@ fn verifier_takes(rt: HostRuntime) {
 #[test]
 fn text_without_keys(rt: HostRuntime) -> Result<(), fmt::Error> {
     let verifier = format!(in rt.alloc(); "{:?}", Verifier::new(1, FIRST))?;
-    assert_eq!(rt; verifier.as_str(), "Verifier { index: 1, key: Key(..) }");
+    assert!(rt; verifier.as_str() == "Verifier { index: 1, key: Key(..) }");
     let bad = format!(in rt.alloc(); "{:?}", Offer::Bad { walked: FIRST })?;
-    assert_eq!(rt; bad.as_str(), "Bad { walked: Key(..) }");
+    assert!(rt; bad.as_str() == "Bad { walked: Key(..) }");
     Ok(())
 }
