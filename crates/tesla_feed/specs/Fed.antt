@@ -45,12 +45,15 @@ name_from times first log reading payload = name_after times (latest_from times 
 abbrev pub told_by : Times → List Call → Chain → ℕ
 told_by times log chain = fold (λ most call. max most (index_told (interval_in times call) chain)) 0 log
 
--- a disclosure at the reading is due after a log: it doesn't go backward, and on some chain it tells a newer key than every frame before
+-- on some chain a call in the interval tells a newer key than every frame of a log
+abbrev pub tells_more : Stream → List Call → ℕ → Bool
+tells_more stream log interval = list_any (λ chain. nat_lt (told_by stream.setup.times log chain) (index_told interval chain)) (chains_of stream)
+
+-- a disclosure at the reading is due after a log: it isn't in an interval before the first one or before that of the last call, and it tells a newer key
 abbrev pub is_due : Stream → ℕ → List Call → ℕ → Bool
 is_due stream first log reading =
-    let times = stream.setup.times in
-    let interval = interval_at times reading in
-    nat_le (latest_from times first log) interval && list_any (λ chain. nat_lt (told_by times log chain) (index_told interval chain)) (chains_of stream)
+    let interval = interval_at stream.setup.times reading in
+    nat_le first interval && (nat_le (latest_of stream.setup.times log) interval && tells_more stream log interval)
 
 -- ---- one event
 

@@ -1,5 +1,5 @@
 -- What the inner steps of a feed come to.
-use Rattle.std.specs.Prelude.{◌≡◌, ◌×◌, ℕ, ◌+◌, ◌-◌, ◌^◌, ◌<◌, ◌≤◌, Bool, true, false, ◌&&◌, List, [], ◌∷◌, ◌++◌, length, map, min, nat_le, nat_lt, take, Option, Some, None, IfSome}
+use Rattle.std.specs.Prelude.{◌≡◌, ℕ, ◌+◌, ◌-◌, ◌^◌, ◌<◌, ◌≤◌, Bool, true, false, ◌&&◌, List, [], ◌∷◌, ◌++◌, length, map, min, nat_le, nat_lt, take, Option, Some, None, IfSome}
 use Rattle.std.specs.List.{AllByRecursion, fold, list_all}
 use denote.Ref.{Bor}
 use Rattle.tesla_clock.specs.Schedule.{Times}
@@ -59,7 +59,7 @@ pub record StandsFor (stream : Stream) (first : ℕ) (feeder : Feeder) (made : F
 -- a call more was made, and the datagram of its frame stands at the front of the room; or none was made
 abbrev pub Adds : Stream → List Call → List Call → Option ℕ → List ℕ → Type 0
 Adds stream before now None frame = now ≡ before
-Adds stream before now (Some size) frame = (call : Call) × (now ≡ before ++ call ∷ []) × (datagram_of stream before call ≡ take size frame ∷ []) × (size ≤ 2048)
+Adds stream before now (Some size) frame = (call : Call) × (now ≡ before ++ call ∷ []) × (datagram_of stream before call ≡ take size frame ∷ [])
 
 -- the feeder stands for what was made and this, and gives the length of the frame that was added
 pub record Makes (stream : Stream) (first : ℕ) (made after : Feeding) (feeder : Feeder) (result : Option ℕ) : Type 0 where
@@ -98,6 +98,14 @@ after_item stream first made reading None = after_none stream first made reading
 pub record Goes (stream : Stream) (first : ℕ) (made : Feeding) (first_posts : List PostSeen) (feeder : Feeder) (posts : List PostSeen) (failed : List Bool) : Type 0 where
   pub stands : StandsFor stream first feeder made
   pub sends : SendPosts (datagrams_of stream made.log) first_posts posts failed
+
+-- the clock gave readings of an interval before the feeder's first one
+pub record WaitsOn (feeder now : Feeder) (before after : Option Ticking) : Type 0 where
+  pub early : List ℕ
+  pub gives : Gives early before after
+  pub waits : AllByRecursion (λ reading. interval_at feeder.sender.stream.setup.times reading < feeder.first) early
+  pub last : ℕ
+  pub same : now ≡ record feeder { reading = last }
 
 -- the clock was read until the feeder's first interval had begun
 pub record Awaits (feeder now : Feeder) (before after : Option Ticking) : Type 0 where

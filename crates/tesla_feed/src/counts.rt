@@ -45,13 +45,12 @@ impl FeedCounts {
     pub fn refuse(&mut self, refusal: SendRefusal)
         ensures { self.new ≡ after_refusal self.old refusal }
     {
-        let count = match refusal {
-            SendRefusal::TooLong(_) => &mut self.too_long,
-            SendRefusal::Early(_) => &mut self.early,
-            SendRefusal::Over(_) => &mut self.over,
-            SendRefusal::Backward(_) => &mut self.backward,
-            SendRefusal::IntervalFull(_) => &mut self.full,
-        };
-        *count = count.saturating_add(1);
+        match refusal {
+            SendRefusal::TooLong(_) => self.too_long = self.too_long.saturating_add(1),
+            SendRefusal::Early(_) => self.early = self.early.saturating_add(1),
+            SendRefusal::Over(_) => self.over = self.over.saturating_add(1),
+            SendRefusal::Backward(_) => self.backward = self.backward.saturating_add(1),
+            SendRefusal::IntervalFull(_) => self.full = self.full.saturating_add(1),
+        }
     }
 }

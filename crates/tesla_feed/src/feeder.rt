@@ -1,10 +1,10 @@
 //! The sender of a feed: which calls are made of it, and what it refuses.
 
-ghost use Rattle.std.specs.Prelude.{◌≡◌, ◌+◌, [], Some};
+ghost use Rattle.std.specs.Prelude.{◌≡◌, ◌≤◌, [], nat_le, IfSome};
 ghost use Rattle.tesla_sender.specs.Made.{interval_at};
 ghost use Rattle.tesla_sender.specs.Stands.{Stands};
 ghost use Rattle.tesla_feed.specs.Fed.{Came, Feeding, after_event, after_none, first_interval, nothing_fed};
-ghost use Rattle.tesla_feed.specs.Steps.{Makes, StandsFor, is_due_after, is_told_after};
+ghost use Rattle.tesla_feed.specs.Steps.{Makes, StandsFor, after_item, bytes_in, is_due_after, is_told_after};
 ghost use Rattle.tesla_desk.specs.declared.link.Letter.TheVariants as letters;
 
 use crate::FeedCounts;
@@ -64,15 +64,16 @@ impl Feeder {
         self.first <= self.sender.interval_at(reading)
     }
 
-    /// Makes the frame of a message that came at this reading, or where it is refused that of a disclosure that is due, and
-    /// gives its length. `None`: no frame is made.
-    pub fn message<L: Ledger>(
+    // Makes the frame of a message that came at this reading, or where it is refused that of a disclosure that is due, and
+    // gives its length. `None`: no frame is made.
+    fn message<L: Ledger>(
         &mut self,
         reading: u64,
         payload: &[u8],
         steps: &mut Steps<L>,
     ) -> Option<usize>
-        ensures { (made : Feeding) → StandsFor self.old.sender.stream self.old.first self.old made → Makes self.old.sender.stream self.old.first made (after_event self.old.sender.stream self.old.first made (Came reading (letters.Datagram payload.now))) self.new result }
+        ensures makes { (made : Feeding) → StandsFor self.old.sender.stream self.old.first self.old made → Makes self.old.sender.stream self.old.first made (after_event self.old.sender.stream self.old.first made (Came reading (letters.Datagram payload.now))) self.new result }
+        ensures room { IfSome result (λ length. length ≤ 2048) }
     {
         match self
             .sender
@@ -92,21 +93,39 @@ impl Feeder {
         }
     }
 
-    /// Makes the frame of a disclosure at this reading, where one is due, and gives its length. `None`: none is due.
-    pub fn disclose<L: Ledger>(&mut self, reading: u64, steps: &mut Steps<L>) -> Option<usize>
-        ensures { (made : Feeding) → StandsFor self.old.sender.stream self.old.first self.old made → Makes self.old.sender.stream self.old.first made (after_none self.old.sender.stream self.old.first made reading) self.new result }
+    // Makes the frame of a disclosure at this reading, where one is due, and gives its length. `None`: none is due.
+    fn disclose<L: Ledger>(&mut self, reading: u64, steps: &mut Steps<L>) -> Option<usize>
+        ensures makes { (made : Feeding) → StandsFor self.old.sender.stream self.old.first self.old made → Makes self.old.sender.stream self.old.first made (after_none self.old.sender.stream self.old.first made reading) self.new result }
+        ensures room { IfSome result (λ length. length ≤ 2048) }
     {
         self.reading = reading;
         let interval = self.sender.interval_at(reading);
         if !self.is_due(interval) {
             return None;
         }
+        // One that is due is accepted.
         let Ok(length) = self.sender.disclose(reading, &mut self.frame, steps) else {
-            unreachable!()
+            return None;
         };
         self.latest = interval;
         self.counts.disclosures = self.counts.disclosures.saturating_add(1);
         Some(length)
+    }
+
+    /// Does what an event at this reading asks for: a message came, or none did. It gives the length of the frame that is made.
+    pub fn take<L: Ledger>(
+        &mut self,
+        reading: u64,
+        payload: Option<&[u8]>,
+        steps: &mut Steps<L>,
+    ) -> Option<usize>
+        ensures makes { (made : Feeding) → StandsFor self.old.sender.stream self.old.first self.old made → Makes self.old.sender.stream self.old.first made (after_item self.old.sender.stream self.old.first made reading (bytes_in payload.entry)) self.new result }
+        ensures room { IfSome result (λ length. length ≤ 2048) }
+    {
+        match payload {
+            Some(payload) => self.message(reading, payload, steps),
+            None => self.disclose(reading, steps),
+        }
     }
 
     // Whether a disclosure in an interval would tell a newer key.

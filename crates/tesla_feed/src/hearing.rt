@@ -1,12 +1,12 @@
 //! What a feed does at each event, and the two loops of it: while the link brings items, and afterwards.
 
-ghost use Rattle.std.specs.Prelude.{◌≡◌, ◌≤◌, Bool, List, false, length, map, replicate};
-ghost use Rattle.std.specs.List.{All};
+ghost use Rattle.std.specs.Prelude.{◌≡◌, ◌≤◌, List, false, length, map, true};
 ghost use Rattle.tesla_desk.specs.Faults.{HasCause};
 ghost use Rattle.tesla_posts.specs.Posts.{PostSeen};
+ghost use Rattle.std.specs.List.{list_all};
 ghost use Rattle.tesla_feed.specs.Feed.{has_failed};
 ghost use Rattle.tesla_feed.specs.Fed.{Feeding, nothing_fed};
-ghost use Rattle.tesla_feed.specs.Steps.{Awaits, Goes, HearsAll, RestsAll, StandsFor, after_item, bytes_in};
+ghost use Rattle.tesla_feed.specs.Steps.{Awaits, Goes, Hears, Rests, StopsHearing, StandsFor, is_told_after, after_item, bytes_in};
 
 use crate::feeder::Feeder;
 use crate::posts::{hand, have_all_failed};
@@ -56,14 +56,10 @@ fn take_event<L: Ledger, P: Post>(
     requires each { length failed.old ≡ length posts.old }
     ensures goes { let seen : List P → List PostSeen = λ posts. map (λ post. record { name = P.name post; sent = P.sent post; faults = P.faults post }) posts in
         (made : Feeding) (first_posts : List PostSeen) → Goes feeder.old.sender.stream feeder.old.first made first_posts feeder.old (seen posts.old) failed.old
-        → Goes feeder.old.sender.stream feeder.old.first (after_item feeder.old.sender.stream feeder.old.first made reading (bytes_in payload)) first_posts feeder.new (seen posts.new) failed.new }
+        → Goes feeder.old.sender.stream feeder.old.first (after_item feeder.old.sender.stream feeder.old.first made reading (bytes_in payload.entry)) first_posts feeder.new (seen posts.new) failed.new }
     ensures each { (length posts.new ≡ length posts.old) × (length failed.new ≡ length failed.old) }
 {
-    let made = match payload {
-        Some(payload) => feeder.message(reading, payload, steps),
-        None => feeder.disclose(reading, steps),
-    };
-    if let Some(length) = made {
+    if let Some(length) = feeder.take(reading, payload, steps) {
         hand(&feeder.frame[..length], posts, failed);
     }
 }
@@ -94,18 +90,19 @@ pub fn hear_all<R: Wait, L: Ledger, K: Link, C: Clock, P: Post>(
         if have_all_failed(failed) {
             return Hearing::Unheard;
         }
-        let payload = match link.next(&mut buffer) {
-            Got::Datagram(length) => Some(&buffer[..length]),
-            Got::Quiet => None,
+        link.wait_at_most(feeder.until_next());
+        match link.next(&mut buffer) {
+            Got::Datagram(length) => {
+                let payload = Some(&buffer[..length]);
+                take_event(feeder, clock.now(), payload, posts, failed, steps);
+            }
+            Got::Quiet => {
+                take_event(feeder, clock.now(), None, posts, failed, steps);
+                feeder.make_next(steps);
+            }
             Got::End => return Hearing::Ended,
             Got::Failed => return Hearing::LinkFailed,
-        };
-        let reading = clock.now();
-        take_event(feeder, reading, payload, posts, failed, steps);
-        if payload.is_none() {
-            feeder.make_next(steps);
         }
-        link.wait_at_most(feeder.until_next());
     }
     unreachable!()
 }
@@ -125,6 +122,7 @@ pub fn tell_rest<R: Wait, L: Ledger, C: Clock, P: Post, G: Gate>(
     ensures rests { let seen : List P → List PostSeen = λ posts. map (λ post. record { name = P.name post; sent = P.sent post; faults = P.faults post }) posts in
         (made : Feeding) (first_posts : List PostSeen) → Goes feeder.old.sender.stream feeder.old.first made first_posts feeder.old (seen posts.old) failed.old
         → Rests feeder.old.sender.stream feeder.old.first made first_posts feeder.new failed.new (C.told clock.old) (C.told clock.new) (seen posts.new) }
+    ensures stays { list_all has_failed failed.old ≡ true → failed.new ≡ failed.old }
     ensures ends { list_all has_failed failed.new ≡ false → is_told_after feeder.new.sender.stream feeder.new.message feeder.new.latest ≡ true }
 {
     for _ in rt.forever() {

@@ -1,0 +1,4 @@
+mod Counting
+mod Kept
+mod Going
+mod Whole

@@ -1,0 +1,116 @@
+-- A whole feed, put together from its parts.
+use Rattle.std.proofs.Common.{◌≡◌, ◌∙◌, ℕ, ◌+◌, ◌<◌, ◌≤◌, Bool, true, false, List, [], ◌∷◌, ◌++◌, length, map, take, Option, Some, None, refl, sym, ap, subst, append_assoc, append-nil, arith}
+use Rattle.std.specs.Prelude.{IfSome, not}
+use Rattle.std.specs.List.{AllByRecursion, fold, list_all, list_any}
+use Rattle.std.proofs.lemmas.List.Sums.{fold-append}
+use Rattle.tesla_desk.specs.Clocks.{Gives, Ticking, Ticks}
+use Rattle.tesla_desk.specs.declared.link.Letter.{Letter}
+use Rattle.tesla_posts.specs.Posts.{PostSeen, with_datagrams}
+use Rattle.tesla_sender.specs.Made.{Stream, interval_at}
+use Rattle.tesla_feed.specs.Fed.{Event, Feeding, after_event, counts_of, datagrams_of, fed, first_interval, is_all_told, nothing_fed, reading_of}
+use Rattle.tesla_feed.specs.Feed.{Feeds, SendPosts, came_of, events_of, has_failed, rested_at}
+use Rattle.tesla_feed.specs.Steps.{Awaits, Goes, Hears, Rests, StandsFor, StopsHearing, fed_after, is_told_after}
+use Rattle.tesla_feed.specs.declared.counts.FeedCounts.{FeedCounts}
+use Rattle.tesla_feed.specs.declared.feeder.Feeder.{Feeder}
+use Rattle.tesla_feed.specs.declared.feeding.FeedEnd.{FeedEnd}
+use Rattle.tesla_feed.specs.declared.hearing.Hearing.{Hearing}
+use Rattle.tesla_feed.specs.declared.hearing.Hearing.TheVariants as hearings
+use Rattle.tesla_feed.proofs.Going.{both_ways}
+use Rattle.tesla_feed.proofs.Kept.{noted_stands, told_is}
+
+-- ---- the beginning
+
+unsent : (sent : Option (List (List ℕ))) → sent ≡ with_datagrams sent []
+unsent None = refl
+unsent (Some front) = ap (λ (ds : List (List ℕ)). Some ds) (sym (append-nil front))
+
+-- nothing was sent, and no post has failed
+pub none_sent : {A : Type 0} (f : A → PostSeen) (xs : List A) (marks : List Bool) → length xs ≤ length marks → list_all not marks ≡ true → SendPosts [] (map f xs) (map f xs) (take (length xs) marks)
+none_sent f [] marks few none = tt
+none_sent f (x ∷ xs) [] few none = absurd (omega arith)
+none_sent f (x ∷ xs) (true ∷ marks) few none = absurd cc
+none_sent f (x ∷ xs) (false ∷ marks) few none = (
+  record { sends = 0; all = λ e. refl; front = λ e. absurd cc; sent = unsent (f x).sent; name = refl; cause = record { stays = omega arith; rose = λ e. absurd cc; still = λ e. refl } },
+  none_sent f xs marks (omega arith) none,
+)
+
+-- the first interval has begun
+pub begun_stands : (stream : Stream) (first : ℕ) (feeder now : Feeder) (before after : Option Ticking) → StandsFor stream first feeder nothing_fed → Awaits feeder now before after → StandsFor now.sender.stream now.first now nothing_fed
+begun_stands stream first feeder now before after stands awaits =
+    let P : Feeder → Type 0 = λ f. StandsFor f.sender.stream f.first f nothing_fed in
+    let noted = noted_stands stream first feeder nothing_fed awaits.begun stands in
+    let it : Feeder = record feeder { reading = awaits.begun } in
+    let own = subst (λ (s : Stream). StandsFor s feeder.first it nothing_fed) (sym stands.stream_is) (subst (λ (f : ℕ). StandsFor stream f it nothing_fed) (sym stands.first_is) noted) in
+    subst P (sym awaits.same) own
+
+-- ---- readings
+
+gives_both : (readings more : List ℕ) (before mid after : Option Ticking) → Gives readings before mid → Gives more mid after → Gives (readings ++ more) before after
+gives_both [] more before mid after first then = subst (λ (told : Option Ticking). Gives more told after) first then
+gives_both (reading ∷ readings) more before mid after first then = (first.0, first.1, gives_both readings more first.0 mid after first.2 then)
+
+map_both : {A B : Type 0} (f : A → B) (xs ys : List A) → map f (xs ++ ys) ≡ map f xs ++ map f ys
+map_both f [] ys = refl
+map_both f (x ∷ xs) ys = ap (λ zs. f x ∷ zs) (map_both f xs ys)
+
+-- ---- the end
+
+-- nothing is left of the link, where it didn't fail and not all posts did
+ended : (hearing : Hearing) (mid failed : List Bool) (later : Option (List Letter)) → StopsHearing hearing mid later → (hearing ≡ hearings.LinkFailed → ⊥) → (list_all has_failed mid ≡ true → failed ≡ mid) → list_all has_failed failed ≡ false → IfSome later (λ rest. rest ≡ [])
+ended hearings.Ended mid failed later stops no_fault stays some = stops
+ended hearings.LinkFailed mid failed later stops no_fault stays some = absurd (no_fault refl)
+ended hearings.Unheard mid failed later stops no_fault stays some = absurd (both_ways (list_all has_failed failed) (ap (list_all has_failed) (stays stops) ∙ stops) some)
+
+-- the parts of a run, in order
+pub record Parts (stream : Stream) (opening : ℕ) (opened begun heard told : Feeder) (marks failed : List Bool) (hearing : Hearing) (left later : Option (List Letter)) (first second third fourth last : Option Ticking) (posts mid now : List PostSeen) : Type 0 where
+  pub ticks : Ticks first second opening
+  pub stands : StandsFor stream (first_interval stream.setup.times opening) opened nothing_fed
+  pub awaits : Awaits opened begun second third
+  pub hears : Hears begun.sender.stream begun.first heard marks left later third fourth posts mid
+  pub stops : StopsHearing hearing marks later
+  pub rests : (made : Feeding) (first_posts : List PostSeen) → Goes heard.sender.stream heard.first made first_posts heard mid marks → Rests heard.sender.stream heard.first made first_posts told failed fourth last now
+  pub stays : list_all has_failed marks ≡ true → failed ≡ marks
+  pub ends : list_all has_failed failed ≡ false → is_told_after told.sender.stream told.message told.latest ≡ true
+
+pub feeds_all : (stream : Stream) (opening : ℕ) (opened begun heard told : Feeder) (marks failed : List Bool) (hearing : Hearing) (result : FeedEnd) (left later : Option (List Letter)) (first second third fourth last : Option Ticking) (posts mid now : List PostSeen)
+    → Parts stream opening opened begun heard told marks failed hearing left later first second third fourth last posts mid now → (result.link_failed ≡ false → hearing ≡ hearings.LinkFailed → ⊥) → result.post_failed ≡ list_any has_failed failed → result.counts ≡ told.counts
+    → Feeds stream result left later first last posts now
+feeds_all stream opening opened begun heard told marks failed hearing result left later first second third fourth last posts mid now parts link_failed post_failed counts =
+    let from = first_interval stream.setup.times opening in
+    let same_stream : begun.sender.stream ≡ stream = ap (λ (f : Feeder). f.sender.stream) parts.awaits.same ∙ parts.stands.stream_is in
+    let same_first : begun.first ≡ from = ap (λ (f : Feeder). f.first) parts.awaits.same ∙ parts.stands.first_is in
+    let hears : Hears stream from heard marks left later third fourth posts mid =
+    subst (λ (s : Stream). Hears s from heard marks left later third fourth posts mid) same_stream (subst (λ (f : ℕ). Hears begun.sender.stream f heard marks left later third fourth posts mid) same_first parts.hears) in
+    let came = map came_of hears.heard in
+    let made = fed_after stream from nothing_fed came in
+    let goes = hears.goes in
+    let P : Stream → ℕ → Type 0 = λ s f. Goes s f made posts heard mid marks → Rests s f made posts told failed fourth last now in
+    let rests : Rests stream from made posts told failed fourth last now = subst (λ (f : ℕ). P stream f) goes.stands.first_is (subst (λ (s : Stream). P s heard.first) goes.stands.stream_is (parts.rests made posts)) goes in
+    let rested = map rested_at rests.rests in
+    let all = fed_after stream from made rested in
+    let whole : all ≡ fed stream opening (came ++ rested) = sym (fold-append (after_event stream from) nothing_fed came rested) in
+    let readings : Gives (map reading_of (came ++ rested)) third last = subst (λ (rs : List ℕ). Gives rs third last) (sym (map_both reading_of came rested)) (gives_both (map reading_of came) (map reading_of rested) third fourth last hears.gives rests.gives) in
+    let early = parts.awaits.early in
+    let begins = parts.awaits.begun in
+    let waited : Gives (early ++ begins ∷ map reading_of (came ++ rested)) second last =
+    subst (λ (rs : List ℕ). Gives rs second last) (append_assoc early (begins ∷ []) (map reading_of (came ++ rested))) (gives_both (early ++ begins ∷ []) (map reading_of (came ++ rested)) second third last parts.awaits.gives readings) in
+    record {
+      opening = opening;
+      early = early;
+      begun = begins;
+      heard = hears.heard;
+      rests = rests.rests;
+      gives = (second, parts.ticks, waited);
+      waits = (let W : Stream → ℕ → Type 0 = λ s f. AllByRecursion (λ reading. interval_at s.setup.times reading < f) early in subst (λ (f : ℕ). W stream f) parts.stands.first_is (subst (λ (s : Stream). W s opened.first) parts.stands.stream_is parts.awaits.waits));
+      begins = (let B : Stream → ℕ → Type 0 = λ s f. f ≤ interval_at s.setup.times begins in subst (λ (f : ℕ). B stream f) parts.stands.first_is (subst (λ (s : Stream). B s opened.first) parts.stands.stream_is parts.awaits.begins));
+      left_is = hears.left_is;
+      made = all;
+      made_is = whole;
+      failed = failed;
+      posts_are = rests.goes.sends;
+      needed = rests.needed;
+      told = λ some. told_is stream from told all rests.goes.stands ∙ ap (λ (s : Stream). is_told_after s told.message told.latest) (sym rests.goes.stands.stream_is) ∙ parts.ends some;
+      ended = λ some fault. ended hearing marks failed later parts.stops (link_failed fault) parts.stays some;
+      counts = counts ∙ rests.goes.stands.counts;
+      some_failed = post_failed;
+    }

@@ -1,0 +1,18 @@
+use Rattle.std.proofs.Common.{◌≡◌, List, length, map}
+use Rattle.tesla_posts.specs.Posts.{PostSeen}
+use Rattle.tesla_feed.specs.Steps.{Hears}
+use Rattle.tesla_feed.proofs.hearing.hear_all.Given as goal
+
+abbrev pub invariant-loop : goal.invariant-loop
+invariant-loop g l =
+    let seen = λ (posts : List g.row.P.Denot). map (λ post. let it : PostSeen = record { name = g.P.Post.name post; sent = g.P.Post.sent post; faults = g.P.Post.faults post } in it) posts in
+    let first = l.initial.feeder in
+    record {
+      size : length l.buffer ≡ 2048;
+      each : length l.failed ≡ length l.posts;
+      posts : length l.posts ≡ length l.initial.posts;
+      marks : length l.failed ≡ length l.initial.failed;
+      hears : Hears first.sender.stream first.first l.feeder l.failed (g.K.Link.left l.initial.link) (g.K.Link.left l.link) (g.C.Clock.told l.initial.clock) (g.C.Clock.told l.clock) (seen l.initial.posts) (seen l.posts);
+      read : g.K.Link.faults l.link ≡ g.K.Link.faults l.initial.link;
+      name : g.K.Link.name l.link ≡ g.K.Link.name l.initial.link;
+    }
