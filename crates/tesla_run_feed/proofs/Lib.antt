@@ -1,0 +1,5 @@
+mod Steps
+mod Ended
+mod Mailed
+mod Fed
+mod Performed

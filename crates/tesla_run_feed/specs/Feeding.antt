@@ -1,0 +1,132 @@
+-- What the command feed does.
+use Rattle.std.specs.Prelude.{◌≡◌, ◌≢◌, ◌⊎◌, ℕ, ◌+◌, ◌<◌, ◌≤◌, Bool, true, false, List, [], ◌∷◌, ◌++◌, length, map, take, Option, Some, None}
+use Rattle.std.specs.List.{AllByRecursion, list_all, list_any}
+use Rattle.std.specs.Option.{option_map}
+use Rattle.tesla_base.specs.declared.names.Key.{Key}
+use Rattle.tesla_commit.specs.Parts.{Parts}
+use Rattle.tesla_convert.specs.Meaning.{StopsAtSetup}
+use Rattle.tesla_desk.specs.Faults.{raised}
+use Rattle.tesla_desk.specs.Live.{Live, Remainder, LeavesAll, Mail}
+use Rattle.tesla_feed.specs.Fed.{Feeding, counts_of, datagrams_of, fed, first_interval, is_all_told, reading_of}
+use Rattle.tesla_feed.specs.Feed.{AreNeeded, Heard, came_of, events_of, has_failed, letter_of}
+use Rattle.tesla_front.specs.Came.{Came, Done, Failed}
+use Rattle.tesla_front.specs.Command.{Command}
+use Rattle.tesla_front.specs.Openings.{File}
+use Rattle.tesla_front.specs.Setup.{IsSetupIn}
+use Rattle.tesla_front.specs.declared.fault.Fault.TheVariants as faults
+use Rattle.tesla_names.specs.Names.{IsNoneOf}
+use Rattle.tesla_posts.specs.Closed.{IsUnsent}
+use Rattle.tesla_run_feed.specs.Arguments.{FeedArguments, IsFeedForm, files_of_feed}
+use Rattle.tesla_run_feed.specs.Lines.{lines_of}
+use Rattle.tesla_run_play.specs.Playing.{ReadWhere}
+use Rattle.tesla_run_relay.specs.Relay.{HasBroken, HasEnded, HoldsSent, LeftWhere}
+use Rattle.tesla_run_send.specs.Send.{AreSeeds, StopsAtSeeds, wrong_line}
+use Rattle.tesla_sender.specs.Made.{Stream, interval_at}
+
+-- ---- nothing was fed
+
+-- the link or a post wasn't opened, or there was no memory: no letter left the link, no post sent anything, and no clock was made
+pub record Stops (arguments : FeedArguments) (before now : Live) (came : Came) : Type 0 where
+  pub unheard : (now.left arguments.link ≡ before.left arguments.link) ⊎ LeavesAll (before.wire arguments.link) (now.left arguments.link)
+  pub unsent : (name : List ℕ) → (now.mail name ≡ before.mail name) ⊎ IsUnsent (now.mail name)
+  pub made : now.made ≡ before.made
+  pub cause : (came ≡ Failed faults.Open) ⊎ (came ≡ Failed faults.NoMemory)
+
+-- ---- the posts
+
+-- a post sent these datagrams, in order and each once; where it failed, a front of them
+pub record SendsPost (datagrams : List (List ℕ)) (mail : Mail) (failed : Bool) : Type 0 where
+  pub sends : ℕ
+  pub all : failed ≡ false → sends ≡ length datagrams
+  pub front : failed ≡ true → sends < length datagrams
+  pub sent : HoldsSent (take sends datagrams) failed mail
+
+-- the same of each post, with the mail under its name, told which failed
+abbrev pub SendPosts : List (List ℕ) → List (List ℕ) → Live → List Bool → Type 0
+SendPosts datagrams [] now [] = Unit {0}
+SendPosts datagrams (name ∷ names) now (failed ∷ others) = SendsPost datagrams (now.mail name) failed × SendPosts datagrams names now others
+SendPosts datagrams names now failed = ⊥
+
+-- ---- the end
+
+-- the link didn't fail, where that is told
+abbrev pub IsUnbroken : Option Remainder → Type 0
+IsUnbroken None = Unit {0}
+IsUnbroken (Some remainder) = remainder.failed ≡ false
+
+-- all posts failed
+abbrev pub HaveAllFailed : List Bool → Type 0
+HaveAllFailed failed = list_all has_failed failed ≡ true
+
+-- the key of the last message's interval was told on every chain
+abbrev pub IsAllTold : Stream → Feeding → Type 0
+IsAllTold stream made = is_all_told stream made.log ≡ true
+
+-- how it ends. The link has ended and no post failed: the lines tell the counts. Or the link failed, or else a post did. In each case all is told before, unless all posts failed
+abbrev pub EndsAs : Stream → Option Remainder → Feeding → List Bool → Came → Type 0
+EndsAs stream remainder made failed (Done text) = (text ≡ lines_of (counts_of made)) × (list_any has_failed failed ≡ false) × IsAllTold stream made × HasEnded remainder
+EndsAs stream remainder made failed (Failed faults.Read) = HasBroken remainder × (HaveAllFailed failed ⊎ IsAllTold stream made)
+EndsAs stream remainder made failed (Failed faults.Write) = (list_any has_failed failed ≡ true) × IsUnbroken remainder × (HaveAllFailed failed ⊎ (IsAllTold stream made × HasEnded remainder))
+EndsAs stream remainder made failed _ = ⊥
+
+-- ---- a run
+
+-- what came over the link was fed to the posts by the sender of the stream
+pub record FeedsLink (arguments : FeedArguments) (stream : Stream) (before now : Live) (came : Came) : Type 0 where
+  -- the readings of the next clock: that of the opening, those before the first interval had begun, the first one then, and one for each event
+  pub opening : ℕ
+  pub early : List ℕ
+  pub begun : ℕ
+  pub heard : List Heard
+  pub rests : List ℕ
+  pub clock : ReadWhere (opening ∷ early ++ begun ∷ map reading_of (events_of heard rests)) before.readings before.made
+  pub clock_made : now.made ≡ option_map raised before.made
+  pub waits : AllByRecursion (λ reading. interval_at stream.setup.times reading < first_interval stream.setup.times opening) early
+  pub begins : first_interval stream.setup.times opening ≤ interval_at stream.setup.times begun
+  -- what was heard left the link, in order
+  pub link : LeftWhere (map letter_of heard) (before.wire arguments.link) (now.left arguments.link)
+  -- what was made of it, and what each post sent of that
+  pub made : Feeding
+  pub made_is : made ≡ fed stream opening (events_of heard rests)
+  pub failed : List Bool
+  pub posts : SendPosts (datagrams_of stream made.log) arguments.posts now failed
+  -- why it rested behind the link, and how it ends
+  pub needed : AreNeeded stream (first_interval stream.setup.times opening) (fed stream opening (map came_of heard)) rests
+  pub ends : EndsAs stream (now.left arguments.link) made failed came
+
+-- what is done with a sender of the stream, told how many files were asked to be opened: nothing was fed, or all were opened, and the link was fed to the posts
+abbrev pub FeedsOrStops : FeedArguments → Stream → ℕ → Live → Live → Came → Type 0
+FeedsOrStops arguments stream opened before now came = Stops arguments before now came ⊎ ((opened ≡ 3 + length arguments.posts) × FeedsLink arguments stream before now came)
+
+-- ---- the command
+
+-- with the seeds, which are right
+pub record FeedsWith (arguments : FeedArguments) (setup : Parts) (secret : File) (before now : Live) (opened : ℕ) (came : Came) : Type 0 where
+  pub seeds : List Key
+  pub are : AreSeeds setup secret.page seeds
+  pub right : wrong_line (record { setup = setup; seeds = seeds }) ≡ None
+  pub does : FeedsOrStops arguments (record { setup = setup; seeds = seeds }) opened before now came
+
+-- a setup was found, and under it there were no seeds or no sender with them, or what follows was done
+pub record FeedsUnder (arguments : FeedArguments) (setup secret : File) (before now : Live) (opened : ℕ) (came : Came) : Type 0 where
+  pub parts : Parts
+  pub found : IsSetupIn setup.page parts
+  pub does : (StopsAtSeeds parts secret opened came × (now ≡ before)) ⊎ FeedsWith arguments parts secret before now opened came
+
+-- what is told of links, posts and clocks is as before, but for what is left of this link, the mail of these posts and how many clocks were made
+pub record TouchesLive (link : List ℕ) (posts : List (List ℕ)) (before now : Live) : Type 0 where
+  pub wires : (name : List ℕ) → now.wire name ≡ before.wire name
+  pub others : (name : List ℕ) → name ≢ link → now.left name ≡ before.left name
+  pub mails : (name : List ℕ) → IsNoneOf name posts → now.mail name ≡ before.mail name
+  pub readings : now.readings ≡ before.readings
+
+-- what the run does, told the files in the order of the words: there is no setup, or what follows was done under it
+abbrev pub DoesFeed : Live → Live → FeedArguments → ℕ → List File → List File → Came → Type 0
+DoesFeed before now arguments opened (setup ∷ secret ∷ files) files_now came =
+    TouchesLive arguments.link arguments.posts before now
+    × ((StopsAtSetup setup opened came × (now ≡ before)) ⊎ FeedsUnder arguments setup secret before now opened came)
+DoesFeed before now arguments opened files files_now came = ⊥
+
+-- the command, told what the desk has of links, posts and clocks before and afterwards: its words, its files and what it does
+abbrev pub feed : Live → Live → Command
+feed before now = record { Arguments = FeedArguments; IsForm = IsFeedForm; files = files_of_feed; Does = DoesFeed before now }

@@ -1,0 +1,5 @@
+pub mod Arguments
+pub mod Lines
+pub mod Feeding
+pub mod Steps
+pub mod Usage

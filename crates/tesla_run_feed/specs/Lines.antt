@@ -1,0 +1,31 @@
+-- The lines that tell what a feed came to.
+use Rattle.std.specs.Prelude.{ℕ, Bool, true, false, List, ◌++◌, codes}
+use Rattle.tesla_feed.specs.declared.counts.FeedCounts.{FeedCounts}
+use Rattle.tesla_feed.specs.declared.feeding.FeedEnd.{FeedEnd}
+use Rattle.tesla_front.specs.Came.{Came, Done, Failed}
+use Rattle.tesla_front.specs.Lines.{count_line}
+use Rattle.tesla_front.specs.declared.fault.Fault.TheVariants as faults
+
+-- how many messages and disclosures were sent
+abbrev pub sent_lines : FeedCounts → List ℕ
+sent_lines counts = count_line (codes "messages") counts.messages ++ count_line (codes "disclosures") counts.disclosures
+
+-- how many messages were refused, by the cause
+abbrev pub refused_lines : FeedCounts → List ℕ
+refused_lines counts =
+    count_line (codes "toolong") counts.too_long ++ count_line (codes "early") counts.early ++ count_line (codes "over") counts.over
+    ++ count_line (codes "backward") counts.backward ++ count_line (codes "full") counts.full
+
+-- all lines
+abbrev pub lines_of : FeedCounts → List ℕ
+lines_of counts = sent_lines counts ++ refused_lines counts
+
+-- what a feed came to, told whether the link failed and whether a post did
+abbrev pub came_by : Bool → Bool → FeedCounts → Came
+came_by true post_failed counts = Failed faults.Read
+came_by false true counts = Failed faults.Write
+came_by false false counts = Done (lines_of counts)
+
+-- what a feed came to: a failed link, else a failed post, else the lines
+abbrev pub came_with : FeedEnd → Came
+came_with end = came_by end.link_failed end.post_failed end.counts

@@ -1,0 +1,241 @@
+//! A run of the command `feed`.
+
+ghost use Rattle.std.specs.Prelude.{◌≡◌, ◌<◌, ◌≤◌, ℕ, [], List, length, map, string_bytes, true, vec_capacity};
+ghost use Rattle.tesla_desk.specs.Faults.{HasCause};
+ghost use Rattle.tesla_front.specs.Came.{came_of, outcome_came};
+ghost use Rattle.tesla_front.specs.Command.{Performs, RunsAs};
+ghost use Rattle.tesla_posts.specs.Opening.{name_of};
+ghost use Rattle.tesla_posts.specs.Posts.{PostSeen};
+ghost use Rattle.tesla_sender.specs.Stands.{Stands};
+ghost use Rattle.tesla_run_feed.specs.Arguments.{IsFeedForm, arguments_of};
+ghost use Rattle.tesla_run_feed.specs.Feeding.{feed};
+ghost use Rattle.tesla_run_feed.specs.Steps.{FeedsFiles, FeedsMade, FeedsSeeded, FeedsSetup, OpensAndFeeds, RunsLinked};
+
+use crate::arguments::Arguments;
+use crate::lines::lines_after;
+use crate::seeds::seeds_under;
+use crate::words::arguments_in;
+use std::alloc::Global;
+use std::marker::Brand;
+use std::sync::Wait;
+use std::sync::ledger::{Blank, Ledger};
+use tesla_base::Steps;
+use tesla_commit::Setup;
+use tesla_desk::Desk;
+use tesla_feed::{FeedEnd, feed};
+use tesla_front::{Fault, Lines, Outcome, Stop, outcome_of, setup_under};
+use tesla_posts::{close_posts, open_posts};
+use tesla_run_send::sender_of;
+use tesla_seeds::Seeds;
+use tesla_sender::Sender;
+
+/// Runs the words as those of `feed`: each datagram that leaves LINK is a message of the sender of SETUP with the seeds in
+/// SECRET, at the reading of the clock when it came, and its frame is sent by each of POSTS in their order. Keys are
+/// sent when they are due, also while nothing comes, and after the end of LINK until the key of the last message was
+/// sent. SECRET is opened after SETUP was judged, LINK after the sender was opened with the seeds and room for the posts
+/// was taken, and then the posts in order, until an opening is refused. The next clock is made once all are open.
+///
+/// `Done` with the lines of how many messages and disclosures were sent, and how many messages were refused by each
+/// cause: LINK has ended, and no post failed. `Usage` exactly where the words are no form, and then nothing was opened.
+/// `Refused` with the first refused line of SETUP or of SECRET, where no file behind it was opened. `Failed` with `Read`:
+/// SETUP or SECRET was not read, or LINK failed; with `Write`: a post failed, and LINK didn't; with `Open` or `NoMemory`:
+/// nothing was fed. `Read`, `Write` and `Open` come only where the desk's count of that rose. It waits for the clock and
+/// for LINK.
+pub fn run_feed<R: Wait, D: Desk>(rt: &R, alloc: Global, words: &[String], desk: &mut D) -> Outcome
+    ensures { RunsAs (feed (D.told desk.old).live (D.told desk.new).live) (map string_bytes words.now) (D.told desk.old) (D.told desk.new) (outcome_came result) }
+{
+    match arguments_in(words) {
+        Some(arguments) => outcome_of(perform(rt, alloc, &arguments, desk)),
+        None => Outcome::Usage,
+    }
+}
+
+// Does what the words ask for.
+fn perform<R: Wait, D: Desk>(
+    rt: &R,
+    alloc: Global,
+    arguments: &Arguments<'_>,
+    desk: &mut D,
+) -> Result<Lines, Stop>
+    requires form { (spelled : List (List ℕ)) × IsFeedForm (arguments_of arguments.now) spelled }
+    ensures { Performs (feed (D.told desk.old).live (D.told desk.new).live) (arguments_of arguments.now) (D.told desk.old) (D.told desk.new) (came_of result) }
+{
+    let setup = setup_under(alloc, arguments.setup, desk)?;
+    feed_under(rt, alloc, setup, arguments, desk)
+}
+
+// Reads the seeds under a setup, and feeds the link to the posts.
+fn feed_under<R: Wait, D: Desk>(
+    rt: &R,
+    alloc: Global,
+    setup: Setup,
+    arguments: &Arguments<'_>,
+    desk: &mut D,
+) -> Result<Lines, Stop>
+    requires form { (spelled : List (List ℕ)) × IsFeedForm (arguments_of arguments.now) spelled }
+    ensures { FeedsSetup (arguments_of arguments.now) setup (D.told desk.old) (D.told desk.new) (came_of result) }
+{
+    let seeds = seeds_under(alloc, arguments.secret, setup.count(), desk)?;
+    feed_seeded(rt, alloc, setup, &seeds, arguments, desk)
+}
+
+// Opens the sender of a setup and seeds, and feeds the link to the posts.
+fn feed_seeded<R: Wait, D: Desk>(
+    rt: &R,
+    alloc: Global,
+    setup: Setup,
+    seeds: &Seeds,
+    arguments: &Arguments<'_>,
+    desk: &mut D,
+) -> Result<Lines, Stop>
+    requires form { (spelled : List (List ℕ)) × IsFeedForm (arguments_of arguments.now) spelled }
+    requires count { length seeds.now ≡ length setup.rows }
+    ensures { FeedsSeeded (record { setup = setup; seeds = seeds.now }) (arguments_of arguments.now) (D.told desk.old) (D.told desk.new) (came_of result) }
+{
+    let blank = Blank::new(1);
+    feed_counted::<Brand, R, D>(rt, alloc, setup, seeds, arguments, blank, desk)
+}
+
+// Does so with a ledger for its evaluations of HMAC.
+fn feed_counted<L: Ledger, R: Wait, D: Desk>(
+    rt: &R,
+    alloc: Global,
+    setup: Setup,
+    seeds: &Seeds,
+    arguments: &Arguments<'_>,
+    blank: Blank,
+    desk: &mut D,
+) -> Result<Lines, Stop>
+    requires name { blank.name ≡ L.name }
+    requires parts { blank.parts ≡ L.parts }
+    requires some { 0 < L.parts }
+    requires form { (spelled : List (List ℕ)) × IsFeedForm (arguments_of arguments.now) spelled }
+    requires count { length seeds.now ≡ length setup.rows }
+    ensures feeds { FeedsSeeded (record { setup = setup; seeds = seeds.now }) (arguments_of arguments.now) (D.told desk.old) (D.told desk.new) (came_of result) }
+{
+    let mut steps = Steps::<L>::new(blank);
+    let sender = sender_of(alloc, setup, seeds, &mut steps)?;
+    feed_roomed(rt, alloc, sender, &mut steps, arguments, desk)
+}
+
+// Takes room for the posts, and feeds the link to them.
+fn feed_roomed<L: Ledger, R: Wait, D: Desk>(
+    rt: &R,
+    alloc: Global,
+    sender: Sender,
+    steps: &mut Steps<L>,
+    arguments: &Arguments<'_>,
+    desk: &mut D,
+) -> Result<Lines, Stop>
+    requires form { (spelled : List (List ℕ)) × IsFeedForm (arguments_of arguments.now) spelled }
+    requires sender { Stands sender [] }
+    ensures { FeedsFiles sender.stream (arguments_of arguments.now) (D.told desk.old) (D.told desk.new) (came_of result) }
+{
+    let Ok(mut posts) = Vec::with_capacity(alloc, arguments.posts.len()) else {
+        return Err(Stop::Failed(Fault::NoMemory));
+    };
+    let came = feed_named(rt, sender, steps, arguments, desk, &mut posts);
+    posts.destroy_empty();
+    came
+}
+
+// Opens the link, and feeds it to the posts.
+fn feed_named<L: Ledger, R: Wait, D: Desk>(
+    rt: &R,
+    sender: Sender,
+    steps: &mut Steps<L>,
+    arguments: &Arguments<'_>,
+    desk: &mut D,
+    posts: &mut Vec<D::Port>,
+) -> Result<Lines, Stop>
+    requires form { (spelled : List (List ℕ)) × IsFeedForm (arguments_of arguments.now) spelled }
+    requires sender { Stands sender [] }
+    requires empty { posts.old.items ≡ [] }
+    requires room { length arguments.now.posts ≤ vec_capacity posts.old }
+    ensures feeds { FeedsFiles sender.stream (arguments_of arguments.now) (D.told desk.old) (D.told desk.new) (came_of result) }
+    ensures none { posts.new.items ≡ [] }
+{
+    match desk.open_link(arguments.link) {
+        Ok(link) => {
+            let names = arguments.posts.as_slice();
+            run_linked(rt, sender, steps, names, link, desk, posts)
+        }
+        Err(refusal) => Err(Stop::Failed(Fault::from(refusal))),
+    }
+}
+
+// Feeds an open link to the posts under these names, and closes all.
+fn run_linked<L: Ledger, R: Wait, D: Desk>(
+    rt: &R,
+    sender: Sender,
+    steps: &mut Steps<L>,
+    names: &[&str],
+    mut link: D::Wire,
+    desk: &mut D,
+    posts: &mut Vec<D::Port>,
+) -> Result<Lines, Stop>
+    requires sender { Stands sender [] }
+    requires few { length names.now ≤ 32 }
+    requires fresh { D.Wire.faults link ≡ 0 }
+    requires empty { posts.old.items ≡ [] }
+    requires room { length names.now ≤ vec_capacity posts.old }
+    ensures runs { RunsLinked sender.stream (map name_of names.now) (D.Wire.name link) (D.Wire.left link) (D.told desk.old) (D.told desk.new) (came_of result) }
+    ensures none { posts.new.items ≡ [] }
+{
+    let came = open_and_feed(rt, sender, steps, names, &mut link, desk, posts);
+    close_posts(desk, posts);
+    desk.close_link(link);
+    came
+}
+
+// Opens the posts, and feeds an open link to them.
+fn open_and_feed<L: Ledger, R: Wait, D: Desk>(
+    rt: &R,
+    sender: Sender,
+    steps: &mut Steps<L>,
+    names: &[&str],
+    link: &mut D::Wire,
+    desk: &mut D,
+    posts: &mut Vec<D::Port>,
+) -> Result<Lines, Stop>
+    requires sender { Stands sender [] }
+    requires few { length names.now ≤ 32 }
+    requires empty { posts.old.items ≡ [] }
+    requires room { length names.now ≤ vec_capacity posts.old }
+    ensures feeds { OpensAndFeeds sender.stream (map name_of names.now) (D.Wire.left link.old) (D.Wire.left link.new) (D.Wire.faults link.old) (D.Wire.faults link.new) (D.told desk.old) (D.told desk.new) (map (λ post. record { name = D.Port.name post; sent = D.Port.sent post; faults = D.Port.faults post }) posts.new.items) (came_of result) }
+    ensures name { D.Wire.name link.new ≡ D.Wire.name link.old }
+{
+    match open_posts(desk, names, posts) {
+        Ok(()) => lines_after(feed_made(rt, sender, steps, link, desk, posts)),
+        Err(fault) => Err(Stop::Failed(fault)),
+    }
+}
+
+// Feeds an open link to open posts, with a new clock and a new gate.
+fn feed_made<L: Ledger, R: Wait, D: Desk>(
+    rt: &R,
+    sender: Sender,
+    steps: &mut Steps<L>,
+    link: &mut D::Wire,
+    desk: &mut D,
+    posts: &mut Vec<D::Port>,
+) -> FeedEnd
+    requires sender { Stands sender [] }
+    requires few { length posts.old.items ≤ 32 }
+    ensures feeds { let seen : List D.Port → List PostSeen = λ posts. map (λ post. record { name = D.Port.name post; sent = D.Port.sent post; faults = D.Port.faults post }) posts in
+        FeedsMade sender.stream result (D.Wire.left link.old) (D.Wire.left link.new) (seen posts.old.items) (seen posts.new.items) (D.told desk.old) (D.told desk.new) }
+    ensures cause { HasCause (D.Wire.faults link.old) (D.Wire.faults link.new) (result.link_failed ≡ true) }
+    ensures name { D.Wire.name link.new ≡ D.Wire.name link.old }
+{
+    let mut clock = desk.clock();
+    let mut gate = desk.gate();
+    feed(
+        rt,
+        sender,
+        link,
+        &mut clock,
+        posts.as_mut_slice(),
+        &mut gate,
+        steps,
+    )
+}

@@ -1,0 +1,55 @@
+//! The seeds of the stream.
+
+ghost use Rattle.std.specs.Prelude.{◌≡◌, ℕ, List, [], ◌∷◌, length, IfOk, IfErr};
+ghost use Rattle.tesla_desk.specs.Outside.{OfSource};
+ghost use Rattle.tesla_front.specs.Came.{stop_came};
+ghost use Rattle.tesla_front.specs.Openings.{Opens, OpensSome};
+ghost use Rattle.tesla_front.specs.Refusal.{StopCauses};
+ghost use Rattle.tesla_front.specs.Seeds.{IsSeedsIn, IsSeedsText, IsNoSeeds, IsNoSeedsText};
+
+use std::alloc::Global;
+use tesla_base::Kind;
+use tesla_desk::Desk;
+use tesla_front::{Fault, Stop, read_file, refused};
+use tesla_seeds::{Seeds, SeedsRefusal, read_seeds};
+
+/// How many bytes of seeds are asked for: one more than they have at most.
+const MOST: usize = 4097;
+
+// The seeds that a text spells.
+fn seeds_of(alloc: Global, text: &[u8], count: u8) -> Result<Seeds, Stop>
+    ensures found { IfOk result (λ seeds. IsSeedsText count text.now seeds) }
+    ensures count { IfOk result (λ seeds. length seeds ≡ count) }
+    ensures refused { IfErr result (λ stop. IsNoSeedsText count text.now (stop_came stop)) }
+{
+    match read_seeds(alloc, text, count) {
+        Ok(seeds) => Ok(seeds),
+        Err(SeedsRefusal::At { line, kind }) => {
+            Err(Stop::Refused(refused(3, "seeds", u64::from(line), kind.name())))
+        }
+        Err(SeedsRefusal::NoMemory) => Err(Stop::Failed(Fault::NoMemory)),
+    }
+}
+
+/// The `count` seeds under a name, as `seeds_under` of `tesla_front` gives them. What the desk tells of links, posts and
+/// clocks is as before.
+pub fn seeds_under<D: Desk>(
+    alloc: Global,
+    name: &str,
+    count: u8,
+    desk: &mut D,
+) -> Result<Seeds, Stop>
+    ensures found { IfOk result (λ seeds. IsSeedsIn count ((D.told desk.old).page name.now) seeds) }
+    ensures count { IfOk result (λ seeds. length seeds ≡ count) }
+    ensures refused { IfErr result (λ stop. IsNoSeeds count ((D.told desk.old).page name.now) (stop_came stop)) }
+    ensures opened { IfOk result (λ _. Opens (OfSource name.now ∷ []) 1 (D.told desk.old) (D.told desk.new)) }
+    ensures opens { OpensSome (OfSource name.now ∷ []) (D.told desk.old) (D.told desk.new) }
+    ensures pages { (n : List ℕ) → (D.told desk.new).page n ≡ (D.told desk.old).page n }
+    ensures live { (D.told desk.new).live ≡ (D.told desk.old).live }
+    ensures causes { StopCauses result (D.told desk.old).faults (D.told desk.new).faults }
+{
+    match read_file(alloc, name, MOST, desk) {
+        Ok(text) => seeds_of(alloc, text.as_slice(), count),
+        Err(fault) => Err(Stop::Failed(fault)),
+    }
+}
