@@ -25,7 +25,6 @@ fn add_line(lines: &mut Lines, name: &str, number: u64)
 }
 
 // The lines of the counts.
-#[tactic(auto, unfolding(crate::specs::Lines::lines_of))]
 fn lines_of(counts: FeedCounts) -> Lines
     ensures { result.bytes ≡ lines_of counts }
 {
