@@ -17,7 +17,7 @@ fn main(rt: HostRuntime) -> ExitCode {
             return ExitCode::from(done.status);
         }
         if is_live_tool(words.as_slice()) {
-            let done = run_live_tools(&rt, words.as_slice(), &mut desk);
+            let done = run_live_tools(&rt, rt.alloc(), words.as_slice(), &mut desk);
             return ExitCode::from(done.status);
         }
     }

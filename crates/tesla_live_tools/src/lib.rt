@@ -2,6 +2,7 @@
 #![tactic(auto)]
 
 mod commands;
+pub mod laws;
 mod live_tools;
 
 pub use commands::{FORMS, is_live_tool};

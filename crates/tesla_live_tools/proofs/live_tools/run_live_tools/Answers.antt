@@ -1,10 +1,10 @@
-use Rattle.std.proofs.Common.{◌∙◌, inl, inr, refl, sym, subst, ap, map, List, ℕ, string_bytes}
+use Rattle.std.proofs.Common.{◌∙◌, inl, inr, refl, subst, ap, map, List, ℕ, string_bytes}
 use Rattle.tesla_desk.specs.Outside.{ClosesSink}
 use Rattle.tesla_desk.proofs.Counts.{counts_stay}
 use Rattle.tesla_front.specs.Came.{Failed, outcome_came}
 use Rattle.tesla_front.specs.Fault.{fault_status, unopened}
 use Rattle.tesla_front.proofs.Consoles.{Tolds, live_console_opened, unopened_console}
-use Rattle.tesla_live_tools.specs.Commands.{command, usage}
+use Rattle.tesla_live_tools.specs.Commands.{command_of, usage}
 use Rattle.tesla_live_tools.proofs.live_tools.run_live_tools.Goals as goal
 
 pub returns-in-Ok : goal.returns-in-Ok
@@ -12,9 +12,9 @@ returns-in-Ok g c =
     let words = map string_bytes c.args.words.now in
     let old = g.D.Desk.told c.args.desk.now in
     let opened = g.D.Desk.told c.open_sink.new.self in
-    let done = g.D.Desk.told c.run_capture-outcome.new.desk in
+    let done = g.D.Desk.told c.run_words-outcome.new.desk in
     let new = g.D.Desk.told c.close_sink.new.self in
-    let came = outcome_came c.run_capture-outcome.result in
+    let came = outcome_came c.run_words-outcome.result in
     let told = outcome_came c.tell-told.result in
     let before = g.D.Out.Sink.written c.in-Ok.console in
     let written = g.D.Out.Sink.written c.tell-told.new.console in
@@ -31,7 +31,7 @@ returns-in-Ok g c =
       tells = c.tell-told.ensures.tells;
       closes = subst (λ (name : List ℕ). ClosesSink name written failed done new) named c.close_sink.ensures.desk;
     } in
-    (told, c.status.ensures, (inr (live_console_opened command usage words old opened done new came told written failed tolds c.run_capture-outcome.ensures), refl))
+    (told, c.status.ensures, (inr (live_console_opened (λ before now. command_of before now words) usage words old opened done new came told written failed tolds c.run_words-outcome.ensures), refl))
 
 pub returns-in-Err : goal.returns-in-Err
 returns-in-Err g c =
