@@ -1,6 +1,6 @@
 -- What is made and sent, as events come one after another.
-use Rattle.std.proofs.Common.{◌≡◌, ◌∙◌, ℕ, ◌+◌, ◌-◌, ◌<◌, ◌≤◌, Bool, true, false, List, [], ◌∷◌, ◌++◌, length, map, take, Option, Some, None, refl, sym, ap, subst, append_assoc, append-nil, length-append, arith}
-use Rattle.std.specs.List.{AllByRecursion, fold, list_all}
+use Rattle.std.proofs.Common.{◌≡◌, ◌∙◌, ℕ, ◌+◌, ◌<◌, ◌≤◌, Bool, true, false, List, [], ◌∷◌, ◌++◌, length, map, take, Option, Some, None, refl, sym, ap, subst, append_assoc, append-nil, length-append, arith}
+use Rattle.std.specs.List.{AllByRecursion}
 use Rattle.std.proofs.lemmas.List.{take-append-le, take_all}
 use Rattle.std.proofs.lemmas.List.Sums.{fold-append}
 use Rattle.tesla_desk.proofs.Given.{gives_more}
@@ -10,9 +10,9 @@ use Rattle.tesla_desk.specs.Links.{after_letters}
 use Rattle.tesla_desk.specs.declared.link.Letter.{Letter}
 use Rattle.tesla_posts.specs.Posts.{PostSeen, with_datagrams}
 use Rattle.tesla_sender.specs.Made.{Call, Stream, interval_at}
-use Rattle.tesla_feed.specs.Fed.{Came, Event, Feeding, Rested, after_event, datagram_of, datagrams_from, datagrams_of, is_all_told, nothing_fed, reading_of}
+use Rattle.tesla_feed.specs.Fed.{Event, Feeding, Rested, after_event, datagram_of, datagrams_from, datagrams_of, is_all_told, nothing_fed, reading_of}
 use Rattle.tesla_feed.specs.Feed.{AreNeeded, Heard, SendPosts, SendsPost, came_of, letter_of, rested_at}
-use Rattle.tesla_feed.specs.Steps.{Adds, Awaits, Goes, HandPosts, HandsPost, Hears, Makes, Rests, StandsFor, WaitsOn, fed_after, is_told_after}
+use Rattle.tesla_feed.specs.Steps.{Awaits, Goes, HandPosts, HandsPost, Hears, Makes, Rests, StandsFor, WaitsOn, fed_after, is_told_after}
 use Rattle.tesla_feed.specs.declared.feeder.Feeder.{Feeder}
 use Rattle.tesla_feed.proofs.Kept.{told_is}
 

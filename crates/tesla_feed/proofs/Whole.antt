@@ -1,16 +1,15 @@
 -- A whole feed, put together from its parts.
-use Rattle.std.proofs.Common.{◌≡◌, ◌∙◌, ℕ, ◌+◌, ◌<◌, ◌≤◌, Bool, true, false, List, [], ◌∷◌, ◌++◌, length, map, take, Option, Some, None, refl, sym, ap, subst, append_assoc, append-nil, arith}
+use Rattle.std.proofs.Common.{◌≡◌, ◌∙◌, ℕ, ◌<◌, ◌≤◌, Bool, true, false, List, [], ◌∷◌, ◌++◌, length, map, take, Option, Some, None, refl, sym, ap, subst, append_assoc, append-nil, arith}
 use Rattle.std.specs.Prelude.{IfSome, not}
-use Rattle.std.specs.List.{AllByRecursion, fold, list_all, list_any}
+use Rattle.std.specs.List.{AllByRecursion, list_all, list_any}
 use Rattle.std.proofs.lemmas.List.Sums.{fold-append}
 use Rattle.tesla_desk.specs.Clocks.{Gives, Ticking, Ticks}
 use Rattle.tesla_desk.specs.declared.link.Letter.{Letter}
 use Rattle.tesla_posts.specs.Posts.{PostSeen, with_datagrams}
 use Rattle.tesla_sender.specs.Made.{Stream, interval_at}
-use Rattle.tesla_feed.specs.Fed.{Event, Feeding, after_event, counts_of, datagrams_of, fed, first_interval, is_all_told, nothing_fed, reading_of}
-use Rattle.tesla_feed.specs.Feed.{Feeds, SendPosts, came_of, events_of, has_failed, rested_at}
+use Rattle.tesla_feed.specs.Fed.{Feeding, after_event, fed, first_interval, nothing_fed, reading_of}
+use Rattle.tesla_feed.specs.Feed.{Feeds, SendPosts, came_of, has_failed, rested_at}
 use Rattle.tesla_feed.specs.Steps.{Awaits, Goes, Hears, Rests, StandsFor, StopsHearing, fed_after, is_told_after}
-use Rattle.tesla_feed.specs.declared.counts.FeedCounts.{FeedCounts}
 use Rattle.tesla_feed.specs.declared.feeder.Feeder.{Feeder}
 use Rattle.tesla_feed.specs.declared.feeding.FeedEnd.{FeedEnd}
 use Rattle.tesla_feed.specs.declared.hearing.Hearing.{Hearing}
