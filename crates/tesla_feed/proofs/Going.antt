@@ -84,13 +84,6 @@ datagrams_more stream before (first ∷ log) call =
     ∙ ap (λ (b : List Call). datagram_of stream before first ++ (datagrams_from stream (before ++ first ∷ []) log ++ datagram_of stream b call)) (append_assoc before (first ∷ []) log)
     ∙ sym (append_assoc (datagram_of stream before first) (datagrams_from stream (before ++ first ∷ []) log) (datagram_of stream (before ++ first ∷ log) call))
 
--- an event made no frame
-pub goes_none : (stream : Stream) (first : ℕ) (made after : Feeding) (first_posts posts : List PostSeen) (feeder now : Feeder) (failed : List Bool) → Goes stream first made first_posts feeder posts failed → Makes stream first made after now None → Goes stream first after first_posts now posts failed
-goes_none stream first made after first_posts posts feeder now failed goes makes = record {
-  stands = makes.stands;
-  sends = (let P : List Call → Type 0 = λ log. SendPosts (datagrams_of stream log) first_posts posts failed in subst P (sym makes.adds) goes.sends);
-}
-
 -- an event made a frame, and it was handed to the posts
 pub goes_some : (stream : Stream) (first size : ℕ) (made after : Feeding) (first_posts posts posts_now : List PostSeen) (feeder now : Feeder) (failed failed_now : List Bool) → Goes stream first made first_posts feeder posts failed → Makes stream first made after now (Some size)
     → HandPosts (take size now.frame) posts posts_now failed failed_now → Goes stream first after first_posts now posts_now failed_now
