@@ -1,6 +1,6 @@
 -- What is made and sent, as events come one after another.
-use Rattle.std.proofs.Common.{◌≡◌, ◌∙◌, ℕ, ◌+◌, ◌-◌, ◌<◌, ◌≤◌, Bool, true, false, List, [], ◌∷◌, ◌++◌, length, map, take, Option, Some, None, refl, sym, ap, subst, append_assoc, append-nil, length-append, arith}
-use Rattle.std.specs.List.{AllByRecursion, fold, list_all}
+use Rattle.std.proofs.Common.{◌≡◌, ◌∙◌, ℕ, ◌+◌, ◌<◌, ◌≤◌, Bool, true, false, List, [], ◌∷◌, ◌++◌, length, map, take, Option, Some, None, refl, sym, ap, subst, append_assoc, append-nil, length-append, arith}
+use Rattle.std.specs.List.{AllByRecursion}
 use Rattle.std.proofs.lemmas.List.{take-append-le, take_all}
 use Rattle.std.proofs.lemmas.List.Sums.{fold-append}
 use Rattle.tesla_desk.proofs.Given.{gives_more}
@@ -10,9 +10,9 @@ use Rattle.tesla_desk.specs.Links.{after_letters}
 use Rattle.tesla_desk.specs.declared.link.Letter.{Letter}
 use Rattle.tesla_posts.specs.Posts.{PostSeen, with_datagrams}
 use Rattle.tesla_sender.specs.Made.{Call, Stream, interval_at}
-use Rattle.tesla_feed.specs.Fed.{Came, Event, Feeding, Rested, after_event, datagram_of, datagrams_from, datagrams_of, is_all_told, nothing_fed, reading_of}
+use Rattle.tesla_feed.specs.Fed.{Event, Feeding, Rested, after_event, datagram_of, datagrams_from, datagrams_of, is_all_told, nothing_fed, reading_of}
 use Rattle.tesla_feed.specs.Feed.{AreNeeded, Heard, SendPosts, SendsPost, came_of, letter_of, rested_at}
-use Rattle.tesla_feed.specs.Steps.{Adds, Awaits, Goes, HandPosts, HandsPost, Hears, Makes, Rests, StandsFor, WaitsOn, fed_after, is_told_after}
+use Rattle.tesla_feed.specs.Steps.{Awaits, Goes, HandPosts, HandsPost, Hears, Makes, Rests, StandsFor, WaitsOn, fed_after, is_told_after}
 use Rattle.tesla_feed.specs.declared.feeder.Feeder.{Feeder}
 use Rattle.tesla_feed.proofs.Kept.{told_is}
 
@@ -83,13 +83,6 @@ datagrams_more stream before (first ∷ log) call =
     ap (λ (ds : List (List ℕ)). datagram_of stream before first ++ ds) (datagrams_more stream (before ++ first ∷ []) log call)
     ∙ ap (λ (b : List Call). datagram_of stream before first ++ (datagrams_from stream (before ++ first ∷ []) log ++ datagram_of stream b call)) (append_assoc before (first ∷ []) log)
     ∙ sym (append_assoc (datagram_of stream before first) (datagrams_from stream (before ++ first ∷ []) log) (datagram_of stream (before ++ first ∷ log) call))
-
--- an event made no frame
-pub goes_none : (stream : Stream) (first : ℕ) (made after : Feeding) (first_posts posts : List PostSeen) (feeder now : Feeder) (failed : List Bool) → Goes stream first made first_posts feeder posts failed → Makes stream first made after now None → Goes stream first after first_posts now posts failed
-goes_none stream first made after first_posts posts feeder now failed goes makes = record {
-  stands = makes.stands;
-  sends = (let P : List Call → Type 0 = λ log. SendPosts (datagrams_of stream log) first_posts posts failed in subst P (sym makes.adds) goes.sends);
-}
 
 -- an event made a frame, and it was handed to the posts
 pub goes_some : (stream : Stream) (first size : ℕ) (made after : Feeding) (first_posts posts posts_now : List PostSeen) (feeder now : Feeder) (failed failed_now : List Bool) → Goes stream first made first_posts feeder posts failed → Makes stream first made after now (Some size)

@@ -1,23 +1,23 @@
 -- What a feeder keeps of what was made, after each call.
-use Rattle.std.proofs.Common.{◌≡◌, ◌∙◌, ℕ, zero, suc, ◌+◌, ◌-◌, ◌<◌, ◌≤◌, Bool, true, false, cond, List, [], ◌∷◌, ◌++◌, length, map, take, refl, sym, ap, subst, inl, inr, arith}
-use Rattle.std.specs.Prelude.{Result, Ok, Err, Option, Some, None, max, min, nat_le, nat_lt, eqb, ◌&&◌, ◌||◌, if◌then◌else◌, option_to_list}
-use Rattle.std.specs.List.{fold, list_all, list_any}
-use Rattle.std.proofs.lemmas.Bool.{cases_lt, le-ltb, leb-true, le-leb, ltb-true, lt-ltb, ne_eqb, eq-eqb}
+use Rattle.std.proofs.Common.{◌≡◌, ◌∙◌, ℕ, ◌+◌, ◌≤◌, Bool, true, false, cond, List, [], ◌∷◌, ◌++◌, length, map, take, refl, sym, ap, subst, inl, inr, arith}
+use Rattle.std.specs.Prelude.{Result, Ok, Err, Option, Some, None, max, nat_le, nat_lt, eqb, ◌&&◌, ◌||◌, if◌then◌else◌, option_to_list}
+use Rattle.std.specs.List.{list_all, list_any}
+use Rattle.std.proofs.lemmas.Bool.{cases_lt, le-ltb, leb-true, ltb-true, lt-ltb, ne_eqb, eq-eqb}
 use Rattle.std.proofs.lemmas.List.Sums.{fold-append, sum_by-append}
 use Rattle.tesla_base.specs.declared.names.Name.{Name}
 use Rattle.tesla_clock.specs.Schedule.{Times}
 use Rattle.tesla_frame.specs.Frame.{Frame, frame_text}
-use Rattle.tesla_sender.specs.Made.{Call, Message, Disclose, Chain, Stream, any_due, chains_of, disclosed, disclosed_after, disclosure_frame, framed, index_told, interval_at, interval_in, is_message_of, latest_of, made_disclosure, made_message, message_frame, messages_of, name_after, name_of, tells_all, tells_newer}
-use Rattle.tesla_sender.specs.Stands.{Answers, State, gone_on, interval_next, name_next, number_at, sent_in, told_disclosure, told_message}
+use Rattle.tesla_sender.specs.Made.{Call, Message, Disclose, Chain, Stream, any_due, chains_of, disclosed, disclosed_after, disclosure_frame, framed, index_told, interval_at, interval_in, is_message_of, latest_of, made_disclosure, made_message, message_frame, messages_of, name_after, name_of, tells_newer}
+use Rattle.tesla_sender.specs.Stands.{Answers, State, gone_on, number_at, sent_in, told_disclosure, told_message}
 use Rattle.tesla_sender.specs.declared.refusal.DiscloseRefusal.{DiscloseRefusal}
 use Rattle.tesla_sender.specs.declared.refusal.DiscloseRefusal.TheVariants as undisclosed
 use Rattle.tesla_sender.specs.declared.refusal.SendRefusal.{SendRefusal}
 use Rattle.tesla_sender.specs.declared.refusal.SendRefusal.TheVariants as unsent
-use Rattle.tesla_sender.proofs.Logs.{IsNamed, named, spells_answered}
-use Rattle.tesla_world.specs.World.{frame_in, frame_made}
+use Rattle.tesla_sender.proofs.Logs.{named, spells_answered}
+use Rattle.tesla_world.specs.World.{frame_in}
 use Rattle.tesla_desk.specs.declared.link.Letter.TheVariants as letters
 use Rattle.tesla_feed.specs.Fed.{Came, Feeding, after_event, after_judged, after_none, datagram_of, is_all_told, is_due, last_message, latest_from, message_interval, name_from, tells_more, told_by, with_call, with_refusal}
-use Rattle.tesla_feed.specs.Steps.{Adds, Makes, StandsFor, after_refusal, is_due_after, is_told_after, one_more}
+use Rattle.tesla_feed.specs.Steps.{Makes, StandsFor, after_refusal, is_due_after, is_told_after, one_more}
 use Rattle.tesla_feed.specs.declared.counts.FeedCounts.{FeedCounts}
 use Rattle.tesla_feed.specs.declared.feeder.Feeder.{Feeder}
 use Rattle.tesla_feed.proofs.Counting.{disclosure_counts, message_counts, refused_counts}
@@ -205,18 +205,19 @@ told_is stream first feeder made stands =
     ∙ all_same (λ chain. nat_le feeder.message (told_by times made.log chain)) (λ chain. nat_le feeder.message (index_told feeder.latest chain)) (chains_of stream) (λ chain. ap (nat_le feeder.message) (stands.told chain))
 
 -- where one is due, some chain has a key to disclose
-newer_one : (before interval : ℕ) (chain : Chain) → nat_lt (index_told before chain) (index_told interval chain) ≡ true → nat_lt chain.row.delay interval ≡ true
-newer_one before interval chain newer = lt-ltb _ _ (omega (arith, ltb-true _ _ newer))
+newer_one : (most interval : ℕ) (chain : Chain) → nat_lt most (index_told interval chain) ≡ true → nat_lt chain.row.delay interval ≡ true
+newer_one most interval chain newer = lt-ltb _ _ (omega (arith, ltb-true _ _ newer))
 
 or_ways : (a b c d : Bool) → (a ≡ true → c ≡ true) → (b ≡ true → d ≡ true) → (a || b) ≡ true → (c || d) ≡ true
 or_ways true b c d left right is = ap (λ x. x || d) (left refl)
 or_ways false b true d left right is = refl
 or_ways false b false d left right is = right is
 
-any_newer : (before interval : ℕ) (chains : List Chain) → tells_newer before interval chains ≡ true → any_due interval chains ≡ true
-any_newer before interval [] newer = absurd cc
-any_newer before interval (chain ∷ chains) newer =
-    or_ways (nat_lt (index_told before chain) (index_told interval chain)) (tells_newer before interval chains) (nat_lt chain.row.delay interval) (any_due interval chains) (newer_one before interval chain) (any_newer before interval chains) newer
+-- the greatest index that was told is a function of the chain
+any_newer : (most : Chain → ℕ) (interval : ℕ) (chains : List Chain) → list_any (λ chain. nat_lt (most chain) (index_told interval chain)) chains ≡ true → any_due interval chains ≡ true
+any_newer most interval [] newer = absurd cc
+any_newer most interval (chain ∷ chains) newer =
+    or_ways (nat_lt (most chain) (index_told interval chain)) (list_any (λ c. nat_lt (most c) (index_told interval c)) chains) (nat_lt chain.row.delay interval) (any_due interval chains) (newer_one (most chain) interval chain) (any_newer most interval chains) newer
 
 and_ways : (a b c : Bool) → (a && (b && c)) ≡ true → (a ≡ true) × (b ≡ true) × (c ≡ true)
 and_ways true true true is = (refl, refl, refl)
@@ -233,7 +234,15 @@ pub record IsDue (stream : Stream) (first latest interval : ℕ) : Type 0 where
 pub due_tells : (stream : Stream) (first latest interval : ℕ) → is_due_after stream first latest interval ≡ true → IsDue stream first latest interval
 due_tells stream first latest interval due =
     let ways = and_ways (nat_le first interval) (nat_le latest interval) (tells_newer latest interval (chains_of stream)) due in
-    record { begun = leb-true _ _ ways.0; later = leb-true _ _ ways.1; some = any_newer latest interval (chains_of stream) ways.2 }
+    record { begun = leb-true _ _ ways.0; later = leb-true _ _ ways.1; some = any_newer (λ chain. index_told latest chain) interval (chains_of stream) ways.2 }
+
+-- the same, judged by the log
+pub log_tells : (stream : Stream) (first : ℕ) (log : List Call) (reading : ℕ) → is_due stream first log reading ≡ true → IsDue stream first (latest_of stream.setup.times log) (interval_at stream.setup.times reading)
+log_tells stream first log reading due =
+    let times = stream.setup.times in
+    let interval = interval_at times reading in
+    let ways = and_ways (nat_le first interval) (nat_le (latest_of times log) interval) (tells_more stream log interval) due in
+    record { begun = leb-true _ _ ways.0; later = leb-true _ _ ways.1; some = any_newer (told_by times log) interval (chains_of stream) ways.2 }
 
 abbrev discloses : Bool → Bool → DiscloseRefusal → ℕ → Result ℕ DiscloseRefusal
 discloses backward due refusal interval = if backward then Err refusal else if due then Ok interval else Err undisclosed.NothingDue

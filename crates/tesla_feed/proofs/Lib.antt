@@ -2,3 +2,4 @@ mod Counting
 mod Kept
 mod Going
 mod Whole
+mod Logs

@@ -1,16 +1,15 @@
 -- A whole feed, put together from its parts.
-use Rattle.std.proofs.Common.{◌≡◌, ◌∙◌, ℕ, ◌+◌, ◌<◌, ◌≤◌, Bool, true, false, List, [], ◌∷◌, ◌++◌, length, map, take, Option, Some, None, refl, sym, ap, subst, append_assoc, append-nil, arith}
+use Rattle.std.proofs.Common.{◌≡◌, ◌∙◌, ℕ, ◌<◌, ◌≤◌, Bool, true, false, List, [], ◌∷◌, ◌++◌, length, map, take, Option, Some, None, refl, sym, ap, subst, append_assoc, append-nil, arith}
 use Rattle.std.specs.Prelude.{IfSome, not}
-use Rattle.std.specs.List.{AllByRecursion, fold, list_all, list_any}
+use Rattle.std.specs.List.{AllByRecursion, list_all, list_any}
 use Rattle.std.proofs.lemmas.List.Sums.{fold-append}
 use Rattle.tesla_desk.specs.Clocks.{Gives, Ticking, Ticks}
 use Rattle.tesla_desk.specs.declared.link.Letter.{Letter}
 use Rattle.tesla_posts.specs.Posts.{PostSeen, with_datagrams}
 use Rattle.tesla_sender.specs.Made.{Stream, interval_at}
-use Rattle.tesla_feed.specs.Fed.{Event, Feeding, after_event, counts_of, datagrams_of, fed, first_interval, is_all_told, nothing_fed, reading_of}
-use Rattle.tesla_feed.specs.Feed.{Feeds, SendPosts, came_of, events_of, has_failed, rested_at}
+use Rattle.tesla_feed.specs.Fed.{Feeding, after_event, fed, first_interval, nothing_fed, reading_of}
+use Rattle.tesla_feed.specs.Feed.{Feeds, SendPosts, came_of, has_failed, rested_at}
 use Rattle.tesla_feed.specs.Steps.{Awaits, Goes, Hears, Rests, StandsFor, StopsHearing, fed_after, is_told_after}
-use Rattle.tesla_feed.specs.declared.counts.FeedCounts.{FeedCounts}
 use Rattle.tesla_feed.specs.declared.feeder.Feeder.{Feeder}
 use Rattle.tesla_feed.specs.declared.feeding.FeedEnd.{FeedEnd}
 use Rattle.tesla_feed.specs.declared.hearing.Hearing.{Hearing}
@@ -72,6 +71,10 @@ pub record Parts (stream : Stream) (opening : ℕ) (opened begun heard told : Fe
   pub stays : list_all has_failed marks ≡ true → failed ≡ marks
   pub ends : list_all has_failed failed ≡ false → is_told_after told.sender.stream told.message told.latest ≡ true
 
+-- what holds of a stream and a first interval holds of equal ones
+of_equal : (P : Stream → ℕ → Type 0) (own stream : Stream) (first from : ℕ) → own ≡ stream → first ≡ from → P own first → P stream from
+of_equal P own stream first from same_stream same_first holds = subst (λ (f : ℕ). P stream f) same_first (subst (λ (s : Stream). P s first) same_stream holds)
+
 pub feeds_all : (stream : Stream) (opening : ℕ) (opened begun heard told : Feeder) (marks failed : List Bool) (hearing : Hearing) (result : FeedEnd) (left later : Option (List Letter)) (first second third fourth last : Option Ticking) (posts mid now : List PostSeen)
     → Parts stream opening opened begun heard told marks failed hearing left later first second third fourth last posts mid now → (result.link_failed ≡ false → hearing ≡ hearings.LinkFailed → ⊥) → result.post_failed ≡ list_any has_failed failed → result.counts ≡ told.counts
     → Feeds stream result left later first last posts now
@@ -80,12 +83,12 @@ feeds_all stream opening opened begun heard told marks failed hearing result lef
     let same_stream : begun.sender.stream ≡ stream = ap (λ (f : Feeder). f.sender.stream) parts.awaits.same ∙ parts.stands.stream_is in
     let same_first : begun.first ≡ from = ap (λ (f : Feeder). f.first) parts.awaits.same ∙ parts.stands.first_is in
     let hears : Hears stream from heard marks left later third fourth posts mid =
-    subst (λ (s : Stream). Hears s from heard marks left later third fourth posts mid) same_stream (subst (λ (f : ℕ). Hears begun.sender.stream f heard marks left later third fourth posts mid) same_first parts.hears) in
+    of_equal (λ s f. Hears s f heard marks left later third fourth posts mid) begun.sender.stream stream begun.first from same_stream same_first parts.hears in
     let came = map came_of hears.heard in
     let made = fed_after stream from nothing_fed came in
     let goes = hears.goes in
     let P : Stream → ℕ → Type 0 = λ s f. Goes s f made posts heard mid marks → Rests s f made posts told failed fourth last now in
-    let rests : Rests stream from made posts told failed fourth last now = subst (λ (f : ℕ). P stream f) goes.stands.first_is (subst (λ (s : Stream). P s heard.first) goes.stands.stream_is (parts.rests made posts)) goes in
+    let rests : Rests stream from made posts told failed fourth last now = of_equal P heard.sender.stream stream heard.first from goes.stands.stream_is goes.stands.first_is (parts.rests made posts) goes in
     let rested = map rested_at rests.rests in
     let all = fed_after stream from made rested in
     let whole : all ≡ fed stream opening (came ++ rested) = sym (fold-append (after_event stream from) nothing_fed came rested) in
@@ -101,8 +104,8 @@ feeds_all stream opening opened begun heard told marks failed hearing result lef
       heard = hears.heard;
       rests = rests.rests;
       gives = (second, parts.ticks, waited);
-      waits = (let W : Stream → ℕ → Type 0 = λ s f. AllByRecursion (λ reading. interval_at s.setup.times reading < f) early in subst (λ (f : ℕ). W stream f) parts.stands.first_is (subst (λ (s : Stream). W s opened.first) parts.stands.stream_is parts.awaits.waits));
-      begins = (let B : Stream → ℕ → Type 0 = λ s f. f ≤ interval_at s.setup.times begins in subst (λ (f : ℕ). B stream f) parts.stands.first_is (subst (λ (s : Stream). B s opened.first) parts.stands.stream_is parts.awaits.begins));
+      waits = (let W : Stream → ℕ → Type 0 = λ s f. AllByRecursion (λ reading. interval_at s.setup.times reading < f) early in of_equal W opened.sender.stream stream opened.first from parts.stands.stream_is parts.stands.first_is parts.awaits.waits);
+      begins = (let B : Stream → ℕ → Type 0 = λ s f. f ≤ interval_at s.setup.times begins in of_equal B opened.sender.stream stream opened.first from parts.stands.stream_is parts.stands.first_is parts.awaits.begins);
       left_is = hears.left_is;
       made = all;
       made_is = whole;

@@ -1,8 +1,7 @@
 -- What the inner steps of a feed come to.
-use Rattle.std.specs.Prelude.{◌≡◌, ℕ, ◌+◌, ◌-◌, ◌^◌, ◌<◌, ◌≤◌, Bool, true, false, ◌&&◌, List, [], ◌∷◌, ◌++◌, length, map, min, nat_le, nat_lt, take, Option, Some, None, IfSome}
+use Rattle.std.specs.Prelude.{◌≡◌, ℕ, ◌+◌, ◌-◌, ◌^◌, ◌<◌, ◌≤◌, Bool, true, false, ◌&&◌, List, [], ◌∷◌, ◌++◌, length, map, min, nat_le, take, Option, Some, None, IfSome}
 use Rattle.std.specs.List.{AllByRecursion, fold, list_all}
 use denote.Ref.{Bor}
-use Rattle.tesla_clock.specs.Schedule.{Times}
 use Rattle.tesla_desk.specs.Clocks.{Gives, Ticking}
 use Rattle.tesla_desk.specs.Faults.{HasCause}
 use Rattle.tesla_desk.specs.Links.{after_letters}
@@ -12,7 +11,7 @@ use Rattle.tesla_posts.specs.Posts.{PostSeen, with_datagrams}
 use Rattle.tesla_sender.specs.Made.{Call, Chain, Stream, chains_of, index_told, interval_at, latest_of, messages_of, tells_all, tells_newer}
 use Rattle.tesla_sender.specs.declared.refusal.SendRefusal.{SendRefusal}
 use Rattle.tesla_sender.specs.declared.refusal.SendRefusal.TheVariants as unsent
-use Rattle.tesla_feed.specs.Fed.{Event, Came, Rested, Feeding, after_event, after_none, counts_of, datagram_of, datagrams_of, last_message, latest_from, nothing_fed, reading_of, told_by}
+use Rattle.tesla_feed.specs.Fed.{Event, Came, Feeding, after_event, after_none, counts_of, datagram_of, datagrams_of, last_message, latest_from, nothing_fed, reading_of, told_by}
 use Rattle.tesla_feed.specs.Feed.{AreNeeded, Heard, SendPosts, came_of, has_failed, letter_of, rested_at}
 use Rattle.tesla_feed.specs.declared.counts.FeedCounts.{FeedCounts}
 use Rattle.tesla_feed.specs.declared.feeder.Feeder.{Feeder}

@@ -29,8 +29,8 @@ pub struct Feeder {
 }
 
 impl Feeder {
-    /// The feeder of a sender that has accepted no call, opened at this reading of the clock: it makes its calls after the
-    /// interval of that. The keys up to that of its first interval are made.
+    /// The feeder of a sender that has accepted no call, opened at this reading of the clock: it makes its calls after
+    /// the interval of that. The keys up to that of its first interval are made.
     pub fn open<L: Ledger>(mut sender: Sender, opening: u64, steps: &mut Steps<L>) -> Feeder
         requires { Stands sender [] }
         ensures stands { StandsFor sender.stream (first_interval sender.stream.setup.times opening) result nothing_fed }
@@ -64,8 +64,8 @@ impl Feeder {
         self.first <= self.sender.interval_at(reading)
     }
 
-    // Makes the frame of a message that came at this reading, or where it is refused that of a disclosure that is due, and
-    // gives its length. `None`: no frame is made.
+    // Makes the frame of a message that came at this reading, or where it is refused that of a disclosure that is due,
+    // and gives its length. `None`: no frame is made.
     fn message<L: Ledger>(
         &mut self,
         reading: u64,
@@ -112,7 +112,8 @@ impl Feeder {
         Some(length)
     }
 
-    /// Does what an event at this reading asks for: a message came, or none did. It gives the length of the frame that is made.
+    /// Does what an event at this reading asks for: a message came, or none did. It gives the length of the frame that
+    /// is made.
     pub fn take<L: Ledger>(
         &mut self,
         reading: u64,

@@ -30,13 +30,14 @@ pub struct FeedEnd {
     pub counts: FeedCounts,
 }
 
-/// Feeds what comes over the link to the posts: each datagram is a message of the sender, at the reading of the clock when it
-/// came, and keys are told when they are due, also where nothing comes. Each frame is handed to each post, in their order.
+/// Feeds what comes over the link to the posts: each datagram is a message of the sender, at the reading of the clock
+/// when it came, and keys are told when they are due, also where nothing comes. Each frame is handed to each post, in
+/// their order.
 ///
-/// The first reading of the clock is the opening: the feed makes no call in its interval or an earlier one, and asks the
-/// link for nothing before the next one has begun. After the link's end or failure it goes on until the key of the last
-/// message's interval was told on every chain. A post that fails sends no more; where all have failed the feed ends. It waits for
-/// the clock and for the link, and takes no memory.
+/// The first reading of the clock is the opening: the feed makes no call in its interval or an earlier one, and asks
+/// the link for nothing before the next one has begun. After the link's end or failure it goes on until the key of the
+/// last message's interval was told on every chain. A post that fails sends no more; where all have failed the feed
+/// ends. It waits for the clock and for the link, and takes no memory.
 pub fn feed<R: Wait, L: Ledger, K: Link, C: Clock, P: Post, G: Gate>(
     rt: &R,
     sender: Sender,

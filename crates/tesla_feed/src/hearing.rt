@@ -64,8 +64,9 @@ fn take_event<L: Ledger, P: Post>(
     }
 }
 
-/// Takes one item after another off the link, and does what it asks for at one reading of the clock, until the link ends or fails
-/// or all posts have failed. Where no message came the keys of the next interval are made. It waits for the link.
+/// Takes one item after another off the link, and does what it asks for at one reading of the clock, until the link
+/// ends or fails or all posts have failed. Where no message came the keys of the next interval are made. It waits for
+/// the link.
 pub fn hear_all<R: Wait, L: Ledger, K: Link, C: Clock, P: Post>(
     rt: &R,
     feeder: &mut Feeder,
@@ -107,8 +108,8 @@ pub fn hear_all<R: Wait, L: Ledger, K: Link, C: Clock, P: Post>(
     unreachable!()
 }
 
-/// Lets the gate rest until the next interval begins, and does what is due then, until the key of the last message was told on
-/// every chain or all posts have failed.
+/// Lets the gate rest until the next interval begins, and does what is due then, until the key of the last message was
+/// told on every chain or all posts have failed.
 pub fn tell_rest<R: Wait, L: Ledger, C: Clock, P: Post, G: Gate>(
     rt: &R,
     feeder: &mut Feeder,

@@ -7,8 +7,9 @@ pub fn accepted()
     ensures { FeedsAreAccepted }
 {}
 
-/// Where a feed was opened at a reading of at least every reading of another's calls, each of its calls is in a later interval than all
-/// of the other's: a feed that is started again shares no interval with the one before, and uses no name again.
+/// Where a feed was opened at a reading of at least every reading of another's calls, each of its calls is in a later
+/// interval than all of the other's: a feed that is started again shares no interval with the one before, and uses no
+/// name again.
 pub fn apart()
     ensures { FeedsApart }
 {}

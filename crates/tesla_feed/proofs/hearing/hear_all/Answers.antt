@@ -1,4 +1,4 @@
-use Rattle.std.proofs.Common.{◌≡◌, ◌∙◌, take, refl, sym, rules}
+use Rattle.std.proofs.Common.{◌∙◌, take, refl, sym, rules}
 use Rattle.tesla_desk.specs.declared.link.Letter.TheVariants as letters
 use Rattle.tesla_feed.specs.Feed.{Heard}
 use Rattle.tesla_feed.proofs.Going.{hears_more, hears_next, hears_none}

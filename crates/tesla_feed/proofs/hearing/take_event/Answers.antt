@@ -1,4 +1,4 @@
-use Rattle.tesla_feed.proofs.Going.{goes_none, goes_some}
+use Rattle.tesla_feed.proofs.Going.{goes_some}
 use Rattle.tesla_feed.proofs.hearing.take_event.Goals as goal
 
 pub returns-in-Some-clause-goes : goal.returns-in-Some-clause-goes

@@ -1,6 +1,6 @@
-use Rattle.std.proofs.Common.{◌≡◌, ◌∙◌, ℕ, Bool, false, true, refl, sym, ap, subst}
+use Rattle.std.proofs.Common.{◌≡◌, ◌∙◌, ℕ, false, true, refl, sym, ap}
 use Rattle.tesla_sender.specs.Made.{interval_at}
-use Rattle.tesla_feed.specs.Steps.{StandsFor, is_due_after}
+use Rattle.tesla_feed.specs.Steps.{is_due_after}
 use Rattle.tesla_feed.specs.declared.counts.FeedCounts.{FeedCounts}
 use Rattle.tesla_feed.proofs.Kept.{makes_disclosure, makes_none, never_refused}
 use Rattle.tesla_feed.proofs.feeder.Feeder.disclose.Goals as goal
