@@ -12,13 +12,13 @@ use itoa::Buffer;
 /// The lines that tell what a command came to, of at most 2,048 bytes. They take no memory.
 pub type Lines = ArrayString<2048>;
 
-/// Adds the line of a count: the name, which has at most 9 bytes, a space, the number as a decimal and an LF.
-/// These are at most 31 bytes, for which there must be room.
+/// Adds the line of a count: the name, which has at most 11 bytes, a space, the number as a decimal and an LF.
+/// These are at most 33 bytes, for which there must be room.
 pub fn add_count(lines: &mut Lines, name: &str, number: u64)
-    requires short { length name.now ≤ 9 }
-    requires room { array_string_len lines.old + 31 ≤ 2048 }
+    requires short { length name.now ≤ 11 }
+    requires room { array_string_len lines.old + 33 ≤ 2048 }
     ensures text { lines.new.bytes ≡ lines.old.bytes ++ count_line name.now number }
-    ensures few { array_string_len lines.new ≤ array_string_len lines.old + 31 }
+    ensures few { array_string_len lines.new ≤ array_string_len lines.old + 33 }
 {
     let mut digits = Buffer::new();
     lines.push_str(name);

@@ -5,7 +5,6 @@ mod arguments;
 mod forms;
 mod lines;
 mod run;
-mod seeds;
 mod words;
 
 pub use forms::FEED;

@@ -13,7 +13,6 @@ ghost use Rattle.tesla_run_feed.specs.Steps.{FeedsFiles, FeedsMade, FeedsSeeded,
 
 use crate::arguments::Arguments;
 use crate::lines::lines_after;
-use crate::seeds::seeds_under;
 use crate::words::arguments_in;
 use std::alloc::Global;
 use std::marker::Brand;
@@ -23,7 +22,7 @@ use tesla_base::Steps;
 use tesla_commit::Setup;
 use tesla_desk::Desk;
 use tesla_feed::{FeedEnd, feed};
-use tesla_front::{Fault, Lines, Outcome, Stop, outcome_of, setup_under};
+use tesla_front::{Fault, Lines, Outcome, Stop, outcome_of, seeds_under, setup_under};
 use tesla_posts::{close_posts, open_posts};
 use tesla_run_send::sender_of;
 use tesla_seeds::Seeds;
