@@ -34,7 +34,7 @@ usage: ask READING ASK-OUT
 usage: reply ASK KEY READING REPLY-OUT
 """
 LIVE = b"usage: receive SETUP LAG CAPACITY LINKS SINKS\nusage: relay CAPACITY LINK POSTS\nusage: play CAPTURE POSTS\n"
-LIVE_TOOLS = b"usage: capture LINK CAPTURE\n"
+LIVE_TOOLS = b"usage: capture LINK CAPTURE\nusage: feed SETUP SECRET LINK POSTS\n"
 OPEN, READ, WRITE = b"open fault\n", b"read fault\n", b"write fault\n"
 
 # An exchange of times, and the key that both sides share. Another program made the reply.
