@@ -23,6 +23,16 @@ def make_stream(tesla, folder, start, length, last, delays):
     subprocess.run([tesla, *map(str, words)], cwd=folder, check=True, stdout=subprocess.DEVNULL, timeout=LIMIT)
 
 
+def begin(folder, start):
+    """Sets the start of the setup in a folder, which no key depends on."""
+    path = os.path.join(folder, "setup")
+    with open(path, encoding="ascii") as file:
+        lines = file.read().split("\n")
+    lines[2] = f"start {start}"
+    with open(path, "w", encoding="ascii") as file:
+        file.write("\n".join(lines))
+
+
 def free_ports(count):
     """Ports that nothing is bound to."""
     found = [socket.socket(socket.AF_INET, socket.SOCK_DGRAM) for _ in range(count)]
@@ -54,6 +64,7 @@ class Program:
     """A program that runs in a folder, 90 seconds at most. It is there once something is bound to its port."""
 
     def __init__(self, folder, words, port=None):
+        self.waited = 0
         self.printed = os.path.join(folder, f"printed{time.monotonic_ns()}")
         with open(self.printed, "wb") as file:
             self.ran = subprocess.Popen([str(word) for word in words], cwd=folder, stdin=subprocess.DEVNULL, stdout=file,
@@ -65,13 +76,15 @@ class Program:
         while port and not is_bound(port) and time.monotonic() < until:
             time.sleep(0.005)
 
-    def processor_time(self):
-        """The seconds of processor time that it has taken so far."""
+    def scheduled(self):
+        """The seconds of processor time that it has taken so far, and for how many it waited for a processor."""
         with open(f"/proc/{self.ran.pid}/schedstat", encoding="ascii") as file:
-            return int(file.read().split()[0]) / 1e9
+            return [int(word) / 1e9 for word in file.read().split()[:2]]
 
     def ended(self):
         """Its status, what it printed, and the seconds of processor time that it took."""
+        os.waitid(os.P_PID, self.ran.pid, os.WEXITED | os.WNOWAIT)
+        self.waited = self.scheduled()[1]
         _, status, used = os.wait4(self.ran.pid, 0)
         self.ran.returncode = os.waitstatus_to_exitcode(status)
         self.limit.cancel()
