@@ -107,7 +107,7 @@ struct Row {
 }
 
 // After each frame the link is quiet. Each record is one write, so the second write is that of the second record.
-const ROWS: [Row; 5] = [
+const ROWS: &[Row] = &[
     Row {
         name: "a link and then a sink",
         fails: None,
@@ -182,19 +182,35 @@ fn desk_of(alloc: Global, fails: Option<(&str, u64)>) -> Result<MemoryDesk, Fail
     Ok(desk)
 }
 
-// Adds a datagram, and a quiet.
-fn add_letters(alloc: Global, letters: &mut Vec<Letter>, digits: &str) -> Result<(), Fail>
-    requires { list_all fits letters.old.items ≡ true }
-    ensures { list_all fits letters.new.items ≡ true }
+// The letter of a frame.
+fn datagram_of(alloc: Global, digits: &str) -> Result<Letter, Fail>
+    ensures { IfOk result (λ letter. fits letter ≡ true) }
 {
     let frame = hex::decode(alloc, digits.as_bytes())?;
     if 2048 < frame.len() {
         return Err("too long".into());
     }
     let bytes = Text::new(alloc, frame.as_slice())?;
-    letters.push(Letter::Datagram { bytes })?;
-    letters.push(Letter::Quiet)?;
-    Ok(())
+    Ok(Letter::Datagram { bytes })
+}
+
+// Adds a letter that fits.
+fn add(letters: &mut Vec<Letter>, letter: Letter) -> Result<(), Fail>
+    requires all { list_all fits letters.old.items ≡ true }
+    requires it { fits letter ≡ true }
+    ensures { list_all fits letters.new.items ≡ true }
+{
+    Ok(letters.push(letter)?)
+}
+
+// Adds a datagram, and a quiet.
+fn add_letters(alloc: Global, letters: &mut Vec<Letter>, digits: &str) -> Result<(), Fail>
+    requires { list_all fits letters.old.items ≡ true }
+    ensures { list_all fits letters.new.items ≡ true }
+{
+    let datagram = datagram_of(alloc, digits)?;
+    add(letters, datagram)?;
+    add(letters, Letter::Quiet)
 }
 
 // The link and the sink of a desk.
@@ -319,9 +335,10 @@ fn one_after_the_other<R: Wait>(
     alloc: Global,
     desk: &mut MemoryDesk,
     calls: u8,
-) -> Result<Ran, Fail>
-    requires { 0 < calls }
-{
+) -> Result<Ran, Fail> {
+    if calls == 0 {
+        return Err("no calls".into());
+    }
     let begun = opened(alloc, u64::from(calls))?;
     let (mut link, mut out) = outside(desk)?;
     let Begun {
@@ -344,23 +361,26 @@ fn one_after_the_other<R: Wait>(
     })
 }
 
+// Whether a run came to what its row says.
+fn is_met(ran: &Ran, row: &Row) -> bool {
+    ran.link == row.link
+        && ran.sink == row.sink
+        && ran.events == row.events
+        && ran.heard.reads(row.heard)
+        && ran.drained.reads(row.drained)
+}
+
+// Whether a run comes to what its row says, and the sink holds as many records as it says.
+fn meets<R: Wait>(rt: &R, alloc: Global, row: &Row) -> Result<bool, Fail> {
+    let mut desk = desk_of(alloc, row.fails)?;
+    let ran = one_after_the_other(rt, alloc, &mut desk, row.calls)?;
+    Ok(is_met(&ran, row) && holds(alloc, &desk, row.records)?)
+}
+
 #[test]
 fn one_worker_after_the_other(rt: HostRuntime) -> Result<(), Fail> {
-    for row in &ROWS {
-        let mut desk = desk_of(rt.alloc(), row.fails)?;
-        let ran = one_after_the_other(&rt, rt.alloc(), &mut desk, row.calls.max(1))?;
-        assert_eq!(rt;
-            (ran.link, ran.sink, ran.events),
-            (row.link, row.sink, row.events),
-            "{}",
-            row.name
-        );
-        assert!(rt;
-            ran.heard.reads(row.heard) && ran.drained.reads(row.drained),
-            "{}",
-            row.name
-        );
-        assert!(rt; holds(rt.alloc(), &desk, row.records)?, "{}", row.name);
+    for row in ROWS {
+        assert!(rt; meets(&rt, rt.alloc(), row)?, "{}", row.name);
     }
     Ok(())
 }
@@ -417,21 +437,32 @@ fn a_link_and_a_sink_in_two_threads(rt: HostRuntime) -> Result<(), Fail> {
     Ok(())
 }
 
+// Runs the worker of a sink alone, with three calls.
+fn drains_alone<R: Wait>(
+    rt: &R,
+    alloc: Global,
+    desk: &mut MemoryDesk,
+) -> Result<(SinkEnd, Told), Fail> {
+    let begun = opened(alloc, 3)?;
+    let (letters, mut out) = outside(desk)?;
+    let Begun {
+        turn,
+        first,
+        link,
+        sink,
+    } = begun;
+    let (end, gate, sink) = drains(rt, &turn, sink, &mut out);
+    desk.close_link(letters);
+    desk.close_sink(out);
+    closed(rt, turn, first, link, sink);
+    Ok((end, gate))
+}
+
 // Where no ingest has ended, a sink's worker rests after each take, until no call is left.
 #[test]
 fn a_sink_with_nothing_to_write(rt: HostRuntime) -> Result<(), Fail> {
     let mut desk = desk_of(rt.alloc(), None)?;
-    let begun = opened(rt.alloc(), 3)?;
-    let (link, mut out) = outside(&mut desk)?;
-    let Begun {
-        turn,
-        first: _,
-        link: _,
-        sink,
-    } = begun;
-    let (end, gate, _pass) = drains(&rt, &turn, sink, &mut out);
-    desk.close_link(link);
-    desk.close_sink(out);
+    let (end, gate) = drains_alone(&rt, rt.alloc(), &mut desk)?;
     assert_eq!(rt; end, SinkEnd::Spent);
     assert!(rt; gate.reads("baebaebae"));
     assert!(rt; holds(rt.alloc(), &desk, 0)?);
