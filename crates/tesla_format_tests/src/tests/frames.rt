@@ -80,18 +80,17 @@ fn disclosure(bytes: &[u8]) -> Result<KeysView<'_>, Fail> {
     }
 }
 
-/// The key that stands at a place of the bytes.
-fn key_at(bytes: &[u8], at: usize) -> Key
-    requires { at + 32 ≤ length bytes.now }
-{
-    let mut key = [0; 32];
-    key.copy_from_slice(&bytes[at..at + 32]);
-    Key(key)
+/// The key that stands at a place of the bytes, or zeros where no key does.
+fn key_at(bytes: &[u8], at: usize) -> Key {
+    let rest = bytes.get(at..).unwrap_or(b"");
+    match rest.split_first_chunk::<32>() {
+        Some((key, _)) => Key(*key),
+        None => Key([0; 32]),
+    }
 }
 
 /// The row of a chain, whose key stands in a disclosure of the chains from 0 on.
 fn row(bytes: &[u8], chain: u8, index: u32) -> KeyRow
-    requires { 52 + 37 * chain ≤ length bytes.now }
     ensures { result.chain.0 ≡ chain }
 {
     KeyRow {
@@ -101,61 +100,82 @@ fn row(bytes: &[u8], chain: u8, index: u32) -> KeyRow
     }
 }
 
+/// Whether a message has this version, name, payload and length of its tags, and two rows.
+fn is_message(
+    view: &DataView<'_>,
+    version: u8,
+    interval: u32,
+    payload: &[u8],
+    tag_length: u8,
+) -> bool {
+    let name = Name {
+        interval,
+        number: 0,
+    };
+    view.version() == version
+        && view.stream() == StreamId(0xa7)
+        && view.name() == name
+        && view.payload() == payload
+        && view.tag_length() == tag_length
+        && view.count() == 2
+}
+
+/// Whether the tag of a chain is this.
+fn has_tag(view: &DataView<'_>, chain: u8, tag: &[u8]) -> bool {
+    chain < view.count() && tag.len() <= 32 && view.tag(chain) == WideTag::of(tag)
+}
+
+/// Whether the key of a chain is this.
+fn has_key(view: &DataView<'_>, chain: u8, key: Option<Key>) -> bool {
+    chain < view.count() && view.key(chain) == key
+}
+
 #[test]
 fn data_frames(rt: HostRuntime) -> Result<(), Fail> {
     let hi = data(&HI)?;
-    assert_eq!(rt; hi.version(), 1);
-    assert_eq!(rt; hi.stream(), StreamId(0xa7));
-    let name = Name {
-        interval: 1,
-        number: 0,
-    };
-    assert_eq!(rt; hi.name(), name);
-    assert_eq!(rt; hi.payload(), b"hi".as_slice());
-    assert_eq!(rt; hi.tag_length(), 16);
-    assert!(rt; hi.count() == 2);
-    assert_eq!(rt; hi.tag(0), WideTag::of(&HI[25..41]));
-    assert_eq!(rt; hi.tag(1), WideTag::of(&HI[42..58]));
-    assert_eq!(rt; hi.key(0), None);
-    assert_eq!(rt; hi.key(1), None);
+    assert!(rt; is_message(&hi, 1, 1, b"hi", 16));
+    assert!(rt; has_tag(&hi, 0, &HI[25..41]) && has_tag(&hi, 1, &HI[42..58]));
+    assert!(rt; has_key(&hi, 0, None) && has_key(&hi, 1, None));
+    Ok(())
+}
+
+#[test]
+fn data_frames_with_a_key(rt: HostRuntime) -> Result<(), Fail> {
     let yo = data(&YO)?;
-    let name = Name {
-        interval: 3,
-        number: 0,
-    };
-    assert_eq!(rt; yo.name(), name);
-    assert_eq!(rt; yo.payload(), b"yo".as_slice());
-    assert!(rt; yo.count() == 2);
-    assert_eq!(rt; yo.tag(1), WideTag::of(&YO[74..90]));
-    assert_eq!(rt; yo.key(0), Some(key_at(&YO, 42)));
-    assert_eq!(rt; yo.key(1), None);
+    assert!(rt; is_message(&yo, 1, 3, b"yo", 16));
+    assert!(rt; has_tag(&yo, 0, &YO[25..41]) && has_tag(&yo, 1, &YO[74..90]));
+    assert!(rt; has_key(&yo, 0, Some(key_at(&YO, 42))) && has_key(&yo, 1, None));
     Ok(())
 }
 
 #[test]
 fn short_tags(rt: HostRuntime) -> Result<(), Fail> {
     let short = data(&SHORT)?;
-    assert_eq!(rt; short.version(), 2);
-    assert_eq!(rt; short.tag_length(), 10);
-    assert!(rt; short.count() == 2);
-    assert_eq!(rt; short.tag(0), WideTag::of(&HI[25..35]));
-    assert_eq!(rt; short.tag(1), WideTag::of(&HI[42..52]));
-    assert_eq!(rt; short.key(1), None);
+    assert!(rt; is_message(&short, 2, 1, b"hi", 10));
+    assert!(rt; has_tag(&short, 0, &HI[25..35]) && has_tag(&short, 1, &HI[42..52]));
+    assert!(rt; has_key(&short, 0, None) && has_key(&short, 1, None));
     Ok(())
+}
+
+/// Whether a disclosure has this version and so many rows.
+fn is_disclosure(view: &KeysView<'_>, version: u8, count: u8) -> bool {
+    view.version() == version && view.stream() == StreamId(0xa7) && view.count() == count
+}
+
+/// Whether the row in a place is this.
+fn has_row(view: &KeysView<'_>, place: u8, row: KeyRow) -> bool {
+    place < view.count() && view.row(place) == row
 }
 
 #[test]
 fn disclosure_frames(rt: HostRuntime) -> Result<(), Fail> {
     let keys = disclosure(&KEYS)?;
-    assert_eq!(rt; keys.version(), 1);
-    assert_eq!(rt; keys.stream(), StreamId(0xa7));
-    assert!(rt; keys.count() == 2);
-    assert_eq!(rt; keys.row(0), row(&KEYS, 0, 1));
-    assert_eq!(rt; keys.row(1), row(&KEYS, 1, 1));
+    assert!(rt; is_disclosure(&keys, 1, 2));
+    assert!(rt; has_row(&keys, 0, row(&KEYS, 0, 1)));
+    assert!(rt; has_row(&keys, 1, row(&KEYS, 1, 1)));
     let eight = disclosure(&EIGHT)?;
-    assert_eq!(rt; eight.version(), 2);
-    assert!(rt; eight.count() == 8);
-    assert_eq!(rt; eight.row(7), row(&EIGHT, 7, 3));
+    assert!(rt; is_disclosure(&eight, 2, 8));
+    assert!(rt; has_row(&eight, 7, row(&EIGHT, 7, 3)));
     Ok(())
 }
 
