@@ -7,7 +7,7 @@ use tesla_base::NoMemory;
 use tesla_desk::*;
 
 /// Lines of words, each behind a comma, and what the calls of a source, a sink, a link, a post or a clock in them answer.
-const ROWS: [(&str, &str); 13] = [
+const ROWS: &[(&str, &str)] = &[
     ("page from abcdef,read from", "4 2 end end end "),
     (
         "page from abcdef,fails 1 from,read from",
@@ -50,19 +50,11 @@ const ROWS: [(&str, &str); 13] = [
     ),
 ];
 
-// Adds what five reads of a new source answer, into 4 bytes each.
-fn reads<D: Desk>(desk: &mut D, name: &str, told: &mut String) -> Result<(), Fail> {
-    let Ok(mut source) = desk.open_source(name) else {
-        return Ok(told.push_str("unopened ")?);
-    };
-    let mut buffer = [0u8; 4];
-    let mut steps = [ReadStep::End; 5];
-    for step in steps.iter_mut() {
-        *step = source.read(&mut buffer);
-    }
-    desk.close_source(source);
-    for step in steps {
-        match step {
+// Adds what five reads of a source answer, into 4 bytes each.
+fn tell_reads<S: Source>(source: &mut S, told: &mut String) -> Result<(), Fail> {
+    for _ in 0..5 {
+        let mut buffer = [0u8; 4];
+        match source.read(&mut buffer) {
             ReadStep::Got(count) => write!(told, "{count} ")?,
             ReadStep::End => told.push_str("end ")?,
             ReadStep::Failed => told.push_str("failed ")?,
@@ -71,15 +63,23 @@ fn reads<D: Desk>(desk: &mut D, name: &str, told: &mut String) -> Result<(), Fai
     Ok(())
 }
 
-// Adds what two writes of a new sink answer, of 4 bytes and of one.
-fn writes<D: Desk>(desk: &mut D, name: &str, told: &mut String) -> Result<(), Fail> {
-    let Ok(mut sink) = desk.open_sink(name) else {
+// Adds what the reads of a new source answer.
+fn reads<D: Desk>(desk: &mut D, name: &str, told: &mut String) -> Result<(), Fail> {
+    let Ok(mut source) = desk.open_source(name) else {
         return Ok(told.push_str("unopened ")?);
     };
-    let steps = [sink.write(b"abcd"), sink.write(b"e")];
-    desk.close_sink(sink);
-    for step in steps {
-        match step {
+    let done = tell_reads(&mut source, told);
+    desk.close_source(source);
+    done
+}
+
+/// What is written to a sink, a piece a call.
+const PIECES: &[&str] = &["abcd", "e"];
+
+// Adds what the writes of the pieces answer.
+fn tell_writes<K: Sink>(sink: &mut K, told: &mut String) -> Result<(), Fail> {
+    for piece in PIECES {
+        match sink.write(piece.as_bytes()) {
             WriteStep::Took(count) => write!(told, "{count} ")?,
             WriteStep::Failed => told.push_str("failed ")?,
         }
@@ -87,19 +87,21 @@ fn writes<D: Desk>(desk: &mut D, name: &str, told: &mut String) -> Result<(), Fa
     Ok(())
 }
 
-// Adds what four calls of a new link answer.
-fn hears<D: Desk>(desk: &mut D, name: &str, told: &mut String) -> Result<(), Fail> {
-    let Ok(mut link) = desk.open_link(name) else {
+// Adds what the writes to a new sink answer.
+fn writes<D: Desk>(desk: &mut D, name: &str, told: &mut String) -> Result<(), Fail> {
+    let Ok(mut sink) = desk.open_sink(name) else {
         return Ok(told.push_str("unopened ")?);
     };
-    let mut buffer = [0u8; 2048];
-    let mut answers = [Got::End; 4];
-    for answer in answers.iter_mut() {
-        *answer = link.next(&mut buffer);
-    }
-    desk.close_link(link);
-    for answer in answers {
-        match answer {
+    let done = tell_writes(&mut sink, told);
+    desk.close_sink(sink);
+    done
+}
+
+// Adds what four calls of a link answer.
+fn tell_heard<K: Link>(link: &mut K, told: &mut String) -> Result<(), Fail> {
+    for _ in 0..4 {
+        let mut buffer = [0u8; 2048];
+        match link.next(&mut buffer) {
             Got::Datagram(count) => write!(told, "{count} ")?,
             Got::Quiet => told.push_str("quiet ")?,
             Got::End => told.push_str("end ")?,
@@ -107,6 +109,16 @@ fn hears<D: Desk>(desk: &mut D, name: &str, told: &mut String) -> Result<(), Fai
         }
     }
     Ok(())
+}
+
+// Adds what the calls of a new link answer.
+fn hears<D: Desk>(desk: &mut D, name: &str, told: &mut String) -> Result<(), Fail> {
+    let Ok(mut link) = desk.open_link(name) else {
+        return Ok(told.push_str("unopened ")?);
+    };
+    let done = tell_heard(&mut link, told);
+    desk.close_link(link);
+    done
 }
 
 // Adds what three calls of a new post answer, with 4 bytes, with none and with 2.
@@ -153,11 +165,20 @@ fn ticks<D: Desk>(desk: &mut D, told: &mut String) -> Result<(), Fail> {
     Ok(())
 }
 
+/// The readings of the two clocks.
+const CLOCKS: [&[u64]; 2] = [&[1, 2, 3], &[7, 9]];
+
+// Puts the readings of a clock.
+fn put_readings(desk: &mut MemoryDesk, clock: u64, list: &[u64]) -> Result<(), Fail> {
+    Ok(desk.put_readings(clock, list)?)
+}
+
 // A desk in memory with readings for two clocks, whose sinks take 16 bytes.
-fn new_desk(alloc: Global) -> Result<MemoryDesk, NoMemory> {
+fn new_desk(alloc: Global) -> Result<MemoryDesk, Fail> {
     let mut desk = MemoryDesk::new(alloc, 16)?;
-    desk.put_readings(1, &[7, 9])?;
-    desk.put_readings(0, &[1, 2, 3])?;
+    let [first, other] = CLOCKS;
+    put_readings(&mut desk, 1, other)?;
+    put_readings(&mut desk, 0, first)?;
     Ok(desk)
 }
 
@@ -198,15 +219,32 @@ fn does(alloc: Global, desk: &mut MemoryDesk, line: &str, told: &mut String) -> 
     }
 }
 
+// Does what lines say, and adds what the calls in them answer.
+fn do_all(
+    alloc: Global,
+    desk: &mut MemoryDesk,
+    lines: &str,
+    told: &mut String,
+) -> Result<(), Fail> {
+    for line in lines.split(',') {
+        does(alloc, desk, line, told)?;
+    }
+    Ok(())
+}
+
+// What the calls in lines of words answer.
+fn told_of(alloc: Global, lines: &str) -> Result<String, Fail> {
+    let mut desk = new_desk(alloc)?;
+    let mut told = String::new(alloc);
+    do_all(alloc, &mut desk, lines, &mut told)?;
+    Ok(told)
+}
+
 #[test]
 fn lines_of_words(rt: HostRuntime) -> Result<(), Fail> {
     for (lines, want) in ROWS {
-        let mut desk = new_desk(rt.alloc())?;
-        let mut told = String::new(rt.alloc());
-        for line in lines.split(',') {
-            does(rt.alloc(), &mut desk, line, &mut told)?;
-        }
-        assert_eq!(rt; told.as_str(), want, "{lines}");
+        let told = told_of(rt.alloc(), lines)?;
+        assert_eq!(rt; told.as_str(), *want, "{lines}");
     }
     Ok(())
 }
@@ -216,9 +254,17 @@ fn a_page_is_what_was_written(rt: HostRuntime) -> Result<(), Fail> {
     let mut desk = new_desk(rt.alloc())?;
     let mut told = String::new(rt.alloc());
     writes(&mut desk, "to", &mut told)?;
-    assert_eq!(rt; desk.page("to"), Some(b"abcde".as_slice()));
+    assert!(rt; desk.page("to") == Some(b"abcde".as_slice()));
     assert!(rt; desk.page("nothing").is_none());
     Ok(())
+}
+
+// Whether the post's mail is what it sent.
+fn is_mail(desk: &MemoryDesk) -> bool {
+    is_posted(desk, "to", 0, b"abcd")
+        && is_posted(desk, "to", 1, b"")
+        && is_posted(desk, "to", 2, b"ef")
+        && !is_posted(desk, "to", 2, b"abcd")
 }
 
 #[test]
@@ -226,12 +272,6 @@ fn mail_is_what_was_sent(rt: HostRuntime) -> Result<(), Fail> {
     let mut desk = new_desk(rt.alloc())?;
     let mut told = String::new(rt.alloc());
     posts(&mut desk, "to", &mut told)?;
-    let found = [
-        is_posted(&desk, "to", 0, b"abcd"),
-        is_posted(&desk, "to", 1, b""),
-        is_posted(&desk, "to", 2, b"ef"),
-        is_posted(&desk, "to", 2, b"abcd"),
-    ];
-    assert_eq!(rt; found, [true, true, true, false]);
+    assert!(rt; is_mail(&desk));
     Ok(())
 }

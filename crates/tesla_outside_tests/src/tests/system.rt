@@ -8,6 +8,7 @@ mod recording;
 
 use recording::Recording;
 use std::fs;
+use std::rt::Files;
 use std::test::Fail;
 use tesla_desk::{CONSOLE, Desk, OpenRefusal, ReadStep, Source, write_all};
 use tesla_live::*;
@@ -32,6 +33,46 @@ fn read_once<D: Desk>(
     Ok(step)
 }
 
+// Whether the first read of a new source gives so many bytes, and the buffer then has these.
+fn reads<D: Desk>(desk: &mut D, name: &str, count: usize, bytes: &[u8]) -> bool {
+    let mut buffer = [0u8; 8];
+    match read_once(desk, name, &mut buffer) {
+        Ok(ReadStep::Got(got)) => got == count && buffer.as_slice() == bytes,
+        _ => false,
+    }
+}
+
+// Whether a file has these bytes.
+fn holds<R: Files + AllocGlobal>(rt: &R, name: &str, bytes: &[u8]) -> bool {
+    match fs::read(rt, name) {
+        Ok(held) => held.as_slice() == bytes,
+        Err(_) => false,
+    }
+}
+
+// Whether all of a piece is written to a new sink.
+fn writes<D: Desk>(desk: &mut D, name: &str, piece: &[u8]) -> bool {
+    match write_page(desk, name, piece) {
+        Ok(done) => done,
+        Err(_) => false,
+    }
+}
+
+// Whether a sink isn't opened.
+fn refuses<D: Desk>(desk: &mut D, name: &str) -> bool {
+    match write_page(desk, name, b"bytes") {
+        Err(OpenRefusal::Failed) => true,
+        _ => false,
+    }
+}
+
+// Whether a file is cut, written and read back.
+fn rewrites<D: Desk, R: Files + AllocGlobal>(rt: &R, desk: &mut D, name: &str) -> bool {
+    writes(desk, name, b"bytes")
+        && holds(rt, name, b"bytes")
+        && reads(desk, name, 5, b"bytes\0\0\0")
+}
+
 #[test]
 fn a_file_with_blanks_in_its_name_is_cut_written_and_read_back(
     rt: HostRuntime,
@@ -40,16 +81,18 @@ fn a_file_with_blanks_in_its_name_is_cut_written_and_read_back(
     fs::write(&rt, name, "a longer text")?;
     let gates = Gates::new();
     let mut desk = LiveDesk::new(&rt, &gates);
-    let written = write_page(&mut desk, name, b"bytes");
-    let held = fs::read(&rt, name);
-    let mut buffer = [0u8; 8];
-    let step = read_once(&mut desk, name, &mut buffer);
+    let rewritten = rewrites(&rt, &mut desk, name);
     fs::remove_file(&rt, name)?;
-    assert_eq!(rt; written, Ok(true));
-    assert_eq!(rt; held?.as_slice(), b"bytes".as_slice());
-    assert_eq!(rt; step, Ok(ReadStep::Got(5)));
-    assert_eq!(rt; &buffer, b"bytes\0\0\0");
+    assert!(rt; rewritten);
     Ok(())
+}
+
+// Whether a file that was read isn't written under its name, another spelling of it or that of a link.
+fn protects<D: Desk>(desk: &mut D, name: &str, spelling: &str, link: &str) -> bool {
+    reads(desk, name, 8, b"the capt")
+        && refuses(desk, name)
+        && refuses(desk, spelling)
+        && refuses(desk, link)
 }
 
 #[test]
@@ -59,20 +102,17 @@ fn a_file_that_was_opened_is_not_written_under_any_name(rt: HostRuntime) -> Resu
     fs::hard_link(&rt, name, link)?;
     let gates = Gates::new();
     let mut desk = LiveDesk::new(&rt, &gates);
-    let mut buffer = [0u8; 8];
-    let read = read_once(&mut desk, name, &mut buffer);
-    let refused = [
-        write_page(&mut desk, name, b"records"),
-        write_page(&mut desk, "./opened_by_a_test", b"records"),
-        write_page(&mut desk, link, b"records"),
-    ];
-    let held = fs::read(&rt, name);
+    let protected = protects(&mut desk, name, "./opened_by_a_test", link);
+    let held = holds(&rt, name, b"the capture");
     fs::remove_file(&rt, link)?;
     fs::remove_file(&rt, name)?;
-    assert_eq!(rt; read, Ok(ReadStep::Got(8)));
-    assert_eq!(rt; refused, [Err(OpenRefusal::Failed); 3]);
-    assert_eq!(rt; held?.as_slice(), b"the capture".as_slice());
+    assert!(rt; protected && held);
     Ok(())
+}
+
+// Whether a copy of a file that was read is emptied.
+fn empties<D: Desk, R: Files + AllocGlobal>(rt: &R, desk: &mut D, name: &str, copy: &str) -> bool {
+    reads(desk, name, 8, b"the capt") && writes(desk, copy, b"") && holds(rt, copy, b"")
 }
 
 #[test]
@@ -82,16 +122,16 @@ fn a_copy_of_an_opened_file_is_another_file_and_is_emptied(rt: HostRuntime) -> R
     fs::write(&rt, copy, "the capture")?;
     let gates = Gates::new();
     let mut desk = LiveDesk::new(&rt, &gates);
-    let mut buffer = [0u8; 8];
-    let read = read_once(&mut desk, name, &mut buffer);
-    let written = write_page(&mut desk, copy, b"");
-    let held = fs::read(&rt, copy);
+    let emptied = empties(&rt, &mut desk, name, copy);
     fs::remove_file(&rt, copy)?;
     fs::remove_file(&rt, name)?;
-    assert_eq!(rt; read, Ok(ReadStep::Got(8)));
-    assert_eq!(rt; written, Ok(true));
-    assert_eq!(rt; held?.as_slice(), b"".as_slice());
+    assert!(rt; emptied);
     Ok(())
+}
+
+// Whether both pieces are written to the console.
+fn prints<D: Desk>(desk: &mut D) -> bool {
+    writes(desk, CONSOLE, b"a line\n") && writes(desk, CONSOLE, b"and more")
 }
 
 #[test]
@@ -99,37 +139,44 @@ fn the_console_prints_what_is_written(rt: HostRuntime) -> Result<(), Fail> {
     let recording = Recording::new(&rt);
     let gates = Gates::new();
     let mut desk = LiveDesk::new(&recording, &gates);
-    let written = [
-        write_page(&mut desk, CONSOLE, b"a line\n"),
-        write_page(&mut desk, CONSOLE, b"and more"),
-    ];
+    let written = prints(&mut desk);
     drop(desk);
-    assert_eq!(rt; written, [Ok(true); 2]);
-    assert_eq!(rt;
-        recording.into_printed().as_slice(),
-        b"a line\nand more".as_slice()
-    );
+    let printed = recording.into_printed();
+    assert!(rt; written && printed.as_slice() == b"a line\nand more".as_slice());
     Ok(())
+}
+
+// Whether a source isn't opened.
+fn is_missing<D: Desk>(desk: &mut D, name: &str) -> bool {
+    let mut buffer = [0u8; 8];
+    match read_once(desk, name, &mut buffer) {
+        Err(OpenRefusal::Failed) => true,
+        _ => false,
+    }
+}
+
+// Whether a source is opened and can't be read.
+fn is_unreadable<D: Desk>(desk: &mut D, name: &str) -> bool {
+    let mut buffer = [0u8; 8];
+    match read_once(desk, name, &mut buffer) {
+        Ok(ReadStep::Failed) => true,
+        _ => false,
+    }
+}
+
+// Whether what is no file is refused.
+fn refuses_no_files<D: Desk>(desk: &mut D) -> bool {
+    is_missing(desk, "no_such_file")
+        && is_unreadable(desk, "/")
+        && refuses(desk, "/")
+        && refuses(desk, "no_such_directory/file")
+        && refuses(desk, "/dev/null/file")
 }
 
 #[test]
 fn what_is_no_file_is_refused_by_name(rt: HostRuntime) {
     let gates = Gates::new();
     let mut desk = LiveDesk::new(&rt, &gates);
-    let mut buffer = [0u8; 8];
-    assert_eq!(rt;
-        read_once(&mut desk, "no_such_file", &mut buffer),
-        Err(OpenRefusal::Failed)
-    );
-    assert_eq!(rt;
-        read_once(&mut desk, "/", &mut buffer),
-        Ok(ReadStep::Failed)
-    );
-    for name in ["/", "no_such_directory/file", "/dev/null/file"] {
-        assert_eq!(rt;
-            write_page(&mut desk, name, b"bytes"),
-            Err(OpenRefusal::Failed)
-        );
-    }
-    assert_eq!(rt; write_page(&mut desk, "/dev/null", b"bytes"), Ok(true));
+    assert!(rt; refuses_no_files(&mut desk));
+    assert!(rt; writes(&mut desk, "/dev/null", b"bytes"));
 }

@@ -1,5 +1,6 @@
 //! Tests of links, over the local machine.
 
+use std::alloc::Global;
 use std::io;
 use std::net::{Net, SocketAddr, UdpSocket};
 use std::test::Fail;
@@ -19,23 +20,37 @@ fn hear<K: Link>(link: &mut K) -> (Got, u8) {
     (got, into[0])
 }
 
-// Sends two datagrams to a new link, and gives the first answers. The second is longer than a link's buffer.
-fn hear_two<D: Desk>(
+/// What comes of two datagrams at a link that ends after two quiets, and the first byte of each.
+const HEARD: &[(Got, u8)] = &[
+    (Got::Datagram(5), b'f'),
+    (Got::Datagram(2_048), b's'),
+    (Got::Quiet, 0),
+    (Got::End, 0),
+    (Got::End, 0),
+];
+
+// Whether the next calls answer this.
+fn hears<K: Link>(link: &mut K, wanted: &[(Got, u8)]) -> bool {
+    for want in wanted {
+        let (got, first) = hear(link);
+        if got != want.0 || first != want.1 {
+            return false;
+        }
+    }
+    true
+}
+
+// Sends two datagrams to a new link, of which the second is longer than a link's buffer. Tells whether they are heard.
+fn hears_two<D: Desk>(
     desk: &mut D,
     name: &str,
     to: SocketAddr,
     sender: &UdpSocket,
-) -> Result<[(Got, u8); 5], OpenRefusal> {
+) -> Result<bool, OpenRefusal> {
     let mut link = desk.open_link(name)?;
     let _ = sender.send_to(b"first", to);
     let _ = sender.send_to(&[b's'; 3_000], to);
-    let heard = [
-        hear(&mut link),
-        hear(&mut link),
-        hear(&mut link),
-        hear(&mut link),
-        hear(&mut link),
-    ];
+    let heard = hears(&mut link, HEARD);
     desk.close_link(link);
     Ok(heard)
 }
@@ -74,31 +89,24 @@ fn refusal<D: Desk>(desk: &mut D, name: &str) -> Option<OpenRefusal> {
     }
 }
 
-/// What comes of two datagrams at a link that ends after two quiets.
-const HEARD: [(Got, u8); 5] = [
-    (Got::Datagram(5), b'f'),
-    (Got::Datagram(2_048), b's'),
-    (Got::Quiet, 0),
-    (Got::End, 0),
-    (Got::End, 0),
-];
+// Whether a link at a free port of this host hears two datagrams. Not every machine has each host.
+fn hears_at<R: AllocGlobal + Net, D: Desk>(rt: &R, desk: &mut D, host: &str) -> Result<bool, Fail> {
+    let Ok((to, sender)) = free_port(rt, host) else {
+        return Ok(true);
+    };
+    let name = format!(in rt.alloc(); "{to}/2")?;
+    match hears_two(desk, name.as_str(), to, &sender) {
+        Ok(heard) => Ok(heard),
+        Err(_) => Ok(false),
+    }
+}
 
 #[test]
 fn datagrams_come_until_the_link_was_quiet(rt: HostRuntime) -> Result<(), Fail> {
     let gates = Gates::new();
     let mut desk = LiveDesk::new(&rt, &gates);
-    for host in ["127.0.0.1", "::1"] {
-        // Not every machine has the second.
-        let Ok((to, sender)) = free_port(&rt, host) else {
-            continue;
-        };
-        let name = format!(in rt.alloc(); "{to}/2")?;
-        assert_eq!(rt;
-            hear_two(&mut desk, name.as_str(), to, &sender),
-            Ok(HEARD),
-            "{name}"
-        );
-    }
+    assert!(rt; hears_at(&rt, &mut desk, "127.0.0.1")?);
+    assert!(rt; hears_at(&rt, &mut desk, "::1")?);
     Ok(())
 }
 
@@ -120,37 +128,60 @@ fn a_link_that_is_told_a_wait_is_quiet_sooner_and_ends_as_late(
     Ok(())
 }
 
+const NO_ADDRESSES: &[&str] = &[
+    "",
+    "/",
+    "/3",
+    "127.0.0.1/3",
+    "127.0.0.1:5000",
+    "127.0.0.1:5000/",
+    "127.0.0.1:5000/03",
+    "127.0.0.1:5000/-3",
+    "127.0.0.1:5000/3/3",
+    "127.0.0.1:70000/3",
+    "127.0.0.1:/3",
+    "127.0.0:1:5000/3",
+];
+
+// Whether a link isn't opened.
+fn is_refused<D: Desk>(desk: &mut D, name: &str) -> bool {
+    match refusal(desk, name) {
+        Some(OpenRefusal::Failed) => true,
+        _ => false,
+    }
+}
+
+// The first of these names under which a link is opened.
+fn first_opened<D: Desk>(desk: &mut D, names: &'static [&'static str]) -> Option<&'static str> {
+    for name in names {
+        if !is_refused(desk, name) {
+            return Some(*name);
+        }
+    }
+    None
+}
+
 #[test]
-fn what_is_no_free_address_is_refused(rt: HostRuntime) -> Result<(), Fail> {
+fn what_is_no_address_is_refused(rt: HostRuntime) {
     let gates = Gates::new();
     let mut desk = LiveDesk::new(&rt, &gates);
-    for name in [
-        "",
-        "/",
-        "/3",
-        "127.0.0.1/3",
-        "127.0.0.1:5000",
-        "127.0.0.1:5000/",
-        "127.0.0.1:5000/03",
-        "127.0.0.1:5000/-3",
-        "127.0.0.1:5000/3/3",
-        "127.0.0.1:70000/3",
-        "127.0.0.1:/3",
-        "127.0.0:1:5000/3",
-    ] {
-        assert_eq!(rt;
-            refusal(&mut desk, name),
-            Some(OpenRefusal::Failed),
-            "{name}"
-        );
-    }
+    assert_eq!(rt; first_opened(&mut desk, NO_ADDRESSES), None);
+}
+
+// The name of a link at the socket's address.
+fn name_at(alloc: Global, socket: &UdpSocket) -> Result<String, Fail> {
+    let to = socket.local_addr()?;
+    Ok(format!(in alloc; "{to}/3")?)
+}
+
+#[test]
+fn an_address_is_refused_while_it_is_taken(rt: HostRuntime) -> Result<(), Fail> {
+    let gates = Gates::new();
+    let mut desk = LiveDesk::new(&rt, &gates);
     let taken = UdpSocket::bind(&rt, "127.0.0.1:0")?;
-    let name = format!(in rt.alloc(); "{}/3", taken.local_addr()?)?;
-    assert_eq!(rt;
-        refusal(&mut desk, name.as_str()),
-        Some(OpenRefusal::Failed)
-    );
+    let name = name_at(rt.alloc(), &taken)?;
+    assert!(rt; is_refused(&mut desk, name.as_str()));
     drop(taken);
-    assert_eq!(rt; refusal(&mut desk, name.as_str()), None);
+    assert!(rt; refusal(&mut desk, name.as_str()).is_none());
     Ok(())
 }
