@@ -148,11 +148,16 @@ fn worked_examples_in_pieces(rt: HostRuntime) -> Result<(), Fail> {
     Ok(())
 }
 
+// Runs words as those of a tool.
+fn status_of_tool(alloc: Global, words: &[String], desk: &mut MemoryDesk) -> u8 {
+    run_tools(alloc, words, desk)
+}
+
 // What the tools make of words, which needn't be for them.
 fn tools_of(alloc: Global, line: &str) -> Result<String, Fail> {
     let mut desk = MemoryDesk::new(alloc, 1_000)?;
     let words = words_of(alloc, line)?;
-    let status = run_tools(alloc, words.as_slice(), &mut desk);
+    let status = status_of_tool(alloc, words.as_slice(), &mut desk);
     told_of(alloc, status, &desk)
 }
 

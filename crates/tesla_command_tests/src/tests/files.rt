@@ -1,5 +1,6 @@
 //! Files that are read up to a limit, and written, three bytes a call.
 
+use super::pages::put_page;
 use super::set;
 use std::alloc::Global;
 use std::test::Fail;
@@ -9,8 +10,7 @@ use tesla_front::{Fault, read_file, read_up_to, write_file};
 // A desk with this text under "file", which moves at most 3 bytes a call, and that is set so.
 fn desk_with(alloc: Global, text: &str, settings: &str) -> Result<MemoryDesk, Fail> {
     let mut desk = MemoryDesk::new(alloc, 100)?;
-    desk.put_page("file", text.as_bytes())?;
-    desk.set_piece("file", 3)?;
+    put_page(&mut desk, "file", text.as_bytes(), 3)?;
     set(&mut desk, settings)?;
     Ok(desk)
 }
@@ -23,26 +23,40 @@ fn read_of(alloc: Global, read: Result<Vec<u8>, Fault>) -> Result<String, Fail> 
     }
 }
 
-// Whether a source's next bytes, up to `most` of them, are these.
-fn reads<S: Source>(alloc: Global, source: &mut S, most: usize, want: &str) -> bool {
-    match read_up_to(alloc, source, most) {
-        Ok(read) => read.as_slice() == want.as_bytes(),
-        Err(_) => false,
+// A source's next bytes, up to so many.
+fn part_of<S: Source>(alloc: Global, source: &mut S, most: usize) -> Result<String, Fail> {
+    let read = read_up_to(alloc, source, most);
+    read_of(alloc, read)
+}
+
+/// How many bytes are read at most, a part after the other.
+const PARTS: &[usize] = &[5, 0, 4, 100, 100];
+
+// The parts of a source, with a bar behind each.
+fn parts_of<S: Source>(alloc: Global, source: &mut S) -> Result<String, Fail> {
+    let mut parts = String::new(alloc);
+    for most in PARTS {
+        parts.push_str(part_of(alloc, source, *most)?.as_str())?;
+        parts.push_str("|")?;
     }
+    Ok(parts)
+}
+
+// The parts of the file.
+fn parts_of_file(alloc: Global, desk: &mut MemoryDesk) -> Result<String, Fail> {
+    let Ok(mut source) = desk.open_source("file") else {
+        return Err("not opened".into());
+    };
+    let parts = parts_of(alloc, &mut source);
+    desk.close_source(source);
+    parts
 }
 
 #[test]
 fn a_source_is_read_in_parts(rt: HostRuntime) -> Result<(), Fail> {
     let mut desk = desk_with(rt.alloc(), "first to last", "")?;
-    let Ok(mut source) = desk.open_source("file") else {
-        return Err("not opened".into());
-    };
-    let mut met = true;
-    for (most, want) in [(5, "first"), (0, ""), (4, " to "), (100, "last"), (100, "")] {
-        met = met && reads(rt.alloc(), &mut source, most, want);
-    }
-    desk.close_source(source);
-    assert!(rt; met);
+    let parts = parts_of_file(rt.alloc(), &mut desk)?;
+    assert_eq!(rt; parts.as_str(), "first|| to |last||");
     Ok(())
 }
 
@@ -89,17 +103,22 @@ fn writes_of_a_file() -> &'static [(&'static str, &'static str)] {
     WRITES
 }
 
-// The line of the fault of writing, and what the file holds then, with a bar between.
-fn written_of(alloc: Global, settings: &str) -> Result<String, Fail> {
-    let mut desk = desk_with(alloc, "before", settings)?;
-    let written = write_file("file", b"first to last", &mut desk);
-    let line = match written {
+// The line of the fault of writing the file.
+fn line_of(alloc: Global, desk: &mut MemoryDesk) -> Result<String, Fail> {
+    let line = match write_file("file", b"first to last", desk) {
         Ok(()) => b"".as_slice(),
         Err(fault) => fault.line(),
     };
-    let line = std::str::from_utf8(line)?;
-    let held = std::str::from_utf8(desk.page("file").unwrap_or(b""))?;
-    Ok(format!(in alloc; "{line}|{held}")?)
+    Ok(String::from_str(alloc, std::str::from_utf8(line)?)?)
+}
+
+// The line of the fault of writing, and what the file holds then, with a bar between.
+fn written_of(alloc: Global, settings: &str) -> Result<String, Fail> {
+    let mut desk = desk_with(alloc, "before", settings)?;
+    let mut told = line_of(alloc, &mut desk)?;
+    told.push_str("|")?;
+    told.push_str(std::str::from_utf8(desk.page("file").unwrap_or(b""))?)?;
+    Ok(told)
 }
 
 #[test]

@@ -22,6 +22,10 @@ const TEXTS: &[(&str, &str)] = &[
     ("falling", FALLING),
     ("equal", EQUAL),
     ("empty", ""),
+];
+
+/// More of them.
+const MORE_TEXTS: &[(&str, &str)] = &[
     ("secret", streams::SEEDS),
     ("one-seed", streams::ONE_SEED),
     ("setup-of-one-chain", streams::SETUP_OF_ONE_CHAIN),
@@ -174,8 +178,8 @@ const OTHERS: &[(&str, &str)] = &[
     ),
 ];
 
-fn texts() -> &'static [(&'static str, &'static str)] {
-    TEXTS
+fn texts() -> [&'static [(&'static str, &'static str)]; 2] {
+    [TEXTS, MORE_TEXTS]
 }
 
 fn records() -> [&'static [(&'static str, &'static str)]; 4] {
@@ -192,8 +196,8 @@ fn is_named(it: &Run, page: &str) -> bool {
     page == it.held.0 || page == "out"
 }
 
-// Puts a page, which moves at most so many bytes a call.
-fn put_page(desk: &mut MemoryDesk, page: &str, bytes: &[u8], most: usize) -> Result<(), Fail> {
+/// Puts a page, which moves at most so many bytes a call.
+pub fn put_page(desk: &mut MemoryDesk, page: &str, bytes: &[u8], most: usize) -> Result<(), Fail> {
     desk.put_page(page, bytes)?;
     Ok(desk.set_piece(page, most.max(1))?)
 }
@@ -237,12 +241,25 @@ fn put_parts(
     Ok(())
 }
 
-/// Puts the pages that the run has to do with, which move at most so many bytes a call.
-pub fn put(alloc: Global, desk: &mut MemoryDesk, it: &Run, most: usize) -> Result<(), Fail> {
-    for (page, text) in texts() {
+// Puts those of these texts that the run has to do with.
+fn put_texts(
+    desk: &mut MemoryDesk,
+    it: &Run,
+    parts: &[(&'static str, &'static str)],
+    most: usize,
+) -> Result<(), Fail> {
+    for (page, text) in parts {
         if is_named(it, page) {
             put_page(desk, page, text.as_bytes(), most)?;
         }
+    }
+    Ok(())
+}
+
+/// Puts the pages that the run has to do with, which move at most so many bytes a call.
+pub fn put(alloc: Global, desk: &mut MemoryDesk, it: &Run, most: usize) -> Result<(), Fail> {
+    for parts in texts() {
+        put_texts(desk, it, parts, most)?;
     }
     for (page, count) in [("x4096", 4_096), ("x4097", 4_097), ("x5000", 5_000)] {
         if is_named(it, page) {

@@ -6,15 +6,21 @@ use tesla_base::NoMemory;
 use tesla_desk::{CONSOLE, Desk, MemoryDesk, OpenRefusal};
 use tesla_front::{Fault, Lines, Outcome, Stop, add_count, outcome_of, refused, tell};
 
-// Tells a console what a run came to: the status, a space and what the console holds then.
-fn told_of(alloc: Global, came: Outcome) -> Result<String, Fail> {
-    let mut desk = MemoryDesk::new(alloc, 1_000)?;
+// Tells a console what a run came to. The status.
+fn status_of(desk: &mut MemoryDesk, came: Outcome) -> Result<u8, Fail> {
     let Ok(mut console) = desk.open_sink(CONSOLE) else {
         return Err("no console".into());
     };
     let told = tell(&mut console, &[], came);
     desk.close_sink(console);
-    super::told_of(alloc, told.status(), &desk)
+    Ok(told.status())
+}
+
+// What a console is told of what a run came to: the status, a space and what the console holds then.
+fn told_of(alloc: Global, came: Outcome) -> Result<String, Fail> {
+    let mut desk = MemoryDesk::new(alloc, 1_000)?;
+    let status = status_of(&mut desk, came)?;
+    super::told_of(alloc, status, &desk)
 }
 
 // The same of a fault.
@@ -22,17 +28,28 @@ fn fault_of(alloc: Global, fault: Fault) -> Result<String, Fail> {
     told_of(alloc, outcome_of(Err(Stop::from(fault))))
 }
 
+/// The faults, and what is told of each.
+const FAULTS: &[(Fault, &str)] = &[
+    (Fault::Read, "4 read fault\n"),
+    (Fault::Write, "5 write fault\n"),
+];
+
 #[test]
 fn faults(rt: HostRuntime) -> Result<(), Fail> {
-    for (fault, want) in [
-        (Fault::Read, "4 read fault\n"),
-        (Fault::Write, "5 write fault\n"),
-        (Fault::from(NoMemory), "6 no memory\n"),
-        (Fault::from(OpenRefusal::NoMemory), "6 no memory\n"),
-        (Fault::from(OpenRefusal::Failed), "7 open fault\n"),
-    ] {
-        assert_eq!(rt; fault_of(rt.alloc(), fault)?.as_str(), want);
+    for (fault, want) in FAULTS {
+        assert_eq!(rt; fault_of(rt.alloc(), *fault)?.as_str(), *want);
     }
+    Ok(())
+}
+
+#[test]
+fn faults_of_other_errors(rt: HostRuntime) -> Result<(), Fail> {
+    let fault = fault_of(rt.alloc(), Fault::from(NoMemory))?;
+    assert_eq!(rt; fault.as_str(), "6 no memory\n");
+    let fault = fault_of(rt.alloc(), Fault::from(OpenRefusal::NoMemory))?;
+    assert_eq!(rt; fault.as_str(), "6 no memory\n");
+    let fault = fault_of(rt.alloc(), Fault::from(OpenRefusal::Failed))?;
+    assert_eq!(rt; fault.as_str(), "7 open fault\n");
     Ok(())
 }
 

@@ -17,7 +17,7 @@ ghost use Rattle.tesla_state.specs.Steps.{bound_at};
 
 mod examples;
 
-use examples::{BOTH, EXAMPLES, FAR_BAD_KEY, FLOODS, MOST_INTERVALS, Opening, Rows, Step};
+use examples::{BOTH, FAR_BAD_KEY, MOST_INTERVALS, Opening, Rows, Step};
 use std::alloc::Global;
 use std::marker::Brand;
 use std::sync::ledger::{Blank, Ledger};
@@ -26,11 +26,17 @@ use tesla_base::{Head, Steps};
 use tesla_commit::read_setup;
 use tesla_receiver::*;
 
+fn take(receiver: &mut Receiver, into: &mut [u8; 1200]) -> Take
+    requires { receiver.old.calls < 10000 }
+{
+    receiver.take(0, into)
+}
+
 fn takes(receiver: &mut Receiver, want: Take, payload: &str) -> bool
     requires { receiver.old.calls < 10000 }
 {
     let mut into = [0; 1200];
-    receiver.take(0, &mut into) == want && into.starts_with(payload.as_bytes())
+    take(receiver, &mut into) == want && into.starts_with(payload.as_bytes())
 }
 
 // Whether the packets are kept that have the frame's bytes but for their numbers, which go from 0.
@@ -95,9 +101,10 @@ fn is_met<L: Ledger>(
 // A receiver whose lag is 30,000 microseconds.
 fn opened(alloc: Global, opening: Opening) -> Result<Receiver, Fail> {
     let setup = read_setup(alloc, opening.setup.as_bytes())?;
-    let capacity = opening.capacity.max(1).min(65_536);
-    let quota = opening.quota.max(1).min(capacity);
-    let ingests = opening.ingests.max(1);
+    let (capacity, quota, ingests) = (opening.capacity, opening.quota, opening.ingests);
+    if capacity == 0 || 65_536 < capacity || quota == 0 || capacity < quota || ingests == 0 {
+        return Err("not within the limits".into());
+    }
     Ok(Receiver::open(alloc, setup, 30_000, capacity, quota, ingests)?)
 }
 
@@ -126,22 +133,43 @@ fn first_unmet<L: Ledger>(
     Ok(None)
 }
 
-#[test]
-fn worked_examples(rt: HostRuntime) -> Result<(), Fail> {
-    for (name, opening, rows) in EXAMPLES {
-        let unmet = first_unmet::<Brand>(rt.alloc(), Blank::new(1), opening, rows)?;
-        assert_eq!(rt; unmet, None, "{name}");
+// Refuses the first of these examples of which something else is answered than expected, by its name.
+fn all_are_met(
+    alloc: Global,
+    examples: &'static [(&'static str, Opening, Rows)],
+) -> Result<(), Fail> {
+    for (name, opening, rows) in examples {
+        let unmet = first_unmet::<Brand>(alloc, Blank::new(1), *opening, rows)?;
+        if unmet.is_some() {
+            return Err((*name).into());
+        }
     }
     Ok(())
 }
 
 #[test]
+fn releases(rt: HostRuntime) -> Result<(), Fail> {
+    all_are_met(rt.alloc(), examples::releases())
+}
+
+#[test]
+fn keys_and_copies(rt: HostRuntime) -> Result<(), Fail> {
+    all_are_met(rt.alloc(), examples::keys())
+}
+
+#[test]
+fn repeats_and_full_buffers(rt: HostRuntime) -> Result<(), Fail> {
+    all_are_met(rt.alloc(), examples::repeats())
+}
+
+#[test]
+fn verdicts_and_ends(rt: HostRuntime) -> Result<(), Fail> {
+    all_are_met(rt.alloc(), examples::verdicts())
+}
+
+#[test]
 fn floods(rt: HostRuntime) -> Result<(), Fail> {
-    for (name, opening, rows) in FLOODS {
-        let unmet = first_unmet::<Brand>(rt.alloc(), Blank::new(1), opening, rows)?;
-        assert_eq!(rt; unmet, None, "{name}");
-    }
-    Ok(())
+    all_are_met(rt.alloc(), examples::of_floods())
 }
 
 // A key is refused after a walk of a million intervals.

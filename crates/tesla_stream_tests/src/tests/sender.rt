@@ -1,7 +1,8 @@
 //! Senders called as the examples say.
 
-ghost use Rattle.std.specs.Prelude.{◌≡◌, ◌+◌, ◌*◌, ◌<◌, ◌≤◌, length, IfOk};
+ghost use Rattle.std.specs.Prelude.{◌≡◌, ◌+◌, ◌*◌, ◌<◌, ◌≤◌, [], length, IfOk};
 ghost use Rattle.tesla_chain.specs.Cost.{W};
+ghost use Rattle.tesla_sender.specs.Stands.{Stands};
 
 mod examples;
 
@@ -10,7 +11,7 @@ use std::alloc::Global;
 use std::marker::Brand;
 use std::sync::ledger::{Blank, Ledger};
 use std::test::*;
-use tesla_base::{ChainNo, Steps};
+use tesla_base::Steps;
 use tesla_commit::{Setup, read_setup};
 use tesla_examples::SETUP;
 use tesla_examples::version_two::SETUP_WITH_TAGS_OF_10_BYTES;
@@ -30,6 +31,16 @@ fn seeds_of(alloc: Global, count: u8) -> Result<Seeds, Fail>
 {
     let end = 14 + 70 * usize::from(count);
     Ok(read_seeds(alloc, &SEEDS.as_bytes()[..end], count)?)
+}
+
+/// Whether the bytes are as the room was before.
+fn is_untouched(bytes: &[u8]) -> bool {
+    for byte in bytes {
+        if *byte != 7 {
+            return false;
+        }
+    }
+    true
 }
 
 /// Whether the sender's answer to the call is the one that is expected, and the room behind it as it was.
@@ -53,11 +64,11 @@ fn is_met<L: Ledger>(
             let payload = [0; MOST_PAYLOAD + 1];
             let length = (*length).min(MOST_PAYLOAD + 1);
             let answer = sender.message(*reading, &payload[..length], &mut into, steps);
-            return Ok(answer == Err(*want) && into == [7; FRAME_ROOM]);
+            return Ok(answer == Err(*want) && is_untouched(&into));
         }
         Step::Undisclosed(reading, want) => {
             let answer = sender.disclose(*reading, &mut into, steps);
-            return Ok(answer == Err(*want) && into == [7; FRAME_ROOM]);
+            return Ok(answer == Err(*want) && is_untouched(&into));
         }
     };
     let frame = hex::decode(alloc, digits.as_bytes())?;
@@ -65,7 +76,7 @@ fn is_met<L: Ledger>(
     Ok(
         answer == Some(frame.len())
             && into.starts_with(frame.as_slice())
-            && into[length..].iter().all(|byte| *byte == 7),
+            && is_untouched(&into[length..]),
     )
 }
 
@@ -99,31 +110,119 @@ fn sender_refusals(rt: HostRuntime) -> Result<(), Fail> {
     Ok(())
 }
 
+/// Setups, with the calls of their senders.
+const STREAMS: &[(&str, &[Step])] = &[
+    (SETUP, VERSION_ONE),
+    (SETUP_WITH_TAGS_OF_10_BYTES, SHORT_TAGS),
+];
+
+/// More of them.
+const MORE_STREAMS: &[(&str, &[Step])] = &[
+    (SETUP_OF_EIGHT_CHAINS, EIGHT_CHAINS),
+    (SETUP_OF_LATER_KEYS, VERSION_ONE),
+];
+
+fn some_streams() -> &'static [(&'static str, &'static [Step])] {
+    STREAMS
+}
+
+fn more_streams() -> &'static [(&'static str, &'static [Step])] {
+    MORE_STREAMS
+}
+
+// Whether each call of these streams is answered as expected.
+fn are_met(
+    alloc: Global,
+    streams: &'static [(&'static str, &'static [Step])],
+) -> Result<bool, Fail> {
+    for (setup, rows) in streams {
+        let unmet = first_unmet::<Brand>(alloc, Blank::new(1), setup.as_bytes(), rows)?;
+        if unmet.is_some() {
+            return Ok(false);
+        }
+    }
+    Ok(true)
+}
+
 #[test]
 fn streams(rt: HostRuntime) -> Result<(), Fail> {
-    let table = [
-        (SETUP, VERSION_ONE),
-        (SETUP_WITH_TAGS_OF_10_BYTES, SHORT_TAGS),
-        (SETUP_OF_EIGHT_CHAINS, EIGHT_CHAINS),
-        (SETUP_OF_LATER_KEYS, VERSION_ONE),
-    ];
-    for (setup, rows) in table {
-        let unmet = first_unmet::<Brand>(rt.alloc(), Blank::new(1), setup.as_bytes(), rows)?;
-        assert_eq!(rt; unmet, None);
-    }
+    assert!(rt; are_met(rt.alloc(), some_streams())?);
+    assert!(rt; are_met(rt.alloc(), more_streams())?);
     Ok(())
+}
+
+/// The same of the largest senders.
+const LARGEST_SENDERS: &[(&str, &[Step])] = &[
+    (SETUP_OF_THE_LONGEST_CHAIN, LONGEST_CHAIN),
+    (SETUP_OF_LONG_DELAYS, LONG_DELAYS),
+];
+
+fn largest_streams() -> &'static [(&'static str, &'static [Step])] {
+    LARGEST_SENDERS
 }
 
 #[test]
 fn largest_senders(rt: HostRuntime) -> Result<(), Fail> {
-    let table = [
-        (SETUP_OF_THE_LONGEST_CHAIN, LONGEST_CHAIN),
-        (SETUP_OF_LONG_DELAYS, LONG_DELAYS),
-    ];
-    for (setup, rows) in table {
-        let unmet = first_unmet::<Brand>(rt.alloc(), Blank::new(1), setup.as_bytes(), rows)?;
-        assert_eq!(rt; unmet, None);
+    assert!(rt; are_met(rt.alloc(), largest_streams())?);
+    Ok(())
+}
+
+/// A sender of the examples.
+fn sender_of<L: Ledger>(alloc: Global, steps: &mut Steps<L>) -> Result<Sender, Fail>
+    ensures { IfOk result (λ sender. Stands sender []) }
+{
+    let setup = read_setup(alloc, SETUP.as_bytes())?;
+    let seeds = seeds_of(alloc, setup.count())?;
+    Ok(Sender::open(alloc, setup, &seeds, steps)?)
+}
+
+/// A sender of the examples that has gone on to interval 3 without a message, and made the keys of the next one.
+fn sender_gone_on<L: Ledger>(alloc: Global, steps: &mut Steps<L>) -> Result<Sender, Fail> {
+    let mut sender = sender_of(alloc, steps)?;
+    sender.begin_at(3, steps);
+    sender.make_next(steps);
+    Ok(sender)
+}
+
+/// Whether both senders make the same frame of a message at this reading.
+fn make_the_same<L: Ledger>(
+    one: &mut Sender,
+    other: &mut Sender,
+    reading: u64,
+    steps: &mut Steps<L>,
+) -> bool {
+    let mut into = [7; FRAME_ROOM];
+    let mut other_into = [7; FRAME_ROOM];
+    let answer = one.message(reading, b"yo", &mut into, steps);
+    let other_answer = other.message(reading, b"yo", &mut other_into, steps);
+    answer.is_ok() && answer == other_answer && into == other_into
+}
+
+/// Readings of the intervals 3, 4 and 5.
+const FROM_INTERVAL_3: &[u64] = &[1_350_000, 1_450_000, 1_460_000, 1_550_000];
+
+/// The first of these readings at which a sender that makes its keys ahead makes another frame than one that doesn't.
+fn first_other<L: Ledger>(alloc: Global, blank: Blank) -> Result<Option<u64>, Fail>
+    requires name { blank.name ≡ L.name }
+    requires parts { blank.parts ≡ L.parts }
+    requires some { 0 < L.parts }
+{
+    let mut steps = Steps::<L>::new(blank);
+    let mut plain = sender_of(alloc, &mut steps)?;
+    let mut ahead = sender_gone_on(alloc, &mut steps)?;
+    for reading in FROM_INTERVAL_3 {
+        if !make_the_same(&mut plain, &mut ahead, *reading, &mut steps) {
+            return Ok(Some(*reading));
+        }
+        ahead.make_next(&mut steps);
     }
+    Ok(None)
+}
+
+#[test]
+fn keys_made_ahead(rt: HostRuntime) -> Result<(), Fail> {
+    let other = first_other::<Brand>(rt.alloc(), Blank::new(1))?;
+    assert_eq!(rt; other, None);
     Ok(())
 }
 
@@ -144,19 +243,22 @@ fn refusal_of<L: Ledger>(
     Ok(Sender::open(alloc, setup, &seeds, &mut steps).err())
 }
 
+/// The refusal as it is shown, and the key that the seed made, in hexadecimal.
+fn shown_refusal(alloc: Global, refusal: Option<SenderRefusal>) -> Result<String, Fail> {
+    let Some(SenderRefusal::WrongSeed { chain: _, made }) = refusal else {
+        return Err("a wrong seed is refused".into());
+    };
+    let digits = hex::encode(alloc, &made.0)?;
+    Ok(format!(in alloc; "{refusal:?} {digits}")?)
+}
+
 #[test]
 fn wrong_seed(rt: HostRuntime) -> Result<(), Fail> {
     let refusal = refusal_of::<Brand>(rt.alloc(), Blank::new(1), WRONG_SEEDS.as_bytes())?;
-    let digits = hex::decode(rt.alloc(), MADE_BY_32_BYTES_23.as_bytes())?;
-    let Some(SenderRefusal::WrongSeed { chain, made }) = refusal else {
-        return Err("a wrong seed is refused".into());
-    };
-    assert_eq!(rt; chain, ChainNo(1));
-    assert_eq!(rt; made.0.as_slice(), digits.as_slice());
-    let text = format!(in rt.alloc(); "{refusal:?}")?;
+    let shown = shown_refusal(rt.alloc(), refusal)?;
     assert_eq!(rt;
-        text.as_str(),
-        "Some(WrongSeed { chain: ChainNo(1), made: Key(..) })"
+        shown.as_str(),
+        "Some(WrongSeed { chain: ChainNo(1), made: Key(..) }) 49350d4bcd1d5c7b178588cd8d8a5967c03a0aed09ed297f005779d014754fbd"
     );
     Ok(())
 }

@@ -83,8 +83,8 @@ const NONE: Report = Report {
     given: 0,
 };
 
-/// Each example by its name.
-pub const EXAMPLES: [(&str, Opening, Rows); 38] = [
+/// Examples of bounds and of releases, by their names.
+const RELEASES: &[(&str, Opening, Rows)] = &[
     ("last_safe_microsecond", USUAL, LAST_SAFE_MICROSECOND),
     ("first_unsafe_microsecond", USUAL, FIRST_UNSAFE_MICROSECOND),
     ("before_the_start", USUAL, BEFORE_THE_START),
@@ -102,6 +102,10 @@ pub const EXAMPLES: [(&str, Opening, Rows); 38] = [
     ),
     ("slow_chain_rescues", USUAL, SLOW_CHAIN_RESCUES),
     ("both_chains_at_once", USUAL, BOTH_CHAINS_AT_ONCE),
+];
+
+/// Examples of keys, bad ones among them, and of copies of a packet, by their names.
+const KEYS: &[(&str, Opening, Rows)] = &[
     ("late_packet_brings_a_key", USUAL, LATE_PACKET_BRINGS_A_KEY),
     ("bad_key_changes_nothing", USUAL, BAD_KEY_CHANGES_NOTHING),
     (
@@ -123,6 +127,10 @@ pub const EXAMPLES: [(&str, Opening, Rows); 38] = [
         },
         PROVED_COPY_IS_GONE,
     ),
+];
+
+/// Examples of repeats and of full buffers, by their names.
+const REPEATS: &[(&str, Opening, Rows)] = &[
     ("repeat_after_release", USUAL, REPEAT_AFTER_RELEASE),
     ("repeat_after_another_key", USUAL, REPEAT_AFTER_ANOTHER_KEY),
     ("late_after_all_chains", USUAL, LATE_AFTER_ALL_CHAINS),
@@ -186,6 +194,10 @@ pub const EXAMPLES: [(&str, Opening, Rows); 38] = [
         },
         QUOTA_COUNTS_HELD_PACKETS,
     ),
+];
+
+/// Examples of the order of verdicts, of the end, and of version 2, by their names.
+const VERDICTS: &[(&str, Opening, Rows)] = &[
     ("order_of_verdicts", USUAL, ORDER_OF_VERDICTS),
     ("misfits", USUAL, MISFITS),
     (
@@ -229,7 +241,7 @@ pub const EXAMPLES: [(&str, Opening, Rows); 38] = [
 ];
 
 /// The examples of floods, and of far keys that are refused without a walk, by their names.
-pub const FLOODS: [(&str, Opening, Rows); 5] = [
+const FLOODS: &[(&str, Opening, Rows)] = &[
     (
         "far_bad_key_too_early",
         floods::MOST_INTERVALS,
@@ -256,6 +268,26 @@ pub const FLOODS: [(&str, Opening, Rows); 5] = [
         floods::SLOW_KEY_AFTER_THE_FLOOD,
     ),
 ];
+
+pub fn releases() -> &'static [(&'static str, Opening, Rows)] {
+    RELEASES
+}
+
+pub fn keys() -> &'static [(&'static str, Opening, Rows)] {
+    KEYS
+}
+
+pub fn repeats() -> &'static [(&'static str, Opening, Rows)] {
+    REPEATS
+}
+
+pub fn verdicts() -> &'static [(&'static str, Opening, Rows)] {
+    VERDICTS
+}
+
+pub fn of_floods() -> &'static [(&'static str, Opening, Rows)] {
+    FLOODS
+}
 
 const LAST_SAFE_MICROSECOND: Rows = &[
     (Step::Comes(1_369_999, BARE_2_0_A, BOTH), 1),

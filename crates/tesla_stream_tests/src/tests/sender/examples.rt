@@ -190,7 +190,3 @@ pub const SEEDS: &str =
 /// The text of two seeds of which the second is wrong.
 pub const WRONG_SEEDS: &str =
     "tesla-seeds 1\nseed 1111111111111111111111111111111111111111111111111111111111111111\nseed 2323232323232323232323232323232323232323232323232323232323232323\n";
-
-/// The key of index 0 that 32 bytes 23 give.
-pub const MADE_BY_32_BYTES_23: &str =
-    "49350d4bcd1d5c7b178588cd8d8a5967c03a0aed09ed297f005779d014754fbd";
