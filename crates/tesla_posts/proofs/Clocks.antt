@@ -1,4 +1,4 @@
--- A clock that says when is sent.
+-- The clock of a run that sends to posts.
 use Rattle.std.proofs.Common.{◌≡◌, ◌∙◌, ℕ, Option, Some, None, List, [], sym, ap, arith}
 use Rattle.std.specs.Option.{option_map}
 use Rattle.tesla_desk.specs.Clocks.{Gives, Ticking}

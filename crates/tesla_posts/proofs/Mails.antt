@@ -42,7 +42,7 @@ faulty_told [] now mails failed = failed
 faulty_told (post ∷ posts) now (mail, mails) (inl own) = inl (subst HasFailedMail (sym mail) (failed_mail post.sent post.faults own))
 faulty_told (post ∷ posts) now (mail, mails) (inr other) = inr (faulty_told posts now mails other)
 
--- where nothing was sent, and the mail is the same afterwards, nothing was sent until then
+-- where nothing was sent, and the mail is the same afterwards, nothing was sent by then either
 pub unsent_on : (before now mid : Live) (name : List ℕ) → now.mail name ≡ mid.mail name → (mid.mail name ≡ before.mail name) ⊎ IsUnsent (mid.mail name) → (now.mail name ≡ before.mail name) ⊎ IsUnsent (now.mail name)
 unsent_on before now mid name same (inl is) = inl (same ∙ is)
 unsent_on before now mid name same (inr unsent) = inr (subst IsUnsent (sym same) unsent)
