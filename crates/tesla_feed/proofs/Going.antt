@@ -38,25 +38,22 @@ take_more datagrams datagram n all =
 post_more : (datagrams : List (List ℕ)) (datagram : List ℕ) (first before now : PostSeen) (failed failed_now : Bool) → SendsPost datagrams first before failed → HandsPost datagram before now failed failed_now → SendsPost (datagrams ++ datagram ∷ []) first now failed_now
 post_more datagrams datagram first before now false false sends hands = record {
   sends = sends.sends + 1;
-  all = λ e. omega (arith, length-append datagrams (datagram ∷ []), sends.all refl);
-  front = λ e. absurd cc;
-  sent = hands.sent refl ∙ ap (λ (s : Option (List (List ℕ))). with_datagrams s (datagram ∷ [])) sends.sent ∙ sent_twice first.sent (take sends.sends datagrams) (datagram ∷ []) ∙ ap (with_datagrams first.sent) (take_more datagrams datagram sends.sends (sends.all refl));
+  many = omega (arith, length-append datagrams (datagram ∷ []), sends.many);
+  sent = hands.sent refl ∙ ap (λ (s : Option (List (List ℕ))). with_datagrams s (datagram ∷ [])) sends.sent ∙ sent_twice first.sent (take sends.sends datagrams) (datagram ∷ []) ∙ ap (with_datagrams first.sent) (take_more datagrams datagram sends.sends sends.many);
   name = hands.name ∙ sends.name;
   cause = record { stays = omega (arith, (hands.cause refl).stays, sends.cause.stays); rose = λ e. absurd cc; still = λ e. (hands.cause refl).still (λ f. absurd cc) ∙ sends.cause.still (λ f. absurd cc) };
 }
 post_more datagrams datagram first before now false true sends hands = record {
   sends = sends.sends;
-  all = λ e. absurd cc;
-  front = λ e. omega (arith, length-append datagrams (datagram ∷ []), sends.all refl);
-  sent = hands.unsent refl ∙ sends.sent ∙ ap (with_datagrams first.sent) (sym (take-append-le sends.sends datagrams (datagram ∷ []) (omega (arith, sends.all refl))));
+  many = omega (arith, length-append datagrams (datagram ∷ []), sends.many);
+  sent = hands.unsent refl ∙ sends.sent ∙ ap (with_datagrams first.sent) (sym (take-append-le sends.sends datagrams (datagram ∷ []) (omega (arith, sends.many))));
   name = hands.name ∙ sends.name;
   cause = (let same : before.faults ≡ first.faults = sends.cause.still (λ f. absurd cc) in subst (λ (n : ℕ). HasCause n now.faults (true ≡ true)) same (hands.cause refl));
 }
 post_more datagrams datagram first before now true true sends hands = record {
   sends = sends.sends;
-  all = λ e. absurd cc;
-  front = λ e. omega (arith, length-append datagrams (datagram ∷ []), sends.front refl);
-  sent = hands.unsent refl ∙ sends.sent ∙ ap (with_datagrams first.sent) (sym (take-append-le sends.sends datagrams (datagram ∷ []) (omega (arith, sends.front refl))));
+  many = omega (arith, length-append datagrams (datagram ∷ []), sends.many);
+  sent = hands.unsent refl ∙ sends.sent ∙ ap (with_datagrams first.sent) (sym (take-append-le sends.sends datagrams (datagram ∷ []) (omega (arith, sends.many))));
   name = hands.name ∙ sends.name;
   cause = (let same : now.faults ≡ before.faults = (hands.stays refl).1 in subst (λ (n : ℕ). HasCause first.faults n (true ≡ true)) (sym same) sends.cause);
 }

@@ -29,7 +29,7 @@ none_sent f [] marks few none = tt
 none_sent f (x ∷ xs) [] few none = absurd (omega arith)
 none_sent f (x ∷ xs) (true ∷ marks) few none = absurd cc
 none_sent f (x ∷ xs) (false ∷ marks) few none = (
-  record { sends = 0; all = λ e. refl; front = λ e. absurd cc; sent = unsent (f x).sent; name = refl; cause = record { stays = omega arith; rose = λ e. absurd cc; still = λ e. refl } },
+  record { sends = 0; many = refl; sent = unsent (f x).sent; name = refl; cause = record { stays = omega arith; rose = λ e. absurd cc; still = λ e. refl } },
   none_sent f xs marks (omega arith) none,
 )
 

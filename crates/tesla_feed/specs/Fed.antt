@@ -1,11 +1,12 @@
 -- What a feed makes of what happens: the log of the calls that it makes of a sender, and why it refuses messages.
-use Rattle.std.specs.Prelude.{ℕ, ◌+◌, ◌-◌, ◌^◌, Bool, true, false, not, ◌&&◌, List, [], ◌∷◌, ◌++◌, length, map, min, max, nat_lt, nat_le, Result, Ok, Err, if◌then◌else◌, option_to_list}
+use Rattle.std.specs.Prelude.{ℕ, ◌+◌, Bool, true, false, not, ◌&&◌, List, [], ◌∷◌, ◌++◌, length, map, max, nat_lt, nat_le, Result, Ok, Err, if◌then◌else◌, option_to_list}
 use Rattle.std.specs.List.{count_by, fold, list_all, list_any}
 use Rattle.tesla_clock.specs.Schedule.{Times}
 use Rattle.tesla_base.specs.declared.names.Name.{Name}
 use Rattle.tesla_desk.specs.declared.link.Letter.{Letter}
 use Rattle.tesla_desk.specs.declared.link.Letter.TheVariants as letters
 use Rattle.tesla_frame.specs.Frame.{frame_text}
+use Rattle.tesla_posts.specs.Counts.{counted}
 use Rattle.tesla_sender.specs.Made.{Call, Message, Disclose, Chain, Stream, chains_of, index_told, interval_at, interval_in, latest_of, messages_of, name_after}
 use Rattle.tesla_sender.specs.declared.refusal.SendRefusal.{SendRefusal}
 use Rattle.tesla_sender.specs.declared.refusal.SendRefusal.TheVariants as unsent
@@ -122,10 +123,6 @@ abbrev pub is_all_told : Stream → List Call → Bool
 is_all_told stream log = list_all (λ chain. nat_le (last_message stream.setup.times log) (told_by stream.setup.times log chain)) (chains_of stream)
 
 -- ---- counts
-
--- a number as a counter of 64 bits tells it, which stands still at its end
-abbrev pub counted : ℕ → ℕ
-counted n = min n (2 ^ 64 - 1)
 
 abbrev pub is_message : Call → Bool
 is_message (Message reading payload) = true

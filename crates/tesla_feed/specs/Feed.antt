@@ -1,10 +1,11 @@
 -- What a run of a feed comes to: which readings of the clock and which items of the link it took, and what each post sent.
-use Rattle.std.specs.Prelude.{◌≡◌, ℕ, ◌<◌, ◌≤◌, Bool, true, false, List, [], ◌∷◌, ◌++◌, length, map, take, Option, IfSome}
+use Rattle.std.specs.Prelude.{◌≡◌, ℕ, ◌<◌, ◌≤◌, Bool, true, false, List, [], ◌∷◌, ◌++◌, map, take, Option, IfSome}
 use Rattle.std.specs.List.{AllByRecursion, list_all, list_any}
 use Rattle.tesla_desk.specs.Clocks.{Gives, Ticking}
 use Rattle.tesla_desk.specs.Faults.{HasCause}
 use Rattle.tesla_desk.specs.Links.{after_letters}
 use Rattle.tesla_desk.specs.declared.link.Letter.{Letter}
+use Rattle.tesla_posts.specs.Counts.{IsSentCount}
 use Rattle.tesla_posts.specs.Posts.{PostSeen, with_datagrams}
 use Rattle.tesla_sender.specs.Made.{Stream, interval_at}
 use Rattle.tesla_feed.specs.Fed.{Event, Came, Rested, Feeding, after_event, counts_of, datagrams_of, fed, first_interval, is_all_told, reading_of}
@@ -40,8 +41,7 @@ AreNeeded stream first made (reading ∷ rests) = (is_all_told stream made.log �
 -- a post sent these datagrams, in order and each once; where it failed, a front of them
 pub record SendsPost (datagrams : List (List ℕ)) (before now : PostSeen) (failed : Bool) : Type 0 where
   pub sends : ℕ
-  pub all : failed ≡ false → sends ≡ length datagrams
-  pub front : failed ≡ true → sends < length datagrams
+  pub many : IsSentCount datagrams failed sends
   pub sent : now.sent ≡ with_datagrams before.sent (take sends datagrams)
   pub name : now.name ≡ before.name
   pub cause : HasCause before.faults now.faults (failed ≡ true)

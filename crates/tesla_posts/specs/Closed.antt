@@ -1,5 +1,5 @@
 -- What is known once posts were closed.
-use Rattle.std.specs.Prelude.{◌≡◌, ◌⊎◌, ℕ, ◌<◌, false, List, [], ◌∷◌, map}
+use Rattle.std.specs.Prelude.{◌≡◌, ◌⊎◌, ℕ, ◌<◌, Bool, false, List, [], ◌∷◌, map}
 use Rattle.tesla_desk.specs.Faults.{HasCause}
 use Rattle.tesla_desk.specs.Live.{Mail, UntoldMail, AbsentMail, HoldsMail, mail_of}
 use Rattle.tesla_desk.specs.Outside.{Told}
@@ -12,6 +12,12 @@ abbrev pub IsUnsent : Mail → Type 0
 IsUnsent UntoldMail = Unit {0}
 IsUnsent AbsentMail = ⊥
 IsUnsent (HoldsMail sent failed) = (sent ≡ []) × (failed ≡ false)
+
+-- the post sent these datagrams and failed so, where that is told
+abbrev pub HoldsSent : List (List ℕ) → Bool → Mail → Type 0
+HoldsSent datagrams failed UntoldMail = Unit {0}
+HoldsSent datagrams failed AbsentMail = ⊥
+HoldsSent datagrams failed (HoldsMail sent has_failed) = (sent ≡ datagrams) × (has_failed ≡ failed)
 
 -- one of the posts failed
 abbrev pub AnyFaulty : List PostSeen → Type 0

@@ -50,15 +50,19 @@ settles capacity came start feed server count more ends total sent dropped faile
     let mine : served.popped ≡ front ++ End ∷ [] = ap (λ (l : Log). l.popped) (sym served.view_is) ∙ popped in
     let all : texts served.popped ≡ kept_of keeps.marks came = ap texts mine ∙ texts_end front ∙ ap texts same ∙ keeps.texts_are in
     record {
-      marks = keeps.marks;
-      each = keeps.each;
-      full = subst (λ (n : ℕ). DropsBehind n 0 keeps.marks) ends.capacity_is keeps.full;
-      sends = served.sends;
-      few = subst (λ (ts : List (List ℕ)). served.sends ≤ length ts) all served.few;
-      all = λ fine. served.all (sym failed ∙ fine) ∙ ap (λ (ts : List (List ℕ)). length ts) all;
-      sent = served.sent ∙ ap (λ (ts : List (List ℕ)). with_datagrams start.sent (take served.sends ts)) all;
+      sent = take served.sends (kept_of keeps.marks came);
+      to = record {
+        marks = keeps.marks;
+        each = keeps.each;
+        full = subst (λ (n : ℕ). DropsBehind n 0 keeps.marks) ends.capacity_is keeps.full;
+        sends = served.sends;
+        few = subst (λ (ts : List (List ℕ)). served.sends ≤ length ts) all served.few;
+        all = λ fine. served.all (sym failed ∙ fine) ∙ ap (λ (ts : List (List ℕ)). length ts) all;
+        sent_are = refl;
+        sent_count = sent ∙ served.count;
+        dropped_count = dropped ∙ keeps.dropped_is;
+      };
+      sent_is = served.sent ∙ ap (λ (ts : List (List ℕ)). with_datagrams start.sent (take served.sends ts)) all;
       name = served.name;
       cause = subst (λ (b : Bool). HasCause start.faults server.post.faults (b ≡ true)) (sym failed) served.cause;
-      sent_count = sent ∙ served.count;
-      dropped_count = dropped ∙ keeps.dropped_is;
     }

@@ -1,16 +1,13 @@
 -- What a relay does: which datagrams it drops for a post, and what each post sends.
-use Rattle.std.specs.Prelude.{◌≡◌, ℕ, suc, ◌-◌, ◌^◌, ◌≤◌, min, Bool, true, false, List, [], ◌∷◌, length, take, Option, IfSome}
+use Rattle.std.specs.Prelude.{◌≡◌, ℕ, suc, ◌≤◌, Bool, true, false, List, [], ◌∷◌, length, take, Option, IfSome}
 use Rattle.tesla_desk.specs.Faults.{HasCause}
 use Rattle.tesla_desk.specs.Links.{after_letters, datagrams}
 use Rattle.tesla_desk.specs.declared.link.Letter.{Letter}
+use Rattle.tesla_posts.specs.Counts.{counted}
 use Rattle.tesla_posts.specs.Posts.{PostSeen, with_datagrams}
 use Rattle.tesla_relay.specs.declared.relayed.PostCount.{PostCount}
 use Rattle.tesla_relay.specs.declared.relayed.RelayEnd.{RelayEnd}
 use Rattle.tesla_relay.specs.declared.relayed.RelayEnd.TheVariants.{Ended}
-
--- a number as a counter of 64 bits tells it, which stands still at its end
-abbrev pub counted : ℕ → ℕ
-counted n = min n (2 ^ 64 - 1)
 
 -- ---- which datagrams are dropped
 
@@ -34,20 +31,27 @@ DropsBehind capacity before (false ∷ marks) = (capacity ≤ before) × DropsBe
 
 -- ---- what a post sends
 
--- a post sent, of these datagrams, those that weren't dropped for it, in order and each once; where it failed, a front of them
-pub record RelaysPost (capacity : ℕ) (came : List (List ℕ)) (old new : PostSeen) (count : PostCount) : Type 0 where
+-- of the datagrams that came these were sent: those that weren't dropped for the post, in order and each once; where it failed, a front of them
+pub record RelaysTo (capacity : ℕ) (came sent : List (List ℕ)) (count : PostCount) : Type 0 where
+  -- of each datagram a mark tells whether it was kept for the post, and none was dropped but behind as many others as the queue holds
   pub marks : List Bool
   pub each : length marks ≡ length came
   pub full : DropsBehind capacity 0 marks
   pub sends : ℕ
   pub few : sends ≤ length (kept_of marks came)
   pub all : count.failed ≡ false → sends ≡ length (kept_of marks came)
-  pub sent : new.sent ≡ with_datagrams old.sent (take sends (kept_of marks came))
-  pub name : new.name ≡ old.name
-  pub cause : HasCause old.faults new.faults (count.failed ≡ true)
+  pub sent_are : sent ≡ take sends (kept_of marks came)
   -- the counts tell it
   pub sent_count : count.sent ≡ counted sends
   pub dropped_count : count.dropped ≡ counted (dropped_in marks)
+
+-- a post sent such datagrams
+pub record RelaysPost (capacity : ℕ) (came : List (List ℕ)) (old new : PostSeen) (count : PostCount) : Type 0 where
+  pub sent : List (List ℕ)
+  pub to : RelaysTo capacity came sent count
+  pub sent_is : new.sent ≡ with_datagrams old.sent sent
+  pub name : new.name ≡ old.name
+  pub cause : HasCause old.faults new.faults (count.failed ≡ true)
 
 -- the same of each post, as it was and as it is, with its count
 abbrev pub RelaysPosts : ℕ → List (List ℕ) → List PostSeen → List PostSeen → List PostCount → Type 0

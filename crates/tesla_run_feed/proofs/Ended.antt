@@ -1,22 +1,17 @@
 -- How a feed ends, from what it answers.
-use Rattle.std.proofs.Common.{◌≡◌, ◌∙◌, ◌⊎◌, inl, inr, ℕ, ◌≤◌, nat_lt, Bool, true, false, Option, Some, None, IfSome, List, [], ◌∷◌, ◌++◌, length, refl, sym, ap, arith}
-use Rattle.std.proofs.lemmas.Bool.Decides.{nat_tests}
+use Rattle.std.proofs.Common.{◌≡◌, ◌⊎◌, inl, inr, ℕ, ◌≤◌, nat_lt, Bool, true, false, Option, Some, None, IfSome, List, [], ◌∷◌, length, refl, sym, ap, arith}
 use Rattle.std.specs.List.{list_all, list_any}
-use Rattle.tesla_desk.specs.Clocks.{Gives, Ticking}
-use Rattle.tesla_desk.specs.Faults.{HasCause, Rose}
-use Rattle.tesla_desk.specs.Links.{after_letters}
-use Rattle.tesla_desk.specs.Live.{OpenedLink, Wire, UntoldWire, AbsentWire, HoldsWire, clock_told, remainder_of}
+use Rattle.tesla_desk.specs.Faults.{HasCause}
+use Rattle.tesla_desk.specs.Live.{remainder_of}
 use Rattle.tesla_desk.specs.declared.link.Letter.{Letter}
-use Rattle.tesla_desk.proofs.Given.{first_readings}
 use Rattle.tesla_feed.specs.Fed.{Feeding, counts_of, is_all_told}
 use Rattle.tesla_feed.specs.Feed.{has_failed}
 use Rattle.tesla_feed.specs.declared.counts.FeedCounts.{FeedCounts}
 use Rattle.tesla_front.specs.Came.{Failed}
 use Rattle.tesla_front.specs.declared.fault.Fault.TheVariants as faults
+use Rattle.tesla_posts.proofs.Links.{broken_left, ended_left}
 use Rattle.tesla_run_feed.specs.Feeding.{EndsAs, HaveAllFailed, IsUnbroken}
 use Rattle.tesla_run_feed.specs.Lines.{came_by, lines_of}
-use Rattle.tesla_run_play.specs.Playing.{ReadWhere}
-use Rattle.tesla_run_relay.specs.Relay.{HasBroken, HasEnded, LeftWhere}
 use Rattle.tesla_sender.specs.Made.{Stream}
 
 -- ---- what it comes to
@@ -47,31 +42,9 @@ no_open false false counts e = absurd cc
 
 -- ---- the link
 
-left_told : (taken letters : List Letter) (left later : Option (List Letter)) (missed : ℕ) → left ≡ Some letters → left ≡ after_letters taken later → LeftWhere taken (HoldsWire letters) (remainder_of later missed)
-left_told taken letters left None missed told is = absurd (let no : Some letters ≡ None = sym told ∙ is in cc)
-left_told taken letters left (Some rest) missed told is = let both : Some letters ≡ Some (taken ++ rest) = sym told ∙ is in cc
-
--- these letters left the link
-pub left_where : (taken : List Letter) (wire : Wire) (left later : Option (List Letter)) (missed : ℕ) → OpenedLink wire left → left ≡ after_letters taken later → LeftWhere taken wire (remainder_of later missed)
-left_where taken UntoldWire left later missed opened is = tt
-left_where taken AbsentWire left later missed opened is = absurd opened
-left_where taken (HoldsWire letters) left later missed opened is = left_told taken letters left later missed opened is
-
-ended_left : (later : Option (List Letter)) (missed : ℕ) → IfSome later (λ rest. rest ≡ []) → missed ≡ 0 → HasEnded (remainder_of later missed)
-ended_left None missed none sound = tt
-ended_left (Some rest) missed none sound = (none, ap (λ (n : ℕ). nat_lt 0 n) sound)
-
 unbroken_left : (later : Option (List Letter)) (missed : ℕ) → missed ≡ 0 → IsUnbroken (remainder_of later missed)
 unbroken_left None missed sound = tt
 unbroken_left (Some rest) missed sound = ap (λ (n : ℕ). nat_lt 0 n) sound
-
-broken_left : (later : Option (List Letter)) (missed : ℕ) → nat_lt 0 missed ≡ true → HasBroken (remainder_of later missed)
-broken_left None missed some = tt
-broken_left (Some rest) missed some = some
-
-broken_by : (missed : ℕ) → Rose 0 missed → nat_lt 0 missed ≡ true
-broken_by missed (inl some) = grind (arith, nat_tests, some)
-broken_by missed (inr full) = absurd (omega (arith, full))
 
 -- ---- the end
 
@@ -89,18 +62,10 @@ told_unless failed false is told = inr (told is)
 pub ends_by : (stream : Stream) (link_failed post_failed : Bool) (counts : FeedCounts) (made : Feeding) (failed : List Bool) (later : Option (List Letter)) (missed : ℕ) → HasCause 0 missed (link_failed ≡ true) → 1 ≤ length failed → (list_all has_failed failed ≡ false → is_all_told stream made.log ≡ true) → (list_all has_failed failed ≡ false → link_failed ≡ false → IfSome later (λ rest. rest ≡ [])) → counts ≡ counts_of made → post_failed ≡ list_any has_failed failed
     → EndsAs stream (remainder_of later missed) made failed (came_by link_failed post_failed counts)
 ends_by stream true post_failed counts made failed later missed cause some told ended counts_are any =
-    (broken_left later missed (broken_by missed (cause.rose refl)), told_unless failed (list_all has_failed failed) refl told)
+    (broken_left later missed (cause.rose refl), told_unless failed (list_all has_failed failed) refl told)
 ends_by stream false true counts made failed later missed cause some told ended counts_are any =
     let sound : missed ≡ 0 = cause.still (λ e. absurd cc) in
     (sym any, unbroken_left later missed sound, told_unless failed (list_all has_failed failed) refl (λ not. (told not, ended_left later missed (ended not refl) sound)))
 ends_by stream false false counts made failed later missed cause some told ended counts_are any =
     let not = not_all failed some (sym any) in
     (ap lines_of counts_are, sym any, told not, ended_left later missed (ended not refl) (cause.still (λ e. absurd cc)))
-
--- ---- the clock
-
--- the readings are the first of the next clock
-pub read_where : (readings : List ℕ) (all : Option (ℕ → List ℕ)) (made : Option ℕ) (after : Option Ticking) → Gives readings (clock_told all made) after → ReadWhere readings all made
-read_where readings None made after gives = tt
-read_where readings (Some all) None after gives = tt
-read_where readings (Some all) (Some made) after gives = λ few. first_readings readings (record { ahead = all made; given = [] }) after (omega (arith, few)) gives

@@ -1,15 +1,14 @@
 -- What was done with a sender, from the openings and closings of the link and the posts.
-use Rattle.std.proofs.Common.{◌≡◌, ◌∙◌, ◌⊎◌, inl, inr, ℕ, suc, ◌≤◌, Result, Ok, Err, List, [], ◌∷◌, ◌++◌, map, length, Option, refl, sym, ap, subst, arith}
+use Rattle.std.proofs.Common.{◌≡◌, ◌∙◌, ◌⊎◌, inl, inr, ℕ, suc, ◌≤◌, Ok, Err, List, [], ◌∷◌, ◌++◌, map, length, Option, refl, sym, ap, subst, arith}
 use Rattle.std.proofs.lemmas.List.{length-map}
 use Rattle.std.specs.Option.{option_map}
-use Rattle.tesla_desk.specs.Faults.{Faults, CountsOpening, HasCause, HasCausesBeside, after_source, raised}
+use Rattle.tesla_desk.specs.Faults.{Faults, HasCause, HasCausesBeside, after_source, raised}
 use Rattle.tesla_desk.specs.Live.{LeavesAll, Live, OpenedLink, Remainder, remainder_of}
 use Rattle.tesla_desk.specs.Outside.{ClosesLink, OfLink, OfPost, OpensLink, Told}
 use Rattle.tesla_desk.specs.declared.desk.OpenRefusal.{OpenRefusal}
-use Rattle.tesla_desk.specs.declared.desk.OpenRefusal.TheVariants as refusals
 use Rattle.tesla_desk.specs.declared.link.Letter.{Letter}
 use Rattle.tesla_desk.proofs.Told.{leaves_all}
-use Rattle.tesla_desk.proofs.Counts.{cause_none, causes_opening, causes_plain, causes_source, causes_then, counts_stay}
+use Rattle.tesla_desk.proofs.Counts.{cause_none, causes_source, causes_then, counts_stay}
 use Rattle.tesla_feed.specs.Fed.{datagrams_of, reading_of}
 use Rattle.tesla_feed.specs.Feed.{events_of, letter_of}
 use Rattle.tesla_front.specs.Came.{Came, Failed}
@@ -19,20 +18,24 @@ use Rattle.tesla_front.specs.declared.fault.Fault.{Fault}
 use Rattle.tesla_front.specs.declared.fault.Fault.TheVariants as faults
 use Rattle.tesla_front.proofs.Openings.{opens_first, opens_none, opens_then}
 use Rattle.tesla_names.specs.Names.{AreDistinct, IsNoneOf}
+use Rattle.tesla_posts.specs.Clocks.{ReadWhere}
 use Rattle.tesla_posts.specs.Closed.{AnyFaulty, ClosesTo, HasMails, IsUnsent}
-use Rattle.tesla_posts.specs.Opened.{OpensNotAll, OpensTo, post_name}
+use Rattle.tesla_posts.specs.Links.{LeftWhere}
+use Rattle.tesla_posts.specs.Opened.{OpensTo, post_name}
 use Rattle.tesla_posts.specs.Opening.{ClosesPosts}
 use Rattle.tesla_posts.specs.Posts.{PostSeen}
 use Rattle.tesla_posts.proofs.Closings.{closes_to, fresh_counts, fresh_mails, mails_same}
-use Rattle.tesla_posts.proofs.Openings.{opens_still, opens_to}
+use Rattle.tesla_posts.proofs.Clocks.{clock_alone, clock_made, clock_opens, live_alone, read_where}
+use Rattle.tesla_posts.proofs.Links.{left_where, link_tried}
+use Rattle.tesla_posts.proofs.Mails.{faulty_told, unsent_on}
+use Rattle.tesla_posts.proofs.Openings.{none_of_opened, opens_new, opens_still, refused_not_all}
+use Rattle.tesla_posts.proofs.Stopped.{came_cause, memory_counts, not_all_counts}
 use Rattle.tesla_run_feed.specs.Arguments.{FeedArguments, IsFeedForm, live_files}
 use Rattle.tesla_run_feed.specs.Feeding.{EndsAs, FeedsLink, SendPosts, Stops, TouchesLive}
 use Rattle.tesla_run_feed.specs.Lines.{came_with}
 use Rattle.tesla_run_feed.specs.Steps.{FeedsFiles, FeedsOpen, OpensAndFeeds, Refuses, RunsLinked}
-use Rattle.tesla_run_feed.proofs.Ended.{end_read, ends_by, failed_either, left_where, no_open, read_end, read_where, write_failed}
-use Rattle.tesla_run_feed.proofs.Mailed.{each_told, faulty_marked, faulty_told, marked_faulty, names_kept, none_of_front, sends_posts}
-use Rattle.tesla_run_play.specs.Playing.{ReadWhere}
-use Rattle.tesla_run_relay.specs.Relay.{LeftWhere}
+use Rattle.tesla_run_feed.proofs.Ended.{end_read, ends_by, failed_either, no_open, read_end, write_failed}
+use Rattle.tesla_run_feed.proofs.Mailed.{each_told, faulty_marked, marked_faulty, names_kept, sends_posts}
 use Rattle.tesla_sender.specs.Made.{Stream}
 
 -- ---- nothing was opened
@@ -60,64 +63,22 @@ fed_roomless stream arguments told = record {
   opens = opens_none (live_files arguments) told told refl (λ name. refl) (λ name. refl);
   touches = touches_nothing arguments.link arguments.posts told.live told.live refl;
   does = inl (stops_nothing arguments told.live told.live (Failed faults.NoMemory) refl (inr refl));
-  counts = causes_plain told.faults told.faults (record {
-    reads = cause_none told.faults.reads told.faults.reads refl (λ e. absurd cc);
-    writes = cause_none told.faults.writes told.faults.writes refl (λ e. absurd cc);
-    openings = cause_none told.faults.openings told.faults.openings refl (λ e. absurd cc);
-  });
+  counts = memory_counts told.faults told.faults refl;
 }
 
 -- ---- the link wasn't opened
 
--- the opening raised the count of openings where it failed, and no other count rose
-refused_counts : {A hidden : Type 0} (refusal : OpenRefusal) (before now : Faults) → CountsOpening before now (◌≡◌ {A = Result A OpenRefusal} (Err refusal) (Err refusals.Failed)) → HasCausesBeside hidden before now (Failed (unopened refusal) ≡ Failed faults.Read) (Failed (unopened refusal) ≡ Failed faults.Write) (Failed (unopened refusal) ≡ Failed faults.Open)
-refused_counts {A} {hidden} refusals.Failed before now counts = causes_plain {hidden = hidden} before now (causes_opening before now counts (λ e. absurd cc) (λ e. absurd cc) (λ e. refl) (λ e. refl))
-refused_counts {A} {hidden} refusals.NoMemory before now counts = causes_plain {hidden = hidden} before now (causes_opening before now counts (λ e. absurd cc) (λ e. absurd cc) (λ e. absurd cc) (λ e. absurd cc))
-
-refused_cause : (refusal : OpenRefusal) → (Failed (unopened refusal) ≡ Failed faults.Open) ⊎ (Failed (unopened refusal) ≡ Failed faults.NoMemory)
-refused_cause refusals.Failed = inl refl
-refused_cause refusals.NoMemory = inr refl
-
-link_tried : {A : Type 0} (arguments : FeedArguments) (refusal : OpenRefusal) (before now : Told) → OpensLink {A = A} arguments.link (Err refusal) before now → (n : ℕ) × Opens (live_files arguments) n before now
-link_tried arguments refusals.Failed before now tried = (1, opens_first (OfLink arguments.link) (map OfPost arguments.posts) before now tried.asked (λ name none. tried.pages name) (λ name none. tried.lefts name))
-link_tried arguments refusals.NoMemory before now tried = (0, opens_none (live_files arguments) before now tried.asked tried.pages tried.lefts)
-
 pub fed_unlinked : {A : Type 0} (stream : Stream) (arguments : FeedArguments) (refusal : OpenRefusal) (fault : Fault) (before now : Told) → fault ≡ unopened refusal → OpensLink {A = A} arguments.link (Err refusal) before now → FeedsFiles stream arguments before now (Failed fault)
 fed_unlinked {A} stream arguments refusal fault before now is tried =
-    let it = link_tried {A = A} arguments refusal before now tried in
+    let it = link_tried {A = A} arguments.link (map OfPost arguments.posts) refusal before now tried in
+    let not_all = refused_not_all {A = A} refusal before now tried.counts in
     subst (λ (f : Fault). FeedsFiles stream arguments before now (Failed f)) (sym is) (record {
       opened = it.0;
       opens = it.1;
       touches = touches_nothing arguments.link arguments.posts before.live now.live tried.live;
-      does = inl (stops_nothing arguments before.live now.live (Failed (unopened refusal)) tried.live (refused_cause refusal));
-      counts = refused_counts {A = A} refusal before.faults now.faults tried.counts;
+      does = inl (stops_nothing arguments before.live now.live (Failed (unopened refusal)) tried.live (came_cause (unopened refusal) not_all.cause));
+      counts = not_all_counts (unopened refusal) before now not_all;
     })
-
--- ---- a post wasn't opened
-
--- an opening that was refused raised the count of openings where it failed, and no other count rose
-not_all_counts : {hidden : Type 0} (fault : Fault) (before now : Told) → OpensNotAll fault before now → HasCausesBeside hidden before.faults now.faults (Failed fault ≡ Failed faults.Read) (Failed fault ≡ Failed faults.Write) (Failed fault ≡ Failed faults.Open)
-not_all_counts {hidden} fault before now not_all =
-    causes_plain {hidden = hidden} before.faults now.faults
-    (causes_opening before.faults now.faults not_all.counts (λ e. no_read fault e not_all.cause) (λ e. no_write fault e not_all.cause) (λ e. open_is fault e) (λ e. ap Failed e)) where
-      no_read : (f : Fault) → Failed f ≡ Failed faults.Read → (f ≡ faults.Open) ⊎ (f ≡ faults.NoMemory) → ⊥
-      no_read f e (inl refused) = cc
-      no_read f e (inr memory) = cc
-
-      no_write : (f : Fault) → Failed f ≡ Failed faults.Write → (f ≡ faults.Open) ⊎ (f ≡ faults.NoMemory) → ⊥
-      no_write f e (inl refused) = cc
-      no_write f e (inr memory) = cc
-
-      open_is : (f : Fault) → Failed f ≡ Failed faults.Open → f ≡ faults.Open
-      open_is f e = cc
-
-came_cause : (fault : Fault) → (fault ≡ faults.Open) ⊎ (fault ≡ faults.NoMemory) → (Failed fault ≡ Failed faults.Open) ⊎ (Failed fault ≡ Failed faults.NoMemory)
-came_cause fault (inl refused) = inl (ap Failed refused)
-came_cause fault (inr memory) = inr (ap Failed memory)
-
-unsent_on : (before now mid : Live) (name : List ℕ) → now.mail name ≡ mid.mail name → (mid.mail name ≡ before.mail name) ⊎ IsUnsent (mid.mail name) → (now.mail name ≡ before.mail name) ⊎ IsUnsent (now.mail name)
-unsent_on before now mid name same (inl is) = inl (same ∙ is)
-unsent_on before now mid name same (inr unsent) = inr (subst IsUnsent (sym same) unsent)
 
 -- ---- a link that was opened, and closed behind the posts
 
@@ -144,13 +105,10 @@ module _ (stream : Stream) (arguments : FeedArguments) (left : Option (List Lett
 
   module _ (posts_closed : ClosesPosts posts tried closed) (came : Came) (refuses : Refuses arguments.posts left later 0 missed linked tried posts came) where
     refused_to : OpensTo arguments.posts posts linked tried (Err refuses.fault)
-    refused_to = subst (λ (ps : List PostSeen). OpensTo arguments.posts ps linked tried (Err refuses.fault)) (sym refuses.opens.1) (opens_to arguments.posts linked tried refuses.opens.0 (Err refuses.fault) refuses.opens.2)
+    refused_to = opens_new arguments.posts linked tried posts (Err refuses.fault) refuses.opens
 
     refused_live : tried.live ≡ before.live
     refused_live = refused_to.live ∙ link_live
-
-    refused_alone : tried.live ≡ record before.live { made = tried.live.made }
-    refused_alone = refused_live ∙ ap (λ (made : Option ℕ). let it : Live = record before.live { made = made } in it) (sym (ap (λ (l : Live). l.made) refused_live))
 
     refused_unheard : LeavesAll (before.live.wire arguments.link) (now.live.left arguments.link)
     refused_unheard =
@@ -173,7 +131,7 @@ module _ (stream : Stream) (arguments : FeedArguments) (left : Option (List Lett
         subst (λ (c : Came). FeedsFiles stream arguments before now c) (sym refuses.came_is) (record {
           opened = suc refused_to.opened;
           opens = all_opens refused_to.opened refused_to.opens;
-          touches = all_touches refused_alone (λ name none. subst (λ (ns : List (List ℕ)). IsNoneOf name ns) (sym refused_to.names_are) (none_of_front (length posts) name arguments.posts none));
+          touches = all_touches (live_alone before.live tried.live refused_live) (λ name none. none_of_opened name arguments.posts posts linked tried (Err refuses.fault) refused_to none);
           does = inl (record {
             unheard = inr refused_unheard;
             unsent = refused_unsent;
@@ -187,18 +145,13 @@ module _ (stream : Stream) (arguments : FeedArguments) (left : Option (List Lett
 
   module _ (some : 1 ≤ length arguments.posts) (distinct : AreDistinct arguments.posts) (came : Came) (open_feeds : FeedsOpen stream arguments.posts left later 0 missed linked tried posts came) where
     fed_to : OpensTo arguments.posts open_feeds.fresh linked open_feeds.opened (Ok tt)
-    fed_to = subst (λ (ps : List PostSeen). OpensTo arguments.posts ps linked open_feeds.opened (Ok tt)) (sym open_feeds.opens.1) (opens_to arguments.posts linked open_feeds.opened open_feeds.opens.0 (Ok tt) open_feeds.opens.2)
+    fed_to = opens_new arguments.posts linked open_feeds.opened open_feeds.fresh (Ok tt) open_feeds.opens
 
     fed_live : open_feeds.opened.live ≡ before.live
     fed_live = fed_to.live ∙ link_live
 
     fed_alone : tried.live ≡ record before.live { made = tried.live.made }
-    fed_alone = ap (λ (t : Told). t.live) open_feeds.made.makes.same ∙ ap (λ (l : Live). let it : Live = record l { made = tried.live.made } in it) fed_live
-
-    fed_opens : Opens (map OfPost arguments.posts) fed_to.opened linked tried
-    fed_opens =
-        let same = open_feeds.made.makes.same in
-        opens_still (map OfPost arguments.posts) fed_to.opened linked open_feeds.opened tried fed_to.opens (ap (λ (t : Told). t.openings) same) (λ name. ap (λ (t : Told). t.page name) same) (λ name. ap (λ (t : Told). t.left name) same)
+    fed_alone = clock_alone before open_feeds.opened tried open_feeds.made.makes fed_live
 
     fed_names : map post_name posts ≡ arguments.posts
     fed_names =
@@ -215,7 +168,7 @@ module _ (stream : Stream) (arguments : FeedArguments) (left : Option (List Lett
         (sends_posts (datagrams_of stream feeds.made.log) open_feeds.fresh posts feeds.failed now fed_to.fresh fed_mails feeds.posts_are)
 
     fed_made : now.live.made ≡ option_map raised before.live.made
-    fed_made = all_made ∙ open_feeds.made.makes.counted ∙ ap (λ (l : Live). option_map raised l.made) fed_live
+    fed_made = all_made ∙ clock_made before open_feeds.opened tried open_feeds.made.makes fed_live
 
     abbrev fed_readings : List ℕ
     fed_readings = let feeds = open_feeds.made.feeds in feeds.opening ∷ feeds.early ++ feeds.begun ∷ map reading_of (events_of feeds.heard feeds.rests)
@@ -311,7 +264,7 @@ module _ (stream : Stream) (arguments : FeedArguments) (left : Option (List Lett
     fed_all =
         subst (λ (c : Came). FeedsFiles stream arguments before now c) (sym open_feeds.came_is) (record {
           opened = suc fed_to.opened;
-          opens = all_opens fed_to.opened fed_opens;
+          opens = all_opens fed_to.opened (clock_opens linked open_feeds.opened tried open_feeds.made.makes (map OfPost arguments.posts) fed_to.opened fed_to.opens);
           touches = all_touches fed_alone (λ name none. subst (λ (ns : List (List ℕ)). IsNoneOf name ns) (sym fed_names) none);
           does = inr (let all = (fed_to.whole refl).all in omega (arith, all), fed_feeds);
           counts = causes_then before.faults tried.faults now.faults fed_faults fed_causes;

@@ -1,36 +1,29 @@
 -- What the command did, from its steps.
-use Rattle.std.proofs.Common.{◌≡◌, ◌∙◌, ◌⊎◌, inl, inr, ℕ, suc, None, Result, Ok, Err, List, [], ◌∷◌, length, map, refl, ap, subst, arith}
+use Rattle.std.proofs.Common.{◌≡◌, ◌∙◌, ◌⊎◌, inl, inr, ℕ, suc, None, Ok, Err, List, [], ◌∷◌, length, refl, ap, subst, arith}
 use Rattle.tesla_base.specs.declared.names.Key.{Key}
 use Rattle.tesla_commit.specs.Parts.{Parts}
-use Rattle.tesla_desk.specs.Faults.{Faults}
 use Rattle.tesla_desk.specs.Live.{Live}
-use Rattle.tesla_desk.specs.Outside.{Page, Told, OfPost, OfSource}
-use Rattle.tesla_desk.proofs.Counts.{cause_none, causes_none, causes_then}
-use Rattle.tesla_front.specs.Came.{Came, Failed, stop_came}
+use Rattle.tesla_desk.specs.Outside.{Page, Told, OfSource}
+use Rattle.tesla_desk.proofs.Counts.{causes_none, causes_then}
+use Rattle.tesla_front.specs.Came.{Came, stop_came}
 use Rattle.tesla_front.specs.Command.{Performs}
 use Rattle.tesla_front.specs.Openings.{AreFiles, Opens, OpensSome, file_told}
 use Rattle.tesla_front.specs.Refusal.{StopCauses}
 use Rattle.tesla_front.specs.Seeds.{IsSeedsIn, IsNoSeeds}
 use Rattle.tesla_front.specs.Setup.{IsNoSetup, IsSetupIn}
-use Rattle.tesla_front.specs.declared.fault.Fault.{Fault}
-use Rattle.tesla_front.specs.declared.fault.Fault.TheVariants as faults
 use Rattle.tesla_front.specs.declared.refusal.Stop.{Stop}
-use Rattle.tesla_front.specs.declared.refusal.Stop.TheVariants as stops
 use Rattle.tesla_front.proofs.Commands.{counts_stopped}
 use Rattle.tesla_front.proofs.Openings.{opens_none, opens_some, opens_then}
-use Rattle.tesla_names.specs.Names.{AreListNames}
+use Rattle.tesla_posts.proofs.Openings.{post_files}
 use Rattle.tesla_run_feed.specs.Arguments.{FeedArguments, IsFeedForm, files_of_feed, live_files}
 use Rattle.tesla_run_feed.specs.Feeding.{FeedsOrStops, FeedsWith, TouchesLive, feed}
 use Rattle.tesla_run_feed.specs.Steps.{FeedsFiles, FeedsSeeded, FeedsSetup, LacksSender}
 use Rattle.tesla_run_feed.proofs.Fed.{touches_nothing}
+use Rattle.tesla_run_send.proofs.NoSender.{no_sender_causes}
 use Rattle.tesla_run_send.specs.Send.{HasNoSender, IsNoSender, StopsAtSeeds, wrong_line}
 use Rattle.tesla_sender.specs.Made.{Stream}
 
 -- ---- the files
-
-post_files : (names : List (List ℕ)) → AreListNames names → AreFiles (map OfPost names)
-post_files [] each = tt
-post_files (name ∷ names) each = (each.0.named.file, post_files names each.1)
 
 -- none of the files is the console
 are_files : (arguments : FeedArguments) (words : List (List ℕ)) → IsFeedForm arguments words → AreFiles (files_of_feed arguments)
@@ -41,26 +34,6 @@ touches_on : (link : List ℕ) (posts : List (List ℕ)) (before mid now : Live)
 touches_on link posts before mid now same touches = subst (λ (l : Live). TouchesLive link posts l now) same touches
 
 -- ---- the sender
-
--- why no sender is opened is no fault but want of memory
-no_sender_fault : {A : Type 0} (stream : Stream) (stop : Stop) (fault : Fault) → IsNoSender stream (stop_came stop) → (fault ≡ faults.NoMemory → ⊥) → ◌≡◌ {A = Result A Stop} (Err stop) (Err (stops.Failed fault)) → ⊥
-no_sender_fault stream stop fault (inl (line, wrong, told)) other e =
-    let same : stop ≡ stops.Failed fault = cc in
-    let came : stop_came stop ≡ Failed fault = ap stop_came same in
-    cc
-no_sender_fault stream stop fault (inr told) other e =
-    let same : stop ≡ stops.Failed fault = cc in
-    let came : stop_came stop ≡ Failed fault = ap stop_came same in
-    let memory : fault ≡ faults.NoMemory = cc in
-    other memory
-
--- it raises no count
-no_sender_causes : {A : Type 0} (stream : Stream) (stop : Stop) (counts : Faults) → IsNoSender stream (stop_came stop) → StopCauses {A = A} (Err stop) counts counts
-no_sender_causes stream stop counts why = record {
-  reads = cause_none counts.reads counts.reads refl (no_sender_fault stream stop faults.Read why (λ e. cc));
-  writes = cause_none counts.writes counts.writes refl (no_sender_fault stream stop faults.Write why (λ e. cc));
-  openings = cause_none counts.openings counts.openings refl (no_sender_fault stream stop faults.Open why (λ e. cc));
-}
 
 -- no sender was opened, and nothing else was done
 pub seeded_none : (stream : Stream) (arguments : FeedArguments) (desk : Told) (stop : Stop) → IsNoSender stream (stop_came stop) → FeedsSeeded stream arguments desk desk (stop_came stop)

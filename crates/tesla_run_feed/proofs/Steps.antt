@@ -1,11 +1,10 @@
 -- The opening of posts, from what its call ensures.
-use Rattle.std.proofs.Common.{◌≡◌, ◌∙◌, ℕ, ◌≤◌, Ok, List, [], length, map, refl, sym, ap, subst}
+use Rattle.std.proofs.Common.{◌≡◌, ◌∙◌, ℕ, ◌≤◌, Ok, List, [], length, map, sym, subst}
 use Rattle.std.proofs.lemmas.List.{length-map}
 use Rattle.tesla_desk.specs.Outside.{Told}
-use Rattle.tesla_posts.specs.Opened.{post_name}
 use Rattle.tesla_posts.specs.Opening.{OpensPosts}
 use Rattle.tesla_posts.specs.Posts.{PostSeen}
-use Rattle.tesla_posts.proofs.Openings.{opens_to}
+use Rattle.tesla_posts.proofs.Openings.{opened_size}
 
 module _ {P X : Type 0} (seen : P → PostSeen) (name : X → List ℕ) (names : List X) (before mid : Told) (old : List PostSeen) (posts : List P) where
   -- the posts that were opened are all that there are
@@ -14,10 +13,4 @@ module _ {P X : Type 0} (seen : P → PostSeen) (name : X → List ℕ) (names :
 
   -- and there are no more of them than may be
   pub opened_few : OpensPosts (map name names) before mid old (map seen posts) (Ok tt) → old ≡ [] → length names ≤ 32 → length posts ≤ 32
-  opened_few opens none few =
-      let only = opened_new opens none in
-      let to = opens_to (map name names) before mid only.0 (Ok tt) only.2 in
-      let size : length posts ≡ length names =
-      sym (length-map posts seen) ∙ ap (λ (ps : List PostSeen). length ps) only.1 ∙ sym (length-map only.0 post_name)
-      ∙ ap (λ (ns : List (List ℕ)). length ns) (to.whole refl).names_are ∙ length-map names name in
-      subst (λ (n : ℕ). n ≤ 32) (sym size) few
+  opened_few opens none few = subst (λ (n : ℕ). n ≤ 32) (sym (opened_size seen (map name names) before mid old posts opens none ∙ length-map names name)) few

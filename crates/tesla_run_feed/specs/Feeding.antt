@@ -15,11 +15,12 @@ use Rattle.tesla_front.specs.Openings.{File}
 use Rattle.tesla_front.specs.Setup.{IsSetupIn}
 use Rattle.tesla_front.specs.declared.fault.Fault.TheVariants as faults
 use Rattle.tesla_names.specs.Names.{IsNoneOf}
-use Rattle.tesla_posts.specs.Closed.{IsUnsent}
+use Rattle.tesla_posts.specs.Clocks.{ReadWhere}
+use Rattle.tesla_posts.specs.Closed.{HoldsSent, IsUnsent}
+use Rattle.tesla_posts.specs.Counts.{IsSentCount}
+use Rattle.tesla_posts.specs.Links.{HasBroken, HasEnded, LeftWhere}
 use Rattle.tesla_run_feed.specs.Arguments.{FeedArguments, IsFeedForm, files_of_feed}
 use Rattle.tesla_run_feed.specs.Lines.{lines_of}
-use Rattle.tesla_run_play.specs.Playing.{ReadWhere}
-use Rattle.tesla_run_relay.specs.Relay.{HasBroken, HasEnded, HoldsSent, LeftWhere}
 use Rattle.tesla_run_send.specs.Send.{AreSeeds, StopsAtSeeds, wrong_line}
 use Rattle.tesla_sender.specs.Made.{Stream, interval_at}
 
@@ -37,8 +38,7 @@ pub record Stops (arguments : FeedArguments) (before now : Live) (came : Came) :
 -- a post sent these datagrams, in order and each once; where it failed, a front of them
 pub record SendsPost (datagrams : List (List ℕ)) (mail : Mail) (failed : Bool) : Type 0 where
   pub sends : ℕ
-  pub all : failed ≡ false → sends ≡ length datagrams
-  pub front : failed ≡ true → sends < length datagrams
+  pub many : IsSentCount datagrams failed sends
   pub sent : HoldsSent (take sends datagrams) failed mail
 
 -- the same of each post, with the mail under its name, told which failed

@@ -1,14 +1,11 @@
 -- What the command did, from its openings and closings.
-use Rattle.std.proofs.Common.{◌≡◌, ◌∙◌, ◌⊎◌, inl, inr, ℕ, zero, suc, Ok, Err, List, [], ◌∷◌, Option, Some, None, map, length, take, refl, sym, ap, subst, arith}
+use Rattle.std.proofs.Common.{◌≡◌, ◌∙◌, ◌⊎◌, inl, inr, ℕ, suc, Ok, Err, List, [], ◌∷◌, Option, Some, map, take, refl, sym, ap, subst}
 use Rattle.std.specs.Option.{option_map}
-use Rattle.tesla_desk.specs.Clocks.{Gives, Ticking}
 use Rattle.tesla_desk.specs.Faults.{Faults, HasCauses, HasCausesBeside, after_source, raised}
-use Rattle.tesla_desk.specs.Live.{Live, clock_told}
+use Rattle.tesla_desk.specs.Live.{Live}
 use Rattle.tesla_desk.specs.Outside.{ClosesSource, Holds, OfPost, OfSource, Opened, OpensSource, Page, Told, Untold, Absent}
 use Rattle.tesla_desk.specs.declared.desk.OpenRefusal.{OpenRefusal}
-use Rattle.tesla_desk.specs.declared.desk.OpenRefusal.TheVariants as refusals
-use Rattle.tesla_desk.proofs.Counts.{cause_as, cause_none, causes_both, causes_opening, causes_plain, causes_source, causes_then, counts_stay}
-use Rattle.tesla_desk.proofs.Given.{first_readings}
+use Rattle.tesla_desk.proofs.Counts.{cause_none, causes_both, causes_plain, causes_source, causes_then, counts_stay}
 use Rattle.tesla_front.specs.Came.{Came, Failed}
 use Rattle.tesla_front.specs.Command.{Performs}
 use Rattle.tesla_front.specs.Fault.{unopened}
@@ -17,57 +14,30 @@ use Rattle.tesla_front.specs.Openings.{AnyFailed, AreFiles, Opens}
 use Rattle.tesla_front.specs.declared.fault.Fault.{Fault}
 use Rattle.tesla_front.specs.declared.fault.Fault.TheVariants as faults
 use Rattle.tesla_front.proofs.Openings.{not_first_read, opens_first, opens_none, opens_some, opens_then, source_tried}
-use Rattle.tesla_names.specs.Names.{AreDistinct, AreListNames, IsNoneOf}
+use Rattle.tesla_names.specs.Names.{AreDistinct, IsNoneOf}
 use Rattle.tesla_play.specs.Play.{FileTo, Played, bytes_of}
 use Rattle.tesla_play.specs.declared.playing.PlayEnd.{PlayEnd}
 use Rattle.tesla_play.specs.declared.playing.PlayEnd.TheVariants as ends
+use Rattle.tesla_posts.specs.Clocks.{ReadWhere}
 use Rattle.tesla_posts.specs.Closed.{AnyFaulty, ClosesTo, IsUnsent}
-use Rattle.tesla_posts.specs.Opened.{OpensNotAll, OpensTo, post_name}
+use Rattle.tesla_posts.specs.Opened.{OpensTo, post_name}
 use Rattle.tesla_posts.specs.Opening.{ClosesPosts}
 use Rattle.tesla_posts.specs.Posts.{PostSeen}
 use Rattle.tesla_posts.proofs.Closings.{closes_to, fresh_counts, fresh_mails}
-use Rattle.tesla_posts.proofs.Openings.{opens_still, opens_to}
+use Rattle.tesla_posts.proofs.Clocks.{clock_alone, clock_made, clock_opens, live_alone, read_where}
+use Rattle.tesla_posts.proofs.Mails.{unsent_on}
+use Rattle.tesla_posts.proofs.Openings.{none_of_opened, opens_new, opens_still, post_files, refused_not_all}
+use Rattle.tesla_posts.proofs.Stopped.{came_cause, memory_counts, not_all_counts}
 use Rattle.tesla_run_play.specs.Arguments.{PlayArguments, IsPlayForm, files_of_play}
-use Rattle.tesla_run_play.specs.Playing.{PostsHold, ReadWhere, TouchesPosts, came_with, play}
+use Rattle.tesla_run_play.specs.Playing.{PostsHold, TouchesPosts, came_with, play}
 use Rattle.tesla_run_play.specs.Steps.{OpensAndPlays, PlaysOpen, Refuses, RunsOpened}
 use Rattle.tesla_run_play.proofs.Sent.{end_faulty, faulty_end, names_stay, posts_hold}
 
--- ---- names
-
-posts_are_files : (names : List (List ℕ)) → AreListNames names → AreFiles (map OfPost names)
-posts_are_files [] are = tt
-posts_are_files (name ∷ names) (own, others) = (own.named.file, posts_are_files names others)
+-- ---- the files
 
 -- none of the files is the console
 are_files : (arguments : PlayArguments) (words : List (List ℕ)) → IsPlayForm arguments words → AreFiles (files_of_play arguments)
-are_files arguments words is = (is.capture_is.file, posts_are_files arguments.posts is.posts_are.each)
-
-none_of_first : (n : ℕ) (name : List ℕ) (names : List (List ℕ)) → IsNoneOf name names → IsNoneOf name (take n names)
-none_of_first zero name names none = tt
-none_of_first (suc n) name [] none = tt
-none_of_first (suc n) name (other ∷ names) none = (none.0, none_of_first n name names none.1)
-
--- ---- faults
-
--- an opening that was refused raised the count of openings where it failed, and no other count rose
-not_all_counts : {hidden : Type 0} (fault : Fault) (before now : Told) → OpensNotAll fault before now → HasCausesBeside hidden before.faults now.faults (Failed fault ≡ Failed faults.Read) (Failed fault ≡ Failed faults.Write) (Failed fault ≡ Failed faults.Open)
-not_all_counts {hidden} fault before now not_all =
-    causes_plain {hidden = hidden} before.faults now.faults
-    (causes_opening before.faults now.faults not_all.counts (λ e. no_read fault e not_all.cause) (λ e. no_write fault e not_all.cause) (λ e. open_is fault e) (λ e. ap Failed e)) where
-      no_read : (f : Fault) → Failed f ≡ Failed faults.Read → (f ≡ faults.Open) ⊎ (f ≡ faults.NoMemory) → ⊥
-      no_read f e (inl refused) = cc
-      no_read f e (inr memory) = cc
-
-      no_write : (f : Fault) → Failed f ≡ Failed faults.Write → (f ≡ faults.Open) ⊎ (f ≡ faults.NoMemory) → ⊥
-      no_write f e (inl refused) = cc
-      no_write f e (inr memory) = cc
-
-      open_is : (f : Fault) → Failed f ≡ Failed faults.Open → f ≡ faults.Open
-      open_is f e = cc
-
-came_cause : (fault : Fault) → (fault ≡ faults.Open) ⊎ (fault ≡ faults.NoMemory) → (Failed fault ≡ Failed faults.Open) ⊎ (Failed fault ≡ Failed faults.NoMemory)
-came_cause fault (inl refused) = inl (ap Failed refused)
-came_cause fault (inr memory) = inr (ap Failed memory)
+are_files arguments words is = (is.capture_is.file, post_files arguments.posts is.posts_are.each)
 
 -- ---- what is told of links, posts and clocks
 
@@ -88,28 +58,14 @@ performs_roomless arguments words before is = record {
   opened = 0;
   opens = opens_none (files_of_play arguments) before before refl (λ name. refl) (λ name. refl);
   does = (touches_nothing arguments.posts before.live before.live refl, inl (record { unread = inl refl; unsent = λ name. inl refl; made = refl; cause = inr refl }));
-  counts = causes_plain before.faults before.faults (record {
-    reads = cause_none before.faults.reads before.faults.reads refl (λ e. absurd cc);
-    writes = cause_none before.faults.writes before.faults.writes refl (λ e. absurd cc);
-    openings = cause_none before.faults.openings before.faults.openings refl (λ e. absurd cc);
-  });
-}
-
-source_not_all : {A : Type 0} (name : List ℕ) (refusal : OpenRefusal) (before now : Told) → OpensSource {A = A} name (Err refusal) before now → OpensNotAll (unopened refusal) before now
-source_not_all name refusals.Failed before now tried = record {
-  cause = inl refl;
-  counts = record { reads = tried.counts.reads; writes = tried.counts.writes; openings = cause_as before.faults.openings now.faults.openings tried.counts.openings (λ e. refl) (λ e. refl) };
-}
-source_not_all name refusals.NoMemory before now tried = record {
-  cause = inr refl;
-  counts = record { reads = tried.counts.reads; writes = tried.counts.writes; openings = cause_as before.faults.openings now.faults.openings tried.counts.openings (λ e. absurd cc) (λ e. absurd cc) };
+  counts = memory_counts before.faults before.faults refl;
 }
 
 -- the capture wasn't opened
 pub performs_unopened : {A : Type 0} (arguments : PlayArguments) (words : List (List ℕ)) (refusal : OpenRefusal) (fault : Fault) (before now : Told) → IsPlayForm arguments words → fault ≡ unopened refusal → OpensSource {A = A} arguments.capture (Err refusal) before now → Performs (play before.live now.live) arguments before now (Failed fault)
 performs_unopened {A} arguments words refusal fault before now is fault_is tried =
     let some = opens_some (OfSource arguments.capture) (map OfPost arguments.posts) before now (source_tried {A = A} arguments.capture (Err refusal) before now tried) in
-    let not_all = source_not_all {A = A} arguments.capture refusal before now tried in
+    let not_all = refused_not_all {A = A} refusal before now tried.counts in
     subst (λ (f : Fault). Performs (play before.live now.live) arguments before now (Failed f)) (sym fault_is) (record {
       named = are_files arguments words is;
       opened = some.0;
@@ -138,11 +94,6 @@ file_where end Untold left later now played opened same file = tt
 file_where end Absent left later now played opened same file = opened
 file_where end (Holds bytes failed) left later now played opened same file = subst (λ (l : Option (List ℕ)). FileTo end bytes l played) (sym same) (file bytes opened)
 
-read_where : (readings : List ℕ) (all : Option (ℕ → List ℕ)) (made : Option ℕ) (after : Option Ticking) → Gives readings (clock_told all made) after → ReadWhere readings all made
-read_where readings None made after gives = tt
-read_where readings (Some all) None after gives = tt
-read_where readings (Some all) (Some made) after gives = λ few. first_readings readings (record { ahead = all made; given = [] }) after (omega (arith, few)) gives
-
 ends_read : (end : PlayEnd) → came_with end ≡ Failed faults.Read → end ≡ ends.ReadFault
 ends_read (ends.Ended sent) e = absurd cc
 ends_read (ends.Refused place kind) e = absurd cc
@@ -160,10 +111,6 @@ ends_open (ends.Ended sent) e = absurd cc
 ends_open (ends.Refused place kind) e = absurd cc
 ends_open ends.ReadFault e = absurd cc
 ends_open ends.PostFault e = absurd cc
-
-unsent_after : (name : List ℕ) (before tried closed now : Live) → tried ≡ before → now ≡ closed → (closed.mail name ≡ tried.mail name) ⊎ IsUnsent (closed.mail name) → (now.mail name ≡ before.mail name) ⊎ IsUnsent (now.mail name)
-unsent_after name before tried closed now first last (inl same) = inl (ap (λ (l : Live). l.mail name) last ∙ same ∙ ap (λ (l : Live). l.mail name) first)
-unsent_after name before tried closed now first last (inr unsent) = inr (subst (λ (l : Live). IsUnsent (l.mail name)) (sym last) unsent)
 
 either_read : (end : PlayEnd) → ⊥ ⊎ (came_with end ≡ Failed faults.Read) → came_with end ≡ Failed faults.Read
 either_read end (inl never) = absurd never
@@ -208,16 +155,15 @@ module _ (arguments : PlayArguments) (words : List (List ℕ)) (left : Option (L
 
   module _ (posts_closed : ClosesPosts posts tried closed) (came : Came) (refuses : Refuses arguments.posts left later 0 missed mid tried posts came) where
     refused_to : OpensTo arguments.posts posts mid tried (Err refuses.fault)
-    refused_to = subst (λ (ps : List PostSeen). OpensTo arguments.posts ps mid tried (Err refuses.fault)) (sym refuses.opens.1) (opens_to arguments.posts mid tried refuses.opens.0 (Err refuses.fault) refuses.opens.2)
+    refused_to = opens_new arguments.posts mid tried posts (Err refuses.fault) refuses.opens
 
     refused_live : tried.live ≡ before.live
     refused_live = refused_to.live ∙ source_live
 
-    refused_alone : tried.live ≡ record before.live { made = tried.live.made }
-    refused_alone = refused_live ∙ ap (λ (made : Option ℕ). let it : Live = record before.live { made = made } in it) (sym (ap (λ (l : Live). l.made) refused_live))
-
     refused_unsent : (name : List ℕ) → (now.live.mail name ≡ before.live.mail name) ⊎ IsUnsent (now.live.mail name)
-    refused_unsent name = unsent_after name before.live tried.live closed.live now.live refused_live source_closed.live (fresh_mails posts tried closed refused_to.fresh posts_closed name)
+    refused_unsent name =
+        unsent_on before.live now.live closed.live name (ap (λ (l : Live). l.mail name) source_closed.live)
+        (subst (λ (l : Live). (closed.live.mail name ≡ l.mail name) ⊎ IsUnsent (closed.live.mail name)) refused_live (fresh_mails posts tried closed refused_to.fresh posts_closed name))
 
     refused_faults : now.faults ≡ tried.faults
     refused_faults = fresh_closed refuses.same.1 ∙ fresh_counts posts tried closed refused_to.fresh closes
@@ -232,7 +178,7 @@ module _ (arguments : PlayArguments) (words : List (List ℕ)) (left : Option (L
           opened = suc refused_to.opened;
           opens = all_opens refused_to.opened refused_to.opens;
           does = (
-            all_touches refused_alone (λ name none. subst (λ (ns : List (List ℕ)). IsNoneOf name ns) (sym refused_to.names_are) (none_of_first (length posts) name arguments.posts none)),
+            all_touches (live_alone before.live tried.live refused_live) (λ name none. none_of_opened name arguments.posts posts mid tried (Err refuses.fault) refused_to none),
             inl (record {
               unread = inr (left_where (before.page arguments.capture) left (now.left arguments.capture) opened (source_closed.own ∙ refuses.same.0));
               unsent = refused_unsent;
@@ -247,18 +193,13 @@ module _ (arguments : PlayArguments) (words : List (List ℕ)) (left : Option (L
 
   module _ (came : Came) (open_plays : PlaysOpen arguments.posts left later 0 missed mid tried posts came) where
     played_to : OpensTo arguments.posts open_plays.fresh mid open_plays.opened (Ok tt)
-    played_to = subst (λ (ps : List PostSeen). OpensTo arguments.posts ps mid open_plays.opened (Ok tt)) (sym open_plays.opens.1) (opens_to arguments.posts mid open_plays.opened open_plays.opens.0 (Ok tt) open_plays.opens.2)
+    played_to = opens_new arguments.posts mid open_plays.opened open_plays.fresh (Ok tt) open_plays.opens
 
     played_live : open_plays.opened.live ≡ before.live
     played_live = played_to.live ∙ source_live
 
     played_alone : tried.live ≡ record before.live { made = tried.live.made }
-    played_alone = ap (λ (t : Told). t.live) open_plays.made.makes.same ∙ ap (λ (l : Live). let it : Live = record l { made = tried.live.made } in it) played_live
-
-    played_opens : Opens (map OfPost arguments.posts) played_to.opened mid tried
-    played_opens =
-        let same = open_plays.made.makes.same in
-        opens_still (map OfPost arguments.posts) played_to.opened mid open_plays.opened tried played_to.opens (ap (λ (t : Told). t.openings) same) (λ name. ap (λ (t : Told). t.page name) same) (λ name. ap (λ (t : Told). t.left name) same)
+    played_alone = clock_alone before open_plays.opened tried open_plays.made.makes played_live
 
     played_names : map post_name posts ≡ arguments.posts
     played_names = names_stay open_plays.end (map bytes_of open_plays.made.plays.played) open_plays.fresh posts open_plays.made.plays.posts_are ∙ (played_to.whole refl).names_are
@@ -272,7 +213,7 @@ module _ (arguments : PlayArguments) (words : List (List ℕ)) (left : Option (L
         (subst (λ (names : List (List ℕ)). PostsHold open_plays.end sent names closed.live) (played_to.whole refl).names_are held)
 
     played_made : now.live.made ≡ option_map raised before.live.made
-    played_made = all_made ∙ open_plays.made.makes.counted ∙ ap (λ (l : Live). option_map raised l.made) played_live
+    played_made = all_made ∙ clock_made before open_plays.opened tried open_plays.made.makes played_live
 
     played_clock : ReadWhere open_plays.made.plays.readings before.live.readings before.live.made
     played_clock =
@@ -307,7 +248,7 @@ module _ (arguments : PlayArguments) (words : List (List ℕ)) (left : Option (L
         subst (λ (c : Came). Performs (play before.live now.live) arguments before now c) (sym open_plays.came_is) (record {
           named = are_files arguments words is;
           opened = suc played_to.opened;
-          opens = all_opens played_to.opened played_opens;
+          opens = all_opens played_to.opened (clock_opens mid open_plays.opened tried open_plays.made.makes (map OfPost arguments.posts) played_to.opened played_to.opens);
           does = (
             all_touches played_alone (λ name none. subst (λ (ns : List (List ℕ)). IsNoneOf name ns) (sym played_names) none),
             inr (

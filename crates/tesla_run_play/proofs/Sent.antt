@@ -1,7 +1,5 @@
 -- What posts have sent, once they were played to and closed.
-use Rattle.std.proofs.Common.{◌≡◌, ◌∙◌, inl, inr, ℕ, ◌<◌, nat_lt, true, false, Option, Some, None, IfSome, List, [], ◌∷◌, ◌++◌, map, refl, sym, ap, subst, arith}
-use Rattle.std.proofs.lemmas.Bool.Decides.{nat_tests}
-use Rattle.tesla_desk.specs.Faults.{Rose}
+use Rattle.std.proofs.Common.{◌≡◌, ◌∙◌, inl, inr, ℕ, nat_lt, true, false, Option, IfSome, List, [], ◌∷◌, ◌++◌, map, refl, sym, ap, subst, arith}
 use Rattle.tesla_desk.specs.Live.{Mail, mail_of}
 use Rattle.tesla_desk.specs.Outside.{Told}
 use Rattle.tesla_play.specs.Play as plays
@@ -9,10 +7,11 @@ use Rattle.tesla_play.specs.Play.{PostsTo, having_sent}
 use Rattle.tesla_play.specs.declared.playing.PlayEnd.{PlayEnd}
 use Rattle.tesla_play.specs.declared.playing.PlayEnd.TheVariants.{Ended, Refused, ReadFault, PostFault}
 use Rattle.tesla_play.proofs.Sends.{sent_twice}
-use Rattle.tesla_posts.specs.Closed.{AnyFaulty, HasMails}
+use Rattle.tesla_posts.specs.Closed.{AnyFaulty, HasMails, HoldsSent}
 use Rattle.tesla_posts.specs.Opened.{AreFresh, post_name}
 use Rattle.tesla_posts.specs.Posts.{PostSeen, with_datagrams}
-use Rattle.tesla_run_play.specs.Playing.{BreaksAt, HaveSent, HoldsSent, PostsHold}
+use Rattle.tesla_posts.proofs.Mails.{holds_sent, rose_told, some_rose}
+use Rattle.tesla_run_play.specs.Playing.{BreaksAt, HaveSent, PostsHold}
 
 -- ---- names
 
@@ -40,18 +39,9 @@ names_stay PostFault datagrams fresh posts to = names_broken to.last (map (havin
 
 -- ---- mail
 
+-- a post that did not fail
 sent_mail : (sent : Option (List (List ℕ))) (faults : ℕ) (datagrams : List (List ℕ)) → IfSome sent (λ before. before ≡ []) → faults ≡ 0 → HoldsSent datagrams false (mail_of (with_datagrams sent datagrams) faults)
-sent_mail None faults datagrams empty none = tt
-sent_mail (Some before) faults datagrams empty none = (ap (λ front. front ++ datagrams) empty, ap (λ n. nat_lt 0 n) none)
-
-failed_mail : (sent : Option (List (List ℕ))) (faults : ℕ) (datagrams : List (List ℕ)) → IfSome sent (λ before. before ≡ []) → 0 < faults → HoldsSent datagrams true (mail_of (with_datagrams sent datagrams) faults)
-failed_mail None faults datagrams empty some = tt
-failed_mail (Some before) faults datagrams empty some = (ap (λ front. front ++ datagrams) empty, failed faults some) where
-  failed : (n : ℕ) → 0 < n → nat_lt 0 n ≡ true
-  failed n more = grind (arith, nat_tests)
-
-rose_some : (before now : ℕ) → before ≡ 0 → Rose before now → 0 < now
-rose_some before now none rose = grind (arith, none, rose)
+sent_mail sent faults datagrams empty none = holds_sent sent (with_datagrams sent datagrams) datagrams faults false empty refl (ap (λ n. nat_lt 0 n) none)
 
 -- each post sent all
 have_sent : (posts : List PostSeen) (datagrams : List (List ℕ)) (told : Told) → AreFresh posts → HasMails (map (having_sent datagrams) posts) told → HaveSent datagrams (map post_name posts) told.live
@@ -71,9 +61,9 @@ breaks_at (post ∷ fresh) (now ∷ posts) front last told (own, others) (inl (s
       breaks_at fresh posts front last told others broken mails,
     )
 breaks_at (post ∷ fresh) (now ∷ posts) front last told (own, others) (inr (fails, same)) (mail, mails) =
-    let told_is : told.live.mail post.name ≡ mail_of (with_datagrams post.sent front) now.faults = ap told.live.mail (sym fails.name) ∙ mail ∙ ap (λ (s : Option (List (List ℕ))). mail_of s now.faults) fails.sent in
+    let told_is : told.live.mail post.name ≡ mail_of now.sent now.faults = ap told.live.mail (sym fails.name) ∙ mail in
     inr (
-      subst (λ (m : Mail). HoldsSent front true m) (sym told_is) (failed_mail post.sent now.faults front own.0 (rose_some post.faults now.faults own.1 fails.rose)),
+      subst (λ (m : Mail). HoldsSent front true m) (sym told_is) (holds_sent post.sent now.sent front now.faults true own.0 fails.sent (rose_told post.faults now.faults own.1 fails.rose)),
       have_sent fresh front told others (subst (λ (ps : List PostSeen). HasMails ps told) same mails),
     )
 
@@ -103,7 +93,7 @@ one_faulty : (fresh posts : List PostSeen) (front : List (List ℕ)) (last : Lis
 one_faulty [] posts front last are_fresh broken = absurd broken
 one_faulty (post ∷ fresh) [] front last are_fresh broken = absurd broken
 one_faulty (post ∷ fresh) (now ∷ posts) front last (own, others) (inl (sent, broken)) = inr (one_faulty fresh posts front last others broken)
-one_faulty (post ∷ fresh) (now ∷ posts) front last (own, others) (inr (fails, same)) = inl (rose_some post.faults now.faults own.1 fails.rose)
+one_faulty (post ∷ fresh) (now ∷ posts) front last (own, others) (inr (fails, same)) = inl (some_rose post.faults now.faults own.1 fails.rose)
 
 no_faulty : (datagrams : List (List ℕ)) (fresh posts : List PostSeen) → AreFresh fresh → posts ≡ map (having_sent datagrams) fresh → AnyFaulty posts → ⊥
 no_faulty datagrams fresh posts are_fresh sent failed = none_faulty fresh datagrams are_fresh (subst AnyFaulty sent failed)

@@ -1,11 +1,10 @@
 -- What the command play does.
-use Rattle.std.specs.Prelude.{◌≡◌, ◌⊎◌, ℕ, suc, ◌-◌, ◌^◌, ◌<◌, Bool, true, false, List, [], ◌∷◌, ◌++◌, length, map, Option, Some, codes}
+use Rattle.std.specs.Prelude.{◌≡◌, ◌⊎◌, ℕ, suc, true, false, List, [], ◌∷◌, ◌++◌, length, map, Some, codes}
 use Rattle.std.specs.List.{AllByRecursion}
 use Rattle.std.specs.Option.{option_map}
 use Rattle.tesla_capture.specs.Names.{kind_name}
-use Rattle.tesla_desk.specs.Clocks.{readings_from}
 use Rattle.tesla_desk.specs.Faults.{raised}
-use Rattle.tesla_desk.specs.Live.{Live, Mail, UntoldMail, AbsentMail, HoldsMail}
+use Rattle.tesla_desk.specs.Live.{Live}
 use Rattle.tesla_front.specs.Came.{Came, Done, Failed, Refused}
 use Rattle.tesla_front.specs.Command.{Command}
 use Rattle.tesla_front.specs.Files.{HoldsWhere}
@@ -17,7 +16,8 @@ use Rattle.tesla_names.specs.Names.{IsNoneOf}
 use Rattle.tesla_play.specs.Play.{FileTo, IsPlayed, Paced, Played, TellsCount, bytes_of, reading_of}
 use Rattle.tesla_play.specs.declared.playing.PlayEnd.{PlayEnd}
 use Rattle.tesla_play.specs.declared.playing.PlayEnd.TheVariants as ends
-use Rattle.tesla_posts.specs.Closed.{IsUnsent}
+use Rattle.tesla_posts.specs.Clocks.{ReadWhere}
+use Rattle.tesla_posts.specs.Closed.{HoldsSent, IsUnsent}
 use Rattle.tesla_run_play.specs.Arguments.{PlayArguments, IsPlayForm, files_of_play}
 
 -- the line that tells how many arrivals were played
@@ -41,12 +41,6 @@ pub record Stops (before now : Live) (capture capture_now : File) (came : Came) 
   pub cause : (came ≡ Failed faults.Open) ⊎ (came ≡ Failed faults.NoMemory)
 
 -- ---- the posts
-
--- the post sent these datagrams and failed so, where that is told
-abbrev pub HoldsSent : List (List ℕ) → Bool → Mail → Type 0
-HoldsSent datagrams failed UntoldMail = Unit {0}
-HoldsSent datagrams failed AbsentMail = ⊥
-HoldsSent datagrams failed (HoldsMail sent has_failed) = (sent ≡ datagrams) × (has_failed ≡ failed)
 
 -- each post under these names sent these datagrams, and none failed
 abbrev pub HaveSent : List (List ℕ) → List (List ℕ) → Live → Type 0
@@ -73,11 +67,6 @@ PostsHold ends.ReadFault datagrams names now = HaveSent datagrams names now
 PostsHold ends.PostFault datagrams names now = BreaksOff datagrams names now
 
 -- ---- a run
-
--- these are the first readings of the next clock, in order, where the desk tells readings; it goes on telling for 2^64 - 1 of them
-abbrev pub ReadWhere : List ℕ → Option (ℕ → List ℕ) → Option ℕ → Type 0
-ReadWhere readings (Some all) (Some made) = length readings < 2 ^ 64 - 1 → readings ≡ readings_from (length readings) (all made)
-ReadWhere readings _ _ = Unit {0}
 
 -- the arrivals of the capture were played to the posts
 pub record PlaysFile (arguments : PlayArguments) (before now : Live) (capture capture_now : File) (came : Came) : Type 0 where

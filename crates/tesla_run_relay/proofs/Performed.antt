@@ -1,16 +1,14 @@
 -- What the command did, from its openings and closings.
-use Rattle.std.proofs.Common.{◌≡◌, ◌∙◌, ◌⊎◌, inl, inr, ℕ, suc, nat_lt, Bool, true, false, Result, Ok, Err, List, [], ◌∷◌, ◌++◌, map, length, Option, Some, None, IfSome, refl, sym, ap, subst, arith}
-use Rattle.std.proofs.lemmas.Bool.Decides.{nat_tests}
+use Rattle.std.proofs.Common.{◌≡◌, ◌∙◌, ◌⊎◌, inl, inr, ℕ, suc, Bool, true, false, Result, Ok, Err, List, [], ◌∷◌, map, Option, IfSome, refl, sym, ap, subst}
 use Rattle.std.specs.List.{list_any}
-use Rattle.tesla_desk.specs.Faults.{Faults, CountsOpening, HasCause, HasCausesBeside, Rose, after_source}
-use Rattle.tesla_desk.specs.Links.{after_letters, datagrams}
-use Rattle.tesla_desk.specs.Live.{LeavesAll, Live, OpenedLink, Remainder, Wire, UntoldWire, AbsentWire, HoldsWire, remainder_of}
+use Rattle.tesla_desk.specs.Faults.{Faults, HasCause, HasCausesBeside, after_source}
+use Rattle.tesla_desk.specs.Links.{datagrams}
+use Rattle.tesla_desk.specs.Live.{LeavesAll, Live, OpenedLink, Remainder, remainder_of}
 use Rattle.tesla_desk.specs.Outside.{ClosesLink, OfLink, OfPost, OpensLink, Told}
 use Rattle.tesla_desk.specs.declared.desk.OpenRefusal.{OpenRefusal}
-use Rattle.tesla_desk.specs.declared.desk.OpenRefusal.TheVariants as refusals
 use Rattle.tesla_desk.specs.declared.link.Letter.{Letter}
 use Rattle.tesla_desk.proofs.Told.{leaves_all}
-use Rattle.tesla_desk.proofs.Counts.{cause_none, causes_opening, causes_plain, causes_source, causes_then, counts_stay}
+use Rattle.tesla_desk.proofs.Counts.{cause_none, causes_source, causes_then, counts_stay}
 use Rattle.tesla_front.specs.Came.{Came, Failed}
 use Rattle.tesla_front.specs.Command.{Performs}
 use Rattle.tesla_front.specs.Fault.{unopened}
@@ -18,26 +16,26 @@ use Rattle.tesla_front.specs.Openings.{AnyFailed, AreFiles, Opens}
 use Rattle.tesla_front.specs.declared.fault.Fault.{Fault}
 use Rattle.tesla_front.specs.declared.fault.Fault.TheVariants as faults
 use Rattle.tesla_front.proofs.Openings.{opens_first, opens_none, opens_then}
-use Rattle.tesla_names.specs.Names.{AreDistinct, AreListNames, IsNoneOf}
+use Rattle.tesla_names.specs.Names.{AreDistinct, IsNoneOf}
 use Rattle.tesla_posts.specs.Closed.{AnyFaulty, ClosesTo, HasMails, IsUnsent}
+use Rattle.tesla_posts.specs.Links.{HasEnded, LeftWhere}
 use Rattle.tesla_posts.specs.Opened.{OpensTo, post_name}
 use Rattle.tesla_posts.specs.Posts.{PostSeen}
 use Rattle.tesla_posts.proofs.Closings.{closes_to, fresh_counts, fresh_mails, mails_same}
-use Rattle.tesla_posts.proofs.Openings.{opens_still, opens_to}
+use Rattle.tesla_posts.proofs.Links.{broken_left, ended_left, left_where, link_tried}
+use Rattle.tesla_posts.proofs.Mails.{faulty_told, unsent_on}
+use Rattle.tesla_posts.proofs.Openings.{none_of_opened, opens_still, opens_to, post_files, refused_not_all}
+use Rattle.tesla_posts.proofs.Stopped.{came_cause, memory_counts, not_all_counts}
 use Rattle.tesla_relay.specs.declared.relayed.PostCount.{PostCount}
 use Rattle.tesla_relay.specs.declared.relayed.RelayEnd.{RelayEnd}
 use Rattle.tesla_relay.specs.declared.relayed.RelayEnd.TheVariants as ends
 use Rattle.tesla_run_relay.specs.Arguments.{IsRelayForm, RelayArguments, files_of_relay}
 use Rattle.tesla_run_relay.specs.Lines.{came_of_posts, came_with, has_failed}
-use Rattle.tesla_run_relay.specs.Relay.{EndsAs, HasBroken, HasEnded, LeftWhere, RelaysLink, SendPosts, Stops, TouchesPosts, relay}
+use Rattle.tesla_run_relay.specs.Relay.{EndsAs, RelaysLink, SendPosts, Stops, TouchesPosts, relay}
 use Rattle.tesla_run_relay.specs.Steps.{RunsLinked, RunsNothing, RunsRelay}
-use Rattle.tesla_run_relay.proofs.Mailed.{counted_faulty, faulty_counted, faulty_told, names_kept, none_of_front, sends_posts}
+use Rattle.tesla_run_relay.proofs.Mailed.{counted_faulty, faulty_counted, names_kept, sends_posts}
 
 -- ---- the files
-
-post_files : (names : List (List ℕ)) → AreListNames names → AreFiles (map OfPost names)
-post_files [] each = tt
-post_files (name ∷ names) each = (each.0.named.file, post_files names each.1)
 
 -- none of the files is the console
 pub are_files : (arguments : RelayArguments) (words : List (List ℕ)) → IsRelayForm arguments words → AreFiles (files_of_relay arguments)
@@ -63,14 +61,6 @@ stops_nothing arguments before now came same cause = record {
   cause = cause;
 }
 
--- want of memory raises no count
-memory_counts : {hidden : Type 0} (before now : Faults) → now ≡ before → HasCausesBeside hidden before now (Failed faults.NoMemory ≡ Failed faults.Read) (Failed faults.NoMemory ≡ Failed faults.Write) (Failed faults.NoMemory ≡ Failed faults.Open)
-memory_counts {hidden} before now same = causes_plain {hidden = hidden} before now (record {
-  reads = cause_none before.reads now.reads (ap (λ (f : Faults). f.reads) same) (λ e. absurd cc);
-  writes = cause_none before.writes now.writes (ap (λ (f : Faults). f.writes) same) (λ e. absurd cc);
-  openings = cause_none before.openings now.openings (ap (λ (f : Faults). f.openings) same) (λ e. absurd cc);
-})
-
 -- there was no room
 pub performs_unroomed : (arguments : RelayArguments) (words : List (List ℕ)) (told : Told) → IsRelayForm arguments words → Performs (relay told.live told.live) arguments told told (Failed faults.NoMemory)
 performs_unroomed arguments words told is = record {
@@ -83,28 +73,16 @@ performs_unroomed arguments words told is = record {
 
 -- ---- the link wasn't opened
 
--- the opening raised the count of openings where it failed, and no other count rose
-refused_counts : {A hidden : Type 0} (refusal : OpenRefusal) (before now : Faults) → CountsOpening before now (◌≡◌ {A = Result A OpenRefusal} (Err refusal) (Err refusals.Failed)) → HasCausesBeside hidden before now (Failed (unopened refusal) ≡ Failed faults.Read) (Failed (unopened refusal) ≡ Failed faults.Write) (Failed (unopened refusal) ≡ Failed faults.Open)
-refused_counts {A} {hidden} refusals.Failed before now counts = causes_plain {hidden = hidden} before now (causes_opening before now counts (λ e. absurd cc) (λ e. absurd cc) (λ e. refl) (λ e. refl))
-refused_counts {A} {hidden} refusals.NoMemory before now counts = causes_plain {hidden = hidden} before now (causes_opening before now counts (λ e. absurd cc) (λ e. absurd cc) (λ e. absurd cc) (λ e. absurd cc))
-
-refused_cause : (refusal : OpenRefusal) → (Failed (unopened refusal) ≡ Failed faults.Open) ⊎ (Failed (unopened refusal) ≡ Failed faults.NoMemory)
-refused_cause refusals.Failed = inl refl
-refused_cause refusals.NoMemory = inr refl
-
-link_tried : {A : Type 0} (arguments : RelayArguments) (refusal : OpenRefusal) (before now : Told) → OpensLink {A = A} arguments.link (Err refusal) before now → (n : ℕ) × Opens (files_of_relay arguments) n before now
-link_tried arguments refusals.Failed before now tried = (1, opens_first (OfLink arguments.link) (map OfPost arguments.posts) before now tried.asked (λ name none. tried.pages name) (λ name none. tried.lefts name))
-link_tried arguments refusals.NoMemory before now tried = (0, opens_none (files_of_relay arguments) before now tried.asked tried.pages tried.lefts)
-
 pub performs_unlinked : {A : Type 0} (arguments : RelayArguments) (words : List (List ℕ)) (refusal : OpenRefusal) (fault : Fault) (before now : Told) → IsRelayForm arguments words → fault ≡ unopened refusal → OpensLink {A = A} arguments.link (Err refusal) before now → Performs (relay before.live now.live) arguments before now (Failed fault)
 performs_unlinked {A} arguments words refusal fault before now form is tried =
-    let it = link_tried {A = A} arguments refusal before now tried in
+    let it = link_tried {A = A} arguments.link (map OfPost arguments.posts) refusal before now tried in
+    let not_all = refused_not_all {A = A} refusal before now tried.counts in
     subst (λ (f : Fault). Performs (relay before.live now.live) arguments before now (Failed f)) (sym is) (record {
       named = are_files arguments words form;
       opened = it.0;
       opens = it.1;
-      does = (touches_nothing arguments.link arguments.posts before.live now.live tried.live, inl (stops_nothing arguments before.live now.live (Failed (unopened refusal)) tried.live (refused_cause refusal)));
-      counts = refused_counts {A = A} refusal before.faults now.faults tried.counts;
+      does = (touches_nothing arguments.link arguments.posts before.live now.live tried.live, inl (stops_nothing arguments before.live now.live (Failed (unopened refusal)) tried.live (came_cause (unopened refusal) not_all.cause)));
+      counts = not_all_counts (unopened refusal) before now not_all;
     })
 
 -- ---- what a relay comes to
@@ -137,35 +115,14 @@ no_open : (end : RelayEnd) (counts : List PostCount) → came_with end counts �
 no_open ends.Failed counts e = absurd cc
 no_open ends.Ended counts e = no_such (list_any has_failed counts) counts faults.Open (λ f. absurd cc) e
 
--- ---- the link
-
-left_told : (taken letters : List Letter) (left later : Option (List Letter)) (missed : ℕ) → left ≡ Some letters → left ≡ after_letters taken later → LeftWhere taken (HoldsWire letters) (remainder_of later missed)
-left_told taken letters left None missed told is = absurd (let no : Some letters ≡ None = sym told ∙ is in cc)
-left_told taken letters left (Some rest) missed told is = let both : Some letters ≡ Some (taken ++ rest) = sym told ∙ is in cc
-
-left_where : (taken : List Letter) (wire : Wire) (left later : Option (List Letter)) (missed : ℕ) → OpenedLink wire left → left ≡ after_letters taken later → LeftWhere taken wire (remainder_of later missed)
-left_where taken UntoldWire left later missed opened is = tt
-left_where taken AbsentWire left later missed opened is = absurd opened
-left_where taken (HoldsWire letters) left later missed opened is = left_told taken letters left later missed opened is
-
-ended_left : (later : Option (List Letter)) (missed : ℕ) → IfSome later (λ rest. rest ≡ []) → missed ≡ 0 → HasEnded (remainder_of later missed)
-ended_left None missed none sound = tt
-ended_left (Some rest) missed none sound = (none, ap (λ (n : ℕ). nat_lt 0 n) sound)
-
-broken_left : (later : Option (List Letter)) (missed : ℕ) → nat_lt 0 missed ≡ true → HasBroken (remainder_of later missed)
-broken_left None missed some = tt
-broken_left (Some rest) missed some = some
-
-broken_by : (missed : ℕ) → Rose 0 missed → nat_lt 0 missed ≡ true
-broken_by missed (inl some) = grind (arith, nat_tests, some)
-broken_by missed (inr full) = absurd (omega (arith, full))
+-- ---- how it ends
 
 ends_posts : (failed : Bool) (counts : List PostCount) (remainder : Option Remainder) → list_any has_failed counts ≡ failed → HasEnded remainder → EndsAs remainder counts (came_of_posts failed counts)
 ends_posts true counts remainder is ended = (is, ended)
 ends_posts false counts remainder is ended = (refl, is, ended)
 
 ends_as : (end : RelayEnd) (counts : List PostCount) (later : Option (List Letter)) (missed : ℕ) → HasCause 0 missed (end ≡ ends.Failed) → (end ≡ ends.Ended → IfSome later (λ rest. rest ≡ [])) → EndsAs (remainder_of later missed) counts (came_with end counts)
-ends_as ends.Failed counts later missed cause over = broken_left later missed (broken_by missed (cause.rose refl))
+ends_as ends.Failed counts later missed cause over = broken_left later missed (cause.rose refl)
 ends_as ends.Ended counts later missed cause over = ends_posts (list_any has_failed counts) counts (remainder_of later missed) refl (ended_left later missed (over refl) (cause.still (λ e. absurd cc)))
 
 -- ---- a link that was opened, and closed behind the posts
@@ -187,25 +144,9 @@ linked_touches link names it later missed opened posts result before linked mid 
 
 -- ---- nothing was relayed
 
-unsent_on : (before now mid : Live) (name : List ℕ) → now.mail name ≡ mid.mail name → (mid.mail name ≡ before.mail name) ⊎ IsUnsent (mid.mail name) → (now.mail name ≡ before.mail name) ⊎ IsUnsent (now.mail name)
-unsent_on before now mid name same (inl is) = inl (same ∙ is)
-unsent_on before now mid name same (inr unsent) = inr (subst IsUnsent (sym same) unsent)
-
-fault_open : (fault : Fault) → (fault ≡ faults.Open) ⊎ (fault ≡ faults.NoMemory) → (Failed fault ≡ Failed faults.Open) ⊎ (Failed fault ≡ Failed faults.NoMemory)
-fault_open fault (inl is) = inl (ap (λ (f : Fault). Failed f) is)
-fault_open fault (inr is) = inr (ap (λ (f : Fault). Failed f) is)
-
-other_fault : (fault other : Fault) → (fault ≡ faults.Open) ⊎ (fault ≡ faults.NoMemory) → (other ≡ faults.Open → ⊥) → (other ≡ faults.NoMemory → ⊥) → Failed fault ≡ Failed other → ⊥
-other_fault fault other (inl is) not not_memory e = not (let same : fault ≡ other = cc in sym same ∙ is)
-other_fault fault other (inr is) not not_memory e = not_memory (let same : fault ≡ other = cc in sym same ∙ is)
-
 nothing_counts : {hidden : Type 0} (names : List (List ℕ)) (posts : List PostSeen) (result : Result (Unit {0}) Fault) (fault : Fault) (linked mid : Told) → OpensTo names posts linked mid result → (result ≡ Err fault) ⊎ ((result ≡ Ok tt) × (fault ≡ faults.NoMemory)) → HasCausesBeside hidden linked.faults mid.faults (Failed fault ≡ Failed faults.Read) (Failed fault ≡ Failed faults.Write) (Failed fault ≡ Failed faults.Open)
 nothing_counts {hidden} names posts result fault linked mid to (inl refused) =
-    let not_all = to.refused fault refused in
-    causes_plain {hidden = hidden} linked.faults mid.faults (causes_opening linked.faults mid.faults not_all.counts
-    (other_fault fault faults.Read not_all.cause (λ e. absurd cc) (λ e. absurd cc))
-    (other_fault fault faults.Write not_all.cause (λ e. absurd cc) (λ e. absurd cc))
-    (λ e. let same : fault ≡ faults.Open = cc in same) (λ e. ap (λ (f : Fault). Failed f) e))
+    not_all_counts {hidden = hidden} fault linked mid (to.refused fault refused)
 nothing_counts {hidden} names posts result fault linked mid to (inr (whole, is)) =
     subst (λ (f : Fault). HasCausesBeside hidden linked.faults mid.faults (Failed f ≡ Failed faults.Read) (Failed f ≡ Failed faults.Write) (Failed f ≡ Failed faults.Open)) (sym is)
     (memory_counts linked.faults mid.faults (to.whole whole).counts)
@@ -226,13 +167,13 @@ performs_nothing {A} arguments words it left later missed before linked mid clos
       opens = linked_opens {A = A} arguments.link arguments.posts it later missed posts posts runs.result before linked mid closed now opens to closes close;
       does = (
         linked_touches {A = A} arguments.link arguments.posts it later missed posts posts runs.result before linked mid closed now
-            (λ name none. subst (λ (names : List (List ℕ)). IsNoneOf name names) (sym to.names_are) (none_of_front (length posts) name arguments.posts none)) opens to closes close,
+            (λ name none. none_of_opened name arguments.posts posts linked mid runs.result to none) opens to closes close,
         inl (record {
           unheard = inr (subst (λ (r : Option Remainder). LeavesAll (before.live.wire arguments.link) r) (sym close.own)
               (subst (λ (l : Option (List Letter)). LeavesAll (before.live.wire arguments.link) (remainder_of l missed)) (sym runs.left_is) (leaves_all (before.live.wire arguments.link) left missed letters runs.missed_is)));
           unsent = λ name. unsent_on before.live now.live closed.live name (close.mails name)
               (subst (λ (l : Live). (closed.live.mail name ≡ l.mail name) ⊎ IsUnsent (closed.live.mail name)) (to.live ∙ opens.live) (unsent name));
-          cause = fault_open runs.fault cause;
+          cause = came_cause runs.fault cause;
         }),
       );
       counts = subst (λ (f : Faults). HasCausesBeside ((Failed runs.fault ≡ Failed faults.Read) × AnyFailed (files_of_relay arguments) now) before.faults f (Failed runs.fault ≡ Failed faults.Read) (Failed runs.fault ≡ Failed faults.Write) (Failed runs.fault ≡ Failed faults.Open)) (sym last)

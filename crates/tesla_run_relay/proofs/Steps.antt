@@ -1,15 +1,14 @@
 -- The steps of a run, from what their calls ensure.
-use Rattle.std.proofs.Common.{◌≡◌, ◌∙◌, inr, ℕ, ◌+◌, ◌≤◌, Option, Ok, List, [], ◌∷◌, ◌++◌, length, map, refl, sym, ap, subst}
+use Rattle.std.proofs.Common.{◌≡◌, ◌∙◌, inr, ℕ, ◌≤◌, Option, Ok, List, [], length, map, sym, ap, subst}
 use Rattle.std.proofs.lemmas.List.{length-map}
 use Rattle.tesla_desk.specs.Faults.{HasCause}
 use Rattle.tesla_desk.specs.Links.{datagrams}
 use Rattle.tesla_desk.specs.Outside.{Told}
 use Rattle.tesla_desk.specs.declared.link.Letter.{Letter}
 use Rattle.tesla_front.specs.Came.{Came}
-use Rattle.tesla_posts.specs.Opened.{post_name}
 use Rattle.tesla_posts.specs.Opening.{OpensEach, OpensPosts}
 use Rattle.tesla_posts.specs.Posts.{PostSeen}
-use Rattle.tesla_posts.proofs.Openings.{opens_to}
+use Rattle.tesla_posts.proofs.Openings.{opened_each, opened_size}
 use Rattle.tesla_relay.proofs.Sized.{each_counted}
 use Rattle.tesla_relay.specs.Relay.{Relays}
 use Rattle.tesla_relay.specs.declared.relayed.PostCount.{PostCount}
@@ -19,35 +18,28 @@ use Rattle.tesla_run_relay.specs.Lines.{came_with}
 use Rattle.tesla_run_relay.specs.Steps.{RunsPosts}
 
 module _ {P : Type 0} (seen : P → PostSeen) (names wanted : List (List ℕ)) (before mid : Told) (old : List PostSeen) (posts : List P) where
-  -- the posts that were opened are all that there are
-  opened_each : names ≡ wanted → OpensPosts names before mid old (map seen posts) (Ok tt) → old ≡ [] → OpensEach wanted before mid (map seen posts) (Ok tt)
-  opened_each is (opened, are, opens) none =
-      let same : map seen posts ≡ opened = are ∙ ap (λ (ps : List PostSeen). ps ++ opened) none in
-      subst (λ (ns : List (List ℕ)). OpensEach ns before mid (map seen posts) (Ok tt)) is (subst (λ (ps : List PostSeen). OpensEach names before mid ps (Ok tt)) (sym same) opens)
-
-  -- there are as many as names
-  pub opened_size : names ≡ wanted → OpensPosts names before mid old (map seen posts) (Ok tt) → old ≡ [] → length posts ≡ length wanted
-  opened_size is opens none =
-      let to = opens_to wanted before mid (map seen posts) (Ok tt) (opened_each is opens none) in
-      sym (length-map posts seen) ∙ sym (length-map (map seen posts) post_name) ∙ ap (λ (ns : List (List ℕ)). length ns) (to.whole refl).names_are
+  -- there are as many posts as names
+  opened_wanted : names ≡ wanted → OpensPosts names before mid old (map seen posts) (Ok tt) → old ≡ [] → length posts ≡ length wanted
+  opened_wanted is opens none = opened_size seen names before mid old posts opens none ∙ ap (λ (ns : List (List ℕ)). length ns) is
 
   pub opened_some : names ≡ wanted → OpensPosts names before mid old (map seen posts) (Ok tt) → old ≡ [] → (1 ≤ length wanted) × (length wanted ≤ 32) → (1 ≤ length posts) × (length posts ≤ 32)
-  opened_some is opens none few = let size = opened_size is opens none in (subst (λ (n : ℕ). 1 ≤ n) (sym size) few.0, subst (λ (n : ℕ). n ≤ 32) (sym size) few.1)
+  opened_some is opens none few = let size = opened_wanted is opens none in (subst (λ (n : ℕ). 1 ≤ n) (sym size) few.0, subst (λ (n : ℕ). n ≤ 32) (sym size) few.1)
 
   pub opened_fits : {X : Type 0} (items : List X) (room : ℕ) → names ≡ wanted → OpensPosts names before mid old (map seen posts) (Ok tt) → old ≡ [] → (items ≡ []) × (length wanted ≤ room) → (items ≡ []) × (length posts ≤ room)
-  opened_fits items room is opens none within = (within.0, subst (λ (n : ℕ). n ≤ room) (sym (opened_size is opens none)) within.1)
+  opened_fits items room is opens none within = (within.0, subst (λ (n : ℕ). n ≤ room) (sym (opened_wanted is opens none)) within.1)
 
   module _ (capacity : ℕ) (left later : Option (List Letter)) (news : List P) (end : RelayEnd) (counts : List PostCount) (relays : Relays capacity left later (map seen posts) (map seen news) end counts) where
     -- and as many counts
     pub counted_size : (number : ℕ) → number ≡ length wanted → names ≡ wanted → OpensPosts names before mid old (map seen posts) (Ok tt) → old ≡ [] → number ≡ length counts
     counted_size number number_is is opens none =
-        number_is ∙ sym (opened_size is opens none) ∙ sym (length-map posts seen)
+        number_is ∙ sym (opened_wanted is opens none) ∙ sym (length-map posts seen)
         ∙ sym (each_counted capacity (datagrams relays.taken) (map seen posts) (map seen news) counts relays.posts)
 
     pub runs_relay : (fresh missed : ℕ) (now : Told) (came : Came) → names ≡ wanted → OpensPosts names before mid old (map seen posts) (Ok tt) → old ≡ [] → now ≡ mid → HasCause fresh missed (end ≡ ends.Failed) → came ≡ came_with end counts → RunsPosts capacity wanted left later fresh missed before now (map seen news) came
     runs_relay fresh missed now came is opens none same cause came_is = inr (record {
       opened = map seen posts;
-      opens = subst (λ (t : Told). OpensEach wanted before t (map seen posts) (Ok tt)) (sym same) (opened_each is opens none);
+      opens = subst (λ (t : Told). OpensEach wanted before t (map seen posts) (Ok tt)) (sym same)
+          (subst (λ (ns : List (List ℕ)). OpensEach ns before mid (map seen posts) (Ok tt)) is (opened_each seen names before mid old posts opens none));
       end = end;
       counts = counts;
       relays = relays;

@@ -1,16 +1,17 @@
 -- What the command relay does.
-use Rattle.std.specs.Prelude.{◌≡◌, ◌≢◌, ◌⊎◌, ℕ, suc, ◌≤◌, Bool, true, false, List, [], ◌∷◌, ◌++◌, length, take, Option, Some, None}
+use Rattle.std.specs.Prelude.{◌≡◌, ◌≢◌, ◌⊎◌, ℕ, suc, true, false, List, [], ◌∷◌, length, Option}
 use Rattle.std.specs.List.{list_any}
 use Rattle.tesla_desk.specs.Links.{datagrams}
-use Rattle.tesla_desk.specs.Live.{Live, Wire, UntoldWire, AbsentWire, HoldsWire, Remainder, LeavesAll, Mail, UntoldMail, AbsentMail, HoldsMail}
+use Rattle.tesla_desk.specs.Live.{Live, Remainder, LeavesAll, Mail}
 use Rattle.tesla_desk.specs.declared.link.Letter.{Letter}
 use Rattle.tesla_front.specs.Came.{Came, Done, Failed}
 use Rattle.tesla_front.specs.Command.{Command}
 use Rattle.tesla_front.specs.Openings.{File}
 use Rattle.tesla_front.specs.declared.fault.Fault.TheVariants as faults
 use Rattle.tesla_names.specs.Names.{IsNoneOf}
-use Rattle.tesla_posts.specs.Closed.{IsUnsent}
-use Rattle.tesla_relay.specs.Relay.{counted, kept_of, dropped_in, DropsBehind}
+use Rattle.tesla_posts.specs.Closed.{HoldsSent, IsUnsent}
+use Rattle.tesla_posts.specs.Links.{HasBroken, HasEnded, LeftWhere}
+use Rattle.tesla_relay.specs.Relay.{RelaysTo}
 use Rattle.tesla_relay.specs.declared.relayed.PostCount.{PostCount}
 use Rattle.tesla_run_relay.specs.Arguments.{RelayArguments, IsRelayForm, files_of_relay}
 use Rattle.tesla_run_relay.specs.Lines.{has_failed, lines_from}
@@ -23,45 +24,13 @@ pub record Stops (arguments : RelayArguments) (before now : Live) (came : Came) 
   pub unsent : (name : List ℕ) → (now.mail name ≡ before.mail name) ⊎ IsUnsent (now.mail name)
   pub cause : (came ≡ Failed faults.Open) ⊎ (came ≡ Failed faults.NoMemory)
 
--- ---- the link
-
--- these letters left the link, in order, where the desk tells letters
-abbrev pub LeftWhere : List Letter → Wire → Option Remainder → Type 0
-LeftWhere taken (HoldsWire letters) (Some remainder) = letters ≡ taken ++ remainder.letters
-LeftWhere taken (HoldsWire letters) None = ⊥
-LeftWhere taken AbsentWire remainder = ⊥
-LeftWhere taken UntoldWire remainder = Unit {0}
-
--- nothing is left of the link, and it didn't fail, where that is told
-abbrev pub HasEnded : Option Remainder → Type 0
-HasEnded None = Unit {0}
-HasEnded (Some remainder) = (remainder.letters ≡ []) × (remainder.failed ≡ false)
-
--- the link failed, where that is told
-abbrev pub HasBroken : Option Remainder → Type 0
-HasBroken None = Unit {0}
-HasBroken (Some remainder) = remainder.failed ≡ true
-
 -- ---- the posts
 
--- the post sent these datagrams and failed so, where that is told
-abbrev pub HoldsSent : List (List ℕ) → Bool → Mail → Type 0
-HoldsSent datagrams failed UntoldMail = Unit {0}
-HoldsSent datagrams failed AbsentMail = ⊥
-HoldsSent datagrams failed (HoldsMail sent has_failed) = (sent ≡ datagrams) × (has_failed ≡ failed)
-
--- of the datagrams that came a post sent those that weren't dropped for it, in order and each once; where it failed, a front of them
+-- a post sent, of the datagrams that came, those that weren't dropped for it, in order and each once; where it failed, a front of them
 pub record SendsPost (capacity : ℕ) (came : List (List ℕ)) (mail : Mail) (count : PostCount) : Type 0 where
-  -- of each datagram a mark tells whether it was kept for the post, and none was dropped but behind as many others as the queue holds
-  pub marks : List Bool
-  pub each : length marks ≡ length came
-  pub full : DropsBehind capacity 0 marks
-  pub sends : ℕ
-  pub few : sends ≤ length (kept_of marks came)
-  pub all : count.failed ≡ false → sends ≡ length (kept_of marks came)
-  pub sent : HoldsSent (take sends (kept_of marks came)) count.failed mail
-  pub sent_count : count.sent ≡ counted sends
-  pub dropped_count : count.dropped ≡ counted (dropped_in marks)
+  pub sent : List (List ℕ)
+  pub to : RelaysTo capacity came sent count
+  pub holds : HoldsSent sent count.failed mail
 
 -- the same of each post, with the mail under its name and its count
 abbrev pub SendPosts : ℕ → List (List ℕ) → List (List ℕ) → Live → List PostCount → Type 0

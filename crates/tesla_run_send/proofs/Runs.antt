@@ -1,5 +1,5 @@
 -- A run of send, from its steps.
-use Rattle.std.proofs.Common.{◌≡◌, ◌∙◌, ◌⊎◌, inl, inr, ℕ, suc, ◌+◌, ◌<◌, Option, Some, None, Result, Ok, Err, List, [], ◌∷◌, length, codes, refl, sym, ap, subst, arith}
+use Rattle.std.proofs.Common.{◌≡◌, ◌∙◌, ◌⊎◌, inl, inr, ℕ, suc, ◌+◌, ◌<◌, Option, Some, None, Ok, Err, List, [], ◌∷◌, length, codes, refl, sym, ap, subst, arith}
 use Rattle.std.specs.Option.{option_map}
 use Rattle.tesla_base.specs.declared.names.ChainNo.{ChainNo}
 use Rattle.tesla_base.specs.declared.names.Key.{Key}
@@ -7,9 +7,9 @@ use Rattle.tesla_commit.specs.Parts.{Parts}
 use Rattle.tesla_convert.specs.Files.{ClosesBoth, ConvertsFiles, OpensBoth, OpensNotBoth}
 use Rattle.tesla_convert.specs.Meaning.{Converts, ConvertsBetween}
 use Rattle.tesla_convert.proofs.Closed.{converts_closed, converts_unopened}
-use Rattle.tesla_desk.specs.Faults.{Faults, HasCause, HasCauseBeside}
+use Rattle.tesla_desk.specs.Faults.{HasCause, HasCauseBeside}
 use Rattle.tesla_desk.specs.Outside.{Page, Told, OfSource, OfSink}
-use Rattle.tesla_desk.proofs.Counts.{cause_none, causes_none, causes_then}
+use Rattle.tesla_desk.proofs.Counts.{causes_none, causes_then}
 use Rattle.tesla_front.specs.Came.{Came, Refused, Failed, stop_came}
 use Rattle.tesla_front.specs.Command.{Performs}
 use Rattle.tesla_front.specs.Openings.{AreFiles, Opens, OpensSome, file_told}
@@ -19,7 +19,6 @@ use Rattle.tesla_front.specs.Setup.{IsNoSetup, IsSetupIn}
 use Rattle.tesla_front.specs.declared.fault.Fault.{Fault}
 use Rattle.tesla_front.specs.declared.fault.Fault.TheVariants as faults
 use Rattle.tesla_front.specs.declared.refusal.Stop.{Stop}
-use Rattle.tesla_front.specs.declared.refusal.Stop.TheVariants as stops
 use Rattle.tesla_front.proofs.Openings.{opens_none, opens_some, opens_then}
 use Rattle.tesla_sender.specs.Chains.{wrong_seed}
 use Rattle.tesla_sender.specs.Made.{Chain, Stream, chains_of}
@@ -29,6 +28,7 @@ use Rattle.tesla_sender.specs.declared.refusal.SenderRefusal.TheVariants as unop
 use Rattle.tesla_run_send.specs.Arguments.{IsSend, SendArguments, files_of_send}
 use Rattle.tesla_run_send.specs.Send.{HasNoSender, IsNoSender, SendsScript, SendsWith, StopsAtSeeds, meaning, send, wrong_line}
 use Rattle.tesla_run_send.specs.Steps.{SendsFiles, SendsSeeded, SendsSetup}
+use Rattle.tesla_run_send.proofs.NoSender.{no_sender_causes}
 use Rattle.tesla_front.proofs.Commands.{counts_stopped}
 
 -- none of the files is the console
@@ -70,26 +70,6 @@ seed_is_wrong stream refusal number line status text made is told three spelled 
   wrong_by (first_wrong (chains_of stream)) number made (wrong ∙ ap (λ (r : SenderRefusal). Some r) is) ∙ ap (λ (n : ℕ). Some n) (sym told),
   ap (λ (s : ℕ). Refused s text) three ∙ ap (λ (t : List ℕ). Refused 3 t) spelled,
 )
-
--- why no sender is opened is no fault but want of memory
-no_sender_fault : {A : Type 0} (stream : Stream) (stop : Stop) (fault : Fault) → IsNoSender stream (stop_came stop) → (fault ≡ faults.NoMemory → ⊥) → ◌≡◌ {A = Result A Stop} (Err stop) (Err (stops.Failed fault)) → ⊥
-no_sender_fault stream stop fault (inl (line, wrong, told)) other e =
-    let same : stop ≡ stops.Failed fault = cc in
-    let came : stop_came stop ≡ Failed fault = ap stop_came same in
-    cc
-no_sender_fault stream stop fault (inr told) other e =
-    let same : stop ≡ stops.Failed fault = cc in
-    let came : stop_came stop ≡ Failed fault = ap stop_came same in
-    let memory : fault ≡ faults.NoMemory = cc in
-    other memory
-
--- it raises no count
-no_sender_causes : {A : Type 0} (stream : Stream) (stop : Stop) (counts : Faults) → IsNoSender stream (stop_came stop) → StopCauses {A = A} (Err stop) counts counts
-no_sender_causes stream stop counts why = record {
-  reads = cause_none counts.reads counts.reads refl (no_sender_fault stream stop faults.Read why (λ e. cc));
-  writes = cause_none counts.writes counts.writes refl (no_sender_fault stream stop faults.Write why (λ e. cc));
-  openings = cause_none counts.openings counts.openings refl (no_sender_fault stream stop faults.Open why (λ e. cc));
-}
 
 -- no sender was opened, and no file asked for
 pub seeded_none : (stream : Stream) (script out : List ℕ) (desk : Told) (stop : Stop) → IsNoSender stream (stop_came stop) → SendsSeeded stream script out desk desk (stop_came stop)
