@@ -112,6 +112,18 @@ sure_told_by desk = record {
   live = sure_live_of desk;
 }
 
+-- the same with other pages
+abbrev pub with_pages : (List ℕ → Page) → Told → Told
+with_pages pages before = record before { page = pages }
+
+-- the same with other letters for links
+abbrev pub with_wires : (List ℕ → Wire) → Told → Told
+with_wires wires before = record before { live = record before.live { wire = wires } }
+
+-- the same with other readings of clocks
+abbrev pub with_told_readings : Option (ℕ → List ℕ) → Told → Told
+with_told_readings readings before = record before { live = record before.live { readings = readings } }
+
 -- what is told where nothing was put, opened or made
 abbrev pub nothing_put : Told
 nothing_put = record {

@@ -8,7 +8,7 @@ ghost use Rattle.tesla_desk.specs.Live.{HoldsWire, OpenedLink};
 ghost use Rattle.tesla_desk.specs.LiveMemory.{readings_in};
 ghost use Rattle.tesla_desk.specs.Memory.{Refuses, bytes_in};
 ghost use Rattle.tesla_desk.specs.Outside.{Holds, Opened, OpensLink, OpensPost, OpensSink, OpensSource};
-ghost use Rattle.tesla_desk.specs.Sure.{nothing_put, sure_clocks_of, sure_left_of, sure_letters_left, sure_link_name_of, sure_live_of, sure_page_under, sure_post_name_of, sure_sent_of, sure_sink_name_of, sure_source_name_of, sure_told_by, sure_written_of};
+ghost use Rattle.tesla_desk.specs.Sure.{nothing_put, sure_clocks_of, sure_left_of, sure_letters_left, sure_link_name_of, sure_live_of, sure_page_under, sure_post_name_of, sure_sent_of, sure_sink_name_of, sure_source_name_of, sure_told_by, sure_written_of, with_pages, with_told_readings, with_wires};
 
 use crate::clock_lists::ClockLists;
 use crate::entries::{Entries, Named, newest_under};
@@ -58,7 +58,7 @@ impl SureDesk {
         ensures own { OnOk result ((sure_told_by self.new).page name.now ≡ Holds bytes.now false) }
         ensures pages { (n : List ℕ) → n ≢ name.now → (sure_told_by self.new).page n ≡ (sure_told_by self.old).page n }
         ensures err { OnErr result (sure_told_by self.new ≡ sure_told_by self.old) }
-        ensures rest { sure_told_by self.new ≡ record (sure_told_by self.old) { page = (sure_told_by self.new).page } }
+        ensures rest { sure_told_by self.new ≡ with_pages (sure_told_by self.new).page (sure_told_by self.old) }
     {
         let spare = Entries::spare(self.alloc)?;
         let name = Text::new(self.alloc, name.as_bytes())?;
@@ -77,7 +77,7 @@ impl SureDesk {
         ensures own { OnOk result ((sure_told_by self.new).live.wire name.now ≡ HoldsWire letters.now) }
         ensures others { (n : List ℕ) → n ≢ name.now → (sure_told_by self.new).live.wire n ≡ (sure_told_by self.old).live.wire n }
         ensures err { OnErr result (sure_told_by self.new ≡ sure_told_by self.old) }
-        ensures rest { sure_told_by self.new ≡ record (sure_told_by self.old) { live = record (sure_told_by self.old).live { wire = (sure_told_by self.new).live.wire } } }
+        ensures rest { sure_told_by self.new ≡ with_wires (sure_told_by self.new).live.wire (sure_told_by self.old) }
     {
         let spare = Entries::spare(self.alloc)?;
         let wire = Named {
@@ -93,7 +93,7 @@ impl SureDesk {
         ensures own { OnOk result (readings_in (sure_clocks_of self.new).lists clock ≡ list.now) }
         ensures others { (n : ℕ) → n ≢ clock → readings_in (sure_clocks_of self.new).lists n ≡ readings_in (sure_clocks_of self.old).lists n }
         ensures err { OnErr result (sure_told_by self.new ≡ sure_told_by self.old) }
-        ensures rest { sure_told_by self.new ≡ record (sure_told_by self.old) { live = record (sure_told_by self.old).live { readings = Some (readings_in (sure_clocks_of self.new).lists) } } }
+        ensures rest { sure_told_by self.new ≡ with_told_readings (Some (readings_in (sure_clocks_of self.new).lists)) (sure_told_by self.old) }
     {
         self.clocks.put(self.alloc, u64::from(clock), list)
     }
