@@ -21,6 +21,10 @@ use Rattle.tesla_desk.specs.declared.sure_parts.SureSource.{SureSource}
 
 -- ---- what it opens
 
+-- how often a call of what is opened failed: never
+abbrev pub sure_faults_of : {A : Type 0} → A → ℕ
+sure_faults_of it = 0
+
 -- what is kept of a source when it is closed
 abbrev pub sure_rest_of : SureSource → Named (Option StoredRest)
 sure_rest_of source = source.rest

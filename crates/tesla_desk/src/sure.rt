@@ -8,7 +8,7 @@ ghost use Rattle.tesla_desk.specs.Live.{HoldsWire, OpenedLink};
 ghost use Rattle.tesla_desk.specs.LiveMemory.{readings_in};
 ghost use Rattle.tesla_desk.specs.Memory.{Refuses, bytes_in};
 ghost use Rattle.tesla_desk.specs.Outside.{Holds, Opened, OpensLink, OpensPost, OpensSink, OpensSource};
-ghost use Rattle.tesla_desk.specs.Sure.{nothing_put, sure_clocks_of, sure_left_of, sure_letters_left, sure_link_name_of, sure_live_of, sure_page_under, sure_post_name_of, sure_sent_of, sure_sink_name_of, sure_source_name_of, sure_told_by, sure_written_of, with_pages, with_told_readings, with_wires};
+ghost use Rattle.tesla_desk.specs.Sure.{nothing_put, sure_clocks_of, sure_faults_of, sure_left_of, sure_letters_left, sure_link_name_of, sure_live_of, sure_page_under, sure_post_name_of, sure_sent_of, sure_sink_name_of, sure_source_name_of, sure_told_by, sure_written_of, with_pages, with_told_readings, with_wires};
 
 use crate::clock_lists::ClockLists;
 use crate::entries::{Entries, Named, newest_under};
@@ -152,7 +152,7 @@ impl Desk for SureDesk {
     /// Never `Failed`.
     fn open_source(&mut self, name: &str) -> Result<SureSource, OpenRefusal>
         ensures opened { IfOk result (λ it. Opened ((sure_told_by self.old).page name.now) (sure_left_of it)) }
-        ensures fresh { IfOk result (λ _. 0 ≡ 0) }
+        ensures fresh { IfOk result (λ it. sure_faults_of it ≡ 0) }
         ensures named { IfOk result (λ it. sure_source_name_of it ≡ name.now) }
         ensures desk { OpensSource name.now result (sure_told_by self.old) (sure_told_by self.new) }
         ensures exact { Refuses false result }
@@ -167,7 +167,7 @@ impl Desk for SureDesk {
     /// Never `Failed`.
     fn open_sink(&mut self, name: &str) -> Result<SureSink, OpenRefusal>
         ensures empty { IfOk result (λ it. IfSome (sure_written_of it) (λ bytes. bytes ≡ [])) }
-        ensures fresh { IfOk result (λ _. 0 ≡ 0) }
+        ensures fresh { IfOk result (λ it. sure_faults_of it ≡ 0) }
         ensures named { IfOk result (λ it. sure_sink_name_of it ≡ name.now) }
         ensures desk { OpensSink name.now result (sure_told_by self.old) (sure_told_by self.new) }
         ensures pages { (n : List ℕ) → (sure_told_by self.new).page n ≡ (sure_told_by self.old).page n }
@@ -193,7 +193,7 @@ impl Desk for SureDesk {
     /// Never `Failed`.
     fn open_link(&mut self, name: &str) -> Result<SureLink, OpenRefusal>
         ensures opened { IfOk result (λ it. OpenedLink ((sure_told_by self.old).live.wire name.now) (Some (sure_letters_left it))) }
-        ensures fresh { IfOk result (λ _. 0 ≡ 0) }
+        ensures fresh { IfOk result (λ it. sure_faults_of it ≡ 0) }
         ensures named { IfOk result (λ it. sure_link_name_of it ≡ name.now) }
         ensures desk { OpensLink name.now result (sure_told_by self.old) (sure_told_by self.new) }
         ensures exact { Refuses false result }
@@ -213,7 +213,7 @@ impl Desk for SureDesk {
     /// Never `Failed`.
     fn open_post(&mut self, name: &str) -> Result<SurePost, OpenRefusal>
         ensures empty { IfOk result (λ it. IfSome (sure_sent_of it) (λ sent. sent ≡ [])) }
-        ensures fresh { IfOk result (λ _. 0 ≡ 0) }
+        ensures fresh { IfOk result (λ it. sure_faults_of it ≡ 0) }
         ensures named { IfOk result (λ it. sure_post_name_of it ≡ name.now) }
         ensures desk { OpensPost name.now result (sure_told_by self.old) (sure_told_by self.new) }
         ensures exact { Refuses false result }

@@ -36,7 +36,7 @@ impl SureSource {
         bytes: Option<&[u8]>,
     ) -> Result<SureSource, NoMemory>
         ensures name { IfOk result (λ it. sure_source_name_of it ≡ name.now) }
-        ensures bytes { IfOk result (λ it. sure_left_of it ≡ option_map (λ bytes. bytes.now) bytes) }
+        ensures bytes { IfOk result (λ it. sure_left_of it ≡ option_map (λ bytes. bytes.now) bytes.entry) }
     {
         let spare = Entries::spare(alloc)?;
         let name = Text::new(alloc, name.as_bytes())?;
@@ -49,7 +49,7 @@ impl SureSource {
 
     // A copy of bytes of which none was read.
     fn stored(alloc: Global, bytes: Option<&[u8]>) -> Result<Option<StoredRest>, NoMemory>
-        ensures { IfOk result (λ rest. option_map left_stored rest ≡ option_map (λ bytes. bytes.now) bytes) }
+        ensures { IfOk result (λ rest. option_map left_stored rest ≡ option_map (λ bytes. bytes.now) bytes.entry) }
     {
         let Some(bytes) = bytes else {
             return Ok(None);
