@@ -1,5 +1,5 @@
 -- The status of a fault comes only where its count rose.
-use Rattle.std.proofs.Common.{◌≡◌, ◌∙◌, ◌⊎◌, inl, inr, ◌-◌, ◌^◌, ◌<◌, ◌≤◌, ◌==◌, ℕ, Bool, true, false, nat_lt, if◌then◌else◌, List, refl, sym, ap, subst, arith}
+use Rattle.std.proofs.Common.{◌≡◌, ◌∙◌, ◌⊎◌, inl, inr, ◌-◌, ◌^◌, ◌<◌, ◌==◌, ℕ, Bool, true, false, nat_lt, if◌then◌else◌, List, refl, sym, ap, subst, arith}
 use Rattle.std.proofs.lemmas.Bool.Decides.{nat_tests}
 use Rattle.tesla_desk.specs.Faults.{Faults, Rose, no_faults, raised_where_failed}
 use Rattle.tesla_desk.specs.Outside.{Page, Untold, Absent, Holds, Told}
@@ -8,7 +8,7 @@ use Rattle.tesla_front.specs.Came.{Came, Done, Usage, Refused, Failed, HasOwnSta
 use Rattle.tesla_front.specs.Command.{Command}
 use Rattle.tesla_front.specs.Console.{Shows}
 use Rattle.tesla_front.specs.Fault.{IsUnfailed, fault_status, is_own_status}
-use Rattle.tesla_front.specs.Run.{HasConsole, HasNoConsole, HasStatusCauses, IsDoneAs, Runs}
+use Rattle.tesla_front.specs.Run.{HasConsole, HasStatusCauses, IsDoneAs, Runs}
 use Rattle.tesla_front.specs.declared.fault.Fault.{Fault}
 use Rattle.tesla_front.specs.declared.fault.Fault.TheVariants as faults
 use Rattle.tesla_front.specs.declared.outcome.Outcome.{Outcome}
@@ -26,8 +26,8 @@ own_status (outcomes.Failed fault) = tt
 fault_at : ℕ → Fault
 fault_at status = if status == 4 then faults.Read else if status == 5 then faults.Write else if status == 7 then faults.Open else faults.NoMemory
 
-unfolding fault_at
 at_status : (fault : Fault) → fault_at (fault_status fault) ≡ fault
+unfolding fault_at
 at_status faults.Read = refl
 at_status faults.Write = refl
 at_status faults.NoMemory = refl
