@@ -2,4 +2,4 @@ use Rattle.tesla_front.proofs.Statuses.{never_failed}
 use Rattle.tesla_live_tools.proofs.laws.run_surely.Goals as goal
 
 pub returns : goal.returns
-returns c = never_failed c.run_live_tools.result.status c.run_live_tools.ensures.causes
+returns g c = never_failed c.run_live_tools.result.status c.run_live_tools.ensures.causes
