@@ -27,12 +27,7 @@ pub fn forms_are_named()
 {}
 
 /// Runs the words over a desk on which no call from outside fails. The status is never 4, 5 or 7.
-pub fn run_surely<R: Wait>(
-    rt: &R,
-    alloc: Global,
-    words: &[String],
-    desk: &mut SureDesk,
-) -> Done
+pub fn run_surely<R: Wait>(rt: &R, alloc: Global, words: &[String], desk: &mut SureDesk) -> Done
     ensures { IsUnfailed result.status }
 {
     run_live_tools(rt, alloc, words, desk)

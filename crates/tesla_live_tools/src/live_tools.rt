@@ -38,12 +38,7 @@ pub fn run_live_tools<R: Wait, D: Desk>(
 }
 
 // The same, with what it came to as it was told.
-fn run_told<R: Wait, D: Desk>(
-    rt: &R,
-    alloc: Global,
-    words: &[String],
-    desk: &mut D,
-) -> Outcome
+fn run_told<R: Wait, D: Desk>(rt: &R, alloc: Global, words: &[String], desk: &mut D) -> Outcome
     ensures { RunsLiveTools (map string_bytes words.now) (D.told desk.old) (D.told desk.new) None (outcome_came result) }
 {
     match desk.open_sink(CONSOLE) {
