@@ -2,7 +2,7 @@
 
 ghost use Rattle.std.specs.Prelude.{◌≡◌, map, string_bytes};
 ghost use Rattle.tesla_front.specs.Came.{Came, outcome_came, status_of};
-ghost use Rattle.tesla_front.specs.Run.{Runs};
+ghost use Rattle.tesla_front.specs.Run.{HasStatusCauses, Runs};
 ghost use Rattle.tesla_front.specs.Usage.{usage_of};
 ghost use Rattle.tesla_cli.specs.Commands.{command_of, usage};
 
@@ -25,7 +25,8 @@ use tesla_front::{Fault, FormText, Outcome, tell};
 /// At 0 to 3, 6, 7, 9 and 10 no read and no write of a file failed, at 5 no read, and at 4 a write only while what was made
 /// before was written.
 pub fn run_here<D: Desk>(alloc: Global, words: &[String], desk: &mut D) -> u8
-    ensures { (told : Came) × (result ≡ status_of told) × Runs (command_of (map string_bytes words.now)) usage (map string_bytes words.now) (D.told desk.old) (D.told desk.new) told }
+    ensures came { (told : Came) × (result ≡ status_of told) × Runs (command_of (map string_bytes words.now)) usage (map string_bytes words.now) (D.told desk.old) (D.told desk.new) told }
+    ensures causes { HasStatusCauses result (D.told desk.old).faults (D.told desk.new).faults }
 {
     run_told(alloc, words, desk).status()
 }

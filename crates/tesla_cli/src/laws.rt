@@ -1,9 +1,10 @@
-//! Laws about the commands, as contracts of functions that do nothing.
+//! Laws about the commands, as contracts of functions that do nothing, or run them.
 
 ghost use Rattle.std.specs.Prelude.{ℕ, List};
 ghost use Rattle.tesla_desk.specs.Outside.{Told};
 ghost use Rattle.tesla_front.specs.Came.{Came};
 ghost use Rattle.tesla_front.specs.Command.{Performs, RunsAs};
+ghost use Rattle.tesla_front.specs.Fault.{IsUnfailed};
 ghost use Rattle.tesla_cli.specs.Commands.{command_of};
 ghost use Rattle.tesla_run_chain.specs.Arguments.{ChainArguments, IsChain};
 ghost use Rattle.tesla_run_chain.specs.Chain.{chain};
@@ -14,6 +15,10 @@ ghost use Rattle.tesla_run_replay.specs.Replay.{replay};
 ghost use Rattle.tesla_run_send.specs.Arguments.{IsSend, SendArguments};
 ghost use Rattle.tesla_run_send.specs.Send.{send};
 
+use crate::run_here;
+use std::alloc::Global;
+use tesla_desk::SureDesk;
+
 /// Words that are a form of some command are run as that command: the first word of each form names it.
 pub fn forms_are_named()
     ensures replays { (arguments : ReplayArguments) (words : List (List ℕ)) (old new : Told) (came : Came) → IsReplay arguments words → RunsAs (command_of words) words old new came → Performs replay arguments old new came }
@@ -21,3 +26,10 @@ pub fn forms_are_named()
     ensures sends { (arguments : SendArguments) (words : List (List ℕ)) (old new : Told) (came : Came) → IsSend arguments words → RunsAs (command_of words) words old new came → Performs send arguments old new came }
     ensures lags { (arguments : LagArguments) (words : List (List ℕ)) (old new : Told) (came : Came) → IsLag arguments words → RunsAs (command_of words) words old new came → Performs lag arguments old new came }
 {}
+
+/// Runs the words over a desk on which no call from outside fails. The status is never 4, 5 or 7.
+pub fn run_surely(alloc: Global, words: &[String], desk: &mut SureDesk) -> u8
+    ensures { IsUnfailed result }
+{
+    run_here(alloc, words, desk)
+}

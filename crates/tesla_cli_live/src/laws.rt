@@ -1,10 +1,11 @@
-//! Laws about the live commands, as contracts of functions that do nothing.
+//! Laws about the live commands, as contracts of functions that do nothing, or run them.
 
 ghost use Rattle.std.specs.Prelude.{ℕ, List, Option};
 ghost use Rattle.tesla_desk.specs.Live.{Live};
 ghost use Rattle.tesla_desk.specs.Outside.{Told};
 ghost use Rattle.tesla_front.specs.Came.{Came};
 ghost use Rattle.tesla_front.specs.Command.{Performs, RunsAs};
+ghost use Rattle.tesla_front.specs.Fault.{IsUnfailed};
 ghost use Rattle.tesla_receiver.specs.declared.history.Entry.{Entry};
 ghost use Rattle.tesla_run_play.specs.Arguments.{IsPlayForm, PlayArguments};
 ghost use Rattle.tesla_run_play.specs.Playing.{play};
@@ -14,6 +15,12 @@ ghost use Rattle.tesla_run_relay.specs.Arguments.{IsRelayForm, RelayArguments};
 ghost use Rattle.tesla_run_relay.specs.Relay.{relay};
 ghost use Rattle.tesla_turn.specs.Held.{Ended};
 ghost use Rattle.tesla_cli_live.specs.Commands.{IsLive, command_of};
+
+use crate::{Done, run_live};
+use std::alloc::Global;
+use std::sync::Wait;
+use std::thread::Threads;
+use tesla_desk::SureDesk;
 
 /// Words that are a form of some command are run as that command, and are for this table: the first word of each form
 /// names it.
@@ -25,3 +32,15 @@ pub fn forms_are_named()
     ensures relay_is { (arguments : RelayArguments) (words : List (List ℕ)) → IsRelayForm arguments words → IsLive words }
     ensures play_is { (arguments : PlayArguments) (words : List (List ℕ)) → IsPlayForm arguments words → IsLive words }
 {}
+
+/// Runs the words over a desk on which no call from outside fails. The status is never 4, 5 or 7.
+pub fn run_surely<R: Threads + Wait + Sync>(
+    rt: &R,
+    alloc: Global,
+    words: &[String],
+    desk: &mut SureDesk,
+) -> Done
+    ensures { IsUnfailed result.status }
+{
+    run_live(rt, alloc, words, desk)
+}

@@ -1,7 +1,8 @@
 //! The top call of the live commands.
 
 ghost use Rattle.std.specs.Prelude.{◌≡◌, map, string_bytes};
-ghost use Rattle.tesla_front.specs.Came.{Came, status_of};
+ghost use Rattle.tesla_front.specs.Came.{Came, outcome_came, status_of};
+ghost use Rattle.tesla_front.specs.Run.{HasStatusCauses};
 ghost use Rattle.tesla_cli_live.specs.Commands.{RunsLive};
 
 use crate::FORMS;
@@ -10,7 +11,7 @@ use std::alloc::Global;
 use std::sync::Wait;
 use std::thread::Threads;
 use tesla_desk::{CONSOLE, Desk};
-use tesla_front::{Fault, tell};
+use tesla_front::{Fault, Outcome, tell};
 use tesla_receiver::Receiver;
 use tesla_run_receive::Received;
 use tesla_turn::Last;
@@ -41,20 +42,37 @@ pub fn run_live<R: Threads + Wait + Sync, D: Desk>(
     words: &[String],
     desk: &mut D,
 ) -> Done
-    ensures { (told : Came) × (result.status ≡ status_of told) × RunsLive (map string_bytes words.now) (D.told desk.old) (D.told desk.new) result.last told }
+    ensures came { (told : Came) × (result.status ≡ status_of told) × RunsLive (map string_bytes words.now) (D.told desk.old) (D.told desk.new) result.last told }
+    ensures causes { HasStatusCauses result.status (D.told desk.old).faults (D.told desk.new).faults }
+{
+    let Received { outcome, last } = run_told(rt, alloc, words, desk);
+    Done {
+        status: outcome.status(),
+        last,
+    }
+}
+
+// The same, with what it came to as it was told.
+fn run_told<R: Threads + Wait + Sync, D: Desk>(
+    rt: &R,
+    alloc: Global,
+    words: &[String],
+    desk: &mut D,
+) -> Received
+    ensures { RunsLive (map string_bytes words.now) (D.told desk.old) (D.told desk.new) result.last (outcome_came result.outcome) }
 {
     match desk.open_sink(CONSOLE) {
         Ok(mut console) => {
             let Received { outcome, last } = run_words(rt, alloc, words, desk);
             let told = tell(&mut console, &FORMS, outcome);
             desk.close_sink(console);
-            Done {
-                status: told.status(),
+            Received {
+                outcome: told,
                 last,
             }
         }
-        Err(refusal) => Done {
-            status: Fault::from(refusal).status(),
+        Err(refusal) => Received {
+            outcome: Outcome::Failed(Fault::from(refusal)),
             last: None,
         },
     }

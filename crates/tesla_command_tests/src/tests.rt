@@ -4,6 +4,7 @@ mod files;
 mod pages;
 mod replays;
 mod streams;
+mod sure;
 mod texts;
 mod times;
 

@@ -53,7 +53,8 @@ rose_raised n = grind (arith, nat_tests)
 pub raised_stays : (n : ℕ) → n ≤ raised n
 raised_stays n = grind (arith, nat_tests)
 
-rose_where_some : (n faults : ℕ) → Rose 0 faults → Rose n (raised_where_failed faults n)
+-- what failed raises the count of its desk when it is closed
+pub rose_where_some : (n faults : ℕ) → Rose 0 faults → Rose n (raised_where_failed faults n)
 rose_where_some n faults rose =
     let some : 0 < faults = grind (arith, rose) in
     let test : nat_lt 0 faults ≡ true = grind (arith, nat_tests, some) in

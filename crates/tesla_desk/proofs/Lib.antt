@@ -1,5 +1,6 @@
 pub mod Counts
 pub mod Given
 pub mod Mail
+mod Never
 pub mod Told
 pub mod Remembering

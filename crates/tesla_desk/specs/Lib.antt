@@ -9,3 +9,4 @@ pub mod Outside
 pub mod Posts
 pub mod Settings
 pub mod Stored
+pub mod Sure

@@ -48,12 +48,13 @@ read_calls_of pages = pages.calls
 abbrev pub read_piece_of : Pages → Option ℕ
 read_piece_of pages = pages.piece
 
+-- what a read under a greatest piece, if there is one, into a slice of this length answers, where these bytes are left
+abbrev pub rest_answer : Option ℕ → ℕ → List ℕ → ReadStep
+rest_answer piece size left = if length left == 0 then End else Got (within_piece piece (min size (length left)))
+
 -- what a read into a slice of this length answers
 abbrev pub read_answer : ℕ → Pages → ReadStep
-read_answer size pages =
-    if next_fails (read_calls_of pages) then ReadFailed
-    else if length (unread pages) == 0 then End
-    else Got (within_piece (read_piece_of pages) (min size (length (unread pages))))
+read_answer size pages = if next_fails (read_calls_of pages) then ReadFailed else rest_answer (read_piece_of pages) size (unread pages)
 
 -- the name that a sink was opened under
 abbrev pub name_of : Heap → List ℕ

@@ -22,6 +22,8 @@ mod source;
 mod stored;
 mod stored_letters;
 mod stored_mail;
+mod sure;
+mod sure_parts;
 
 pub use clock::Clock;
 pub use desk::{CONSOLE, Desk, OpenRefusal};
@@ -36,4 +38,6 @@ pub use post::{Post, PostStep};
 pub use readings::Readings;
 pub use sink::{Sink, WriteStep, write_all};
 pub use source::{ReadStep, Source};
+pub use sure::SureDesk;
+pub use sure_parts::{SureLink, SurePost, SureSink, SureSource};
 pub use tesla_base::Text;

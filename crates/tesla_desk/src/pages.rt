@@ -1,13 +1,12 @@
 //! A source over bytes in memory.
 
-ghost use Rattle.std.specs.Prelude.{◌≡◌, ◌<◌, ◌≤◌, ◌==◌, ◌-◌, length, drop, Some, IfOk, if◌then◌else◌};
+ghost use Rattle.std.specs.Prelude.{◌≡◌, ◌<◌, ◌≤◌, length, Some, IfOk, if◌then◌else◌};
 ghost use Rattle.std.specs.Option.{ForSome};
 ghost use Rattle.tesla_desk.specs.Faults.{HasCause, raised};
 ghost use Rattle.tesla_desk.specs.Outside.{Reads};
 
 use crate::calls::Calls;
 use crate::entries::{Entries, Named};
-use crate::settings::within_piece;
 use crate::stored::{StoredRest, StoredRests};
 use crate::{ReadStep, Source};
 use std::alloc::Global;
@@ -20,7 +19,6 @@ pub struct Pages {
     calls: Calls,
     faults: u64,
     spare: Box<StoredRests>,
-    ghost within: { rest.value.at ≤ length rest.value.bytes.items },
     ghost moves: { ForSome piece (λ most. 1 ≤ most) },
 }
 
@@ -103,13 +101,6 @@ impl Source for Pages {
             self.faults = self.faults.saturating_add(1);
             return ReadStep::Failed;
         }
-        let rest = &self.rest.value.bytes[self.rest.value.at..];
-        if rest.is_empty() {
-            return ReadStep::End;
-        }
-        let count = within_piece(self.piece, into.len().min(rest.len()));
-        into[..count].copy_from_slice(&rest[..count]);
-        self.rest.value.at += count;
-        ReadStep::Got(count)
+        self.rest.value.read(self.piece, into)
     }
 }

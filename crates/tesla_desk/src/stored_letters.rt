@@ -1,6 +1,6 @@
 //! What a desk in memory keeps of links.
 
-ghost use Rattle.std.specs.Prelude.{◌≡◌, true, IfOk};
+ghost use Rattle.std.specs.Prelude.{◌≡◌, [], true, IfOk};
 ghost use Rattle.std.specs.List.{list_all};
 ghost use Rattle.tesla_desk.specs.Links.{fits};
 
@@ -17,6 +17,15 @@ pub struct StoredLetters {
 }
 
 impl StoredLetters {
+    /// No letters. They take no memory.
+    pub fn none(alloc: Global) -> StoredLetters
+        ensures { result.items.items ≡ [] }
+    {
+        StoredLetters {
+            items: Vec::new(alloc),
+        }
+    }
+
     /// A copy of these letters.
     pub fn copy(alloc: Global, letters: &[Letter]) -> Result<StoredLetters, NoMemory>
         requires { list_all fits letters.now ≡ true }

@@ -6,3 +6,4 @@ mod Streams
 mod Slashes
 pub mod Commands
 pub mod WordLists
+pub mod Statuses

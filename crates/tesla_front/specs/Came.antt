@@ -1,7 +1,7 @@
 -- What a command comes to: its status, and the lines that tell it on the console.
-use Rattle.std.specs.Prelude.{ℕ, Result, Ok, Err, List}
+use Rattle.std.specs.Prelude.{◌≡◌, ℕ, true, Result, Ok, Err, List}
 use Rattle.arrayvec.specs.ArrayString.{ArrayString}
-use Rattle.tesla_front.specs.Fault.{fault_status, fault_line}
+use Rattle.tesla_front.specs.Fault.{fault_status, fault_line, is_own_status}
 use Rattle.tesla_front.specs.declared.fault.Fault.{Fault}
 use Rattle.tesla_front.specs.declared.outcome.Outcome.{Outcome}
 use Rattle.tesla_front.specs.declared.outcome.Outcome.TheVariants as outcomes
@@ -41,6 +41,11 @@ status_of (Done lines) = 0
 status_of Usage = 1
 status_of (Refused status line) = status
 status_of (Failed fault) = fault_status fault
+
+-- a refusal has a status that no fault has
+abbrev pub HasOwnStatus : Came → Type 0
+HasOwnStatus (Refused status line) = is_own_status status ≡ true
+HasOwnStatus _ = Unit {0}
 
 -- all that is printed of it, told the usage lines
 abbrev pub text_of : List ℕ → Came → List ℕ

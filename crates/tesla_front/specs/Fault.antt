@@ -1,5 +1,5 @@
 -- What goes wrong outside of a command: its status, its line and its cause.
-use Rattle.std.specs.Prelude.{◌≡◌, ℕ, Result, Err, List, codes}
+use Rattle.std.specs.Prelude.{◌≡◌, ◌≢◌, ℕ, ◌||◌, Bool, nat_lt, Result, Err, List, codes}
 use Rattle.tesla_desk.specs.Faults.{Faults, HasCauses}
 use Rattle.tesla_desk.specs.declared.desk.OpenRefusal.{OpenRefusal}
 use Rattle.tesla_desk.specs.declared.desk.OpenRefusal.TheVariants as refusals
@@ -12,6 +12,14 @@ fault_status Read = 4
 fault_status Write = 5
 fault_status NoMemory = 6
 fault_status Open = 7
+
+-- a status that no fault has
+abbrev pub is_own_status : ℕ → Bool
+is_own_status status = nat_lt status 4 || nat_lt 7 status
+
+-- the status tells no failed read, no failed write and no failed opening
+abbrev pub IsUnfailed : ℕ → Type 0
+IsUnfailed status = (status ≢ 4) × (status ≢ 5) × (status ≢ 7)
 
 -- the line that tells it
 abbrev pub fault_line : Fault → List ℕ

@@ -1,6 +1,6 @@
 -- What a run of words is, for all words and desks, told the command that the first word names and the usage lines of all.
 use Rattle.std.specs.Prelude.{◌≡◌, ◌≢◌, ◌⊎◌, ℕ, ◌-◌, ◌^◌, ◌<◌, List, [], ◌∷◌, take, codes}
-use Rattle.tesla_desk.specs.Faults.{Faults, CountsOpening, HasCausesBeside, after_sink}
+use Rattle.tesla_desk.specs.Faults.{Faults, CountsOpening, HasCausesBeside, Rose, after_sink}
 use Rattle.tesla_desk.specs.Outside.{Opening, OfSource, OfSink, Told, with_openings, AsksPrefix}
 use Rattle.tesla_front.specs.Came.{Came, Usage, Failed}
 use Rattle.tesla_front.specs.Command.{Command, IsNoForm}
@@ -65,3 +65,9 @@ pub record NothingFailed (old new : Faults) : Type 0 where
   pub reads : (new.reads ≡ old.reads) × (old.reads < 2 ^ 64 - 1)
   pub writes : (new.writes ≡ old.writes) × (old.writes < 2 ^ 64 - 1)
   pub openings : (new.openings ≡ old.openings) × (old.openings < 2 ^ 64 - 1)
+
+-- the status of a fault comes only where its count rose
+pub record HasStatusCauses (status : ℕ) (before now : Faults) : Type 0 where
+  pub read : status ≡ 4 → Rose before.reads now.reads
+  pub write : status ≡ 5 → Rose before.writes now.writes
+  pub opening : status ≡ 7 → Rose before.openings now.openings

@@ -1,7 +1,8 @@
 //! The lines of the console.
 
-ghost use Rattle.std.specs.Prelude.{◌≡◌, ◌+◌, ◌≤◌, ◌++◌, length};
+ghost use Rattle.std.specs.Prelude.{◌≡◌, ◌+◌, ◌≤◌, ◌++◌, length, true};
 ghost use Rattle.arrayvec.specs.ArrayString.{array_string_len};
+ghost use Rattle.tesla_front.specs.Fault.{is_own_status};
 ghost use Rattle.tesla_front.specs.Lines.{count_line};
 ghost use Rattle.tesla_front.specs.Refusal.{IsRefusal, refused_line};
 
@@ -28,8 +29,9 @@ pub fn add_count(lines: &mut Lines, name: &str, number: u64)
 }
 
 /// The refusal of a file, whose name has at most 9 bytes, at a line or at an offset, with the name of a kind, which has
-/// at most 20: the status, and the line that tells it, with its LF.
+/// at most 20: the status, which is none of a fault, and the line that tells it, with its LF.
 pub fn refused(status: u8, file: &str, place: u64, kind: &str) -> Refusal
+    requires status { is_own_status status ≡ true }
     requires file { length file.now ≤ 9 }
     requires kind { length kind.now ≤ 20 }
     ensures { IsRefusal status (refused_line file.now place kind.now) result }

@@ -1,13 +1,18 @@
 //! Why a command doesn't come to its end.
 
+ghost use Rattle.std.specs.Prelude.{◌≡◌, true};
+ghost use Rattle.tesla_front.specs.Fault.{is_own_status};
+
 use crate::{Fault, Lines};
 
 /// An input that a command refuses: the status that the program ends with, 2 for a setup, 3 for any other input that
-/// isn't in its grammar or is wrong, or a status of the command's own; and the line that tells what is wrong, and where.
+/// isn't in its grammar or is wrong, or a status of the command's own, which is none of a fault; and the line that tells what
+/// is wrong, and where.
 #[derive(Debug, Drop)]
 pub struct Refusal {
     pub status: u8,
     pub line: Lines,
+    pub ghost own: { is_own_status status ≡ true },
 }
 
 /// Why a command doesn't come to its end.

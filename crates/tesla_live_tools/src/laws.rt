@@ -1,15 +1,22 @@
-//! Laws about the live tools, as contracts of functions that do nothing.
+//! Laws about the live tools, as contracts of functions that do nothing, or run them.
 
 ghost use Rattle.std.specs.Prelude.{ℕ, List};
 ghost use Rattle.tesla_desk.specs.Live.{Live};
 ghost use Rattle.tesla_desk.specs.Outside.{Told};
 ghost use Rattle.tesla_front.specs.Came.{Came};
 ghost use Rattle.tesla_front.specs.Command.{Performs, RunsAs};
+ghost use Rattle.tesla_front.specs.Fault.{IsUnfailed};
 ghost use Rattle.tesla_run_capture.specs.Arguments.{CaptureArguments, IsCaptureForm};
 ghost use Rattle.tesla_run_capture.specs.Capture.{capture};
 ghost use Rattle.tesla_run_feed.specs.Arguments.{FeedArguments, IsFeedForm};
 ghost use Rattle.tesla_run_feed.specs.Feeding.{feed};
 ghost use Rattle.tesla_live_tools.specs.Commands.{IsLiveTool, command_of};
+
+use crate::run_live_tools;
+use std::alloc::Global;
+use std::sync::Wait;
+use tesla_cli_live::Done;
+use tesla_desk::SureDesk;
 
 /// Words that are a form of some tool are run as that tool, and are for this table: the first word of each form names it.
 pub fn forms_are_named()
@@ -18,3 +25,10 @@ pub fn forms_are_named()
     ensures capture_is { (arguments : CaptureArguments) (words : List (List ℕ)) → IsCaptureForm arguments words → IsLiveTool words }
     ensures feed_is { (arguments : FeedArguments) (words : List (List ℕ)) → IsFeedForm arguments words → IsLiveTool words }
 {}
+
+/// Runs the words over a desk on which no call from outside fails. The status is never 4, 5 or 7.
+pub fn run_surely<R: Wait>(rt: &R, alloc: Global, words: &[String], desk: &mut SureDesk) -> Done
+    ensures { IsUnfailed result.status }
+{
+    run_live_tools(rt, alloc, words, desk)
+}

@@ -1,7 +1,8 @@
 //! The top call of the live tools.
 
-ghost use Rattle.std.specs.Prelude.{◌≡◌, map, string_bytes};
-ghost use Rattle.tesla_front.specs.Came.{Came, status_of};
+ghost use Rattle.std.specs.Prelude.{◌≡◌, None, map, string_bytes};
+ghost use Rattle.tesla_front.specs.Came.{Came, outcome_came, status_of};
+ghost use Rattle.tesla_front.specs.Run.{HasStatusCauses};
 ghost use Rattle.tesla_live_tools.specs.Commands.{RunsLiveTools};
 
 use crate::FORMS;
@@ -10,7 +11,7 @@ use std::alloc::Global;
 use std::sync::Wait;
 use tesla_cli_live::Done;
 use tesla_desk::{CONSOLE, Desk};
-use tesla_front::{Fault, tell};
+use tesla_front::{Fault, Outcome, tell};
 
 /// Runs the words as those of the live tool that the first of them names, over the desk.
 ///
@@ -26,21 +27,27 @@ pub fn run_live_tools<R: Wait, D: Desk>(
     words: &[String],
     desk: &mut D,
 ) -> Done
-    ensures { (told : Came) × (result.status ≡ status_of told) × RunsLiveTools (map string_bytes words.now) (D.told desk.old) (D.told desk.new) result.last told }
+    ensures came { (told : Came) × (result.status ≡ status_of told) × RunsLiveTools (map string_bytes words.now) (D.told desk.old) (D.told desk.new) result.last told }
+    ensures causes { HasStatusCauses result.status (D.told desk.old).faults (D.told desk.new).faults }
+{
+    let told = run_told(rt, alloc, words, desk);
+    Done {
+        status: told.status(),
+        last: None,
+    }
+}
+
+// The same, with what it came to as it was told.
+fn run_told<R: Wait, D: Desk>(rt: &R, alloc: Global, words: &[String], desk: &mut D) -> Outcome
+    ensures { RunsLiveTools (map string_bytes words.now) (D.told desk.old) (D.told desk.new) None (outcome_came result) }
 {
     match desk.open_sink(CONSOLE) {
         Ok(mut console) => {
             let outcome = run_words(rt, alloc, words, desk);
             let told = tell(&mut console, &FORMS, outcome);
             desk.close_sink(console);
-            Done {
-                status: told.status(),
-                last: None,
-            }
+            told
         }
-        Err(refusal) => Done {
-            status: Fault::from(refusal).status(),
-            last: None,
-        },
+        Err(refusal) => Outcome::Failed(Fault::from(refusal)),
     }
 }

@@ -1,13 +1,18 @@
-//! Laws about the tools, as contracts of functions that do nothing.
+//! Laws about the tools, as contracts of functions that do nothing, or run them.
 
 ghost use Rattle.std.specs.Prelude.{ℕ, List};
 ghost use Rattle.tesla_desk.specs.Outside.{Told};
 ghost use Rattle.tesla_front.specs.Came.{Came};
 ghost use Rattle.tesla_front.specs.Command.{Performs, RunsAs};
+ghost use Rattle.tesla_front.specs.Fault.{IsUnfailed};
 ghost use Rattle.tesla_run_ask.specs.Arguments.{AskArguments, IsAskForm, IsReplyForm, ReplyArguments};
 ghost use Rattle.tesla_run_ask.specs.Asking.{ask};
 ghost use Rattle.tesla_run_ask.specs.Replying.{reply};
 ghost use Rattle.tesla_tools.specs.Commands.{IsTool, command_of};
+
+use crate::run_tools;
+use std::alloc::Global;
+use tesla_desk::SureDesk;
 
 /// Words that are a form of some tool are run as that tool, and are for this table: the first word of each form names it.
 pub fn forms_are_named()
@@ -16,3 +21,10 @@ pub fn forms_are_named()
     ensures ask_is { (arguments : AskArguments) (words : List (List ℕ)) → IsAskForm arguments words → IsTool words }
     ensures reply_is { (arguments : ReplyArguments) (words : List (List ℕ)) → IsReplyForm arguments words → IsTool words }
 {}
+
+/// Runs the words over a desk on which no call from outside fails. The status is never 4, 5 or 7.
+pub fn run_surely(alloc: Global, words: &[String], desk: &mut SureDesk) -> u8
+    ensures { IsUnfailed result }
+{
+    run_tools(alloc, words, desk)
+}

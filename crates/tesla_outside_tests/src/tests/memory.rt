@@ -1,6 +1,8 @@
 //! What a desk in memory does, by lines of words: what no clause says is that calls which can want memory give what they
 //! are asked for.
 
+mod sure;
+
 use std::alloc::Global;
 use std::test::*;
 use tesla_base::NoMemory;

@@ -1,0 +1,5 @@
+use Rattle.tesla_front.proofs.Statuses.{never_failed}
+use Rattle.tesla_cli_live.proofs.laws.run_surely.Goals as goal
+
+pub returns : goal.returns
+returns g c = never_failed c.run_live.result.status c.run_live.ensures.causes

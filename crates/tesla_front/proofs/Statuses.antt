@@ -1,0 +1,142 @@
+-- The status of a fault comes only where its count rose.
+use Rattle.std.proofs.Common.{◌≡◌, ◌∙◌, ◌⊎◌, inl, inr, ◌-◌, ◌^◌, ◌<◌, ◌==◌, ℕ, Bool, true, false, nat_lt, if◌then◌else◌, List, refl, sym, ap, subst, arith}
+use Rattle.std.proofs.lemmas.Bool.Decides.{nat_tests}
+use Rattle.tesla_desk.specs.Faults.{Faults, Rose, no_faults, raised_where_failed}
+use Rattle.tesla_desk.specs.Outside.{Page, Untold, Absent, Holds, Told}
+use Rattle.tesla_desk.proofs.Counts.{not_rose, rose_where_some, rose_within, where_failed_stays}
+use Rattle.tesla_front.specs.Came.{Came, Done, Usage, Refused, Failed, HasOwnStatus, outcome_came, status_of}
+use Rattle.tesla_front.specs.Command.{Command}
+use Rattle.tesla_front.specs.Console.{Shows}
+use Rattle.tesla_front.specs.Fault.{IsUnfailed, fault_status, is_own_status}
+use Rattle.tesla_front.specs.Run.{HasConsole, HasStatusCauses, IsDoneAs, Runs}
+use Rattle.tesla_front.specs.declared.fault.Fault.{Fault}
+use Rattle.tesla_front.specs.declared.fault.Fault.TheVariants as faults
+use Rattle.tesla_front.specs.declared.outcome.Outcome.{Outcome}
+use Rattle.tesla_front.specs.declared.outcome.Outcome.TheVariants as outcomes
+
+-- ---- statuses
+
+-- a refusal has a status of its own
+pub own_status : (outcome : Outcome) → HasOwnStatus (outcome_came outcome)
+own_status (outcomes.Done lines) = tt
+own_status outcomes.Usage = tt
+own_status (outcomes.Refused refusal) = refusal.own
+own_status (outcomes.Failed fault) = tt
+
+fault_at : ℕ → Fault
+fault_at status = if status == 4 then faults.Read else if status == 5 then faults.Write else if status == 7 then faults.Open else faults.NoMemory
+
+at_status : (fault : Fault) → fault_at (fault_status fault) ≡ fault
+unfolding fault_at
+at_status faults.Read = refl
+at_status faults.Write = refl
+at_status faults.NoMemory = refl
+at_status faults.Open = refl
+
+not_own : (fault : Fault) → is_own_status (fault_status fault) ≡ false
+not_own faults.Read = refl
+not_own faults.Write = refl
+not_own faults.NoMemory = refl
+not_own faults.Open = refl
+
+none_own : (fault : Fault) (status : ℕ) → status ≡ fault_status fault → is_own_status status ≡ true → ⊥
+none_own fault status e own = let no : false ≡ true = sym (not_own fault) ∙ ap is_own_status (sym e) ∙ own in cc
+
+-- the status of a fault tells it
+fault_told : (told : Came) (fault : Fault) → HasOwnStatus told → status_of told ≡ fault_status fault → told ≡ Failed fault
+fault_told (Done lines) fault own e = absurd (none_own fault 0 e refl)
+fault_told Usage fault own e = absurd (none_own fault 1 e refl)
+fault_told (Refused status line) fault own e = absurd (none_own fault status e own)
+fault_told (Failed other) fault own e = ap (λ f. Failed f) (sym (at_status other) ∙ ap fault_at e ∙ at_status fault)
+
+-- ---- counts
+
+-- a fault is told only where its count rose
+record ToldCauses (told : Came) (before now : Faults) : Type 0 where
+  read : told ≡ Failed faults.Read → Rose before.reads now.reads
+  write : told ≡ Failed faults.Write → Rose before.writes now.writes
+  opening : told ≡ Failed faults.Open → Rose before.openings now.openings
+
+still_by : (before now : ℕ) → nat_lt before now ≡ false → nat_lt before (2 ^ 64 - 1) ≡ true → Rose before now → ⊥
+still_by before now below full (inl less) = grind (arith, nat_tests, below, less)
+still_by before now below full (inr most) = grind (arith, nat_tests, full, most)
+
+rose_by : (a b : Bool) (before now : ℕ) → nat_lt before now ≡ a → nat_lt before (2 ^ 64 - 1) ≡ b → ((Rose before now → ⊥) → ⊥) → Rose before now
+rose_by true b before now below full is = inl (grind (arith, nat_tests, below))
+rose_by false false before now below full is = inr (grind (arith, nat_tests, full))
+rose_by false true before now below full is = absurd (is (still_by before now below full))
+
+-- that a count rose is so where it can't be otherwise
+rose_indeed : (before now : ℕ) → ((Rose before now → ⊥) → ⊥) → Rose before now
+rose_indeed before now is = rose_by (nat_lt before now) (nat_lt before (2 ^ 64 - 1)) before now refl refl is
+
+-- what the console shows is what came, or a write to it failed
+told_is : (usage : List ℕ) (came told : Came) (failed : ℕ) (page : Page) → Shows usage came told failed page → (told ≡ came) ⊎ ((told ≡ Failed faults.Write) × (0 < failed))
+told_is usage came told failed Untold (inl same) = inl same
+told_is usage came told failed Untold (inr it) = inr (it.0, it.2)
+told_is usage came told failed Absent none = absurd none
+told_is usage came told failed (Holds text false) it = inl it.0
+told_is usage came told failed (Holds text true) (inl it) = inl it.0
+told_is usage came told failed (Holds text true) (inr it) = inr (it.0, it.2)
+
+done_causes : (command : Command) (arguments : command.Arguments) (usage : List ℕ) (old new : Told) (told : Came) (done : IsDoneAs command arguments usage old new told) → (told ≡ done.came) ⊎ ((told ≡ Failed faults.Write) × (0 < done.failed)) → ToldCauses told old.faults new.faults
+done_causes command arguments usage old new told done (inl same) =
+    let reads : new.faults.reads ≡ done.before_console.reads = ap (λ (f : Faults). f.reads) done.closed in
+    let writes : new.faults.writes ≡ raised_where_failed done.failed done.before_console.writes = ap (λ (f : Faults). f.writes) done.closed in
+    let openings : new.faults.openings ≡ done.before_console.openings = ap (λ (f : Faults). f.openings) done.closed in
+    let stays = where_failed_stays done.before_console.writes done.failed in
+    record {
+      read = λ e. subst (λ (n : ℕ). Rose old.faults.reads n) (sym reads) (done.counts.reads.rose (sym same ∙ e));
+      write = λ e. rose_within old.faults.writes old.faults.writes done.before_console.writes new.faults.writes (omega arith) done.counts.writes.stays (omega (arith, writes, stays)) (done.counts.writes.rose (sym same ∙ e));
+      opening = λ e. subst (λ (n : ℕ). Rose old.faults.openings n) (sym openings) (done.counts.openings.rose (sym same ∙ e));
+    }
+done_causes command arguments usage old new told done (inr lost) =
+    let writes : new.faults.writes ≡ raised_where_failed done.failed done.before_console.writes = ap (λ (f : Faults). f.writes) done.closed in
+    let stays = where_failed_stays done.before_console.writes done.failed in
+    let rose : Rose done.before_console.writes new.faults.writes = subst (λ (n : ℕ). Rose done.before_console.writes n) (sym writes) (rose_where_some done.before_console.writes done.failed (inl lost.1)) in
+    record {
+      read = λ e. absurd (let no : Failed faults.Write ≡ Failed faults.Read = sym lost.0 ∙ e in cc);
+      write = λ _. rose_within old.faults.writes done.before_console.writes new.faults.writes new.faults.writes done.counts.writes.stays (omega (arith, writes, stays)) (omega arith) rose;
+      opening = λ e. absurd (let no : Failed faults.Write ≡ Failed faults.Open = sym lost.0 ∙ e in cc);
+    }
+
+console_causes : (command : Command) (usage : List ℕ) (words : List (List ℕ)) (old new : Told) (told : Came) → HasConsole command usage words old new told → ToldCauses told old.faults new.faults
+console_causes command usage words old new told ran =
+    let done : (arguments : command.Arguments) → command.IsForm arguments words → ToldCauses told old.faults new.faults =
+    λ arguments form. let it = ran.form arguments form in done_causes command arguments usage old new told it (told_is usage it.came told it.failed _ it.shows) in
+    let formed : (fault : Fault) → told ≡ Failed fault → ((arguments : command.Arguments) → command.IsForm arguments words → ⊥) → ⊥ =
+    λ fault e none. let no : Usage ≡ Failed fault = sym (ran.no_form none).is_usage ∙ e in cc in
+    record {
+      read = λ e. rose_indeed old.faults.reads new.faults.reads (λ none. formed faults.Read e (λ arguments form. none ((done arguments form).read e)));
+      write = λ e. rose_indeed old.faults.writes new.faults.writes (λ none. formed faults.Write e (λ arguments form. none ((done arguments form).write e)));
+      opening = λ e. rose_indeed old.faults.openings new.faults.openings (λ none. formed faults.Open e (λ arguments form. none ((done arguments form).opening e)));
+    }
+
+unopened_none : (told : Came) (fault : Fault) → (told ≡ Failed faults.Open) ⊎ (told ≡ Failed faults.NoMemory) → told ≡ Failed fault → (fault ≡ faults.Open → ⊥) → (fault ≡ faults.NoMemory → ⊥) → ⊥
+unopened_none told fault (inl is) e no_open no_memory = no_open (let same : Failed fault ≡ Failed faults.Open = sym e ∙ is in cc)
+unopened_none told fault (inr is) e no_open no_memory = no_memory (let same : Failed fault ≡ Failed faults.NoMemory = sym e ∙ is in cc)
+
+told_causes : (command : Command) (usage : List ℕ) (words : List (List ℕ)) (old new : Told) (told : Came) → Runs command usage words old new told → ToldCauses told old.faults new.faults
+told_causes command usage words old new told (inl none) = record {
+  read = λ e. absurd (unopened_none told faults.Read none.fault e (λ no. cc) (λ no. cc));
+  write = λ e. absurd (unopened_none told faults.Write none.fault e (λ no. cc) (λ no. cc));
+  opening = λ e. none.counts.openings.rose e;
+}
+told_causes command usage words old new told (inr ran) = console_causes command usage words old new told ran
+
+-- ---- both
+
+-- the status of what a run came to is that of a fault only where its count rose
+pub status_causes : (command : Command) (usage : List ℕ) (words : List (List ℕ)) (old new : Told) (told : Came) → HasOwnStatus told → Runs command usage words old new told → HasStatusCauses (status_of told) old.faults new.faults
+status_causes command usage words old new told own runs =
+    let causes = told_causes command usage words old new told runs in
+    record {
+      read = λ e. causes.read (fault_told told faults.Read own e);
+      write = λ e. causes.write (fault_told told faults.Write own e);
+      opening = λ e. causes.opening (fault_told told faults.Open own e);
+    }
+
+-- and where no count can rise no such status comes
+pub never_failed : (status : ℕ) → HasStatusCauses status no_faults no_faults → IsUnfailed status
+never_failed status causes =
+    (λ e. not_rose 0 0 refl (omega arith) (causes.read e), λ e. not_rose 0 0 refl (omega arith) (causes.write e), λ e. not_rose 0 0 refl (omega arith) (causes.opening e))
