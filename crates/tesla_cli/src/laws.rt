@@ -13,6 +13,8 @@ ghost use Rattle.tesla_run_replay.specs.Arguments.{IsReplay, ReplayArguments};
 ghost use Rattle.tesla_run_replay.specs.Replay.{replay};
 ghost use Rattle.tesla_run_send.specs.Arguments.{IsSend, SendArguments};
 ghost use Rattle.tesla_run_send.specs.Send.{send};
+ghost use Rattle.tesla_run_stress.specs.Arguments.{IsStress, StressArguments};
+ghost use Rattle.tesla_run_stress.specs.Stress.{stress};
 
 /// Words that are a form of some command are run as that command: the first word of each form names it.
 pub fn forms_are_named()
@@ -20,4 +22,5 @@ pub fn forms_are_named()
     ensures chains { (arguments : ChainArguments) (words : List (List ℕ)) (old new : Told) (came : Came) → IsChain arguments words → RunsAs (command_of words) words old new came → Performs chain arguments old new came }
     ensures sends { (arguments : SendArguments) (words : List (List ℕ)) (old new : Told) (came : Came) → IsSend arguments words → RunsAs (command_of words) words old new came → Performs send arguments old new came }
     ensures lags { (arguments : LagArguments) (words : List (List ℕ)) (old new : Told) (came : Came) → IsLag arguments words → RunsAs (command_of words) words old new came → Performs lag arguments old new came }
+    ensures stresses { (arguments : StressArguments) (words : List (List ℕ)) (old new : Told) (came : Came) → IsStress arguments words → RunsAs (command_of words) words old new came → Performs stress arguments old new came }
 {}
