@@ -11,6 +11,8 @@ use Rattle.tesla_run_replay.specs.Replay.{replay}
 use Rattle.tesla_run_replay.specs.Usage as replays
 use Rattle.tesla_run_send.specs.Send.{send}
 use Rattle.tesla_run_send.specs.Usage as sends
+use Rattle.tesla_run_stress.specs.Stress.{stress}
+use Rattle.tesla_run_stress.specs.Usage as stresses
 
 -- the command where the word is this one, and else another
 abbrev pub where_named : Bool → Command → Command → Command
@@ -24,8 +26,9 @@ command_named word =
     where_named (bytes_eq word (codes "chain")) chain (
     where_named (bytes_eq word (codes "chain2")) chain (
     where_named (bytes_eq word (codes "send")) send (
-    where_named (bytes_eq word (codes "lag")) lag
-    no_command))))
+    where_named (bytes_eq word (codes "lag")) lag (
+    where_named (bytes_eq word (codes "stress")) stress
+    no_command)))))
 
 -- the command of these words: the first of them names it
 abbrev pub command_of : List (List ℕ) → Command
@@ -34,7 +37,7 @@ command_of (word ∷ words) = command_named word
 
 -- the words of each form, in the order in which they are told
 abbrev pub forms : List (List ℕ)
-forms = replays.usages ++ chains.usages ++ sends.usage ∷ lags.usage ∷ []
+forms = replays.usages ++ chains.usages ++ sends.usage ∷ lags.usage ∷ stresses.usage ∷ []
 
 -- the usage lines of all
 abbrev pub usage : List ℕ

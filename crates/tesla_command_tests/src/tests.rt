@@ -1,6 +1,7 @@
 //! Whole runs over a desk in memory that is set before: words go in; the status, the console and a file come out.
 
 mod files;
+mod loads;
 mod pages;
 mod replays;
 mod streams;
@@ -132,7 +133,12 @@ fn replays_that_fail(rt: HostRuntime) -> Result<(), Fail> {
 
 #[test]
 fn other_commands_that_fail(rt: HostRuntime) -> Result<(), Fail> {
-    for runs in [streams::sends(), streams::chains(), times::runs()] {
+    for runs in [
+        streams::sends(),
+        streams::chains(),
+        times::runs(),
+        loads::runs(),
+    ] {
         assert_eq!(rt; wrong_of(rt.alloc(), runs, WHOLE)?.as_str(), "");
     }
     Ok(())
