@@ -177,6 +177,16 @@ fn set_one(desk: &mut MemoryDesk, setting: &str) -> Result<(), Fail> {
     Ok(())
 }
 
+// Sets a desk so.
+fn set(desk: &mut MemoryDesk, settings: &str) -> Result<(), Fail> {
+    for setting in settings.split(',') {
+        if !setting.is_empty() {
+            set_one(desk, setting)?;
+        }
+    }
+    Ok(())
+}
+
 // A line that tells what an output or a post holds; a page that isn't there has a mark of its own.
 fn line_of(alloc: Global, desk: &MemoryDesk, name: &str) -> Result<String, Fail> {
     let held = held_by(alloc, desk, name)?;
@@ -188,9 +198,7 @@ fn line_of(alloc: Global, desk: &MemoryDesk, name: &str) -> Result<String, Fail>
 // What a case comes to.
 fn came_to<R: Threads + Wait + Sync>(rt: &R, alloc: Global, it: &Case) -> Result<String, Fail> {
     let mut desk = new_desk(alloc, it.run.clock)?;
-    if !it.set.is_empty() {
-        set_one(&mut desk, it.set)?;
-    }
+    set(&mut desk, it.set)?;
     let mut told = told_of(rt, alloc, it.run.words, &mut desk)?;
     for name in it.run.outs {
         told.push_str(line_of(alloc, &desk, name)?.as_str())?;

@@ -5,9 +5,7 @@ ghost use Rattle.std.specs.List.{list_all};
 ghost use Rattle.tesla_desk.specs.Links.{fits};
 
 mod flags;
-mod handing;
 mod paces;
-mod recordings;
 mod runs;
 
 use runs::Run;

@@ -14,8 +14,8 @@ pub struct Run {
 pub struct Case {
     pub name: &'static str,
     pub run: Run,
-    /// What fails: `unopened NUMBER` for the opening, of which that of the console is 0, `fails NUMBER NAME` for the call, or
-    /// `room NUMBER NAME` for how many bytes an output takes.
+    /// What fails, each behind a comma: `unopened NUMBER` for the opening, of which that of the console is 0, `fails NUMBER
+    /// NAME` for the call, or `room NUMBER NAME` for how many bytes an output takes.
     pub set: &'static str,
     /// The status, a space, the console, and a line for each output and post of what it holds, in hexadecimal, with a full stop
     /// behind each datagram of a post: `none` where an output doesn't exist, or a post sent nothing.
@@ -55,6 +55,13 @@ const PLAY_WAITS_FOR_ITS_TIME: Run = Run {
     words: "play one p",
     clock: &[1_000_000, 1_149_999, 1_150_000],
     outs: &["p"],
+};
+
+/// A quiet stands before each datagram. The opening of LINK is 1, and that of CAPTURE 2.
+const CAPTURE: Run = Run {
+    words: "capture few out",
+    clock: &[1, 258, u64::MAX],
+    outs: &["out"],
 };
 
 const CASES: &[Case] = &[
@@ -160,6 +167,45 @@ const CASES: &[Case] = &[
         run: PLAY_WAITS_FOR_ITS_TIME,
         set: "fails 0 p",
         told: "5 write fault\np none\n",
+    },
+    // The head; each arrival with its reading, its length and its bytes; and the take behind it.
+    Case {
+        name: "capture: nothing fails",
+        run: CAPTURE,
+        set: "",
+        told: "0 captured 3\nout 5443415001010000000000000001000261620201000000000000010200000201ffffffffffffffff000378797a02\n",
+    },
+    // What is gathered is written where the link fails.
+    Case {
+        name: "capture: the call of the link behind the second datagram",
+        run: CAPTURE,
+        set: "fails 4 few",
+        told: "4 read fault\nout 54434150010100000000000000010002616202010000000000000102000002\n",
+    },
+    Case {
+        name: "capture: that, and then a write",
+        run: CAPTURE,
+        set: "fails 4 few,room 21 out",
+        told: "4 read fault\nout 544341500101000000000000000100026162020100\n",
+    },
+    Case {
+        name: "capture: no room behind the head",
+        run: CAPTURE,
+        set: "room 7 out",
+        told: "5 write fault\nout 54434150010100\n",
+    },
+    Case {
+        name: "capture: no room for the head",
+        run: CAPTURE,
+        set: "room 3 out",
+        told: "5 write fault\nout 544341\n",
+    },
+    // What is gathered is written at each quiet.
+    Case {
+        name: "capture: the third write",
+        run: CAPTURE,
+        set: "fails 2 out",
+        told: "5 write fault\nout 54434150010100000000000000010002616202\n",
     },
 ];
 

@@ -46,6 +46,7 @@ const LINKS: &[(&str, &[&str])] = &[
     ("hi", &[DATA_1_0_HI]),
     ("yo", &[DATA_3_0_YO]),
     ("three", &["61", "6263", "64"]),
+    ("few", &["6162", "", "78797a"]),
 ];
 
 /// What the second clock reads.
