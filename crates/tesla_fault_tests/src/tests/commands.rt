@@ -75,12 +75,7 @@ const COMMANDS: &[Command] = &[
     Command {
         words: "lag ask reply key 10000",
         clock: &[],
-        calls: &[
-            ("ask", READ),
-            ("reply", READ),
-            ("key", READ),
-            ("-", WRITE),
-        ],
+        calls: &[("ask", READ), ("reply", READ), ("key", READ), ("-", WRITE)],
         outs: &[],
         counts: "openings 4, ask 3, reply 7, key 8, - 1",
     },
@@ -94,12 +89,7 @@ const COMMANDS: &[Command] = &[
     Command {
         words: "reply ask key 5020000 out",
         clock: &[],
-        calls: &[
-            ("ask", READ),
-            ("key", READ),
-            ("out", WRITE),
-            ("-", WRITE),
-        ],
+        calls: &[("ask", READ), ("key", READ), ("out", WRITE), ("-", WRITE)],
         outs: &["out"],
         counts: "openings 4, ask 3, key 8, out 6, - 2",
     },
@@ -127,12 +117,7 @@ const COMMANDS: &[Command] = &[
     Command {
         words: "play first p,q",
         clock: CLOCK,
-        calls: &[
-            ("first", READ),
-            ("p", WRITE),
-            ("q", WRITE),
-            ("-", WRITE),
-        ],
+        calls: &[("first", READ), ("p", WRITE), ("q", WRITE), ("-", WRITE)],
         outs: &["p", "q"],
         counts: "openings 4, first 19, p 2, q 2, - 1",
     },

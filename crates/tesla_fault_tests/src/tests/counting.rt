@@ -62,7 +62,12 @@ fn front_of_console(ordinary: &Ordinary, number: u64) -> &[u8] {
 
 // What has to be told where a call fails, of which this is told else: nothing where the console isn't opened, and behind what
 // it holds already where it fails.
-fn wanted_of(alloc: Global, ordinary: &Ordinary, call: Call<'_>, told: &str) -> Result<String, Fail> {
+fn wanted_of(
+    alloc: Global,
+    ordinary: &Ordinary,
+    call: Call<'_>,
+    told: &str,
+) -> Result<String, Fail> {
     if call.name.is_empty() && call.number == 0 {
         return Ok(String::from_str(alloc, "7 ")?);
     }
