@@ -1,7 +1,7 @@
 //! Whole runs over a desk in memory, of which one call fails: words go in; the status, the console, and what the outputs and
 //! posts hold come out.
 
-ghost use Rattle.std.specs.Prelude.{◌≡◌, true, IfOk};
+ghost use Rattle.std.specs.Prelude.{◌≡◌};
 ghost use Rattle.std.specs.List.{list_all};
 ghost use Rattle.tesla_desk.specs.Links.{fits};
 
@@ -26,21 +26,51 @@ use tesla_tools::{is_tool, run_tools};
 /// How many datagrams of a post are looked at, at most.
 const MOST_SENT: usize = 100;
 
-// The datagrams of these digits, with a quiet before each.
-fn letters_of(alloc: Global, datagrams: &[&str]) -> Result<Vec<Letter>, Fail>
-    ensures { IfOk result (λ it. list_all fits it.items ≡ true) }
+// Whether a letter has at most 2,048 bytes.
+fn does_fit(letter: &Letter) -> bool
+    ensures { result ≡ fits letter.now }
 {
+    match letter {
+        Letter::Datagram { bytes } => bytes.bytes().len() <= 2048,
+        Letter::Quiet => true,
+    }
+}
+
+// Whether all letters do.
+fn all_fit(letters: &[Letter]) -> bool
+    ensures { result ≡ list_all fits letters.now }
+{
+    letters.iter().all(|letter| does_fit(letter))
+}
+
+// Puts letters for a link.
+fn put_letters(desk: &mut MemoryDesk, link: &str, letters: &[Letter]) -> Result<(), Fail> {
+    if !all_fit(letters) {
+        return Err("too long".into());
+    }
+    Ok(desk.put_letters(link, letters)?)
+}
+
+// Adds a quiet, and then the datagram of these digits.
+fn add_datagram(alloc: Global, letters: &mut Vec<Letter>, digits: &str) -> Result<(), Fail> {
+    let datagram = hex::decode(alloc, digits.as_bytes())?;
+    let bytes = Text::new(alloc, datagram.as_slice())?;
+    letters.push(Letter::Quiet)?;
+    Ok(letters.push(Letter::Datagram { bytes })?)
+}
+
+// Puts what comes over a link: these datagrams, with a quiet before each.
+fn put_link(
+    alloc: Global,
+    desk: &mut MemoryDesk,
+    link: &str,
+    datagrams: &[&str],
+) -> Result<(), Fail> {
     let mut letters = Vec::new(alloc);
     for digits in datagrams {
-        let datagram = hex::decode(alloc, digits.as_bytes())?;
-        if 2048 < datagram.len() {
-            return Err("too long".into());
-        }
-        letters.push(Letter::Quiet)?;
-        let bytes = Text::new(alloc, datagram.as_slice())?;
-        letters.push(Letter::Datagram { bytes })?;
+        add_datagram(alloc, &mut letters, digits)?;
     }
-    Ok(letters)
+    put_letters(desk, link, letters.as_slice())
 }
 
 // Adds the bytes of these digits to a page.
@@ -67,8 +97,7 @@ fn new_desk(alloc: Global, clock: &[u64]) -> Result<MemoryDesk, Fail> {
     let mut desk = MemoryDesk::new(alloc, 10_000)?;
     put_pages(alloc, &mut desk)?;
     for (link, datagrams) in pages::links() {
-        let letters = letters_of(alloc, datagrams)?;
-        desk.put_letters(link, letters.as_slice())?;
+        put_link(alloc, &mut desk, link, datagrams)?;
     }
     desk.put_readings(0, clock)?;
     desk.put_readings(1, pages::SECOND_CLOCK)?;
