@@ -92,15 +92,20 @@ fn put_pages(alloc: Global, desk: &mut MemoryDesk) -> Result<(), Fail> {
     Ok(())
 }
 
+// Puts all links, and what clocks read.
+fn put_live(alloc: Global, desk: &mut MemoryDesk, clock: &[u64]) -> Result<(), Fail> {
+    for (link, datagrams) in pages::links() {
+        put_link(alloc, desk, link, datagrams)?;
+    }
+    desk.put_readings(0, clock)?;
+    Ok(desk.put_readings(1, pages::SECOND_CLOCK)?)
+}
+
 // A desk with pages, links and a first clock that reads this.
 fn new_desk(alloc: Global, clock: &[u64]) -> Result<MemoryDesk, Fail> {
     let mut desk = MemoryDesk::new(alloc, 10_000)?;
     put_pages(alloc, &mut desk)?;
-    for (link, datagrams) in pages::links() {
-        put_link(alloc, &mut desk, link, datagrams)?;
-    }
-    desk.put_readings(0, clock)?;
-    desk.put_readings(1, pages::SECOND_CLOCK)?;
+    put_live(alloc, &mut desk, clock)?;
     Ok(desk)
 }
 

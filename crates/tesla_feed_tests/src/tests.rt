@@ -29,16 +29,27 @@ const WRONG_SEEDS: &str =
 /// How many datagrams of a post are looked at, at most.
 const MOST: usize = 100;
 
+// Adds 1,200 of these.
+fn add_many(all: &mut String, one: &str) -> Result<(), Fail> {
+    for _ in 0..1200 {
+        all.push_str(one)?;
+    }
+    Ok(())
+}
+
+// Adds a part of a text, before which, unless it is the first, come 1,200 of these.
+fn add_part(all: &mut String, number: usize, part: &str, one: &str) -> Result<(), Fail> {
+    if 0 < number {
+        add_many(all, one)?;
+    }
+    Ok(all.push_str(part)?)
+}
+
 // A text with 1,200 of these for each `*`.
 fn expanded(alloc: Global, text: &str, one: &str) -> Result<String, Fail> {
     let mut all = String::new(alloc);
     for (number, part) in text.split('*').enumerate() {
-        if 0 < number {
-            for _ in 0..1200 {
-                all.push_str(one)?;
-            }
-        }
-        all.push_str(part)?;
+        add_part(&mut all, number, part, one)?;
     }
     Ok(all)
 }
@@ -89,12 +100,17 @@ fn put_link(alloc: Global, desk: &mut MemoryDesk, link: &str) -> Result<(), Fail
     put_letters(desk, "in", letters.as_slice())
 }
 
+// Adds the reading that a word spells.
+fn add_reading(readings: &mut Vec<u64>, word: &str) -> Result<(), Fail> {
+    let reading: u64 = word.parse()?;
+    Ok(readings.push(reading)?)
+}
+
 // Puts what the first clock reads.
 fn put_clock(alloc: Global, desk: &mut MemoryDesk, clock: &str) -> Result<(), Fail> {
     let mut readings = Vec::new(alloc);
-    for reading in clock.split(' ') {
-        let reading: u64 = reading.parse()?;
-        readings.push(reading)?;
+    for word in clock.split(' ') {
+        add_reading(&mut readings, word)?;
     }
     Ok(desk.put_readings(0, readings.as_slice())?)
 }
