@@ -1,5 +1,5 @@
-//! Tests of whole runs of the commands over a desk in memory: files that fail in mid-stream, small rooms, calls that move
-//! few bytes, and openings that fail.
+//! Tests of whole runs of the commands over a desk in memory: small rooms, calls that move few bytes, and a second failure
+//! behind a first.
 #![tactic(auto)]
 
 #[cfg(test)]

@@ -1,7 +1,7 @@
 //! Whole runs over a desk in memory: words, letters and readings go in; the status, the console and the datagrams of the
 //! posts come out.
 
-ghost use Rattle.std.specs.Prelude.{◌≡◌, true, IfOk};
+ghost use Rattle.std.specs.Prelude.{◌≡◌};
 ghost use Rattle.std.specs.List.{list_all};
 ghost use Rattle.tesla_desk.specs.Links.{fits};
 
@@ -29,55 +29,88 @@ const WRONG_SEEDS: &str =
 /// How many datagrams of a post are looked at, at most.
 const MOST: usize = 100;
 
+// Adds 1,200 of these.
+fn add_many(all: &mut String, one: &str) -> Result<(), Fail> {
+    for _ in 0..1200 {
+        all.push_str(one)?;
+    }
+    Ok(())
+}
+
+// Adds a part of a text, before which, unless it is the first, come 1,200 of these.
+fn add_part(all: &mut String, number: usize, part: &str, one: &str) -> Result<(), Fail> {
+    if 0 < number {
+        add_many(all, one)?;
+    }
+    Ok(all.push_str(part)?)
+}
+
 // A text with 1,200 of these for each `*`.
 fn expanded(alloc: Global, text: &str, one: &str) -> Result<String, Fail> {
     let mut all = String::new(alloc);
     for (number, part) in text.split('*').enumerate() {
-        if 0 < number {
-            for _ in 0..1200 {
-                all.push_str(one)?;
-            }
-        }
-        all.push_str(part)?;
+        add_part(&mut all, number, part, one)?;
     }
     Ok(all)
 }
 
-// The letters of a link.
-fn letters_of(alloc: Global, link: &str) -> Result<Vec<Letter>, Fail>
-    ensures { IfOk result (λ it. list_all fits it.items ≡ true) }
+// Whether a letter has at most 2,048 bytes.
+fn does_fit(letter: &Letter) -> bool
+    ensures { result ≡ fits letter.now }
 {
-    let mut letters = Vec::new(alloc);
-    for word in link.split(' ') {
-        if word == "." {
-            letters.push(Letter::Quiet)?;
-            continue;
-        }
-        let datagram = expanded(alloc, if word == "_" { "" } else { word }, "x")?;
-        if 2048 < datagram.len() {
-            return Err("too long".into());
-        }
-        let bytes = Text::new(alloc, datagram.as_bytes())?;
-        letters.push(Letter::Datagram { bytes })?;
+    match letter {
+        Letter::Datagram { bytes } => bytes.bytes().len() <= 2048,
+        Letter::Quiet => true,
     }
-    Ok(letters)
+}
+
+// Whether all letters do.
+fn all_fit(letters: &[Letter]) -> bool
+    ensures { result ≡ list_all fits letters.now }
+{
+    letters.iter().all(|letter| does_fit(letter))
+}
+
+// Puts letters for a link.
+fn put_letters(desk: &mut MemoryDesk, link: &str, letters: &[Letter]) -> Result<(), Fail> {
+    if !all_fit(letters) {
+        return Err("too long".into());
+    }
+    Ok(desk.put_letters(link, letters)?)
+}
+
+// Adds the letter of a word.
+fn add_letter(alloc: Global, letters: &mut Vec<Letter>, word: &str) -> Result<(), Fail> {
+    if word == "." {
+        return Ok(letters.push(Letter::Quiet)?);
+    }
+    let datagram = expanded(alloc, if word == "_" { "" } else { word }, "x")?;
+    let bytes = Text::new(alloc, datagram.as_bytes())?;
+    Ok(letters.push(Letter::Datagram { bytes })?)
 }
 
 // Puts what the link `in` brings.
 fn put_link(alloc: Global, desk: &mut MemoryDesk, link: &str) -> Result<(), Fail> {
-    if link.is_empty() {
-        return Ok(desk.put_letters("in", &[])?);
+    let mut letters = Vec::new(alloc);
+    if !link.is_empty() {
+        for word in link.split(' ') {
+            add_letter(alloc, &mut letters, word)?;
+        }
     }
-    let letters = letters_of(alloc, link)?;
-    Ok(desk.put_letters("in", letters.as_slice())?)
+    put_letters(desk, "in", letters.as_slice())
+}
+
+// Adds the reading that a word spells.
+fn add_reading(readings: &mut Vec<u64>, word: &str) -> Result<(), Fail> {
+    let reading: u64 = word.parse()?;
+    Ok(readings.push(reading)?)
 }
 
 // Puts what the first clock reads.
 fn put_clock(alloc: Global, desk: &mut MemoryDesk, clock: &str) -> Result<(), Fail> {
     let mut readings = Vec::new(alloc);
-    for reading in clock.split(' ') {
-        let reading: u64 = reading.parse()?;
-        readings.push(reading)?;
+    for word in clock.split(' ') {
+        add_reading(&mut readings, word)?;
     }
     Ok(desk.put_readings(0, readings.as_slice())?)
 }

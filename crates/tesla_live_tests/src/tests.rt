@@ -1,13 +1,11 @@
 //! Whole runs over a desk in memory: words go in; the status, the console and the pages of the sinks come out.
 
-ghost use Rattle.std.specs.Prelude.{◌≡◌, true, IfOk};
+ghost use Rattle.std.specs.Prelude.{◌≡◌};
 ghost use Rattle.std.specs.List.{list_all};
 ghost use Rattle.tesla_desk.specs.Links.{fits};
 
 mod flags;
-mod handing;
 mod paces;
-mod recordings;
 mod runs;
 
 use runs::Run;
@@ -31,31 +29,57 @@ const LINKS: [(&str, &[&str]); 4] = [
 /// The readings of the first clock, of which that of interval 1 comes first, and those of the second.
 const CLOCKS: [&[u64]; 2] = [&[1_150_000, 1_350_000], &[1_350_000]];
 
-/// The record of "hi".
-const RELEASED: &str = "00000000000000000000000100000000026869";
-
-// The frames, with a quiet before each.
-fn letters_of(alloc: Global, frames: &[&str]) -> Result<Vec<Letter>, Fail>
-    ensures { IfOk result (λ it. list_all fits it.items ≡ true) }
+// Whether a letter has at most 2,048 bytes.
+fn does_fit(letter: &Letter) -> bool
+    ensures { result ≡ fits letter.now }
 {
-    let mut letters = Vec::new(alloc);
-    for digits in frames {
-        let frame = hex::decode(alloc, digits.as_bytes())?;
-        if 2048 < frame.len() {
-            return Err("too long".into());
-        }
-        letters.push(Letter::Quiet)?;
-        let bytes = Text::new(alloc, frame.as_slice())?;
-        letters.push(Letter::Datagram { bytes })?;
+    match letter {
+        Letter::Datagram { bytes } => bytes.bytes().len() <= 2048,
+        Letter::Quiet => true,
     }
-    Ok(letters)
+}
+
+// Whether all letters do.
+fn all_fit(letters: &[Letter]) -> bool
+    ensures { result ≡ list_all fits letters.now }
+{
+    letters.iter().all(|letter| does_fit(letter))
+}
+
+// Puts letters for a link.
+fn put_letters(desk: &mut MemoryDesk, link: &str, letters: &[Letter]) -> Result<(), Fail> {
+    if !all_fit(letters) {
+        return Err("too long".into());
+    }
+    Ok(desk.put_letters(link, letters)?)
+}
+
+// Adds a quiet, and then the datagram of these digits.
+fn add_datagram(alloc: Global, letters: &mut Vec<Letter>, digits: &str) -> Result<(), Fail> {
+    let datagram = hex::decode(alloc, digits.as_bytes())?;
+    let bytes = Text::new(alloc, datagram.as_slice())?;
+    letters.push(Letter::Quiet)?;
+    Ok(letters.push(Letter::Datagram { bytes })?)
+}
+
+// Puts what comes over a link: these datagrams, with a quiet before each.
+fn put_link(
+    alloc: Global,
+    desk: &mut MemoryDesk,
+    link: &str,
+    datagrams: &[&str],
+) -> Result<(), Fail> {
+    let mut letters = Vec::new(alloc);
+    for digits in datagrams {
+        add_datagram(alloc, &mut letters, digits)?;
+    }
+    put_letters(desk, link, letters.as_slice())
 }
 
 // Puts what comes over each link that the words can name, and what the clocks read.
 fn put_links(alloc: Global, desk: &mut MemoryDesk) -> Result<(), Fail> {
     for (name, frames) in LINKS {
-        let letters = letters_of(alloc, frames)?;
-        desk.put_letters(name, letters.as_slice())?;
+        put_link(alloc, desk, name, frames)?;
     }
     for (clock, list) in CLOCKS.iter().enumerate() {
         desk.put_readings(clock as u64, list)?;
@@ -120,11 +144,8 @@ fn came_to<R: Threads + Wait + Sync>(rt: &R, alloc: Global, it: &Run) -> Result<
             set_one(&mut desk, setting)?;
         }
     }
-    let words = words_of(alloc, it.words)?;
-    let status = status_of(rt, alloc, words.as_slice(), &mut desk);
-    let mut told = told_of(alloc, status, &desk)?;
-    let held = hex::encode(alloc, desk.page("out").unwrap_or(b""))?;
-    told.push_str(held.as_str())?;
+    let mut told = came_over(rt, alloc, it.words, &mut desk)?;
+    told.push_str(hex::encode(alloc, desk.page("out").unwrap_or(b""))?.as_str())?;
     Ok(told)
 }
 
@@ -159,22 +180,42 @@ fn words_of_no_form(rt: HostRuntime) -> Result<(), Fail> {
     Ok(())
 }
 
-// Where the arrival of "hi" comes first it is released; else chain 0's key is known before, and nothing is.
+// What a run of these words comes to over a desk.
+fn came_over<R: Threads + Wait + Sync>(
+    rt: &R,
+    alloc: Global,
+    line: &str,
+    desk: &mut MemoryDesk,
+) -> Result<String, Fail> {
+    let words = words_of(alloc, line)?;
+    let status = status_of(rt, alloc, words.as_slice(), desk);
+    told_of(alloc, status, desk)
+}
+
+// Adds a line of what a sink holds.
+fn add_held(alloc: Global, desk: &MemoryDesk, sink: &str, told: &mut String) -> Result<(), Fail> {
+    told.push_str(hex::encode(alloc, desk.page(sink).unwrap_or(b"none"))?.as_str())?;
+    Ok(told.push_str("\n")?)
+}
+
+// What a run with two links and two sinks comes to, with a line for each sink.
+fn two_and_two<R: Threads + Wait + Sync>(rt: &R, alloc: Global) -> Result<String, Fail> {
+    let mut desk = new_desk(alloc)?;
+    let mut told = came_over(rt, alloc, runs::TWO_AND_TWO, &mut desk)?;
+    add_held(alloc, &desk, "out", &mut told)?;
+    add_held(alloc, &desk, "other", &mut told)?;
+    Ok(told)
+}
+
+// Where the arrival of "hi" comes first it is released, to either sink; else chain 0's key is known before, and nothing is.
+fn is_kept_or_given(told: &str) -> bool {
+    told == runs::KEPT || told == runs::GIVEN_TO_ONE || told == runs::GIVEN_TO_OTHER
+}
+
 #[test]
 fn two_links_and_two_sinks(rt: HostRuntime) -> Result<(), Fail> {
-    let mut desk = new_desk(rt.alloc())?;
-    let words = words_of(rt.alloc(), "receive setup 30000 16 hi,yo out,other")?;
-    let status = status_of(&rt, rt.alloc(), words.as_slice(), &mut desk);
-    let told = told_of(rt.alloc(), status, &desk)?;
-    let released = told.as_str() == runs::BOTH_KEPT_ONE_GIVEN;
-    assert!(rt; released || told.as_str() == runs::BOTH_KEPT, "{told}");
-    let record = hex::decode(rt.alloc(), RELEASED.as_bytes())?;
-    let want: &[u8] = if released { record.as_slice() } else { b"" };
-    let (one, other) = (
-        desk.page("out").ok_or("out")?,
-        desk.page("other").ok_or("other")?,
-    );
-    assert!(rt; (one == want && other.is_empty()) || (one.is_empty() && other == want));
+    let told = two_and_two(&rt, rt.alloc())?;
+    assert!(rt; is_kept_or_given(told.as_str()), "{told}");
     Ok(())
 }
 
@@ -190,22 +231,50 @@ fn names_of(alloc: Global, letter: &str, count: usize) -> Result<String, Fail> {
     Ok(names)
 }
 
-#[test]
-fn thirty_two_links_and_sinks(rt: HostRuntime) -> Result<(), Fail> {
-    let (links, sinks) = (
-        names_of(rt.alloc(), "link", 32)?,
-        names_of(rt.alloc(), "sink", 32)?,
-    );
-    let mut desk = new_desk(rt.alloc())?;
-    for link in links.as_str().split(',') {
+// Puts links that bring nothing.
+fn put_silent(desk: &mut MemoryDesk, links: &str) -> Result<(), Fail> {
+    for link in links.split(',') {
         desk.put_letters(link, &[])?;
     }
-    let line = format!(in rt.alloc(); "receive setup 0 65536 {links} {sinks}")?;
-    let words = words_of(rt.alloc(), line.as_str())?;
-    let status = status_of(&rt, rt.alloc(), words.as_slice(), &mut desk);
-    assert_eq!(rt; told_of(rt.alloc(), status, &desk)?.as_str(), runs::NOTHING);
-    for sink in sinks.as_str().split(',') {
-        assert_eq!(rt; desk.page(sink), Some(b"".as_slice()));
+    Ok(())
+}
+
+// Whether all sinks are there and hold nothing.
+fn are_empty(desk: &MemoryDesk, sinks: &str) -> bool {
+    for sink in sinks.split(',') {
+        if desk.page(sink) != Some(b"".as_slice()) {
+            return false;
+        }
     }
+    true
+}
+
+// What a run with these links, which bring nothing, and these sinks comes to.
+fn many_of<R: Threads + Wait + Sync>(
+    rt: &R,
+    alloc: Global,
+    links: &str,
+    sinks: &str,
+) -> Result<String, Fail> {
+    let mut desk = new_desk(alloc)?;
+    put_silent(&mut desk, links)?;
+    let line = format!(in alloc; "receive setup 0 65536 {links} {sinks}")?;
+    let mut told = came_over(rt, alloc, line.as_str(), &mut desk)?;
+    if !are_empty(&desk, sinks) {
+        told.push_str("with a sink that isn't empty")?;
+    }
+    Ok(told)
+}
+
+// The same with so many of each.
+fn many<R: Threads + Wait + Sync>(rt: &R, alloc: Global, count: usize) -> Result<String, Fail> {
+    let links = names_of(alloc, "link", count)?;
+    let sinks = names_of(alloc, "sink", count)?;
+    many_of(rt, alloc, links.as_str(), sinks.as_str())
+}
+
+#[test]
+fn thirty_two_links_and_sinks(rt: HostRuntime) -> Result<(), Fail> {
+    assert_eq!(rt; many(&rt, rt.alloc(), 32)?.as_str(), runs::NOTHING);
     Ok(())
 }

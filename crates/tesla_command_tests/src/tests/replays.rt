@@ -98,30 +98,9 @@ const EXAMPLES: &[Run] = &[
 
 const READS: &[Run] = &[
     Run {
-        name: "first read of SETUP",
-        words: FIRST,
-        set: "fails 0 setup",
-        told: "4 read fault\n",
-        held: BEFORE,
-    },
-    Run {
-        name: "second read of SETUP",
-        words: FIRST,
-        set: "piece 100 setup,fails 1 setup",
-        told: "4 read fault\n",
-        held: BEFORE,
-    },
-    Run {
         name: "first read of CAPTURE",
         words: FIRST,
         set: "fails 0 first",
-        told: "4 read fault\n",
-        held: NOTHING,
-    },
-    Run {
-        name: "read behind the first record",
-        words: FIRST,
-        set: "piece 75 first,fails 1 first",
         told: "4 read fault\n",
         held: NOTHING,
     },
@@ -150,27 +129,6 @@ const READS: &[Run] = &[
 
 const WRITES: &[Run] = &[
     Run {
-        name: "first write of OUT",
-        words: FIRST,
-        set: "fails 0 out",
-        told: "5 write fault\n",
-        held: NOTHING,
-    },
-    Run {
-        name: "second write of OUT",
-        words: FIRST,
-        set: "piece 7 out,fails 1 out",
-        told: "5 write fault\n",
-        held: ("released", 7),
-    },
-    Run {
-        name: "no room for OUT",
-        words: FIRST,
-        set: "room 0 out",
-        told: "5 write fault\n",
-        held: NOTHING,
-    },
-    Run {
         name: "room for ten bytes of OUT",
         words: FIRST,
         set: "room 10 out",
@@ -183,34 +141,6 @@ const WRITES: &[Run] = &[
         set: "room 10 out",
         told: "5 write fault\n",
         held: ("released", 10),
-    },
-    Run {
-        name: "opening of SETUP, which would be refused",
-        words: "replay falling 30000 16 first out",
-        set: "unopened 1",
-        told: "7 open fault\n",
-        held: BEFORE,
-    },
-    Run {
-        name: "opening of CAPTURE",
-        words: FIRST,
-        set: "unopened 2",
-        told: "7 open fault\n",
-        held: BEFORE,
-    },
-    Run {
-        name: "opening of OUT",
-        words: FIRST,
-        set: "unopened 3",
-        told: "7 open fault\n",
-        held: BEFORE,
-    },
-    Run {
-        name: "an opening that isn't asked for",
-        words: FIRST,
-        set: "unopened 4",
-        told: FIRST_REPORT,
-        held: RELEASED,
     },
 ];
 

@@ -69,13 +69,6 @@ const SENDS: &[Run] = &[
         told: "3 refused script 18 Backward\n",
         held: ("yo-sent", WHOLE),
     },
-    Run {
-        name: "no console",
-        words: "send setup secret script out",
-        set: "unopened 0",
-        told: "7 ",
-        held: BEFORE,
-    },
 ];
 
 const CHAIN: &str = "chain out secret 00000000000000a7 1000000 100000 8 2 5";
@@ -87,27 +80,6 @@ const CHAINS: &[Run] = &[
         set: "room 10 out",
         told: "5 write fault\n",
         held: ("setup", 10),
-    },
-    Run {
-        name: "opening of the output of chain",
-        words: CHAIN,
-        set: "unopened 2",
-        told: "7 open fault\n",
-        held: BEFORE,
-    },
-    Run {
-        name: "second read of the seeds fails",
-        words: CHAIN,
-        set: "piece 7 secret,fails 1 secret",
-        told: "4 read fault\n",
-        held: BEFORE,
-    },
-    Run {
-        name: "second write of the setup fails",
-        words: CHAIN,
-        set: "piece 7 out,fails 1 out",
-        told: "5 write fault\n",
-        held: ("setup", 7),
     },
     Run {
         name: "all moves seven bytes a call",

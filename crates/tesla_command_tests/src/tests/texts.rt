@@ -1,4 +1,4 @@
-//! The lines of faults and of the longest refusal and count, which no run over a desk in memory comes to.
+//! The lines of want of memory and of the longest refusal and count, which no run over a desk in memory comes to.
 
 use std::alloc::Global;
 use std::test::Fail;
@@ -28,28 +28,12 @@ fn fault_of(alloc: Global, fault: Fault) -> Result<String, Fail> {
     told_of(alloc, outcome_of(Err(Stop::from(fault))))
 }
 
-/// The faults, and what is told of each.
-const FAULTS: &[(Fault, &str)] = &[
-    (Fault::Read, "4 read fault\n"),
-    (Fault::Write, "5 write fault\n"),
-];
-
 #[test]
-fn faults(rt: HostRuntime) -> Result<(), Fail> {
-    for (fault, want) in FAULTS {
-        assert_eq!(rt; fault_of(rt.alloc(), *fault)?.as_str(), *want);
-    }
-    Ok(())
-}
-
-#[test]
-fn faults_of_other_errors(rt: HostRuntime) -> Result<(), Fail> {
+fn want_of_memory(rt: HostRuntime) -> Result<(), Fail> {
     let fault = fault_of(rt.alloc(), Fault::from(NoMemory))?;
     assert_eq!(rt; fault.as_str(), "6 no memory\n");
     let fault = fault_of(rt.alloc(), Fault::from(OpenRefusal::NoMemory))?;
     assert_eq!(rt; fault.as_str(), "6 no memory\n");
-    let fault = fault_of(rt.alloc(), Fault::from(OpenRefusal::Failed))?;
-    assert_eq!(rt; fault.as_str(), "7 open fault\n");
     Ok(())
 }
 

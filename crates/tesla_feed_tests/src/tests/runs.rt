@@ -230,24 +230,6 @@ const POSTS: &[Run] = &[
         two: &[DATA_1_0_HI, KEYS_0_1],
     },
     Run {
-        name: "a post fails behind the end of the link",
-        words: TWO,
-        link: PAUSE,
-        clock: PAUSE_CLOCK,
-        set: "fails 7 one",
-        told: "5 write fault\n",
-        one: &[
-            DATA_1_0_HI,
-            KEYS_0_1,
-            KEYS_0_2,
-            DATA_4_0_YO,
-            KEYS_0_3,
-            KEYS_0_4_AND_1_1,
-            KEYS_0_5_AND_1_2,
-        ],
-        two: PAUSED,
-    },
-    Run {
         name: "32 posts",
         words: "feed setup secret in two,a,b,c,d,e,f,g,h,i,j,k,l,m,n,o,p,q,r,s,t,u,v,w,x,y,z,A,B,C,D,one",
         link: PAUSE,
@@ -310,16 +292,6 @@ const LINKS: &[Run] = &[
         one: BROKEN,
         two: &[DATA_1_0_HI],
     },
-    Run {
-        name: "a link fails at once",
-        words: TWO,
-        link: "hi yo",
-        clock: BROKEN_CLOCK,
-        set: "fails 0 in",
-        told: "4 read fault\n",
-        one: &[],
-        two: &[],
-    },
 ];
 
 /// What a run that feeds nothing comes to: its words, what is set of the desk, and the status, a space and the console.
@@ -327,14 +299,12 @@ pub type Refusal = (&'static str, &'static str, &'static str);
 
 const REFUSALS: &[Refusal] = &[
     ("feed none secret in one,two", "", "7 open fault\n"),
-    (TWO, "fails 0 setup", "4 read fault\n"),
     (
         "feed empty secret in one,two",
         "",
         "2 refused setup 1 BadLine\n",
     ),
     ("feed setup none in one,two", "", "7 open fault\n"),
-    (TWO, "fails 0 secret", "4 read fault\n"),
     (
         "feed setup empty in one,two",
         "",
@@ -346,13 +316,9 @@ const REFUSALS: &[Refusal] = &[
         "3 refused seeds 3 WrongSeed\n",
     ),
     ("feed setup secret none one,two", "", "7 open fault\n"),
-    (TWO, "unopened 3", "7 open fault\n"),
-    (TWO, "unopened 4", "7 open fault\n"),
-    (TWO, "unopened 5", "7 open fault\n"),
     // No memory has so much room.
     (TWO, "room 18446744073709551615 one", "6 no memory\n"),
     (TWO, "room 18446744073709551615 two", "6 no memory\n"),
-    (TWO, "unopened 0", "7 "),
 ];
 
 /// What is told of words that are no form.
@@ -372,6 +338,12 @@ pub const NO_FORMS: &[&str] = &[
     "feed setup secret  one",
     "feeds setup secret in one",
     "feed setup secret in two,a,b,c,d,e,f,g,h,i,j,k,l,m,n,o,p,q,r,s,t,u,v,w,x,y,z,A,B,C,D,E,one",
+    "capture in",
+    "capture in out more",
+    "captures in out",
+    "capture - out",
+    "capture in -",
+    "capture  out",
     "",
 ];
 
