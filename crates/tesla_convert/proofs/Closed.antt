@@ -1,5 +1,5 @@
 -- An input that was converted into an output, from what was so while both were open.
-use Rattle.std.proofs.Common.{◌≡◌, ◌∙◌, ◌≢◌, ◌⊎◌, inl, inr, ◌<◌, ℕ, Option, Some, None, IfSome, List, [], ◌∷◌, refl, sym, ap, subst, arith}
+use Rattle.std.proofs.Common.{◌≡◌, ◌∙◌, ◌≢◌, ◌⊎◌, inl, inr, ◌<◌, ℕ, Option, Some, None, List, [], ◌∷◌, refl, sym, ap, subst, arith}
 use Rattle.std.proofs.lemmas.Bool.Decides.{nat_tests}
 use Rattle.tesla_desk.specs.Faults.{HasCause, HasCauseBeside, after_source}
 use Rattle.tesla_desk.specs.Outside.{Page, Untold, Absent, Holds, Told, Opened, OfSource, OfSink, page_of}
@@ -10,7 +10,7 @@ use Rattle.tesla_front.specs.Files.{HoldsWhere, HasFailed}
 use Rattle.tesla_front.specs.Openings.{AnyFailed, Opens}
 use Rattle.tesla_front.specs.declared.fault.Fault.{Fault}
 use Rattle.tesla_front.specs.declared.fault.Fault.TheVariants as faults
-use Rattle.tesla_front.proofs.Openings.{not_first_read}
+use Rattle.tesla_front.proofs.Openings.{not_first_read, unwritten_page}
 use Rattle.tesla_convert.specs.Files.{ClosesBoth, ConvertsFiles, OpensBoth, OpensNotBoth}
 use Rattle.tesla_convert.specs.Meaning.{ComesToEnd, Converts, ConvertsBetween, EndsBetween, Meaning, StopsBetween, StopsReading}
 
@@ -49,10 +49,6 @@ stops_page meaning input before left written count opened stops = record {
       (read, rest, left_is, parts, none, holds_page written count (λ done told. some_or_failed written count (text done told)));
 }
 
-nothing_told : (written : Option (List ℕ)) (done : List ℕ) → IfSome written (λ bytes. bytes ≡ []) → written ≡ Some done → done ≡ []
-nothing_told None done empty told = absurd cc
-nothing_told (Some bytes) done empty told = let same : bytes ≡ done = cc in sym same ∙ empty
-
 -- what was so between the open source and sink is so of the pages
 pub converts_pages : (meaning : Meaning) (input old : Page) (before left written : Option (List ℕ)) (count : ℕ) (came : Came) → Opened input before → ConvertsBetween meaning before left written count came → Converts meaning input left old (page_of written count) came
 converts_pages meaning input old before left written count (Done lines) opened between = ends_page meaning input before written count (Done lines) opened between
@@ -67,7 +63,7 @@ converts_pages meaning input old before left written count (Failed faults.Read) 
 converts_pages meaning input old before left written count (Failed faults.NoMemory) opened between = inr (record {
   there = opened_there input before opened;
   unread = λ bytes failed is. between.0 ∙ opened_holds input before bytes failed is opened;
-  nothing = holds_page written count (λ done told. nothing_told written done between.1 told);
+  nothing = unwritten_page written count between.1 between.2;
 })
 converts_pages meaning input old before left written count (Failed faults.Open) opened between = absurd between
 

@@ -2,7 +2,7 @@
 use Rattle.std.specs.Prelude.{◌≡◌, ◌≢◌, ◌⊎◌, ℕ, ◌<◌, ◌≤◌, Option, Some, IfSome, List, [], ◌++◌}
 use Rattle.tesla_desk.specs.Outside.{Page, Absent, Holds}
 use Rattle.tesla_front.specs.Came.{Came, Done, Refused, Failed}
-use Rattle.tesla_front.specs.Files.{HoldsWhere, HasFailed, IsPrefix}
+use Rattle.tesla_front.specs.Files.{HoldsWhere, HasFailed, IsPrefix, IsUnwritten}
 use Rattle.tesla_front.specs.Openings.{File}
 use Rattle.tesla_front.specs.Setup.{IsNoSetup}
 use Rattle.tesla_front.specs.declared.fault.Fault.TheVariants as faults
@@ -39,11 +39,11 @@ pub record StopsReading (meaning : Meaning) (input : Page) (left : Option (List 
   pub stops : Where input (λ bytes. (read : List ℕ) × (rest : List ℕ) × (left ≡ Some rest) × (bytes ≡ read ++ rest) × meaning.IsUnrefused read
       × HoldsWhere out (λ written. (written ≡ meaning.so_far read) ⊎ (HasFailed out × IsPrefix (meaning.so_far read) written)))
 
--- there was no memory before any of the input was read: the output was opened, and holds nothing
+-- there was no memory before any of the input was read: the output was opened, and nothing was written or failed
 pub record HoldsNothing (input : Page) (left : Option (List ℕ)) (out : Page) : Type 0 where
   pub there : input ≢ Absent
   pub unread : Where input (λ bytes. left ≡ Some bytes)
-  pub nothing : HoldsWhere out (λ written. written ≡ [])
+  pub nothing : IsUnwritten out
 
 -- what converting the input comes to, with what was left of it, and what the output is before and afterwards
 abbrev pub Converts : Meaning → Page → Option (List ℕ) → Page → Page → Came → Type 0
@@ -72,7 +72,7 @@ ConvertsBetween meaning before left written failed (Done lines) = EndsBetween me
 ConvertsBetween meaning before left written failed (Refused status line) = EndsBetween meaning before written (Refused status line)
 ConvertsBetween meaning before left written failed (Failed faults.Write) = (0 < failed) × ((bytes done : List ℕ) → before ≡ Some bytes → written ≡ Some done → IsPrefix (meaning.makes bytes) done)
 ConvertsBetween meaning before left written failed (Failed faults.Read) = StopsBetween meaning before left written failed
-ConvertsBetween meaning before left written failed (Failed faults.NoMemory) = (left ≡ before) × IfSome written (λ bytes. bytes ≡ [])
+ConvertsBetween meaning before left written failed (Failed faults.NoMemory) = (left ≡ before) × IfSome written (λ bytes. bytes ≡ []) × (failed ≡ 0)
 ConvertsBetween meaning before left written failed _ = ⊥
 
 -- ---- the setup, which such a command reads first

@@ -1,11 +1,12 @@
 -- Files that are opened one after another.
-use Rattle.std.proofs.Common.{◌≡◌, ◌∙◌, ◌≢◌, inl, inr, ℕ, zero, suc, ◌≤◌, Bool, true, false, Result, Ok, Err, OnErr, List, [], ◌∷◌, take, codes, refl, sym, ap, arith}
+use Rattle.std.proofs.Common.{◌≡◌, ◌∙◌, ◌≢◌, inl, inr, ℕ, zero, suc, ◌≤◌, nat_lt, Bool, true, false, Option, Some, None, IfSome, Result, Ok, Err, OnErr, List, [], ◌∷◌, take, codes, refl, sym, ap, arith}
 use Rattle.std.proofs.lemmas.Slice.Eq.{bytes_eq-Decides}
 use Rattle.std.specs.Str.{bytes_eq}
-use Rattle.tesla_desk.specs.Outside.{Told, Opening, OfSource, OfSink, with_opening, with_openings, OpensSink, OpensSource, ClosesSource, ClosesSink}
+use Rattle.tesla_desk.specs.Outside.{Told, Opening, OfSource, OfSink, with_opening, with_openings, OpensSink, OpensSource, ClosesSource, ClosesSink, page_of}
 use Rattle.tesla_desk.specs.declared.desk.OpenRefusal.{OpenRefusal}
 use Rattle.tesla_desk.specs.declared.desk.OpenRefusal.TheVariants as refused
 use Rattle.tesla_desk.proofs.Told.{openings_none, openings_first}
+use Rattle.tesla_front.specs.Files.{IsUnwritten}
 use Rattle.tesla_front.specs.Openings.{AreFiles, File, IsAmong, Opens, OpensSome, file_told, files_told, name_of}
 
 -- a name that is none of these outputs isn't the first
@@ -108,3 +109,8 @@ files_same (opening ∷ files) before now named pages lefts =
     let first : file_told now (name_of opening) ≡ file_told before (name_of opening) =
     ap (λ p. let f : File = record { page = p; left = now.left (name_of opening) } in f) page ∙ ap (λ l. let f : File = record { page = before.page (name_of opening); left = l } in f) left in
     ap (λ f. f ∷ files_told now files) first ∙ ap (λ fs. file_told before (name_of opening) ∷ fs) others
+
+-- a sink that was new, to which nothing was written and which didn't fail, leaves such a page
+pub unwritten_page : (written : Option (List ℕ)) (count : ℕ) → IfSome written (λ bytes. bytes ≡ []) → count ≡ 0 → IsUnwritten (page_of written count)
+unwritten_page None count empty none = tt
+unwritten_page (Some bytes) count empty none = (empty, ap (λ (n : ℕ). nat_lt 0 n) none)

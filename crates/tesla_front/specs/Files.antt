@@ -1,5 +1,5 @@
 -- Files that are opened and read.
-use Rattle.std.specs.Prelude.{◌≡◌, ◌≢◌, ℕ, ◌+◌, ◌≤◌, true, Option, IfSome, Result, Ok, Err, List, [], ◌++◌, length, take}
+use Rattle.std.specs.Prelude.{◌≡◌, ◌≢◌, ℕ, ◌+◌, ◌≤◌, true, false, Option, IfSome, Result, Ok, Err, List, [], ◌++◌, length, take}
 use Rattle.tesla_desk.specs.Live.{Mail, UntoldMail, AbsentMail, HoldsMail}
 use Rattle.tesla_desk.specs.Outside.{Page, Untold, Absent, Holds, after_bytes}
 use Rattle.tesla_front.specs.Came.{Came, Refused, Failed}
@@ -17,6 +17,12 @@ abbrev pub HasFailed : Page → Type 0
 HasFailed Untold = Unit {0}
 HasFailed Absent = ⊥
 HasFailed (Holds bytes failed) = failed ≡ true
+
+-- the sink that was closed last under the name took nothing and didn't fail, where that is told
+abbrev pub IsUnwritten : Page → Type 0
+IsUnwritten Untold = Unit {0}
+IsUnwritten Absent = ⊥
+IsUnwritten (Holds bytes failed) = (bytes ≡ []) × (failed ≡ false)
 
 -- the post that was closed last under the name failed, where that is told
 abbrev pub HasFailedMail : Mail → Type 0

@@ -1,7 +1,7 @@
 -- What a session leaves of its links and sinks where no worker ran.
 use Rattle.std.proofs.Common.{◌≡◌, ◌∙◌, ◌⊎◌, inl, inr, ℕ, suc, Option, Some, None, Result, Err, IfSome, List, [], ◌∷◌, ◌++◌, length, map, drop, refl, sym, ap, subst}
 use Rattle.tesla_desk.specs.Live.{Live, Wire, Remainder, OpenedLink, LeavesAll, remainder_of}
-use Rattle.tesla_desk.specs.Outside.{Told, OfSink, MakesClock, page_of}
+use Rattle.tesla_desk.specs.Outside.{Told, OfSink, MakesClock}
 use Rattle.tesla_desk.specs.declared.desk.OpenRefusal.{OpenRefusal}
 use Rattle.tesla_desk.specs.declared.desk.OpenRefusal.TheVariants as refusals
 use Rattle.tesla_desk.specs.declared.link.Letter.{Letter}
@@ -9,10 +9,11 @@ use Rattle.tesla_desk.proofs.Told.{leaves_all}
 use Rattle.tesla_fitting.specs.declared.config.Config.{Config}
 use Rattle.tesla_front.specs.Came.{Came, Failed}
 use Rattle.tesla_front.specs.Fault.{unopened}
-use Rattle.tesla_front.specs.Files.{HoldsWhere}
+use Rattle.tesla_front.specs.Files.{IsUnwritten}
 use Rattle.tesla_front.specs.Openings.{File, IsAmong, files_told}
 use Rattle.tesla_front.specs.declared.fault.Fault.{Fault}
 use Rattle.tesla_front.specs.declared.fault.Fault.TheVariants as faults
+use Rattle.tesla_front.proofs.Openings.{unwritten_page}
 use Rattle.tesla_receiver.specs.declared.history.Entry.{Entry}
 use Rattle.tesla_turn.specs.Held.{Ended}
 use Rattle.tesla_run_receive.specs.Arguments.{ReceiveArguments, Wanted, WantedLink, WantedSink, links_wanted, sinks_wanted, workers_wanted, opening_for}
@@ -89,10 +90,6 @@ fresh_workers (wanted ∷ others) before now first later workers result (inr (wo
 
 -- ---- the closings of new workers
 
-empty_page : (written : Option (List ℕ)) (count : ℕ) → IfSome written (λ bytes. bytes ≡ []) → HoldsWhere (page_of written count) (λ bytes. bytes ≡ [])
-empty_page None count empty = tt
-empty_page (Some bytes) count empty = empty
-
 left_on : (wire : Wire) (first mid now : Option Remainder) → now ≡ mid → (mid ≡ first) ⊎ LeavesAll wire mid → (now ≡ first) ⊎ LeavesAll wire now
 left_on wire first mid now same (inl is) = inl (same ∙ is)
 left_on wire first mid now same (inr all) = inr (subst (λ (r : Option Remainder). LeavesAll wire r) (sym same) all)
@@ -109,10 +106,10 @@ closed_lefts wire (SeenLink worker ∷ workers) before now first later (own, fre
 closed_lefts wire (SeenSink worker ∷ workers) before now first later (own, fresh) (mid, middle, others, closes, later_is) name =
     left_on (wire name) (before.live.left name) (mid.live.left name) (now.live.left name) (ap (λ (l : Live). l.left name) closes.live) (closed_lefts wire workers before mid first middle fresh others name)
 
--- a page is as before and no sink among these was closed under its name, or it is empty
+-- a page is as before and no sink among these was closed under its name, or nothing was written to it
 abbrev ClosedPage : List ℕ → List Seen → Told → Told → Type 0
 ClosedPage name workers before now =
-    ((now.page name ≡ before.page name) × (IsAmong (OfSink name) (map opening_of workers) → ⊥)) ⊎ HoldsWhere (now.page name) (λ bytes. bytes ≡ [])
+    ((now.page name ≡ before.page name) × (IsAmong (OfSink name) (map opening_of workers) → ⊥)) ⊎ IsUnwritten (now.page name)
 
 closed_pages : (wire : List ℕ → Wire) (workers : List Seen) (before now : Told) (first later : PassSeen) → AreFresh wire workers → ClosesWorkers workers before now first later → (name : List ℕ) → ClosedPage name workers before now
 closed_pages wire [] before now first later fresh (now_is, later_is) name = inl (ap (λ (t : Told). t.page name) now_is, λ never. never)
@@ -123,7 +120,7 @@ closed_pages wire (SeenLink worker ∷ workers) before now first later (own, fre
     ]
 closed_pages wire (SeenSink worker ∷ workers) before now first later (own, fresh) (mid, middle, others, closes, later_is) name =
     elim (same_or_not name worker.name) [
-      | inl same ↦ inr (rw same (rw closes.own (empty_page worker.written worker.faults own.0)))
+      | inl same ↦ inr (rw same (rw closes.own (unwritten_page worker.written worker.faults own.0 own.1)))
       | inr other ↦ elim (closed_pages wire workers before mid first middle fresh others name) [
         | inl as_before ↦ inl (closes.pages name other ∙ as_before.0, λ among. elim among [ inl is ↦ absurd (other (let same : name ≡ worker.name = cc in same)) | inr tail ↦ as_before.1 tail ])
         | inr empty ↦ inr (rw (closes.pages name other) empty)
@@ -145,11 +142,11 @@ pub unheard_links : (names : List (List ℕ)) (before now : Live) → ((name : L
 unheard_links [] before now all = tt
 unheard_links (name ∷ names) before now all = (all name, unheard_links names before now all)
 
-unwritten_files : (releaser : ℕ) (names : List (List ℕ)) (before now : Told) → ((name : List ℕ) → (now.page name ≡ before.page name) ⊎ HoldsWhere (now.page name) (λ bytes. bytes ≡ [])) → UnwrittenSinks (files_told before (map opening_for (sinks_wanted releaser names))) (files_told now (map opening_for (sinks_wanted releaser names)))
+unwritten_files : (releaser : ℕ) (names : List (List ℕ)) (before now : Told) → ((name : List ℕ) → (now.page name ≡ before.page name) ⊎ IsUnwritten (now.page name)) → UnwrittenSinks (files_told before (map opening_for (sinks_wanted releaser names))) (files_told now (map opening_for (sinks_wanted releaser names)))
 unwritten_files releaser [] before now all = tt
 unwritten_files releaser (name ∷ names) before now all = (all name, unwritten_files (suc releaser) names before now all)
 
-pub unwritten_sinks : (arguments : ReceiveArguments) (before now : Told) → ((name : List ℕ) → (now.page name ≡ before.page name) ⊎ HoldsWhere (now.page name) (λ bytes. bytes ≡ [])) → UnwrittenSinks (outs_told arguments before) (outs_told arguments now)
+pub unwritten_sinks : (arguments : ReceiveArguments) (before now : Told) → ((name : List ℕ) → (now.page name ≡ before.page name) ⊎ IsUnwritten (now.page name)) → UnwrittenSinks (outs_told arguments before) (outs_told arguments now)
 unwritten_sinks arguments before now all =
     let wanted = sinks_wanted 0 arguments.sinks in
     subst (λ (outs : List File). UnwrittenSinks outs (outs_told arguments now)) (sym (sinks_told 0 arguments.links wanted before))

@@ -11,7 +11,7 @@ use Rattle.tesla_desk.specs.declared.link.Letter.{Letter}
 use Rattle.tesla_fitting.specs.declared.config.Config.{Config}
 use Rattle.tesla_front.specs.Came.{Came, Done, Refused, Failed}
 use Rattle.tesla_front.specs.Command.{Command}
-use Rattle.tesla_front.specs.Files.{HoldsWhere, IsPrefix}
+use Rattle.tesla_front.specs.Files.{IsPrefix, IsUnwritten}
 use Rattle.tesla_front.specs.Openings.{File}
 use Rattle.tesla_front.specs.Setup.{IsSetupIn, IsNoSetup}
 use Rattle.tesla_front.specs.declared.fault.Fault.TheVariants as faults
@@ -134,11 +134,11 @@ abbrev pub UnheardLinks : List (List ℕ) → Live → Live → Type 0
 UnheardLinks [] before now = Unit {0}
 UnheardLinks (name ∷ names) before now = ((now.left name ≡ before.left name) ⊎ LeavesAll (before.wire name) (now.left name)) × UnheardLinks names before now
 
--- nothing was written to a sink: its page is as before, or empty
+-- nothing was written to a sink and it didn't fail: its page is as before, or empty
 abbrev pub UnwrittenSinks : List File → List File → Type 0
 UnwrittenSinks [] outs = Unit {0}
 UnwrittenSinks (before ∷ befores) [] = ⊥
-UnwrittenSinks (before ∷ befores) (out ∷ outs) = ((out.page ≡ before.page) ⊎ HoldsWhere out.page (λ bytes. bytes ≡ [])) × UnwrittenSinks befores outs
+UnwrittenSinks (before ∷ befores) (out ∷ outs) = ((out.page ≡ before.page) ⊎ IsUnwritten out.page) × UnwrittenSinks befores outs
 
 -- there was no setup, and nothing else was opened; an opening was refused, or there was no memory
 pub record Stops (arguments : ReceiveArguments) (opened : ℕ) (before now : Live) (last : Option (Ended Entry)) (setup : File) (outs outs_now : List File) (came : Came) : Type 0 where
