@@ -86,13 +86,9 @@ fn is_front(held: &[u8], whole: &[u8], most: usize) -> bool {
 
 // Whether `out` holds the begin of that page.
 fn holds(desk: &MemoryDesk, page: &str, most: usize) -> bool {
-    let Some(whole) = desk.page(page) else {
-        return false;
-    };
-    let Some(held) = desk.page("out") else {
-        return false;
-    };
-    is_front(held, whole, most)
+    let whole = desk.page(page).unwrap_or(b"");
+    let held = desk.page("out").unwrap_or(b"no such page");
+    desk.page(page).is_some() && is_front(held, whole, most)
 }
 
 // What a run comes to over a desk whose pages move at most so many bytes a call.
