@@ -81,13 +81,16 @@ fn told_of(alloc: Global, status: u8, desk: &MemoryDesk) -> Result<String, Fail>
     Ok(format!(in alloc; "{status} {console}")?)
 }
 
+// Whether these are the first bytes of others, so many of them at most.
+fn is_front(held: &[u8], whole: &[u8], most: usize) -> bool {
+    held == &whole[..whole.len().min(most)]
+}
+
 // Whether `out` holds the begin of that page.
-fn holds(desk: &MemoryDesk, held: (&str, usize)) -> bool {
-    let (page, most) = held;
-    match (desk.page(page), desk.page("out")) {
-        (Some(want), Some(out)) => out == &want[..want.len().min(most)],
-        _ => false,
-    }
+fn holds(desk: &MemoryDesk, page: &str, most: usize) -> bool {
+    let whole = desk.page(page).unwrap_or(b"");
+    let held = desk.page("out").unwrap_or(b"no such page");
+    desk.page(page).is_some() && is_front(held, whole, most)
 }
 
 // What a run comes to over a desk whose pages move at most so many bytes a call.
@@ -98,7 +101,7 @@ fn came_to(alloc: Global, it: &Run, most: usize) -> Result<String, Fail> {
     let words = words_of(alloc, it.words)?;
     let status = status_of(alloc, words.as_slice(), &mut desk);
     let mut told = told_of(alloc, status, &desk)?;
-    if !holds(&desk, it.held) {
+    if !holds(&desk, it.held.0, it.held.1) {
         told.push_str(" with another page")?;
     }
     Ok(told)

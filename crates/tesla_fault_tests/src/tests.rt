@@ -191,10 +191,10 @@ fn sent_by(alloc: Global, desk: &MemoryDesk, post: &str) -> Result<String, Fail>
 
 // What an output holds, or else what a post sent.
 fn held_by(alloc: Global, desk: &MemoryDesk, name: &str) -> Result<String, Fail> {
-    match desk.page(name) {
-        Some(page) => Ok(hex::encode(alloc, page)?),
-        None => sent_by(alloc, desk, name),
+    if desk.page(name).is_none() {
+        return sent_by(alloc, desk, name);
     }
+    Ok(hex::encode(alloc, desk.page(name).unwrap_or(b""))?)
 }
 
 // Sets one thing of a desk.

@@ -53,11 +53,19 @@ fn fail(desk: &mut MemoryDesk, call: Call<'_>) -> Result<(), Fail> {
     Ok(())
 }
 
-// The front of the console that was written before its call with this number.
-fn front_of_console(ordinary: &Ordinary, number: u64) -> &[u8] {
-    let console = ordinary.desk.page(CONSOLE).unwrap_or(b"");
+// Adds the front of a console that was written before its call with this number.
+fn add_front(console: &[u8], number: u64, told: &mut String) -> Result<(), Fail> {
     let written = (number as usize).saturating_mul(PIECE);
-    &console[..console.len().min(written)]
+    let front = std::str::from_utf8(&console[..console.len().min(written)])?;
+    Ok(told.push_str(front)?)
+}
+
+// What has to be told where the console's call with this number fails: behind what it holds already, that a write failed.
+fn lost_at(alloc: Global, console: &[u8], number: u64) -> Result<String, Fail> {
+    let mut told = String::from_str(alloc, "5 ")?;
+    add_front(console, number, &mut told)?;
+    told.push_str("write fault\n")?;
+    Ok(told)
 }
 
 // What has to be told where a call fails, of which this is told else: nothing where the console isn't opened, and behind what
@@ -74,8 +82,8 @@ fn wanted_of(
     if call.name != CONSOLE {
         return Ok(String::from_str(alloc, told)?);
     }
-    let front = std::str::from_utf8(front_of_console(ordinary, call.number))?;
-    Ok(format!(in alloc; "5 {front}write fault\n")?)
+    let console = ordinary.desk.page(CONSOLE).unwrap_or(b"");
+    lost_at(alloc, console, call.number)
 }
 
 // Whether an output or a post holds a front of what it holds in the ordinary run. An output may be as it was, and is so where an
