@@ -144,6 +144,14 @@ const COMMANDS: &[Command] = &[
         outs: &["p", "q"],
         counts: "openings 6, setup 23, secret 17, hi 3, p 5, q 5, - 7",
     },
+    // 105 bytes of the report.
+    Command {
+        words: "stress 1 10",
+        clock: &[],
+        calls: &[("-", WRITE)],
+        outs: &[],
+        counts: "openings 1, - 11",
+    },
 ];
 
 pub fn all() -> &'static [Command] {
