@@ -1,11 +1,13 @@
 //! Laws about the commands, as contracts of functions that do nothing, or run them.
 
-ghost use Rattle.std.specs.Prelude.{ℕ, List};
+ghost use Rattle.std.specs.Prelude.{◌≡◌, ℕ, List, map, string_bytes};
 ghost use Rattle.tesla_desk.specs.Outside.{Told};
-ghost use Rattle.tesla_front.specs.Came.{Came};
+ghost use Rattle.tesla_desk.specs.Sure.{sure_told_by};
+ghost use Rattle.tesla_front.specs.Came.{Came, status_of};
 ghost use Rattle.tesla_front.specs.Command.{Performs, RunsAs};
 ghost use Rattle.tesla_front.specs.Fault.{IsUnfailed};
-ghost use Rattle.tesla_cli.specs.Commands.{command_of};
+ghost use Rattle.tesla_front.specs.Run.{Runs};
+ghost use Rattle.tesla_cli.specs.Commands.{command_of, usage};
 ghost use Rattle.tesla_run_chain.specs.Arguments.{ChainArguments, IsChain};
 ghost use Rattle.tesla_run_chain.specs.Chain.{chain};
 ghost use Rattle.tesla_run_lag.specs.Arguments.{IsLag, LagArguments};
@@ -30,9 +32,10 @@ pub fn forms_are_named()
     ensures stresses { (arguments : StressArguments) (words : List (List ℕ)) (old new : Told) (came : Came) → IsStress arguments words → RunsAs (command_of words) words old new came → Performs stress arguments old new came }
 {}
 
-/// Runs the words over a desk on which no call from outside fails. The status is never 4, 5 or 7.
+/// Runs the words as the top call does, over a desk on which no call from outside fails. The status is never 4, 5 or 7.
 pub fn run_surely(alloc: Global, words: &[String], desk: &mut SureDesk) -> u8
-    ensures { IsUnfailed result }
+    ensures came { (told : Came) × (result ≡ status_of told) × Runs (command_of (map string_bytes words.now)) usage (map string_bytes words.now) (sure_told_by desk.old) (sure_told_by desk.new) told }
+    ensures unfailed { IsUnfailed result }
 {
     run_here(alloc, words, desk)
 }

@@ -1,9 +1,10 @@
 //! Laws about the live commands, as contracts of functions that do nothing, or run them.
 
-ghost use Rattle.std.specs.Prelude.{ℕ, List, Option};
+ghost use Rattle.std.specs.Prelude.{◌≡◌, ℕ, List, Option, map, string_bytes};
 ghost use Rattle.tesla_desk.specs.Live.{Live};
 ghost use Rattle.tesla_desk.specs.Outside.{Told};
-ghost use Rattle.tesla_front.specs.Came.{Came};
+ghost use Rattle.tesla_desk.specs.Sure.{sure_told_by};
+ghost use Rattle.tesla_front.specs.Came.{Came, status_of};
 ghost use Rattle.tesla_front.specs.Command.{Performs, RunsAs};
 ghost use Rattle.tesla_front.specs.Fault.{IsUnfailed};
 ghost use Rattle.tesla_receiver.specs.declared.history.Entry.{Entry};
@@ -14,7 +15,7 @@ ghost use Rattle.tesla_run_receive.specs.Receive.{receive};
 ghost use Rattle.tesla_run_relay.specs.Arguments.{IsRelayForm, RelayArguments};
 ghost use Rattle.tesla_run_relay.specs.Relay.{relay};
 ghost use Rattle.tesla_turn.specs.Held.{Ended};
-ghost use Rattle.tesla_cli_live.specs.Commands.{IsLive, command_of};
+ghost use Rattle.tesla_cli_live.specs.Commands.{IsLive, RunsLive, command_of};
 
 use crate::{Done, run_live};
 use std::alloc::Global;
@@ -33,14 +34,15 @@ pub fn forms_are_named()
     ensures play_is { (arguments : PlayArguments) (words : List (List ℕ)) → IsPlayForm arguments words → IsLive words }
 {}
 
-/// Runs the words over a desk on which no call from outside fails. The status is never 4, 5 or 7.
+/// Runs the words as the top call does, over a desk on which no call from outside fails. The status is never 4, 5 or 7.
 pub fn run_surely<R: Threads + Wait + Sync>(
     rt: &R,
     alloc: Global,
     words: &[String],
     desk: &mut SureDesk,
 ) -> Done
-    ensures { IsUnfailed result.status }
+    ensures came { (told : Came) × (result.status ≡ status_of told) × RunsLive (map string_bytes words.now) (sure_told_by desk.old) (sure_told_by desk.new) result.last told }
+    ensures unfailed { IsUnfailed result.status }
 {
     run_live(rt, alloc, words, desk)
 }

@@ -1,16 +1,17 @@
 //! Laws about the live tools, as contracts of functions that do nothing, or run them.
 
-ghost use Rattle.std.specs.Prelude.{ℕ, List};
+ghost use Rattle.std.specs.Prelude.{◌≡◌, ℕ, List, map, string_bytes};
 ghost use Rattle.tesla_desk.specs.Live.{Live};
 ghost use Rattle.tesla_desk.specs.Outside.{Told};
-ghost use Rattle.tesla_front.specs.Came.{Came};
+ghost use Rattle.tesla_desk.specs.Sure.{sure_told_by};
+ghost use Rattle.tesla_front.specs.Came.{Came, status_of};
 ghost use Rattle.tesla_front.specs.Command.{Performs, RunsAs};
 ghost use Rattle.tesla_front.specs.Fault.{IsUnfailed};
 ghost use Rattle.tesla_run_capture.specs.Arguments.{CaptureArguments, IsCaptureForm};
 ghost use Rattle.tesla_run_capture.specs.Capture.{capture};
 ghost use Rattle.tesla_run_feed.specs.Arguments.{FeedArguments, IsFeedForm};
 ghost use Rattle.tesla_run_feed.specs.Feeding.{feed};
-ghost use Rattle.tesla_live_tools.specs.Commands.{IsLiveTool, command_of};
+ghost use Rattle.tesla_live_tools.specs.Commands.{IsLiveTool, RunsLiveTools, command_of};
 
 use crate::run_live_tools;
 use std::alloc::Global;
@@ -26,9 +27,10 @@ pub fn forms_are_named()
     ensures feed_is { (arguments : FeedArguments) (words : List (List ℕ)) → IsFeedForm arguments words → IsLiveTool words }
 {}
 
-/// Runs the words over a desk on which no call from outside fails. The status is never 4, 5 or 7.
+/// Runs the words as the top call does, over a desk on which no call from outside fails. The status is never 4, 5 or 7.
 pub fn run_surely<R: Wait>(rt: &R, alloc: Global, words: &[String], desk: &mut SureDesk) -> Done
-    ensures { IsUnfailed result.status }
+    ensures came { (told : Came) × (result.status ≡ status_of told) × RunsLiveTools (map string_bytes words.now) (sure_told_by desk.old) (sure_told_by desk.new) result.last told }
+    ensures unfailed { IsUnfailed result.status }
 {
     run_live_tools(rt, alloc, words, desk)
 }
