@@ -1,5 +1,5 @@
 -- An input that was converted into an output, from what was so while both were open.
-use Rattle.std.proofs.Common.{◌≡◌, ◌∙◌, ◌≢◌, ◌⊎◌, inl, inr, ◌<◌, ℕ, Option, Some, None, List, [], ◌∷◌, refl, sym, ap, subst, arith}
+use Rattle.std.proofs.Common.{◌≡◌, ◌∙◌, ◌≢◌, ◌⊎◌, inl, inr, ◌<◌, ℕ, nat_lt, Bool, false, Option, Some, None, List, [], ◌∷◌, refl, sym, ap, subst, arith}
 use Rattle.std.proofs.lemmas.Bool.Decides.{nat_tests}
 use Rattle.tesla_desk.specs.Faults.{HasCause, HasCauseBeside, after_source}
 use Rattle.tesla_desk.specs.Outside.{Page, Untold, Absent, Holds, Told, Opened, OfSource, OfSink, page_of}
@@ -11,8 +11,9 @@ use Rattle.tesla_front.specs.Openings.{AnyFailed, Opens}
 use Rattle.tesla_front.specs.declared.fault.Fault.{Fault}
 use Rattle.tesla_front.specs.declared.fault.Fault.TheVariants as faults
 use Rattle.tesla_front.proofs.Openings.{not_first_read, unwritten_page}
+use Rattle.tesla_convert.proofs.Unread.{unread_closed}
 use Rattle.tesla_convert.specs.Files.{ClosesBoth, ConvertsFiles, OpensBoth, OpensNotBoth}
-use Rattle.tesla_convert.specs.Meaning.{ComesToEnd, Converts, ConvertsBetween, EndsBetween, Meaning, StopsBetween, StopsReading}
+use Rattle.tesla_convert.specs.Meaning.{ComesToEnd, Converts, ConvertsBetween, EndsBetween, Meaning, StopsBetween, StopsReading, StopsWanting, WantsBetween}
 
 -- there is a file under a name that was opened
 opened_there : (page : Page) (left : Option (List ℕ)) → Opened page left → page ≢ Absent
@@ -49,6 +50,21 @@ stops_page meaning input before left written count opened stops = record {
       (read, rest, left_is, parts, none, holds_page written count (λ done told. some_or_failed written count (text done told)));
 }
 
+-- a sink on which no write failed hasn't failed
+sound_page : (written : Option (List ℕ)) (count : ℕ) → count ≡ 0 → (bytes : List ℕ) (failed : Bool) → page_of written count ≡ Holds bytes failed → failed ≡ false
+sound_page None count none bytes failed page = absurd cc
+sound_page (Some done) count none bytes failed page =
+    let same : failed ≡ nat_lt 0 count = cc in
+    same ∙ ap (λ (n : ℕ). nat_lt 0 n) none
+
+wants_page : (meaning : Meaning) (input : Page) (before written : Option (List ℕ)) (count : ℕ) → Opened input before → WantsBetween meaning before written count → StopsWanting meaning input (page_of written count)
+wants_page meaning input before written count opened wants = record {
+  there = opened_there input before opened;
+  may = wants.0;
+  prefix = holds_page written count (λ done told bytes failed is. wants.2 bytes done (opened_holds input before bytes failed is opened) told);
+  sound = sound_page written count wants.1;
+}
+
 -- what was so between the open source and sink is so of the pages
 pub converts_pages : (meaning : Meaning) (input old : Page) (before left written : Option (List ℕ)) (count : ℕ) (came : Came) → Opened input before → ConvertsBetween meaning before left written count came → Converts meaning input left old (page_of written count) came
 converts_pages meaning input old before left written count (Done lines) opened between = ends_page meaning input before written count (Done lines) opened between
@@ -60,11 +76,12 @@ converts_pages meaning input old before left written count (Failed faults.Write)
   failed = failed_page written count between.0;
 }
 converts_pages meaning input old before left written count (Failed faults.Read) opened between = stops_page meaning input before left written count opened between
-converts_pages meaning input old before left written count (Failed faults.NoMemory) opened between = inr (record {
+converts_pages meaning input old before left written count (Failed faults.NoMemory) opened (inl unbegun) = inr (inl (record {
   there = opened_there input before opened;
-  unread = λ bytes failed is. between.0 ∙ opened_holds input before bytes failed is opened;
-  nothing = unwritten_page written count between.1 between.2;
-})
+  unread = λ bytes failed is. unbegun.0 ∙ opened_holds input before bytes failed is opened;
+  nothing = unwritten_page written count unbegun.1 unbegun.2;
+}))
+converts_pages meaning input old before left written count (Failed faults.NoMemory) opened (inr wants) = inr (inr (wants_page meaning input before written count opened wants))
 converts_pages meaning input old before left written count (Failed faults.Open) opened between = absurd between
 
 no_open : (meaning : Meaning) (before left written : Option (List ℕ)) (count : ℕ) (came : Came) → ConvertsBetween meaning before left written count came → came ≡ Failed faults.Open → ⊥
@@ -75,6 +92,17 @@ no_open meaning before left written count (Failed faults.Write) between is = abs
 no_open meaning before left written count (Failed faults.Read) between is = absurd cc
 no_open meaning before left written count (Failed faults.NoMemory) between is = absurd cc
 no_open meaning before left written count (Failed faults.Open) between is = between
+
+-- where memory was wanting between both, all was left, unless it may be wanting later
+unread_between : (meaning : Meaning) (before left written : Option (List ℕ)) (count : ℕ) (came : Came) → ConvertsBetween meaning before left written count came → came ≡ Failed faults.NoMemory → (left ≡ before) ⊎ meaning.MayWant
+unread_between meaning before left written count (Done lines) between is = absurd cc
+unread_between meaning before left written count Usage between is = absurd cc
+unread_between meaning before left written count (Refused status line) between is = absurd cc
+unread_between meaning before left written count (Failed faults.Write) between is = absurd cc
+unread_between meaning before left written count (Failed faults.Read) between is = absurd cc
+unread_between meaning before left written count (Failed faults.NoMemory) (inl unbegun) is = inl unbegun.0
+unread_between meaning before left written count (Failed faults.NoMemory) (inr wants) is = inr wants.0
+unread_between meaning before left written count (Failed faults.Open) between is = absurd cc
 
 -- both were opened, the one was converted into the other, and both were closed
 pub converts_closed : (meaning : Meaning) (input output : List ℕ) (before empty left written : Option (List ℕ)) (taken given : ℕ) (came : Came) (old mid new : Told) → OpensBoth input output before empty old mid → ConvertsBetween meaning before left written given came → HasCause 0 taken (came ≡ Failed faults.Read) → HasCauseBeside ((came ≡ Failed faults.Read) × (0 < given)) 0 given (came ≡ Failed faults.Write) → ClosesBoth input output left written taken given mid new → ConvertsFiles meaning input output old new came
@@ -95,6 +123,7 @@ converts_closed meaning input output before empty left written taken given came 
       opened = 2;
       opens = opened;
       converts = whole;
+      unread = λ e. unread_closed 2 (old.page input) before left (new.left input) opens.opened closes.own_left (unread_between meaning before left written given came between e);
       counts = causes_then old.faults mid.faults new.faults opens.counts (causes_as mid.faults new.faults counted wide (λ f. f) (λ f. f) (λ f. f) (λ f. f) (λ f. f) (λ f. f));
     }
 
@@ -113,6 +142,7 @@ converts_unopened meaning input output fault old new refused = record {
   opened = refused.opened;
   opens = refused.opens;
   converts = unopened_converts meaning (old.page input) (old.page output) (new.page output) (new.left input) fault refused.kind.0 refused.kind.1 (refused.pages output);
+  unread = λ e. inl (refused.unread (failed_is fault faults.NoMemory e));
   counts = causes_as old.faults new.faults (causes_plain {hidden = (Failed fault ≡ Failed faults.Read) × AnyFailed (OfSource input ∷ OfSink output ∷ []) new} old.faults new.faults refused.counts) (λ h. h)
       (failed_is fault faults.Read) (ap Failed) (failed_is fault faults.Write) (ap Failed) (failed_is fault faults.Open) (ap Failed);
 }

@@ -10,6 +10,7 @@ use Rattle.tesla_capture.specs.declared.record.RecordKind.{RecordKind}
 use Rattle.tesla_capture.proofs.OutlineStep.{one_step}
 use Rattle.tesla_capture.proofs.Taken.{fault_taken, given_taken, none_taken, taken_outline}
 use Rattle.tesla_desk.specs.Outside.{AppendsPrefix, after_bytes, with_bytes}
+use Rattle.tesla_desk.proofs.Told.{prefix_whole}
 use Rattle.tesla_convert.specs.Held.{HoldsText, HoldsPrefix}
 use Rattle.tesla_convert.specs.Records.{Answers}
 use Rattle.tesla_convert.specs.Rule.{Behind, Made, Rule, Unread, behind_of, made, made_first, made_of, made_so_far, with_text}
@@ -19,7 +20,7 @@ use Rattle.tesla_convert.specs.declared.conversion.Ending.TheVariants as endings
 use Rattle.tesla_convert.specs.declared.conversion.Stopped.{Stopped}
 use Rattle.tesla_convert.specs.declared.conversion.Stopped.TheVariants as stops
 use Rattle.tesla_convert.specs.declared.converter.Converted.{Converted}
-use Rattle.tesla_convert.specs.declared.converter.Converted.TheVariants.{Whole, Refused, WriteFault}
+use Rattle.tesla_convert.specs.declared.converter.Converted.TheVariants.{Whole, Refused, WriteFault, NoMemory}
 use Rattle.tesla_convert.proofs.Held.{holds_flushed, holds_more, holds_written, prefix_written, whole_prefix}
 use Rattle.tesla_convert.proofs.Places.{next_place}
 
@@ -109,6 +110,22 @@ module _ (G : Grammar) (is : IsGrammar G) (Kind : Type 0) (rule : Rule G Kind) w
   made_next behind place now records first more next =
       ap (λ (p : ℕ). made_first (rule.refuses records first) (record_place place) (rule.adds records first) (made_of G Kind rule behind p (records ++ first ∷ []) more)) (sym next)
 
+  -- a prefix of what was held and of what is written of it was written
+  front_next : (Had : List G.Record → Type 0) (bytes : List ℕ) (place now : ℕ) (ahead left before written : Option (List ℕ)) (held : List ℕ) (first : G.Record)
+      → (at : IsAt G Kind rule Had bytes place ahead before held) (gives : GivesRecord G first place at.rest now left) → rule.refuses at.records first ≡ None → AppendsPrefix before written (held ++ rule.adds at.records first) → HoldsPrefix written [] (made G Kind rule bytes).text
+  front_next Had bytes place now ahead left before written held first at gives passes appends =
+      let next = next_place G place now at.rest gives.0 first gives.2 in
+      let others = outline_at G now gives.0 in
+      let outline : outline_at G place at.rest ≡ with_record first others = one_step G is place at.rest (Recorded first now gives.0) gives.2 in
+      let behind = made_of G Kind rule (behind_of G Kind rule others.fault) (record_place now) (at.records ++ first ∷ []) others.records in
+      let whole : made G Kind rule bytes ≡ with_text (rule.begins ++ at.text) (with_text (rule.adds at.records first) behind) =
+      made_here Had bytes place ahead before held at (with_record first others) outline
+      ∙ ap (with_text (rule.begins ++ at.text)) (made_next (behind_of G Kind rule others.fault) place now at.records first others.records next
+      ∙ ap (λ (r : Option Kind). made_first r (record_place place) (rule.adds at.records first) behind) passes) in
+      let text : (made G Kind rule bytes).text ≡ ((rule.begins ++ at.text) ++ rule.adds at.records first) ++ behind.text = ap (λ (m : Made Kind). m.text) whole ∙ sym (append_assoc (rule.begins ++ at.text) (rule.adds at.records first) behind.text) in
+      let both : HoldsText before (held ++ rule.adds at.records first) ((rule.begins ++ at.text) ++ rule.adds at.records first) = λ done told. sym (append_assoc done held (rule.adds at.records first)) ∙ ap (λ t. t ++ rule.adds at.records first) (at.holds done told) in
+      subst (λ (t : List ℕ). HoldsPrefix written [] t) (sym text) (holds_written before written (held ++ rule.adds at.records first) ((rule.begins ++ at.text) ++ rule.adds at.records first) behind.text both appends)
+
   next_by : (Had Has : List G.Record → Type 0) (bytes : List ℕ) (place now : ℕ) (ahead left rest_left before written : Option (List ℕ)) (held rest : List ℕ) (first : G.Record) (converted : Converted Kind)
       → (at : IsAt G Kind rule Had bytes place ahead before held) (gives : GivesRecord G first place at.rest now left) → Answers G rule Has at.records first converted before written held rest
       → StepsTo G Kind rule Has (ending_at (record_place place) converted) bytes now left rest_left written rest
@@ -141,17 +158,9 @@ module _ (G : Grammar) (is : IsGrammar G) (Kind : Type 0) (rule : Rule G Kind) w
         holds = λ done told. holds done told ∙ sym (append-nil (rule.begins ++ at.text)) ∙ sym (ap (λ (m : Made Kind). m.text) whole);
       }
   next_by Had Has bytes place now ahead left rest_left before written held rest first WriteFault at gives (passes, appends) =
-      let next = next_place G place now at.rest gives.0 first gives.2 in
-      let others = outline_at G now gives.0 in
-      let outline : outline_at G place at.rest ≡ with_record first others = one_step G is place at.rest (Recorded first now gives.0) gives.2 in
-      let behind = made_of G Kind rule (behind_of G Kind rule others.fault) (record_place now) (at.records ++ first ∷ []) others.records in
-      let whole : made G Kind rule bytes ≡ with_text (rule.begins ++ at.text) (with_text (rule.adds at.records first) behind) =
-      made_here Had bytes place ahead before held at (with_record first others) outline
-      ∙ ap (with_text (rule.begins ++ at.text)) (made_next (behind_of G Kind rule others.fault) place now at.records first others.records next
-      ∙ ap (λ (r : Option Kind). made_first r (record_place place) (rule.adds at.records first) behind) passes) in
-      let text : (made G Kind rule bytes).text ≡ ((rule.begins ++ at.text) ++ rule.adds at.records first) ++ behind.text = ap (λ (m : Made Kind). m.text) whole ∙ sym (append_assoc (rule.begins ++ at.text) (rule.adds at.records first) behind.text) in
-      let both : HoldsText before (held ++ rule.adds at.records first) ((rule.begins ++ at.text) ++ rule.adds at.records first) = λ done told. sym (append_assoc done held (rule.adds at.records first)) ∙ ap (λ t. t ++ rule.adds at.records first) (at.holds done told) in
-      subst (λ (t : List ℕ). HoldsPrefix written [] t) (sym text) (holds_written before written (held ++ rule.adds at.records first) ((rule.begins ++ at.text) ++ rule.adds at.records first) behind.text both appends)
+      front_next Had bytes place now ahead left before written held first at gives passes appends
+  next_by Had Has bytes place now ahead left rest_left before written held rest first NoMemory at gives (passes, none, all) =
+      front_next Had bytes place now ahead left before written held first at gives passes (prefix_whole before written (held ++ rule.adds at.records first) all)
 
   -- a record was found and converted, or is refused, or the conversion stopped at it
   pub at_next : (Had Has : List G.Record → Type 0) (bytes : List ℕ) (place now offset : ℕ) (ahead left rest_left before written : Option (List ℕ)) (held rest : List ℕ) (first : G.Record) (converted : Converted Kind) (result : Result (Option (Ending Kind)) Stopped)
@@ -186,6 +195,7 @@ module _ (G : Grammar) (Kind : Type 0) where
   stops_by : (rule : Rule G Kind) (Has : List G.Record → Type 0) (stopped : Stopped) (bytes : List ℕ) (place : ℕ) (ahead left written : Option (List ℕ)) (held : List ℕ) → StepsTo G Kind rule Has (Err stopped) bytes place ahead left written held → RecordsTo G Kind rule Has (Err stopped) bytes left written held
   stops_by rule Has stops.Read bytes place ahead left written held steps = steps
   stops_by rule Has stops.Write bytes place ahead left written held steps = steps
+  stops_by rule Has stops.Memory bytes place ahead left written held steps = steps
 
   -- the conversion stopped
   pub breaks : (rule same : Rule G Kind) (Has : List G.Record → Type 0) (stopped : Stopped) (bytes : List ℕ) (place : ℕ) (ahead left written : Option (List ℕ)) (held : List ℕ) → rule ≡ same → StepsTo G Kind rule Has (Err stopped) bytes place ahead left written held → RecordsTo G Kind same Has (Err stopped) bytes left written held
@@ -204,9 +214,9 @@ module _ (G : Grammar) (Kind : Type 0) where
     },
   )
 
-  -- a write failed at the end
-  pub all_halted : (rule : Rule G Kind) (Has Ended : List G.Record → Type 0) (bytes : List ℕ) (left before written : Option (List ℕ)) (held rest : List ℕ) → (at : IsAtEnd G Kind rule Has bytes before held) → AppendsPrefix before written (held ++ rule.ends (outline_of G bytes).records) → AllTo G Kind rule Ended (Err stops.Write) bytes left written rest
-  all_halted rule Has Ended bytes left before written held rest at appends =
+  -- a prefix of what was held and of what is written at the end was written
+  all_halted : (rule : Rule G Kind) (Has : List G.Record → Type 0) (bytes : List ℕ) (left before written : Option (List ℕ)) (held : List ℕ) → (at : IsAtEnd G Kind rule Has bytes before held) → AppendsPrefix before written (held ++ rule.ends (outline_of G bytes).records) → HoldsPrefix written [] (made G Kind rule bytes).text
+  all_halted rule Has bytes left before written held at appends =
       let piece = rule.ends (outline_of G bytes).records in
       let both : HoldsText before (held ++ piece) (at.text ++ piece) = λ done told. sym (append_assoc done held piece) ∙ ap (λ t. t ++ piece) (at.holds done told) in
       let text : (made G Kind rule bytes).text ≡ (at.text ++ piece) ++ [] = ap (λ (m : Made Kind). m.text) at.made_is ∙ sym (append-nil (at.text ++ piece)) in
@@ -222,11 +232,11 @@ module _ (G : Grammar) (Kind : Type 0) where
       all_ended rule Has Ended bytes left before written held rest at (ended (outline_of G bytes).records at.has)
       (subst (λ (r : Rule G Kind). Gathers before written rest (held ++ r.ends (outline_of G bytes).records)) e (gathers (outline_of G bytes).records at.has))
 
-  -- the records ended with the file, and a write failed at the end
-  pub halted : (rule same : Rule G Kind) (Has Ended : List G.Record → Type 0) (ending : Ending Kind) (bytes : List ℕ) (left before written : Option (List ℕ)) (held rest : List ℕ) → same ≡ rule → ending ≡ endings.End → RecordsTo G Kind rule Has (Ok ending) bytes left before held → ((rs : List G.Record) → Has rs → AppendsPrefix before written (held ++ same.ends rs)) → AllTo G Kind rule Ended (Err stops.Write) bytes left written rest
-  halted rule same Has Ended ending bytes left before written held rest e is_end to appends =
+  -- the records ended with the file, and the conversion stopped at the end
+  pub halted : (rule same : Rule G Kind) (Has : List G.Record → Type 0) (ending : Ending Kind) (bytes : List ℕ) (left before written : Option (List ℕ)) (held : List ℕ) → same ≡ rule → ending ≡ endings.End → RecordsTo G Kind rule Has (Ok ending) bytes left before held → ((rs : List G.Record) → Has rs → AppendsPrefix before written (held ++ same.ends rs)) → HoldsPrefix written [] (made G Kind rule bytes).text
+  halted rule same Has ending bytes left before written held e is_end to appends =
       let at = at_end_by rule Has ending bytes left before held is_end to in
-      all_halted rule Has Ended bytes left before written held rest at
+      all_halted rule Has bytes left before written held at
       (subst (λ (r : Rule G Kind). AppendsPrefix before written (held ++ r.ends (outline_of G bytes).records)) e (appends (outline_of G bytes).records at.has))
 
   -- a place is refused
@@ -281,4 +291,6 @@ module _ (G : Grammar) (Kind : Type 0) where
   settled rule Ended (Err stops.Read) result bytes left before now held failed all settles =
       subst (λ (r : Result (Ending Kind) Stopped). Converts G Kind rule Ended r bytes left now failed) (sym settles.0) (so_far_by rule bytes left before now held failed all settles.1)
   settled rule Ended (Err stops.Write) result bytes left before now held failed all settles =
+      subst (λ (r : Result (Ending Kind) Stopped). Converts G Kind rule Ended r bytes left now failed) (sym settles.0) (subst (λ (w : Option (List ℕ)). HoldsPrefix w [] (made G Kind rule bytes).text) (sym settles.1) all)
+  settled rule Ended (Err stops.Memory) result bytes left before now held failed all settles =
       subst (λ (r : Result (Ending Kind) Stopped). Converts G Kind rule Ended r bytes left now failed) (sym settles.0) (subst (λ (w : Option (List ℕ)). HoldsPrefix w [] (made G Kind rule bytes).text) (sym settles.1) all)

@@ -1,12 +1,12 @@
 -- The input and the output of a command, opened one after the other, and closed.
-use Rattle.std.specs.Prelude.{◌≡◌, ◌≢◌, ℕ, Option, IfSome, List, [], ◌∷◌}
+use Rattle.std.specs.Prelude.{◌≡◌, ◌≢◌, ◌⊎◌, ℕ, Option, IfSome, List, [], ◌∷◌}
 use Rattle.tesla_desk.specs.Faults.{HasCauses, HasCausesBeside, after_source, after_sink}
 use Rattle.tesla_desk.specs.Outside.{Told, Opened, OfSource, OfSink, page_of, with_openings}
 use Rattle.tesla_front.specs.Came.{Came, Failed}
 use Rattle.tesla_front.specs.Openings.{AnyFailed, Opens}
 use Rattle.tesla_front.specs.declared.fault.Fault.{Fault}
 use Rattle.tesla_front.specs.declared.fault.Fault.TheVariants as faults
-use Rattle.tesla_convert.specs.Meaning.{Converts, Meaning}
+use Rattle.tesla_convert.specs.Meaning.{Converts, IsUnread, Meaning}
 
 -- both were opened, and nothing else has changed but the page of the output
 pub record OpensBoth (input output : List ℕ) (left written : Option (List ℕ)) (old new : Told) : Type 0 where
@@ -17,13 +17,15 @@ pub record OpensBoth (input output : List ℕ) (left written : Option (List ℕ)
   pub opened : Opened (old.page input) left
   pub empty : IfSome written (λ bytes. bytes ≡ [])
 
--- one of them wasn't opened: what was opened is closed, no byte was read, and every page is as before
+-- one of them wasn't opened: what was opened is closed, and every page is as before
 pub record OpensNotBoth (input output : List ℕ) (old new : Told) (fault : Fault) : Type 0 where
   pub opened : ℕ
   pub opens : Opens (OfSource input ∷ OfSink output ∷ []) opened old new
   pub pages : (name : List ℕ) → new.page name ≡ old.page name
   pub counts : HasCauses old.faults new.faults (fault ≡ faults.Read) (fault ≡ faults.Write) (fault ≡ faults.Open)
   pub kind : (fault ≡ faults.Read → ⊥) × (fault ≡ faults.Write → ⊥)
+  -- where memory was wanting, no byte of the input was read
+  pub unread : fault ≡ faults.NoMemory → IsUnread 0 opened (old.page input) (new.left input)
 
 -- a source and a sink under these names were closed, of which the one had this left, and on the other this was written; so often a read and a write failed
 pub record ClosesBoth (input output : List ℕ) (left written : Option (List ℕ)) (read_faults write_faults : ℕ) (old new : Told) : Type 0 where
@@ -39,4 +41,6 @@ pub record ConvertsFiles (meaning : Meaning) (input output : List ℕ) (old new 
   pub opened : ℕ
   pub opens : Opens (OfSource input ∷ OfSink output ∷ []) opened old new
   pub converts : Converts meaning (old.page input) (new.left input) (old.page output) (new.page output) came
+  -- where memory was wanting, no byte of the input was read, unless it may be wanting later
+  pub unread : came ≡ Failed faults.NoMemory → IsUnread 0 opened (old.page input) (new.left input) ⊎ meaning.MayWant
   pub counts : HasCausesBeside ((came ≡ Failed faults.Read) × AnyFailed (OfSource input ∷ OfSink output ∷ []) new) old.faults new.faults (came ≡ Failed faults.Read) (came ≡ Failed faults.Write) (came ≡ Failed faults.Open)

@@ -1,5 +1,5 @@
 -- What a command that makes one file of another comes to, and what it writes, told as functions of the input's bytes.
-use Rattle.std.specs.Prelude.{◌≡◌, ◌≢◌, ◌⊎◌, ℕ, ◌<◌, ◌≤◌, Option, Some, IfSome, List, [], ◌++◌}
+use Rattle.std.specs.Prelude.{◌≡◌, ◌≢◌, ◌⊎◌, ℕ, ◌<◌, ◌≤◌, false, Option, Some, IfSome, List, [], ◌++◌}
 use Rattle.tesla_desk.specs.Outside.{Page, Absent, Holds}
 use Rattle.tesla_front.specs.Came.{Came, Done, Refused, Failed}
 use Rattle.tesla_front.specs.Files.{HoldsWhere, HasFailed, IsPrefix, IsUnwritten}
@@ -16,10 +16,16 @@ pub record Meaning : Type 1 where
   pub so_far : List ℕ → List ℕ
   -- no place of these first bytes is refused
   pub IsUnrefused : List ℕ → Type 0
+  -- memory may be wanting once records were converted
+  pub MayWant : Type 0
 
 -- the fact holds of the bytes of a page, where they are told
 abbrev pub Where : Page → (List ℕ → Type 0) → Type 0
 Where page Fact = (bytes : List ℕ) (failed : _) → page ≡ Holds bytes failed → Fact bytes
+
+-- at most so many files were asked for, which stand before the input; or the input was opened, and nothing was read of it
+abbrev pub IsUnread : ℕ → ℕ → Page → Option (List ℕ) → Type 0
+IsUnread before opened input left = (opened ≤ before) ⊎ HoldsWhere input (λ bytes. left ≡ Some bytes)
 
 -- the input was taken as far as it goes: the command came to its end or to a refused place, and the output holds its text
 pub record ComesToEnd (meaning : Meaning) (input out : Page) (came : Came) : Type 0 where
@@ -45,14 +51,21 @@ pub record HoldsNothing (input : Page) (left : Option (List ℕ)) (out : Page) :
   pub unread : Where input (λ bytes. left ≡ Some bytes)
   pub nothing : IsUnwritten out
 
+-- memory was wanting once records were converted, where that may be: the output holds a prefix of its text, and no write to it failed
+pub record StopsWanting (meaning : Meaning) (input out : Page) : Type 0 where
+  pub there : input ≢ Absent
+  pub may : meaning.MayWant
+  pub prefix : HoldsWhere out (λ written. Where input (λ bytes. IsPrefix (meaning.makes bytes) written))
+  pub sound : (written : List ℕ) (failed : _) → out ≡ Holds written failed → failed ≡ false
+
 -- what converting the input comes to, with what was left of it, and what the output is before and afterwards
 abbrev pub Converts : Meaning → Page → Option (List ℕ) → Page → Page → Came → Type 0
 Converts meaning input left before out (Done lines) = ComesToEnd meaning input out (Done lines)
 Converts meaning input left before out (Refused status line) = ComesToEnd meaning input out (Refused status line)
 Converts meaning input left before out (Failed faults.Write) = BreaksOff meaning input out
 Converts meaning input left before out (Failed faults.Read) = StopsReading meaning input left out
--- memory is wanting only before the output is opened, or before the first byte of the input is read
-Converts meaning input left before out (Failed faults.NoMemory) = (out ≡ before) ⊎ HoldsNothing input left out
+-- memory is wanting only before the output is opened, or before the first byte of the input is read, or else where the meaning says so
+Converts meaning input left before out (Failed faults.NoMemory) = (out ≡ before) ⊎ HoldsNothing input left out ⊎ StopsWanting meaning input out
 -- the input or the output wasn't opened
 Converts meaning input left before out (Failed faults.Open) = out ≡ before
 Converts meaning input left before out _ = ⊥
@@ -67,12 +80,19 @@ StopsBetween meaning before left written failed = (bytes : List ℕ) → before 
     (read : List ℕ) × (rest : List ℕ) × (left ≡ Some rest) × (bytes ≡ read ++ rest) × meaning.IsUnrefused read
     × ((done : List ℕ) → written ≡ Some done → (done ≡ meaning.so_far read) ⊎ ((0 < failed) × IsPrefix (meaning.so_far read) done))
 
+-- nothing was read or written
+abbrev pub IsUnbegun : Option (List ℕ) → Option (List ℕ) → Option (List ℕ) → ℕ → Type 0
+IsUnbegun before left written failed = (left ≡ before) × IfSome written (λ bytes. bytes ≡ []) × (failed ≡ 0)
+
+abbrev pub WantsBetween : Meaning → Option (List ℕ) → Option (List ℕ) → ℕ → Type 0
+WantsBetween meaning before written failed = meaning.MayWant × (failed ≡ 0) × ((bytes done : List ℕ) → before ≡ Some bytes → written ≡ Some done → IsPrefix (meaning.makes bytes) done)
+
 abbrev pub ConvertsBetween : Meaning → Option (List ℕ) → Option (List ℕ) → Option (List ℕ) → ℕ → Came → Type 0
 ConvertsBetween meaning before left written failed (Done lines) = EndsBetween meaning before written (Done lines)
 ConvertsBetween meaning before left written failed (Refused status line) = EndsBetween meaning before written (Refused status line)
 ConvertsBetween meaning before left written failed (Failed faults.Write) = (0 < failed) × ((bytes done : List ℕ) → before ≡ Some bytes → written ≡ Some done → IsPrefix (meaning.makes bytes) done)
 ConvertsBetween meaning before left written failed (Failed faults.Read) = StopsBetween meaning before left written failed
-ConvertsBetween meaning before left written failed (Failed faults.NoMemory) = (left ≡ before) × IfSome written (λ bytes. bytes ≡ []) × (failed ≡ 0)
+ConvertsBetween meaning before left written failed (Failed faults.NoMemory) = IsUnbegun before left written failed ⊎ WantsBetween meaning before written failed
 ConvertsBetween meaning before left written failed _ = ⊥
 
 -- ---- the setup, which such a command reads first

@@ -9,11 +9,11 @@ use Rattle.tesla_convert.specs.Held.{HoldsText, HoldsPrefix}
 use Rattle.tesla_convert.specs.Rule.{Behind, Rule, made, made_of, made_so_far, with_text}
 use Rattle.tesla_convert.specs.declared.converter.Converted.{Converted}
 use Rattle.tesla_convert.specs.declared.converter.Converted.TheVariants as conversions
-use Rattle.tesla_convert.specs.declared.converter.Converted.TheVariants.{Whole, WriteFault}
+use Rattle.tesla_convert.specs.declared.converter.Converted.TheVariants.{Whole, WriteFault, NoMemory}
 use Rattle.tesla_convert.specs.declared.conversion.Ending.{Ending}
 use Rattle.tesla_convert.specs.declared.conversion.Ending.TheVariants.{End, Refused}
 use Rattle.tesla_convert.specs.declared.conversion.Stopped.{Stopped}
-use Rattle.tesla_convert.specs.declared.conversion.Stopped.TheVariants.{Read, Write}
+use Rattle.tesla_convert.specs.declared.conversion.Stopped.TheVariants.{Read, Write, Memory}
 
 -- these first records of a file were converted, and the rest of it isn't taken yet
 pub record IsAt (G : Grammar) (Kind : Type 0) (rule : Rule G Kind) (Has : List G.Record → Type 0) (bytes : List ℕ) (place : ℕ) (ahead written : Option (List ℕ)) (held : List ℕ) : Type 0 where
@@ -62,6 +62,7 @@ StepsTo G Kind rule Has (Ok (Some End)) bytes place ahead left written held = Is
 StepsTo G Kind rule Has (Ok (Some (Refused place kind))) bytes now ahead left written held = IsMade G Kind rule (Some (place, kind)) bytes written held
 StepsTo G Kind rule Has (Err Read) bytes place ahead left written held = IsCutOff G Kind rule bytes left written held
 StepsTo G Kind rule Has (Err Write) bytes place ahead left written held = HoldsPrefix written [] (made G Kind rule bytes).text
+StepsTo G Kind rule Has (Err Memory) bytes place ahead left written held = HoldsPrefix written [] (made G Kind rule bytes).text
 
 -- all records were converted
 abbrev pub RecordsTo : (G : Grammar) (Kind : Type 0) → Rule G Kind → (List G.Record → Type 0) → Result (Ending Kind) Stopped → List ℕ → Option (List ℕ) → Option (List ℕ) → List ℕ → Type 0
@@ -69,6 +70,7 @@ RecordsTo G Kind rule Has (Ok End) bytes left written held = IsAtEnd G Kind rule
 RecordsTo G Kind rule Has (Ok (Refused place kind)) bytes left written held = IsMade G Kind rule (Some (place, kind)) bytes written held
 RecordsTo G Kind rule Has (Err Read) bytes left written held = IsCutOff G Kind rule bytes left written held
 RecordsTo G Kind rule Has (Err Write) bytes left written held = HoldsPrefix written [] (made G Kind rule bytes).text
+RecordsTo G Kind rule Has (Err Memory) bytes left written held = HoldsPrefix written [] (made G Kind rule bytes).text
 
 -- the file was converted to its end
 abbrev pub AllTo : (G : Grammar) (Kind : Type 0) → Rule G Kind → (List G.Record → Type 0) → Result (Ending Kind) Stopped → List ℕ → Option (List ℕ) → Option (List ℕ) → List ℕ → Type 0
@@ -76,13 +78,15 @@ AllTo G Kind rule Ended (Ok End) bytes left written held = Ended (outline_of G b
 AllTo G Kind rule Ended (Ok (Refused place kind)) bytes left written held = IsMade G Kind rule (Some (place, kind)) bytes written held
 AllTo G Kind rule Ended (Err Read) bytes left written held = IsCutOff G Kind rule bytes left written held
 AllTo G Kind rule Ended (Err Write) bytes left written held = HoldsPrefix written [] (made G Kind rule bytes).text
+AllTo G Kind rule Ended (Err Memory) bytes left written held = HoldsPrefix written [] (made G Kind rule bytes).text
 
--- what is held was written at last, to a sink on which so many writes failed then: a failed read stays, and what was held is written or the sink failed; else a failed write is one, and after one nothing more is written
+-- what is held was written at last, to a sink on which so many writes failed then: a failed read stays, and what was held is written or the sink failed; else a failed write is one, and after one nothing more is written; nor where memory was wanting
 abbrev pub Settles : {A : Type 0} → Result A Stopped → Result A Stopped → Option (List ℕ) → Option (List ℕ) → List ℕ → ℕ → Type 0
 Settles (Ok ending) (Ok other) before now held failed = (other ≡ ending) × (now ≡ with_bytes before held)
 Settles (Ok ending) (Err stopped) before now held failed = (stopped ≡ Write) × AppendsPrefix before now held
 Settles (Err Read) settled before now held failed = (settled ≡ Err Read) × ((now ≡ with_bytes before held) ⊎ ((0 < failed) × AppendsPrefix before now held))
 Settles (Err Write) settled before now held failed = (settled ≡ Err Write) × (now ≡ before)
+Settles (Err Memory) settled before now held failed = (settled ≡ Err Memory) × (now ≡ before)
 
 -- a read failed, and what was made before is written, or the output failed
 pub record IsWrittenSoFar (G : Grammar) (Kind : Type 0) (rule : Rule G Kind) (bytes : List ℕ) (left written : Option (List ℕ)) (failed : ℕ) : Type 0 where
@@ -100,15 +104,18 @@ Converts G Kind rule Ended (Ok End) bytes left written failed = Ended (outline_o
 Converts G Kind rule Ended (Ok (Refused place kind)) bytes left written failed = IsMade G Kind rule (Some (place, kind)) bytes written []
 Converts G Kind rule Ended (Err Read) bytes left written failed = IsWrittenSoFar G Kind rule bytes left written failed
 Converts G Kind rule Ended (Err Write) bytes left written failed = HoldsPrefix written [] (made G Kind rule bytes).text
+Converts G Kind rule Ended (Err Memory) bytes left written failed = HoldsPrefix written [] (made G Kind rule bytes).text
 
 -- on a sink so many writes failed: none did, unless a failed write is what came
 abbrev pub SoundFor : {A : Type 0} → Result A Stopped → ℕ → Type 0
 SoundFor (Ok x) failed = failed ≡ 0
 SoundFor (Err Read) failed = failed ≡ 0
 SoundFor (Err Write) failed = 0 < failed
+SoundFor (Err Memory) failed = failed ≡ 0
 
 -- after a record that was converted there may be more; one that is refused ends the file at its offset
 abbrev pub ending_at : {Kind : Type 0} → ℕ → Converted Kind → Result (Option (Ending Kind)) Stopped
 ending_at place Whole = Ok None
 ending_at place (conversions.Refused kind) = Ok (Some (Refused place kind))
 ending_at place WriteFault = Err Write
+ending_at place NoMemory = Err Memory

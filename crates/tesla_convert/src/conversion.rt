@@ -10,7 +10,7 @@ ghost use Rattle.tesla_convert.specs.Held.{HoldsText};
 ghost use Rattle.tesla_convert.specs.Records.{Answers};
 ghost use Rattle.tesla_convert.specs.Steps.{AllTo, Converts, GoesUp, IsAt, RecordsTo, StepsTo, ending_at};
 
-use crate::converter::{Converted, Converter, TakenRecord};
+use crate::converter::{Converted, Converter, Halt, TakenRecord};
 use crate::settling::settle;
 use tesla_capture::{Gatherer, RecordReader, RecordStep};
 use tesla_desk::{Sink, Source};
@@ -34,6 +34,8 @@ pub enum Stopped {
     Read,
     /// A write failed: the sink's did.
     Write,
+    /// Memory was wanting, which comes only with a converter whose `may_want` is true. Nothing is gathered any more.
+    Memory,
 }
 
 /// Converts a file of records, and writes what the converter makes of it. It owns the rooms that this takes.
@@ -59,6 +61,7 @@ fn ending_at<K>(place: u64, converted: Converted<K>) -> Result<Option<Ending<K>>
         Converted::Whole => Ok(None),
         Converted::Refused(kind) => Ok(Some(Ending::Refused { place, kind })),
         Converted::WriteFault => Err(Stopped::Write),
+        Converted::NoMemory => Err(Stopped::Memory),
     }
 }
 
@@ -90,6 +93,7 @@ impl<C: Converter> Conversion<C> {
             Answers C.grammar (C.rule self.old.converter) (C.has self.new.converter) rs (C.grammar.carrying reading (take length self.old.room)) result (O.written out.old) (O.written out.new) (gathered self.old.gatherer) (gathered self.new.gatherer) }
         ensures rule { C.rule self.new.converter ≡ C.rule self.old.converter }
         ensures calls { C.calls self.new.converter ≤ C.calls self.old.converter + 1 }
+        ensures wants { result ≡ Converted.NoMemory → C.may_want ≡ true }
         ensures cause { HasCause (O.faults out.old) (O.faults out.new) (result ≡ Converted.WriteFault) }
         ensures name { O.name out.new ≡ O.name out.old }
     {
@@ -106,6 +110,7 @@ impl<C: Converter> Conversion<C> {
             Answers C.grammar (C.rule self.old.converter) (C.has self.new.converter) rs (C.grammar.bare reading) result (O.written out.old) (O.written out.new) (gathered self.old.gatherer) (gathered self.new.gatherer) }
         ensures rule { C.rule self.new.converter ≡ C.rule self.old.converter }
         ensures calls { C.calls self.new.converter ≤ C.calls self.old.converter + 1 }
+        ensures wants { result ≡ Converted.NoMemory → C.may_want ≡ true }
         ensures cause { HasCause (O.faults out.old) (O.faults out.new) (result ≡ Converted.WriteFault) }
         ensures name { O.name out.new ≡ O.name out.old }
     {
@@ -128,6 +133,7 @@ impl<C: Converter> Conversion<C> {
         ensures rule { C.rule self.new.converter ≡ C.rule self.old.converter }
         ensures calls { C.calls self.new.converter ≤ C.calls self.old.converter + 1 }
         ensures rises { result ≡ Ok None → GoesUp reader.old reader.new }
+        ensures wants { result ≡ Err Stopped.Memory → C.may_want ≡ true }
         ensures reads { HasCause (S.faults source.old) (S.faults source.new) (result ≡ Err Stopped.Read) }
         ensures writes { HasCause (O.faults out.old) (O.faults out.new) (result ≡ Err Stopped.Write) }
         ensures input { S.name source.new ≡ S.name source.old }
@@ -160,6 +166,7 @@ impl<C: Converter> Conversion<C> {
             RecordsTo C.grammar C.Kind (C.rule self.old.converter) (C.has self.new.converter) result bytes (S.left source.new) (O.written out.new) (gathered self.new.gatherer) }
         ensures rule { C.rule self.new.converter ≡ C.rule self.old.converter }
         ensures calls { C.calls self.new.converter ≤ limit + 1 }
+        ensures wants { result ≡ Err Stopped.Memory → C.may_want ≡ true }
         ensures reads { HasCause (S.faults source.old) (S.faults source.new) (result ≡ Err Stopped.Read) }
         ensures writes { HasCause (O.faults out.old) (O.faults out.new) (result ≡ Err Stopped.Write) }
         ensures input { S.name source.new ≡ S.name source.old }
@@ -185,19 +192,18 @@ impl<C: Converter> Conversion<C> {
         requires sound { O.faults out.old ≡ 0 }
         ensures converts { (bytes : List ℕ) → S.left source.old ≡ Some bytes → C.has self.old.converter [] → HoldsText (O.written out.old) (gathered self.old.gatherer) (C.rule self.old.converter).begins →
             AllTo C.grammar C.Kind (C.rule self.old.converter) (C.ended self.new.converter) result bytes (S.left source.new) (O.written out.new) (gathered self.new.gatherer) }
+        ensures wants { result ≡ Err Stopped.Memory → C.may_want ≡ true }
         ensures reads { HasCause (S.faults source.old) (S.faults source.new) (result ≡ Err Stopped.Read) }
         ensures writes { HasCause (O.faults out.old) (O.faults out.new) (result ≡ Err Stopped.Write) }
         ensures input { S.name source.new ≡ S.name source.old }
         ensures output { O.name out.new ≡ O.name out.old }
     {
         match self.convert_records(source, out) {
-            Ok(Ending::End) => {
-                if self.converter.finish(&mut self.gatherer, out) {
-                    Ok(Ending::End)
-                } else {
-                    Err(Stopped::Write)
-                }
-            }
+            Ok(Ending::End) => match self.converter.finish(&mut self.gatherer, out) {
+                Ok(()) => Ok(Ending::End),
+                Err(Halt::WriteFault) => Err(Stopped::Write),
+                Err(Halt::NoMemory) => Err(Stopped::Memory),
+            },
             Ok(Ending::Refused { place, kind }) => Ok(Ending::Refused { place, kind }),
             Err(stopped) => Err(stopped),
         }
@@ -213,6 +219,7 @@ impl<C: Converter> Conversion<C> {
         requires sound { O.faults out.old ≡ 0 }
         ensures converts { (bytes : List ℕ) → S.left source.old ≡ Some bytes → C.has self.old.converter [] → HoldsText (O.written out.old) (gathered self.old.gatherer) [] →
             AllTo C.grammar C.Kind (C.rule self.old.converter) (C.ended self.new.converter) result bytes (S.left source.new) (O.written out.new) (gathered self.new.gatherer) }
+        ensures wants { result ≡ Err Stopped.Memory → C.may_want ≡ true }
         ensures reads { HasCause (S.faults source.old) (S.faults source.new) (result ≡ Err Stopped.Read) }
         ensures writes { HasCause (O.faults out.old) (O.faults out.new) (result ≡ Err Stopped.Write) }
         ensures input { S.name source.new ≡ S.name source.old }
@@ -228,10 +235,11 @@ impl<C: Converter> Conversion<C> {
     /// where there is none the end. It gives the converter back, and how the records ended.
     ///
     /// What is written is gathered, and written where the next piece doesn't fit and at last. After a failed read that is
-    /// tried too, and the fault stays. Nothing is read once a write has failed.
+    /// tried too, and the fault stays. Nothing is read once a write has failed, or memory was wanting.
     ///
     /// `Read` exactly where the source's count of faults rose, and `Write` exactly where the sink's did, but for the last
-    /// write behind a failed read.
+    /// write behind a failed read. `Memory` only where the converter's `may_want` is true: what is written is a prefix of
+    /// what is made of the file.
     pub fn convert<S: Source, O: Sink>(
         mut self,
         source: &mut S,
@@ -244,6 +252,7 @@ impl<C: Converter> Conversion<C> {
         requires fresh { S.faults source.old ≡ 0 }
         requires sound { O.faults out.old ≡ 0 }
         ensures converts { (bytes : List ℕ) → S.left source.old ≡ Some bytes → Converts C.grammar C.Kind (C.rule self.converter) (C.ended result.0) result.1 bytes (S.left source.new) (O.written out.new) (O.faults out.new) }
+        ensures wants { result.1 ≡ Err Stopped.Memory → C.may_want ≡ true }
         ensures reads { HasCause 0 (S.faults source.new) (result.1 ≡ Err Stopped.Read) }
         ensures writes { HasCauseBeside ((result.1 ≡ Err Stopped.Read) × (0 < O.faults out.new)) 0 (O.faults out.new) (result.1 ≡ Err Stopped.Write) }
         ensures input { S.name source.new ≡ S.name source.old }

@@ -1,6 +1,6 @@
 //! What is made of the records of a file.
 
-ghost use Rattle.std.specs.Prelude.{◌≡◌, ◌+◌, ◌≤◌, ◌++◌, List, ℕ, true, false, Some, drop, length};
+ghost use Rattle.std.specs.Prelude.{◌≡◌, ◌+◌, ◌≤◌, ◌++◌, [], List, ℕ, Bool, true, false, Some, Err, IfOk, IfErr, drop, length};
 ghost use Rattle.tesla_capture.specs.Gathering.{gathered, Gathers};
 ghost use Rattle.tesla_capture.specs.Grammar.{Grammar, limit};
 ghost use Rattle.tesla_capture.specs.Formats.{IsGrammar};
@@ -32,6 +32,17 @@ pub enum Converted<K> {
     Refused(K),
     /// A write failed.
     WriteFault,
+    /// Memory was wanting. What is written of the record, and all that was gathered before, were written.
+    NoMemory,
+}
+
+/// What stops a converter at the end of a file.
+#[derive(Clone, Copy, Debug, PartialEq, Eq)]
+pub enum Halt {
+    /// A write failed.
+    WriteFault,
+    /// Memory was wanting. Nothing is gathered any more.
+    NoMemory,
 }
 
 /// What is made of the records of a file, one after another: which format they have, and what is written of each.
@@ -55,6 +66,9 @@ pub trait Converter {
 
     /// It was given the end of the file behind these records.
     ghost ended: { Self → List grammar.Record → Type 0 };
+
+    /// Whether memory may be wanting once records were converted.
+    ghost may_want: { Bool };
 
     /// How many calls it has had at most.
     ghost calls: { Self → ℕ };
@@ -89,7 +103,8 @@ pub trait Converter {
         ensures cause { HasCause (O.faults out.old) (O.faults out.new) (result ≡ false) }
         ensures name { O.name out.new ≡ O.name out.old };
 
-    /// Takes a record. What is written of it is put behind what is gathered.
+    /// Takes a record. What is written of it is put behind what is gathered. `NoMemory` comes only where
+    /// `may_want` is true.
     fn convert<O: Sink>(
         &mut self,
         taken: TakenRecord<'_>,
@@ -103,17 +118,20 @@ pub trait Converter {
             Answers grammar (rule self.old) (has self.new) rs (record_of grammar taken.entry) result (O.written out.old) (O.written out.new) (gathered gatherer.old) (gathered gatherer.new) }
         ensures rule { rule self.new ≡ rule self.old }
         ensures calls { calls self.new ≤ calls self.old + 1 }
+        ensures wants { result ≡ Converted.NoMemory → may_want ≡ true }
         ensures cause { HasCause (O.faults out.old) (O.faults out.new) (result ≡ Converted.WriteFault) }
         ensures name { O.name out.new ≡ O.name out.old };
 
-    /// Takes the end of the file. False: a write failed.
-    fn finish<O: Sink>(&mut self, gatherer: &mut Gatherer, out: &mut O) -> bool
+    /// Takes the end of the file. Where it halts, a prefix of what was gathered and of what is written of the end was
+    /// written. `NoMemory` comes only where `may_want` is true.
+    fn finish<O: Sink>(&mut self, gatherer: &mut Gatherer, out: &mut O) -> Result<(), Halt>
         requires calls { calls self.old ≤ limit + 1 }
         requires sound { O.faults out.old ≡ 0 }
-        ensures ended { result ≡ true → (rs : List grammar.Record) → has self.old rs → ended self.new rs }
-        ensures writes { result ≡ true → (rs : List grammar.Record) → has self.old rs → Gathers (O.written out.old) (O.written out.new) (gathered gatherer.new) (gathered gatherer.old ++ (rule self.old).ends rs) }
-        ensures halts { result ≡ false → (rs : List grammar.Record) → has self.old rs → AppendsPrefix (O.written out.old) (O.written out.new) (gathered gatherer.old ++ (rule self.old).ends rs) }
-        ensures cause { HasCause (O.faults out.old) (O.faults out.new) (result ≡ false) }
+        ensures ended { IfOk result (λ _. (rs : List grammar.Record) → has self.old rs → ended self.new rs) }
+        ensures writes { IfOk result (λ _. (rs : List grammar.Record) → has self.old rs → Gathers (O.written out.old) (O.written out.new) (gathered gatherer.new) (gathered gatherer.old ++ (rule self.old).ends rs)) }
+        ensures halts { IfErr result (λ _. (rs : List grammar.Record) → has self.old rs → AppendsPrefix (O.written out.old) (O.written out.new) (gathered gatherer.old ++ (rule self.old).ends rs)) }
+        ensures wants { result ≡ Err Halt.NoMemory → (may_want ≡ true) × (gathered gatherer.new ≡ []) }
+        ensures cause { HasCause (O.faults out.old) (O.faults out.new) (result ≡ Err Halt.WriteFault) }
         ensures name { O.name out.new ≡ O.name out.old };
 
     ghost is: { IsGrammar grammar };

@@ -9,7 +9,7 @@ use tesla_front::Fault;
 /// Opens an input, and then an output. Where the output isn't opened, the input is closed again.
 ///
 /// `Open` exactly where the desk's count of openings rose, `NoMemory` where there was no memory; no other fault comes, and
-/// no page has changed then.
+/// no page has changed then. Where there was no memory, the input wasn't opened, or no byte of it was read.
 pub fn open_files<D: Desk>(
     input: &str,
     output: &str,

@@ -7,5 +7,5 @@ mod files;
 mod settling;
 
 pub use conversion::{Conversion, Ending, Stopped};
-pub use converter::{Converted, Converter, TakenRecord};
+pub use converter::{Converted, Converter, Halt, TakenRecord};
 pub use files::{close_files, open_files};

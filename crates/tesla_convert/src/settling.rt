@@ -10,7 +10,7 @@ use tesla_capture::Gatherer;
 use tesla_desk::Sink;
 
 /// Writes what is gathered at last, after what came. A failed read stays, whatever becomes of that; after a failed write
-/// nothing more is written.
+/// nothing more is written, and where memory was wanting nothing is gathered any more.
 pub fn settle<T: Copy, O: Sink>(
     gatherer: &mut Gatherer,
     came: Result<T, Stopped>,
@@ -18,6 +18,7 @@ pub fn settle<T: Copy, O: Sink>(
 ) -> Result<T, Stopped>
     requires { SoundFor came (O.faults out.old) }
     ensures settles { Settles came result (O.written out.old) (O.written out.new) (gathered gatherer.old) (O.faults out.new) }
+    ensures wants { result ≡ Err Stopped.Memory → came ≡ Err Stopped.Memory }
     ensures cause { HasCauseBeside ((result ≡ Err Stopped.Read) × (0 < O.faults out.new)) 0 (O.faults out.new) (result ≡ Err Stopped.Write) }
     ensures name { O.name out.new ≡ O.name out.old }
 {
@@ -34,5 +35,6 @@ pub fn settle<T: Copy, O: Sink>(
             Err(Stopped::Read)
         }
         Err(Stopped::Write) => Err(Stopped::Write),
+        Err(Stopped::Memory) => Err(Stopped::Memory),
     }
 }

@@ -17,7 +17,7 @@ use Rattle.tesla_front.specs.declared.fault.Fault.{Fault}
 use Rattle.tesla_front.specs.declared.fault.Fault.TheVariants as faults
 use Rattle.tesla_receiver.specs.Report.{report_of}
 use Rattle.tesla_receiver.specs.declared.history.Entry.{Entry}
-use Rattle.tesla_convert.specs.Meaning.{Converts}
+use Rattle.tesla_convert.specs.Meaning.{Converts, HoldsNothing}
 use Rattle.tesla_run_replay.specs.Arguments.{ReplayArguments}
 use Rattle.tesla_run_replay.specs.Replay.{DoesReplay, config_of, end_by, history_of, meaning, replay}
 use Rattle.tesla_run_replay.specs.ReportText.{report_text}
@@ -29,14 +29,14 @@ never_refused text setup status line found (inl why) = let no : ◌≡◌ {A = R
 never_refused text setup status line found (inr memory) = cc
 
 -- where a setup is told, there is none only where something went wrong outside
-none_ends : (page : Page) (came : Came) (text : List ℕ) (failed : Bool) (setup : Parts) → page ≡ Holds text failed → judged text ≡ Ok setup → IsNoSetup page came → (fault : Fault) × (came ≡ Failed fault)
+pub none_ends : (page : Page) (came : Came) (text : List ℕ) (failed : Bool) (setup : Parts) → page ≡ Holds text failed → judged text ≡ Ok setup → IsNoSetup page came → (fault : Fault) × (came ≡ Failed fault)
 none_ends page (Failed fault) text failed setup is found why = (fault, refl)
 none_ends page (Refused status line) text failed setup is found why =
     absurd (never_refused text setup status line found (subst (λ (p : Page). HoldsWhere p (λ t. IsNoSetupText t (Refused status line))) is why))
 none_ends page _ text failed setup is found why = absurd why
 
 -- it is the one that was told
-one_setup : (page : Page) (text : List ℕ) (failed : Bool) (setup other : Parts) → page ≡ Holds text failed → judged text ≡ Ok setup → IsSetupIn page other → other ≡ setup
+pub one_setup : (page : Page) (text : List ℕ) (failed : Bool) (setup other : Parts) → page ≡ Holds text failed → judged text ≡ Ok setup → IsSetupIn page other → other ≡ setup
 one_setup Untold text failed setup other page found in_page = absurd cc
 one_setup Absent text failed setup other page found in_page = absurd cc
 one_setup (Holds held lost) text failed setup other page found in_page = let same : held ≡ text = cc in let both : Ok other ≡ Ok setup = sym in_page ∙ ap judged same ∙ found in cc
@@ -70,3 +70,9 @@ complete arguments old new came text bytes failed other setup performs page foun
       | inl done ↦ inl done
       | inr fault ↦ inr (memory_alone old.faults new.faults came fault.0 performs.counts none fault.1)
     ]
+
+-- memory is wanting before the capture is read or not at all
+pub memory_first : (cfg : Config) (capture before out : Page) (left : Option (List ℕ)) → Converts (meaning cfg) capture left before out (Failed faults.NoMemory) → (out ≡ before) ⊎ HoldsNothing capture left out
+memory_first cfg capture before out left (inl same) = inl same
+memory_first cfg capture before out left (inr (inl nothing)) = inr nothing
+memory_first cfg capture before out left (inr (inr wants)) = absurd wants.may

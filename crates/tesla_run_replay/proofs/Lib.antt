@@ -2,6 +2,7 @@ pub mod Histories
 pub mod Made
 pub mod Takes
 pub mod Targets
+pub mod Meanings
 pub mod Ended
 pub mod Performed
 pub mod Complete

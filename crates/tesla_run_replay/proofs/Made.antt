@@ -1,18 +1,15 @@
--- What is made of a capture by the rule of a target, and of one by that of a receiver.
-use Rattle.std.proofs.Common.{◌≡◌, ◌∙◌, ℕ, ◌+◌, Option, Some, None, is_none, List, [], ◌∷◌, ◌++◌, length, refl, sym, ap, append_assoc, append-nil}
+-- What is made of a capture by the rule of a target.
+use Rattle.std.proofs.Common.{◌≡◌, ◌∙◌, ℕ, ◌+◌, Option, Some, None, List, [], ◌∷◌, ◌++◌, length, refl, sym, ap, append_assoc, append-nil}
 use Rattle.std.proofs.lemmas.List.{map-append}
 use Rattle.tesla_capture.specs.Capture.{Record, capture, record_text}
 use Rattle.tesla_capture.specs.Outline.{outline_of}
 use Rattle.tesla_capture.specs.declared.record.RecordKind.{RecordKind}
-use Rattle.tesla_fitting.specs.declared.config.Config.{Config}
 use Rattle.tesla_receiver.specs.History.{Event}
-use Rattle.tesla_receiver.specs.Played.{event_in, played}
+use Rattle.tesla_receiver.specs.Played.{event_in}
 use Rattle.tesla_receiver.proofs.EachAfter.{each_after-append}
 use Rattle.tesla_state.specs.Releases.{each_after}
 use Rattle.tesla_convert.specs.Rule.{Behind, Made, Unread, behind_of, made, made_behind, made_of, made_so_far, with_text}
-use Rattle.tesla_run_replay.specs.Playing.{EventRule, end_after, events_in, events_text, record_rule, rule_of}
-use Rattle.tesla_run_replay.specs.Replay.{out_text, text_by, text_so_far}
-use Rattle.tesla_run_replay.proofs.Histories.{ended_text, records_text}
+use Rattle.tesla_run_replay.specs.Playing.{EventRule, end_after, events_in, events_text, record_rule, text_by_rule}
 
 -- one record more is one event more
 pub one_event : (records : List Record) (first : Record) → events_in (records ++ first ∷ []) ≡ events_in records ++ event_in first ∷ []
@@ -41,20 +38,18 @@ refused_is rule bytes =
     ap (λ (m : Made RecordKind). m.refused) (made_all rule (behind_of capture RecordKind (record_rule rule) (outline_of bytes).fault) 5 [] (outline_of bytes).records)
     ∙ behind_fault rule (outline_of bytes).fault (outline_of bytes).records
 
-text_behind : (cfg : Config) (fault : Option (ℕ × RecordKind)) (records : List Record)
-    → events_text (rule_of cfg) (events_in records) ++ (made_behind capture RecordKind (record_rule (rule_of cfg)) (behind_of capture RecordKind (record_rule (rule_of cfg)) fault) records).text ≡ text_by fault cfg (played cfg records (is_none fault))
-text_behind cfg None records =
-    sym (each_after-append (rule_of cfg).adds [] (events_in records) (end_after (rule_of cfg) (events_in records))) ∙ ended_text cfg records
-text_behind cfg (Some fault) records = append-nil (events_text (rule_of cfg) (events_in records)) ∙ records_text cfg records
+text_behind : (rule : EventRule) (fault : Option (ℕ × RecordKind)) (records : List Record)
+    → events_text rule (events_in records) ++ (made_behind capture RecordKind (record_rule rule) (behind_of capture RecordKind (record_rule rule) fault) records).text ≡ text_by_rule rule fault records
+text_behind rule None records = sym (each_after-append rule.adds [] (events_in records) (end_after rule (events_in records)))
+text_behind rule (Some fault) records = append-nil (events_text rule (events_in records))
 
--- what a receiver makes of a file is its text
-pub text_is : (cfg : Config) (bytes : List ℕ) → (made capture RecordKind (record_rule (rule_of cfg)) bytes).text ≡ out_text cfg bytes
-text_is cfg bytes =
-    ap (λ (m : Made RecordKind). m.text) (made_all (rule_of cfg) (behind_of capture RecordKind (record_rule (rule_of cfg)) (outline_of bytes).fault) 5 [] (outline_of bytes).records)
-    ∙ text_behind cfg (outline_of bytes).fault (outline_of bytes).records
+-- what is made of a file is the text of its events
+pub text_is : (rule : EventRule) (bytes : List ℕ) → (made capture RecordKind (record_rule rule) bytes).text ≡ text_by_rule rule (outline_of bytes).fault (outline_of bytes).records
+text_is rule bytes =
+    ap (λ (m : Made RecordKind). m.text) (made_all rule (behind_of capture RecordKind (record_rule rule) (outline_of bytes).fault) 5 [] (outline_of bytes).records)
+    ∙ text_behind rule (outline_of bytes).fault (outline_of bytes).records
 
--- what it makes of the first bytes of a file is their text
-pub so_far_is : (cfg : Config) (read : List ℕ) → (made_so_far capture RecordKind (record_rule (rule_of cfg)) read).text ≡ text_so_far cfg read
-so_far_is cfg read =
-    ap (λ (m : Made RecordKind). m.text) (made_all (rule_of cfg) Unread 5 [] (outline_of read).records)
-    ∙ append-nil (events_text (rule_of cfg) (events_in (outline_of read).records)) ∙ records_text cfg (outline_of read).records
+-- what is made of the first bytes of a file is the text of theirs
+pub so_far_is : (rule : EventRule) (read : List ℕ) → (made_so_far capture RecordKind (record_rule rule) read).text ≡ events_text rule (events_in (outline_of read).records)
+so_far_is rule read =
+    ap (λ (m : Made RecordKind). m.text) (made_all rule Unread 5 [] (outline_of read).records) ∙ append-nil (events_text rule (events_in (outline_of read).records))

@@ -11,7 +11,8 @@ use Rattle.tesla_front.specs.Setup.{IsNoSetup, IsSetupIn}
 use Rattle.tesla_front.specs.declared.refusal.Stop.{Stop}
 use Rattle.tesla_front.proofs.Openings.{opens_some, opens_then}
 use Rattle.tesla_convert.specs.Files.{ClosesBoth, ConvertsFiles}
-use Rattle.tesla_convert.specs.Meaning.{Converts}
+use Rattle.tesla_convert.specs.Meaning.{Converts, IsUnread}
+use Rattle.tesla_convert.proofs.Unread.{unread_behind, unread_never}
 use Rattle.tesla_run_replay.specs.Arguments.{IsReplay, ReplayArguments, files_of_replay}
 use Rattle.tesla_run_replay.specs.Replay.{config_of, meaning, replay}
 use Rattle.tesla_front.proofs.Commands.{counts_stopped}
@@ -43,6 +44,8 @@ performs_files arguments setup before mid now came named opened pages found caus
     found = found;
     converts = subst (λ (p : Page). Converts (meaning (config_of arguments setup)) p (now.left arguments.capture) (before.page arguments.out) (now.page arguments.out) came) (pages arguments.capture)
         (subst (λ (p : Page). Converts (meaning (config_of arguments setup)) (mid.page arguments.capture) (now.left arguments.capture) p (now.page arguments.out) came) (pages arguments.out) converts.converts);
+    unread = λ e. subst (λ (p : Page). IsUnread 1 (suc converts.opened) p (now.left arguments.capture)) (pages arguments.capture)
+        (unread_behind 0 converts.opened (mid.page arguments.capture) (now.left arguments.capture) (unread_never 0 converts.opened (mid.page arguments.capture) (now.left arguments.capture) (converts.unread e)));
   });
   counts = causes_then before.faults mid.faults now.faults (causes_none before.faults mid.faults causes (λ e. absurd cc) (λ e. absurd cc) (λ e. absurd cc)) converts.counts;
 }

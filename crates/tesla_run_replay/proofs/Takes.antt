@@ -1,11 +1,13 @@
 -- Takes one after another.
-use Rattle.std.proofs.Common.{◌≡◌, ◌∙◌, ◌+◌, ◌-◌, ◌≤◌, ℕ, zero, suc, Option, List, [], ◌∷◌, ◌++◌, replicate, refl, sym, ap, subst, arith, append_assoc, append-nil, add-one}
+use Rattle.std.proofs.Common.{◌≡◌, ◌∙◌, ◌+◌, ◌-◌, ◌≤◌, ℕ, zero, suc, Option, Result, Err, List, [], ◌∷◌, ◌++◌, replicate, refl, sym, ap, subst, arith, append_assoc, append-nil, add-one}
 use Rattle.tesla_capture.specs.Gathering.{Gathers}
 use Rattle.tesla_desk.specs.Outside.{AppendsPrefix, with_bytes}
-use Rattle.tesla_desk.proofs.Told.{appends_none, prefix_after, prefix_longer, with_bytes_twice}
+use Rattle.tesla_desk.proofs.Told.{appends_none, prefix_after, prefix_longer, prefix_whole, with_bytes_twice}
 use Rattle.tesla_receiver.specs.History.{Event, Ends, Takes}
 use Rattle.tesla_receiver.proofs.EachAfter.{each_after-append}
 use Rattle.tesla_state.specs.Releases.{each_after}
+use Rattle.tesla_convert.specs.declared.converter.Halt.{Halt}
+use Rattle.tesla_convert.specs.declared.converter.Halt.TheVariants.{NoMemory, WriteFault}
 use Rattle.tesla_run_replay.specs.Playing.{EventRule, end_after, with_end}
 
 -- so many takes, and one
@@ -44,6 +46,11 @@ pub gathers_prefix : (before mid now : Option (List ℕ)) (held text piece : Lis
 gathers_prefix before mid now held text piece first second =
     let whole : first.done ++ (held ++ piece) ≡ text ++ piece = sym (append_assoc first.done held piece) ∙ ap (λ t. t ++ piece) (sym first.both) in
     subst (λ (t : List ℕ). AppendsPrefix before now t) whole (prefix_after before mid now first.done (held ++ piece) first.written second)
+
+-- where an event halts, a prefix of what was held and of what is written of it was written
+pub prefix_halted : (halt : Halt) (before now : Option (List ℕ)) (piece : List ℕ) → (◌≡◌ {A = Result (Unit {0}) Halt} (Err halt) (Err WriteFault) → AppendsPrefix before now piece) → (◌≡◌ {A = Result (Unit {0}) Halt} (Err halt) (Err NoMemory) → now ≡ with_bytes before piece) → AppendsPrefix before now piece
+prefix_halted WriteFault before now piece failed wants = failed refl
+prefix_halted NoMemory before now piece failed wants = prefix_whole before now piece (wants refl)
 
 -- ---- told the rule of a target, which is the same behind some takes
 

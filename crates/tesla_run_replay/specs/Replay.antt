@@ -1,5 +1,5 @@
 -- What the command replay does.
-use Rattle.std.specs.Prelude.{◌⊎◌, ℕ, is_none, Option, Some, None, false, List, [], ◌∷◌, codes}
+use Rattle.std.specs.Prelude.{◌≡◌, ◌⊎◌, ℕ, is_none, Option, Some, None, false, List, [], ◌∷◌, codes}
 use Rattle.tesla_capture.specs.Capture.{capture}
 use Rattle.tesla_capture.specs.Names.{kind_name}
 use Rattle.tesla_capture.specs.Outline.{outline_of}
@@ -7,16 +7,17 @@ use Rattle.tesla_capture.specs.Taken.{HoldsNoRefusal}
 use Rattle.tesla_capture.specs.declared.record.RecordKind.{RecordKind}
 use Rattle.tesla_commit.specs.Parts.{Parts}
 use Rattle.tesla_fitting.specs.declared.config.Config.{Config}
-use Rattle.tesla_front.specs.Came.{Came, Done, Refused}
+use Rattle.tesla_front.specs.Came.{Came, Done, Refused, Failed}
 use Rattle.tesla_front.specs.Command.{Command}
 use Rattle.tesla_front.specs.Openings.{File}
 use Rattle.tesla_front.specs.Refusal.{refused_line}
 use Rattle.tesla_front.specs.Setup.{IsSetupIn}
+use Rattle.tesla_front.specs.declared.fault.Fault.TheVariants as faults
 use Rattle.tesla_receiver.specs.declared.history.Entry.{Entry}
 use Rattle.tesla_receiver.specs.History.{arrivals_in}
 use Rattle.tesla_receiver.specs.Played.{played}
 use Rattle.tesla_receiver.specs.Report.{report_of, records_of, released_text}
-use Rattle.tesla_convert.specs.Meaning.{Converts, Meaning, StopsAtSetup}
+use Rattle.tesla_convert.specs.Meaning.{Converts, IsUnread, Meaning, StopsAtSetup}
 use Rattle.tesla_run_replay.specs.Arguments.{ReplayArguments, IsReplay, files_of_replay}
 use Rattle.tesla_run_replay.specs.ReportText.{report_text}
 
@@ -49,20 +50,22 @@ out_text cfg bytes = text_by (outline_of bytes).fault cfg (history_of cfg bytes)
 abbrev pub text_so_far : Config → List ℕ → List ℕ
 text_so_far cfg read = records_of 0 (played cfg (outline_of read).records false)
 
--- all of that, as functions of the capture's bytes
+-- all of that, as functions of the capture's bytes: memory is wanting before the capture is read or not at all
 abbrev pub meaning : Config → Meaning
-meaning cfg = record { comes = end_of cfg; makes = out_text cfg; so_far = text_so_far cfg; IsUnrefused = HoldsNoRefusal capture }
+meaning cfg = record { comes = end_of cfg; makes = out_text cfg; so_far = text_so_far cfg; IsUnrefused = HoldsNoRefusal capture; MayWant = ⊥ }
 
--- under the setup the capture was played, told what there was of each file before, and of the capture and the output afterwards
-pub record PlaysUnder (arguments : ReplayArguments) (setup capture capture_now out out_now : File) (came : Came) : Type 0 where
+-- under the setup the capture was played, told what there was of each file before, and of the capture and the output afterwards, and how many files were asked for, of which the setup is the first
+pub record PlaysUnder (arguments : ReplayArguments) (setup capture capture_now out out_now : File) (opened : ℕ) (came : Came) : Type 0 where
   pub parts : Parts
   pub found : IsSetupIn setup.page parts
   pub converts : Converts (meaning (config_of arguments parts)) capture.page capture_now.left out.page out_now.page came
+  -- memory is wanting only before the first byte of the capture is read
+  pub unread : came ≡ Failed faults.NoMemory → IsUnread 1 opened capture.page capture_now.left
 
 -- what a replay does: there is no setup, or the capture was played under it
 abbrev pub DoesReplay : ReplayArguments → ℕ → List File → List File → Came → Type 0
 DoesReplay arguments opened (setup ∷ capture ∷ out ∷ []) (setup_now ∷ capture_now ∷ out_now ∷ []) came =
-    StopsAtSetup setup opened came ⊎ PlaysUnder arguments setup capture capture_now out out_now came
+    StopsAtSetup setup opened came ⊎ PlaysUnder arguments setup capture capture_now out out_now opened came
 DoesReplay arguments opened before after came = ⊥
 
 -- the command: its words, its files and what it does

@@ -9,7 +9,7 @@ use Rattle.tesla_front.specs.declared.fault.Fault.TheVariants as faults
 use Rattle.tesla_convert.specs.declared.conversion.Ending.{Ending}
 use Rattle.tesla_convert.specs.declared.conversion.Ending.TheVariants as endings
 use Rattle.tesla_convert.specs.declared.conversion.Stopped.{Stopped}
-use Rattle.tesla_convert.specs.declared.conversion.Stopped.TheVariants.{Read, Write}
+use Rattle.tesla_convert.specs.declared.conversion.Stopped.TheVariants.{Read, Write, Memory}
 use Rattle.tesla_run_replay.specs.Playing.{EventRule, events_in, with_end}
 
 -- what a conversion that ended so comes to: lines that tell what was played, by the rule of the target, or the refused place, or the fault
@@ -18,3 +18,4 @@ TellsEnd rule Ended (Ok endings.End) came = (text : List ℕ) × (came ≡ Done 
 TellsEnd rule Ended (Ok (endings.Refused place kind)) came = came ≡ Refused 3 (refused_line (codes "capture") place (kind_name kind))
 TellsEnd rule Ended (Err Read) came = came ≡ Failed faults.Read
 TellsEnd rule Ended (Err Write) came = came ≡ Failed faults.Write
+TellsEnd rule Ended (Err Memory) came = came ≡ Failed faults.NoMemory

@@ -1,6 +1,6 @@
 //! A capture that is played to a target, as the conversion of its records.
 
-ghost use Rattle.std.specs.Prelude.{◌≡◌, ◌+◌, ◌^◌, ◌<◌, ◌++◌, ℕ, List, true, false, replicate};
+ghost use Rattle.std.specs.Prelude.{◌≡◌, ◌+◌, ◌^◌, ◌≤◌, ◌++◌, [], ℕ, List, true, Err, IfErr, IfOk, replicate};
 ghost use Rattle.tesla_capture.specs.Capture.{capture};
 ghost use Rattle.tesla_capture.specs.Gathering.{gathered, Gathers};
 ghost use Rattle.tesla_desk.specs.Faults.{HasCause};
@@ -16,7 +16,7 @@ use std::marker::Brand;
 use std::sync::ledger::Ledger;
 use tesla_base::Steps;
 use tesla_capture::{CaptureFormat, Gatherer, RecordKind, RecordReader, RecordStep};
-use tesla_convert::{Converted, Converter, TakenRecord};
+use tesla_convert::{Converted, Converter, Halt, TakenRecord};
 use tesla_desk::{Sink, Source};
 
 /// The ledger of a replay. It names the rule of the target too, so that what a conversion gives back at its end is known
@@ -49,30 +49,31 @@ fn event_for(taken: TakenRecord<'_>) -> PlayedEvent<'_>
     }
 }
 
-// Takes so many times. False: a write failed.
+// Takes so many times, up to the first that halts.
 fn take_times<L: Ledger, T: Target, O: Sink>(
     target: &mut T,
     times: u64,
     steps: &mut Steps<L>,
     gatherer: &mut Gatherer,
     out: &mut O,
-) -> bool
-    requires { T.calls target.old + times < 2 ^ 64 }
+) -> Result<(), Halt>
+    requires { T.calls target.old + times ≤ 2 ^ 56 }
     ensures rule { T.rule target.new ≡ T.rule target.old }
-    ensures has { result ≡ true → (es : List Event) → T.has target.old es → T.has target.new (es ++ replicate times (Takes 0)) }
-    ensures writes { result ≡ true → (es : List Event) → T.has target.old es →
-        Gathers (O.written out.old) (O.written out.new) (gathered gatherer.new) (gathered gatherer.old ++ each_after (T.rule target.old).adds es (replicate times (Takes 0))) }
-    ensures halts { result ≡ false → (es : List Event) → T.has target.old es →
-        AppendsPrefix (O.written out.old) (O.written out.new) (gathered gatherer.old ++ each_after (T.rule target.old).adds es (replicate times (Takes 0))) }
-    ensures cause { HasCause (O.faults out.old) (O.faults out.new) (result ≡ false) }
+    ensures has { IfOk result (λ _. (es : List Event) → T.has target.old es → T.has target.new (es ++ replicate times (Takes 0))) }
+    ensures writes { IfOk result (λ _. (es : List Event) → T.has target.old es →
+        Gathers (O.written out.old) (O.written out.new) (gathered gatherer.new) (gathered gatherer.old ++ each_after (T.rule target.old).adds es (replicate times (Takes 0)))) }
+    ensures halts { IfErr result (λ _. (es : List Event) → T.has target.old es →
+        AppendsPrefix (O.written out.old) (O.written out.new) (gathered gatherer.old ++ each_after (T.rule target.old).adds es (replicate times (Takes 0)))) }
+    ensures wants { result ≡ Err Halt.NoMemory → (T.may_want ≡ true) × (gathered gatherer.new ≡ []) }
+    ensures cause { HasCause (O.faults out.old) (O.faults out.new) (result ≡ Err Halt.WriteFault) }
     ensures name { O.name out.new ≡ O.name out.old }
 {
     for _ in 0..times {
-        if !target.play(PlayedEvent::Take, steps, gatherer, out) {
-            return false;
+        if let Err(halt) = target.play(PlayedEvent::Take, steps, gatherer, out) {
+            return Err(halt);
         }
     }
-    true
+    Ok(())
 }
 
 impl<L: ReplayLedger, T: Target> ReplayConverter<L, T> {
@@ -109,6 +110,8 @@ impl<L: ReplayLedger, T: Target> Converter for ReplayConverter<L, T> {
 
     ghost ended = { λ c records. (T.rule c.target ≡ L.rule) × T.has c.target (with_end L.rule (events_in records)) };
 
+    ghost may_want = { T.may_want };
+
     ghost calls = { λ c. T.calls c.target };
 
     fn next<S: Source>(
@@ -136,20 +139,20 @@ impl<L: ReplayLedger, T: Target> Converter for ReplayConverter<L, T> {
         out: &mut O,
     ) -> Converted<RecordKind> {
         let event = event_for(taken);
-        if self.target.play(event, &mut self.steps, gatherer, out) {
-            Converted::Whole
-        } else {
-            Converted::WriteFault
+        match self.target.play(event, &mut self.steps, gatherer, out) {
+            Ok(()) => Converted::Whole,
+            Err(Halt::WriteFault) => Converted::WriteFault,
+            Err(Halt::NoMemory) => Converted::NoMemory,
         }
     }
 
-    fn finish<O: Sink>(&mut self, gatherer: &mut Gatherer, out: &mut O) -> bool {
+    fn finish<O: Sink>(&mut self, gatherer: &mut Gatherer, out: &mut O) -> Result<(), Halt> {
         let waiting = self.target.waiting();
-        if !self
+        if let Err(halt) = self
             .target
             .play(PlayedEvent::End, &mut self.steps, gatherer, out)
         {
-            return false;
+            return Err(halt);
         }
         take_times(
             &mut self.target,

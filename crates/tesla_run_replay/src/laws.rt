@@ -1,17 +1,19 @@
 //! Laws about the command, as contracts of functions that do nothing else.
 
-ghost use Rattle.std.specs.Prelude.{◌≡◌, ◌⊎◌, ℕ, List, Bool, None, Ok, map};
+ghost use Rattle.std.specs.Prelude.{◌≡◌, ◌⊎◌, ℕ, List, Bool, Option, None, Ok, map};
 ghost use Rattle.tesla_capture.specs.Outline.{outline_of};
 ghost use Rattle.tesla_commit.specs.Parsing.{judged};
 ghost use Rattle.tesla_commit.specs.Parts.{Parts};
-ghost use Rattle.tesla_desk.specs.Outside.{Told, Holds};
+ghost use Rattle.tesla_convert.specs.Meaning.{Converts, HoldsNothing};
+ghost use Rattle.tesla_desk.specs.Outside.{Page, Told, Holds};
+ghost use Rattle.tesla_fitting.specs.declared.config.Config.{Config};
 ghost use Rattle.tesla_front.specs.Came.{Came, Done, Failed};
 ghost use Rattle.tesla_front.specs.Command.{Performs};
 ghost use Rattle.tesla_front.specs.Run.{NothingFailed};
 ghost use Rattle.tesla_front.specs.declared.fault.Fault.TheVariants as faults;
 ghost use Rattle.tesla_receiver.specs.Report.{report_of};
 ghost use Rattle.tesla_run_replay.specs.Arguments.{ReplayArguments};
-ghost use Rattle.tesla_run_replay.specs.Replay.{config_of, history_of, replay};
+ghost use Rattle.tesla_run_replay.specs.Replay.{config_of, history_of, meaning, replay};
 ghost use Rattle.tesla_run_replay.specs.ReportText.{report_text};
 ghost use Rattle.tesla_run_replay.specs.Usage.{usages};
 
@@ -34,4 +36,10 @@ pub fn completeness()
         old.page arguments.capture ≡ Holds bytes other → (outline_of bytes).fault ≡ None →
         NothingFailed old.faults new.faults →
         (came ≡ Done (report_text (report_of (history_of (config_of arguments setup) bytes)))) ⊎ (came ≡ Failed faults.NoMemory) }
+{}
+
+/// Memory is wanting before the capture is read or not at all: the output is as it was, or was opened and holds nothing.
+pub fn memory_first()
+    ensures { (cfg : Config) (capture before out : Page) (left : Option (List ℕ)) →
+        Converts (meaning cfg) capture left before out (Failed faults.NoMemory) → (out ≡ before) ⊎ HoldsNothing capture left out }
 {}

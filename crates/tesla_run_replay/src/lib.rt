@@ -5,6 +5,7 @@ mod arguments;
 mod converter;
 mod forms;
 pub mod laws;
+mod playing;
 mod report;
 mod run;
 mod target;
@@ -12,6 +13,8 @@ mod words;
 
 pub use converter::{ReplayConverter, ReplayLedger};
 pub use forms::REPLAY;
+pub use playing::play_target;
 pub use report::report_lines;
 pub use run::run_replay;
 pub use target::{PlayedEvent, ReceiverTarget, Target};
+pub use words::are_names;

@@ -1,6 +1,6 @@
 //! A run of the command `replay`.
 
-ghost use Rattle.std.specs.Prelude.{◌≡◌, ◌<◌, [], IfSome, Err, map, string_bytes};
+ghost use Rattle.std.specs.Prelude.{◌≡◌, ◌<◌, [], IfSome, map, string_bytes};
 ghost use Rattle.tesla_desk.specs.Faults.{HasCause, HasCauseBeside};
 ghost use Rattle.tesla_front.specs.Came.{Failed, came_of, outcome_came};
 ghost use Rattle.tesla_front.specs.Command.{Performs, RunsAs};
@@ -10,30 +10,26 @@ ghost use Rattle.tesla_receiver.specs.Stands.{Stands};
 ghost use Rattle.tesla_convert.specs.Files.{ConvertsFiles};
 ghost use Rattle.tesla_convert.specs.Meaning.{ConvertsBetween};
 ghost use Rattle.tesla_run_replay.specs.Arguments.{arguments_of, files_of_replay};
-ghost use Rattle.tesla_run_replay.specs.Playing.{events_in, rule_of, with_end};
 ghost use Rattle.tesla_run_replay.specs.Replay.{config_of, meaning, replay};
-ghost use Rattle.tesla_run_replay.specs.Steps.{TellsEnd};
 
 use crate::arguments::Arguments;
-use crate::converter::{ReplayConverter, ReplayLedger};
-use crate::target::{ReceiverTarget, Target};
+use crate::playing::play_target;
+use crate::target::ReceiverTarget;
 use crate::words::arguments_in;
 use std::alloc::Global;
 use std::marker::Brand;
 use std::sync::ledger::Blank;
-use tesla_base::{Kind, Steps};
-use tesla_capture::RecordKind;
 use tesla_commit::Setup;
-use tesla_convert::{Conversion, Ending, Stopped, close_files, open_files};
+use tesla_convert::{close_files, open_files};
 use tesla_desk::{Desk, Sink, Source};
-use tesla_front::{Fault, Lines, Outcome, Stop, outcome_of, refused, setup_under};
+use tesla_front::{Fault, Lines, Outcome, Stop, outcome_of, setup_under};
 use tesla_receiver::Receiver;
 
 /// Runs the words as those of `replay`.
 ///
 /// SETUP is read and judged, then CAPTURE and OUT are opened, and then the receiver's memory is taken. Each record of
 /// CAPTURE before its first refused place is played, and where there is none the end; what the takes give is written to
-/// OUT. `Done` tells the counts.
+/// OUT. `Done` tells the counts. `NoMemory` comes only before a byte of CAPTURE is read.
 pub fn run_replay<D: Desk>(alloc: Global, words: &[String], desk: &mut D) -> Outcome
     ensures { RunsAs replay (map string_bytes words.now) (D.told desk.old) (D.told desk.new) (outcome_came result) }
 {
@@ -99,22 +95,17 @@ fn play<S: Source, O: Sink>(
         places.quota,
         1,
     ) {
-        Ok(receiver) => play_counted::<Brand, S, O>(receiver, Blank::new(1), source, out),
+        Ok(receiver) => play_receiver(receiver, source, out),
         Err(_) => Err(Stop::Failed(Fault::NoMemory)),
     }
 }
 
-// Plays a capture to a new receiver, with a ledger for its evaluations of HMAC.
-fn play_counted<L: ReplayLedger, S: Source, O: Sink>(
+// Plays a capture to a new receiver.
+fn play_receiver<S: Source, O: Sink>(
     receiver: Receiver,
-    blank: Blank,
     source: &mut S,
     out: &mut O,
 ) -> Result<Lines, Stop>
-    requires name { blank.name ≡ L.name }
-    requires parts { blank.parts ≡ L.parts }
-    requires some { 0 < L.parts }
-    requires rule { L.rule ≡ rule_of receiver.config }
     requires stands { Stands receiver [] }
     requires empty { IfSome (O.written out.old) (λ bytes. bytes ≡ []) }
     requires fresh { S.faults source.old ≡ 0 }
@@ -125,22 +116,6 @@ fn play_counted<L: ReplayLedger, S: Source, O: Sink>(
     ensures input { S.name source.new ≡ S.name source.old }
     ensures output { O.name out.new ≡ O.name out.old }
 {
-    let steps = Steps::<L>::new(blank);
-    let converter = ReplayConverter::new(ReceiverTarget::new(receiver), steps);
-    let (converter, ended) = Conversion::new(converter).convert(source, out);
-    told(ended, converter.target())
-}
-
-// What a conversion that ended so comes to.
-fn told<T: Target>(ended: Result<Ending<RecordKind>, Stopped>, target: &T) -> Result<Lines, Stop>
-    ensures { TellsEnd (T.rule target.now) (λ records. T.has target.now (with_end (T.rule target.now) (events_in records))) ended (came_of result) }
-{
-    match ended {
-        Ok(Ending::End) => Ok(target.lines()),
-        Ok(Ending::Refused { place, kind }) => {
-            Err(Stop::Refused(refused(3, "capture", place, kind.name())))
-        }
-        Err(Stopped::Read) => Err(Stop::Failed(Fault::Read)),
-        Err(Stopped::Write) => Err(Stop::Failed(Fault::Write)),
-    }
+    let target = ReceiverTarget::new(receiver);
+    play_target::<Brand, ReceiverTarget, S, O>(target, Blank::new(1), source, out)
 }

@@ -1,9 +1,9 @@
 //! What the records of a capture are played to, and what is written of that.
 
-ghost use Rattle.std.specs.Prelude.{◌≡◌, ◌+◌, ◌^◌, ◌<◌, ◌≤◌, ◌++◌, ◌∷◌, [], ℕ, List, true, false};
+ghost use Rattle.std.specs.Prelude.{◌≡◌, ◌+◌, ◌^◌, ◌<◌, ◌≤◌, ◌++◌, ◌∷◌, [], ℕ, List, Bool, true, Err, IfOk};
 ghost use Rattle.tesla_capture.specs.Gathering.{gathered, Gathers};
 ghost use Rattle.tesla_desk.specs.Faults.{HasCause};
-ghost use Rattle.tesla_desk.specs.Outside.{AppendsPrefix};
+ghost use Rattle.tesla_desk.specs.Outside.{AppendsPrefix, with_bytes};
 ghost use Rattle.tesla_receiver.specs.History.{Event, Takes, entry_of, reply_to};
 ghost use Rattle.tesla_receiver.specs.Report.{text_given};
 ghost use Rattle.tesla_receiver.specs.Stands.{Stands};
@@ -14,6 +14,7 @@ use crate::report_lines;
 use std::sync::ledger::Ledger;
 use tesla_base::Steps;
 use tesla_capture::Gatherer;
+use tesla_convert::Halt;
 use tesla_desk::Sink;
 use tesla_front::Lines;
 use tesla_receiver::{Receiver, Take, laws};
@@ -39,34 +40,40 @@ pub trait Target {
     /// It has had these events, in this order, and no others.
     ghost has: { Self → List Event → Type 0 };
 
+    /// Whether memory may be wanting at an event.
+    ghost may_want: { Bool };
+
     /// How many events it has had at most.
     ghost calls: { Self → ℕ };
 
-    /// Plays an event. What is written of it is put behind what is gathered. It takes no memory.
+    /// Plays an event. What is written of it is put behind what is gathered.
     ///
-    /// False: a prefix of both was written, and the sink's count of faults rose.
+    /// `WriteFault`: a prefix of both was written, and the sink's count of faults rose. `NoMemory` comes only where
+    /// `may_want` is true, and then both were written.
     fn play<L: Ledger, O: Sink>(
         &mut self,
         event: PlayedEvent<'_>,
         steps: &mut Steps<L>,
         gatherer: &mut Gatherer,
         out: &mut O,
-    ) -> bool
-        requires { calls self.old + 1 < 2 ^ 64 }
+    ) -> Result<(), Halt>
+        requires { calls self.old < 2 ^ 56 }
         ensures rule { rule self.new ≡ rule self.old }
-        ensures has { result ≡ true → (es : List Event) → has self.old es → has self.new (es ++ event_of event.entry ∷ []) }
-        ensures writes { result ≡ true → (es : List Event) → has self.old es →
-            Gathers (O.written out.old) (O.written out.new) (gathered gatherer.new) (gathered gatherer.old ++ (rule self.old).adds es (event_of event.entry)) }
-        ensures halts { result ≡ false → (es : List Event) → has self.old es →
+        ensures has { IfOk result (λ _. (es : List Event) → has self.old es → has self.new (es ++ event_of event.entry ∷ [])) }
+        ensures writes { IfOk result (λ _. (es : List Event) → has self.old es →
+            Gathers (O.written out.old) (O.written out.new) (gathered gatherer.new) (gathered gatherer.old ++ (rule self.old).adds es (event_of event.entry))) }
+        ensures halts { result ≡ Err Halt.WriteFault → (es : List Event) → has self.old es →
             AppendsPrefix (O.written out.old) (O.written out.new) (gathered gatherer.old ++ (rule self.old).adds es (event_of event.entry)) }
+        ensures wants { result ≡ Err Halt.NoMemory → (may_want ≡ true) × (gathered gatherer.new ≡ [])
+            × ((es : List Event) → has self.old es → O.written out.new ≡ with_bytes (O.written out.old) (gathered gatherer.old ++ (rule self.old).adds es (event_of event.entry))) }
         ensures calls { calls self.new ≤ calls self.old + 1 }
-        ensures cause { HasCause (O.faults out.old) (O.faults out.new) (result ≡ false) }
+        ensures cause { HasCause (O.faults out.old) (O.faults out.new) (result ≡ Err Halt.WriteFault) }
         ensures name { O.name out.new ≡ O.name out.old };
 
     /// How many packets wait to be taken.
     fn waiting(&self) -> u64
         ensures value { (es : List Event) → has self.now es → result ≡ (rule self.now).waiting es }
-        ensures few { result < 2 ^ 63 };
+        ensures few { result < 2 ^ 36 };
 
     /// The lines that tell what was played.
     fn lines(&self) -> Lines
@@ -92,31 +99,38 @@ impl ReceiverTarget {
     }
 }
 
-// Takes once for releaser 0, and gathers the record of what was given. False: a write failed.
+// Takes once for releaser 0, and gathers the record of what was given. It takes no memory.
 fn take_once<O: Sink>(
     receiver: &mut Receiver,
     payload: &mut [u8; 1200],
     gatherer: &mut Gatherer,
     out: &mut O,
-) -> bool
+) -> Result<(), Halt>
     requires { receiver.old.calls + 1 < 2 ^ 64 }
     ensures config { receiver.new.config ≡ receiver.old.config }
     ensures calls { receiver.new.calls ≡ receiver.old.calls + 1 }
     ensures stands { (h : List Entry) → Stands receiver.old h → Stands receiver.new (h ++ entry_of receiver.old.config h (Takes 0) ∷ []) }
-    ensures writes { result ≡ true → (h : List Entry) → Stands receiver.old h →
-        Gathers (O.written out.old) (O.written out.new) (gathered gatherer.new) (gathered gatherer.old ++ text_given (reply_to receiver.old.config h)) }
-    ensures prefix { result ≡ false → AppendsPrefix (O.written out.old) (O.written out.new) (gathered gatherer.old) }
-    ensures cause { HasCause (O.faults out.old) (O.faults out.new) (result ≡ false) }
+    ensures writes { IfOk result (λ _. (h : List Entry) → Stands receiver.old h →
+        Gathers (O.written out.old) (O.written out.new) (gathered gatherer.new) (gathered gatherer.old ++ text_given (reply_to receiver.old.config h))) }
+    ensures prefix { result ≡ Err Halt.WriteFault → AppendsPrefix (O.written out.old) (O.written out.new) (gathered gatherer.old) }
+    ensures enough { result ≡ Err Halt.NoMemory → ⊥ }
+    ensures cause { HasCause (O.faults out.old) (O.faults out.new) (result ≡ Err Halt.WriteFault) }
     ensures name { O.name out.new ≡ O.name out.old }
 {
     match receiver.take(0, payload) {
-        Take::Given(head) => gatherer.put(out, &head, &payload[..head.length as usize]),
-        Take::Empty | Take::Over => true,
+        Take::Given(head) => {
+            if gatherer.put(out, &head, &payload[..head.length as usize]) {
+                Ok(())
+            } else {
+                Err(Halt::WriteFault)
+            }
+        }
+        Take::Empty | Take::Over => Ok(()),
     }
 }
 
 impl Target for ReceiverTarget {
-    ghost use Rattle.std.specs.Prelude.{[]};
+    ghost use Rattle.std.specs.Prelude.{[], false};
     ghost use Rattle.tesla_receiver.specs.Played.{after_events};
     ghost use Rattle.tesla_receiver.specs.Stands.{Stands};
     ghost use Rattle.tesla_run_replay.specs.Playing.{rule_of};
@@ -124,6 +138,8 @@ impl Target for ReceiverTarget {
     ghost rule = { λ t. rule_of t.receiver.config };
 
     ghost has = { λ t es. Stands t.receiver (after_events t.receiver.config [] es) };
+
+    ghost may_want = { false };
 
     ghost calls = { λ t. t.receiver.calls };
 
@@ -133,18 +149,18 @@ impl Target for ReceiverTarget {
         steps: &mut Steps<L>,
         gatherer: &mut Gatherer,
         out: &mut O,
-    ) -> bool {
+    ) -> Result<(), Halt> {
         laws::events();
         match event {
             PlayedEvent::Arrival { reading, datagram } => {
                 // The receiver counts the verdict.
                 let _ = self.receiver.arrive(0, reading, datagram, steps);
-                true
+                Ok(())
             }
             PlayedEvent::Take => take_once(&mut self.receiver, &mut self.payload, gatherer, out),
             PlayedEvent::End => {
                 self.receiver.end(0);
-                true
+                Ok(())
             }
         }
     }

@@ -10,8 +10,8 @@ use tesla_front::{is_name, places_in};
 /// The name of the command.
 const NAME: &str = "replay";
 
-// Whether the names are names of files, and the output's is none of the inputs'.
-fn are_names(setup: &str, capture: &str, out: &str) -> bool
+/// Whether the names are names of files, and the output's is none of the inputs'.
+pub fn are_names(setup: &str, capture: &str, out: &str) -> bool
     ensures yes { result ≡ true → AreNames setup.now capture.now out.now }
     ensures no { result ≡ false → AreNames setup.now capture.now out.now → ⊥ }
 {

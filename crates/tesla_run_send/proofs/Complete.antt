@@ -80,7 +80,7 @@ seeds_end setup page secret failed seeds came told found right (inr unopened) =
 
 -- under the setup
 under_ends : (setup : Parts) (secret_file script out script_after out_after : File) (opened : ℕ) (came : Came) (secret bytes : List ℕ) (other last : Bool) (seeds : List Key) → secret_file.page ≡ Holds secret other → IsSeedsText (length setup.rows) secret seeds → wrong_line (record { setup = setup; seeds = seeds }) ≡ None → script.page ≡ Holds bytes last → (sending (record { setup = setup; seeds = seeds }) bytes).refused ≡ None
-    → StopsAtSeeds setup secret_file opened came ⊎ SendsWith setup secret_file script out script_after out_after came → Ends came (length (sending (record { setup = setup; seeds = seeds }) bytes).sent)
+    → StopsAtSeeds setup secret_file opened came ⊎ SendsWith setup secret_file script out script_after out_after opened came → Ends came (length (sending (record { setup = setup; seeds = seeds }) bytes).sent)
 under_ends setup secret_file script out script_after out_after opened came secret bytes other last seeds told found right page whole (inl stops) = inr (seeds_end setup secret_file.page secret other seeds came told found right stops.why)
 under_ends setup secret_file script out script_after out_after opened came secret bytes other last seeds told found right page whole (inr sends) =
     let same : sends.seeds ≡ seeds = one_seeds (length setup.rows) secret_file.page secret other seeds sends.seeds told found sends.are.found in
@@ -94,7 +94,7 @@ send_ends arguments old new came text secret bytes failed other last setup seeds
   | inr under ↦
       let same : under.parts ≡ setup = one_setup (old.page arguments.setup) text failed setup under.parts page found under.found in
       under_ends setup (file_told old arguments.secret) (file_told old arguments.script) (file_told old arguments.out) (file_told new arguments.script) (file_told new arguments.out) performs.opened came secret bytes other last seeds told are right script whole
-      (subst (λ (s : Parts). StopsAtSeeds s (file_told old arguments.secret) performs.opened came ⊎ SendsWith s (file_told old arguments.secret) (file_told old arguments.script) (file_told old arguments.out) (file_told new arguments.script) (file_told new arguments.out) came) same under.does)
+      (subst (λ (s : Parts). StopsAtSeeds s (file_told old arguments.secret) performs.opened came ⊎ SendsWith s (file_told old arguments.secret) (file_told old arguments.script) (file_told old arguments.out) (file_told new arguments.script) (file_told new arguments.out) performs.opened came) same under.does)
 ]
 
 -- a run of send comes to the number of frames, or to want of memory

@@ -4,7 +4,7 @@ use Rattle.std.proofs.Math.Seq.{take-append_seam}
 use Rattle.tesla_capture.specs.Gathering.{Gathers}
 use Rattle.tesla_capture.specs.Script.{Record}
 use Rattle.tesla_convert.specs.declared.converter.Converted.{Converted}
-use Rattle.tesla_convert.specs.declared.converter.Converted.TheVariants.{Whole, Refused, WriteFault}
+use Rattle.tesla_convert.specs.declared.converter.Converted.TheVariants.{Whole, Refused, WriteFault, NoMemory}
 use Rattle.tesla_desk.specs.Outside.{AppendsPrefix}
 use Rattle.tesla_desk.proofs.Told.{with_more, prefix_after, prefix_longer}
 use Rattle.tesla_frame.specs.Frame.{Frame, frame_text}
@@ -49,4 +49,5 @@ carries_made answer good (Ok frame) (Refused kind) first log sender after size r
 carries_made answer good (Ok frame) WriteFault first log sender after size room full count counted before now held rest written stands same puts =
     subst (λ (a : Answer). CarriesOut WriteFault a first log after count counted before now held rest) (sym (good frame))
     (subst (λ (bytes : List ℕ). PutsFrame WriteFault (frame_records (reading_of first) bytes) count counted before now held rest) (text_is frame size room full written) puts)
+carries_made answer good (Ok frame) NoMemory first log sender after size room full count counted before now held rest written stands same puts = absurd puts
 carries_made answer good (Err refusal) came first log sender after size room full count counted before now held rest written stands same puts = absurd written

@@ -14,6 +14,7 @@ use Rattle.tesla_desk.specs.Faults.{HasCauseBeside}
 use Rattle.tesla_front.specs.Came as cames
 use Rattle.tesla_front.specs.Came.{Came, Done, Failed}
 use Rattle.tesla_front.specs.Files.{IsPrefix}
+use Rattle.tesla_front.specs.declared.fault.Fault.TheVariants as faults
 use Rattle.tesla_front.proofs.Told.{rose_some}
 use Rattle.tesla_sender.specs.Made.{Stream}
 use Rattle.tesla_run_send.specs.Rule.{frames_of, rule_of}
@@ -70,8 +71,8 @@ stops_sending stream before left written failed converts = λ bytes told.
 
 between_by : (ended : Result (Ending ScriptKind) Stopped) (stream : Stream) (before left written : Option (List ℕ)) (count failed : ℕ)
     → ((bytes : List ℕ) → before ≡ Some bytes → Converts script ScriptKind (rule_of stream) (λ (records : List Record). count ≡ frames_of stream records) ended bytes left written failed)
-    → (ended ≡ Err stopped.Write → 0 < failed) → ConvertsBetween (meaning stream) before left written failed (came_with ended count)
-between_by (Ok End) stream before left written count failed converts lost = record {
+    → (ended ≡ Err stopped.Write → 0 < failed) → (ended ≡ Err stopped.Memory → ⊥) → ConvertsBetween (meaning stream) before left written failed (came_with ended count)
+between_by (Ok End) stream before left written count failed converts lost enough = record {
   end = λ bytes told.
       let none : (sending stream bytes).refused ≡ None = refused_sent stream bytes None written (converts bytes told).1 in
       let counted : count ≡ length (sending stream bytes).sent =
@@ -79,21 +80,30 @@ between_by (Ok End) stream before left written count failed converts lost = reco
       comes_done (sending stream bytes).refused (sending stream bytes).sent count none counted;
   text = λ bytes done told told_done. text_sent stream bytes done None written (converts bytes told).1 told_done;
 }
-between_by (Ok (Refused place kind)) stream before left written count failed converts lost = record {
+between_by (Ok (Refused place kind)) stream before left written count failed converts lost enough = record {
   end = λ bytes told. comes_refused (sending stream bytes).refused (sending stream bytes).sent place kind (refused_sent stream bytes (Some (place, kind)) written (converts bytes told));
   text = λ bytes done told told_done. text_sent stream bytes done (Some (place, kind)) written (converts bytes told) told_done;
 }
-between_by (Err stopped.Read) stream before left written count failed converts lost = stops_sending stream before left written failed converts
-between_by (Err stopped.Write) stream before left written count failed converts lost = (
+between_by (Err stopped.Read) stream before left written count failed converts lost enough = stops_sending stream before left written failed converts
+between_by (Err stopped.Write) stream before left written count failed converts lost enough = (
   lost refl,
   λ bytes done told told_done. subst (λ (m : Made ScriptKind). IsPrefix m.text done) (made_is stream bytes) (prefix_text written _ done (converts bytes told) told_done),
 )
+between_by (Err stopped.Memory) stream before left written count failed converts lost enough = absurd (enough refl)
+
+-- it comes to want of memory only where the conversion does
+pub never_wants : (ended : Result (Ending ScriptKind) Stopped) (count : ℕ) (came : Came) → came ≡ came_with ended count → (ended ≡ Err stopped.Memory → ⊥) → came ≡ Failed faults.NoMemory → ⊥
+never_wants (Ok End) count came is enough e = absurd cc
+never_wants (Ok (Refused place kind)) count came is enough e = absurd cc
+never_wants (Err stopped.Read) count came is enough e = absurd cc
+never_wants (Err stopped.Write) count came is enough e = absurd cc
+never_wants (Err stopped.Memory) count came is enough e = enough refl
 
 -- a script was sent between a source and a sink
 pub sent_between : {hidden : Type 0} (ended : Result (Ending ScriptKind) Stopped) (stream other : Stream) (before left written : Option (List ℕ)) (count counted failed : ℕ) (came : Came) → other ≡ stream → came ≡ came_with ended count → count ≡ counted
     → ((bytes : List ℕ) → before ≡ Some bytes → Converts script ScriptKind (rule_of stream) (λ (records : List Record). counted ≡ frames_of stream records) ended bytes left written failed)
-    → HasCauseBeside hidden 0 failed (ended ≡ Err stopped.Write) → ConvertsBetween (meaning other) before left written failed came
-sent_between ended stream other before left written count counted failed came one is same converts cause =
+    → HasCauseBeside hidden 0 failed (ended ≡ Err stopped.Write) → (ended ≡ Err stopped.Memory → ⊥) → ConvertsBetween (meaning other) before left written failed came
+sent_between ended stream other before left written count counted failed came one is same converts cause enough =
     subst (λ (s : Stream). ConvertsBetween (meaning s) before left written failed came) (sym one)
     (subst (λ (c : Came). ConvertsBetween (meaning stream) before left written failed c) (sym (is ∙ ap (came_with ended) same))
-    (between_by ended stream before left written counted failed converts (λ e. rose_some 0 failed refl (cause.rose e))))
+    (between_by ended stream before left written counted failed converts (λ e. rose_some 0 failed refl (cause.rose e)) enough))

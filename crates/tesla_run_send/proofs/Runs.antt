@@ -5,8 +5,9 @@ use Rattle.tesla_base.specs.declared.names.ChainNo.{ChainNo}
 use Rattle.tesla_base.specs.declared.names.Key.{Key}
 use Rattle.tesla_commit.specs.Parts.{Parts}
 use Rattle.tesla_convert.specs.Files.{ClosesBoth, ConvertsFiles, OpensBoth, OpensNotBoth}
-use Rattle.tesla_convert.specs.Meaning.{Converts, ConvertsBetween}
+use Rattle.tesla_convert.specs.Meaning.{Converts, ConvertsBetween, IsUnread}
 use Rattle.tesla_convert.proofs.Closed.{converts_closed, converts_unopened}
+use Rattle.tesla_convert.proofs.Unread.{unread_behind, unread_never}
 use Rattle.tesla_desk.specs.Faults.{HasCause, HasCauseBeside}
 use Rattle.tesla_desk.specs.Outside.{Page, Told, OfSource, OfSink}
 use Rattle.tesla_desk.proofs.Counts.{causes_none, causes_then}
@@ -38,7 +39,17 @@ are_files arguments words is = (is.names.setup_is.file, (is.names.secret_is.file
 -- ---- the script
 
 files_sent : (stream : Stream) (script out : List ℕ) (old new : Told) (came : Came) → ConvertsFiles (meaning stream) script out old new came → (came ≡ Failed faults.NoMemory → new.page out ≡ old.page out) → SendsFiles stream script out old new came
-files_sent stream script out old new came converts memory = record { opened = converts.opened; opens = converts.opens; sends = record { converts = converts.converts; memory = memory }; counts = converts.counts }
+files_sent stream script out old new came converts memory = record {
+  opened = converts.opened;
+  opens = converts.opens;
+  sends = record {
+    converts = converts.converts;
+    memory = memory;
+    unread = λ e. unread_behind 1 (suc converts.opened) (old.page script) (new.left script)
+        (unread_behind 0 converts.opened (old.page script) (new.left script) (unread_never 0 converts.opened (old.page script) (new.left script) (converts.unread e)));
+  };
+  counts = converts.counts;
+}
 
 -- both files were opened, the script was sent, and both were closed
 pub sent_closed : (stream : Stream) (script out input output : List ℕ) (before empty left written : Option (List ℕ)) (taken given : ℕ) (came : Came) (old mid new : Told) → input ≡ script → output ≡ out → OpensBoth script out before empty old mid → ConvertsBetween (meaning stream) before left written given came → (came ≡ Failed faults.NoMemory → ⊥)
@@ -85,7 +96,7 @@ pub seeded_files : (stream other : Stream) (script out : List ℕ) (before now :
 seeded_files stream other script out before now came right same sends = record {
   opened = sends.opened;
   opens = sends.opens;
-  does = inr (right, subst (λ (s : Stream). SendsScript s (file_told before script) (file_told before out) (file_told now script) (file_told now out) came) same sends.sends);
+  does = inr (right, subst (λ (s : Stream). SendsScript s (file_told before script) (file_told before out) (file_told now script) (file_told now out) (suc (suc sends.opened)) came) same sends.sends);
   counts = sends.counts;
 }
 
@@ -98,23 +109,24 @@ setup_unseeded arguments setup before now stop opens why causes =
     record { opened = it.0; opens = it.2; does = inl (record { few = omega (arith, it.1); why = inl why }); counts = counts_stopped stop before.faults now.faults causes }
 
 -- what is told of the files before is told of the same pages
-script_moves : (stream : Stream) (script out : List ℕ) (before mid now : Told) (came : Came) → ((name : List ℕ) → mid.page name ≡ before.page name) → SendsScript stream (file_told mid script) (file_told mid out) (file_told now script) (file_told now out) came → SendsScript stream (file_told before script) (file_told before out) (file_told now script) (file_told now out) came
-script_moves stream script out before mid now came pages sends = record {
+script_moves : (stream : Stream) (script out : List ℕ) (opened : ℕ) (before mid now : Told) (came : Came) → ((name : List ℕ) → mid.page name ≡ before.page name) → SendsScript stream (file_told mid script) (file_told mid out) (file_told now script) (file_told now out) opened came → SendsScript stream (file_told before script) (file_told before out) (file_told now script) (file_told now out) opened came
+script_moves stream script out opened before mid now came pages sends = record {
   converts = subst (λ (p : Page). Converts (meaning stream) p (now.left script) (before.page out) (now.page out) came) (pages script)
       (subst (λ (p : Page). Converts (meaning stream) (mid.page script) (now.left script) p (now.page out) came) (pages out) sends.converts);
   memory = λ e. sends.memory e ∙ pages out;
+  unread = λ e. subst (λ (p : Page). IsUnread 2 opened p (now.left script)) (pages script) (sends.unread e);
 }
 
 seeded_by : (arguments : SendArguments) (setup : Parts) (seeds : List Key) (opened : ℕ) (before mid now : Told) (came : Came) → length seeds ≡ length setup.rows → IsSeedsIn (length setup.rows) (before.page arguments.secret) seeds → ((name : List ℕ) → mid.page name ≡ before.page name)
-    → ((opened ≡ 0) × IsNoSender (record { setup = setup; seeds = seeds }) came) ⊎ ((wrong_line (record { setup = setup; seeds = seeds }) ≡ None) × SendsScript (record { setup = setup; seeds = seeds }) (file_told mid arguments.script) (file_told mid arguments.out) (file_told now arguments.script) (file_told now arguments.out) came)
-    → StopsAtSeeds setup (file_told before arguments.secret) (suc (suc opened)) came ⊎ SendsWith setup (file_told before arguments.secret) (file_told before arguments.script) (file_told before arguments.out) (file_told now arguments.script) (file_told now arguments.out) came
+    → ((opened ≡ 0) × IsNoSender (record { setup = setup; seeds = seeds }) came) ⊎ ((wrong_line (record { setup = setup; seeds = seeds }) ≡ None) × SendsScript (record { setup = setup; seeds = seeds }) (file_told mid arguments.script) (file_told mid arguments.out) (file_told now arguments.script) (file_told now arguments.out) (suc (suc opened)) came)
+    → StopsAtSeeds setup (file_told before arguments.secret) (suc (suc opened)) came ⊎ SendsWith setup (file_told before arguments.secret) (file_told before arguments.script) (file_told before arguments.out) (file_told now arguments.script) (file_told now arguments.out) (suc (suc opened)) came
 seeded_by arguments setup seeds opened before mid now came count found pages (inl it) =
     inl (record { few = omega (arith, it.0); why = inr (record { seeds = seeds; are = record { count = count; found = found }; why = it.1 }) })
 seeded_by arguments setup seeds opened before mid now came count found pages (inr it) = inr (record {
   seeds = seeds;
   are = record { count = count; found = found };
   right = it.0;
-  sends = script_moves (record { setup = setup; seeds = seeds }) arguments.script arguments.out before mid now came pages it.1;
+  sends = script_moves (record { setup = setup; seeds = seeds }) arguments.script arguments.out (suc (suc opened)) before mid now came pages it.1;
 })
 
 -- the seeds were read, and the script sent with them
@@ -137,8 +149,8 @@ performs_unset arguments before now stop named opens why causes =
 
 -- what was done under a setup is told of pages that are the same
 under_moves : (arguments : SendArguments) (setup : Parts) (opened : ℕ) (before mid now : Told) (came : Came) → ((name : List ℕ) → mid.page name ≡ before.page name)
-    → StopsAtSeeds setup (file_told mid arguments.secret) opened came ⊎ SendsWith setup (file_told mid arguments.secret) (file_told mid arguments.script) (file_told mid arguments.out) (file_told now arguments.script) (file_told now arguments.out) came
-    → StopsAtSeeds setup (file_told before arguments.secret) opened came ⊎ SendsWith setup (file_told before arguments.secret) (file_told before arguments.script) (file_told before arguments.out) (file_told now arguments.script) (file_told now arguments.out) came
+    → StopsAtSeeds setup (file_told mid arguments.secret) opened came ⊎ SendsWith setup (file_told mid arguments.secret) (file_told mid arguments.script) (file_told mid arguments.out) (file_told now arguments.script) (file_told now arguments.out) opened came
+    → StopsAtSeeds setup (file_told before arguments.secret) opened came ⊎ SendsWith setup (file_told before arguments.secret) (file_told before arguments.script) (file_told before arguments.out) (file_told now arguments.script) (file_told now arguments.out) opened came
 under_moves arguments setup opened before mid now came pages (inl stops) = inl (record {
   few = stops.few;
   why = subst (λ (p : Page). IsNoSeeds (length setup.rows) p came ⊎ HasNoSender setup p came) (pages arguments.secret) stops.why;
@@ -147,7 +159,7 @@ under_moves arguments setup opened before mid now came pages (inr sends) = inr (
   seeds = sends.seeds;
   are = record { count = sends.are.count; found = subst (λ (p : Page). IsSeedsIn (length setup.rows) p sends.seeds) (pages arguments.secret) sends.are.found };
   right = sends.right;
-  sends = script_moves (record { setup = setup; seeds = sends.seeds }) arguments.script arguments.out before mid now came pages sends.sends;
+  sends = script_moves (record { setup = setup; seeds = sends.seeds }) arguments.script arguments.out opened before mid now came pages sends.sends;
 })
 
 -- the setup was read, and what follows done under it

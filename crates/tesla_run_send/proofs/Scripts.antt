@@ -73,6 +73,9 @@ answers_by converted.WriteFault (Makes frame) first stream sender records count 
     (ap refusal_of is, subst (λ (t : List ℕ). AppendsPrefix before now (held ++ t)) (sym (ap (λ (a : Answer). adds_by a first) is)) does)
 answers_by converted.WriteFault MakesNone first stream sender records count counted before now held rest is same count_is does = absurd does
 answers_by converted.WriteFault (Refuses kind) first stream sender records count counted before now held rest is same count_is does = absurd does
+answers_by converted.NoMemory (Makes frame) first stream sender records count counted before now held rest is same count_is does = absurd does
+answers_by converted.NoMemory MakesNone first stream sender records count counted before now held rest is same count_is does = absurd does
+answers_by converted.NoMemory (Refuses kind) first stream sender records count counted before now held rest is same count_is does = absurd does
 
 -- the answer to a record was carried out, behind the records that its sender was given before
 pub answers_record : (came : Converted ScriptKind) (given first : Record) (stream : Stream) (old sender : State) (records : List Record) (count counted : ℕ) (before now : Option (List ℕ)) (held rest : List ℕ)

@@ -6,7 +6,7 @@ use Rattle.tesla_capture.specs.Records.{outline_of}
 use Rattle.tesla_capture.specs.Script.{script}
 use Rattle.tesla_capture.specs.Taken.{HoldsNoRefusal}
 use Rattle.tesla_commit.specs.Parts.{Parts}
-use Rattle.tesla_convert.specs.Meaning.{Converts, Meaning, StopsAtSetup}
+use Rattle.tesla_convert.specs.Meaning.{Converts, IsUnread, Meaning, StopsAtSetup}
 use Rattle.tesla_desk.specs.Outside.{Page}
 use Rattle.tesla_front.specs.Came.{Came, Done, Refused, Failed}
 use Rattle.tesla_front.specs.Command.{Command}
@@ -49,13 +49,16 @@ meaning stream = record {
   makes = λ bytes. sent_text (sending stream bytes).sent;
   so_far = λ read. sent_text (sending_so_far stream read).sent;
   IsUnrefused = λ read. HoldsNoRefusal script read × ((sending_so_far stream read).refused ≡ None);
+  MayWant = ⊥;
 }
 
--- what sending a script comes to, with what is told of both files before and afterwards
-pub record SendsScript (stream : Stream) (script out script_after out_after : File) (came : Came) : Type 0 where
+-- what sending a script comes to, with what is told of both files before and afterwards, and how many files were asked for, of which the setup and the seeds are the first two
+pub record SendsScript (stream : Stream) (script out script_after out_after : File) (opened : ℕ) (came : Came) : Type 0 where
   pub converts : Converts (meaning stream) script.page script_after.left out.page out_after.page came
   -- memory is wanting only before the output is opened
   pub memory : came ≡ Failed faults.NoMemory → out_after.page ≡ out.page
+  -- and before the first byte of the script is read
+  pub unread : came ≡ Failed faults.NoMemory → IsUnread 2 opened script.page script_after.left
 
 -- ---- the seeds
 
@@ -90,17 +93,17 @@ pub record StopsAtSeeds (setup : Parts) (secret : File) (opened : ℕ) (came : C
   pub why : IsNoSeeds (length setup.rows) secret.page came ⊎ HasNoSender setup secret.page came
 
 -- with the seeds, which are right, the script was sent
-pub record SendsWith (setup : Parts) (secret script out script_after out_after : File) (came : Came) : Type 0 where
+pub record SendsWith (setup : Parts) (secret script out script_after out_after : File) (opened : ℕ) (came : Came) : Type 0 where
   pub seeds : List Key
   pub are : AreSeeds setup secret.page seeds
   pub right : wrong_line (record { setup = setup; seeds = seeds }) ≡ None
-  pub sends : SendsScript (record { setup = setup; seeds = seeds }) script out script_after out_after came
+  pub sends : SendsScript (record { setup = setup; seeds = seeds }) script out script_after out_after opened came
 
 -- a setup was found, and what follows was done under it
 pub record SendsUnder (setup secret script out script_after out_after : File) (opened : ℕ) (came : Came) : Type 0 where
   pub parts : Parts
   pub found : IsSetupIn setup.page parts
-  pub does : StopsAtSeeds parts secret opened came ⊎ SendsWith parts secret script out script_after out_after came
+  pub does : StopsAtSeeds parts secret opened came ⊎ SendsWith parts secret script out script_after out_after opened came
 
 -- a run of the command, of which so many files were asked to be opened, with what is told of SETUP, SECRET, SCRIPT and CAPTURE before and after it, and what it came to
 abbrev pub DoesSend : SendArguments → ℕ → List File → List File → Came → Type 0

@@ -31,6 +31,7 @@ abbrev pub PutsFrame : Converted ScriptKind → List ℕ → ℕ → ℕ → Opt
 PutsFrame converted.Whole piece count counted before now held rest = (counted ≡ count + 1) × Gathers before now rest (held ++ piece)
 PutsFrame (converted.Refused kind) piece count counted before now held rest = ⊥
 PutsFrame converted.WriteFault piece count counted before now held rest = AppendsPrefix before now (held ++ piece)
+PutsFrame converted.NoMemory piece count counted before now held rest = ⊥
 
 -- nothing was made: what was counted, written and held is as before
 pub record Unmoved (count counted : ℕ) (before now : Option (List ℕ)) (held rest : List ℕ) : Type 0 where
@@ -55,6 +56,7 @@ came_with (Ok End) count = Done (frames_line count)
 came_with (Ok (Refused place kind)) count = cames.Refused 3 (script_line place kind)
 came_with (Err stopped.Read) count = Failed faults.Read
 came_with (Err stopped.Write) count = Failed faults.Write
+came_with (Err stopped.Memory) count = Failed faults.NoMemory
 
 -- ---- the files
 
@@ -63,23 +65,23 @@ abbrev pub Counts : List ℕ → Told → Faults → Came → Type 0
 Counts out new before came =
     HasCausesBeside ((came ≡ Failed faults.Read) × AnyFailed (OfSink out ∷ []) new) before new.faults (came ≡ Failed faults.Read) (came ≡ Failed faults.Write) (came ≡ Failed faults.Open)
 
--- a script was sent, after it was opened and then the output
+-- a script was sent, after it was opened and then the output, behind the setup and the seeds
 pub record SendsFiles (stream : Stream) (name out : List ℕ) (old new : Told) (came : Came) : Type 0 where
   pub opened : ℕ
   pub opens : Opens (OfSource name ∷ OfSink out ∷ []) opened old new
-  pub sends : SendsScript stream (file_told old name) (file_told old out) (file_told new name) (file_told new out) came
+  pub sends : SendsScript stream (file_told old name) (file_told old out) (file_told new name) (file_told new out) (suc (suc opened)) came
   pub counts : Counts out new old.faults came
 
 -- with seeds that were found no sender was opened, and no file was asked for; or they are right, and the script was sent
 pub record SendsSeeded (stream : Stream) (name out : List ℕ) (old new : Told) (came : Came) : Type 0 where
   pub opened : ℕ
   pub opens : Opens (OfSource name ∷ OfSink out ∷ []) opened old new
-  pub does : ((opened ≡ 0) × IsNoSender stream came) ⊎ ((wrong_line stream ≡ None) × SendsScript stream (file_told old name) (file_told old out) (file_told new name) (file_told new out) came)
+  pub does : ((opened ≡ 0) × IsNoSender stream came) ⊎ ((wrong_line stream ≡ None) × SendsScript stream (file_told old name) (file_told old out) (file_told new name) (file_told new out) (suc (suc opened)) came)
   pub counts : Counts out new old.faults came
 
 -- under a setup that was found and was opened before
 pub record SendsSetup (arguments : SendArguments) (setup : Parts) (old new : Told) (came : Came) : Type 0 where
   pub opened : ℕ
   pub opens : Opens (OfSource arguments.secret ∷ OfSource arguments.script ∷ OfSink arguments.out ∷ []) opened old new
-  pub does : StopsAtSeeds setup (file_told old arguments.secret) (suc opened) came ⊎ SendsWith setup (file_told old arguments.secret) (file_told old arguments.script) (file_told old arguments.out) (file_told new arguments.script) (file_told new arguments.out) came
+  pub does : StopsAtSeeds setup (file_told old arguments.secret) (suc opened) came ⊎ SendsWith setup (file_told old arguments.secret) (file_told old arguments.script) (file_told old arguments.out) (file_told new arguments.script) (file_told new arguments.out) (suc opened) came
   pub counts : Counts arguments.out new old.faults came

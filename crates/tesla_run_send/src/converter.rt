@@ -17,7 +17,7 @@ use std::marker::Brand;
 use std::sync::ledger::Ledger;
 use tesla_base::Steps;
 use tesla_capture::{Gatherer, RecordKind, RecordReader, RecordStep, ScriptFormat};
-use tesla_convert::{Converted, Converter, TakenRecord};
+use tesla_convert::{Converted, Converter, Halt, TakenRecord};
 use tesla_desk::{Sink, Source};
 use tesla_sender::{DiscloseRefusal, SendRefusal, Sender};
 
@@ -102,6 +102,7 @@ impl<L: SendLedger> SendConverter<L> {
         ensures puts { PutsFrame result (frame_records reading (take length self.old.frame)) self.old.frames self.new.frames (O.written out.old) (O.written out.new) (gathered gatherer.old) (gathered gatherer.new) }
         ensures sender { self.new.sender ≡ self.old.sender }
         ensures few { self.new.frames ≤ self.old.frames + 1 }
+        ensures enough { result ≡ Converted.NoMemory → ⊥ }
         ensures cause { HasCause (O.faults out.old) (O.faults out.new) (result ≡ Converted.WriteFault) }
         ensures name { O.name out.new ≡ O.name out.old }
     {
@@ -126,6 +127,7 @@ impl<L: SendLedger> SendConverter<L> {
             CarriesOut result (answer_to self.old.sender.stream log (Sends reading payload.now)) (Sends reading payload.now) log self.new.sender self.old.frames self.new.frames (O.written out.old) (O.written out.new) (gathered gatherer.old) (gathered gatherer.new) }
         ensures stream { self.new.sender.stream ≡ self.old.sender.stream }
         ensures few { self.new.frames ≤ self.old.frames + 1 }
+        ensures enough { result ≡ Converted.NoMemory → ⊥ }
         ensures cause { HasCause (O.faults out.old) (O.faults out.new) (result ≡ Converted.WriteFault) }
         ensures name { O.name out.new ≡ O.name out.old }
     {
@@ -150,6 +152,7 @@ impl<L: SendLedger> SendConverter<L> {
             CarriesOut result (answer_to self.old.sender.stream log (Discloses reading)) (Discloses reading) log self.new.sender self.old.frames self.new.frames (O.written out.old) (O.written out.new) (gathered gatherer.old) (gathered gatherer.new) }
         ensures stream { self.new.sender.stream ≡ self.old.sender.stream }
         ensures few { self.new.frames ≤ self.old.frames + 1 }
+        ensures enough { result ≡ Converted.NoMemory → ⊥ }
         ensures cause { HasCause (O.faults out.old) (O.faults out.new) (result ≡ Converted.WriteFault) }
         ensures name { O.name out.new ≡ O.name out.old }
     {
@@ -176,6 +179,8 @@ impl<L: SendLedger> Converter for SendConverter<L> {
     ghost has = { λ c records. HasSent L.stream c.sender c.frames records };
 
     ghost ended = { λ c records. c.frames ≡ frames_of L.stream records };
+
+    ghost may_want = { false };
 
     ghost calls = { λ c. c.frames };
 
@@ -211,7 +216,7 @@ impl<L: SendLedger> Converter for SendConverter<L> {
         }
     }
 
-    fn finish<O: Sink>(&mut self, _: &mut Gatherer, _: &mut O) -> bool {
-        true
+    fn finish<O: Sink>(&mut self, _: &mut Gatherer, _: &mut O) -> Result<(), Halt> {
+        Ok(())
     }
 }

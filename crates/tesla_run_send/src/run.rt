@@ -38,7 +38,7 @@ use tesla_sender::{Sender, SenderRefusal};
 /// place of SCRIPT that is refused: CAPTURE holds the frames of the records before it. `Failed` with what went wrong
 /// first: `Read` and `Open` only where their count rose, and `Write` where a write failed. After a failed read CAPTURE
 /// holds the frames of what was read, unless it failed too, and after a failed write a prefix of all. `NoMemory` comes
-/// only before CAPTURE is opened.
+/// only before CAPTURE is opened and before a byte of SCRIPT is read.
 pub fn run_send<D: Desk>(alloc: Global, words: &[String], desk: &mut D) -> Outcome
     ensures { RunsAs send (map string_bytes words.now) (D.told desk.old) (D.told desk.new) (outcome_came result) }
 {
@@ -186,6 +186,7 @@ fn lines_of(ended: Result<Ending<ScriptKind>, Stopped>, frames: u64) -> Result<L
         Ok(Ending::Refused { place, kind }) => Err(script_refused(place, kind)),
         Err(Stopped::Read) => Err(Stop::Failed(Fault::Read)),
         Err(Stopped::Write) => Err(Stop::Failed(Fault::Write)),
+        Err(Stopped::Memory) => Err(Stop::Failed(Fault::NoMemory)),
     }
 }
 

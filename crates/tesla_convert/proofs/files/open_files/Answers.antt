@@ -6,4 +6,4 @@ returns-in-Err-clause-refused g c = no_input _ c.args.input.now c.args.output.no
 
 pub returns-in-Err-open_sink-clause-refused : goal.returns-in-Err-open_sink-clause-refused
 returns-in-Err-open_sink-clause-refused g c =
-    no_output _ c.args.input.now c.args.output.now _ c.in-Ok.source _ _ c.in-Err-open_sink.refusal _ (g.D.Desk.told c.args.desk.now) (g.D.Desk.told c.open_source.new.self) (g.D.Desk.told c.open_sink.new.self) _ c.from-in-Err-open_sink.ensures c.in-Ok.ensures.named c.in-Ok.ensures.fresh c.in-Ok.ensures.desk c.in-Err-open_sink.ensures.desk c.close_source.ensures.desk
+    no_output _ c.args.input.now c.args.output.now _ c.in-Ok.source _ _ c.in-Err-open_sink.refusal _ (g.D.Desk.told c.args.desk.now) (g.D.Desk.told c.open_source.new.self) (g.D.Desk.told c.open_sink.new.self) _ c.from-in-Err-open_sink.ensures c.in-Ok.ensures.named c.in-Ok.ensures.fresh c.in-Ok.ensures.opened c.in-Ok.ensures.desk c.in-Err-open_sink.ensures.desk c.close_source.ensures.desk

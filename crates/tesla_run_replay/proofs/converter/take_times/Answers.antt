@@ -1,12 +1,13 @@
-use Rattle.std.proofs.Common.{◌∙◌, ◌++◌, refl, subst, arith, replicate}
+use Rattle.std.proofs.Common.{◌∙◌, ◌++◌, subst, arith, replicate}
 use Rattle.tesla_receiver.specs.History.{Takes}
-use Rattle.tesla_run_replay.proofs.Takes.{take_gathered, take_more, take_stops}
+use Rattle.tesla_run_replay.proofs.Takes.{prefix_halted, take_gathered, take_more, take_stops}
 use Rattle.tesla_run_replay.proofs.converter.take_times.Goals as goal
 
-pub returns-then-not-play-clause-halts : goal.returns-then-not-play-clause-halts
-returns-then-not-play-clause-halts g c failed es had =
+pub returns-in-Err-clause-halts : goal.returns-in-Err-clause-halts
+returns-in-Err-clause-halts g c es had =
     take_stops _ _ c.loop.invariant.rule es c.args.times c.loop.counter _ _ _ _ _ (omega arith) (c.loop.invariant.gathers es had)
-    (c.if-not-play.ensures.halts refl (es ++ replicate c.loop.counter (Takes 0)) (c.loop.invariant.has es had))
+    (prefix_halted c.in-Err.halt _ _ _ (λ e. c.in-Err.ensures.halts e (es ++ replicate c.loop.counter (Takes 0)) (c.loop.invariant.has es had))
+    (λ e. (c.in-Err.ensures.wants e).2 (es ++ replicate c.loop.counter (Takes 0)) (c.loop.invariant.has es had)))
 
 pub loop-preserved : goal.loop-preserved
 loop-preserved g c = record {
@@ -15,8 +16,8 @@ loop-preserved g c = record {
   faults = c.play.ensures.cause.still (λ e. absurd cc) ∙ c.loop.invariant.faults;
   name = c.play.ensures.name ∙ c.loop.invariant.name;
   has = λ es had.
-      subst (g.T.Target.has c.play.new.self) (take_more es c.loop.counter) (c.if-not-play.ensures.has refl (es ++ replicate c.loop.counter (Takes 0)) (c.loop.invariant.has es had));
+      subst (g.T.Target.has c.play.new.self) (take_more es c.loop.counter) (c.in_default.ensures.has (es ++ replicate c.loop.counter (Takes 0)) (c.loop.invariant.has es had));
   gathers = λ es had.
       take_gathered _ _ c.loop.invariant.rule es c.loop.counter _ _ _ _ _ _ (c.loop.invariant.gathers es had)
-      (c.if-not-play.ensures.writes refl (es ++ replicate c.loop.counter (Takes 0)) (c.loop.invariant.has es had));
+      (c.in_default.ensures.writes (es ++ replicate c.loop.counter (Takes 0)) (c.loop.invariant.has es had));
 }

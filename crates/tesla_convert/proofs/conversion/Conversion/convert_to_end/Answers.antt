@@ -1,16 +1,20 @@
-use Rattle.tesla_capture.specs.Gathering.{gathered}
 use Rattle.tesla_convert.proofs.Made.{finished, halted, refused_all}
 use Rattle.tesla_convert.proofs.conversion.Conversion.convert_to_end.Goals as goal
 
-pub returns-then-finish-clause-converts : goal.returns-then-finish-clause-converts
-returns-then-finish-clause-converts g c bytes told has holds =
+pub returns-in-Ok-clause-converts : goal.returns-in-Ok-clause-converts
+returns-in-Ok-clause-converts g c bytes told has holds =
     finished g.C.Converter.grammar _ (g.C.Converter.rule c.args.self.now.converter) (g.C.Converter.rule c.convert_records.new.self.converter) (g.C.Converter.has c.convert_records.new.self.converter) (g.C.Converter.ended c.finish.new.self) c.in-Ok-End.field-0 bytes (g.S.Source.left c.convert_records.new.source) _ _ _ _ c.convert_records.ensures.rule c.in-Ok-End.field-0-is
-    (c.in-Ok-End.ensures.converts bytes told has holds) (c.finish.ensures.ended c.if-finish.true) (c.finish.ensures.writes c.if-finish.true)
+    (c.in-Ok-End.ensures.converts bytes told has holds) c.in-Ok.ensures.ended c.in-Ok.ensures.writes
 
-pub returns-else-finish-clause-converts : goal.returns-else-finish-clause-converts
-returns-else-finish-clause-converts g c bytes told has holds =
-    halted g.C.Converter.grammar _ (g.C.Converter.rule c.args.self.now.converter) (g.C.Converter.rule c.convert_records.new.self.converter) (g.C.Converter.has c.convert_records.new.self.converter) (g.C.Converter.ended c.finish.new.self) c.in-Ok-End.field-0 bytes (g.S.Source.left c.convert_records.new.source) _ _ _ (gathered c.finish.new.gatherer) c.convert_records.ensures.rule c.in-Ok-End.field-0-is
-    (c.in-Ok-End.ensures.converts bytes told has holds) (c.finish.ensures.halts c.if-finish.false)
+pub returns-in-Err-WriteFault-clause-converts : goal.returns-in-Err-WriteFault-clause-converts
+returns-in-Err-WriteFault-clause-converts g c bytes told has holds =
+    halted g.C.Converter.grammar _ (g.C.Converter.rule c.args.self.now.converter) (g.C.Converter.rule c.convert_records.new.self.converter) (g.C.Converter.has c.convert_records.new.self.converter) c.in-Ok-End.field-0 bytes (g.S.Source.left c.convert_records.new.source) _ _ _ c.convert_records.ensures.rule c.in-Ok-End.field-0-is
+    (c.in-Ok-End.ensures.converts bytes told has holds) c.in-Err-WriteFault.ensures.halts
+
+pub returns-in-Err-NoMemory-clause-converts : goal.returns-in-Err-NoMemory-clause-converts
+returns-in-Err-NoMemory-clause-converts g c bytes told has holds =
+    halted g.C.Converter.grammar _ (g.C.Converter.rule c.args.self.now.converter) (g.C.Converter.rule c.convert_records.new.self.converter) (g.C.Converter.has c.convert_records.new.self.converter) c.in-Ok-End.field-0 bytes (g.S.Source.left c.convert_records.new.source) _ _ _ c.convert_records.ensures.rule c.in-Ok-End.field-0-is
+    (c.in-Ok-End.ensures.converts bytes told has holds) c.in-Err-NoMemory.ensures.halts
 
 pub returns-in-Ok-Refused-clause-converts : goal.returns-in-Ok-Refused-clause-converts
 returns-in-Ok-Refused-clause-converts g c bytes told has holds =

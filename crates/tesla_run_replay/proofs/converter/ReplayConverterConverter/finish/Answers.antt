@@ -1,15 +1,31 @@
-use Rattle.std.proofs.Common.{◌∷◌, [], ◌++◌, refl}
+use Rattle.std.proofs.Common.{◌∙◌, ◌∷◌, [], ◌++◌, subst}
+use Rattle.std.proofs.lemmas.Result.{IfErr-weaker, IfOk-weaker}
 use Rattle.tesla_receiver.specs.History.{Ends}
 use Rattle.tesla_run_replay.specs.Playing.{events_in}
-use Rattle.tesla_run_replay.proofs.Takes.{end_gathered, end_stops}
+use Rattle.tesla_run_replay.proofs.Takes.{end_alone, end_gathered, end_named, end_stops, prefix_halted}
 use Rattle.tesla_run_replay.proofs.converter.ReplayConverterConverter.finish.Goals as goal
 
+pub returns-in-Err-clause-halts : goal.returns-in-Err-clause-halts
+returns-in-Err-clause-halts g c records had =
+    end_alone _ _ _ had.0 c.play.ensures.rule (events_in records) c.waiting-waiting.result (c.waiting-waiting.ensures.value (events_in records) had.1) _ _ _
+    (prefix_halted c.in-Err.halt _ _ _ (λ e. c.in-Err.ensures.halts e (events_in records) had.1) (λ e. (c.in-Err.ensures.wants e).2 (events_in records) had.1))
+
+pub returns-clause-ended : goal.returns-clause-ended
+returns-clause-ended g c =
+    IfOk-weaker c.take_times.result _ _ (λ x after records had. (
+      c.take_times.ensures.rule ∙ c.play.ensures.rule ∙ had.0,
+      subst (g.T.Target.has c.take_times.new.target) (end_named _ _ _ had.0 c.play.ensures.rule (events_in records) c.waiting-waiting.result (c.waiting-waiting.ensures.value (events_in records) had.1))
+          (after (events_in records ++ Ends 0 ∷ []) (c.in_default.ensures.has (events_in records) had.1)),
+    )) c.take_times.ensures.has
+
 pub returns-clause-writes : goal.returns-clause-writes
-returns-clause-writes g c whole records had =
-    end_gathered _ _ _ had.0 c.play.ensures.rule (events_in records) c.waiting-waiting.result (c.waiting-waiting.ensures.value (events_in records) had.1) _ _ _ _ _ _ (c.if-not-play.ensures.writes refl (events_in records) had.1)
-    (c.take_times.ensures.writes whole (events_in records ++ Ends 0 ∷ []) (c.if-not-play.ensures.has refl (events_in records) had.1))
+returns-clause-writes g c =
+    IfOk-weaker c.take_times.result _ _ (λ x writes records had.
+    end_gathered _ _ _ had.0 c.play.ensures.rule (events_in records) c.waiting-waiting.result (c.waiting-waiting.ensures.value (events_in records) had.1) _ _ _ _ _ _ (c.in_default.ensures.writes (events_in records) had.1)
+    (writes (events_in records ++ Ends 0 ∷ []) (c.in_default.ensures.has (events_in records) had.1))) c.take_times.ensures.writes
 
 pub returns-clause-halts : goal.returns-clause-halts
-returns-clause-halts g c failed records had =
-    end_stops _ _ _ had.0 c.play.ensures.rule (events_in records) c.waiting-waiting.result (c.waiting-waiting.ensures.value (events_in records) had.1) _ _ _ _ _ (c.if-not-play.ensures.writes refl (events_in records) had.1)
-    (c.take_times.ensures.halts failed (events_in records ++ Ends 0 ∷ []) (c.if-not-play.ensures.has refl (events_in records) had.1))
+returns-clause-halts g c =
+    IfErr-weaker c.take_times.result _ _ (λ x halts records had.
+    end_stops _ _ _ had.0 c.play.ensures.rule (events_in records) c.waiting-waiting.result (c.waiting-waiting.ensures.value (events_in records) had.1) _ _ _ _ _ (c.in_default.ensures.writes (events_in records) had.1)
+    (halts (events_in records ++ Ends 0 ∷ []) (c.in_default.ensures.has (events_in records) had.1))) c.take_times.ensures.halts

@@ -1,0 +1,42 @@
+-- Two meanings of which the one says what the other says.
+use Rattle.std.proofs.Common.{◌≡◌, ◌∙◌, ◌⊎◌, inl, inr, ◌<◌, ℕ, Option, List, subst}
+use Rattle.tesla_front.specs.Came.{Came, Done, Usage, Refused, Failed}
+use Rattle.tesla_front.specs.Files.{IsPrefix}
+use Rattle.tesla_front.specs.declared.fault.Fault.TheVariants as faults
+use Rattle.tesla_convert.specs.Meaning.{ConvertsBetween, EndsBetween, Meaning, StopsBetween}
+
+-- what the first says of an input the second says too
+pub record SaysSame (first second : Meaning) : Type 0 where
+  pub comes : (bytes : List ℕ) → first.comes bytes ≡ second.comes bytes
+  pub makes : (bytes : List ℕ) → first.makes bytes ≡ second.makes bytes
+  pub so_far : (read : List ℕ) → first.so_far read ≡ second.so_far read
+  pub unrefused : (read : List ℕ) → first.IsUnrefused read → second.IsUnrefused read
+  pub may : first.MayWant → second.MayWant
+
+module _ (first second : Meaning) (same : SaysSame first second) (before left written : Option (List ℕ)) (failed : ℕ) where
+  ends_same : (came : Came) → EndsBetween first before written came → EndsBetween second before written came
+  ends_same came ends = record {
+    end = λ bytes told. ends.end bytes told ∙ same.comes bytes;
+    text = λ bytes done told written_is. ends.text bytes done told written_is ∙ same.makes bytes;
+  }
+
+  part_same : (text other done : List ℕ) → text ≡ other → (done ≡ text) ⊎ ((0 < failed) × IsPrefix text done) → (done ≡ other) ⊎ ((0 < failed) × IsPrefix other done)
+  part_same text other done e (inl whole) = inl (whole ∙ e)
+  part_same text other done e (inr (some, front)) = inr (some, subst (λ (t : List ℕ). IsPrefix t done) e front)
+
+  stops_same : StopsBetween first before left written failed → StopsBetween second before left written failed
+  stops_same stops = λ bytes told.
+      let (read, rest, left_is, parts, none, text) = stops bytes told in
+      (read, rest, left_is, parts, same.unrefused read none, λ done written_is. part_same (first.so_far read) (second.so_far read) done (same.so_far read) (text done written_is))
+
+  -- what was so of an input by the first is so by the second
+  pub between_same : (came : Came) → ConvertsBetween first before left written failed came → ConvertsBetween second before left written failed came
+  between_same (Done lines) between = ends_same (Done lines) between
+  between_same Usage between = absurd between
+  between_same (Refused status line) between = ends_same (Refused status line) between
+  between_same (Failed faults.Read) between = stops_same between
+  between_same (Failed faults.Write) between = (between.0, λ bytes done told written_is. subst (λ (t : List ℕ). IsPrefix t done) (same.makes bytes) (between.1 bytes done told written_is))
+  between_same (Failed faults.NoMemory) (inl unbegun) = inl unbegun
+  between_same (Failed faults.NoMemory) (inr wants) =
+      inr (same.may wants.0, wants.1, λ bytes done told written_is. subst (λ (t : List ℕ). IsPrefix t done) (same.makes bytes) (wants.2 bytes done told written_is))
+  between_same (Failed faults.Open) between = absurd between
