@@ -12,8 +12,8 @@ use crate::{Config, Verdict};
 use tesla_base::StreamId;
 use tesla_frame::{DataView, FrameView, KeyRow, KeysView};
 
-// The stream of a frame.
-fn stream_of(frame: &FrameView<'_>) -> StreamId
+/// The stream of a frame.
+pub fn stream_of(frame: &FrameView<'_>) -> StreamId
     ensures { result ≡ stream_of (shown frame.now) }
 {
     match frame {

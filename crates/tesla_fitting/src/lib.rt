@@ -9,6 +9,6 @@ mod verdict;
 
 pub use chains::{chain_row, has_chain};
 pub use config::Config;
-pub use fitting::unfit;
+pub use fitting::{stream_of, unfit};
 pub use rows::{key_above, may_be_above, row_count};
 pub use verdict::Verdict;

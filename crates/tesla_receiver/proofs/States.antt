@@ -1,6 +1,7 @@
 -- A legal history has one state that stands for it.
-use Rattle.std.proofs.Common.{◌≡◌, ℕ, List, length, length-drop, map, drop, count_by, refl, sym, ap, ◌∙◌}
+use Rattle.std.proofs.Common.{◌≡◌, ℕ, zero, suc, ◌+◌, Bool, true, false, ◌&&◌, nat_lt, get_or, List, length, length-drop, map, drop, count_by, refl, sym, ap, ◌∙◌, arith}
 use Rattle.std.specs.List.{range_with_len}
+use Rattle.std.proofs.lemmas.Bool.Decides.{nat_tests}
 use Rattle.tesla_fitting.specs.declared.config.Config.{Config}
 use Rattle.tesla_receiver.specs.declared.history.Entry.{Entry}
 use Rattle.tesla_fitting.specs.Config.{chains}
@@ -59,3 +60,20 @@ interval_number s h st interval = ap (count_by (in_interval interval)) st.held �
 
 pub waiting_number : (s : State) (h : List Entry) → Stands s h → length s.waiting ≡ waiting_in s.config h
 waiting_number s h st = ap length st.waiting ∙ length-drop (given_in h) (released s.config (arrivals_in h))
+
+-- the flag of a number, below which there are so many
+flag_at : (f : ℕ → Bool) (a n c : ℕ) → get_or (map f (range_with_len a n)) c false ≡ (nat_lt c n && f (a + c))
+flag_at f a zero c = let past : nat_lt c 0 ≡ false = grind (arith, nat_tests) in sym (ap (λ b. b && f (a + c)) past)
+flag_at f a (suc n) zero =
+    let here : nat_lt 0 (suc n) ≡ true = grind (arith, nat_tests) in
+    let own : a ≡ a + zero = omega arith in
+    ap f own ∙ sym (ap (λ b. b && f (a + zero)) here)
+flag_at f a (suc n) (suc c) =
+    let same : nat_lt (suc c) (suc n) ≡ nat_lt c n = grind (arith, nat_tests) in
+    let further : a + 1 + c ≡ a + suc c = omega arith in
+    flag_at f (a + 1) n c ∙ ap (λ k. nat_lt c n && f k) further ∙ sym (ap (λ b. b && f (a + suc c)) same)
+
+pub ended_flag : (s : State) (h : List Entry) → Stands s h → (ingest : ℕ) → get_or s.ended ingest false ≡ (nat_lt ingest s.config.ingests && has_end h ingest)
+ended_flag s h st ingest =
+    let plain : 0 + ingest ≡ ingest = omega arith in
+    ap (λ flags. get_or flags ingest false) st.ended ∙ flag_at (has_end h) 0 s.config.ingests ingest ∙ ap (λ k. nat_lt ingest s.config.ingests && has_end h k) plain

@@ -1,11 +1,13 @@
 //! The receiver's calls.
 
-ghost use Rattle.std.specs.Prelude.{◌≡◌, ◌+◌, ◌^◌, ◌<◌, ◌≤◌, ◌++◌, ◌∷◌, [], List, if◌then◌else◌, IfOk};
+ghost use Rattle.std.specs.Prelude.{◌≡◌, ◌+◌, ◌^◌, ◌<◌, ◌≤◌, ◌++◌, ◌∷◌, [], List, if◌then◌else◌, IfOk, nat_lt, option_copied, option_map, ◌&&◌};
+ghost use Rattle.tesla_frame.specs.Reading.{frame_of};
+ghost use Rattle.tesla_frame.specs.Shown.{shown};
 ghost use Rattle.tesla_receiver.specs.declared.history.Entry.{Entry};
 ghost use Rattle.tesla_receiver.specs.declared.history.Entry.TheVariants.{Arrived};
 ghost use Rattle.tesla_base.specs.declared.names.ChainNo.{ChainNo};
 ghost use Rattle.tesla_receiver.specs.Costs.{most_evaluations, most_offers};
-ghost use Rattle.tesla_receiver.specs.History.{Arrives, Takes, Ends, arrivals_in, entry_of, reply_to, held_in};
+ghost use Rattle.tesla_receiver.specs.History.{Arrives, Takes, Ends, arrivals_in, entry_of, has_end, reply_to, held_in};
 ghost use Rattle.tesla_receiver.specs.Played.{waiting_in};
 ghost use Rattle.tesla_state.specs.Replies.{reply_shown, KeepsBehind};
 ghost use Rattle.tesla_receiver.specs.Report.{report_of};
@@ -17,6 +19,7 @@ use std::sync::ledger::Ledger;
 use tesla_base::{NoMemory, Steps};
 use tesla_commit::Setup;
 use tesla_fitting::Verdict;
+use tesla_frame::{FrameView, read_frame};
 use tesla_state::{ReceiverState, Report, Take};
 
 /// A receiver of one stream (RFC 4082, section 3.5). It keeps what later events need and no history, in memory that is
@@ -85,7 +88,32 @@ impl Receiver {
         ensures calls { self.new.calls ≡ self.old.calls + 1 }
         ensures reserved { self.new.reserved ≡ self.old.reserved }
     {
-        self.kept.arrive(ingest, reading, bytes, steps)
+        let frame = read_frame(bytes);
+        self.arrive_read(ingest, reading, bytes, frame.as_ref(), steps)
+    }
+
+    /// Judges a datagram as `arrive` does, where it was read before: as this frame, or as none. So one that a caller reads
+    /// for its stream is read once.
+    pub fn arrive_read<L: Ledger>(
+        &mut self,
+        ingest: u8,
+        reading: u64,
+        bytes: &[u8],
+        frame: Option<&FrameView<'_>>,
+        steps: &mut Steps<L>,
+    ) -> Verdict
+        requires read { option_map shown (option_copied frame) ≡ frame_of bytes.now }
+        requires calls { self.old.calls + 1 < 2 ^ 64 }
+        ensures answer { (h : List Entry) → Stands self.old h →
+            Arrived (record { ingest = ingest; reading = reading; bytes = bytes.now; verdict = result }) ≡ entry_of self.old.config h (Arrives ingest reading bytes.now) }
+        ensures stands { (h : List Entry) → Stands self.old h → Stands self.new (h ++ entry_of self.old.config h (Arrives ingest reading bytes.now) ∷ []) }
+        ensures evaluations { (h : List Entry) → Stands self.old h → steps.new ≤ steps.old + most_evaluations self.old.config (arrivals_in h) reading bytes.now }
+        ensures badkey { (h : List Entry) → Stands self.old h → (chain : ChainNo) → result ≡ Verdict.BadKey chain → steps.new ≤ steps.old + most_offers self.old.config (arrivals_in h) bytes.now }
+        ensures config { self.new.config ≡ self.old.config }
+        ensures calls { self.new.calls ≡ self.old.calls + 1 }
+        ensures reserved { self.new.reserved ≡ self.old.reserved }
+    {
+        self.kept.arrive(ingest, reading, bytes, frame, steps)
     }
 
     /// Gives the next released packet, whose payload is then at the front of the buffer, or says whether
@@ -114,6 +142,13 @@ impl Receiver {
         self.kept.end(ingest);
     }
 
+    /// Whether an ingest has ended. One at or above the number of ingests counts for nothing, and hasn't.
+    pub fn has_ended(&self, ingest: u8) -> bool
+        ensures { (h : List Entry) → Stands self.now h → result ≡ (nat_lt ingest self.now.config.ingests && has_end h ingest) }
+    {
+        self.kept.has_ended(ingest)
+    }
+
     /// How many events the receiver has had.
     pub fn calls(&self) -> u64
         ensures { result ≡ self.now.calls }
@@ -131,7 +166,7 @@ impl Receiver {
     /// How many released packets wait to be taken.
     pub fn waiting(&self) -> u64
         ensures value { (h : List Entry) → Stands self.now h → result ≡ waiting_in self.now.config h }
-        ensures few { result < 2 ^ 63 }
+        ensures few { result < 2 ^ 32 }
     {
         u64::from(self.kept.waiting())
     }

@@ -1,8 +1,9 @@
 //! An arrival: it is judged, its keys are taken, and its packet is held if it is kept.
 
-ghost use Rattle.std.specs.Prelude.{◌≡◌, ◌*◌, ℕ, ◌+◌, ◌++◌, ◌≤◌, All, Bool, List, length, map, vec_capacity};
+ghost use Rattle.std.specs.Prelude.{◌≡◌, ◌*◌, ℕ, ◌+◌, ◌++◌, ◌≤◌, All, Bool, List, length, map, option_copied, option_map, vec_capacity};
 ghost use Rattle.tesla_clock.specs.Schedule.{bound_of};
 ghost use Rattle.tesla_frame.specs.Frame.{Data, DataFrame};
+ghost use Rattle.tesla_frame.specs.Reading.{frame_of};
 ghost use Rattle.tesla_frame.specs.Shown.{shown};
 ghost use Rattle.tesla_state.specs.declared.report.Report.{Report};
 ghost use Rattle.tesla_base.specs.declared.names.ChainNo.{ChainNo};
@@ -24,7 +25,7 @@ use crate::keys::take_keys;
 use std::sync::ledger::Ledger;
 use tesla_base::Steps;
 use tesla_fitting::{Config, Verdict};
-use tesla_frame::{FrameView, read_frame};
+use tesla_frame::FrameView;
 use tesla_keys::Verifier;
 use tesla_walks::{Proved, Walk};
 
@@ -78,8 +79,8 @@ fn bound_at(config: &Config, reading: u64) -> Option<u64>
     config.setup.schedule().bound(reading, config.lag)
 }
 
-/// Judges a datagram with the reading of the receiver's clock in microseconds, takes its keys, and holds its packet if
-/// it is kept. So many arrivals came before it. It takes no memory. The counted steps are at most two for each
+/// Judges a datagram, that was read as this frame or as none, with the reading of the receiver's clock in microseconds,
+/// takes its keys, and holds its packet if it is kept. So many arrivals came before it. It takes no memory. The counted steps are at most two for each
 /// interval from a newer key down to the newest of its chain, and two for each held packet that isn't released and each
 /// chain on which it is tried.
 pub fn receive<L: Ledger>(
@@ -91,8 +92,10 @@ pub fn receive<L: Ledger>(
     order: u64,
     reading: u64,
     bytes: &[u8],
+    frame: Option<&FrameView<'_>>,
     steps: &mut Steps<L>,
 ) -> Verdict
+    requires read { option_map shown (option_copied frame) ≡ frame_of bytes.now }
     requires tips { length tips.old.items ≡ length config.now.setup.rows }
     requires chains { store.old.chains ≡ length config.now.setup.rows }
     requires capacity { store.old.capacity ≡ config.now.capacity }
@@ -121,15 +124,16 @@ pub fn receive<L: Ledger>(
     ensures badkey { (ended : List Bool) (counts : Report) (calls reserved : ℕ) (chain : ChainNo) → result ≡ BadKey chain →
         steps.new ≤ steps.old + offers_by (state_of config.now tips.old.items store.old ended counts calls reserved) bytes.now }
 {
-    let Some(frame) = read_frame(bytes) else {
+    let _ = bytes;
+    let Some(frame) = frame else {
         return Verdict::Malformed;
     };
     let bound = bound_at(config, reading);
     walks.clear();
-    if let Some(verdict) = refused(config, tips.as_slice(), bound, &frame, walks, steps) {
+    if let Some(verdict) = refused(config, tips.as_slice(), bound, frame, walks, steps) {
         return verdict;
     }
     accept(
-        config, tips, store, walks, batch, order, bound, &frame, steps,
+        config, tips, store, walks, batch, order, bound, frame, steps,
     )
 }

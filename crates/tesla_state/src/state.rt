@@ -1,7 +1,9 @@
 //! What a receiver keeps, moved by each event.
 
-ghost use Rattle.std.specs.Prelude.{◌≡◌, ◌+◌, ◌^◌, ◌<◌, ◌≤◌, [], IfOk, length, map, replicate, false};
+ghost use Rattle.std.specs.Prelude.{◌≡◌, ◌+◌, ◌^◌, ◌<◌, ◌≤◌, [], IfOk, get_or, length, map, option_copied, option_map, replicate, false};
 ghost use Rattle.tesla_fitting.specs.Config.{chains};
+ghost use Rattle.tesla_frame.specs.Reading.{frame_of};
+ghost use Rattle.tesla_frame.specs.Shown.{shown};
 ghost use Rattle.tesla_base.specs.declared.names.ChainNo.{ChainNo};
 ghost use Rattle.tesla_state.specs.Costs.{most_by, offers_by};
 ghost use Rattle.tesla_state.specs.Replies.{reply_shown, KeepsBehind};
@@ -18,6 +20,7 @@ use std::sync::ledger::Ledger;
 use tesla_base::{NoMemory, Steps};
 use tesla_commit::Setup;
 use tesla_fitting::{Config, Verdict};
+use tesla_frame::FrameView;
 use tesla_keys::Verifier;
 use tesla_walks::{Proved, Walk, first_tips};
 
@@ -105,8 +108,8 @@ impl ReceiverState {
         })
     }
 
-    /// Judges a datagram of an ingest, with the reading of the receiver's clock in microseconds. It takes no memory.
-    /// No step is counted where a datagram is refused before its keys are looked at; else at most two for each interval
+    /// Judges a datagram of an ingest, that was read as this frame or as none, with the reading of the receiver's clock in
+    /// microseconds. It takes no memory. No step is counted where a datagram is refused before its keys are looked at; else at most two for each interval
     /// from a newer key down to the newest of its chain, and two for each held packet that isn't released and each chain
     /// on which the new keys reach it. Where a key is bad, they are at most one for each interval from a newer key down to
     /// the newest of its chain.
@@ -115,9 +118,11 @@ impl ReceiverState {
         _ingest: u8,
         reading: u64,
         bytes: &[u8],
+        frame: Option<&FrameView<'_>>,
         steps: &mut Steps<L>,
     ) -> Verdict
-        requires { self.old.calls + 1 < 2 ^ 64 }
+        requires read { option_map shown (option_copied frame) ≡ frame_of bytes.now }
+        requires calls { self.old.calls + 1 < 2 ^ 64 }
         ensures verdict { result ≡ judged self.old reading bytes.now }
         ensures state { self.new ≡ after_arrival self.old reading bytes.now }
         ensures reserved { self.new.reserved ≡ self.old.reserved }
@@ -133,6 +138,7 @@ impl ReceiverState {
             self.counts.arrivals,
             reading,
             bytes,
+            frame,
             steps,
         );
         count(&mut self.counts, verdict);
@@ -170,6 +176,16 @@ impl ReceiverState {
     {
         mark(&mut self.ended, ingest as usize);
         self.calls += 1;
+    }
+
+    /// Whether an ingest has ended. One at or above the number of ingests hasn't.
+    pub fn has_ended(&self, ingest: u8) -> bool
+        ensures { result ≡ get_or self.now.ended ingest false }
+    {
+        self.ended
+            .get(usize::from(ingest))
+            .copied()
+            .unwrap_or(false)
     }
 
     /// How many events the receiver has had.

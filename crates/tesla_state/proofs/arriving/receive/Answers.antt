@@ -1,5 +1,5 @@
 use Rattle.std.proofs.Common.{◌≡◌, ℕ, ◌+◌, ◌++◌, refl, ap, sym, ◌∙◌, subst, map, length, List, [], Some, None, ◌≤◌, ◌*◌}
-use Rattle.std.specs.Prelude.{option_map, unwrap_or, Option, is_some}
+use Rattle.std.specs.Prelude.{option_copied, option_map, unwrap_or, Option, is_some}
 use Rattle.tesla_frame.specs.Frame.{Frame}
 use Rattle.tesla_frame.specs.Shown.{shown}
 use Rattle.tesla_keys.specs.Tip.{Tip}
@@ -24,35 +24,35 @@ no_counts = record { arrivals = 0; malformed = 0; foreign = 0; misfit = 0; futur
 pub returns-in_default-clause-verdict : goal.returns-in_default-clause-verdict
 returns-in_default-clause-verdict g c ended counts calls reserved =
     let s : State = state_of c.args.config.now c.args.tips.now.items c.args.store.now ended counts calls reserved in
-    judged_at s c.args.reading c.args.bytes.now None (bound_at s c.args.reading) (sym c.read_frame.ensures.exact ∙ ap (option_map shown) c.in_default.is) refl
+    judged_at s c.args.reading c.args.bytes.now None (bound_at s c.args.reading) (sym c.requires.read ∙ ap (λ f. option_map shown (option_copied f)) c.in_default.is) refl
 
 pub returns-in_default-clause-state : goal.returns-in_default-clause-state
 returns-in_default-clause-state g c ended counts calls reserved h =
     let s : State = state_of c.args.config.now c.args.tips.now.items c.args.store.now ended counts calls reserved in
-    after_at s c.args.reading c.args.bytes.now None (bound_at s c.args.reading) (sym c.read_frame.ensures.exact ∙ ap (option_map shown) c.in_default.is) refl
+    after_at s c.args.reading c.args.bytes.now None (bound_at s c.args.reading) (sym c.requires.read ∙ ap (λ f. option_map shown (option_copied f)) c.in_default.is) refl
 
 pub returns-in-Some-refused-clause-verdict : goal.returns-in-Some-refused-clause-verdict
 returns-in-Some-refused-clause-verdict g c ended counts calls reserved =
     let s : State = state_of c.args.config.now c.args.tips.now.items c.args.store.now ended counts calls reserved in
-    let fr : Frame = shown c.in-Some.frame in
+    let fr : Frame = shown c.in-Some.frame.now in
     let bound : c.bound_at-bound.result ≡ bound_at s c.args.reading = c.bound_at-bound.ensures in
     let why : refused s c.bound_at-bound.result fr ≡ Some c.in-Some-refused.verdict = sym (c.refused.ensures.value s refl (sym c.as_slice.ensures.value)) ∙ c.in-Some-refused.is in
     sym (ap (λ o. unwrap_or o (judged_taken (with_keys s (new_rows s fr)) c.bound_at-bound.result fr)) why)
-    ∙ judged_at s c.args.reading c.args.bytes.now (Some fr) c.bound_at-bound.result (sym c.read_frame.ensures.exact ∙ ap (option_map shown) c.in-Some.is) bound
+    ∙ judged_at s c.args.reading c.args.bytes.now (Some fr) c.bound_at-bound.result (sym c.requires.read ∙ ap (λ f. option_map shown (option_copied f)) c.in-Some.is) bound
 
 pub returns-in-Some-refused-clause-state : goal.returns-in-Some-refused-clause-state
 returns-in-Some-refused-clause-state g c ended counts calls reserved h =
     let s : State = state_of c.args.config.now c.args.tips.now.items c.args.store.now ended counts calls reserved in
-    let fr : Frame = shown c.in-Some.frame in
+    let fr : Frame = shown c.in-Some.frame.now in
     let bound : c.bound_at-bound.result ≡ bound_at s c.args.reading = c.bound_at-bound.ensures in
     let why : refused s c.bound_at-bound.result fr ≡ Some c.in-Some-refused.verdict = sym (c.refused.ensures.value s refl (sym c.as_slice.ensures.value)) ∙ c.in-Some-refused.is in
     sym (ap (entered_frame s c.bound_at-bound.result (Some fr)) why)
-    ∙ after_at s c.args.reading c.args.bytes.now (Some fr) c.bound_at-bound.result (sym c.read_frame.ensures.exact ∙ ap (option_map shown) c.in-Some.is) bound
+    ∙ after_at s c.args.reading c.args.bytes.now (Some fr) c.bound_at-bound.result (sym c.requires.read ∙ ap (λ f. option_map shown (option_copied f)) c.in-Some.is) bound
 
 pub accept-requires : goal.accept-requires
 accept-requires g c =
     let s : State = state_of c.args.config.now c.args.tips.now.items c.args.store.now [] no_counts 0 0 in
-    let fr : Frame = shown c.in-Some.frame in
+    let fr : Frame = shown c.in-Some.frame.now in
     let why : refused s c.bound_at-bound.result fr ≡ None = sym (c.refused.ensures.value s refl (sym c.as_slice.ensures.value)) ∙ c.in_default-refused.is in
     let whole : c.as_slice.result.now ≡ c.deref_mut.result.now = c.as_slice.ensures.value ∙ sym c.deref_mut.ensures.value in
     record {
@@ -71,18 +71,18 @@ accept-requires g c =
 pub returns-clause-verdict : goal.returns-clause-verdict
 returns-clause-verdict g c ended counts calls reserved =
     let s : State = state_of c.args.config.now c.args.tips.now.items c.args.store.now ended counts calls reserved in
-    let fr : Frame = shown c.in-Some.frame in
+    let fr : Frame = shown c.in-Some.frame.now in
     let bound : c.bound_at-bound.result ≡ bound_at s c.args.reading = c.bound_at-bound.ensures in
     let why : refused s c.bound_at-bound.result fr ≡ None = sym (c.refused.ensures.value s refl (sym c.as_slice.ensures.value)) ∙ c.in_default-refused.is in
     c.accept.ensures.verdict ended counts calls reserved
     ∙ ap (λ (ts : List Tip). judged_taken (with_keys (state_of c.args.config.now ts c.args.store.now ended counts calls reserved) (new_rows (state_of c.args.config.now ts c.args.store.now ended counts calls reserved) fr)) c.bound_at-bound.result fr) c.deref_mut.ensures.value
     ∙ sym (ap (λ o. unwrap_or o (judged_taken (with_keys s (new_rows s fr)) c.bound_at-bound.result fr)) why)
-    ∙ judged_at s c.args.reading c.args.bytes.now (Some fr) c.bound_at-bound.result (sym c.read_frame.ensures.exact ∙ ap (option_map shown) c.in-Some.is) bound
+    ∙ judged_at s c.args.reading c.args.bytes.now (Some fr) c.bound_at-bound.result (sym c.requires.read ∙ ap (λ f. option_map shown (option_copied f)) c.in-Some.is) bound
 
 pub returns-clause-state : goal.returns-clause-state
 returns-clause-state g c ended counts calls reserved h =
     let s : State = state_of c.args.config.now c.args.tips.now.items c.args.store.now ended counts calls reserved in
-    let fr : Frame = shown c.in-Some.frame in
+    let fr : Frame = shown c.in-Some.frame.now in
     let w : State = with_keys s (new_rows s fr) in
     let r : Verdict = c.accept.result in
     let bound : c.bound_at-bound.result ≡ bound_at s c.args.reading = c.bound_at-bound.ensures in
@@ -95,7 +95,7 @@ returns-clause-state g c ended counts calls reserved h =
     ∙ ap (λ (k : ℕ). entered_as r (record w { held = w.held ++ own k r fr })) (sym h)
     ∙ ap (λ (v : Verdict). entered_as v (record w { held = w.held ++ own counts.arrivals v fr })) verdict
     ∙ sym (ap (entered_frame s c.bound_at-bound.result (Some fr)) why)
-    ∙ after_at s c.args.reading c.args.bytes.now (Some fr) c.bound_at-bound.result (sym c.read_frame.ensures.exact ∙ ap (option_map shown) c.in-Some.is) bound
+    ∙ after_at s c.args.reading c.args.bytes.now (Some fr) c.bound_at-bound.result (sym c.requires.read ∙ ap (λ f. option_map shown (option_copied f)) c.in-Some.is) bound
 
 pub returns-in_default-clause-before : goal.returns-in_default-clause-before
 returns-in_default-clause-before g c = before_later c.args.order (map holding_at c.args.store.now.held) c.requires.before
@@ -115,29 +115,29 @@ returns-clause-needed g c =
 pub returns-in-Some-refused-clause-cost : goal.returns-in-Some-refused-clause-cost
 returns-in-Some-refused-clause-cost g c ended counts calls reserved =
     let s : State = state_of c.args.config.now c.args.tips.now.items c.args.store.now ended counts calls reserved in
-    let fr : Frame = shown c.in-Some.frame in
+    let fr : Frame = shown c.in-Some.frame.now in
     let bound : c.bound_at-bound.result ≡ bound_at s c.args.reading = c.bound_at-bound.ensures in
-    refused_cost s c.args.reading c.args.bytes.now fr (sym c.read_frame.ensures.exact ∙ ap (option_map shown) c.in-Some.is) c.args.steps.now c.refused.new.steps
+    refused_cost s c.args.reading c.args.bytes.now fr (sym c.requires.read ∙ ap (λ f. option_map shown (option_copied f)) c.in-Some.is) c.args.steps.now c.refused.new.steps
     (λ e. c.refused.ensures.free (ap (λ (b : Option ℕ). is_some (unfit c.args.config.now b fr)) bound ∙ e))
     (subst (λ (ts : List Tip). c.refused.new.steps ≤ c.args.steps.now + gaps ts (keys_of c.args.config.now fr)) c.as_slice.ensures.value c.refused.ensures.most)
 
 pub returns-in-Some-refused-clause-badkey : goal.returns-in-Some-refused-clause-badkey
 returns-in-Some-refused-clause-badkey g c ended counts calls reserved chain e =
     let s : State = state_of c.args.config.now c.args.tips.now.items c.args.store.now ended counts calls reserved in
-    let fr : Frame = shown c.in-Some.frame in
-    bad_cost s c.args.reading c.args.bytes.now fr (sym c.read_frame.ensures.exact ∙ ap (option_map shown) c.in-Some.is) c.args.steps.now c.refused.new.steps
+    let fr : Frame = shown c.in-Some.frame.now in
+    bad_cost s c.args.reading c.args.bytes.now fr (sym c.requires.read ∙ ap (λ f. option_map shown (option_copied f)) c.in-Some.is) c.args.steps.now c.refused.new.steps
     (subst (λ (ts : List Tip). c.refused.new.steps ≤ c.args.steps.now + gaps ts (keys_of c.args.config.now fr)) c.as_slice.ensures.value c.refused.ensures.most)
 
 pub returns-clause-badkey : goal.returns-clause-badkey
 returns-clause-badkey g c ended counts calls reserved chain e =
-    let fr : Frame = shown c.in-Some.frame in
+    let fr : Frame = shown c.in-Some.frame.now in
     let t : State = state_of c.args.config.now c.deref_mut.result.now c.args.store.now ended counts calls reserved in
     absurd (taken_not_bad (with_keys t (new_rows t fr)) c.bound_at-bound.result fr chain (sym (c.accept.ensures.verdict ended counts calls reserved) ∙ e))
 
 pub returns-clause-cost : goal.returns-clause-cost
 returns-clause-cost g c ended counts calls reserved =
     let s : State = state_of c.args.config.now c.args.tips.now.items c.args.store.now ended counts calls reserved in
-    let fr : Frame = shown c.in-Some.frame in
+    let fr : Frame = shown c.in-Some.frame.now in
     let bound : c.bound_at-bound.result ≡ bound_at s c.args.reading = c.bound_at-bound.ensures in
     let none : c.refused.result ≡ None = c.in_default-refused.is in
     let why : refused s (bound_at s c.args.reading) fr ≡ None = ap (λ (b : Option ℕ). refused s b fr) (sym bound) ∙ sym (c.refused.ensures.value s refl (sym c.as_slice.ensures.value)) ∙ none in
@@ -145,6 +145,6 @@ returns-clause-cost g c ended counts calls reserved =
     subst (λ (ts : List Tip). HaveBegun ts (keys_of c.args.config.now fr) c.refused.new.walks.items) c.as_slice.ensures.value c.in_default-refused.ensures.begun in
     let offered : c.refused.new.steps ≡ c.args.steps.now + gaps c.args.tips.now.items (keys_of c.args.config.now fr) =
     subst (λ (ts : List Tip). c.refused.new.steps ≡ c.args.steps.now + gaps ts (keys_of c.args.config.now fr)) c.as_slice.ensures.value c.in_default-refused.ensures.cost in
-    taken_cost s c.args.reading c.args.bytes.now fr (sym c.read_frame.ensures.exact ∙ ap (option_map shown) c.in-Some.is) c.refused.new.walks.items c.args.steps.now c.refused.new.steps c.accept.new.steps why begun offered
+    taken_cost s c.args.reading c.args.bytes.now fr (sym c.requires.read ∙ ap (λ f. option_map shown (option_copied f)) c.in-Some.is) c.refused.new.walks.items c.args.steps.now c.refused.new.steps c.accept.new.steps why begun offered
     (subst (λ (ws : List Walking). c.accept.new.steps ≤ c.refused.new.steps + left c.args.tips.now.items ws + 2 * pairs c.args.config.now c.args.tips.now.items (rows_of ws) (map holding_at c.args.store.now.held)) c.deref_mut-2.ensures.value
     (subst (λ (ts : List Tip). c.accept.new.steps ≤ c.refused.new.steps + left ts c.deref_mut-2.result.now + 2 * pairs c.args.config.now ts (rows_of c.deref_mut-2.result.now) (map holding_at c.args.store.now.held)) c.deref_mut.ensures.value c.accept.ensures.cost))

@@ -8,6 +8,7 @@ use Rattle.tesla_state.proofs.state.ReceiverState.arrive.Goals as goal
 
 pub receive-verdict-requires : goal.receive-verdict-requires
 receive-verdict-requires g c = record {
+  read = c.requires.read;
   tips = c.self.invariant.tips_each;
   chains = c.self.invariant.chains;
   capacity = c.self.invariant.capacity;
