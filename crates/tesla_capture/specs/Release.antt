@@ -12,3 +12,7 @@ head_text head =
 -- the one spelling of a record
 abbrev pub release_text : Head → List ℕ → List ℕ
 release_text head payload = head_text head ++ payload
+
+-- a record behind one byte, the number of its epoch
+abbrev pub epoch_text : ℕ → Head → List ℕ → List ℕ
+epoch_text epoch head payload = epoch ∷ release_text head payload

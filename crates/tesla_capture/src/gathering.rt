@@ -4,10 +4,10 @@ ghost use Rattle.std.specs.Prelude.{◌≡◌, ◌≤◌, ◌+◌, [], ◌++◌,
 ghost use Rattle.tesla_desk.specs.Faults.{HasCause};
 ghost use Rattle.tesla_desk.specs.Outside.{AppendsPrefix, with_bytes};
 ghost use Rattle.tesla_capture.specs.Capture.{head as capture_head, record_text, Arrives, Takes};
-ghost use Rattle.tesla_capture.specs.Release.{release_text};
+ghost use Rattle.tesla_capture.specs.Release.{epoch_text, release_text};
 
 use crate::format::{CaptureFormat, Format};
-use crate::writing::{arrival_bytes, head_bytes};
+use crate::writing::{arrival_bytes, epoch_head_bytes, head_bytes};
 use tesla_base::Head;
 use tesla_desk::{Sink, write_all};
 
@@ -52,6 +52,30 @@ impl Gatherer {
         ensures name { S.name sink.new ≡ S.name sink.old }
     {
         self.put_both(sink, &head_bytes(head), payload)
+    }
+
+    /// Puts the record of a released packet behind the number of its epoch, and both behind the records gathered, as `put`
+    /// does. It takes no memory.
+    ///
+    /// True: both were put. False: a prefix of the records gathered was written, and the sink's count of
+    /// faults rose.
+    pub fn put_in_epoch<S: Sink>(
+        &mut self,
+        sink: &mut S,
+        epoch: u8,
+        head: &Head,
+        payload: &[u8],
+    ) -> bool
+        requires same { head.now.length ≡ length payload.now }
+        requires limit { length payload.now ≤ 1200 }
+        ensures all { result ≡ true → Gathers (S.written sink.old) (S.written sink.new) (gathered self.new) (gathered self.old ++ epoch_text epoch head.now payload.now) }
+        ensures prefix { result ≡ false → AppendsPrefix (S.written sink.old) (S.written sink.new) (gathered self.old) }
+        ensures kept { result ≡ false → gathered self.new ≡ gathered self.old }
+        ensures waits { length (gathered self.old) + 18 + length payload.now ≤ 8192 → sink.new ≡ sink.old }
+        ensures cause { HasCause (S.faults sink.old) (S.faults sink.new) (result ≡ false) }
+        ensures name { S.name sink.new ≡ S.name sink.old }
+    {
+        self.put_both(sink, &epoch_head_bytes(epoch, head), payload)
     }
 
     /// Puts the head of a capture behind the records gathered, as `put` does. It takes no memory.

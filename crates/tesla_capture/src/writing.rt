@@ -38,6 +38,15 @@ pub(crate) fn head_bytes(head: &Head) -> [u8; RELEASE_HEAD_SIZE]
     bytes
 }
 
+/// The number of an epoch, and then the fields of a record of a released packet before its payload.
+pub(crate) fn epoch_head_bytes(epoch: u8, head: &Head) -> [u8; 1 + RELEASE_HEAD_SIZE]
+    ensures { result ≡ epoch ∷ head_text head.now }
+{
+    let mut bytes = [epoch; 1 + RELEASE_HEAD_SIZE];
+    bytes[1..].copy_from_slice(&head_bytes(head));
+    bytes
+}
+
 /// The fields of an arrival before its bytes.
 pub(crate) fn arrival_bytes(reading: u64, length: u16) -> [u8; CARRYING_SIZE]
     ensures { result ≡ 1 ∷ [] ++ to_be_bytes w64 reading ++ to_be_bytes w16 length }
