@@ -1,0 +1,17 @@
+pub mod Numbers
+pub mod Entries
+pub mod Answered
+pub mod Legal
+pub mod InStep
+pub mod Moved
+mod Found
+mod Asked
+mod Opened
+pub mod Called
+pub mod Arrived
+pub mod Taken
+pub mod Fronts
+pub mod Epochs
+pub mod Spelled
+pub mod Handovers
+pub mod Finishing

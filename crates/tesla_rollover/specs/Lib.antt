@@ -1,0 +1,8 @@
+pub mod Handover
+pub mod History
+pub mod Epochs
+pub mod Replies
+pub mod Stands
+pub mod Kept
+pub mod Played
+pub mod Laws
