@@ -9,6 +9,8 @@ use Rattle.tesla_run_lag.specs.Lag.{lag}
 use Rattle.tesla_run_lag.specs.Usage as lags
 use Rattle.tesla_run_replay.specs.Replay.{replay}
 use Rattle.tesla_run_replay.specs.Usage as replays
+use Rattle.tesla_run_roll.specs.Roll.{roll}
+use Rattle.tesla_run_roll.specs.Usage as rolls
 use Rattle.tesla_run_send.specs.Send.{send}
 use Rattle.tesla_run_send.specs.Usage as sends
 use Rattle.tesla_run_stress.specs.Stress.{stress}
@@ -27,8 +29,9 @@ command_named word =
     where_named (bytes_eq word (codes "chain2")) chain (
     where_named (bytes_eq word (codes "send")) send (
     where_named (bytes_eq word (codes "lag")) lag (
-    where_named (bytes_eq word (codes "stress")) stress
-    no_command)))))
+    where_named (bytes_eq word (codes "stress")) stress (
+    where_named (bytes_eq word (codes "roll")) roll
+    no_command))))))
 
 -- the command of these words: the first of them names it
 abbrev pub command_of : List (List ℕ) → Command
@@ -37,7 +40,7 @@ command_of (word ∷ words) = command_named word
 
 -- the words of each form, in the order in which they are told
 abbrev pub forms : List (List ℕ)
-forms = replays.usages ++ chains.usages ++ sends.usage ∷ lags.usage ∷ stresses.usage ∷ []
+forms = replays.usages ++ chains.usages ++ sends.usage ∷ lags.usage ∷ stresses.usage ∷ rolls.usage ∷ []
 
 -- the usage lines of all
 abbrev pub usage : List ℕ

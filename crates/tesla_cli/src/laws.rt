@@ -14,6 +14,8 @@ ghost use Rattle.tesla_run_lag.specs.Arguments.{IsLag, LagArguments};
 ghost use Rattle.tesla_run_lag.specs.Lag.{lag};
 ghost use Rattle.tesla_run_replay.specs.Arguments.{IsReplay, ReplayArguments};
 ghost use Rattle.tesla_run_replay.specs.Replay.{replay};
+ghost use Rattle.tesla_run_roll.specs.Arguments.{IsRoll, RollArguments};
+ghost use Rattle.tesla_run_roll.specs.Roll.{roll};
 ghost use Rattle.tesla_run_send.specs.Arguments.{IsSend, SendArguments};
 ghost use Rattle.tesla_run_send.specs.Send.{send};
 ghost use Rattle.tesla_run_stress.specs.Arguments.{IsStress, StressArguments};
@@ -30,6 +32,7 @@ pub fn forms_are_named()
     ensures sends { (arguments : SendArguments) (words : List (List ℕ)) (old new : Told) (came : Came) → IsSend arguments words → RunsAs (command_of words) words old new came → Performs send arguments old new came }
     ensures lags { (arguments : LagArguments) (words : List (List ℕ)) (old new : Told) (came : Came) → IsLag arguments words → RunsAs (command_of words) words old new came → Performs lag arguments old new came }
     ensures stresses { (arguments : StressArguments) (words : List (List ℕ)) (old new : Told) (came : Came) → IsStress arguments words → RunsAs (command_of words) words old new came → Performs stress arguments old new came }
+    ensures rolls { (arguments : RollArguments) (words : List (List ℕ)) (old new : Told) (came : Came) → IsRoll arguments words → RunsAs (command_of words) words old new came → Performs roll arguments old new came }
 {}
 
 /// Runs the words as the top call does, over a desk on which no call from outside fails. The status is never 4, 5 or 7.

@@ -41,6 +41,19 @@ const COMMANDS: &[Command] = &[
         outs: &["out"],
         counts: "openings 4, setup 23, first 19, out 2, - 11",
     },
+    // The same, with one byte before the record and two lines of 17 bytes.
+    Command {
+        words: "roll setup 30000 16 first out",
+        clock: &[],
+        calls: &[
+            ("setup", READ),
+            ("first", READ),
+            ("out", WRITE),
+            ("-", WRITE),
+        ],
+        outs: &["out"],
+        counts: "openings 4, setup 23, first 19, out 2, - 2",
+    },
     // 154 bytes of SECRET, and 219 of SETUP-OUT.
     Command {
         words: "chain out secret 00000000000000a7 1000000 100000 8 2 5",

@@ -32,3 +32,7 @@ returns-clause-lags c arguments words old new came is runs =
 pub returns-clause-stresses : goal.returns-clause-stresses
 returns-clause-stresses c arguments words old new came is runs =
     (subst (λ (all : List (List ℕ)). RunsAs (command_of all) words old new came) is.spelled runs).form arguments is
+
+pub returns-clause-rolls : goal.returns-clause-rolls
+returns-clause-rolls c arguments words old new came is runs =
+    (subst (λ (all : List (List ℕ)). RunsAs (command_of all) words old new came) is.spelled runs).form arguments is

@@ -1,0 +1,7 @@
+pub mod Events
+pub mod Texts
+pub mod Flushed
+pub mod Histories
+pub mod Meanings
+pub mod Performed
+pub mod Complete

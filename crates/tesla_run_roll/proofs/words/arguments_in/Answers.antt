@@ -1,0 +1,18 @@
+use Rattle.std.proofs.Common.{◌≡◌, List, ℕ, [], ◌∷◌, IfSome, codes, map, string_bytes, sym, subst, rules}
+use Rattle.tesla_front.proofs.WordLists.{six_is}
+use Rattle.tesla_run_roll.specs.Arguments.{IsRoll, arguments_of}
+use Rattle.tesla_run_roll.proofs.words.arguments_in.Goals as goal
+
+pub returns-clause-found : goal.returns-clause-found
+returns-clause-found c =
+    let all = six_is string_bytes c.args.words.now c.command-item.result c.setup-item.result c.lag-item.result c.capacity-item.result c.capture-item.result c.out-item.result c.in-len6.len_at_least c.in-len6.len_below c.command-item.is c.setup-item.is c.lag-item.is c.capacity-item.is c.capture-item.is c.out-item.is in
+    let first : string_bytes c.command-item.result ≡ codes "roll" = search rules in
+    let same : codes "roll" ∷ c.as_str-2.result.now ∷ c.as_bytes.result.now ∷ c.as_bytes-2.result.now ∷ c.as_str-3.result.now ∷ c.as_str-4.result.now ∷ [] ≡ map string_bytes c.args.words.now = cc in
+    subst (λ (words : List (List ℕ)). IfSome c.read_words.result (λ arguments. IsRoll (arguments_of arguments) words)) same c.read_words.ensures.found
+
+pub returns-clause-only : goal.returns-clause-only
+returns-clause-only c arguments is =
+    let all = six_is string_bytes c.args.words.now c.command-item.result c.setup-item.result c.lag-item.result c.capacity-item.result c.capture-item.result c.out-item.result c.in-len6.len_at_least c.in-len6.len_below c.command-item.is c.setup-item.is c.lag-item.is c.capacity-item.is c.capture-item.is c.out-item.is in
+    let first : string_bytes c.command-item.result ≡ codes "roll" = search rules in
+    let same : codes "roll" ∷ c.as_str-2.result.now ∷ c.as_bytes.result.now ∷ c.as_bytes-2.result.now ∷ c.as_str-3.result.now ∷ c.as_str-4.result.now ∷ [] ≡ map string_bytes c.args.words.now = cc in
+    c.read_words.ensures.only arguments (subst (λ (words : List (List ℕ)). IsRoll arguments words) (sym same) is)

@@ -1,0 +1,4 @@
+pub mod Roll
+pub mod Arguments
+pub mod Usage
+pub mod Playing
