@@ -1,6 +1,7 @@
--- The records of released packets. They follow each other without a head.
-use Rattle.std.specs.Prelude.{ℕ, List, [], ◌∷◌, ◌++◌}
+-- The records of released packets, and of messages that were accepted on arrival. They follow each other without a head.
+use Rattle.std.specs.Prelude.{ℕ, List, [], ◌∷◌, ◌++◌, length}
 use Rattle.std.specs.Int.{w16, w32, w64, to_be_bytes}
+use Rattle.tesla_base.specs.declared.names.Name.{Name}
 use Rattle.tesla_base.specs.declared.release.Head.{Head}
 
 -- the fields before the payload
@@ -13,6 +14,11 @@ head_text head =
 abbrev pub release_text : Head → List ℕ → List ℕ
 release_text head payload = head_text head ++ payload
 
--- a record behind one byte, the number of its epoch
-abbrev pub epoch_text : ℕ → Head → List ℕ → List ℕ
-epoch_text epoch head payload = epoch ∷ release_text head payload
+-- a record behind one byte, which tells its epoch or its kind
+abbrev pub marked_text : ℕ → Head → List ℕ → List ℕ
+marked_text mark head payload = mark ∷ release_text head payload
+
+-- the record of a message that was accepted on arrival: the byte of its kind, its name and its payload
+abbrev pub accepted_text : Name → List ℕ → List ℕ
+accepted_text name payload =
+    1 ∷ [] ++ to_be_bytes w32 name.interval ++ to_be_bytes w16 name.number ++ to_be_bytes w16 (length payload) ++ payload

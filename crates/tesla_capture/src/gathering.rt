@@ -1,14 +1,17 @@
-//! Records of captures and of released packets, gathered before they are written.
+//! Records of captures, of scripts and of released packets, gathered before they are written.
 
 ghost use Rattle.std.specs.Prelude.{◌≡◌, ◌≤◌, ◌+◌, [], ◌++◌, length, true, false};
 ghost use Rattle.tesla_desk.specs.Faults.{HasCause};
 ghost use Rattle.tesla_desk.specs.Outside.{AppendsPrefix, with_bytes};
 ghost use Rattle.tesla_capture.specs.Capture.{head as capture_head, record_text, Arrives, Takes};
-ghost use Rattle.tesla_capture.specs.Release.{epoch_text, release_text};
+ghost use Rattle.tesla_capture.specs.Release.{accepted_text, marked_text, release_text};
+ghost use Rattle.tesla_capture.specs.Script.{head as script_head, record_text as script_record, Sends, Discloses};
 
-use crate::format::{CaptureFormat, Format};
-use crate::writing::{arrival_bytes, epoch_head_bytes, head_bytes};
-use tesla_base::Head;
+use crate::format::{CaptureFormat, Format, ScriptFormat};
+use crate::writing::{
+    accepted_bytes, arrival_bytes, disclosure_bytes, head_bytes, marked_head_bytes,
+};
+use tesla_base::{Head, Name};
 use tesla_desk::{Sink, write_all};
 
 /// How many bytes are gathered at most.
@@ -54,28 +57,28 @@ impl Gatherer {
         self.put_both(sink, &head_bytes(head), payload)
     }
 
-    /// Puts the record of a released packet behind the number of its epoch, and both behind the records gathered, as `put`
-    /// does. It takes no memory.
+    /// Puts the record of a released packet behind one byte, which tells its epoch or its kind, and both behind the records
+    /// gathered, as `put` does. It takes no memory.
     ///
     /// True: both were put. False: a prefix of the records gathered was written, and the sink's count of
     /// faults rose.
-    pub fn put_in_epoch<S: Sink>(
+    pub fn put_marked<S: Sink>(
         &mut self,
         sink: &mut S,
-        epoch: u8,
+        mark: u8,
         head: &Head,
         payload: &[u8],
     ) -> bool
         requires same { head.now.length ≡ length payload.now }
         requires limit { length payload.now ≤ 1200 }
-        ensures all { result ≡ true → Gathers (S.written sink.old) (S.written sink.new) (gathered self.new) (gathered self.old ++ epoch_text epoch head.now payload.now) }
+        ensures all { result ≡ true → Gathers (S.written sink.old) (S.written sink.new) (gathered self.new) (gathered self.old ++ marked_text mark head.now payload.now) }
         ensures prefix { result ≡ false → AppendsPrefix (S.written sink.old) (S.written sink.new) (gathered self.old) }
         ensures kept { result ≡ false → gathered self.new ≡ gathered self.old }
         ensures waits { length (gathered self.old) + 18 + length payload.now ≤ 8192 → sink.new ≡ sink.old }
         ensures cause { HasCause (S.faults sink.old) (S.faults sink.new) (result ≡ false) }
         ensures name { S.name sink.new ≡ S.name sink.old }
     {
-        self.put_both(sink, &epoch_head_bytes(epoch, head), payload)
+        self.put_both(sink, &marked_head_bytes(mark, head), payload)
     }
 
     /// Puts the head of a capture behind the records gathered, as `put` does. It takes no memory.
@@ -123,6 +126,97 @@ impl Gatherer {
         ensures name { S.name sink.new ≡ S.name sink.old }
     {
         self.put_one(sink, &[2])
+    }
+
+    /// Puts the record of a message that was accepted on arrival, of this name and with a payload of at most 1,200 bytes,
+    /// behind the records gathered, as `put` does. It takes no memory.
+    ///
+    /// True: the record was put. False: a prefix of the records gathered was written, and the sink's count of
+    /// faults rose.
+    pub fn put_accepted<S: Sink>(&mut self, sink: &mut S, name: Name, payload: &[u8]) -> bool
+        requires { length payload.now ≤ 1200 }
+        ensures all { result ≡ true → Gathers (S.written sink.old) (S.written sink.new) (gathered self.new) (gathered self.old ++ accepted_text name payload.now) }
+        ensures prefix { result ≡ false → AppendsPrefix (S.written sink.old) (S.written sink.new) (gathered self.old) }
+        ensures kept { result ≡ false → gathered self.new ≡ gathered self.old }
+        ensures waits { length (gathered self.old) + 9 + length payload.now ≤ 8192 → sink.new ≡ sink.old }
+        ensures cause { HasCause (S.faults sink.old) (S.faults sink.new) (result ≡ false) }
+        ensures name { S.name sink.new ≡ S.name sink.old }
+    {
+        self.put_both(sink, &accepted_bytes(name, payload.len() as u16), payload)
+    }
+
+    /// Puts the head of a script behind the records gathered, as `put` does. It takes no memory.
+    ///
+    /// True: the head was put. False: a prefix of the records gathered was written, and the sink's count of
+    /// faults rose.
+    pub fn put_script_head<S: Sink>(&mut self, sink: &mut S) -> bool
+        ensures all { result ≡ true → Gathers (S.written sink.old) (S.written sink.new) (gathered self.new) (gathered self.old ++ script_head) }
+        ensures prefix { result ≡ false → AppendsPrefix (S.written sink.old) (S.written sink.new) (gathered self.old) }
+        ensures kept { result ≡ false → gathered self.new ≡ gathered self.old }
+        ensures waits { length (gathered self.old) + 5 ≤ 8192 → sink.new ≡ sink.old }
+        ensures cause { HasCause (S.faults sink.old) (S.faults sink.new) (result ≡ false) }
+        ensures name { S.name sink.new ≡ S.name sink.old }
+    {
+        self.put_one(sink, &ScriptFormat::head())
+    }
+
+    /// Puts the record of a message of a script, with a payload of at most 1,200 bytes and the reading of the sender's clock
+    /// in microseconds, behind the records gathered, as `put` does. It takes no memory.
+    ///
+    /// True: the record was put. False: a prefix of the records gathered was written, and the sink's count of
+    /// faults rose.
+    pub fn put_message<S: Sink>(&mut self, sink: &mut S, reading: u64, payload: &[u8]) -> bool
+        requires { length payload.now ≤ 1200 }
+        ensures all { result ≡ true → Gathers (S.written sink.old) (S.written sink.new) (gathered self.new) (gathered self.old ++ script_record (Sends reading payload.now)) }
+        ensures prefix { result ≡ false → AppendsPrefix (S.written sink.old) (S.written sink.new) (gathered self.old) }
+        ensures kept { result ≡ false → gathered self.new ≡ gathered self.old }
+        ensures waits { length (gathered self.old) + 11 + length payload.now ≤ 8192 → sink.new ≡ sink.old }
+        ensures cause { HasCause (S.faults sink.old) (S.faults sink.new) (result ≡ false) }
+        ensures name { S.name sink.new ≡ S.name sink.old }
+    {
+        self.put_both(sink, &arrival_bytes(reading, payload.len() as u16), payload)
+    }
+
+    /// Puts the record of a disclosure of a script, with the reading of the sender's clock in microseconds, behind the
+    /// records gathered, as `put` does. It takes no memory.
+    ///
+    /// True: the record was put. False: a prefix of the records gathered was written, and the sink's count of
+    /// faults rose.
+    pub fn put_disclosure<S: Sink>(&mut self, sink: &mut S, reading: u64) -> bool
+        ensures all { result ≡ true → Gathers (S.written sink.old) (S.written sink.new) (gathered self.new) (gathered self.old ++ script_record (Discloses reading)) }
+        ensures prefix { result ≡ false → AppendsPrefix (S.written sink.old) (S.written sink.new) (gathered self.old) }
+        ensures kept { result ≡ false → gathered self.new ≡ gathered self.old }
+        ensures waits { length (gathered self.old) + 9 ≤ 8192 → sink.new ≡ sink.old }
+        ensures cause { HasCause (S.faults sink.old) (S.faults sink.new) (result ≡ false) }
+        ensures name { S.name sink.new ≡ S.name sink.old }
+    {
+        self.put_one(sink, &disclosure_bytes(reading))
+    }
+
+    /// Puts three pieces, of at most 8,192 bytes together, one after another behind the records gathered, as `put` does. It
+    /// is for records of other formats. It takes no memory.
+    ///
+    /// True: they were put. False: a prefix of the records gathered was written, and the sink's count of faults rose.
+    pub fn put_parts<S: Sink>(
+        &mut self,
+        sink: &mut S,
+        front: &[u8],
+        body: &[u8],
+        back: &[u8],
+    ) -> bool
+        requires { length front.now + length body.now + length back.now ≤ 8192 }
+        ensures all { result ≡ true → Gathers (S.written sink.old) (S.written sink.new) (gathered self.new) (gathered self.old ++ (front.now ++ body.now ++ back.now)) }
+        ensures prefix { result ≡ false → AppendsPrefix (S.written sink.old) (S.written sink.new) (gathered self.old) }
+        ensures kept { result ≡ false → gathered self.new ≡ gathered self.old }
+        ensures waits { length (gathered self.old) + (length front.now + length body.now + length back.now) ≤ 8192 → sink.new ≡ sink.old }
+        ensures cause { HasCause (S.faults sink.old) (S.faults sink.new) (result ≡ false) }
+        ensures name { S.name sink.new ≡ S.name sink.old }
+    {
+        if !self.make_room(sink, front.len() + body.len() + back.len()) {
+            return false;
+        }
+        self.append_parts(front, body, back);
+        true
     }
 
     /// Writes the records gathered; where there is none, the sink is left as it was. It takes no memory.
@@ -199,6 +293,15 @@ impl Gatherer {
         ensures { gathered self.new ≡ gathered self.old ++ (front.now ++ back.now) }
     {
         self.append(front);
+        self.append(back);
+    }
+
+    /// Puts three pieces, for which there is room, behind the bytes gathered.
+    fn append_parts(&mut self, front: &[u8], body: &[u8], back: &[u8])
+        requires room { length (gathered self.old) + (length front.now + length body.now + length back.now) ≤ 8192 }
+        ensures { gathered self.new ≡ gathered self.old ++ (front.now ++ body.now ++ back.now) }
+    {
+        self.append_both(front, body);
         self.append(back);
     }
 

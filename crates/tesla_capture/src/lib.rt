@@ -21,7 +21,10 @@ pub use record_reader::RecordReader;
 pub use script::ScriptReader;
 pub use sizes::{LONGEST_DATAGRAM, LONGEST_PAYLOAD};
 pub use tesla_base::Head;
-pub use writing::{write_arrival, write_head, write_record, write_take};
+pub use writing::{
+    write_arrival, write_disclose, write_head, write_message, write_record, write_script_head,
+    write_take,
+};
 
 #[cfg(test)]
 mod tests;

@@ -12,6 +12,9 @@ pub const TIMED_SIZE: usize = 9;
 /// The fields of a release record before its payload.
 pub const RELEASE_HEAD_SIZE: usize = 17;
 
+/// The fields of the record of a message that was accepted on arrival, before its payload.
+pub const ACCEPTED_SIZE: usize = 9;
+
 /// The datagram of an arrival, at most.
 pub const LONGEST_DATAGRAM: usize = 2048;
 

@@ -2,7 +2,7 @@
 use Rattle.std.specs.Prelude.{ℕ, suc, Bool, true, false, List, [], ◌∷◌, ◌++◌, map, replicate, ◌==◌, if◌then◌else◌, flat_map, sum_by}
 use Rattle.std.specs.List.{range_with_len}
 use Rattle.tesla_capture.specs.Capture.{Record}
-use Rattle.tesla_capture.specs.Release.{epoch_text}
+use Rattle.tesla_capture.specs.Release.{marked_text}
 use Rattle.tesla_fitting.specs.declared.config.Config.{Config}
 use Rattle.tesla_receiver.specs.History.{Event, Takes, Ends}
 use Rattle.tesla_receiver.specs.Played.{event_in, waiting_in}
@@ -36,7 +36,7 @@ roll_played cfg records false = roll_after_events cfg [] (map event_in records)
 
 -- the release record of a packet that was given, behind one byte, the number of its epoch
 abbrev pub roll_text_given : RollReply → List ℕ
-roll_text_given (Gives epoch head payload next) = epoch_text epoch head payload
+roll_text_given (Gives epoch head payload next) = marked_text epoch head payload
 roll_text_given IsEmpty = []
 roll_text_given IsOver = []
 

@@ -12,7 +12,7 @@ use Rattle.tesla_state.specs.Releases.{each_after}
 use Rattle.tesla_run_replay.specs.Playing.{rule_of, events_in, events_text, with_end}
 
 -- events, one list after another
-after_both : (cfg : Config) (h : List Entry) (first second : List Event) → after_events cfg h (first ++ second) ≡ after_events cfg (after_events cfg h first) second
+pub after_both : (cfg : Config) (h : List Entry) (first second : List Event) → after_events cfg h (first ++ second) ≡ after_events cfg (after_events cfg h first) second
 after_both cfg h [] second = refl
 after_both cfg h (event ∷ first) second = after_both cfg (h ++ entry_of cfg h event ∷ []) first second
 

@@ -4,5 +4,5 @@ pub mod Takes
 pub mod Targets
 pub mod Meanings
 pub mod Ended
-pub mod Performed
+pub mod Under
 pub mod Complete

@@ -11,11 +11,12 @@ use Rattle.tesla_receiver.specs.declared.history.Entry.{Entry}
 use Rattle.tesla_convert.specs.Meaning.{ConvertsBetween}
 use Rattle.tesla_convert.proofs.Meanings.{SaysSame, between_same}
 use Rattle.tesla_run_replay.specs.Playing.{end_by_rule, meaning_by, rule_of, text_by_rule}
-use Rattle.tesla_run_replay.specs.Replay.{end_by, meaning, text_by}
+use Rattle.tesla_run_replay.specs.Replay.{meaning, text_by}
+use Rattle.tesla_run_replay.specs.Under.{end_told}
 use Rattle.tesla_run_replay.specs.ReportText.{report_text}
 use Rattle.tesla_run_replay.proofs.Histories.{ended_text, history_ended, records_text}
 
-end_is : (cfg : Config) (fault : Option (ℕ × RecordKind)) (records : List Record) → end_by_rule (rule_of cfg) fault records ≡ end_by fault (played cfg records (is_none fault))
+end_is : (cfg : Config) (fault : Option (ℕ × RecordKind)) (records : List Record) → end_by_rule (rule_of cfg) fault records ≡ end_told fault (report_text (report_of (played cfg records (is_none fault))))
 end_is cfg None records = ap (λ (h : List Entry). Done (report_text (report_of h))) (history_ended cfg records)
 end_is cfg (Some fault) records = refl
 

@@ -1,4 +1,5 @@
 pub mod Replay
+pub mod Under
 pub mod Arguments
 pub mod Usage
 pub mod ReportText

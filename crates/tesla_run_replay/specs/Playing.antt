@@ -1,13 +1,11 @@
 -- The events that the records of a capture play, one after another, and what is written of each.
-use Rattle.std.specs.Prelude.{◌≡◌, ℕ, suc, Bool, true, Option, Some, None, List, [], ◌∷◌, ◌++◌, codes, map, replicate}
+use Rattle.std.specs.Prelude.{◌≡◌, ℕ, suc, Bool, true, Option, Some, None, List, [], ◌∷◌, ◌++◌, map, replicate}
 use Rattle.tesla_capture.specs.Capture.{Record, capture}
-use Rattle.tesla_capture.specs.Names.{kind_name}
 use Rattle.tesla_capture.specs.Outline.{outline_of}
 use Rattle.tesla_capture.specs.Taken.{HoldsNoRefusal}
 use Rattle.tesla_capture.specs.declared.record.RecordKind.{RecordKind}
 use Rattle.tesla_fitting.specs.declared.config.Config.{Config}
-use Rattle.tesla_front.specs.Came.{Came, Done, Refused}
-use Rattle.tesla_front.specs.Refusal.{refused_line}
+use Rattle.tesla_front.specs.Came.{Came}
 use Rattle.tesla_receiver.specs.History.{Event, Arrives, Takes, Ends, entry_of}
 use Rattle.tesla_receiver.specs.Played.{after_events, event_in, waiting_in}
 use Rattle.tesla_receiver.specs.Report.{record_in, report_of}
@@ -15,6 +13,7 @@ use Rattle.tesla_state.specs.Releases.{each_after}
 use Rattle.tesla_convert.specs.Meaning.{Meaning}
 use Rattle.tesla_convert.specs.Rule.{Rule}
 use Rattle.tesla_run_replay.specs.ReportText.{report_text}
+use Rattle.tesla_run_replay.specs.Under.{end_told}
 use Rattle.tesla_run_replay.specs.declared.target.PlayedEvent.{PlayedEvent}
 use Rattle.tesla_run_replay.specs.declared.target.PlayedEvent.TheVariants as played
 
@@ -61,8 +60,7 @@ record_rule rule = record {
 
 -- what playing a capture of these records comes to by such a rule where nothing fails: the lines that tell its events with the end, or the refused place
 abbrev pub end_by_rule : EventRule → Option (ℕ × RecordKind) → List Record → Came
-end_by_rule rule None records = Done (rule.tells (with_end rule (events_in records)))
-end_by_rule rule (Some fault) records = Refused 3 (refused_line (codes "capture") fault.0 (kind_name fault.1))
+end_by_rule rule fault records = end_told fault (rule.tells (with_end rule (events_in records)))
 
 -- what is written: of its events, and where no place is refused of the end too
 abbrev pub text_by_rule : EventRule → Option (ℕ × RecordKind) → List Record → List ℕ

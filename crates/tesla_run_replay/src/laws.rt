@@ -13,8 +13,9 @@ ghost use Rattle.tesla_front.specs.Run.{NothingFailed};
 ghost use Rattle.tesla_front.specs.declared.fault.Fault.TheVariants as faults;
 ghost use Rattle.tesla_receiver.specs.Report.{report_of};
 ghost use Rattle.tesla_run_replay.specs.Arguments.{ReplayArguments};
-ghost use Rattle.tesla_run_replay.specs.Replay.{config_of, history_of, meaning, replay};
+ghost use Rattle.tesla_run_replay.specs.Replay.{history_of, meaning, replay};
 ghost use Rattle.tesla_run_replay.specs.ReportText.{report_text};
+ghost use Rattle.tesla_run_replay.specs.Under.{config_of};
 ghost use Rattle.tesla_run_replay.specs.Usage.{usages};
 
 use crate::REPLAY;

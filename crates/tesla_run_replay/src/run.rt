@@ -3,16 +3,14 @@
 ghost use Rattle.std.specs.Prelude.{◌≡◌, ◌<◌, [], IfSome, map, string_bytes};
 ghost use Rattle.tesla_desk.specs.Faults.{HasCause, HasCauseBeside};
 ghost use Rattle.tesla_front.specs.Came.{Failed, came_of, outcome_came};
-ghost use Rattle.tesla_front.specs.Command.{Performs, RunsAs};
-ghost use Rattle.tesla_front.specs.Openings.{AreFiles};
+ghost use Rattle.tesla_front.specs.Command.{RunsAs};
 ghost use Rattle.tesla_front.specs.declared.fault.Fault.TheVariants as faults;
 ghost use Rattle.tesla_receiver.specs.Stands.{Stands};
-ghost use Rattle.tesla_convert.specs.Files.{ConvertsFiles};
 ghost use Rattle.tesla_convert.specs.Meaning.{ConvertsBetween};
-ghost use Rattle.tesla_run_replay.specs.Arguments.{arguments_of, files_of_replay};
-ghost use Rattle.tesla_run_replay.specs.Replay.{config_of, meaning, replay};
+ghost use Rattle.tesla_run_replay.specs.Replay.{meaning, replay};
 
-use crate::arguments::Arguments;
+use crate::arguments::{Arguments, Names};
+use crate::player::{Player, perform_under};
 use crate::playing::play_target;
 use crate::target::ReceiverTarget;
 use crate::words::arguments_in;
@@ -20,10 +18,12 @@ use std::alloc::Global;
 use std::marker::Brand;
 use std::sync::ledger::Blank;
 use tesla_commit::Setup;
-use tesla_convert::{close_files, open_files};
 use tesla_desk::{Desk, Sink, Source};
-use tesla_front::{Fault, Lines, Outcome, Stop, outcome_of, setup_under};
+use tesla_front::{Fault, Lines, Outcome, Stop, outcome_of};
 use tesla_receiver::Receiver;
+
+/// The name of the command.
+const NAME: &str = "replay";
 
 /// Runs the words as those of `replay`.
 ///
@@ -33,70 +33,43 @@ use tesla_receiver::Receiver;
 pub fn run_replay<D: Desk>(alloc: Global, words: &[String], desk: &mut D) -> Outcome
     ensures { RunsAs replay (map string_bytes words.now) (D.told desk.old) (D.told desk.new) (outcome_came result) }
 {
-    match arguments_in(words) {
-        Some(arguments) => outcome_of(perform(alloc, &arguments, desk)),
+    match arguments_in(NAME, words) {
+        Some(arguments) => outcome_of(perform_under(alloc, &Replay { arguments }, desk)),
         None => Outcome::Usage,
     }
 }
 
-// Does what the words of a replay ask for.
-fn perform<D: Desk>(alloc: Global, arguments: &Arguments<'_>, desk: &mut D) -> Result<Lines, Stop>
-    requires files { AreFiles (files_of_replay (arguments_of arguments.now)) }
-    ensures { Performs replay (arguments_of arguments.now) (D.told desk.old) (D.told desk.new) (came_of result) }
-{
-    match setup_under(alloc, arguments.setup, desk) {
-        Ok(setup) => play_files(alloc, setup, arguments, desk),
-        Err(stop) => Err(stop),
-    }
+// What the words of a replay ask for.
+#[derive(Clone, Copy, Debug)]
+struct Replay<'a> {
+    arguments: Arguments<'a>,
 }
 
-// Plays the capture under a setup, after it was opened and then the output.
-fn play_files<D: Desk>(
-    alloc: Global,
-    setup: Setup,
-    arguments: &Arguments<'_>,
-    desk: &mut D,
-) -> Result<Lines, Stop>
-    ensures { ConvertsFiles (meaning (config_of (arguments_of arguments.now) setup)) arguments.now.capture.now arguments.now.out.now (D.told desk.old) (D.told desk.new) (came_of result) }
-{
-    match open_files(arguments.capture, arguments.out, desk) {
-        Ok((mut source, mut out)) => {
-            let came = play(alloc, setup, arguments, &mut source, &mut out);
-            close_files(source, out, desk);
-            came
+impl Player for Replay<'_> {
+    ghost use Rattle.tesla_run_replay.specs.Arguments.{arguments_of};
+    ghost use Rattle.tesla_run_replay.specs.Replay.{replayed};
+
+    ghost command = { replayed };
+
+    ghost arguments = { λ r. arguments_of r.arguments };
+
+    fn names(&self) -> Names<'_> {
+        self.arguments.names
+    }
+
+    fn play<S: Source, O: Sink>(
+        &self,
+        alloc: Global,
+        setup: Setup,
+        source: &mut S,
+        out: &mut O,
+    ) -> Result<Lines, Stop> {
+        let lag = self.arguments.lag;
+        let places = self.arguments.places;
+        match Receiver::open(alloc, setup, lag, places.capacity, places.quota, 1) {
+            Ok(receiver) => play_receiver(receiver, source, out),
+            Err(_) => Err(Stop::Failed(Fault::NoMemory)),
         }
-        Err(fault) => Err(Stop::Failed(fault)),
-    }
-}
-
-// Plays a capture that is read from a source, and writes what its packets release to a sink.
-fn play<S: Source, O: Sink>(
-    alloc: Global,
-    setup: Setup,
-    arguments: &Arguments<'_>,
-    source: &mut S,
-    out: &mut O,
-) -> Result<Lines, Stop>
-    requires empty { IfSome (O.written out.old) (λ bytes. bytes ≡ []) }
-    requires fresh { S.faults source.old ≡ 0 }
-    requires sound { O.faults out.old ≡ 0 }
-    ensures plays { ConvertsBetween (meaning (config_of (arguments_of arguments.now) setup)) (S.left source.old) (S.left source.new) (O.written out.new) (O.faults out.new) (came_of result) }
-    ensures reads { HasCause 0 (S.faults source.new) (came_of result ≡ Failed faults.Read) }
-    ensures writes { HasCauseBeside ((came_of result ≡ Failed faults.Read) × (0 < O.faults out.new)) 0 (O.faults out.new) (came_of result ≡ Failed faults.Write) }
-    ensures input { S.name source.new ≡ S.name source.old }
-    ensures output { O.name out.new ≡ O.name out.old }
-{
-    let places = arguments.places;
-    match Receiver::open(
-        alloc,
-        setup,
-        arguments.lag,
-        places.capacity,
-        places.quota,
-        1,
-    ) {
-        Ok(receiver) => play_receiver(receiver, source, out),
-        Err(_) => Err(Stop::Failed(Fault::NoMemory)),
     }
 }
 

@@ -3,5 +3,4 @@ pub mod Texts
 pub mod Flushed
 pub mod Histories
 pub mod Meanings
-pub mod Performed
 pub mod Complete

@@ -10,11 +10,12 @@ use Rattle.tesla_convert.proofs.Meanings.{SaysSame, between_same}
 use Rattle.tesla_rollover.specs.History.{RollEntry}
 use Rattle.tesla_rollover.specs.Played.{roll_played, roll_records_of}
 use Rattle.tesla_run_replay.specs.Playing.{end_by_rule, meaning_by, text_by_rule}
+use Rattle.tesla_run_replay.specs.Under.{end_told}
 use Rattle.tesla_run_roll.specs.Playing.{roll_rule, roll_text}
-use Rattle.tesla_run_roll.specs.Roll.{end_by, meaning}
+use Rattle.tesla_run_roll.specs.Roll.{meaning}
 use Rattle.tesla_run_roll.proofs.Histories.{ended_text, history_ended, records_text}
 
-end_is : (cfg : Config) (fault : Option (ℕ × RecordKind)) (records : List Record) → end_by_rule (roll_rule cfg) fault records ≡ end_by fault (roll_played cfg records (is_none fault))
+end_is : (cfg : Config) (fault : Option (ℕ × RecordKind)) (records : List Record) → end_by_rule (roll_rule cfg) fault records ≡ end_told fault (roll_text (roll_played cfg records (is_none fault)))
 end_is cfg None records = ap (λ (h : List RollEntry). Done (roll_text h)) (history_ended cfg records)
 end_is cfg (Some fault) records = refl
 

@@ -1,7 +1,7 @@
 -- What is written of a take is the same whether there is memory for a further epoch or not.
 use Rattle.std.proofs.Common.{◌≡◌, ◌∙◌, ◌⊎◌, inl, inr, ◌+◌, ◌-◌, ℕ, Bool, true, List, [], ◌∷◌, length, take, Option, Some, None, option_map, refl, sym, ap}
 use Rattle.tesla_base.specs.declared.release.Head.{Head}
-use Rattle.tesla_capture.specs.Release.{epoch_text}
+use Rattle.tesla_capture.specs.Release.{marked_text}
 use Rattle.tesla_fitting.specs.declared.config.Config.{Config}
 use Rattle.tesla_receiver.specs.History.{Takes}
 use Rattle.tesla_state.specs.declared.replies.Reply.{Reply}
@@ -37,7 +37,7 @@ module _ (cfg : Config) (history : List RollEntry) (answer : RollTake) (into : L
   text_is = ap roll_text_given answered ∙ text_alike cfg history (has_memory answer) true
 
   -- what is written of a packet is the record of the take
-  pub text_given : (epoch : ℕ) (head : Head) (next : Next) → answer ≡ Given epoch head next → epoch_text epoch head (take head.length into) ≡ roll_record_in 0 (roll_entry_of cfg history true (Takes 0))
+  pub text_given : (epoch : ℕ) (head : Head) (next : Next) → answer ≡ Given epoch head next → marked_text epoch head (take head.length into) ≡ roll_record_in 0 (roll_entry_of cfg history true (Takes 0))
   text_given epoch head next is = ap (λ (a : RollTake). roll_text_given (roll_shown a into)) (sym is) ∙ text_is
 
   -- no record is written where no epoch gave one

@@ -2,9 +2,8 @@
 use Rattle.std.specs.Prelude.{◌≡◌, ℕ, ℤ, List, [], ◌∷◌, codes, FitsSigned}
 use Rattle.std.specs.Fmt.{signed_decimal}
 use Rattle.std.specs.Int.{w64}
-use Rattle.tesla_desk.specs.Outside.{Opening, OfSource, OfSink}
 use Rattle.tesla_front.specs.Words.{IsNumberWithin}
-use Rattle.tesla_run_replay.specs.Arguments.{AreNames}
+use Rattle.tesla_run_replay.specs.Arguments.{AreNames, PlayedNames}
 use Rattle.tesla_run_roll.specs.declared.arguments.Arguments.{Arguments}
 
 -- the names of the files, the lag, and how many packets each epoch holds at most
@@ -18,7 +17,11 @@ pub record RollArguments : Type 0 where
 -- what the words that were read ask for
 abbrev pub arguments_of : Arguments → RollArguments
 arguments_of words =
-    record { setup = words.setup.now; lag = words.lag; capacity = words.capacity; capture = words.capture.now; out = words.out.now }
+    record { setup = words.names.setup.now; lag = words.lag; capacity = words.capacity; capture = words.names.capture.now; out = words.names.out.now }
+
+-- the names among them
+abbrev pub names_in : RollArguments → PlayedNames
+names_in arguments = record { setup = arguments.setup; capture = arguments.capture; out = arguments.out }
 
 -- the words are the form 'roll SETUP LAG CAPACITY CAPTURE OUT'
 pub record IsRoll (arguments : RollArguments) (words : List (List ℕ)) : Type 0 where
@@ -27,7 +30,3 @@ pub record IsRoll (arguments : RollArguments) (words : List (List ℕ)) : Type 0
   pub lag : FitsSigned w64 arguments.lag
   pub capacity_is : IsNumberWithin 1 4096 capacity arguments.capacity
   pub names : AreNames arguments.setup arguments.capture arguments.out
-
--- the files of a run, in the order in which they are opened
-abbrev pub files_of_roll : RollArguments → List Opening
-files_of_roll arguments = OfSource arguments.setup ∷ OfSource arguments.capture ∷ OfSink arguments.out ∷ []

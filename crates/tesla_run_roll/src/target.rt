@@ -2,7 +2,7 @@
 
 ghost use Rattle.std.specs.Prelude.{◌≡◌, ◌+◌, ◌^◌, ◌<◌, ◌≤◌, ◌++◌, ◌∷◌, [], List, ℕ, length, true, Err, IfOk, codes};
 ghost use Rattle.tesla_capture.specs.Gathering.{gathered, Gathers};
-ghost use Rattle.tesla_capture.specs.Release.{epoch_text};
+ghost use Rattle.tesla_capture.specs.Release.{marked_text};
 ghost use Rattle.tesla_desk.specs.Faults.{HasCause};
 ghost use Rattle.tesla_desk.specs.Outside.{AppendsPrefix, with_bytes};
 ghost use Rattle.tesla_front.specs.Lines.{count_line};
@@ -57,13 +57,13 @@ fn put_given<O: Sink>(
     requires same { head.now.length ≡ length payload.now }
     requires limit { length payload.now ≤ 1200 }
     ensures enough { IfOk result (λ _. had_memory next ≡ true) }
-    ensures writes { IfOk result (λ _. Gathers (O.written out.old) (O.written out.new) (gathered gatherer.new) (gathered gatherer.old ++ epoch_text epoch head.now payload.now)) }
-    ensures halts { result ≡ Err Halt.WriteFault → AppendsPrefix (O.written out.old) (O.written out.new) (gathered gatherer.old ++ epoch_text epoch head.now payload.now) }
-    ensures wants { result ≡ Err Halt.NoMemory → (next ≡ Next.NoMemory) × (gathered gatherer.new ≡ []) × (O.written out.new ≡ with_bytes (O.written out.old) (gathered gatherer.old ++ epoch_text epoch head.now payload.now)) }
+    ensures writes { IfOk result (λ _. Gathers (O.written out.old) (O.written out.new) (gathered gatherer.new) (gathered gatherer.old ++ marked_text epoch head.now payload.now)) }
+    ensures halts { result ≡ Err Halt.WriteFault → AppendsPrefix (O.written out.old) (O.written out.new) (gathered gatherer.old ++ marked_text epoch head.now payload.now) }
+    ensures wants { result ≡ Err Halt.NoMemory → (next ≡ Next.NoMemory) × (gathered gatherer.new ≡ []) × (O.written out.new ≡ with_bytes (O.written out.old) (gathered gatherer.old ++ marked_text epoch head.now payload.now)) }
     ensures cause { HasCause (O.faults out.old) (O.faults out.new) (result ≡ Err Halt.WriteFault) }
     ensures name { O.name out.new ≡ O.name out.old }
 {
-    if !gatherer.put_in_epoch(out, epoch, head, payload) {
+    if !gatherer.put_marked(out, epoch, head, payload) {
         return Err(Halt::WriteFault);
     }
     if next != Next::NoMemory {

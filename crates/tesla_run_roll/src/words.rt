@@ -6,7 +6,7 @@ ghost use Rattle.tesla_run_roll.specs.Arguments.{RollArguments, IsRoll, argument
 use crate::arguments::Arguments;
 use tesla_base::read_signed;
 use tesla_front::number_in;
-use tesla_run_replay::are_names;
+use tesla_run_replay::{Names, are_names};
 
 /// The name of the command.
 const NAME: &str = "roll";
@@ -34,12 +34,15 @@ fn read_words<'a>(
     if !are_names(setup, capture, out) {
         return None;
     }
-    Some(Arguments {
+    let names = Names {
         setup,
-        lag,
-        capacity: capacity as u32,
         capture,
         out,
+    };
+    Some(Arguments {
+        names,
+        lag,
+        capacity: capacity as u32,
     })
 }
 

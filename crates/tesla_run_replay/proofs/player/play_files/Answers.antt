@@ -1,25 +1,23 @@
 use Rattle.std.proofs.Common.{◌∙◌}
 use Rattle.tesla_front.specs.Came.{came_of}
 use Rattle.tesla_convert.proofs.Closed.{converts_closed, converts_unopened}
-use Rattle.tesla_run_replay.specs.Arguments.{arguments_of}
-use Rattle.tesla_run_replay.specs.Replay.{config_of, meaning}
-use Rattle.tesla_run_replay.proofs.Performed.{closes_named}
-use Rattle.tesla_run_replay.proofs.run.play_files.Goals as goal
+use Rattle.tesla_run_replay.proofs.Under.{closes_named}
+use Rattle.tesla_run_replay.proofs.player.play_files.Goals as goal
 
 pub returns-in-Ok : goal.returns-in-Ok
 returns-in-Ok g c =
-    let arguments = arguments_of c.args.arguments.now in
+    let capture = c.args.names.now.capture.now in
+    let out = c.args.names.now.out.now in
     let input = c.play-came.ensures.input ∙ c.in-Ok.ensures.names.0 in
     let output = c.play-came.ensures.output ∙ c.in-Ok.ensures.names.1 in
-    converts_closed (meaning (config_of arguments c.args.setup)) arguments.capture arguments.out
+    converts_closed (g.P.Player.command.meaning (g.P.Player.arguments c.args.player.now) c.args.setup) capture out
     (g.D.In.Source.left c.in-Ok.source) (g.D.Out.Sink.written c.in-Ok.out) (g.D.In.Source.left c.play-came.new.source) (g.D.Out.Sink.written c.play-came.new.out) (g.D.In.Source.faults c.play-came.new.source) (g.D.Out.Sink.faults c.play-came.new.out)
     (came_of c.play-came.result) (g.D.Desk.told c.args.desk.now) (g.D.Desk.told c.open_files.new.desk) (g.D.Desk.told c.close_files.new.desk)
     c.in-Ok.ensures.both c.play-came.ensures.plays c.play-came.ensures.reads c.play-came.ensures.writes
-    (closes_named arguments.capture arguments.out (g.D.In.Source.name c.play-came.new.source) (g.D.Out.Sink.name c.play-came.new.out)
+    (closes_named capture out (g.D.In.Source.name c.play-came.new.source) (g.D.Out.Sink.name c.play-came.new.out)
     (g.D.In.Source.left c.play-came.new.source) (g.D.Out.Sink.written c.play-came.new.out) (g.D.In.Source.faults c.play-came.new.source) (g.D.Out.Sink.faults c.play-came.new.out)
     (g.D.Desk.told c.open_files.new.desk) (g.D.Desk.told c.close_files.new.desk) input output c.close_files.ensures)
 
 pub returns-in-Err : goal.returns-in-Err
 returns-in-Err g c =
-    let arguments = arguments_of c.args.arguments.now in
-    converts_unopened (meaning (config_of arguments c.args.setup)) arguments.capture arguments.out c.in-Err.fault (g.D.Desk.told c.args.desk.now) _ c.in-Err.ensures.refused
+    converts_unopened (g.P.Player.command.meaning (g.P.Player.arguments c.args.player.now) c.args.setup) c.args.names.now.capture.now c.args.names.now.out.now c.in-Err.fault (g.D.Desk.told c.args.desk.now) _ c.in-Err.ensures.refused

@@ -1,0 +1,53 @@
+-- What a command does that reads a setup and plays a capture under it.
+use Rattle.std.specs.Prelude.{◌≡◌, ◌⊎◌, ℕ, Option, Some, None, List, [], ◌∷◌, codes}
+use Rattle.tesla_capture.specs.Names.{kind_name}
+use Rattle.tesla_capture.specs.declared.record.RecordKind.{RecordKind}
+use Rattle.tesla_commit.specs.Parts.{Parts}
+use Rattle.tesla_fitting.specs.declared.config.Config.{Config}
+use Rattle.tesla_front.specs.Came.{Came, Done, Refused, Failed}
+use Rattle.tesla_front.specs.Command.{Command}
+use Rattle.tesla_front.specs.Openings.{File}
+use Rattle.tesla_front.specs.Refusal.{refused_line}
+use Rattle.tesla_front.specs.Setup.{IsSetupIn}
+use Rattle.tesla_front.specs.declared.fault.Fault.TheVariants as faults
+use Rattle.tesla_convert.specs.Meaning.{Converts, IsUnread, Meaning, StopsAtSetup}
+use Rattle.tesla_run_replay.specs.Arguments.{PlayedArguments, PlayedNames, files_of}
+
+-- such a command
+pub record PlayedCommand : Type 1 where
+  -- what its words ask for, and which words ask for that
+  pub Arguments : Type 0
+  pub IsForm : Arguments → List (List ℕ) → Type 0
+  -- the names of its files
+  pub names : Arguments → PlayedNames
+  -- what a capture comes to under a setup, and what is written
+  pub meaning : Arguments → Parts → Meaning
+
+-- the configuration of a receiver of such words, with one ingest
+abbrev pub config_of : PlayedArguments → Parts → Config
+config_of arguments setup =
+    record { setup = setup; lag = arguments.lag; capacity = arguments.places.capacity; quota = arguments.places.quota; ingests = 1 }
+
+-- what a capture of that refused place comes to where nothing fails: the lines that tell what was played, or the place
+abbrev pub end_told : Option (ℕ × RecordKind) → List ℕ → Came
+end_told None lines = Done lines
+end_told (Some fault) lines = Refused 3 (refused_line (codes "capture") fault.0 (kind_name fault.1))
+
+-- under the setup the capture was played, told what there was of each file before, and of the capture and the output afterwards, and how many files were asked for, of which the setup is the first
+pub record PlaysUnder (meaning : Parts → Meaning) (setup capture capture_now out out_now : File) (opened : ℕ) (came : Came) : Type 0 where
+  pub parts : Parts
+  pub found : IsSetupIn setup.page parts
+  pub converts : Converts (meaning parts) capture.page capture_now.left out.page out_now.page came
+  -- memory is wanting only before the first byte of the capture is read, unless it may be wanting later
+  pub unread : ((meaning parts).MayWant → ⊥) → came ≡ Failed faults.NoMemory → IsUnread 1 opened capture.page capture_now.left
+
+-- what such a command does: there is no setup, or the capture was played under it
+abbrev pub DoesUnder : (Parts → Meaning) → ℕ → List File → List File → Came → Type 0
+DoesUnder meaning opened (setup ∷ capture ∷ out ∷ []) (setup_now ∷ capture_now ∷ out_now ∷ []) came =
+    StopsAtSetup setup opened came ⊎ PlaysUnder meaning setup capture capture_now out out_now opened came
+DoesUnder meaning opened before after came = ⊥
+
+-- the command: its words, its files and what it does
+abbrev pub command_of : PlayedCommand → Command
+command_of played =
+    record { Arguments = played.Arguments; IsForm = played.IsForm; files = λ arguments. files_of (played.names arguments); Does = λ arguments. DoesUnder (played.meaning arguments) }
