@@ -41,8 +41,8 @@ pub struct SendConverter<L: SendLedger> {
     frames: u64,
 }
 
-// Why a message is refused.
-fn message_kind(refusal: SendRefusal) -> ScriptKind
+/// Why a message is refused.
+pub fn message_kind(refusal: SendRefusal) -> ScriptKind
     ensures { result ≡ message_kind refusal }
 {
     match refusal {

@@ -9,6 +9,7 @@ mod run;
 mod script_kind;
 mod words;
 
+pub use converter::message_kind;
 pub use forms::SEND;
 pub use run::{run_send, sender_of};
 pub use script_kind::ScriptKind;

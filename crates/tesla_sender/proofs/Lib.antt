@@ -4,5 +4,6 @@ pub mod Places
 pub mod Tags
 pub mod Frames
 pub mod Logs
+pub mod Names
 pub mod Senders
 pub mod Opened

@@ -54,10 +54,10 @@ named times before number reading payload name is =
 
 -- ---- one call more
 
-latest_more : (times : Times) (log : List Call) (call : Call) → latest_of times (log ++ call ∷ []) ≡ interval_in times call
+pub latest_more : (times : Times) (log : List Call) (call : Call) → latest_of times (log ++ call ∷ []) ≡ interval_in times call
 latest_more times log call = fold-append (λ (before : ℕ) (call : Call). interval_in times call) 0 log (call ∷ [])
 
-messages_more : (times : Times) (interval : ℕ) (log : List Call) (call : Call) → messages_of times interval (log ++ call ∷ []) ≡ messages_of times interval log + (0 + cond {A = ℕ} (is_message_of times interval call) 1 0)
+pub messages_more : (times : Times) (interval : ℕ) (log : List Call) (call : Call) → messages_of times interval (log ++ call ∷ []) ≡ messages_of times interval log + (0 + cond {A = ℕ} (is_message_of times interval call) 1 0)
 messages_more times interval log call = sum_by-append (λ c. cond {A = ℕ} (is_message_of times interval c) 1 0) log (call ∷ [])
 
 accepted_more : (stream : Stream) (before calls : List Call) (call : Call) → AreAcceptedAfter stream before calls → IsAccepted stream (before ++ calls) call → AreAcceptedAfter stream before (calls ++ call ∷ [])
@@ -88,6 +88,18 @@ later_call : (stream : Stream) (log : List Call) (call : Call) → IsAccepted st
 later_call stream log (Message reading payload) ok = later_message stream log reading payload ok
 later_call stream log (Disclose reading) ok = later_disclosure stream log reading ok
 
+-- ---- calls that never go back
+
+-- no call is of an interval before that of the call before it
+abbrev pub AreLater : Times → List Call → List Call → Type 0
+AreLater times before [] = Unit {0}
+AreLater times before (call ∷ calls) = (latest_of times before ≤ interval_in times call) × AreLater times (before ++ call ∷ []) calls
+
+-- those that are accepted don't
+all_later : (stream : Stream) (before calls : List Call) → AreAcceptedAfter stream before calls → AreLater stream.setup.times before calls
+all_later stream before [] all = tt
+all_later stream before (call ∷ calls) all = (later_call stream before call all.0, all_later stream (before ++ call ∷ []) calls all.1)
+
 -- no message was accepted in an interval after that of the last call
 abbrev NoneLater : Times → List Call → Type 0
 NoneLater times log = (interval : ℕ) → latest_of times log < interval → messages_of times interval log ≡ 0
@@ -96,48 +108,55 @@ no_message : (times : Times) (interval : ℕ) (call : Call) → interval_in time
 no_message times interval (Message reading payload) before = ne_eqb _ _ (λ e. absurd (omega arith))
 no_message times interval (Disclose reading) before = refl
 
-none_later : (stream : Stream) (before calls : List Call) → NoneLater stream.setup.times before → AreAcceptedAfter stream before calls → NoneLater stream.setup.times (before ++ calls)
-none_later stream before [] none all = subst (NoneLater stream.setup.times) (sym (append-nil before)) none
-none_later stream before (call ∷ calls) none all =
-    let times = stream.setup.times in
+none_later : (times : Times) (before calls : List Call) → NoneLater times before → AreLater times before calls → NoneLater times (before ++ calls)
+none_later times before [] none all = subst (NoneLater times) (sym (append-nil before)) none
+none_later times before (call ∷ calls) none all =
     let here : NoneLater times (before ++ call ∷ []) = λ interval after.
     let last : interval_in times call < interval = omega (arith, latest_more times before call, after) in
     let no : cond {A = ℕ} (is_message_of times interval call) 1 0 ≡ 0 = ap (λ b. cond {A = ℕ} b 1 0) (no_message times interval call last) in
-    omega (arith, messages_more times interval before call, no, none interval (omega (arith, later_call stream before call all.0, last))) in
-    subst (NoneLater times) (append_assoc before (call ∷ []) calls) (none_later stream (before ++ call ∷ []) calls here all.1)
+    omega (arith, messages_more times interval before call, no, none interval (omega (arith, all.0, last))) in
+    subst (NoneLater times) (append_assoc before (call ∷ []) calls) (none_later times (before ++ call ∷ []) calls here all.1)
+
+-- how many messages of an interval were accepted, the last one or a later one
+pub number_of_log : (times : Times) (latest used : ℕ) (log : List Call) (interval : ℕ) → AreLater times [] log → latest ≡ latest_of times log → used ≡ messages_of times latest log → latest ≤ interval → number_at latest used interval ≡ messages_of times interval log
+number_of_log times latest used log interval all latest_is used_is later =
+    elim (cases_lt latest interval) as (λ _. number_at latest used interval ≡ messages_of times interval log) [
+      | inl after ↦
+          let other : eqb interval latest ≡ false = ne_eqb _ _ (λ e. absurd (omega arith)) in
+          let none = none_later times [] log (λ i h. refl) all interval (omega (arith, latest_is)) in
+          ap (λ b. if b then used else 0) other ∙ sym none
+      | inr least ↦
+          let same : interval ≡ latest = omega arith in
+          let here : eqb interval latest ≡ true = eq-eqb _ _ same in
+          ap (λ b. if b then used else 0) here ∙ used_is ∙ ap (λ i. messages_of times i log) (sym same)
+    ]
+
+-- the name of a message, by the interval and the number of the last calls
+pub name_of_log : (times : Times) (latest used : ℕ) (log : List Call) (reading : ℕ) (payload : List ℕ) → AreLater times [] log → latest ≡ latest_of times log → used ≡ messages_of times latest log → name_of times log reading payload ≡ name_after times latest (number_at latest used (interval_at times reading)) reading payload
+name_of_log times latest used log reading payload all latest_is used_is =
+    let interval = interval_at times reading in
+    let number = messages_of times interval log in
+    let now = number_at latest used interval in
+    let before : name_of times log reading payload ≡ name_after times latest number reading payload = ap (λ b. name_after times b number reading payload) (sym latest_is) in
+    let same : name_after times latest number reading payload ≡ name_after times latest now reading payload =
+    elim (cases_lt interval latest) as (λ _. name_after times latest number reading payload ≡ name_after times latest now reading payload) [
+      | inl back ↦ (let goes_back : nat_lt interval latest ≡ true = lt-ltb _ _ back in rw goes_back refl)
+      | inr later ↦ ap (λ n. name_after times latest n reading payload) (sym (number_of_log times latest used log interval all latest_is used_is later))
+    ] in
+    before ∙ same
 
 -- ---- what a sender stands for
 
 -- how many messages of an interval were accepted, the last one or a later one
 number_is : (sender : State) (log : List Call) (interval : ℕ) → Stands sender log → sender.latest ≤ interval → number_at sender.latest sender.used interval ≡ messages_of sender.stream.setup.times interval log
 number_is sender log interval stands later =
-    let times = sender.stream.setup.times in
-    elim (cases_lt sender.latest interval) as (λ _. number_at sender.latest sender.used interval ≡ messages_of times interval log) [
-      | inl after ↦
-          let other : eqb interval sender.latest ≡ false = ne_eqb _ _ (λ e. absurd (omega arith)) in
-          let none = none_later sender.stream [] log (λ i h. refl) stands.accepted interval (omega (arith, stands.latest)) in
-          ap (λ b. if b then sender.used else 0) other ∙ sym none
-      | inr least ↦
-          let same : interval ≡ sender.latest = omega arith in
-          let here : eqb interval sender.latest ≡ true = eq-eqb _ _ same in
-          ap (λ b. if b then sender.used else 0) here ∙ stands.used ∙ ap (λ i. messages_of times i log) (sym same)
-    ]
+    number_of_log sender.stream.setup.times sender.latest sender.used log interval (all_later sender.stream [] log stands.accepted) stands.latest stands.used later
 
 -- the answer to a message, by the state alone
 message_answer : (sender : State) (log : List Call) (reading : ℕ) (payload : List ℕ) → Stands sender log → made_message sender.stream log reading payload ≡ told_message sender reading payload
 unfolding made_message
 message_answer sender log reading payload stands =
-    let times = sender.stream.setup.times in
-    let interval = interval_at times reading in
-    let number = messages_of times interval log in
-    let now = number_at sender.latest sender.used interval in
-    let before : name_of times log reading payload ≡ name_after times sender.latest number reading payload = ap (λ b. name_after times b number reading payload) (sym stands.latest) in
-    let same : name_after times sender.latest number reading payload ≡ name_after times sender.latest now reading payload =
-    elim (cases_lt interval sender.latest) as (λ _. name_after times sender.latest number reading payload ≡ name_after times sender.latest now reading payload) [
-      | inl back ↦ (let goes_back : nat_lt interval sender.latest ≡ true = lt-ltb _ _ back in rw goes_back refl)
-      | inr later ↦ ap (λ n. name_after times sender.latest n reading payload) (sym (number_is sender log interval stands later))
-    ] in
-    ap (framed sender.stream payload) (before ∙ same)
+    ap (framed sender.stream payload) (name_of_log sender.stream.setup.times sender.latest sender.used log reading payload (all_later sender.stream [] log stands.accepted) stands.latest stands.used)
 
 pub message_answered : (sender : State) (log : List Call) (reading : ℕ) (payload : List ℕ) (told : Result ℕ SendRefusal) (before now : List ℕ) → Stands sender log → Answers told (told_message sender reading payload) before now → Answers told (made_message sender.stream log reading payload) before now
 message_answered sender log reading payload told before now stands answer =

@@ -83,8 +83,8 @@ pub record Stands (sender : State) (log : List Call) : Type 0 where
   pub used : sender.used ≡ messages_of sender.stream.setup.times sender.latest log
 
 -- the log after a call: one call more where it was accepted
-abbrev pub log_after : {E : Type 0} → List Call → Call → Result ℕ E → List Call
-log_after log call (Ok length) = log ++ call ∷ []
+abbrev pub log_after : {A E : Type 0} → List Call → Call → Result A E → List Call
+log_after log call (Ok value) = log ++ call ∷ []
 log_after log call (Err refusal) = log
 
 -- the frame keeps its limits, its text begins the room, the bytes behind it are as before, and `size` is its length

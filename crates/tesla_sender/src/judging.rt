@@ -1,13 +1,10 @@
 //! Whether a call is accepted.
 
-ghost use Rattle.std.specs.Prelude.{◌≡◌, ◌≤◌, map};
-ghost use Rattle.tesla_sender.specs.Made.{any_due, disclosed_after, interval_at, name_after};
-ghost use Rattle.tesla_sender.specs.Chains.{chain_in};
+ghost use Rattle.std.specs.Prelude.{◌≡◌, ◌≤◌};
+ghost use Rattle.tesla_sender.specs.Made.{disclosed_after, interval_at, name_after};
 ghost use Rattle.tesla_sender.specs.Stands.{number_at};
 
-use crate::chain::SendingChain;
 use crate::limits::MOST_PAYLOAD;
-use crate::rows::any_due;
 use crate::{DiscloseRefusal, SendRefusal};
 use tesla_base::Name;
 use tesla_clock::Schedule;
@@ -65,20 +62,21 @@ pub fn judge_message(
     })
 }
 
-/// The interval of a disclosure, where the last accepted call was of the interval `latest`.
+/// The interval of a disclosure, where the last accepted call was of the interval `latest`, and in that of the reading
+/// some chain has a key to disclose where `due` says so.
 pub fn judge_disclosure(
-    chains: &[SendingChain],
     schedule: Schedule,
     latest: u64,
+    due: bool,
     reading: u64,
 ) -> Result<u64, DiscloseRefusal>
-    ensures { result ≡ disclosed_after schedule latest (any_due (interval_at schedule reading) (map chain_in chains.now)) reading }
+    ensures { result ≡ disclosed_after schedule latest due reading }
 {
     let interval = interval_at(schedule, reading);
     if interval < latest {
         return Err(DiscloseRefusal::Backward(latest));
     }
-    if !any_due(chains, interval) {
+    if !due {
         return Err(DiscloseRefusal::NothingDue);
     }
     Ok(interval)

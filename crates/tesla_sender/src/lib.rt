@@ -3,7 +3,9 @@
 
 mod chain;
 mod judging;
+pub mod laws;
 mod limits;
+mod namer;
 mod opening;
 mod refusal;
 mod rows;
@@ -11,5 +13,6 @@ mod sender;
 mod writing;
 
 pub use limits::FRAME_ROOM;
+pub use namer::Namer;
 pub use refusal::{DiscloseRefusal, SendRefusal, SenderRefusal};
 pub use sender::Sender;

@@ -12,7 +12,7 @@ use crate::chain::SendingChain;
 use crate::judging::{interval_at, judge_disclosure, judge_message};
 use crate::limits::FRAME_ROOM;
 use crate::opening::open_chains;
-use crate::rows::{advance_all, prepare_all, tells_all, tells_newer};
+use crate::rows::{advance_all, any_due, prepare_all, tells_all, tells_newer};
 use crate::writing::{write_due, write_message};
 use crate::{DiscloseRefusal, SendRefusal, SenderRefusal};
 use std::alloc::Global;
@@ -275,7 +275,8 @@ impl Sender {
     fn interval_of(&self, reading: u64) -> Result<u64, DiscloseRefusal>
         ensures { result ≡ interval_next self.now reading }
     {
-        judge_disclosure(&self.chains, self.setup.schedule(), self.latest, reading)
+        let due = any_due(&self.chains, self.interval_at(reading));
+        judge_disclosure(self.setup.schedule(), self.latest, due, reading)
     }
 
     /// Answers a disclosure, by the interval of the last call.

@@ -1,0 +1,13 @@
+use Rattle.tesla_sender.proofs.Names.{message_named, message_names}
+use Rattle.tesla_sender.proofs.namer.Namer.message.Goals as goal
+
+pub returns-clause-answer : goal.returns-clause-answer
+returns-clause-answer c = λ log names.
+    let a = c.args in
+    message_named a.self.now log a.reading a.payload.now c.name_next.result names c.name_next.ensures.told
+
+pub returns-clause-names : goal.returns-clause-names
+returns-clause-names c = λ log names.
+    let a = c.args in
+    let told = c.name_next in
+    message_names a.self.now told.new.self log a.reading a.payload.now told.result names told.ensures.told told.ensures.after told.ensures.refused
