@@ -1,0 +1,14 @@
+pub mod Learnt
+pub mod FirstUsed
+pub mod Steps
+pub mod Places
+pub mod Accepted
+pub mod UsedOnce
+pub mod Counted
+pub mod Live
+pub mod Fronts
+pub mod Authentic
+pub mod Genuine
+pub mod Ring
+pub mod Using
+pub mod Keeping

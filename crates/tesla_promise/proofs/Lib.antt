@@ -1,0 +1,4 @@
+pub mod Each
+pub mod FromEnd
+pub mod Joined
+pub mod Spelled
