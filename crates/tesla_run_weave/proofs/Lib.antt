@@ -1,0 +1,4 @@
+pub mod Collected
+pub mod Written
+pub mod Runs
+pub mod Complete
