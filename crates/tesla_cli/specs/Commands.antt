@@ -5,6 +5,8 @@ use Rattle.tesla_front.specs.Command.{Command, no_command}
 use Rattle.tesla_front.specs.Usage.{usage_line}
 use Rattle.tesla_run_chain.specs.Chain.{chain}
 use Rattle.tesla_run_chain.specs.Usage as chains
+use Rattle.tesla_run_early.specs.Early.{early}
+use Rattle.tesla_run_early.specs.Usage as earlies
 use Rattle.tesla_run_lag.specs.Lag.{lag}
 use Rattle.tesla_run_lag.specs.Usage as lags
 use Rattle.tesla_run_replay.specs.Replay.{replay}
@@ -15,6 +17,8 @@ use Rattle.tesla_run_send.specs.Send.{send}
 use Rattle.tesla_run_send.specs.Usage as sends
 use Rattle.tesla_run_stress.specs.Stress.{stress}
 use Rattle.tesla_run_stress.specs.Usage as stresses
+use Rattle.tesla_run_weave.specs.Weave.{weave}
+use Rattle.tesla_run_weave.specs.Usage as weaves
 
 -- the command where the word is this one, and else another
 abbrev pub where_named : Bool → Command → Command → Command
@@ -30,8 +34,10 @@ command_named word =
     where_named (bytes_eq word (codes "send")) send (
     where_named (bytes_eq word (codes "lag")) lag (
     where_named (bytes_eq word (codes "stress")) stress (
-    where_named (bytes_eq word (codes "roll")) roll
-    no_command))))))
+    where_named (bytes_eq word (codes "roll")) roll (
+    where_named (bytes_eq word (codes "weave")) weave (
+    where_named (bytes_eq word (codes "early")) early
+    no_command))))))))
 
 -- the command of these words: the first of them names it
 abbrev pub command_of : List (List ℕ) → Command
@@ -40,7 +46,7 @@ command_of (word ∷ words) = command_named word
 
 -- the words of each form, in the order in which they are told
 abbrev pub forms : List (List ℕ)
-forms = replays.usages ++ chains.usages ++ sends.usage ∷ lags.usage ∷ stresses.usage ∷ rolls.usage ∷ []
+forms = replays.usages ++ chains.usages ++ sends.usage ∷ lags.usage ∷ stresses.usage ∷ rolls.usage ∷ weaves.usage ∷ earlies.usage ∷ []
 
 -- the usage lines of all
 abbrev pub usage : List ℕ

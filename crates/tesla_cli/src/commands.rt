@@ -9,14 +9,18 @@ use std::alloc::Global;
 use tesla_desk::Desk;
 use tesla_front::{FormText, Outcome};
 use tesla_run_chain::{CHAIN, CHAIN_TWO, run_chain};
+use tesla_run_early::{EARLY, run_early};
 use tesla_run_lag::{LAG, run_lag};
 use tesla_run_replay::{REPLAY, run_replay};
 use tesla_run_roll::{ROLL, run_roll};
 use tesla_run_send::{SEND, run_send};
 use tesla_run_stress::{STRESS, run_stress};
+use tesla_run_weave::{WEAVE, run_weave};
 
 /// The forms of the commands, in the order in which they are told.
-pub const FORMS: [FormText; 7] = [REPLAY, CHAIN, CHAIN_TWO, SEND, LAG, STRESS, ROLL];
+pub const FORMS: [FormText; 9] = [
+    REPLAY, CHAIN, CHAIN_TWO, SEND, LAG, STRESS, ROLL, WEAVE, EARLY,
+];
 
 /// Runs the words as those of the command that the first of them names. `Usage` where it names none, or there is no
 /// word, and then nothing was opened.
@@ -31,6 +35,8 @@ pub fn run_words<D: Desk>(alloc: Global, words: &[String], desk: &mut D) -> Outc
         [word, ..] if word.as_str() == "lag" => run_lag(alloc, words, desk),
         [word, ..] if word.as_str() == "stress" => run_stress(alloc, words, desk),
         [word, ..] if word.as_str() == "roll" => run_roll(alloc, words, desk),
+        [word, ..] if word.as_str() == "weave" => run_weave(alloc, words, desk),
+        [word, ..] if word.as_str() == "early" => run_early(alloc, words, desk),
         _ => Outcome::Usage,
     }
 }

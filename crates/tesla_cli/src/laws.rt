@@ -10,9 +10,10 @@ ghost use Rattle.tesla_front.specs.Run.{Runs};
 ghost use Rattle.tesla_cli.specs.Commands.{command_of, usage};
 ghost use Rattle.tesla_run_chain.specs.Arguments.{ChainArguments, IsChain};
 ghost use Rattle.tesla_run_chain.specs.Chain.{chain};
+ghost use Rattle.tesla_run_early.specs.Early.{IsEarly, early};
 ghost use Rattle.tesla_run_lag.specs.Arguments.{IsLag, LagArguments};
 ghost use Rattle.tesla_run_lag.specs.Lag.{lag};
-ghost use Rattle.tesla_run_replay.specs.Arguments.{IsReplay, ReplayArguments};
+ghost use Rattle.tesla_run_replay.specs.Arguments.{IsReplay, PlayedArguments, ReplayArguments};
 ghost use Rattle.tesla_run_replay.specs.Replay.{replay};
 ghost use Rattle.tesla_run_roll.specs.Arguments.{IsRoll, RollArguments};
 ghost use Rattle.tesla_run_roll.specs.Roll.{roll};
@@ -20,6 +21,8 @@ ghost use Rattle.tesla_run_send.specs.Arguments.{IsSend, SendArguments};
 ghost use Rattle.tesla_run_send.specs.Send.{send};
 ghost use Rattle.tesla_run_stress.specs.Arguments.{IsStress, StressArguments};
 ghost use Rattle.tesla_run_stress.specs.Stress.{stress};
+ghost use Rattle.tesla_run_weave.specs.Arguments.{IsWeave, WeaveArguments};
+ghost use Rattle.tesla_run_weave.specs.Weave.{weave};
 
 use crate::run_here;
 use std::alloc::Global;
@@ -33,6 +36,8 @@ pub fn forms_are_named()
     ensures lags { (arguments : LagArguments) (words : List (List ℕ)) (old new : Told) (came : Came) → IsLag arguments words → RunsAs (command_of words) words old new came → Performs lag arguments old new came }
     ensures stresses { (arguments : StressArguments) (words : List (List ℕ)) (old new : Told) (came : Came) → IsStress arguments words → RunsAs (command_of words) words old new came → Performs stress arguments old new came }
     ensures rolls { (arguments : RollArguments) (words : List (List ℕ)) (old new : Told) (came : Came) → IsRoll arguments words → RunsAs (command_of words) words old new came → Performs roll arguments old new came }
+    ensures weaves { (arguments : WeaveArguments) (words : List (List ℕ)) (old new : Told) (came : Came) → IsWeave arguments words → RunsAs (command_of words) words old new came → Performs weave arguments old new came }
+    ensures earlies { (arguments : PlayedArguments) (words : List (List ℕ)) (old new : Told) (came : Came) → IsEarly arguments words → RunsAs (command_of words) words old new came → Performs early arguments old new came }
 {}
 
 /// Runs the words as the top call does, over a desk on which no call from outside fails. The status is never 4, 5 or 7.

@@ -54,6 +54,32 @@ const COMMANDS: &[Command] = &[
         outs: &["out"],
         counts: "openings 4, setup 23, first 19, out 2, - 2",
     },
+    // The same record behind one byte, and 113 bytes of the report and the line behind it.
+    Command {
+        words: "early setup 30000 16 first out",
+        clock: &[],
+        calls: &[
+            ("setup", READ),
+            ("first", READ),
+            ("out", WRITE),
+            ("-", WRITE),
+        ],
+        outs: &["out"],
+        counts: "openings 4, setup 23, first 19, out 2, - 12",
+    },
+    // 40 bytes of SCRIPT. SCRIPT-OUT has 39 more for the promise in "hi", and one more for "yo".
+    Command {
+        words: "weave setup script out 1",
+        clock: &[],
+        calls: &[
+            ("setup", READ),
+            ("script", READ),
+            ("out", WRITE),
+            ("-", WRITE),
+        ],
+        outs: &["out"],
+        counts: "openings 4, setup 23, script 5, out 8, - 2",
+    },
     // 154 bytes of SECRET, and 219 of SETUP-OUT.
     Command {
         words: "chain out secret 00000000000000a7 1000000 100000 8 2 5",

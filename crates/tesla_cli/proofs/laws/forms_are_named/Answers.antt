@@ -36,3 +36,11 @@ returns-clause-stresses c arguments words old new came is runs =
 pub returns-clause-rolls : goal.returns-clause-rolls
 returns-clause-rolls c arguments words old new came is runs =
     (subst (λ (all : List (List ℕ)). RunsAs (command_of all) words old new came) is.spelled runs).form arguments is
+
+pub returns-clause-weaves : goal.returns-clause-weaves
+returns-clause-weaves c arguments words old new came is runs =
+    (subst (λ (all : List (List ℕ)). RunsAs (command_of all) words old new came) is.spelled runs).form arguments is
+
+pub returns-clause-earlies : goal.returns-clause-earlies
+returns-clause-earlies c arguments words old new came is runs =
+    (subst (λ (all : List (List ℕ)). RunsAs (command_of all) words old new came) is.spelled runs).form arguments is

@@ -1,0 +1,203 @@
+//! A receiver that accepts promised messages on arrival, as that to which the records of a capture are played.
+
+ghost use Rattle.std.specs.Prelude.{◌≡◌, ◌+◌, ◌^◌, ◌<◌, ◌++◌, ◌∷◌, [], List, length, true, false, Err, IfOk, cond, codes, option_copied, option_map};
+ghost use Rattle.tesla_capture.specs.Gathering.{gathered, Gathers};
+ghost use Rattle.tesla_desk.specs.Faults.{HasCause};
+ghost use Rattle.tesla_desk.specs.Outside.{AppendsPrefix};
+ghost use Rattle.tesla_frame.specs.Shown.{shown};
+ghost use Rattle.tesla_front.specs.Lines.{count_line};
+ghost use Rattle.tesla_receiver.specs.History.{Arrives, Takes, entry_of, reply_to};
+ghost use Rattle.tesla_receiver.specs.declared.history.Entry.{Entry};
+ghost use Rattle.tesla_early.specs.Early.{message_in};
+ghost use Rattle.tesla_early.specs.Stands.{EarlyStands};
+ghost use Rattle.tesla_early.specs.Texts.{early_in, early_record_in, given_text, message_text};
+ghost use Rattle.tesla_run_replay.specs.ReportText.{report_text};
+
+use std::sync::ledger::Ledger;
+use tesla_base::Steps;
+use tesla_capture::Gatherer;
+use tesla_convert::Halt;
+use tesla_desk::Sink;
+use tesla_early::Early;
+use tesla_frame::{FrameView, read_frame};
+use tesla_front::{Lines, add_count};
+use tesla_receiver::{Report, Take};
+use tesla_run_replay::{PlayedEvent, Target, add_report};
+
+/// A receiver whose released packets and whose early arrivals are written, and whose report is told with the number of the
+/// early arrivals.
+#[derive(Drop)]
+pub struct EarlyTarget {
+    early: Early,
+    accepted: u64,
+    payload: [u8; 1200],
+}
+
+impl EarlyTarget {
+    /// A target over this receiver, which has had no event.
+    pub fn new(early: Early) -> EarlyTarget
+        ensures early { result.early ≡ early }
+        ensures none { result.accepted ≡ 0 }
+    {
+        EarlyTarget {
+            early,
+            accepted: 0,
+            payload: [0; 1200],
+        }
+    }
+}
+
+// Gathers the record of a datagram's message, where it is early. It takes no memory.
+fn put_message<O: Sink>(
+    gatherer: &mut Gatherer,
+    out: &mut O,
+    early: bool,
+    frame: Option<&FrameView<'_>>,
+) -> bool
+    ensures writes { result ≡ true → Gathers (O.written out.old) (O.written out.new) (gathered gatherer.new) (gathered gatherer.old ++ cond early (message_text (message_in (option_map shown (option_copied frame.entry)))) []) }
+    ensures prefix { result ≡ false → AppendsPrefix (O.written out.old) (O.written out.new) (gathered gatherer.old) }
+    ensures cause { HasCause (O.faults out.old) (O.faults out.new) (result ≡ false) }
+    ensures name { O.name out.new ≡ O.name out.old }
+{
+    if !early {
+        return true;
+    }
+    match frame {
+        Some(FrameView::Data(message)) => {
+            gatherer.put_accepted(out, message.name(), message.payload())
+        }
+        // Only a message is early.
+        _ => true,
+    }
+}
+
+// Judges a datagram of ingest 0, and gathers the record of its message where it is early. Gives whether it is.
+fn arrive_once<L: Ledger, O: Sink>(
+    early: &mut Early,
+    reading: u64,
+    datagram: &[u8],
+    steps: &mut Steps<L>,
+    gatherer: &mut Gatherer,
+    out: &mut O,
+) -> Result<bool, Halt>
+    requires { early.old.receiver.calls < 2 ^ 56 }
+    ensures config { early.new.receiver.config ≡ early.old.receiver.config }
+    ensures calls { early.new.receiver.calls ≡ early.old.receiver.calls + 1 }
+    ensures most { early.new.promises.most ≡ early.old.promises.most }
+    ensures stands { (h : List Entry) → EarlyStands early.old h → EarlyStands early.new (h ++ entry_of early.old.receiver.config h (Arrives 0 reading datagram.now) ∷ []) }
+    ensures counted { IfOk result (λ counts. (h : List Entry) → EarlyStands early.old h → length (early_in early.old.promises.most h (entry_of early.old.receiver.config h (Arrives 0 reading datagram.now))) ≡ cond counts 1 0) }
+    ensures writes { IfOk result (λ _. (h : List Entry) → EarlyStands early.old h →
+        Gathers (O.written out.old) (O.written out.new) (gathered gatherer.new) (gathered gatherer.old ++ early_record_in early.old.promises.most 0 h (entry_of early.old.receiver.config h (Arrives 0 reading datagram.now)))) }
+    ensures prefix { result ≡ Err Halt.WriteFault → AppendsPrefix (O.written out.old) (O.written out.new) (gathered gatherer.old) }
+    ensures enough { result ≡ Err Halt.NoMemory → ⊥ }
+    ensures cause { HasCause (O.faults out.old) (O.faults out.new) (result ≡ Err Halt.WriteFault) }
+    ensures name { O.name out.new ≡ O.name out.old }
+{
+    let frame = read_frame(datagram);
+    let answer = early.arrive_read(0, reading, datagram, frame.as_ref(), steps);
+    if put_message(gatherer, out, answer.early, frame.as_ref()) {
+        Ok(answer.early)
+    } else {
+        Err(Halt::WriteFault)
+    }
+}
+
+// Takes once for releaser 0, and gathers the record of what was given behind the byte 0. It takes no memory.
+fn take_once<O: Sink>(
+    early: &mut Early,
+    payload: &mut [u8; 1200],
+    gatherer: &mut Gatherer,
+    out: &mut O,
+) -> Result<(), Halt>
+    requires { early.old.receiver.calls < 2 ^ 56 }
+    ensures config { early.new.receiver.config ≡ early.old.receiver.config }
+    ensures calls { early.new.receiver.calls ≡ early.old.receiver.calls + 1 }
+    ensures most { early.new.promises.most ≡ early.old.promises.most }
+    ensures stands { (h : List Entry) → EarlyStands early.old h → EarlyStands early.new (h ++ entry_of early.old.receiver.config h (Takes 0) ∷ []) }
+    ensures writes { IfOk result (λ _. (h : List Entry) → EarlyStands early.old h →
+        Gathers (O.written out.old) (O.written out.new) (gathered gatherer.new) (gathered gatherer.old ++ given_text (reply_to early.old.receiver.config h))) }
+    ensures prefix { result ≡ Err Halt.WriteFault → AppendsPrefix (O.written out.old) (O.written out.new) (gathered gatherer.old) }
+    ensures enough { result ≡ Err Halt.NoMemory → ⊥ }
+    ensures cause { HasCause (O.faults out.old) (O.faults out.new) (result ≡ Err Halt.WriteFault) }
+    ensures name { O.name out.new ≡ O.name out.old }
+{
+    match early.take(0, payload) {
+        Take::Given(head) => {
+            if gatherer.put_marked(out, 0, &head, &payload[..head.length as usize]) {
+                Ok(())
+            } else {
+                Err(Halt::WriteFault)
+            }
+        }
+        Take::Empty | Take::Over => Ok(()),
+    }
+}
+
+// How many arrivals were early, with one more that may be.
+fn counted(accepted: u64, early: bool) -> u64
+    ensures { accepted < 2 ^ 63 → result ≡ accepted + cond early 1 0 }
+{
+    if early {
+        accepted.saturating_add(1)
+    } else {
+        accepted
+    }
+}
+
+// The lines of a report, and the line that tells how many arrivals were early.
+fn lines_of(report: &Report, accepted: u64) -> Lines
+    ensures { result.bytes ≡ report_text report.now ++ count_line (codes "early") accepted }
+{
+    let mut lines = Lines::new();
+    add_report(&mut lines, report);
+    add_count(&mut lines, "early", accepted);
+    lines
+}
+
+impl Target for EarlyTarget {
+    ghost use Rattle.std.specs.Prelude.{[], false};
+    ghost use Rattle.tesla_receiver.specs.Played.{after_events};
+    ghost use Rattle.tesla_run_early.specs.Playing.{StandsFor, early_rule};
+
+    ghost rule = { λ t. early_rule t.early.receiver.config };
+
+    ghost has = { λ t es. StandsFor t.early t.accepted (after_events t.early.receiver.config [] es) };
+
+    ghost may_want = { false };
+
+    ghost calls = { λ t. t.early.receiver.calls };
+
+    fn play<L: Ledger, O: Sink>(
+        &mut self,
+        event: PlayedEvent<'_>,
+        steps: &mut Steps<L>,
+        gatherer: &mut Gatherer,
+        out: &mut O,
+    ) -> Result<(), Halt> {
+        match event {
+            PlayedEvent::Arrival { reading, datagram } => {
+                match arrive_once(&mut self.early, reading, datagram, steps, gatherer, out) {
+                    Ok(early) => {
+                        self.accepted = counted(self.accepted, early);
+                        Ok(())
+                    }
+                    Err(halt) => Err(halt),
+                }
+            }
+            PlayedEvent::Take => take_once(&mut self.early, &mut self.payload, gatherer, out),
+            PlayedEvent::End => {
+                self.early.end(0);
+                Ok(())
+            }
+        }
+    }
+
+    fn waiting(&self) -> u64 {
+        self.early.waiting()
+    }
+
+    #[tactic(auto, unfolding(crate::specs::Playing::early_text))]
+    fn lines(&self) -> Lines {
+        lines_of(&self.early.report(), self.accepted)
+    }
+}
