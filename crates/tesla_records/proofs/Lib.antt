@@ -1,0 +1,9 @@
+pub mod NextRecord
+pub mod PendingTells
+pub mod StaysAhead
+pub mod StepGives
+pub mod Moved
+pub mod OutlineStep
+pub mod FrontAgain
+pub mod Taken
+pub mod OutlineIsFile
