@@ -1,6 +1,6 @@
 //! What a worker does in a turn.
 
-ghost use Rattle.std.specs.Prelude.{◌≡◌, ◌<◌, ◌^◌, ◌++◌, ◌∷◌, [], List, length};
+ghost use Rattle.std.specs.Prelude.{◌≡◌, ◌<◌, ◌≤◌, ◌^◌, ◌++◌, ◌∷◌, [], List, length};
 ghost use Rattle.tesla_receiver.specs.declared.history.Entry.{Entry};
 ghost use Rattle.tesla_receiver.specs.declared.history.Entry.TheVariants.{Arrived};
 
@@ -12,12 +12,13 @@ use tesla_desk::Clock;
 use tesla_receiver::{Take, Verdict};
 use tesla_turn::Act;
 
-/// Reads the clock, and makes an arrival of a datagram.
+/// Reads the clock, and makes an arrival of a datagram of at most 2,048 bytes.
 #[derive(Drop)]
-pub(crate) struct Hear<'a, C: Clock> {
+pub(crate) struct Hear<'a, 'b, C: Clock> {
     pub(crate) ingest: u8,
     pub(crate) bytes: &'a [u8],
-    pub(crate) clock: &'a mut C,
+    pub(crate) clock: &'b mut C,
+    ghost few: { length bytes.now ≤ 2048 },
 }
 
 /// When a datagram came, its verdict, and whether packets may wait then.
@@ -28,7 +29,7 @@ pub(crate) struct Heard {
     pub(crate) waits: bool,
 }
 
-impl<V: Station, C: Clock> Act<V> for Hear<'_, C> {
+impl<V: Station, C: Clock> Act<V> for Hear<'_, '_, C> {
     ghost use Rattle.std.specs.Prelude.{◌≡◌};
     ghost use Rattle.tesla_receiver.specs.declared.history.Entry.TheVariants.{Arrived};
     ghost use Rattle.tesla_desk.specs.Clocks.{Ticks};
@@ -62,6 +63,7 @@ fn judge<V: Station, L: Ledger>(
     requires name { blank.name ≡ L.name }
     requires parts { blank.parts ≡ L.parts }
     requires some { 0 < L.parts }
+    requires few { length bytes.now ≤ 2048 }
     requires stood { (h : List Entry) × (length h < 2 ^ 63) × V.stands value.old h }
     ensures stands { (h : List Entry) → length h < 2 ^ 63 → V.stands value.old h → V.stands value.new (h ++ Arrived (record { ingest = ingest; reading = reading; bytes = bytes.now; verdict = result }) ∷ []) }
     ensures config { V.config value.new ≡ V.config value.old }

@@ -1,6 +1,6 @@
 //! The worker of a link.
 
-ghost use Rattle.std.specs.Prelude.{◌≡◌, ◌<◌, ◌+◌, ◌++◌, ◌∷◌, ◌↔◌, [], IfSome, map};
+ghost use Rattle.std.specs.Prelude.{◌≡◌, ◌<◌, ◌+◌, ◌++◌, ◌∷◌, ◌↔◌, ◌≤◌, [], IfSome, length, map};
 ghost use Rattle.tesla_desk.specs.Faults.{HasCause};
 ghost use Rattle.tesla_receiver.specs.declared.history.Arrival.{Arrival};
 ghost use Rattle.tesla_receiver.specs.declared.history.Entry.TheVariants.{Arrived, Ended};
@@ -91,7 +91,7 @@ fn hear_all<R: Wait, V: Station, K: Link, C: Clock, G: Gate>(
     unreachable!()
 }
 
-/// Makes an arrival of a datagram.
+/// Makes an arrival of a datagram of at most 2,048 bytes.
 #[tactic(auto, using(crate::proofs::Passing::one_call))]
 fn hear_once<R: Wait, V: Station, C: Clock, G: Gate>(
     rt: &R,
@@ -102,6 +102,7 @@ fn hear_once<R: Wait, V: Station, C: Clock, G: Gate>(
     turn: &Turn<V>,
     pass: &mut Pass<V>,
 )
+    requires few { length bytes.now ≤ 2048 }
     requires own { pass.old.turn ≡ turn.now }
     requires left { 0 < left_of pass.old }
     ensures hears { HearsOne number bytes.now pass.old.made pass.new.made (C.told clock.old) (C.told clock.new) }

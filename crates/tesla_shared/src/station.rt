@@ -1,6 +1,6 @@
 //! What workers share by turns.
 
-ghost use Rattle.std.specs.Prelude.{◌≡◌, ◌<◌, ◌^◌, ◌++◌, ◌∷◌, [], List, length};
+ghost use Rattle.std.specs.Prelude.{◌≡◌, ◌<◌, ◌≤◌, ◌^◌, ◌++◌, ◌∷◌, [], List, length};
 ghost use Rattle.tesla_receiver.specs.declared.history.Entry.{Entry};
 ghost use Rattle.tesla_receiver.specs.declared.history.Entry.TheVariants.{Arrived, Taken, Ended};
 ghost use Rattle.tesla_state.specs.Replies.{reply_shown, KeepsBehind};
@@ -13,7 +13,7 @@ use tesla_turn::Chronicle;
 /// A receiver that threads share by turns. What stood for a history then stands for it with one entry more, which is
 /// the event with the answer that the call gives.
 pub trait Station: Chronicle<Entry = Entry> + Drop {
-    /// Judges a datagram of an ingest, with the reading of the receiver's clock in microseconds.
+    /// Judges a datagram of an ingest, of at most 2,048 bytes, with the reading of the receiver's clock in microseconds.
     fn arrive<L: Ledger>(
         &mut self,
         ingest: u8,
@@ -21,7 +21,8 @@ pub trait Station: Chronicle<Entry = Entry> + Drop {
         bytes: &[u8],
         steps: &mut Steps<L>,
     ) -> Verdict
-        requires { (h : List Entry) × (length h < 2 ^ 63) × Self.stands self.old h }
+        requires stood { (h : List Entry) × (length h < 2 ^ 63) × Self.stands self.old h }
+        requires few { length bytes.now ≤ 2048 }
         ensures stands { (h : List Entry) → length h < 2 ^ 63 → Self.stands self.old h → Self.stands self.new (h ++ Arrived (record { ingest = ingest; reading = reading; bytes = bytes.now; verdict = result }) ∷ []) }
         ensures config { Self.config self.new ≡ Self.config self.old };
 

@@ -1,0 +1,2 @@
+pub mod LastEntries
+pub mod Places

@@ -1,0 +1,10 @@
+//! A receiver that records the last entries of its history.
+#![tactic(auto)]
+
+mod recorded;
+mod tail;
+
+pub use recorded::{Recorded, RecordedConfig};
+
+#[cfg(test)]
+mod tests;

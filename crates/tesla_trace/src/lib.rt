@@ -1,0 +1,22 @@
+//! Traces: the entries of a receiver's history, with every answer, written to a sink, and judged as they are read.
+#![tactic(auto)]
+
+mod entry;
+mod judging;
+mod kind;
+mod parts;
+mod pieces;
+mod view;
+mod writing;
+
+pub use entry::{EntryBuffer, EntryKind};
+pub use judging::{judge_entry, judge_head, put_entry};
+pub use kind::{EntryFault, TraceKind};
+pub use writing::{
+    put_arrived, put_ended, put_taken, put_trace_head, write_entry, write_tail_head,
+};
+
+#[cfg(test)]
+mod reading_tests;
+#[cfg(test)]
+mod tests;
