@@ -23,6 +23,21 @@ pub fn compress_often(blocks: u64) -> u64 {
     sum
 }
 
+/// A payload, at most.
+const ROOM: usize = 1200;
+
+/// Makes the SHA-256 digest of a payload of so many bytes, at most 1,200, so many times: each payload begins with a byte of
+/// the digest before. It gives that of the last one.
+pub fn digest_often(bytes: u64, times: u64) -> u64 {
+    let mut room = [0x5a; ROOM];
+    let length = bytes.min(ROOM as u64) as usize;
+    for _ in 0..times {
+        let digest = Sha256::digest(&room[..length]);
+        room[0] = digest[31];
+    }
+    u64::from(room[0])
+}
+
 /// The key from which is walked.
 const FIRST: Key = Key([0x11; 32]);
 

@@ -1,7 +1,7 @@
 //! Work to be timed from outside. Without words, or with others than these, nothing is done.
 //!
-//! `frames VERSION BYTES CHAINS TIMES` reads a data frame so many times. `compressions COUNT` hashes so many blocks, and
-//! `evaluations COUNT` evaluates HMAC so many times. `walk LAST KEYS` opens a traversal of a chain of that many keys, and
+//! `frames VERSION BYTES CHAINS TIMES` reads a data frame so many times. `compressions COUNT` hashes so many blocks,
+//! `digests BYTES TIMES` makes the digest of a payload so many times, and `evaluations COUNT` evaluates HMAC so many times. `walk LAST KEYS` opens a traversal of a chain of that many keys, and
 //! asks it for the first of them. Each prints a number that depends on the work.
 #![tactic(auto)]
 
@@ -12,7 +12,7 @@ mod hashing;
 mod walking;
 
 use frames::{Datagram, read_often};
-use hashing::{compress_often, evaluate_often};
+use hashing::{compress_often, digest_often, evaluate_often};
 use std::alloc::{AllocError, Global};
 use std::marker::Brand;
 use std::rt::Env;
@@ -50,6 +50,9 @@ fn counted<L: Ledger>(alloc: Global, words: &[String], blank: Blank) -> Option<u
         }
         [what, last, keys] if what.as_str() == "walk" => {
             Some(walk_part(alloc, number(last), number(keys), &mut steps))
+        }
+        [what, bytes, times] if what.as_str() == "digests" => {
+            Some(digest_often(number(bytes), number(times)))
         }
         [what, count] if what.as_str() == "compressions" => Some(compress_often(number(count))),
         [what, count] if what.as_str() == "evaluations" => {
