@@ -1,11 +1,6 @@
-pub mod Spelled
-pub mod PendingTells
-pub mod NextRecord
-pub mod StaysAhead
-pub mod StepGives
+pub mod Causes
 pub mod OutlineStep
-pub mod RefusalHasCause
-pub mod OutlineIsFile
-pub mod CauseRefuses
-pub mod FrontAgain
 pub mod Taken
+pub mod OutlineIs
+pub mod StepGiven
+pub mod Gathered

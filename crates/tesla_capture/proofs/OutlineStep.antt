@@ -1,29 +1,32 @@
 -- The outline of a file, one record after the other.
-use Rattle.std.proofs.Common.{◌≡◌, ◌∙◌, ℕ, zero, suc, ◌<◌, List, length, refl, ap, arith}
-use Rattle.tesla_capture.specs.Grammar.{Grammar}
+use Rattle.std.proofs.Common.{◌≡◌, ◌∙◌, ℕ, List, [], Some, refl, ap}
+use Rattle.tesla_records.specs.Records.{Next}
+use Rattle.tesla_records.proofs.OutlineStep as files
 use Rattle.tesla_capture.specs.Formats.{IsGrammar}
-use Rattle.tesla_capture.specs.Records.{Next, AtEnd, Recorded, Refuses, next_at, with_record, outline_by, outline_within, outline_at}
-use Rattle.tesla_capture.proofs.NextRecord.{after_shorter}
+use Rattle.tesla_capture.specs.Front.{file_of}
+use Rattle.tesla_capture.specs.Grammar.{Grammar}
+use Rattle.tesla_capture.specs.Records.{AtEnd, Outline, Recorded, Refuses, kind_of, next_at, outline_as, outline_at, outline_by, refusal_of}
+use Rattle.tesla_capture.specs.declared.record.RecordFault.{RecordFault}
+use Rattle.tesla_capture.specs.declared.record.RecordKind.{RecordKind}
+use Rattle.tesla_capture.specs.declared.record.RecordKind.TheVariants.{BadHead, BadKind, Truncated, TooLong, TooLarge}
+use Rattle.tesla_capture.specs.FileOf.{is_file}
+
+-- a kind is that of its refusal
+pub kind_again : (kind : RecordKind) → kind_of (refusal_of kind) ≡ kind
+kind_again BadHead = refl
+kind_again BadKind = refl
+kind_again Truncated = refl
+kind_again TooLong = refl
+kind_again TooLarge = refl
 
 module _ (G : Grammar) (is : IsGrammar G) where
-  -- as many as there are bytes, and one, is enough
-  within_same : (n m place : ℕ) (rest : List ℕ) → length rest < n → length rest < m → outline_within G n place rest ≡ outline_within G m place rest
-  unfolding outline_within
-  within_same zero m place rest ln lm = absurd (omega arith)
-  within_same (suc n) zero place rest ln lm = absurd (omega arith)
-  within_same (suc n) (suc m) place rest ln lm =
-      let step : (next : Next G.Record) → next_at G place rest ≡ next → outline_by (outline_within G n) next ≡ outline_by (outline_within G m) next = λ next e.
-      (elim next as (λ k. next_at G place rest ≡ k → outline_by (outline_within G n) k ≡ outline_by (outline_within G m) k) [
-        | AtEnd ↦ λ h. refl
-        | Recorded first now after ↦ λ h. (let short = after_shorter G is place rest first now after h in ap (with_record first) (within_same n m now after (omega (arith, short)) (omega (arith, short))))
-        | Refuses at kind ↦ λ h. refl
-      ]) e in
-      step (next_at G place rest) refl
+  pub one_step : (place : ℕ) (rest : List ℕ) (next : Next G.Record RecordFault) → next_at G place rest ≡ next → outline_at G place rest ≡ outline_by (outline_at G) next
+  unfolding outline_at
+  one_step place rest AtEnd e = ap outline_as (files.one_step (file_of G) (is_file G is) place rest AtEnd e)
+  one_step place rest (Recorded first now after) e = ap outline_as (files.one_step (file_of G) (is_file G is) place rest (Recorded first now after) e)
+  one_step place rest (Refuses at refusal) e = ap outline_as (files.one_step (file_of G) (is_file G is) place rest (Refuses at refusal) e)
 
-  pub one_step : (place : ℕ) (rest : List ℕ) (next : Next G.Record) → next_at G place rest ≡ next → outline_at G place rest ≡ outline_by (outline_at G) next
-  unfolding outline_at outline_within
-  one_step place rest AtEnd e = ap (outline_by (outline_within G (length rest))) e
-  one_step place rest (Recorded first now after) e =
-      let short = after_shorter G is place rest first now after e in
-      ap (outline_by (outline_within G (length rest))) e ∙ ap (with_record first) (within_same (length rest) (suc (length after)) now after short (omega arith))
-  one_step place rest (Refuses at kind) e = ap (outline_by (outline_within G (length rest))) e
+  -- a refused place ends the records
+  pub one_refused : (place : ℕ) (rest : List ℕ) (at : ℕ) (kind : RecordKind) → next_at G place rest ≡ Refuses at (refusal_of kind) → outline_at G place rest ≡ record { records = []; fault = Some (at, kind) }
+  one_refused place rest at kind e =
+      one_step place rest (Refuses at (refusal_of kind)) e ∙ ap (λ (k : RecordKind). let o : Outline G.Record = record { records = []; fault = Some (at, k) } in o) (kind_again kind)

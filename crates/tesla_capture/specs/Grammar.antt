@@ -1,13 +1,10 @@
--- Grammars of files of records: a head of five bytes, and then records to the end of the file. A record begins with a byte of its kind, 1 or 2.
-use Rattle.std.specs.Prelude.{◌≡◌, ℕ, ◌≤◌, ◌^◌, Bool, List, ◌++◌, length}
+-- Grammars of captures and scripts: a head of five bytes, and then records to the end of the file. A record begins with a byte of its kind, 1 or 2.
+use Rattle.std.specs.Prelude.{◌≡◌, ℕ, ◌≤◌, Bool, List, ◌++◌, length}
 use Rattle.std.specs.List.{flat_map, AllByRecursion}
 pub use Rattle.tesla_base.specs.Front.{AreBytes}
+pub use Rattle.tesla_records.specs.Grammar.{limit}
 
--- how many bytes a file has at most
-abbrev pub limit : ℕ
-limit = 2 ^ 40
-
--- what one format of files has of its own
+-- what one format of such files has of its own
 pub record Grammar : Type 1 where
   -- the first bytes of every file: the magic, and the version
   pub head : List ℕ

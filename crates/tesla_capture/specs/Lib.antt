@@ -2,11 +2,15 @@ pub mod Grammar
 pub mod Capture
 pub mod Script
 pub mod Formats
+pub mod Front
+pub mod HeadTold
+pub mod RecordTold
+pub mod FileOf
+pub mod Judged
 pub mod Records
 pub mod Outline
 pub mod Refused
 pub mod Steps
-pub mod Pieces
 pub mod Reader
 pub mod Found
 pub mod Taken

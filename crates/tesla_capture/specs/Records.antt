@@ -1,102 +1,35 @@
--- Files of records read from left to right, record after record.
-use Rattle.std.specs.Prelude.{ℕ, ◌+◌, ◌-◌, zero, suc, Bool, false, List, [], ◌∷◌, ◌++◌, length, take, drop, Option, Some, None, nat_lt, nat_le, nat_eq, bytes_eq, if◌then◌else◌}
-use Rattle.std.specs.Int.{w16, w64}
-use Rattle.tesla_base.specs.Front.{◌>>=◌, bytes_front, number_front}
-use Rattle.tesla_capture.specs.Grammar.{Grammar, limit}
+-- Captures and scripts read from left to right, record after record.
+use Rattle.std.specs.Prelude.{ℕ, zero, suc, List, [], ◌∷◌, ◌++◌, Option, Some, None}
+use Rattle.tesla_records.specs.Records as files
+pub use Rattle.tesla_records.specs.Records.{AtEnd, Recorded, Refuses}
+use Rattle.tesla_records.specs.declared.refusal.Refusal.{Refusal}
+use Rattle.tesla_records.specs.declared.refusal.Refusal.TheVariants as refusals
+use Rattle.tesla_capture.specs.Grammar.{Grammar}
+use Rattle.tesla_capture.specs.Front.{file_of}
+use Rattle.tesla_capture.specs.declared.record.RecordFault.{RecordFault}
+use Rattle.tesla_capture.specs.declared.record.RecordFault.TheVariants as faults
 use Rattle.tesla_capture.specs.declared.record.RecordKind.{RecordKind}
 use Rattle.tesla_capture.specs.declared.record.RecordKind.TheVariants.{BadHead, BadKind, Truncated, TooLong, TooLarge}
 
--- the bytes behind their length, which has a limit
-unfoldable pub carried_at : ℕ → List ℕ → Option (List ℕ × List ℕ)
-carried_at longest bytes = do
-  n ← number_front w16 bytes
-  if nat_lt longest n.0 then None else bytes_front n.0 n.1
+-- the kind of a refusal
+abbrev pub kind_of : Refusal RecordFault → RecordKind
+kind_of refusals.BadHead = BadHead
+kind_of refusals.Truncated = Truncated
+kind_of refusals.TooLarge = TooLarge
+kind_of (refusals.BadRecord faults.BadKind) = BadKind
+kind_of (refusals.BadRecord faults.TooLong) = TooLong
 
--- a record of kind 1 behind its kind
-unfoldable pub carrying_at : (G : Grammar) → List ℕ → Option (G.Record × List ℕ)
-carrying_at G bytes = do
-  reading ← number_front w64 bytes
-  carried ← carried_at G.longest reading.1
-  Some (G.carrying reading.0 carried.0, carried.1)
-
--- a reading, where there is one
-unfoldable pub reading_at : Bool → List ℕ → Option (ℕ × List ℕ)
-reading_at timed bytes = if timed then number_front w64 bytes else Some (0, bytes)
-
--- a record of kind 2 behind its kind
-unfoldable pub bare_at : (G : Grammar) → List ℕ → Option (G.Record × List ℕ)
-bare_at G bytes = do
-  reading ← reading_at G.timed bytes
-  Some (G.bare reading.0, reading.1)
-
--- the whole record at the front, and what stands after it
-unfoldable pub record_at : (G : Grammar) → List ℕ → Option (G.Record × List ℕ)
-record_at G (suc zero ∷ rest) = carrying_at G rest
-record_at G (suc (suc zero) ∷ rest) = bare_at G rest
-record_at G _ = None
-
--- what stands after the head
-unfoldable pub body_of : Grammar → List ℕ → Option (List ℕ)
-body_of G bytes = do
-  front ← bytes_front 5 bytes
-  if bytes_eq front.0 G.head then Some front.1 else None
-
--- the length field is there, and above its limit
-abbrev pub is_above : ℕ → Option (ℕ × List ℕ) → Bool
-is_above longest None = false
-is_above longest (Some n) = nat_lt longest n.0
-
--- a record of kind 1 tells a length above the limit, behind its kind and its reading
-abbrev pub is_long : ℕ → List ℕ → Bool
-is_long longest bytes = is_above longest (number_front w16 (drop 9 bytes))
-
--- a record isn't whole where the file ends, or at the limit
-abbrev pub cut_kind : Bool → RecordKind
-cut_kind ends = if ends then Truncated else TooLarge
-
--- why no whole record stands at the front of these bytes, which end with the file or at the limit
-abbrev pub why : ℕ → Bool → List ℕ → RecordKind
-why longest ends [] = TooLarge
-why longest ends (suc zero ∷ rest) = if is_long longest (1 ∷ rest) then TooLong else cut_kind ends
-why longest ends (suc (suc zero) ∷ rest) = cut_kind ends
-why longest ends _ = BadKind
-
--- how many bytes from its place on are dropped by a refusal: the one behind the limit that tells that the file goes on there
-abbrev pub dropped_by : ℕ → RecordKind → ℕ
-dropped_by at TooLarge = if nat_eq at limit then 1 else 0
-dropped_by at _ = 0
-
--- what comes next in a file: its end, a whole record with the place and the bytes after it, or a place that is refused
-pub data Next (R : Type 0) : Type 0 where
-  AtEnd : Next R
-  Recorded : R → ℕ → List ℕ → Next R
-  Refuses : ℕ → RecordKind → Next R
-
--- the rest of a file from a place on begins with no whole record within the limit
-abbrev pub refused_at : (G : Grammar) → ℕ → List ℕ → Next G.Record
-refused_at G place rest = Refuses place (why G.longest (nat_lt (place + length rest) limit) (take (limit - place) rest))
-
--- a record that ends within the limit, or the refusal of its place
-abbrev pub next_by : (G : Grammar) → ℕ → List ℕ → Option (G.Record × List ℕ) → Next G.Record
-next_by G place rest None = refused_at G place rest
-next_by G place rest (Some x) =
-    if nat_le (place + length (G.record_text x.0)) limit then Recorded x.0 (place + length (G.record_text x.0)) x.1
-    else refused_at G place rest
-
--- what comes next in the rest of a file from the place of a record on
-unfoldable pub record_next : (G : Grammar) → ℕ → List ℕ → Next G.Record
-record_next G place [] = AtEnd
-record_next G place (b ∷ rest) = next_by G place (b ∷ rest) (record_at G (b ∷ rest))
-
--- what comes next after the head
-abbrev pub after_head : (G : Grammar) → Option (List ℕ) → Next G.Record
-after_head G None = Refuses 0 BadHead
-after_head G (Some rest) = record_next G 5 rest
+-- the refusal of a kind
+abbrev pub refusal_of : RecordKind → Refusal RecordFault
+refusal_of BadHead = refusals.BadHead
+refusal_of BadKind = refusals.BadRecord faults.BadKind
+refusal_of Truncated = refusals.Truncated
+refusal_of TooLong = refusals.BadRecord faults.TooLong
+refusal_of TooLarge = refusals.TooLarge
 
 -- what comes next in the rest of a file from a place on; at place 0 the head comes first
-unfoldable pub next_at : (G : Grammar) → ℕ → List ℕ → Next G.Record
-next_at G zero bytes = after_head G (body_of G bytes)
-next_at G (suc place) rest = record_next G (suc place) rest
+abbrev pub next_at : (G : Grammar) → ℕ → List ℕ → files.Next G.Record RecordFault
+next_at G place rest = files.next_at (file_of G) place rest
 
 -- the place of the record that is read from a place on: that of the first is behind the head
 abbrev pub record_place : ℕ → ℕ
@@ -117,19 +50,23 @@ abbrev pub with_records : {R : Type 0} → List R → Outline R → Outline R
 with_records records outline = record { records = records ++ outline.records; fault = outline.fault }
 
 -- the outline of what comes next, told that of what stands after a record
-abbrev pub outline_by : {R : Type 0} → (ℕ → List ℕ → Outline R) → Next R → Outline R
+abbrev pub outline_by : {R : Type 0} → (ℕ → List ℕ → Outline R) → files.Next R RecordFault → Outline R
 outline_by after AtEnd = record { records = []; fault = None }
 outline_by after (Recorded first place rest) = with_record first (after place rest)
-outline_by after (Refuses place kind) = record { records = []; fault = Some (place, kind) }
+outline_by after (Refuses place refusal) = record { records = []; fault = Some (place, kind_of refusal) }
 
--- the outline of at most so many records
-unfoldable pub outline_within : (G : Grammar) → ℕ → ℕ → List ℕ → Outline G.Record
-outline_within G zero place rest = record { records = []; fault = None }
-outline_within G (suc most) place rest = outline_by (outline_within G most) (next_at G place rest)
+-- a refused place with its kind
+abbrev pub fault_of : Option (ℕ × Refusal RecordFault) → Option (ℕ × RecordKind)
+fault_of None = None
+fault_of (Some fault) = Some (fault.0, kind_of fault.1)
 
--- the outline of the rest of a file from a place on: there are no more records than bytes
+-- the records of an outline of a file of records, and its refused place with its kind
+abbrev pub outline_as : {R : Type 0} → files.Outline (Unit {0}) R RecordFault → Outline R
+outline_as outline = record { records = outline.records; fault = fault_of outline.fault }
+
+-- the outline of the rest of a file from a place on
 unfoldable pub outline_at : (G : Grammar) → ℕ → List ℕ → Outline G.Record
-outline_at G place rest = outline_within G (suc (length rest)) place rest
+outline_at G place rest = outline_as (files.outline_at (file_of G) place rest)
 
 -- the outline of a file
 abbrev pub outline_of : (G : Grammar) → List ℕ → Outline G.Record

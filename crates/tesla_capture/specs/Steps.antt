@@ -1,47 +1,44 @@
 -- What a reader has ahead, and what one step says of the file that it reads.
-use Rattle.std.specs.Prelude.{◌≡◌, ◌⊎◌, ℕ, ◌+◌, ◌≤◌, Bool, true, false, List, [], ◌++◌, take, drop, Option, Some}
-use Rattle.tesla_desk.specs.Outside.{after_bytes}
+use Rattle.std.specs.Prelude.{◌≡◌, ◌⊎◌, ℕ, ◌+◌, ◌≤◌, Bool, true, false, List, [], length, take, drop, Option, Some}
+use Rattle.tesla_records.specs.Steps as files
+pub use Rattle.tesla_records.specs.Steps.{pending, ahead}
+use Rattle.tesla_records.specs.Records.{dropped_by}
+use Rattle.tesla_records.specs.declared.step.RecordsStep.{RecordsStep}
+use Rattle.tesla_records.specs.declared.step.RecordsStep.TheVariants as records
 use Rattle.tesla_capture.specs.Grammar.{Grammar}
-use Rattle.tesla_capture.specs.Records.{AtEnd, Recorded, Refuses, next_at, record_place, dropped_by}
-use Rattle.tesla_capture.specs.Found.{bare_size}
+use Rattle.tesla_capture.specs.Front.{bare_size, file_of}
+use Rattle.tesla_capture.specs.Records.{AtEnd, Refuses, next_at, record_place, kind_of, refusal_of}
+use Rattle.tesla_capture.specs.declared.record.RecordFault.{RecordFault}
 use Rattle.tesla_capture.specs.declared.record.RecordKind.{RecordKind}
 use Rattle.tesla_capture.specs.declared.record.RecordKind.TheVariants.{BadHead}
 use Rattle.tesla_capture.specs.declared.record.RecordStep.{RecordStep}
 use Rattle.tesla_capture.specs.declared.record.RecordStep.TheVariants.{Carrying, Bare, End, Refused, ReadFault}
+use Rattle.tesla_capture.specs.declared.record.Told.{Told}
+use Rattle.tesla_capture.specs.declared.record.Told.TheVariants as told
 
 -- a reader: the bytes that it has read and not taken as records yet, how many it has taken, and whether it goes on
-pub record Progress : Type 0 where
-  pub pending : List ℕ
-  pub place : ℕ
-  pub going : Bool
-
--- the bytes that were read and not taken as records yet
-abbrev pub pending : Progress → List ℕ
-pending reader = reader.pending
-
--- what isn't taken yet: what a reader has pending, and then what its source has left
-abbrev pub ahead : Progress → Option (List ℕ) → Option (List ℕ)
-ahead reader left = after_bytes (pending reader) left
+abbrev pub Progress : Type 0
+Progress = files.Progress (Unit {0})
 
 -- the next record was given; now is the place after it, and all that stands there is left
 abbrev pub GivesRecord : (G : Grammar) → G.Record → ℕ → List ℕ → ℕ → Option (List ℕ) → Type 0
-GivesRecord G given place rest now left =
-    (after : List ℕ) × (left ≡ Some after) × (next_at G place rest ≡ Recorded given now after)
+GivesRecord G given place rest now left = files.GivesRecord (file_of G) given place rest now left
 
 -- no record was taken on the way to the place now: the rest stands there as it was, or the head before it was taken
 abbrev pub TakesNoRecord : Grammar → ℕ → List ℕ → ℕ → List ℕ → Type 0
-TakesNoRecord G place rest now after = ((now ≡ place) × (after ≡ rest)) ⊎ ((place ≡ 0) × (now ≡ 5) × (rest ≡ G.head ++ after))
+TakesNoRecord G place rest now after = files.TakesNoRecord (file_of G) place rest now after
 
 -- no record was taken, and all that stands at the place now is left, but for its first bytes where so many were dropped
 abbrev pub LeavesFrom : Grammar → ℕ → ℕ → List ℕ → ℕ → Option (List ℕ) → Type 0
-LeavesFrom G dropped place rest now left = (after : List ℕ) × (left ≡ Some (drop dropped after)) × TakesNoRecord G place rest now after
+LeavesFrom G dropped place rest now left = files.LeavesFrom (file_of G) dropped place rest now left
 
--- what a step says of the rest that wasn't taken yet at a place, and what it leaves of it
+-- what a step says of the rest that wasn't taken yet at a place, and what it leaves of it, told the bytes of the room
 abbrev pub Gives : Grammar → RecordStep → ℕ → List ℕ → ℕ → Option (List ℕ) → List ℕ → Type 0
 Gives G (Carrying reading length) place rest now left into = GivesRecord G (G.carrying reading (take length into)) place rest now left
 Gives G (Bare reading) place rest now left into = GivesRecord G (G.bare reading) place rest now left
 Gives G End place rest now left into = (next_at G place rest ≡ AtEnd) × (left ≡ Some [])
-Gives G (Refused at kind) place rest now left into = (next_at G place rest ≡ Refuses at kind) × LeavesFrom G (dropped_by at kind) place rest at left
+Gives G (Refused at kind) place rest now left into =
+    (next_at G place rest ≡ Refuses at (refusal_of kind)) × LeavesFrom G (dropped_by at (refusal_of kind)) place rest at left
 Gives G ReadFault place rest now left into = LeavesFrom G 0 place rest now left
 
 -- the place of a refusal: the file's for its head, else that of the record
@@ -69,3 +66,29 @@ goes_on (Bare reading) = true
 goes_on End = false
 goes_on (Refused at kind) = false
 goes_on ReadFault = false
+
+-- ---- as a step of a reader of files of records
+
+-- the record that is told, whose bytes the room holds
+abbrev pub record_told : (G : Grammar) → Told → List ℕ → G.Record
+record_told G (told.Carrying reading length) into = G.carrying reading (take length into)
+record_told G (told.Bare reading) into = G.bare reading
+
+-- how many bytes are told
+abbrev pub length_told : Told → ℕ
+length_told (told.Carrying reading length) = length
+length_told (told.Bare reading) = 0
+
+-- a room holds the bytes that are told, and what is behind them stayed as it was
+pub record HoldsTold (G : Grammar) (told : Told) (before after : List ℕ) : Type 0 where
+  pub few : length_told told ≤ G.longest
+  pub there : length_told told ≤ length after
+  pub behind : drop (length_told told) after ≡ drop (length_told told) before
+
+-- the step that is answered
+abbrev pub step_as : RecordsStep RecordFault Told → RecordStep
+step_as (records.Record (told.Carrying reading length)) = Carrying reading length
+step_as (records.Record (told.Bare reading)) = Bare reading
+step_as records.End = End
+step_as (records.Refused at refusal) = Refused at (kind_of refusal)
+step_as records.ReadFault = ReadFault

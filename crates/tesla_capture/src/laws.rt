@@ -6,8 +6,11 @@ ghost use Rattle.tesla_desk.specs.Outside.{after_bytes};
 ghost use Rattle.tesla_capture.specs.Grammar.{IsFile};
 ghost use Rattle.tesla_capture.specs.Capture.{Record, IsCapture, capture};
 ghost use Rattle.tesla_capture.specs.Script.{Record as ScriptRecord, IsScript, script};
-ghost use Rattle.tesla_capture.specs.Outline.{AtEnd, Recorded, Refuses, outline_of};
+ghost use Rattle.tesla_capture.specs.Outline.{outline_of};
 ghost use Rattle.tesla_capture.specs.Records as files;
+ghost use Rattle.tesla_capture.specs.Records.{AtEnd, Recorded, Refuses, kind_of};
+ghost use Rattle.tesla_records.specs.declared.refusal.Refusal.{Refusal};
+ghost use Rattle.tesla_capture.specs.declared.record.RecordFault.{RecordFault};
 ghost use Rattle.tesla_capture.specs.Refused.{IsRefused};
 ghost use Rattle.tesla_capture.specs.Steps.{GivesRecord, LeavesFrom, TakesNoRecord};
 ghost use Rattle.tesla_capture.specs.Found.{AwaitsAt};
@@ -36,7 +39,7 @@ pub fn file_outlines<F: Format>()
     // A record comes before those after it.
     ensures one { (place now : ℕ) (rest after : List ℕ) (first : F.grammar.Record) → files.next_at F.grammar place rest ≡ Recorded first now after → files.outline_at F.grammar place rest ≡ files.with_record first (files.outline_at F.grammar now after) }
     // A refused place ends the records.
-    ensures refused { (place at : ℕ) (rest : List ℕ) (kind : RecordKind) → files.next_at F.grammar place rest ≡ Refuses at kind → files.outline_at F.grammar place rest ≡ record { records = []; fault = Some (at, kind) } }
+    ensures refused { (place at : ℕ) (rest : List ℕ) (refusal : Refusal RecordFault) → files.next_at F.grammar place rest ≡ Refuses at refusal → files.outline_at F.grammar place rest ≡ record { records = []; fault = Some (at, kind_of refusal) } }
 {}
 
 /// The records that are taken from a file step by step, and what was read of it where a read fails.

@@ -2,10 +2,10 @@
 #![tactic(auto)]
 
 mod format;
-mod found;
 mod gathering;
+mod judging;
+mod kinds;
 pub mod laws;
-mod pieces;
 mod reader;
 mod record;
 mod record_reader;
@@ -22,8 +22,8 @@ pub use script::ScriptReader;
 pub use sizes::{LONGEST_DATAGRAM, LONGEST_PAYLOAD};
 pub use tesla_base::Head;
 pub use writing::{
-    write_arrival, write_disclose, write_head, write_message, write_record, write_script_head,
-    write_take,
+    head_bytes, write_arrival, write_disclose, write_head, write_message, write_record,
+    write_script_head, write_take,
 };
 
 #[cfg(test)]

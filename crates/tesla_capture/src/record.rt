@@ -1,10 +1,28 @@
 //! What reading the next record of a file answers.
 
-ghost use Rattle.std.specs.Prelude.{Some};
+ghost use Rattle.std.specs.Prelude.{◌≡◌, Some};
 ghost use Rattle.tesla_capture.specs.Names.{kind_name};
 
 use std::fmt;
 use tesla_base::Kind;
+
+/// Why no record begins with some bytes.
+#[derive(Clone, Copy, Debug, PartialEq, Eq)]
+pub enum RecordFault {
+    /// The first of them is neither 1 nor 2.
+    BadKind,
+    /// A length is above its limit.
+    TooLong,
+}
+
+/// What a reader of files of records tells of a record beside the bytes that the room holds.
+#[derive(Clone, Copy)]
+pub enum Told {
+    /// A record of kind 1: its reading, and how many bytes it carries.
+    Carrying { reading: u64, length: u16 },
+    /// A record of kind 2: its reading, 0 where it has none.
+    Bare { reading: u64 },
+}
 
 /// Why a file is refused at a place. The texts are the names.
 #[derive(Clone, Copy, Debug, PartialEq, Eq)]

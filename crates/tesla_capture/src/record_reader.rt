@@ -1,31 +1,63 @@
-//! A file of records of one format, read from a source, record after record.
+//! A capture or a script read from a source, record after record.
 
-ghost use Rattle.std.specs.Prelude.{◌≡◌, ◌≤◌, [], List, ℕ, true, Some, drop, length};
+ghost use Rattle.std.specs.Prelude.{◌≡◌, ◌≤◌, [], List, ℕ, true, Some, drop};
 ghost use Rattle.tesla_desk.specs.Faults.{HasCause};
 ghost use Rattle.tesla_capture.specs.Grammar.{limit};
 ghost use Rattle.tesla_capture.specs.Found.{AwaitsAt};
-ghost use Rattle.tesla_capture.specs.Steps.{pending, ahead, Gives, Moves, length_given, goes_on};
+ghost use Rattle.tesla_capture.specs.Records.{kind_of};
+ghost use Rattle.tesla_capture.specs.Steps.{pending, ahead, Gives, Moves, length_given, goes_on, step_as};
 
 use crate::format::Format;
-use crate::pieces::PieceReader;
-use crate::record::RecordStep;
-use std::marker::{Model, PhantomData};
+use crate::kinds::FileFormat;
+use crate::record::{RecordFault, RecordKind, RecordStep, Told};
+use crate::sizes::LONGEST_DATAGRAM;
+use std::marker::Model;
 use tesla_desk::Source;
+use tesla_records::{RecordsReader, RecordsStep, Refusal};
 
 /// Reads a file of at most 2^40 bytes in the format `F`. It holds at most 4,096 bytes that it has read ahead.
 #[derive(Drop)]
-pub struct RecordReader<F> {
-    records: PieceReader,
-    format: PhantomData<F>,
+pub struct RecordReader<F: Format> {
+    records: RecordsReader<FileFormat<F>>,
 }
 
-impl<F> Model for RecordReader<F> {
+impl<F: Format> Model for RecordReader<F> {
     ghost use Rattle.tesla_capture.specs.Steps.{Progress};
-    ghost use Rattle.tesla_capture.specs.Pieces.{progress};
 
     ghost Value = { Progress };
 
-    ghost view = { λ reader. progress reader.records };
+    ghost view = { λ reader. reader.records };
+}
+
+/// The kind of a refusal.
+fn kind_of(refusal: Refusal<RecordFault>) -> RecordKind
+    ensures { result ≡ kind_of refusal }
+{
+    match refusal {
+        Refusal::BadHead => RecordKind::BadHead,
+        Refusal::Truncated => RecordKind::Truncated,
+        Refusal::TooLarge => RecordKind::TooLarge,
+        Refusal::BadRecord(RecordFault::BadKind) => RecordKind::BadKind,
+        Refusal::BadRecord(RecordFault::TooLong) => RecordKind::TooLong,
+    }
+}
+
+/// The step that is answered.
+pub fn step_as(step: RecordsStep<RecordFault, Told>) -> RecordStep
+    ensures { result ≡ step_as step }
+{
+    match step {
+        RecordsStep::Record(Told::Carrying { reading, length }) => {
+            RecordStep::Carrying { reading, length }
+        }
+        RecordsStep::Record(Told::Bare { reading }) => RecordStep::Bare { reading },
+        RecordsStep::End => RecordStep::End,
+        RecordsStep::Refused { place, refusal } => RecordStep::Refused {
+            place,
+            kind: kind_of(refusal),
+        },
+        RecordsStep::ReadFault => RecordStep::ReadFault,
+    }
 }
 
 impl<F: Format> RecordReader<F> {
@@ -36,19 +68,7 @@ impl<F: Format> RecordReader<F> {
         ensures going { result.going ≡ true }
     {
         RecordReader {
-            records: PieceReader::at(0),
-            format: PhantomData,
-        }
-    }
-
-    /// A reader that has nothing pending at a place.
-    #[cfg(test)]
-    pub(crate) fn at(place: u64) -> RecordReader<F>
-        requires { place ≤ limit }
-    {
-        RecordReader {
-            records: PieceReader::at(place),
-            format: PhantomData,
+            records: RecordsReader::new(),
         }
     }
 
@@ -80,9 +100,12 @@ impl<F: Format> RecordReader<F> {
     /// that the file goes on behind the limit. After `ReadFault` it is all that was ahead, less the head
     /// where that was taken, as `place` tells, and what is pending holds neither a whole record nor a refused
     /// place. The bytes of `into` behind those of the record stay as they were.
-    pub fn next_record<S: Source>(&mut self, source: &mut S, into: &mut [u8]) -> RecordStep
+    pub fn next_record<S: Source>(
+        &mut self,
+        source: &mut S,
+        into: &mut [u8; LONGEST_DATAGRAM],
+    ) -> RecordStep
         requires going { self.old.going ≡ true }
-        requires room { F.grammar.longest ≤ length into.old }
         ensures gives { (rest : List ℕ) → ahead self.old (S.left source.old) ≡ Some rest → Gives F.grammar result self.old.place rest self.new.place (ahead self.new (S.left source.new)) into.new }
         ensures moves { Moves F.grammar result self.old.place self.new.place }
         ensures behind { drop (length_given result) into.new ≡ drop (length_given result) into.old }
@@ -92,6 +115,6 @@ impl<F: Format> RecordReader<F> {
         ensures cause { HasCause (S.faults source.old) (S.faults source.new) (result ≡ RecordStep.ReadFault) }
         ensures name { S.name source.new ≡ S.name source.old }
     {
-        self.records.next::<F, S>(source, into)
+        step_as(self.records.next(source, into))
     }
 }

@@ -13,9 +13,6 @@ const CAPTURE: [u8; 30] = [
     1, 0x80, 0, 0, 0, 0, 0, 0, 0, 0, 0, // arrival
 ];
 
-/// How many bytes a capture has at most.
-const LIMIT: u64 = 1 << 40;
-
 /// Bytes that are given as they are asked for, at most so many at once, and whose reads fail after so many.
 #[derive(Drop)]
 struct Pieces<'a> {
@@ -23,7 +20,6 @@ struct Pieces<'a> {
     most: usize,
     before_fault: usize,
     calls: u64,
-    asked: usize,
     faults: u64,
     ghost some: { 0 < most },
 }
@@ -35,7 +31,6 @@ impl<'a> Pieces<'a> {
             most: usize::MAX,
             before_fault: usize::MAX,
             calls: 0,
-            asked: 0,
             faults: 0,
         }
     }
@@ -50,7 +45,6 @@ impl<'a> Source for Pieces<'a> {
 
     fn read(&mut self, into: &mut [u8]) -> ReadStep {
         self.calls = self.calls.saturating_add(1);
-        self.asked = self.asked.saturating_add(into.len());
         if self.before_fault == 0 {
             self.faults = self.faults.saturating_add(1);
             return ReadStep::Failed;
@@ -194,68 +188,6 @@ fn few_reads(rt: HostRuntime) {
     let mut source = Pieces::new(&bytes);
     assert_eq!(rt; step_after(&mut source, 3), Step::End);
     assert!(rt; source.calls <= 3);
-}
-
-/// The last of so many steps from a place on that is so far before the limit, and how many bytes the
-/// source was asked for.
-fn step_before_limit(gap: u64, count: usize, bytes: &[u8]) -> (Step, usize) {
-    let mut source = Pieces::new(bytes);
-    let mut reader = Reader::at(LIMIT.saturating_sub(gap));
-    let mut into = [0; LONGEST_DATAGRAM];
-    let mut step = Step::End;
-    for _ in 0..count {
-        if reader.going() {
-            step = reader.next(&mut source, &mut into);
-        }
-    }
-    (step, source.asked)
-}
-
-#[test]
-fn the_limit(rt: HostRuntime) {
-    let arrival = &CAPTURE[19..];
-    let whole = Step::Arrival {
-        reading: 1 << 63,
-        length: 0,
-    };
-    for (gap, count, bytes, want, asked) in [
-        // A take that ends there, and then the end of the file or one byte more.
-        (1, 2, [2].as_slice(), Step::End, 2),
-        (
-            1,
-            2,
-            [2, 2].as_slice(),
-            refused(LIMIT, RecordKind::TooLarge),
-            2,
-        ),
-        // Arrivals that end there, or behind it.
-        (11, 1, arrival, whole, 11),
-        (11, 2, arrival, Step::End, 12),
-        (
-            10,
-            1,
-            arrival,
-            refused(LIMIT - 10, RecordKind::TooLarge),
-            10,
-        ),
-        // A file that ends there within a record, or before.
-        (
-            6,
-            1,
-            &arrival[..6],
-            refused(LIMIT - 6, RecordKind::TooLarge),
-            6,
-        ),
-        (
-            6,
-            1,
-            &arrival[..5],
-            refused(LIMIT - 6, RecordKind::Truncated),
-            7,
-        ),
-    ] {
-        assert_eq!(rt; step_before_limit(gap, count, bytes), (want, asked));
-    }
 }
 
 mod scripts;

@@ -26,8 +26,8 @@ fn write_both<S: Sink>(sink: &mut S, front: &[u8], back: &[u8]) -> bool
     write_all(sink, back)
 }
 
-/// The fields of a record of a released packet before its payload.
-pub(crate) fn head_bytes(head: &Head) -> [u8; RELEASE_HEAD_SIZE]
+/// The fields of a record of a released packet before its payload, of 17 bytes. It takes no memory.
+pub fn head_bytes(head: &Head) -> [u8; RELEASE_HEAD_SIZE]
     ensures { result ≡ head_text head.now }
 {
     let mut bytes = [0; RELEASE_HEAD_SIZE];

@@ -4,10 +4,10 @@ use Rattle.tesla_capture.specs.Gathering.{Gathers}
 use Rattle.tesla_capture.specs.Grammar.{Grammar}
 use Rattle.tesla_capture.specs.Formats.{IsGrammar}
 use Rattle.tesla_capture.specs.Found.{AwaitsAt}
-use Rattle.tesla_capture.specs.Records.{AtEnd, Outline, Recorded, Refuses, next_at, outline_at, outline_of, record_place, with_record, with_records}
+use Rattle.tesla_capture.specs.Records.{AtEnd, Outline, Recorded, Refuses, next_at, outline_at, outline_of, record_place, refusal_of, with_record, with_records}
 use Rattle.tesla_capture.specs.Steps.{GivesRecord, LeavesFrom}
 use Rattle.tesla_capture.specs.declared.record.RecordKind.{RecordKind}
-use Rattle.tesla_capture.proofs.OutlineStep.{one_step}
+use Rattle.tesla_capture.proofs.OutlineStep.{one_refused, one_step}
 use Rattle.tesla_capture.proofs.Taken.{fault_taken, given_taken, none_taken, taken_outline}
 use Rattle.tesla_desk.specs.Outside.{AppendsPrefix, after_bytes, with_bytes}
 use Rattle.tesla_desk.proofs.Told.{prefix_whole}
@@ -75,9 +75,9 @@ module _ (G : Grammar) (is : IsGrammar G) (Kind : Type 0) (rule : Rule G Kind) w
       }
 
   -- a place of the file is refused
-  pub at_refused : (Has : List G.Record → Type 0) (bytes : List ℕ) (place : ℕ) (ahead written : Option (List ℕ)) (held : List ℕ) (refused : ℕ) (kind : RecordKind) (name : Kind) → (at : IsAt G Kind rule Has bytes place ahead written held) → next_at G place at.rest ≡ Refuses refused kind → name ≡ rule.kind_of kind → IsMade G Kind rule (Some (refused, name)) bytes written held
+  pub at_refused : (Has : List G.Record → Type 0) (bytes : List ℕ) (place : ℕ) (ahead written : Option (List ℕ)) (held : List ℕ) (refused : ℕ) (kind : RecordKind) (name : Kind) → (at : IsAt G Kind rule Has bytes place ahead written held) → next_at G place at.rest ≡ Refuses refused (refusal_of kind) → name ≡ rule.kind_of kind → IsMade G Kind rule (Some (refused, name)) bytes written held
   at_refused Has bytes place ahead written held refused kind name at next named =
-      let outline = one_step G is place at.rest (Refuses refused kind) next in
+      let outline = one_refused G is place at.rest refused kind next in
       let whole = made_here Has bytes place ahead written held at (record { records = []; fault = Some (refused, kind) }) outline in
       record {
         refused_is = ap (λ (m : Made Kind). m.refused) whole ∙ ap (λ (k : Kind). Some (refused, k)) (sym named);
@@ -114,7 +114,7 @@ module _ (G : Grammar) (is : IsGrammar G) (Kind : Type 0) (rule : Rule G Kind) w
   front_next : (Had : List G.Record → Type 0) (bytes : List ℕ) (place now : ℕ) (ahead left before written : Option (List ℕ)) (held : List ℕ) (first : G.Record)
       → (at : IsAt G Kind rule Had bytes place ahead before held) (gives : GivesRecord G first place at.rest now left) → rule.refuses at.records first ≡ None → AppendsPrefix before written (held ++ rule.adds at.records first) → HoldsPrefix written [] (made G Kind rule bytes).text
   front_next Had bytes place now ahead left before written held first at gives passes appends =
-      let next = next_place G place now at.rest gives.0 first gives.2 in
+      let next = next_place G is place now at.rest left first gives in
       let others = outline_at G now gives.0 in
       let outline : outline_at G place at.rest ≡ with_record first others = one_step G is place at.rest (Recorded first now gives.0) gives.2 in
       let behind = made_of G Kind rule (behind_of G Kind rule others.fault) (record_place now) (at.records ++ first ∷ []) others.records in
@@ -130,7 +130,7 @@ module _ (G : Grammar) (is : IsGrammar G) (Kind : Type 0) (rule : Rule G Kind) w
       → (at : IsAt G Kind rule Had bytes place ahead before held) (gives : GivesRecord G first place at.rest now left) → Answers G rule Has at.records first converted before written held rest
       → StepsTo G Kind rule Has (ending_at (record_place place) converted) bytes now left rest_left written rest
   next_by Had Has bytes place now ahead left rest_left before written held rest first Whole at gives (passes, has, gathers) =
-      let next = next_place G place now at.rest gives.0 first gives.2 in
+      let next = next_place G is place now at.rest left first gives in
       record {
         records = at.records ++ first ∷ [];
         rest = gives.0;
@@ -145,7 +145,7 @@ module _ (G : Grammar) (is : IsGrammar G) (Kind : Type 0) (rule : Rule G Kind) w
         holds = λ done told. holds_more before written held rest (rule.begins ++ at.text) (rule.adds at.records first) at.holds gathers done told ∙ append_assoc rule.begins at.text (rule.adds at.records first);
       }
   next_by Had Has bytes place now ahead left rest_left before written held rest first (Refused kind) at gives (refuses, same, kept) =
-      let next = next_place G place now at.rest gives.0 first gives.2 in
+      let next = next_place G is place now at.rest left first gives in
       let others = outline_at G now gives.0 in
       let outline : outline_at G place at.rest ≡ with_record first others = one_step G is place at.rest (Recorded first now gives.0) gives.2 in
       let whole : made G Kind rule bytes ≡ record { text = (rule.begins ++ at.text) ++ []; refused = Some (record_place place, kind) } =

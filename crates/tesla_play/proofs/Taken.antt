@@ -6,11 +6,11 @@ use Rattle.tesla_desk.specs.Clocks.{Gives, Ticking}
 use Rattle.tesla_capture.specs.Capture.{Record, Arrives, Takes, capture}
 use Rattle.tesla_capture.specs.Formats.{capture_is}
 use Rattle.tesla_capture.specs.Found.{AwaitsAt}
-use Rattle.tesla_capture.specs.Records.{AtEnd, Outline, Refuses, next_at, outline_at, outline_of, record_place, with_records}
+use Rattle.tesla_capture.specs.Records.{AtEnd, Outline, Refuses, next_at, outline_at, outline_of, record_place, refusal_of, with_records}
 use Rattle.tesla_capture.specs.Reader.{GivesRecord}
 use Rattle.tesla_capture.specs.Steps.{LeavesFrom}
 use Rattle.tesla_capture.specs.declared.record.RecordKind.{RecordKind}
-use Rattle.tesla_capture.proofs.OutlineStep.{one_step}
+use Rattle.tesla_capture.proofs.OutlineStep.{one_refused, one_step}
 use Rattle.tesla_capture.proofs.Taken.{fault_taken, given_taken, none_taken, taken_outline}
 use Rattle.tesla_posts.specs.Posts.{PostSeen}
 use Rattle.tesla_play.specs.declared.playing.PlayEnd.TheVariants.{Ended, Refused, ReadFault, PostFault}
@@ -194,7 +194,7 @@ plays_ended count place left ahead later before after posts posts_now on ends = 
 }
 
 -- a place is refused
-pub plays_refused : (at : ℕ) (kind : RecordKind) (count place : ℕ) (left ahead later : Option (List ℕ)) (before after : Option Ticking) (posts posts_now : List PostSeen) → PlaysOn count place left ahead before after posts posts_now → ((rest : List ℕ) → ahead ≡ Some rest → next_at capture place rest ≡ Refuses at kind) → Plays (Refused at kind) left later before after posts posts_now
+pub plays_refused : (at : ℕ) (kind : RecordKind) (count place : ℕ) (left ahead later : Option (List ℕ)) (before after : Option Ticking) (posts posts_now : List PostSeen) → PlaysOn count place left ahead before after posts posts_now → ((rest : List ℕ) → ahead ≡ Some rest → next_at capture place rest ≡ Refuses at (refusal_of kind)) → Plays (Refused at kind) left later before after posts posts_now
 plays_refused at kind count place left ahead later before after posts posts_now on refuses = record {
   played = on.played;
   limits = on.limits;
@@ -204,7 +204,7 @@ plays_refused at kind count place left ahead later before after posts posts_now 
   posts_are = on.posts_are;
   count = tt;
   file = λ bytes is.
-      let to = on.file bytes is in played_all bytes on.played place ahead (Some (at, kind)) to (one_step capture capture_is place to.rest (Refuses at kind) (refuses to.rest to.ahead_is));
+      let to = on.file bytes is in played_all bytes on.played place ahead (Some (at, kind)) to (one_refused capture capture_is place to.rest at kind (refuses to.rest to.ahead_is));
 }
 
 -- a read failed

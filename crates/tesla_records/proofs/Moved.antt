@@ -36,12 +36,12 @@ module _ (G : Grammar) where
   place_head (BadRecord kind) at some is = is ∙ record_place_is G.head_size some
 
   -- a step behind the head is one from place 0 on
-  pub moves_head : {K : Type 0} (given : G.Record) (step : RecordsStep K) (now : ℕ) → 0 < G.head_size → Moves G given step G.head_size now → Moves G given step 0 now
-  moves_head given Record now some (moved, limits) = (moved ∙ ap (λ (k : ℕ). k + length (G.record_text given)) (record_place_is G.head_size some), limits)
-  moves_head given End now some moved = moved ∙ record_place_is G.head_size some
-  moves_head given (Refused at refusal) now some (moved, is) = (moved, place_head refusal at some is)
-  moves_head given ReadFault now some (inl moved) = inr moved
-  moves_head given ReadFault now some (inr moved) = inr (moved ∙ record_place_is G.head_size some)
+  pub moves_head : {K T : Type 0} (show : T → G.Record) (step : RecordsStep K T) (now : ℕ) → 0 < G.head_size → Moves G show step G.head_size now → Moves G show step 0 now
+  moves_head show (Record taken) now some (moved, limits) = (moved ∙ ap (λ (k : ℕ). k + length (G.record_text (show taken))) (record_place_is G.head_size some), limits)
+  moves_head show End now some moved = moved ∙ record_place_is G.head_size some
+  moves_head show (Refused at refusal) now some (moved, is) = (moved, place_head refusal at some is)
+  moves_head show ReadFault now some (inl moved) = inr moved
+  moves_head show ReadFault now some (inr moved) = inr (moved ∙ record_place_is G.head_size some)
 
   -- behind the head nothing is read of it
   pub heads_kept : (place at : ℕ) (before now : Option G.Head) → 0 < place → now ≡ before → MovesHead G place before at now

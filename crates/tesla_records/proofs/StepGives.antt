@@ -95,13 +95,13 @@ module _ (G : Grammar) where
   takes_from now rest after left head some limits parts (inr taken) = absurd (let none = taken.0 in omega arith)
 
   -- what comes next behind the head comes next in the file
-  gives_from : {K : Type 0} (kind_of : K → G.Kind) (step : RecordsStep K) (now : ℕ) (rest after : List ℕ) (head : G.Head) (given : G.Record) (left : Option (List ℕ)) → 0 < G.head_size → G.IsHead head → rest ≡ G.head_text head ++ after → next_at G 0 rest ≡ next_at G G.head_size after
-      → Gives G kind_of given step G.head_size after now left → Gives G kind_of given step 0 rest now left
-  gives_from kind_of steps.Record now rest after head given left some limits parts e (more, told, next, within, stands) =
-      (more, told, e ∙ next, within, (head, limits, parts ∙ ap (λ (r : List ℕ). G.head_text head ++ r) (stands_front given G.head_size after more some stands)))
-  gives_from kind_of steps.End now rest after head given left some limits parts e (next, told) = (e ∙ next, told)
-  gives_from kind_of (steps.Refused at refusal) now rest after head given left some limits parts e (next, (more, told, none)) = (e ∙ next, (more, told, takes_from at rest after more head some limits parts none))
-  gives_from kind_of steps.ReadFault now rest after head given left some limits parts e (more, told, none) = (more, told, takes_from now rest after more head some limits parts none)
+  gives_from : {K T : Type 0} (kind_of : K → G.Kind) (step : RecordsStep K T) (now : ℕ) (rest after : List ℕ) (head : G.Head) (show : T → G.Record) (left : Option (List ℕ)) → 0 < G.head_size → G.IsHead head → rest ≡ G.head_text head ++ after → next_at G 0 rest ≡ next_at G G.head_size after
+      → Gives G kind_of show step G.head_size after now left → Gives G kind_of show step 0 rest now left
+  gives_from kind_of (steps.Record taken) now rest after head show left some limits parts e (more, told, next, within, stands) =
+      (more, told, e ∙ next, within, (head, limits, parts ∙ ap (λ (r : List ℕ). G.head_text head ++ r) (stands_front (show taken) G.head_size after more some stands)))
+  gives_from kind_of steps.End now rest after head show left some limits parts e (next, told) = (e ∙ next, told)
+  gives_from kind_of (steps.Refused at refusal) now rest after head show left some limits parts e (next, (more, told, none)) = (e ∙ next, (more, told, takes_from at rest after more head some limits parts none))
+  gives_from kind_of steps.ReadFault now rest after head show left some limits parts e (more, told, none) = (more, told, takes_from now rest after more head some limits parts none)
 
 module _ (G : Grammar) (is : IsGrammar G) where
   -- the record that is pending is within its limits, and is all of its bytes
@@ -122,14 +122,14 @@ module _ (G : Grammar) (is : IsGrammar G) where
   head_before rest head fits e = text_before G G.head_size rest (G.head_text head) ((is.head_is rest [] head e).1 fits)
 
   -- what was found behind the head is given from place 0 on
-  pub head_gives : {H K : Type 0} (head_of : H → G.Head) (kind_of : K → G.Kind) (step : RecordsStep K) (head : H) (place now : ℕ) (bytes pending rest : List ℕ) (given : G.Record) (left final : Option (List ℕ)) → FindsHead G head_of (heads.Whole head) bytes rest left → G.IsHead (head_of head) → G.head_front bytes ≡ HeadIs (head_of head) → take G.head_size bytes ≡ G.head_text (head_of head) → pending ≡ drop G.head_size bytes → place ≡ G.head_size
-      → ((after : List ℕ) → after_bytes pending left ≡ Some after → Gives G kind_of given step place after now final) → Gives G kind_of given step 0 rest now final
-  head_gives head_of kind_of step head place now bytes pending rest given left final (told, e) limits whole spelled is_pending at gives =
+  pub head_gives : {H K T : Type 0} (head_of : H → G.Head) (kind_of : K → G.Kind) (step : RecordsStep K T) (head : H) (place now : ℕ) (bytes pending rest : List ℕ) (show : T → G.Record) (left final : Option (List ℕ)) → FindsHead G head_of (heads.Whole head) bytes rest left → G.IsHead (head_of head) → G.head_front bytes ≡ HeadIs (head_of head) → take G.head_size bytes ≡ G.head_text (head_of head) → pending ≡ drop G.head_size bytes → place ≡ G.head_size
+      → ((after : List ℕ) → after_bytes pending left ≡ Some after → Gives G kind_of show step place after now final) → Gives G kind_of show step 0 rest now final
+  head_gives head_of kind_of step head place now bytes pending rest show left final (told, e) limits whole spelled is_pending at gives =
       let fits = (is.head_is bytes [] (head_of head) whole).2 in
       let more = after_bytes_some bytes left rest e in
       let after = drop G.head_size rest in
       let parts : after ≡ drop G.head_size bytes ++ more.0 = ap (drop G.head_size) more.2 ∙ drop-append-le G.head_size bytes more.0 fits in
       let text : take G.head_size rest ≡ G.head_text (head_of head) = ap (take G.head_size) more.2 ∙ take-append-le G.head_size bytes more.0 fits ∙ spelled in
-      gives_from G kind_of step now rest after (head_of head) given final (head_some G is) limits (text_before G G.head_size rest (G.head_text (head_of head)) text) (next_head G rest (head_of head) (head_some G is) told)
-      (subst (λ (p : ℕ). Gives G kind_of given step p after now final) at
+      gives_from G kind_of step now rest after (head_of head) show final (head_some G is) limits (text_before G G.head_size rest (G.head_text (head_of head)) text) (next_head G rest (head_of head) (head_some G is) told)
+      (subst (λ (p : ℕ). Gives G kind_of show step p after now final) at
       (gives after (ap (after_bytes pending) more.1 ∙ ap (λ (p : List ℕ). Some (p ++ more.0)) is_pending ∙ ap (λ (r : List ℕ). Some r) (sym parts))))

@@ -6,3 +6,4 @@ pub mod Steps
 pub mod Pieces
 pub mod Taken
 pub mod Refused
+pub mod Sample

@@ -42,13 +42,13 @@ TakesNoRecord G place rest now after =
 abbrev pub LeavesFrom : Grammar → ℕ → ℕ → List ℕ → ℕ → Option (List ℕ) → Type 0
 LeavesFrom G dropped place rest now left = (after : List ℕ) × (left ≡ Some (drop dropped after)) × TakesNoRecord G place rest now after
 
--- what a step says of the rest that wasn't taken yet at a place, and what it leaves of it, told the record that the room holds then
-abbrev pub Gives : (G : Grammar) {K : Type 0} → (K → G.Kind) → G.Record → RecordsStep K → ℕ → List ℕ → ℕ → Option (List ℕ) → Type 0
-Gives G kind_of given Record place rest now left = GivesRecord G given place rest now left
-Gives G kind_of given End place rest now left = (next_at G place rest ≡ AtEnd) × (left ≡ Some [])
-Gives G kind_of given (Refused at refusal) place rest now left =
+-- what a step says of the rest that wasn't taken yet at a place, and what it leaves of it, told which record is the one that was given
+abbrev pub Gives : (G : Grammar) {K T : Type 0} → (K → G.Kind) → (T → G.Record) → RecordsStep K T → ℕ → List ℕ → ℕ → Option (List ℕ) → Type 0
+Gives G kind_of show (Record taken) place rest now left = GivesRecord G (show taken) place rest now left
+Gives G kind_of show End place rest now left = (next_at G place rest ≡ AtEnd) × (left ≡ Some [])
+Gives G kind_of show (Refused at refusal) place rest now left =
     (next_at G place rest ≡ Refuses at (refusal_by kind_of refusal)) × LeavesFrom G (dropped_by at refusal) place rest at left
-Gives G kind_of given ReadFault place rest now left = LeavesFrom G 0 place rest now left
+Gives G kind_of show ReadFault place rest now left = LeavesFrom G 0 place rest now left
 
 -- the place of a refusal: the file's for its head, else that of the record
 abbrev pub IsPlaceOf : Grammar → {K : Type 0} → Refusal K → ℕ → ℕ → Type 0
@@ -58,11 +58,11 @@ IsPlaceOf G TooLarge place at = at ≡ record_place G place
 IsPlaceOf G (BadRecord kind) place at = at ≡ record_place G place
 
 -- how a step moves the place; a record that was given is within its limits
-abbrev pub Moves : (G : Grammar) {K : Type 0} → G.Record → RecordsStep K → ℕ → ℕ → Type 0
-Moves G given Record place now = (now ≡ record_place G place + length (G.record_text given)) × G.IsRecord given
-Moves G given End place now = now ≡ record_place G place
-Moves G given (Refused at refusal) place now = (now ≡ at) × IsPlaceOf G refusal place at
-Moves G given ReadFault place now = (now ≡ place) ⊎ (now ≡ record_place G place)
+abbrev pub Moves : (G : Grammar) {K T : Type 0} → (T → G.Record) → RecordsStep K T → ℕ → ℕ → Type 0
+Moves G show (Record taken) place now = (now ≡ record_place G place + length (G.record_text (show taken))) × G.IsRecord (show taken)
+Moves G show End place now = now ≡ record_place G place
+Moves G show (Refused at refusal) place now = (now ≡ at) × IsPlaceOf G refusal place at
+Moves G show ReadFault place now = (now ≡ place) ⊎ (now ≡ record_place G place)
 
 -- how a step from a place to the place at moves what is known of the head: it was read on the way from place 0, and is within its limits
 pub record MovesHead (G : Grammar) (place : ℕ) (before : Option G.Head) (at : ℕ) (now : Option G.Head) : Type 0 where
@@ -76,12 +76,15 @@ abbrev pub ReadsHead : (G : Grammar) → ℕ → List ℕ → ℕ → Option G.H
 ReadsHead G place rest at now = place ≡ 0 → 0 < at → now ≡ head_told (G.head_front rest)
 
 -- a reader goes on after a record alone
-abbrev pub goes_on : {K : Type 0} → RecordsStep K → Bool
-goes_on Record = true
+abbrev pub goes_on : {K T : Type 0} → RecordsStep K T → Bool
+goes_on (Record taken) = true
 goes_on End = false
 goes_on (Refused at refusal) = false
 goes_on ReadFault = false
 
--- a step gave no record
-abbrev pub GivesNone : {K : Type 0} → RecordsStep K → Type 0
-GivesNone step = goes_on step ≡ false
+-- what a step does to the caller's room: without a record the room stays as it was
+abbrev pub Puts : {K T R : Type 0} → (T → R → R → Type 0) → RecordsStep K T → R → R → Type 0
+Puts fits (Record taken) before after = fits taken before after
+Puts fits End before after = after ≡ before
+Puts fits (Refused at refusal) before after = after ≡ before
+Puts fits ReadFault before after = after ≡ before

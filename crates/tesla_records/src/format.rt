@@ -39,15 +39,18 @@ pub trait Format {
     /// The caller's room for one record.
     type Room;
 
+    /// What the caller is told of a record beside its room.
+    type Taken: Copy;
+
     ghost head_of: { Self.Head → grammar.Head };
 
     ghost kind_of: { Self.Kind → grammar.Kind };
 
-    /// The record that a room holds.
-    ghost shown: { Self.Room → grammar.Record };
+    /// The record that the caller is told and its room holds.
+    ghost shown: { Self.Taken → Self.Room → grammar.Record };
 
-    /// What is so of a room after a record was put into it.
-    ghost fits: { Self.Room → Type 0 };
+    /// What is so of a room before and after the record was put into it that the caller is told.
+    ghost fits: { Self.Taken → Self.Room → Self.Room → Type 0 };
 
     /// How many bytes a head has.
     fn head_size() -> usize
@@ -62,10 +65,10 @@ pub trait Format {
         ensures { Judges grammar kind_of result bytes.now };
 
     /// Puts the record of these bytes into the room.
-    fn put(bytes: &[u8], room: &mut Self::Room)
+    fn put(bytes: &[u8], room: &mut Self::Room) -> Self::Taken
         requires { BeginsWhole grammar (length bytes.now) bytes.now }
-        ensures shown { (it : grammar.Record) → grammar.front bytes.now ≡ Whole it (length bytes.now) → shown room.new ≡ it }
-        ensures fits { fits room.new };
+        ensures shown { (it : grammar.Record) → grammar.front bytes.now ≡ Whole it (length bytes.now) → shown result room.new ≡ it }
+        ensures fits { fits result room.old room.new };
 
     ghost is: { IsGrammar grammar };
 }

@@ -13,3 +13,6 @@ pub use format::{Format, HeadJudged, Judged};
 pub use reader::RecordsReader;
 pub use refusal::Refusal;
 pub use step::RecordsStep;
+
+#[cfg(test)]
+mod tests;

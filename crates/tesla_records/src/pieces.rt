@@ -37,16 +37,17 @@ impl PieceReader {
     ghost use Rattle.tesla_records.specs.Pieces.{pending, ahead};
     ghost use Rattle.tesla_records.specs.Found.{Finds, IsPending, AwaitsRecord, FindsHead, HeadIsPending, ReadsOn};
 
-    /// A reader that has nothing pending at the front of a file.
-    pub fn new() -> PieceReader
+    /// A reader that has nothing pending at a place.
+    pub fn at(place: u64) -> PieceReader
+        requires { place ≤ limit }
         ensures pending { pending result ≡ [] }
-        ensures place { result.place ≡ 0 }
+        ensures place { result.place ≡ place }
     {
         PieceReader {
             piece: [0; PIECE],
             from: 0,
             until: 0,
-            place: 0,
+            place,
         }
     }
 

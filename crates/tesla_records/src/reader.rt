@@ -6,7 +6,7 @@ ghost use Rattle.tesla_desk.specs.Faults.{HasCause};
 ghost use Rattle.tesla_records.specs.Grammar.{limit, HeadIs, Whole};
 ghost use Rattle.tesla_records.specs.Judged.{BeginsWhole, TakesWhole};
 ghost use Rattle.tesla_records.specs.Found.{Finds, IsPending, AwaitsAt};
-ghost use Rattle.tesla_records.specs.Steps.{pending, ahead, Gives, Moves, MovesHead, ReadsHead, goes_on, GivesNone};
+ghost use Rattle.tesla_records.specs.Steps.{pending, ahead, Gives, Moves, MovesHead, ReadsHead, goes_on, Puts};
 
 use crate::format::Format;
 use crate::found::{Found, HeadFound};
@@ -42,7 +42,37 @@ impl<F: Format> RecordsReader<F> {
         ensures head { result.head ≡ None }
     {
         RecordsReader {
-            pieces: PieceReader::new(),
+            pieces: PieceReader::at(0),
+            going: true,
+            head: None,
+        }
+    }
+
+    /// A reader that has nothing pending at a place behind the head.
+    #[cfg(test)]
+    pub(crate) fn at(place: u64) -> RecordsReader<F>
+        requires { place ≤ limit }
+        ensures going { result.going ≡ true }
+    {
+        RecordsReader {
+            pieces: PieceReader::at(place),
+            going: true,
+            head: None,
+        }
+    }
+
+    /// A reader in another format of the same file, of which nothing was taken yet: what was read ahead is pending there.
+    /// After `BadHead` that is all of the file.
+    pub fn as_format<G: Format>(self) -> RecordsReader<G>
+        requires { self.place ≡ 0 }
+        ensures pending { pending result ≡ pending self }
+        ensures place { result.place ≡ 0 }
+        ensures going { result.going ≡ true }
+        ensures head { result.head ≡ None }
+    {
+        let pieces = self.pieces;
+        RecordsReader {
+            pieces,
             going: true,
             head: None,
         }
@@ -70,7 +100,7 @@ impl<F: Format> RecordsReader<F> {
         self.head
     }
 
-    /// The next record, which is put into the room, or why there is none. The source is
+    /// The next record, which is put into the room, with what is told beside it, or why there is none. The source is
     /// asked for more only while neither a whole record nor a refused place is pending, and for no byte
     /// behind the first 2^40 but the one that tells whether the file goes on there. It takes no memory.
     ///
@@ -83,14 +113,17 @@ impl<F: Format> RecordsReader<F> {
     /// that the file goes on behind the limit. After `ReadFault` it is all that was ahead, less the head
     /// where that was taken, as `place` tells, and what is pending holds neither a whole record nor a refused
     /// place. After anything but a record the room stays as it was.
-    pub fn next<S: Source>(&mut self, source: &mut S, room: &mut F::Room) -> RecordsStep<F::Kind>
+    pub fn next<S: Source>(
+        &mut self,
+        source: &mut S,
+        room: &mut F::Room,
+    ) -> RecordsStep<F::Kind, F::Taken>
         requires going { self.old.going ≡ true }
-        ensures gives { (rest : List ℕ) → ahead self.old (S.left source.old) ≡ Some rest → Gives F.grammar F.kind_of (F.shown room.new) result self.old.place rest self.new.place (ahead self.new (S.left source.new)) }
-        ensures moves { Moves F.grammar (F.shown room.new) result self.old.place self.new.place }
+        ensures gives { (rest : List ℕ) → ahead self.old (S.left source.old) ≡ Some rest → Gives F.grammar F.kind_of (λ taken. F.shown taken room.new) result self.old.place rest self.new.place (ahead self.new (S.left source.new)) }
+        ensures moves { Moves F.grammar (λ taken. F.shown taken room.new) result self.old.place self.new.place }
         ensures heads { MovesHead F.grammar self.old.place (option_map F.head_of self.old.head) self.new.place (option_map F.head_of self.new.head) }
         ensures head { (rest : List ℕ) → ahead self.old (S.left source.old) ≡ Some rest → ReadsHead F.grammar self.old.place rest self.new.place (option_map F.head_of self.new.head) }
-        ensures fits { result ≡ RecordsStep.Record → F.fits room.new }
-        ensures kept { GivesNone result → room.new ≡ room.old }
+        ensures room { Puts F.fits result room.old room.new }
         ensures limited { self.new.place ≤ limit }
         ensures goes { self.new.going ≡ goes_on result }
         ensures cut { result ≡ RecordsStep.ReadFault → AwaitsAt F.grammar self.new.place (pending self.new) }
@@ -98,7 +131,7 @@ impl<F: Format> RecordsReader<F> {
         ensures name { S.name source.new ≡ S.name source.old }
     {
         let step = self.step(source, room);
-        self.going = matches!(step, RecordsStep::Record);
+        self.going = matches!(step, RecordsStep::Record(_));
         self.is_limited();
         step
     }
@@ -111,13 +144,16 @@ impl<F: Format> RecordsReader<F> {
     }
 
     /// What `next` answers.
-    fn step<S: Source>(&mut self, source: &mut S, room: &mut F::Room) -> RecordsStep<F::Kind>
-        ensures gives { (rest : List ℕ) → ahead self.old (S.left source.old) ≡ Some rest → Gives F.grammar F.kind_of (F.shown room.new) result self.old.place rest self.new.place (ahead self.new (S.left source.new)) }
-        ensures moves { Moves F.grammar (F.shown room.new) result self.old.place self.new.place }
+    fn step<S: Source>(
+        &mut self,
+        source: &mut S,
+        room: &mut F::Room,
+    ) -> RecordsStep<F::Kind, F::Taken>
+        ensures gives { (rest : List ℕ) → ahead self.old (S.left source.old) ≡ Some rest → Gives F.grammar F.kind_of (λ taken. F.shown taken room.new) result self.old.place rest self.new.place (ahead self.new (S.left source.new)) }
+        ensures moves { Moves F.grammar (λ taken. F.shown taken room.new) result self.old.place self.new.place }
         ensures heads { MovesHead F.grammar self.old.place (option_map F.head_of self.old.head) self.new.place (option_map F.head_of self.new.head) }
         ensures head { (rest : List ℕ) → ahead self.old (S.left source.old) ≡ Some rest → ReadsHead F.grammar self.old.place rest self.new.place (option_map F.head_of self.new.head) }
-        ensures fits { result ≡ RecordsStep.Record → F.fits room.new }
-        ensures kept { GivesNone result → room.new ≡ room.old }
+        ensures room { Puts F.fits result room.old room.new }
         ensures cut { result ≡ RecordsStep.ReadFault → AwaitsAt F.grammar self.new.place (pending self.new) }
         ensures cause { HasCause (S.faults source.old) (S.faults source.new) (result ≡ RecordsStep.ReadFault) }
         ensures name { S.name source.new ≡ S.name source.old }
@@ -154,14 +190,17 @@ impl<F: Format> RecordsReader<F> {
     }
 
     /// What comes next after the head.
-    fn next_record<S: Source>(&mut self, source: &mut S, room: &mut F::Room) -> RecordsStep<F::Kind>
+    fn next_record<S: Source>(
+        &mut self,
+        source: &mut S,
+        room: &mut F::Room,
+    ) -> RecordsStep<F::Kind, F::Taken>
         requires placed { 0 < self.old.place }
-        ensures gives { (rest : List ℕ) → ahead self.old (S.left source.old) ≡ Some rest → Gives F.grammar F.kind_of (F.shown room.new) result self.old.place rest self.new.place (ahead self.new (S.left source.new)) }
-        ensures moves { Moves F.grammar (F.shown room.new) result self.old.place self.new.place }
+        ensures gives { (rest : List ℕ) → ahead self.old (S.left source.old) ≡ Some rest → Gives F.grammar F.kind_of (λ taken. F.shown taken room.new) result self.old.place rest self.new.place (ahead self.new (S.left source.new)) }
+        ensures moves { Moves F.grammar (λ taken. F.shown taken room.new) result self.old.place self.new.place }
         ensures onward { self.old.place ≤ self.new.place }
         ensures head { self.new.head ≡ self.old.head }
-        ensures fits { result ≡ RecordsStep.Record → F.fits room.new }
-        ensures kept { GivesNone result → room.new ≡ room.old }
+        ensures room { Puts F.fits result room.old room.new }
         ensures cut { result ≡ RecordsStep.ReadFault → AwaitsAt F.grammar self.new.place (pending self.new) }
         ensures cause { HasCause (S.faults source.old) (S.faults source.new) (result ≡ RecordsStep.ReadFault) }
         ensures name { S.name source.new ≡ S.name source.old }
@@ -171,23 +210,23 @@ impl<F: Format> RecordsReader<F> {
     }
 
     /// Takes the record that was found, or says why there is none.
-    fn take_record(&mut self, found: Found<F::Kind>, room: &mut F::Room) -> RecordsStep<F::Kind>
+    fn take_record(
+        &mut self,
+        found: Found<F::Kind>,
+        room: &mut F::Room,
+    ) -> RecordsStep<F::Kind, F::Taken>
         requires placed { 0 < self.old.place }
         requires whole { IsPending F.grammar found (pending self.old) }
-        ensures gives { (rest : List ℕ) (left : Option (List ℕ)) → Finds F.grammar F.kind_of found self.old.place (pending self.old) rest left → Gives F.grammar F.kind_of (F.shown room.new) result self.old.place rest self.new.place (ahead self.new left) }
-        ensures moves { Moves F.grammar (F.shown room.new) result self.old.place self.new.place }
+        ensures gives { (rest : List ℕ) (left : Option (List ℕ)) → Finds F.grammar F.kind_of found self.old.place (pending self.old) rest left → Gives F.grammar F.kind_of (λ taken. F.shown taken room.new) result self.old.place rest self.new.place (ahead self.new left) }
+        ensures moves { Moves F.grammar (λ taken. F.shown taken room.new) result self.old.place self.new.place }
         ensures onward { self.old.place ≤ self.new.place }
         ensures head { self.new.head ≡ self.old.head }
-        ensures fits { result ≡ RecordsStep.Record → F.fits room.new }
-        ensures room { GivesNone result → room.new ≡ room.old }
+        ensures room { Puts F.fits result room.old room.new }
         ensures failed { result ≡ RecordsStep.ReadFault ↔ (found ≡ Found.Failed) }
         ensures kept { result ≡ RecordsStep.ReadFault → self.new ≡ self.old }
     {
         match found {
-            Found::Record(size) => {
-                self.take_whole(size, room);
-                RecordsStep::Record
-            }
+            Found::Record(size) => { RecordsStep::Record(self.take_whole(size, room)) }
             Found::Refused(refusal) => RecordsStep::Refused {
                 place: self.place(),
                 refusal,
@@ -198,15 +237,16 @@ impl<F: Format> RecordsReader<F> {
     }
 
     /// Takes a whole record of so many bytes, which is put into the room.
-    fn take_whole(&mut self, size: usize, room: &mut F::Room)
+    fn take_whole(&mut self, size: usize, room: &mut F::Room) -> F::Taken
         requires { BeginsWhole F.grammar size (pending self.old) }
         ensures pending { pending self.new ≡ drop size (pending self.old) }
         ensures place { self.new.place ≡ self.old.place + size }
         ensures head { self.new.head ≡ self.old.head }
-        ensures fits { F.fits room.new }
-        ensures took { (it : F.grammar.Record) → F.grammar.front (pending self.old) ≡ Whole it size → TakesWhole F.grammar (pending self.old) it size (F.shown room.new) }
+        ensures fits { F.fits result room.old room.new }
+        ensures took { (it : F.grammar.Record) → F.grammar.front (pending self.old) ≡ Whole it size → TakesWhole F.grammar (pending self.old) it size (F.shown result room.new) }
     {
-        F::put(&self.pieces.pending()[..size], room);
+        let taken = F::put(&self.pieces.pending()[..size], room);
         self.pieces.advance(size);
+        taken
     }
 }

@@ -1,92 +1,17 @@
--- What is read of the heads and entries of traces is their one spelling, and what was told of some bytes stays so, whatever follows them.
-use Rattle.std.proofs.Common.{◌≡◌, ℕ, suc, ◌-◌, ◌<◌, ◌≤◌, Bool, true, false, eqb, leb, ◌&&◌, List, [], ◌∷◌, ◌++◌, length, take, refl, ap, subst, ◌∙◌, arith}
-use Rattle.std.specs.Prelude.{if◌then◌else◌, codes}
-use Rattle.std.proofs.lemmas.Bool.{eqb-true, eq-eqb, le-leb, leb-true, and_parts, and_from}
+-- What is read of the heads and entries of traces and of tails is their one spelling, and what was told of some bytes stays so, whatever follows them.
+use Rattle.std.proofs.Common.{◌≡◌, ℕ, ◌-◌, ◌<◌, ◌≤◌, ◌^◌, List, [], ◌∷◌, ◌++◌, length, take, refl, ap, subst, ◌∙◌, arith}
+use Rattle.std.specs.Prelude.{codes}
 use Rattle.std.proofs.lemmas.List.{length-append, take_at}
 use Rattle.tesla_base.specs.Front.{AreBytes}
-use Rattle.tesla_records.specs.Grammar.{Awaits, Whole, Bad, HeadFront, AwaitsHead, HeadIs, NoHead, IsGrammar}
+use Rattle.tesla_records.specs.Grammar.{Awaits, Whole, Bad, HeadFront, Grammar, IsGrammar}
 use Rattle.tesla_receiver.specs.declared.history.Entry.{Entry}
 use Rattle.tesla_trace.specs.declared.kind.EntryFault.{EntryFault}
-use Rattle.tesla_trace.specs.Front.{Part, Short, Wrong, Read, byte_part, entry_part, front_of, entry_front, head_behind, head_front}
-use Rattle.tesla_trace.specs.Grammar.{IsTraceEntry, trace}
-use Rattle.tesla_trace.specs.Trace.{entry_text}
+use Rattle.tesla_trace.specs.Front.{Part, Short, Wrong, Read, byte_part, entry_part, front_of, entry_front, ingests_front, head_front, first_front, tail_front}
+use Rattle.tesla_trace.specs.Grammar.{IsTraceEntry, tail, trace}
+use Rattle.tesla_trace.specs.Trace.{entry_text, tail_head, trace_head}
+use Rattle.tesla_trace.proofs.Heads.{AreHeads, magic_then, ingests_are, first_are}
 use Rattle.tesla_trace.proofs.Steady.{entry_steady, entry_by_steady}
 use Rattle.tesla_trace.proofs.Spelled.{entry_takes, entry_again}
-
--- ---- heads
-
--- the first bytes of each trace
-abbrev magic_text : List ℕ
-magic_text = codes "TTRC" ++ 1 ∷ []
-
-test_is : (t : Bool) (o : HeadFront ℕ) (n : ℕ) → (if t then o else NoHead) ≡ HeadIs n → (t ≡ true) × (o ≡ HeadIs n)
-test_is true o n e = (refl, e)
-test_is false o n e = absurd cc
-
-test_awaits : (t : Bool) (o : HeadFront ℕ) → (if t then o else NoHead) ≡ AwaitsHead → o ≡ AwaitsHead
-test_awaits true o e = e
-test_awaits false o e = absurd cc
-
-test_none : (t : Bool) (o later : HeadFront ℕ) → (o ≡ NoHead → later ≡ NoHead) → (if t then o else NoHead) ≡ NoHead → (if t then later else NoHead) ≡ NoHead
-test_none true o later h e = h e
-test_none false o later h e = refl
-
-never_awaits : (n : ℕ) → HeadIs n ≡ AwaitsHead → ⊥
-never_awaits n e = absurd cc
-
-same_head : (m n : ℕ) → HeadIs m ≡ HeadIs n → m ≡ n
-same_head m n e = cc
-
-head_awaits : (magic bytes : List ℕ) → head_behind magic bytes ≡ AwaitsHead → length bytes < suc (length magic)
-head_awaits [] [] e = omega arith
-head_awaits [] (n ∷ rest) e = absurd (never_awaits n (test_awaits (leb 1 n && leb n 32) (HeadIs n) e))
-head_awaits (wanted ∷ magic) [] e = omega arith
-head_awaits (wanted ∷ magic) (b ∷ bytes) e = let h = head_awaits magic bytes (test_awaits (eqb b wanted) (head_behind magic bytes) e) in omega (arith, h)
-
--- a whole head
-record IsWholeHead (magic bytes more : List ℕ) (n : ℕ) : Type 0 where
-  again : head_behind magic (bytes ++ more) ≡ HeadIs n
-  spelled : take (suc (length magic)) bytes ≡ magic ++ n ∷ []
-  there : suc (length magic) ≤ length bytes
-  some : 1 ≤ n
-  few : n ≤ 32
-
-head_whole : (magic bytes more : List ℕ) (n : ℕ) → head_behind magic bytes ≡ HeadIs n → IsWholeHead magic bytes more n
-head_whole [] [] more n e = absurd cc
-head_whole [] (m ∷ rest) more n e =
-    let t = test_is (leb 1 m && leb m 32) (HeadIs m) n e in
-    let same = same_head m n t.1 in
-    let both = and_parts (leb 1 m) (leb m 32) t.0 in
-    record {
-      again = e;
-      spelled = ap (λ (k : ℕ). k ∷ []) same;
-      there = omega arith;
-      some = omega (arith, same, leb-true 1 m both.0);
-      few = omega (arith, same, leb-true m 32 both.1);
-    }
-head_whole (wanted ∷ magic) [] more n e = absurd cc
-head_whole (wanted ∷ magic) (b ∷ bytes) more n e =
-    let t = test_is (eqb b wanted) (head_behind magic bytes) n e in
-    let h = head_whole magic bytes more n t.1 in
-    record {
-      again = ap (λ (c : Bool). if c then head_behind magic (bytes ++ more) else NoHead) t.0 ∙ h.again;
-      spelled = ap (λ (r : List ℕ). b ∷ r) h.spelled ∙ ap (λ (k : ℕ). k ∷ (magic ++ n ∷ [])) (eqb-true b wanted t.0);
-      there = let k = h.there in omega (arith, k);
-      some = h.some;
-      few = h.few;
-    }
-
-head_none : (magic bytes more : List ℕ) → head_behind magic bytes ≡ NoHead → head_behind magic (bytes ++ more) ≡ NoHead
-head_none [] [] more e = absurd cc
-head_none [] (n ∷ rest) more e = e
-head_none (wanted ∷ magic) [] more e = absurd cc
-head_none (wanted ∷ magic) (b ∷ bytes) more e =
-    test_none (eqb b wanted) (head_behind magic bytes) (head_behind magic (bytes ++ more)) (λ h. head_none magic bytes more h) e
-
-head_read : (magic more : List ℕ) (n : ℕ) → 1 ≤ n → n ≤ 32 → head_behind magic ((magic ++ n ∷ []) ++ more) ≡ HeadIs n
-head_read [] more n some few = ap (λ (c : Bool). if c then HeadIs n else NoHead) (and_from (leb 1 n) (leb n 32) (le-leb 1 n some) (le-leb n 32 few))
-head_read (wanted ∷ magic) more n some few =
-    ap (λ (c : Bool). if c then head_behind magic ((magic ++ n ∷ []) ++ more) else NoHead) (eq-eqb wanted wanted refl) ∙ head_read magic more n some few
 
 -- ---- entries
 
@@ -155,16 +80,31 @@ nothing : entry_front [] ≡ Awaits
 unfolding entry_front entry_part byte_part
 nothing = refl
 
-pub trace_is : IsGrammar trace
-unfolding head_front
-trace_is = record {
-  head_some = omega arith;
-  head_few = omega arith;
-  head_awaits = λ bytes e. head_awaits magic_text bytes e;
-  head_is = λ bytes more head e. let h = head_whole magic_text bytes more head e in (h.again, (λ are. h.spelled), h.there);
-  head_limits = λ bytes head are e. let h = head_whole magic_text bytes [] head e in (h.some, h.few);
-  head_none = λ bytes more e. head_none magic_text bytes more e;
-  head_read = λ head more fits. (head_read magic_text more head fits.0 fits.1, refl);
+-- a grammar of these heads, whose records are entries
+abbrev entries_behind : (ℕ → List ℕ) → (ℕ → Type 0) → ℕ → (List ℕ → HeadFront ℕ) → Grammar
+entries_behind text Is size front = record {
+  Head = ℕ;
+  head_text = text;
+  IsHead = Is;
+  head_size = size;
+  head_front = front;
+  Record = Entry;
+  record_text = entry_text;
+  IsRecord = IsTraceEntry;
+  longest = 2070;
+  Kind = EntryFault;
+  front = entry_front;
+}
+
+entries_are : (text : ℕ → List ℕ) (Is : ℕ → Type 0) (size : ℕ) (front : List ℕ → HeadFront ℕ) → 1 ≤ size → size < 4096 → AreHeads text Is size front → IsGrammar (entries_behind text Is size front)
+entries_are text Is size front some small heads = record {
+  head_some = some;
+  head_few = small;
+  head_awaits = heads.awaits;
+  head_is = heads.is;
+  head_limits = heads.limits;
+  head_none = heads.none;
+  head_read = heads.read;
   few = omega arith;
   none = nothing;
   awaits = entry_awaits;
@@ -173,3 +113,11 @@ trace_is = record {
   bad = entry_bad;
   read = entry_read;
 }
+
+pub trace_is : IsGrammar trace
+unfolding head_front
+trace_is = entries_are trace_head (λ ingests. (1 ≤ ingests) × (ingests ≤ 32)) 6 head_front (omega arith) (omega arith) (magic_then (codes "TTRC" ++ 1 ∷ []) _ _ 1 ingests_front ingests_are)
+
+pub tail_is : IsGrammar tail
+unfolding tail_front
+tail_is = entries_are tail_head (λ first. first < 2 ^ 64) 13 tail_front (omega arith) (omega arith) (magic_then (codes "TTAL" ++ 1 ∷ []) _ _ 8 first_front first_are)

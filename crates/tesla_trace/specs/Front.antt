@@ -166,17 +166,34 @@ front_of had (Read x) = Whole x.0 (had - length x.1)
 unfoldable pub entry_front : List ℕ → Front Entry EntryFault
 entry_front bytes = front_of (length bytes) (entry_part bytes)
 
+-- what bytes tell that have to begin with this one, told what those behind it tell
+abbrev pub byte_then : ℕ → (List ℕ → HeadFront ℕ) → List ℕ → HeadFront ℕ
+byte_then wanted behind [] = AwaitsHead
+byte_then wanted behind (byte ∷ rest) = if byte == wanted then behind rest else NoHead
+
+-- what bytes tell that have to begin with these
+abbrev pub head_behind : List ℕ → (List ℕ → HeadFront ℕ) → List ℕ → HeadFront ℕ
+head_behind [] behind = behind
+head_behind (wanted ∷ magic) behind = byte_then wanted (head_behind magic behind)
+
 -- a trace is of 1 to 32 ingests
-abbrev pub ingests_front : ℕ → HeadFront ℕ
-ingests_front n = if nat_le 1 n && nat_le n 32 then HeadIs n else NoHead
+abbrev pub ingests_front : List ℕ → HeadFront ℕ
+ingests_front [] = AwaitsHead
+ingests_front (n ∷ rest) = if nat_le 1 n && nat_le n 32 then HeadIs n else NoHead
 
--- what bytes tell that have to begin so, and then with a number of ingests
-abbrev pub head_behind : List ℕ → List ℕ → HeadFront ℕ
-head_behind [] [] = AwaitsHead
-head_behind [] (n ∷ rest) = ingests_front n
-head_behind (wanted ∷ magic) [] = AwaitsHead
-head_behind (wanted ∷ magic) (byte ∷ rest) = if byte == wanted then head_behind magic rest else NoHead
-
--- what the bytes that were read of a head tell
+-- what the bytes that were read of the head of a trace tell
 unfoldable pub head_front : List ℕ → HeadFront ℕ
-head_front bytes = head_behind (codes "TTRC" ++ 1 ∷ []) bytes
+head_front bytes = head_behind (codes "TTRC" ++ 1 ∷ []) ingests_front bytes
+
+-- a number that is there
+abbrev pub number_head : Option (ℕ × List ℕ) → HeadFront ℕ
+number_head None = AwaitsHead
+number_head (Some x) = HeadIs x.0
+
+-- a tail tells the number of its first entry
+abbrev pub first_front : List ℕ → HeadFront ℕ
+first_front bytes = number_head (number_front w64 bytes)
+
+-- what the bytes that were read of the head of a tail tell
+unfoldable pub tail_front : List ℕ → HeadFront ℕ
+tail_front bytes = head_behind (codes "TTAL" ++ 1 ∷ []) first_front bytes

@@ -1,4 +1,4 @@
--- The grammar of traces.
+-- The grammars of traces and of tails.
 use Rattle.std.specs.Prelude.{◌≡◌, ℕ, ◌<◌, ◌≤◌, ◌^◌, List, length, Some}
 use Rattle.tesla_base.specs.Front.{AreBytes}
 use Rattle.tesla_base.specs.declared.release.Head.{Head}
@@ -11,8 +11,8 @@ use Rattle.tesla_records.specs.Grammar.{Grammar, IsFile}
 use Rattle.tesla_state.specs.declared.replies.Reply.{Reply}
 use Rattle.tesla_state.specs.declared.replies.Reply.TheVariants.{Given, Empty, Over}
 use Rattle.tesla_trace.specs.declared.kind.EntryFault.{EntryFault}
-use Rattle.tesla_trace.specs.Front.{entry_front, head_front}
-use Rattle.tesla_trace.specs.Trace.{entry_text, trace_head}
+use Rattle.tesla_trace.specs.Front.{entry_front, head_front, tail_front}
+use Rattle.tesla_trace.specs.Trace.{entry_text, tail_head, trace_head}
 
 -- what a verdict tells is within its size
 abbrev pub VerdictFits : Verdict → Type 0
@@ -71,3 +71,23 @@ trace = record {
 -- the bytes spell a trace of so many ingests with this history
 abbrev pub IsTrace : List ℕ → ℕ → List Entry → Type 0
 IsTrace bytes ingests history = IsFile trace bytes ingests history
+
+-- the grammar of tails: a head tells how many entries stand before the first one
+abbrev pub tail : Grammar
+tail = record {
+  Head = ℕ;
+  head_text = tail_head;
+  IsHead = λ first. first < 2 ^ 64;
+  head_size = 13;
+  head_front = tail_front;
+  Record = Entry;
+  record_text = entry_text;
+  IsRecord = IsTraceEntry;
+  longest = 2070;
+  Kind = EntryFault;
+  front = entry_front;
+}
+
+-- the bytes spell the last entries of a history, before which so many stand
+abbrev pub IsTail : List ℕ → ℕ → List Entry → Type 0
+IsTail bytes first entries = IsFile tail bytes first entries

@@ -1,21 +1,25 @@
 //! What the bytes of a trace that were read tell, whatever follows them.
 
-ghost use Rattle.std.specs.Prelude.{◌≡◌, ◌≤◌, ℕ, length};
+ghost use Rattle.std.specs.Prelude.{◌≡◌, ◌≤◌, ℕ, List, [], length, true, false};
 ghost use Rattle.tesla_receiver.specs.declared.history.Entry.{Entry};
-ghost use Rattle.tesla_records.specs.Grammar.{Whole};
+ghost use Rattle.tesla_records.specs.Grammar.{Whole, HeadFront, AwaitsHead, NoHead};
 ghost use Rattle.tesla_records.specs.Judged.{Judges, JudgesHead, BeginsWhole};
 ghost use Rattle.tesla_trace.specs.Entries.{IsEntry, entry_in};
-ghost use Rattle.tesla_trace.specs.Front.{entry_front};
-ghost use Rattle.tesla_trace.specs.Grammar.{trace};
+ghost use Rattle.tesla_trace.specs.Front.{entry_front, head_behind};
+ghost use Rattle.tesla_trace.specs.Grammar.{tail, trace};
 
 use crate::entry::EntryBuffer;
 use crate::kind::EntryFault;
 use crate::parts::{Found, entry_of};
 use crate::view::put_view;
+use tesla_base::take_u64;
 use tesla_records::{HeadJudged, Judged};
 
 /// The first bytes of each trace: the magic, and version 1.
 const MAGIC: [u8; 5] = *b"TTRC\x01";
+
+/// The first bytes of each tail: the magic, and version 1.
+const TAIL_MAGIC: [u8; 5] = *b"TTAL\x01";
 
 /// How many ingests a receiver has at most.
 const MOST_INGESTS: u8 = 32;
@@ -27,7 +31,10 @@ pub fn judge_head(bytes: &[u8]) -> HeadJudged<u8>
     ensures { JudgesHead trace (λ n. n) result bytes.now }
 {
     if bytes.len() <= MAGIC.len() {
-        return judge_magic(bytes);
+        return match is_part(&MAGIC, bytes) {
+            true => HeadJudged::Awaits,
+            false => HeadJudged::Bad,
+        };
     }
     if &bytes[..MAGIC.len()] != MAGIC.as_slice() {
         return HeadJudged::Bad;
@@ -40,16 +47,34 @@ pub fn judge_head(bytes: &[u8]) -> HeadJudged<u8>
     }
 }
 
-/// What bytes tell that are no more than the magic.
-fn judge_magic(bytes: &[u8]) -> HeadJudged<u8>
-    requires { length bytes.now ≤ 5 }
-    ensures { JudgesHead trace (λ n. n) result bytes.now }
+/// What bytes tell of the head at the front of a tail: how many entries stand before its first one. Bytes that no head
+/// begins with are told at once. It takes no memory.
+#[tactic(auto, unfolding(crate::specs::Front::tail_front))]
+pub fn judge_tail_head(bytes: &[u8]) -> HeadJudged<u64>
+    ensures { JudgesHead tail (λ n. n) result bytes.now }
 {
-    if bytes == &MAGIC[..bytes.len()] {
-        HeadJudged::Awaits
-    } else {
-        HeadJudged::Bad
+    if bytes.len() <= TAIL_MAGIC.len() {
+        return match is_part(&TAIL_MAGIC, bytes) {
+            true => HeadJudged::Awaits,
+            false => HeadJudged::Bad,
+        };
     }
+    if &bytes[..TAIL_MAGIC.len()] != TAIL_MAGIC.as_slice() {
+        return HeadJudged::Bad;
+    }
+    match take_u64(&bytes[TAIL_MAGIC.len()..]) {
+        Some((first, _)) => HeadJudged::Whole(first),
+        None => HeadJudged::Awaits,
+    }
+}
+
+/// Whether bytes that are no more than the magic are a part of it.
+fn is_part(magic: &[u8; 5], bytes: &[u8]) -> bool
+    requires { length bytes.now ≤ length magic.now }
+    ensures awaits { (behind : List ℕ → HeadFront ℕ) → result ≡ true → behind [] ≡ AwaitsHead → head_behind magic.now behind bytes.now ≡ AwaitsHead }
+    ensures none { (behind : List ℕ → HeadFront ℕ) → result ≡ false → head_behind magic.now behind bytes.now ≡ NoHead }
+{
+    bytes == &magic[..bytes.len()]
 }
 
 /// What bytes tell of the entry at their front: how many bytes it has, or why no entry begins so. It takes no memory.

@@ -10,7 +10,7 @@ mod view;
 mod writing;
 
 pub use entry::{EntryBuffer, EntryKind};
-pub use judging::{judge_entry, judge_head, put_entry};
+pub use judging::{judge_entry, judge_head, judge_tail_head, put_entry};
 pub use kind::{EntryFault, TraceKind};
 pub use writing::{
     put_arrived, put_ended, put_taken, put_trace_head, write_entry, write_tail_head,

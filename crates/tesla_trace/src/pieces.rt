@@ -6,6 +6,7 @@ ghost use Rattle.tesla_capture.specs.Release.{head_text};
 ghost use Rattle.tesla_trace.specs.Trace.{tail_head, trace_head, verdict_text};
 
 use tesla_base::Head;
+use tesla_capture::head_bytes;
 use tesla_fitting::Verdict;
 
 /// How many bytes a verdict has at most.
@@ -87,11 +88,7 @@ pub(crate) fn given_front(releaser: u8, head: &Head) -> [u8; 20]
 {
     let mut bytes = [2; 20];
     bytes[1] = releaser;
-    bytes[3..11].copy_from_slice(&head.position.to_be_bytes());
-    bytes[11..15].copy_from_slice(&head.interval.to_be_bytes());
-    bytes[15..17].copy_from_slice(&head.number.to_be_bytes());
-    bytes[17] = head.chain;
-    bytes[18..].copy_from_slice(&head.length.to_be_bytes());
+    bytes[3..].copy_from_slice(&head_bytes(head));
     bytes
 }
 

@@ -19,7 +19,7 @@ use tesla_state::Take;
 /// Writes an entry, in one piece. It takes no memory.
 ///
 /// True: the entry was appended. False: a prefix of it was appended, and the sink's count of faults rose.
-#[tactic(auto, using(crate::proofs::Gathered::written_whole, crate::proofs::Gathered::written_prefix, tesla_desk::proofs::Told::prefix_none))]
+#[tactic(auto, using(tesla_capture::proofs::Gathered::written_whole, tesla_capture::proofs::Gathered::written_prefix, tesla_desk::proofs::Told::prefix_none))]
 pub fn write_entry<S: Sink>(sink: &mut S, entry: &EntryBuffer) -> bool
     requires { IsEntry entry.now }
     ensures all { result ≡ true → S.written sink.new ≡ with_bytes (S.written sink.old) (entry_text (entry_in entry.now)) }

@@ -1,7 +1,10 @@
 //! A script, read, cut and damaged.
 
-use super::{LIMIT, Pieces};
-use crate::{LONGEST_PAYLOAD, RecordKind, ScriptReader, ScriptStep};
+use super::Pieces;
+use crate::{
+    LONGEST_DATAGRAM, LONGEST_PAYLOAD, RecordKind, RecordReader, RecordStep, ScriptFormat,
+    ScriptReader, ScriptStep,
+};
 use tesla_desk::Source;
 
 /// A message "e" at 1,850,000, and a disclosure at 2,350,000.
@@ -39,8 +42,9 @@ fn records_of_a_script(rt: HostRuntime) {
     assert!(rt; reads_script(&mut source));
 }
 
-/// The first step from a place on that is no record.
-fn last(mut reader: ScriptReader, bytes: &[u8]) -> ScriptStep {
+/// The first step that is no record.
+fn last(bytes: &[u8]) -> ScriptStep {
+    let mut reader = ScriptReader::new();
     let mut source = Pieces::new(bytes);
     let mut into = [0; LONGEST_PAYLOAD];
     let mut step = ScriptStep::End;
@@ -59,7 +63,7 @@ fn damaged(place: usize, bytes: [u8; 2]) -> ScriptStep {
         script[place] = bytes[0];
         script[place + 1] = bytes[1];
     }
-    last(ScriptReader::new(), &script)
+    last(&script)
 }
 
 #[test]
@@ -75,21 +79,11 @@ fn refused_scripts(rt: HostRuntime) {
     ] {
         assert_eq!(rt; damaged(at, bytes), ScriptStep::Refused { place, kind });
     }
-    // A disclosure that ends at the limit, or behind it.
-    let disclosure = &SCRIPT[17..];
-    let place = LIMIT - 9;
-    assert_eq!(rt; last(ScriptReader::at(place), disclosure), ScriptStep::End);
-    let place = LIMIT - 8;
-    let kind = RecordKind::TooLarge;
-    assert_eq!(rt;
-        last(ScriptReader::at(place), disclosure),
-        ScriptStep::Refused { place, kind }
-    );
 }
 
 /// What comes of the script's first bytes.
 fn cut(length: usize) -> ScriptStep {
-    last(ScriptReader::new(), &SCRIPT[..length.min(26)])
+    last(&SCRIPT[..length.min(26)])
 }
 
 #[test]
@@ -104,9 +98,25 @@ fn cut_scripts(rt: HostRuntime) {
         }
     }
     for length in [5, 17, 26] {
-        assert_eq!(rt;
-            last(ScriptReader::new(), &SCRIPT[..length]),
-            ScriptStep::End
-        );
+        assert_eq!(rt; last(&SCRIPT[..length]), ScriptStep::End);
     }
+}
+
+#[test]
+fn records_of_a_script_in_a_room_for_datagrams(rt: HostRuntime) {
+    let mut source = Pieces::new(&SCRIPT);
+    let mut reader = RecordReader::<ScriptFormat>::new();
+    let mut into = [9; LONGEST_DATAGRAM];
+    let step = reader.next_record(&mut source, &mut into);
+    assert!(rt;
+        matches!(
+            step,
+            RecordStep::Carrying {
+                reading: 1_850_000,
+                length: 1
+            }
+        )
+    );
+    assert_eq!(rt; into[0], 0x65);
+    assert_eq!(rt; into[1], 9);
 }

@@ -1,5 +1,4 @@
-use Rattle.tesla_capture.proofs.OutlineIsFile.{file_takes, file_again, is_refused}
-use Rattle.tesla_capture.proofs.CauseRefuses.{refused_only}
+use Rattle.tesla_capture.proofs.OutlineIs.{file_takes, file_again, is_refused, refused_only}
 use Rattle.tesla_capture.proofs.laws.files.Goals as goal
 
 pub returns-clause-found : goal.returns-clause-found

@@ -1,9 +1,9 @@
 use Rattle.std.proofs.Common.{ap, subst, List, ℕ, Option}
 use Rattle.tesla_desk.specs.Outside.{AppendsPrefix}
 use Rattle.tesla_capture.specs.Gathering.{gathered}
+use Rattle.tesla_capture.proofs.Gathered.{written_prefix}
 use Rattle.tesla_trace.specs.Entries.{entry_in}
 use Rattle.tesla_trace.specs.Trace.{entry_text}
-use Rattle.tesla_trace.proofs.Gathered.{written_prefix}
 use Rattle.tesla_trace.proofs.writing.write_entry.Goals as goal
 
 pub returns-then-put_entry-clause-prefix : goal.returns-then-put_entry-clause-prefix

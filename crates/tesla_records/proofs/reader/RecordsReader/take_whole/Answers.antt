@@ -13,8 +13,8 @@ slice_bounds-put-end g c =
     let takes = whole_takes g.F.Format.grammar g.met.F.Format.is (pieces.pending c.self.inside.pieces) whole.0 c.args.size c.pending.ensures.bytes told in
     sym (ap (λ (b : List ℕ). length (take c.args.size b)) c.pending.ensures.value ∙ length-take-le c.args.size (pieces.pending c.self.inside.pieces) takes.3)
 
-pub put-requires : goal.put-requires
-put-requires g c =
+pub put-taken-requires : goal.put-taken-requires
+put-taken-requires g c =
     let whole = c.requires in
     let told = ap (λ (p : Progress _). g.F.Format.grammar.front (pending p)) c.self.view_is ∙ whole.1 in
     let takes = whole_takes g.F.Format.grammar g.met.F.Format.is (pieces.pending c.self.inside.pieces) whole.0 c.args.size c.pending.ensures.bytes told in
@@ -31,7 +31,7 @@ returns-clause-took g c it e =
     let told = ap (λ (p : Progress _). g.F.Format.grammar.front (pending p)) c.self.view_is ∙ e in
     let takes = whole_takes g.F.Format.grammar g.met.F.Format.is (pieces.pending c.self.inside.pieces) it c.args.size c.pending.ensures.bytes told in
     record {
-      is = c.put.ensures.shown it (subst (λ (b : List ℕ). g.F.Format.grammar.front (take c.args.size b) ≡ Whole it (length (take c.args.size b))) (sym c.pending.ensures.value) takes.0);
+      is = c.put-taken.ensures.shown it (subst (λ (b : List ℕ). g.F.Format.grammar.front (take c.args.size b) ≡ Whole it (length (take c.args.size b))) (sym c.pending.ensures.value) takes.0);
       limits = takes.1;
       spelled = sym (ap (λ (p : Progress _). take c.args.size (pending p)) c.self.view_is) ∙ takes.4;
       sized = takes.2;

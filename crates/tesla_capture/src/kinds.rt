@@ -1,0 +1,123 @@
+//! The formats of captures and scripts as formats of files of records.
+
+ghost use Rattle.std.specs.Prelude.{◌≡◌, ◌≤◌, length};
+ghost use Rattle.tesla_records.specs.Grammar.{Whole};
+ghost use Rattle.tesla_records.specs.Judged.{BeginsWhole};
+ghost use Rattle.tesla_capture.specs.Formats.{script_is};
+ghost use Rattle.tesla_capture.specs.Front.{file_of, record_front};
+ghost use Rattle.tesla_capture.specs.Script.{script};
+ghost use Rattle.tesla_capture.specs.Steps.{HoldsTold, record_told};
+ghost use Rattle.tesla_capture.specs.FileOf.{is_file};
+
+use crate::format::{Format, ScriptFormat};
+use crate::judging::{Found, judge_head, judge_record, record_found};
+use crate::record::{RecordFault, Told};
+use crate::sizes::{HEAD_SIZE, LONGEST_DATAGRAM, LONGEST_PAYLOAD};
+use std::marker::PhantomData;
+use tesla_records::{HeadJudged, Judged};
+
+/// Tells of the record of these bytes, and puts the bytes that it carries at the front of the room.
+fn put_record<F: Format>(bytes: &[u8], room: &mut [u8]) -> Told
+    requires whole { BeginsWhole (file_of F.grammar) (length bytes.now) bytes.now }
+    requires room { F.grammar.longest ≤ length room.old }
+    ensures shown { (it : F.grammar.Record) → record_front F.grammar bytes.now ≡ Whole it (length bytes.now) → record_told F.grammar result room.new ≡ it }
+    ensures fits { HoldsTold F.grammar result room.old room.new }
+{
+    match record_found::<F>(bytes) {
+        Found::Carrying { reading, bytes } => {
+            room[..bytes.len()].copy_from_slice(bytes);
+            Told::Carrying {
+                reading,
+                length: bytes.len() as u16,
+            }
+        }
+        Found::Bare { reading } => Told::Bare { reading },
+        Found::Short | Found::Wrong(_) => unreachable!(),
+    }
+}
+
+/// The format of files of records that a format of captures or scripts is. The room is that of a datagram.
+#[derive(Drop)]
+pub struct FileFormat<F> {
+    format: PhantomData<F>,
+}
+
+impl<F: Format> tesla_records::Format for FileFormat<F> {
+    ghost grammar = { file_of F.grammar };
+
+    type Head = ();
+
+    type Kind = RecordFault;
+
+    type Room = [u8; LONGEST_DATAGRAM];
+
+    type Taken = Told;
+
+    ghost head_of = { λ head. tt };
+
+    ghost kind_of = { λ fault. fault };
+
+    ghost shown = { λ told room. record_told F.grammar told room };
+
+    ghost fits = { λ told before after. HoldsTold F.grammar told before after };
+
+    ghost is = { is_file F.grammar F.is };
+
+    fn head_size() -> usize {
+        HEAD_SIZE
+    }
+
+    fn judge_head(bytes: &[u8]) -> HeadJudged<()> {
+        judge_head::<F>(bytes)
+    }
+
+    fn judge(bytes: &[u8]) -> Judged<RecordFault> {
+        judge_record::<F>(bytes)
+    }
+
+    fn put(bytes: &[u8], room: &mut [u8; LONGEST_DATAGRAM]) -> Told {
+        put_record::<F>(bytes, room)
+    }
+}
+
+/// The format of files of records that the format of scripts is, with the room of a payload.
+#[derive(Drop)]
+pub struct ScriptFile;
+
+impl tesla_records::Format for ScriptFile {
+    ghost grammar = { file_of script };
+
+    type Head = ();
+
+    type Kind = RecordFault;
+
+    type Room = [u8; LONGEST_PAYLOAD];
+
+    type Taken = Told;
+
+    ghost head_of = { λ head. tt };
+
+    ghost kind_of = { λ fault. fault };
+
+    ghost shown = { λ told room. record_told script told room };
+
+    ghost fits = { λ told before after. HoldsTold script told before after };
+
+    ghost is = { is_file script script_is };
+
+    fn head_size() -> usize {
+        HEAD_SIZE
+    }
+
+    fn judge_head(bytes: &[u8]) -> HeadJudged<()> {
+        judge_head::<ScriptFormat>(bytes)
+    }
+
+    fn judge(bytes: &[u8]) -> Judged<RecordFault> {
+        judge_record::<ScriptFormat>(bytes)
+    }
+
+    fn put(bytes: &[u8], room: &mut [u8; LONGEST_PAYLOAD]) -> Told {
+        put_record::<ScriptFormat>(bytes, room)
+    }
+}
