@@ -1,0 +1,5 @@
+pub mod Same
+pub mod Wrongs
+pub mod Outlines
+pub mod Answered
+pub mod Checked

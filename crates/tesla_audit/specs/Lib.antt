@@ -1,0 +1,5 @@
+pub mod Steps
+pub mod Outline
+pub mod Answers
+pub mod Wrong
+pub mod Checks

@@ -1,0 +1,29 @@
+-- What the bytes of a trace come to.
+use Rattle.std.specs.Prelude.{ℕ, List, Option, Some, None}
+use Rattle.tesla_receiver.specs.declared.history.Entry.{Entry}
+use Rattle.tesla_records.specs.Records.{Outline, outline_of}
+use Rattle.tesla_records.specs.declared.refusal.Refusal.{Refusal}
+use Rattle.tesla_trace.specs.Grammar.{trace}
+use Rattle.tesla_trace.specs.declared.kind.EntryFault.{EntryFault}
+use Rattle.tesla_trace.specs.declared.kind.TraceKind.{TraceKind}
+use Rattle.tesla_audit.specs.Steps.{kind_of}
+
+-- the whole entries of a trace before the first place that is refused, and that place with its cause; there is none where the bytes are a trace
+pub record TraceOutline : Type 0 where
+  -- how many ingests the head tells, where there is one
+  pub ingests : Option ℕ
+  pub entries : List Entry
+  pub fault : Option (ℕ × TraceKind)
+
+-- a refused place with its cause
+abbrev pub fault_told : Option (ℕ × Refusal EntryFault) → Option (ℕ × TraceKind)
+fault_told None = None
+fault_told (Some fault) = Some (fault.0, kind_of fault.1)
+
+-- an outline of the grammar of traces
+abbrev pub outline_told : Outline ℕ Entry EntryFault → TraceOutline
+outline_told outline = record { ingests = outline.head; entries = outline.records; fault = fault_told outline.fault }
+
+-- the outline of a trace
+abbrev pub trace_outline : List ℕ → TraceOutline
+trace_outline bytes = outline_told (outline_of trace bytes)

@@ -1,0 +1,4 @@
+pub mod Audited
+pub mod Steps
+pub mod Files
+pub mod Exact

@@ -1,0 +1,11 @@
+use Rattle.tesla_run_audit.specs.Arguments.{arguments_of}
+use Rattle.tesla_run_audit.proofs.Files.{performs_audit, performs_none}
+use Rattle.tesla_run_audit.proofs.run.perform.Goals as goal
+
+pub returns-in-Ok : goal.returns-in-Ok
+returns-in-Ok g c =
+    performs_audit (arguments_of c.args.arguments.now) c.in-Ok.setup (g.D.Desk.told c.args.desk.now) _ _ _ c.requires.files c.in-Ok.ensures.opened c.setup_under.ensures.pages c.in-Ok.ensures.found c.in-Ok.ensures.causes c.audit_file.ensures
+
+pub returns-in-Err : goal.returns-in-Err
+returns-in-Err g c =
+    performs_none (arguments_of c.args.arguments.now) (g.D.Desk.told c.args.desk.now) _ c.in-Err.stop c.requires.files c.setup_under.ensures.opens c.in-Err.ensures.refused c.in-Err.ensures.causes

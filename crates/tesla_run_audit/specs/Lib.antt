@@ -1,0 +1,5 @@
+pub mod Arguments
+pub mod Audit
+pub mod Files
+pub mod Judging
+pub mod Usage

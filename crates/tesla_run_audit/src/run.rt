@@ -1,0 +1,69 @@
+//! A run of `audit`.
+
+ghost use Rattle.std.specs.Prelude.{◌≡◌, map, string_bytes};
+ghost use Rattle.tesla_desk.specs.Faults.{HasCause};
+ghost use Rattle.tesla_front.specs.Came.{Failed, came_of, outcome_came};
+ghost use Rattle.tesla_front.specs.Command.{Performs, RunsAs};
+ghost use Rattle.tesla_front.specs.Openings.{AreFiles};
+ghost use Rattle.tesla_front.specs.declared.fault.Fault.TheVariants as faults;
+ghost use Rattle.tesla_run_audit.specs.Arguments.{arguments_of, config_of, files_of_audit};
+ghost use Rattle.tesla_run_audit.specs.Audit.{AuditsBetween, audit};
+ghost use Rattle.tesla_run_audit.specs.Files.{AuditsFile};
+
+use crate::arguments::Arguments;
+use crate::judging::audit_trace;
+use crate::words::arguments_in;
+use std::alloc::Global;
+use tesla_commit::Setup;
+use tesla_desk::Desk;
+use tesla_front::{Fault, Lines, Outcome, Stop, outcome_of, setup_under};
+
+/// Runs the words as those of `audit`.
+///
+/// SETUP is read and judged, and where it is refused no other file is opened. Then TRACE is opened, its head and its first
+/// entry are read, and the receiver's memory is taken. Entry after entry is judged; nothing is read behind the first one
+/// whose answer is wrong.
+///
+/// `Done` with the number of entries: TRACE spells a legal history. `Usage` exactly where the words are no form, and then
+/// nothing was opened. `Refused` with status 8 and the first wrong entry with the right answer, or with status 3 and the
+/// first refused place of TRACE where no entry before it is wrong, or with status 2 for SETUP. `Failed` with what went wrong
+/// first, `Read` and `Open` exactly where the desk's count of that rose, `NoMemory` before any entry was judged. Nothing is
+/// written.
+pub fn run_audit<D: Desk>(alloc: Global, words: &[String], desk: &mut D) -> Outcome
+    ensures { RunsAs audit (map string_bytes words.now) (D.told desk.old) (D.told desk.new) (outcome_came result) }
+{
+    match arguments_in(words) {
+        Some(arguments) => outcome_of(perform(alloc, &arguments, desk)),
+        None => Outcome::Usage,
+    }
+}
+
+// Does what the words ask for.
+fn perform<D: Desk>(alloc: Global, arguments: &Arguments<'_>, desk: &mut D) -> Result<Lines, Stop>
+    requires files { AreFiles (files_of_audit (arguments_of arguments.now)) }
+    ensures { Performs audit (arguments_of arguments.now) (D.told desk.old) (D.told desk.new) (came_of result) }
+{
+    match setup_under(alloc, arguments.setup, desk) {
+        Ok(setup) => audit_file(alloc, setup, arguments, desk),
+        Err(stop) => Err(stop),
+    }
+}
+
+// Opens the trace, audits it, and closes it.
+fn audit_file<D: Desk>(
+    alloc: Global,
+    setup: Setup,
+    arguments: &Arguments<'_>,
+    desk: &mut D,
+) -> Result<Lines, Stop>
+    ensures { AuditsFile (config_of (arguments_of arguments.now) setup) arguments.now.trace.now (D.told desk.old) (D.told desk.new) (came_of result) }
+{
+    match desk.open_source(arguments.trace) {
+        Ok(mut source) => {
+            let came = audit_trace(alloc, setup, arguments, &mut source);
+            desk.close_source(source);
+            came
+        }
+        Err(refusal) => Err(Stop::Failed(Fault::from(refusal))),
+    }
+}
