@@ -14,7 +14,8 @@ use Rattle.tesla_run_replay.specs.Playing.{end_by_rule, meaning_by, text_by_rule
 use Rattle.tesla_run_replay.specs.Under.{end_told}
 use Rattle.tesla_run_early.specs.Early.{meaning}
 use Rattle.tesla_run_early.specs.Playing.{early_rule, early_text, promises}
-use Rattle.tesla_run_early.proofs.Histories.{ended_text, history_ended, records_text}
+use Rattle.tesla_run_replay.proofs.Histories.{history_ended}
+use Rattle.tesla_run_early.proofs.Histories.{ended_text, records_text}
 
 end_is : (cfg : Config) (fault : Option (ℕ × RecordKind)) (records : List Record) → end_by_rule (early_rule cfg) fault records ≡ end_told fault (early_text (played cfg records (is_none fault)))
 end_is cfg None records = ap (λ (h : List Entry). Done (early_text h)) (history_ended cfg records)

@@ -22,6 +22,7 @@ early_text history = report_text (report_of history) ++ count_line (codes "early
 -- what such a receiver of that configuration writes, the records of what its takes give and of its early arrivals, and tells
 abbrev pub early_rule : Config → EventRule
 early_rule cfg = record {
+  begins = [];
   adds = λ events event. early_record_in promises 0 (after_events cfg [] events) (entry_of cfg (after_events cfg [] events) event);
   waiting = λ events. waiting_in cfg (after_events cfg [] events);
   tells = λ events. early_text (after_events cfg [] events);

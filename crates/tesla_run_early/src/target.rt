@@ -167,6 +167,12 @@ impl Target for EarlyTarget {
 
     ghost calls = { λ t. t.early.receiver.calls };
 
+    fn begin<O: Sink>(&mut self, gatherer: &mut Gatherer, out: &mut O) -> bool {
+        let _ = &gatherer;
+        let _ = &out;
+        true
+    }
+
     fn play<L: Ledger, O: Sink>(
         &mut self,
         event: PlayedEvent<'_>,

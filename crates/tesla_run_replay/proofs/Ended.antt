@@ -112,9 +112,11 @@ module _ (may_want : Bool) (rule last : EventRule) (Had : List Event → Type 0)
       subst (λ (c : Came). ConvertsBetween (meaning_by may_want rule) left left_now written failed c) (sym tells)
       (inr ((wants refl).0, (wants refl).1, λ bytes done told written_is. part written done _ _ (converts bytes told) (text_is rule bytes) written_is))
 
-  -- the same, told that it is the rule of the target before
-  pub ends_between : (first : EventRule) (ended : Result (Ending RecordKind) Stopped) (came : Came) → rule ≡ first
-      → ((bytes : List ℕ) → left ≡ Some bytes → Converts capture RecordKind (record_rule rule) (λ records. (last ≡ rule) × Had (with_end rule (events_in records))) ended bytes left_now written failed)
+  -- the same, told the rule of the target before, and that by which was converted: both are the one that was named
+  pub ends_between : (first by : EventRule) (ended : Result (Ending RecordKind) Stopped) (came : Came) → rule ≡ first → rule ≡ by
+      → ((bytes : List ℕ) → left ≡ Some bytes → Converts capture RecordKind (record_rule by) (λ records. (last ≡ rule) × Had (with_end rule (events_in records))) ended bytes left_now written failed)
       → TellsEnd last (λ records. Had (with_end last (events_in records))) ended came → (ended ≡ Err Write → 0 < failed) → (ended ≡ Err Memory → (may_want ≡ true) × (failed ≡ 0)) → ConvertsBetween (meaning_by may_want first) left left_now written failed came
-  ends_between first ended came start converts tells some wants =
-      subst (λ (r : EventRule). ConvertsBetween (meaning_by may_want r) left left_now written failed came) start (by_end ended came converts tells some wants)
+  ends_between first by ended came start same converts tells some wants =
+      subst (λ (r : EventRule). ConvertsBetween (meaning_by may_want r) left left_now written failed came) start
+      (by_end ended came (λ bytes told.
+      subst (λ (r : EventRule). Converts capture RecordKind (record_rule r) (λ records. (last ≡ rule) × Had (with_end rule (events_in records))) ended bytes left_now written failed) (sym same) (converts bytes told)) tells some wants)

@@ -21,22 +21,28 @@ pub history_ended : (cfg : Config) (records : List Record) → after_events cfg 
 history_ended cfg records =
     after_both cfg [] (events_in records) (Ends 0 ∷ replicate (suc (waiting_in cfg (after_events cfg [] (events_in records)))) (Takes 0))
 
--- the release records of more events
-records_after : (cfg : Config) (before events : List Event) → records_of 0 (after_events cfg [] (before ++ events)) ≡ records_of 0 (after_events cfg [] before) ++ each_after (rule_of cfg).adds before events
-records_after cfg before [] =
-    ap (λ (es : List Event). records_of 0 (after_events cfg [] es)) (append-nil before) ∙ sym (append-nil (records_of 0 (after_events cfg [] before)))
-records_after cfg before (event ∷ events) =
-    let h : List Entry = after_events cfg [] before in
-    let one : records_of 0 (after_events cfg [] (before ++ event ∷ [])) ≡ records_of 0 h ++ record_in 0 (entry_of cfg h event) =
-    ap (records_of 0) (after_one cfg [] before event) ∙ records_more 0 h (entry_of cfg h event) in
-    ap (λ (es : List Event). records_of 0 (after_events cfg [] es)) (sym (append_assoc before (event ∷ []) events))
-    ∙ records_after cfg (before ++ event ∷ []) events
-    ∙ ap (λ (r : List ℕ). r ++ each_after (rule_of cfg).adds (before ++ event ∷ []) events) one
-    ∙ append_assoc (records_of 0 h) (record_in 0 (entry_of cfg h event)) (each_after (rule_of cfg).adds (before ++ event ∷ []) events)
+-- told a text of histories that grows by a piece with each entry
+module _ (cfg : Config) (text : List Entry → List ℕ) (piece : List Entry → Entry → List ℕ) (grows : (h : List Entry) (e : Entry) → text (h ++ e ∷ []) ≡ text h ++ piece h e) where
+  -- the piece of an event behind others
+  abbrev pub piece_of : List Event → Event → List ℕ
+  piece_of before event = piece (after_events cfg [] before) (entry_of cfg (after_events cfg [] before) event)
+
+  -- it grows by the pieces of more events
+  pub text_after : (before events : List Event) → text (after_events cfg [] (before ++ events)) ≡ text (after_events cfg [] before) ++ each_after piece_of before events
+  text_after before [] =
+      ap (λ (es : List Event). text (after_events cfg [] es)) (append-nil before) ∙ sym (append-nil (text (after_events cfg [] before)))
+  text_after before (event ∷ events) =
+      let h : List Entry = after_events cfg [] before in
+      let one : text (after_events cfg [] (before ++ event ∷ [])) ≡ text h ++ piece_of before event =
+      ap text (after_one cfg [] before event) ∙ grows h (entry_of cfg h event) in
+      ap (λ (es : List Event). text (after_events cfg [] es)) (sym (append_assoc before (event ∷ []) events))
+      ∙ text_after (before ++ event ∷ []) events
+      ∙ ap (λ (r : List ℕ). r ++ each_after piece_of (before ++ event ∷ []) events) one
+      ∙ append_assoc (text h) (piece_of before event) (each_after piece_of (before ++ event ∷ []) events)
 
 -- what is written of events is the release records of their history
 records_are : (cfg : Config) (events : List Event) → events_text (rule_of cfg) events ≡ records_of 0 (after_events cfg [] events)
-records_are cfg events = sym (records_after cfg [] events)
+records_are cfg events = sym (text_after cfg (records_of 0) (λ h e. record_in 0 e) (records_more 0) [] events)
 
 -- what is written of records is the release records of the takes among them
 pub records_text : (cfg : Config) (records : List Record) → events_text (rule_of cfg) (events_in records) ≡ records_of 0 (played cfg records false)

@@ -43,13 +43,14 @@ text_behind : (rule : EventRule) (fault : Option (ℕ × RecordKind)) (records :
 text_behind rule None records = sym (each_after-append rule.adds [] (events_in records) (end_after rule (events_in records)))
 text_behind rule (Some fault) records = append-nil (events_text rule (events_in records))
 
--- what is made of a file is the text of its events
-pub text_is : (rule : EventRule) (bytes : List ℕ) → (made capture RecordKind (record_rule rule) bytes).text ≡ text_by_rule rule (outline_of bytes).fault (outline_of bytes).records
+-- what is made of a file is the text of its events, behind what is written before them
+pub text_is : (rule : EventRule) (bytes : List ℕ) → (made capture RecordKind (record_rule rule) bytes).text ≡ rule.begins ++ text_by_rule rule (outline_of bytes).fault (outline_of bytes).records
 text_is rule bytes =
-    ap (λ (m : Made RecordKind). m.text) (made_all rule (behind_of capture RecordKind (record_rule rule) (outline_of bytes).fault) 5 [] (outline_of bytes).records)
-    ∙ text_behind rule (outline_of bytes).fault (outline_of bytes).records
+    ap (λ (m : Made RecordKind). rule.begins ++ m.text) (made_all rule (behind_of capture RecordKind (record_rule rule) (outline_of bytes).fault) 5 [] (outline_of bytes).records)
+    ∙ ap (λ (t : List ℕ). rule.begins ++ t) (text_behind rule (outline_of bytes).fault (outline_of bytes).records)
 
--- what is made of the first bytes of a file is the text of theirs
-pub so_far_is : (rule : EventRule) (read : List ℕ) → (made_so_far capture RecordKind (record_rule rule) read).text ≡ events_text rule (events_in (outline_of read).records)
+-- what is made of the first bytes of a file is the text of theirs, behind the same
+pub so_far_is : (rule : EventRule) (read : List ℕ) → (made_so_far capture RecordKind (record_rule rule) read).text ≡ rule.begins ++ events_text rule (events_in (outline_of read).records)
 so_far_is rule read =
-    ap (λ (m : Made RecordKind). m.text) (made_all rule Unread 5 [] (outline_of read).records) ∙ append-nil (events_text rule (events_in (outline_of read).records))
+    ap (λ (m : Made RecordKind). rule.begins ++ m.text) (made_all rule Unread 5 [] (outline_of read).records)
+    ∙ ap (λ (t : List ℕ). rule.begins ++ t) (append-nil (events_text rule (events_in (outline_of read).records)))

@@ -1,5 +1,5 @@
 -- The events that the records of a capture play, one after another, and what is written of each.
-use Rattle.std.specs.Prelude.{◌≡◌, ℕ, suc, Bool, true, Option, Some, None, List, [], ◌∷◌, ◌++◌, map, replicate}
+use Rattle.std.specs.Prelude.{◌≡◌, ◌≤◌, ℕ, suc, Bool, true, Option, Some, None, List, [], ◌∷◌, ◌++◌, length, map, replicate}
 use Rattle.tesla_capture.specs.Capture.{Record, capture}
 use Rattle.tesla_capture.specs.Outline.{outline_of}
 use Rattle.tesla_capture.specs.Taken.{HoldsNoRefusal}
@@ -17,21 +17,28 @@ use Rattle.tesla_run_replay.specs.Under.{end_told}
 use Rattle.tesla_run_replay.specs.declared.target.PlayedEvent.{PlayedEvent}
 use Rattle.tesla_run_replay.specs.declared.target.PlayedEvent.TheVariants as played
 
--- what a target writes of an event after those before it, and after some events how many packets wait and which lines tell what was played
+-- what a target writes before all events and of an event after those before it, and after some events how many packets wait and which lines tell what was played
 pub record EventRule : Type 0 where
+  pub begins : List ℕ
   pub adds : List Event → Event → List ℕ
   pub waiting : List Event → ℕ
   pub tells : List Event → List ℕ
 
 -- nothing is written or told
 abbrev pub silent : EventRule
-silent = record { adds = λ events event. []; waiting = λ events. 0; tells = λ events. [] }
+silent = record { begins = []; adds = λ events event. []; waiting = λ events. 0; tells = λ events. [] }
 
 -- the event of ingest 0 or releaser 0
 abbrev pub event_of : PlayedEvent → Event
 event_of (played.Arrival reading datagram) = Arrives 0 reading datagram.now
 event_of played.Take = Takes 0
 event_of played.End = Ends 0
+
+-- its datagram has at most as many bytes as a capture carries of one
+abbrev pub EventFits : PlayedEvent → Type 0
+EventFits (played.Arrival reading datagram) = length datagram.now ≤ 2048
+EventFits played.Take = Unit {0}
+EventFits played.End = Unit {0}
 
 -- the events of a capture's records
 abbrev pub events_in : List Record → List Event
@@ -51,7 +58,7 @@ events_text rule events = each_after rule.adds [] events
 -- what is written of each record of a capture by such a rule, and of its end: no record is refused
 abbrev pub record_rule : EventRule → Rule capture RecordKind
 record_rule rule = record {
-  begins = [];
+  begins = rule.begins;
   refuses = λ before first. None;
   adds = λ before first. rule.adds (events_in before) (event_in first);
   ends = λ before. each_after rule.adds (events_in before) (end_after rule (events_in before));
@@ -62,17 +69,17 @@ record_rule rule = record {
 abbrev pub end_by_rule : EventRule → Option (ℕ × RecordKind) → List Record → Came
 end_by_rule rule fault records = end_told fault (rule.tells (with_end rule (events_in records)))
 
--- what is written: of its events, and where no place is refused of the end too
+-- what is written of its events, and where no place is refused of the end too
 abbrev pub text_by_rule : EventRule → Option (ℕ × RecordKind) → List Record → List ℕ
 text_by_rule rule None records = events_text rule (with_end rule (events_in records))
 text_by_rule rule (Some fault) records = events_text rule (events_in records)
 
--- all of that, as functions of the capture's bytes, told whether memory may be wanting once records were played
+-- all of that, behind what is written before all events, as functions of the capture's bytes, told whether memory may be wanting once records were played
 abbrev pub meaning_by : Bool → EventRule → Meaning
 meaning_by may_want rule = record {
   comes = λ bytes. end_by_rule rule (outline_of bytes).fault (outline_of bytes).records;
-  makes = λ bytes. text_by_rule rule (outline_of bytes).fault (outline_of bytes).records;
-  so_far = λ read. events_text rule (events_in (outline_of read).records);
+  makes = λ bytes. rule.begins ++ text_by_rule rule (outline_of bytes).fault (outline_of bytes).records;
+  so_far = λ read. rule.begins ++ events_text rule (events_in (outline_of read).records);
   IsUnrefused = HoldsNoRefusal capture;
   MayWant = may_want ≡ true;
 }
@@ -80,6 +87,7 @@ meaning_by may_want rule = record {
 -- what a receiver of that configuration writes, the records of what its takes give, and tells, its report
 abbrev pub rule_of : Config → EventRule
 rule_of cfg = record {
+  begins = [];
   adds = λ events event. record_in 0 (entry_of cfg (after_events cfg [] events) event);
   waiting = λ events. waiting_in cfg (after_events cfg [] events);
   tells = λ events. report_text (report_of (after_events cfg [] events));

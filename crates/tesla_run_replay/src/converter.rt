@@ -5,11 +5,11 @@ ghost use Rattle.tesla_capture.specs.Capture.{capture};
 ghost use Rattle.tesla_capture.specs.Gathering.{gathered, Gathers};
 ghost use Rattle.tesla_desk.specs.Faults.{HasCause};
 ghost use Rattle.tesla_desk.specs.Outside.{AppendsPrefix};
-ghost use Rattle.tesla_convert.specs.Records.{record_of};
+ghost use Rattle.tesla_convert.specs.Records.{IsWithin, record_of};
 ghost use Rattle.tesla_receiver.specs.History.{Event, Takes};
 ghost use Rattle.tesla_receiver.specs.Played.{event_in};
 ghost use Rattle.tesla_state.specs.Releases.{each_after};
-ghost use Rattle.tesla_run_replay.specs.Playing.{EventRule, event_of, silent};
+ghost use Rattle.tesla_run_replay.specs.Playing.{EventFits, EventRule, event_of, silent};
 
 use crate::target::{PlayedEvent, Target};
 use std::marker::Brand;
@@ -38,7 +38,9 @@ pub struct ReplayConverter<L: ReplayLedger, T> {
 
 // The event that a record plays.
 fn event_for(taken: TakenRecord<'_>) -> PlayedEvent<'_>
-    ensures { event_of result ≡ event_in (record_of capture taken.entry) }
+    requires { IsWithin capture taken }
+    ensures event { event_of result ≡ event_in (record_of capture taken.entry) }
+    ensures fits { EventFits result }
 {
     match taken {
         TakenRecord::Carrying { reading, bytes } => PlayedEvent::Arrival {
@@ -104,7 +106,7 @@ impl<L: ReplayLedger, T: Target> Converter for ReplayConverter<L, T> {
 
     ghost grammar = { capture };
 
-    ghost rule = { λ c. record_rule L.rule };
+    ghost rule = { λ c. record_rule (T.rule c.target) };
 
     ghost has = { λ c records. (T.rule c.target ≡ L.rule) × T.has c.target (events_in records) };
 
@@ -127,9 +129,7 @@ impl<L: ReplayLedger, T: Target> Converter for ReplayConverter<L, T> {
     }
 
     fn begin<O: Sink>(&mut self, gatherer: &mut Gatherer, out: &mut O) -> bool {
-        let _ = &gatherer;
-        let _ = &out;
-        true
+        self.target.begin(gatherer, out)
     }
 
     fn convert<O: Sink>(

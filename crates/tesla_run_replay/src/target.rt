@@ -1,6 +1,6 @@
 //! What the records of a capture are played to, and what is written of that.
 
-ghost use Rattle.std.specs.Prelude.{◌≡◌, ◌+◌, ◌^◌, ◌<◌, ◌≤◌, ◌++◌, ◌∷◌, [], ℕ, List, Bool, true, Err, IfOk};
+ghost use Rattle.std.specs.Prelude.{◌≡◌, ◌+◌, ◌^◌, ◌<◌, ◌≤◌, ◌++◌, ◌∷◌, [], ℕ, List, Bool, true, false, Err, IfOk};
 ghost use Rattle.tesla_capture.specs.Gathering.{gathered, Gathers};
 ghost use Rattle.tesla_desk.specs.Faults.{HasCause};
 ghost use Rattle.tesla_desk.specs.Outside.{AppendsPrefix, with_bytes};
@@ -8,7 +8,7 @@ ghost use Rattle.tesla_receiver.specs.History.{Event, Takes, entry_of, reply_to}
 ghost use Rattle.tesla_receiver.specs.Report.{text_given};
 ghost use Rattle.tesla_receiver.specs.Stands.{Stands};
 ghost use Rattle.tesla_receiver.specs.declared.history.Entry.{Entry};
-ghost use Rattle.tesla_run_replay.specs.Playing.{EventRule, event_of};
+ghost use Rattle.tesla_run_replay.specs.Playing.{EventFits, EventRule, event_of};
 
 use crate::report_lines;
 use std::sync::ledger::Ledger;
@@ -33,8 +33,8 @@ pub enum PlayedEvent<'a> {
 /// What the records of a capture are played to: a receiver, or what stands in its place. It writes what it has to tell of
 /// each event through a gatherer.
 pub trait Target {
-    /// What is written of each event after those before it, and after some events how many packets wait and which lines
-    /// tell what was played.
+    /// What is written before all events and of each event after those before it, and after some events how many packets
+    /// wait and which lines tell what was played.
     ghost rule: { Self → EventRule };
 
     /// It has had these events, in this order, and no others.
@@ -46,7 +46,19 @@ pub trait Target {
     /// How many events it has had at most.
     ghost calls: { Self → ℕ };
 
-    /// Plays an event. What is written of it is put behind what is gathered.
+    /// Puts what stands before all events behind what is gathered. It takes no memory, and counts for no event.
+    ///
+    /// False: a prefix of both was written, and the sink's count of faults rose.
+    fn begin<O: Sink>(&mut self, gatherer: &mut Gatherer, out: &mut O) -> bool
+        ensures has { (es : List Event) → has self.old es → has self.new es }
+        ensures rule { rule self.new ≡ rule self.old }
+        ensures calls { calls self.new ≡ calls self.old }
+        ensures writes { result ≡ true → Gathers (O.written out.old) (O.written out.new) (gathered gatherer.new) (gathered gatherer.old ++ (rule self.old).begins) }
+        ensures halts { result ≡ false → AppendsPrefix (O.written out.old) (O.written out.new) (gathered gatherer.old ++ (rule self.old).begins) }
+        ensures cause { HasCause (O.faults out.old) (O.faults out.new) (result ≡ false) }
+        ensures name { O.name out.new ≡ O.name out.old };
+
+    /// Plays an event, whose datagram has at most 2,048 bytes. What is written of it is put behind what is gathered.
     ///
     /// `WriteFault`: a prefix of both was written, and the sink's count of faults rose. `NoMemory` comes only where
     /// `may_want` is true, and then both were written.
@@ -57,7 +69,8 @@ pub trait Target {
         gatherer: &mut Gatherer,
         out: &mut O,
     ) -> Result<(), Halt>
-        requires { calls self.old < 2 ^ 56 }
+        requires few { calls self.old < 2 ^ 56 }
+        requires fits { EventFits event }
         ensures rule { rule self.new ≡ rule self.old }
         ensures has { IfOk result (λ _. (es : List Event) → has self.old es → has self.new (es ++ event_of event.entry ∷ [])) }
         ensures writes { IfOk result (λ _. (es : List Event) → has self.old es →
@@ -142,6 +155,12 @@ impl Target for ReceiverTarget {
     ghost may_want = { false };
 
     ghost calls = { λ t. t.receiver.calls };
+
+    fn begin<O: Sink>(&mut self, gatherer: &mut Gatherer, out: &mut O) -> bool {
+        let _ = &gatherer;
+        let _ = &out;
+        true
+    }
 
     fn play<L: Ledger, O: Sink>(
         &mut self,

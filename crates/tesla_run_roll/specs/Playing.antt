@@ -14,6 +14,7 @@ roll_text history = count_line (codes "epochs") (epoch_count history) ++ count_l
 -- what the epochs of that first configuration write, the records of what their takes give, and tell
 abbrev pub roll_rule : Config → EventRule
 roll_rule cfg = record {
+  begins = [];
   adds = λ events event. roll_record_in 0 (roll_entry_of cfg (roll_after_events cfg [] events) true event);
   waiting = λ events. roll_waiting_in cfg (roll_after_events cfg [] events);
   tells = λ events. roll_text (roll_after_events cfg [] events);

@@ -130,6 +130,12 @@ impl Target for RolloverTarget {
 
     ghost calls = { λ t. t.rollover.calls };
 
+    fn begin<O: Sink>(&mut self, gatherer: &mut Gatherer, out: &mut O) -> bool {
+        let _ = &gatherer;
+        let _ = &out;
+        true
+    }
+
     fn play<L: Ledger, O: Sink>(
         &mut self,
         event: PlayedEvent<'_>,

@@ -1,4 +1,4 @@
-use Rattle.std.proofs.Common.{List, refl}
+use Rattle.std.proofs.Common.{◌≡◌, List, refl}
 use Rattle.tesla_capture.specs.Capture.{Record}
 use Rattle.tesla_desk.proofs.Counts.{cause_as, cause_beside_as}
 use Rattle.tesla_front.specs.Came.{came_of}
@@ -12,9 +12,10 @@ returns-clause-plays g c =
     let target = c.convert-converter.result.0.target in
     let rule = g.T.Target.rule in
     let came = came_of c.told.result in
+    let same : g.L.ReplayLedger.rule ≡ rule c.new.result.converter.target = cc in
     ends_between g.T.Target.may_want g.L.ReplayLedger.rule (rule target) (g.T.Target.has target)
     (g.S.Source.left c.args.source.now) (g.S.Source.left c.convert-converter.new.source) (g.O.Sink.written c.convert-converter.new.out) (g.O.Sink.faults c.convert-converter.new.out)
-    (rule c.args.target) c.convert-converter.result.1 came c.requires.rule c.convert-converter.ensures.converts
+    (rule c.args.target) (rule c.new.result.converter.target) c.convert-converter.result.1 came c.requires.rule same c.convert-converter.ensures.converts
     (tells_same rule g.T.Target.has c.convert-converter.result.1 came target c.target.result.now c.target.ensures c.told.ensures)
     (λ e. rose_some 0 (g.O.Sink.faults c.convert-converter.new.out) refl (c.convert-converter.ensures.writes.rose e))
     (λ e. (c.convert-converter.ensures.wants e, c.convert-converter.ensures.writes.still (λ f. absurd cc) (λ f. absurd cc)))

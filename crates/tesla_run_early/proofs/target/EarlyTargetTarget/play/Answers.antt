@@ -13,7 +13,7 @@ pub returns-in-Ok-clause-has : goal.returns-in-Ok-clause-has
 returns-in-Ok-clause-has g c es stands =
     let config = c.args.self.now.early.receiver.config in
     let history = after_events config [] es in
-    let count = counts_on _ history (entry_of config history (Arrives 0 c.in-Arrival.reading c.in-Arrival.datagram.now)) _ _ _ _ stands.most stands.few c.requires c.counted-self.ensures (c.in-Ok.ensures.counted _ stands.stands) in
+    let count = counts_on _ history (entry_of config history (Arrives 0 c.in-Arrival.reading c.in-Arrival.datagram.now)) _ _ _ _ stands.most stands.few c.requires.few c.counted-self.ensures (c.in-Ok.ensures.counted _ stands.stands) in
     stands_on _ _ es _ _ _ _ _ _ c.arrive_once.ensures.config (ap event_of c.in-Arrival.is) c.arrive_once.ensures.most c.arrive_once.ensures.calls count.0 count.1 stands (c.arrive_once.ensures.stands _)
 
 pub returns-in-Err-clause-halts : goal.returns-in-Err-clause-halts

@@ -1,4 +1,4 @@
-use Rattle.std.proofs.Common.{◌∙◌, ◌∷◌, [], ◌++◌, subst}
+use Rattle.std.proofs.Common.{◌∙◌, ◌∷◌, [], ◌++◌, refl, subst}
 use Rattle.std.proofs.lemmas.Result.{IfErr-weaker, IfOk-weaker}
 use Rattle.tesla_receiver.specs.History.{Ends}
 use Rattle.tesla_run_replay.specs.Playing.{events_in}
@@ -7,7 +7,7 @@ use Rattle.tesla_run_replay.proofs.converter.ReplayConverterConverter.finish.Goa
 
 pub returns-in-Err-clause-halts : goal.returns-in-Err-clause-halts
 returns-in-Err-clause-halts g c records had =
-    end_alone _ _ _ had.0 c.play.ensures.rule (events_in records) c.waiting-waiting.result (c.waiting-waiting.ensures.value (events_in records) had.1) _ _ _
+    end_alone _ _ _ refl c.play.ensures.rule (events_in records) c.waiting-waiting.result (c.waiting-waiting.ensures.value (events_in records) had.1) _ _ _
     (prefix_halted c.in-Err.halt _ _ _ (λ e. c.in-Err.ensures.halts e (events_in records) had.1) (λ e. (c.in-Err.ensures.wants e).2 (events_in records) had.1))
 
 pub returns-clause-ended : goal.returns-clause-ended
@@ -21,11 +21,11 @@ returns-clause-ended g c =
 pub returns-clause-writes : goal.returns-clause-writes
 returns-clause-writes g c =
     IfOk-weaker c.take_times.result _ _ (λ x writes records had.
-    end_gathered _ _ _ had.0 c.play.ensures.rule (events_in records) c.waiting-waiting.result (c.waiting-waiting.ensures.value (events_in records) had.1) _ _ _ _ _ _ (c.in_default.ensures.writes (events_in records) had.1)
+    end_gathered _ _ _ refl c.play.ensures.rule (events_in records) c.waiting-waiting.result (c.waiting-waiting.ensures.value (events_in records) had.1) _ _ _ _ _ _ (c.in_default.ensures.writes (events_in records) had.1)
     (writes (events_in records ++ Ends 0 ∷ []) (c.in_default.ensures.has (events_in records) had.1))) c.take_times.ensures.writes
 
 pub returns-clause-halts : goal.returns-clause-halts
 returns-clause-halts g c =
     IfErr-weaker c.take_times.result _ _ (λ x halts records had.
-    end_stops _ _ _ had.0 c.play.ensures.rule (events_in records) c.waiting-waiting.result (c.waiting-waiting.ensures.value (events_in records) had.1) _ _ _ _ _ (c.in_default.ensures.writes (events_in records) had.1)
+    end_stops _ _ _ refl c.play.ensures.rule (events_in records) c.waiting-waiting.result (c.waiting-waiting.ensures.value (events_in records) had.1) _ _ _ _ _ (c.in_default.ensures.writes (events_in records) had.1)
     (halts (events_in records ++ Ends 0 ∷ []) (c.in_default.ensures.has (events_in records) had.1))) c.take_times.ensures.halts

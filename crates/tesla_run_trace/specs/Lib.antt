@@ -1,0 +1,3 @@
+pub mod Trace
+pub mod Usage
+pub mod Playing
