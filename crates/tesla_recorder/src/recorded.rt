@@ -103,6 +103,10 @@ impl Recorded {
 }
 
 impl Station for Recorded {
+    ghost receiver = { λ station. station.receiver.config };
+
+    ghost legal = { λ station h stood. stood.stood.legal };
+
     fn arrive<L: Ledger>(
         &mut self,
         ingest: u8,

@@ -1,5 +1,5 @@
 -- What left the links of a session, and which readings their clocks gave.
-use Rattle.std.proofs.Common.{◌≡◌, ◌≢◌, ℕ, suc, ◌+◌, ◌-◌, ◌^◌, ◌<◌, ◌≤◌, nat_lt, false, List, [], ◌∷◌, ◌++◌, length, map, get_or, Option, Some, None, IfSome, option_map, refl, sym, ap, subst, ◌∙◌, arith, ⊎_elim}
+use Rattle.std.proofs.Common.{◌≡◌, ◌≢◌, ℕ, suc, ◌+◌, ◌^◌, ◌<◌, ◌≤◌, nat_lt, false, List, [], ◌∷◌, ◌++◌, length, map, get_or, Option, Some, None, IfSome, option_map, refl, sym, ap, subst, ◌∙◌, arith, ⊎_elim}
 use Rattle.std.proofs.lemmas.Bool.Decides.{nat_tests}
 use Rattle.std.proofs.lemmas.List.{length-append, length-map}
 use Rattle.tesla_desk.specs.Clocks.{Ticking, next_reading, readings_from, ticked}
@@ -17,30 +17,31 @@ use Rattle.tesla_shared.specs.declared.ingesting.LinkEnd.{LinkEnd}
 use Rattle.tesla_shared.specs.declared.ingesting.LinkEnd.TheVariants as link_ends
 use Rattle.tesla_turn.specs.Held.{left_of}
 use Rattle.tesla_run_receive.specs.Receive.{HeardLinks, LeftWhere, ReadWhere, clock_after, entries_of_ingest}
-use Rattle.tesla_run_receive.specs.Session.{PassSeen, ClosesWorkers, calls_most}
-use Rattle.tesla_run_receive.proofs.Made.{LinkDid, LinkWork, LinksDid, link_arrivals, link_name, link_seen}
+use Rattle.tesla_session.specs.Session.{PassSeen, ClosesWorkers, calls_most}
+use Rattle.tesla_session.proofs.Made.{LinkDid, LinkWork, LinksDid, link_arrivals, link_name, link_seen}
 
--- ---- closings
+module _ {C : Type 0} where
+  -- ---- closings
 
--- what is left of each link, once all are closed
-abbrev pub LinksClosed : List LinkWork → Live → Type 0
-LinksClosed [] now = Unit {0}
-LinksClosed (work ∷ works) now = (now.left work.seen.name ≡ remainder_of work.seen.left work.seen.faults) × LinksClosed works now
+  -- what is left of each link, once all are closed
+  abbrev pub LinksClosed : List (LinkWork C) → Live → Type 0
+  LinksClosed [] now = Unit {0}
+  LinksClosed (work ∷ works) now = (now.left work.seen.name ≡ remainder_of work.seen.left work.seen.faults) × LinksClosed works now
 
--- the closing of a link under another name changes nothing of that
-still_closed : (works : List LinkWork) (name : List ℕ) (before now : Live) → IsNoneOf name (map link_name works) → ((n : List ℕ) → n ≢ name → now.left n ≡ before.left n) → LinksClosed works before → LinksClosed works now
-still_closed [] name before now none others closed = tt
-still_closed (work ∷ works) name before now none others closed = (others work.seen.name (λ e. none.0 (sym e)) ∙ closed.0, still_closed works name before now none.1 others closed.1)
+  -- the closing of a link under another name changes nothing of that
+  still_closed : (works : List (LinkWork C)) (name : List ℕ) (before now : Live) → IsNoneOf name (map link_name works) → ((n : List ℕ) → n ≢ name → now.left n ≡ before.left n) → LinksClosed works before → LinksClosed works now
+  still_closed [] name before now none others closed = tt
+  still_closed (work ∷ works) name before now none others closed = (others work.seen.name (λ e. none.0 (sym e)) ∙ closed.0, still_closed works name before now none.1 others closed.1)
 
-pub links_closed : (works : List LinkWork) (before now : Told) (first later : PassSeen) → ClosesWorkers (map link_seen works) before now first later → AreDistinct (map link_name works) → LinksClosed works now.live
-links_closed [] before now first later closes distinct = tt
-links_closed (work ∷ works) before now first later (mid, middle, closes, close, later_is) distinct =
-    (close.own, still_closed works work.seen.name mid.live now.live distinct.0 close.others (links_closed works before mid first middle closes distinct.1))
+  pub links_closed : (works : List (LinkWork C)) (before now : Told) (first later : PassSeen C) → ClosesWorkers (map link_seen works) before now first later → AreDistinct (map link_name works) → LinksClosed works now.live
+  links_closed [] before now first later closes distinct = tt
+  links_closed (work ∷ works) before now first later (mid, middle, closes, close, later_is) distinct =
+      (close.own, still_closed works work.seen.name mid.live now.live distinct.0 close.others (links_closed works before mid first middle closes distinct.1))
 
--- the closings of links change no page
-pub links_leave_pages : (works : List LinkWork) (before now : Told) (first later : PassSeen) → ClosesWorkers (map link_seen works) before now first later → (name : List ℕ) → now.page name ≡ before.page name
-links_leave_pages [] before now first later closes name = ap (λ (t : Told). t.page name) closes.0
-links_leave_pages (work ∷ works) before now first later (mid, middle, closes, close, later_is) name = close.pages name ∙ links_leave_pages works before mid first middle closes name
+  -- the closings of links change no page
+  pub links_leave_pages : (works : List (LinkWork C)) (before now : Told) (first later : PassSeen C) → ClosesWorkers (map link_seen works) before now first later → (name : List ℕ) → now.page name ≡ before.page name
+  links_leave_pages [] before now first later closes name = ap (λ (t : Told). t.page name) closes.0
+  links_leave_pages (work ∷ works) before now first later (mid, middle, closes, close, later_is) name = close.pages name ∙ links_leave_pages works before mid first middle closes name
 
 -- ---- letters
 
@@ -60,19 +61,20 @@ left_told ingest faults letters left (Some rest) arrivals history told came same
     let both : Some letters ≡ Some (came.0 ++ rest) = sym told ∙ came.1 in
     record { taken = came.0; letters_are = cc; arrivals = ap (map bytes_of) same ∙ sym came.2; all = all }
 
--- how many entries a link made
-pub link_entries : (most ingest : ℕ) (wire : Wire) (readings : Option (ℕ → List ℕ)) (clock : Option ℕ) (work : LinkWork) (history : List Entry) → LinkDid most ingest wire readings clock work → arrivals_by ingest history ≡ work.arrivals → work.seen.end ≡ link_ends.Spent → most ≤ entries_of_ingest ingest history
-link_entries most ingest wire readings clock work history did same end =
-    let spent : left_of work.seen.pass ≡ 0 = did.spent end in
-    let size : length work.seen.pass.made ≡ suc (length work.arrivals) = ap length did.made ∙ omega (arith, length-append (map Arrived work.arrivals) (Ended ingest ∷ []), length-map work.arrivals Arrived) in
-    omega (arith, spent, size, did.calls, ap length same)
+module _ {C : Type 0} where
+  -- how many entries a link made
+  pub link_entries : (most ingest : ℕ) (wire : Wire) (readings : Option (ℕ → List ℕ)) (clock : Option ℕ) (work : LinkWork C) (history : List Entry) → LinkDid most ingest wire readings clock work → arrivals_by ingest history ≡ work.arrivals → work.seen.end ≡ link_ends.Spent → most ≤ entries_of_ingest ingest history
+  link_entries most ingest wire readings clock work history did same end =
+      let spent : left_of work.seen.pass ≡ 0 = did.spent end in
+      let size : length work.seen.pass.made ≡ suc (length work.arrivals) = ap length did.made ∙ omega (arith, length-append (map Arrived work.arrivals) (Ended ingest ∷ []), length-map work.arrivals Arrived) in
+      omega (arith, spent, size, did.calls, ap length same)
 
-pub left_where : (ingest : ℕ) (wire : Wire) (readings : Option (ℕ → List ℕ)) (clock : Option ℕ) (work : LinkWork) (history : List Entry) → LinkDid calls_most ingest wire readings clock work → arrivals_by ingest history ≡ work.arrivals → LeftWhere ingest wire (remainder_of work.seen.left work.seen.faults) history
-left_where ingest UntoldWire readings clock work history did same = tt
-left_where ingest AbsentWire readings clock work history did same = absurd did.letters
-left_where ingest (HoldsWire letters) readings clock work history did same =
-    left_told ingest work.seen.faults letters did.left work.seen.left work.arrivals history did.letters did.hears.came same
-    (link_all calls_most (entries_of_ingest ingest history) work.seen.faults work.seen.end work.seen.left did.cause did.ended (link_entries calls_most ingest (HoldsWire letters) readings clock work history did same))
+  pub left_where : (ingest : ℕ) (wire : Wire) (readings : Option (ℕ → List ℕ)) (clock : Option ℕ) (work : LinkWork C) (history : List Entry) → LinkDid calls_most ingest wire readings clock work → arrivals_by ingest history ≡ work.arrivals → LeftWhere ingest wire (remainder_of work.seen.left work.seen.faults) history
+  left_where ingest UntoldWire readings clock work history did same = tt
+  left_where ingest AbsentWire readings clock work history did same = absurd did.letters
+  left_where ingest (HoldsWire letters) readings clock work history did same =
+      left_told ingest work.seen.faults letters did.left work.seen.left work.arrivals history did.letters did.hears.came same
+      (link_all calls_most (entries_of_ingest ingest history) work.seen.faults work.seen.end work.seen.left did.cause did.ended (link_entries calls_most ingest (HoldsWire letters) readings clock work history did same))
 
 -- ---- readings
 
@@ -104,23 +106,24 @@ next_clock : (ingest : ℕ) (made : Option ℕ) → option_map raised (option_ma
 next_clock ingest None = refl
 next_clock ingest (Some made) = refl
 
--- what the history has of these links
-abbrev pub AreArrivals : ℕ → List LinkWork → List Entry → Type 0
-AreArrivals ingest [] history = Unit {0}
-AreArrivals ingest (work ∷ works) history = (arrivals_by ingest history ≡ work.arrivals) × AreArrivals (suc ingest) works history
+module _ {C : Type 0} where
+  -- what the history has of these links
+  abbrev pub AreArrivals : ℕ → List (LinkWork C) → List Entry → Type 0
+  AreArrivals ingest [] history = Unit {0}
+  AreArrivals ingest (work ∷ works) history = (arrivals_by ingest history ≡ work.arrivals) × AreArrivals (suc ingest) works history
 
-pub are_arrivals : (ingest : ℕ) (works : List LinkWork) (history : List Entry) → ((k : ℕ) → arrivals_by (ingest + k) history ≡ get_or (map link_arrivals works) k []) → AreArrivals ingest works history
-are_arrivals ingest [] history each = tt
-are_arrivals ingest (work ∷ works) history each = (
-  ap (λ (k : ℕ). arrivals_by k history) (let same : ingest ≡ ingest + 0 = omega arith in same) ∙ each 0,
-  are_arrivals (suc ingest) works history (λ k. ap (λ (i : ℕ). arrivals_by i history) (let same : suc ingest + k ≡ ingest + suc k = omega arith in same) ∙ each (suc k)),
-)
+  pub are_arrivals : (ingest : ℕ) (works : List (LinkWork C)) (history : List Entry) → ((k : ℕ) → arrivals_by (ingest + k) history ≡ get_or (map link_arrivals works) k []) → AreArrivals ingest works history
+  are_arrivals ingest [] history each = tt
+  are_arrivals ingest (work ∷ works) history each = (
+    ap (λ (k : ℕ). arrivals_by k history) (let same : ingest ≡ ingest + 0 = omega arith in same) ∙ each 0,
+    are_arrivals (suc ingest) works history (λ k. ap (λ (i : ℕ). arrivals_by i history) (let same : suc ingest + k ≡ ingest + suc k = omega arith in same) ∙ each (suc k)),
+  )
 
-pub heard_links : (ingest : ℕ) (works : List LinkWork) (before now : Live) (history : List Entry) → LinksDid calls_most before.wire before.readings ingest (option_map (clock_after ingest) before.made) works → AreArrivals ingest works history → LinksClosed works now → HeardLinks ingest (map link_name works) before now history
-heard_links ingest [] before now history did are closed = tt
-heard_links ingest (work ∷ works) before now history did are closed =
-    let clock : Option ℕ = option_map (clock_after ingest) before.made in (
-      subst (λ (r : Option Remainder). LeftWhere ingest (before.wire work.seen.name) r history) (sym closed.0) (left_where ingest (before.wire work.seen.name) before.readings clock work history did.0 are.0),
-      read_where ingest before.readings before.made work.seen.told work.arrivals history are.0 (few_readings calls_most ingest work.seen.pass.made work.arrivals did.0.made did.0.few) did.0.hears.gave,
-      heard_links (suc ingest) works before now history (subst (λ (c : Option ℕ). LinksDid calls_most before.wire before.readings (suc ingest) c works) (next_clock ingest before.made) did.1) are.1 closed.1,
-    )
+  pub heard_links : (ingest : ℕ) (works : List (LinkWork C)) (before now : Live) (history : List Entry) → LinksDid calls_most before.wire before.readings ingest (option_map (clock_after ingest) before.made) works → AreArrivals ingest works history → LinksClosed works now → HeardLinks ingest (map link_name works) before now history
+  heard_links ingest [] before now history did are closed = tt
+  heard_links ingest (work ∷ works) before now history did are closed =
+      let clock : Option ℕ = option_map (clock_after ingest) before.made in (
+        subst (λ (r : Option Remainder). LeftWhere ingest (before.wire work.seen.name) r history) (sym closed.0) (left_where ingest (before.wire work.seen.name) before.readings clock work history did.0 are.0),
+        read_where ingest before.readings before.made work.seen.told work.arrivals history are.0 (few_readings calls_most ingest work.seen.pass.made work.arrivals did.0.made did.0.few) did.0.hears.gave,
+        heard_links (suc ingest) works before now history (subst (λ (c : Option ℕ). LinksDid calls_most before.wire before.readings (suc ingest) c works) (next_clock ingest before.made) did.1) are.1 closed.1,
+      )

@@ -25,13 +25,13 @@ use Rattle.tesla_shared.specs.declared.ingesting.LinkEnd.{LinkEnd}
 use Rattle.tesla_shared.specs.declared.ingesting.LinkEnd.TheVariants as link_ends
 use Rattle.tesla_shared.proofs.Whole.{is_whole}
 use Rattle.tesla_state.specs.declared.replies.Reply.TheVariants.{Over}
-use Rattle.tesla_state.specs.declared.report.Report.{Report}
 use Rattle.tesla_turn.specs.Held.{Ended, TurnId, first_pass}
 use Rattle.tesla_turn.specs.History.{entries}
-use Rattle.tesla_run_receive.specs.Arguments.{ReceiveArguments, IsReceive, Wanted, links_wanted, opening_for, sinks_wanted, workers_wanted}
+use Rattle.tesla_session.specs.Wanted.{Wanted, links_wanted, opening_for, sinks_wanted}
+use Rattle.tesla_run_receive.specs.Arguments.{ReceiveArguments, IsReceive, workers_wanted}
 use Rattle.tesla_run_receive.specs.Receive.{EndsAs, HasSpent, HeardLinks, HeldSinks, Receives, clock_after, config_of}
-use Rattle.tesla_run_receive.specs.Session.{PassSeen, Seen, ClosesWorkers, OpensWorkers, RanSession, RunWorkers, calls_most, came_by, drained_failed, drained_spent, ended_spent, has_spent, link_failed, sink_failed, stop_by}
-use Rattle.tesla_run_receive.proofs.Made.{LinkWork, LinksDid, SinkWork, SinksDid, are_workers, calls_made, closes_both, closes_passes, link_arrivals, link_name, link_seen, links_work, not_joined, opens_both, opens_passes, run_as_many, run_both, run_numbered, sink_answers, sink_name, sink_seen, sinks_work}
+use Rattle.tesla_session.specs.Session.{PassSeen, Seen, ClosesWorkers, OpensWorkers, RanSession, RunWorkers, calls_most, came_by, drained_failed, drained_spent, ended_spent, has_spent, link_failed, sink_failed, stop_by}
+use Rattle.tesla_session.proofs.Made.{LinkWork, LinksDid, SinkWork, SinksDid, are_workers, calls_made, closes_both, closes_passes, link_arrivals, link_name, link_seen, links_work, not_joined, opens_both, opens_passes, run_as_many, run_both, run_numbered, sink_answers, sink_name, sink_seen, sinks_work}
 use Rattle.tesla_run_receive.proofs.Heard.{AreArrivals, LinksClosed, are_arrivals, heard_links, link_entries, links_closed, links_leave_pages}
 use Rattle.tesla_run_receive.proofs.Held.{AllReplies, SinksClosed, all_replies, closed_same, held_sinks, outs_told, over_told, sink_entries, sinks_closed}
 
@@ -51,24 +51,25 @@ either : (a b : Bool) → (a || b) ≡ true → (a ≡ true) ⊎ (b ≡ true)
 either true b e = inl refl
 either false b e = inr e
 
--- a link whose calls were spent has its number
-links_spent : (ingest links sinks : ℕ) (wire : List ℕ → Wire) (readings : Option (ℕ → List ℕ)) (clock : Option ℕ) (works : List LinkWork) (history : List Entry) → ingest + length works ≤ links → LinksDid calls_most wire readings ingest clock works → AreArrivals ingest works history → list_any has_spent (map link_seen works) ≡ true → HasSpent links sinks history
-links_spent ingest links sinks wire readings clock [] history fits did are some = absurd cc
-links_spent ingest links sinks wire readings clock (work ∷ works) history fits did are some =
-    let others = links_spent (suc ingest) links sinks wire readings (option_map raised clock) works history (omega (arith, fits)) did.1 are.1 in
-    ⊎_elim
-    (λ here. record { number = ingest; spent = inl (omega (arith, fits), link_entries calls_most ingest (wire work.seen.name) readings clock work history did.0 are.0 (spent_link work.seen.end here)) })
-    others
-    (either (ended_spent work.seen.end) (list_any has_spent (map link_seen works)) some)
+module _ {C : Type 0} where
+  -- a link whose calls were spent has its number
+  links_spent : (ingest links sinks : ℕ) (wire : List ℕ → Wire) (readings : Option (ℕ → List ℕ)) (clock : Option ℕ) (works : List (LinkWork C)) (history : List Entry) → ingest + length works ≤ links → LinksDid calls_most wire readings ingest clock works → AreArrivals ingest works history → list_any has_spent (map link_seen works) ≡ true → HasSpent links sinks history
+  links_spent ingest links sinks wire readings clock [] history fits did are some = absurd cc
+  links_spent ingest links sinks wire readings clock (work ∷ works) history fits did are some =
+      let others = links_spent (suc ingest) links sinks wire readings (option_map raised clock) works history (omega (arith, fits)) did.1 are.1 in
+      ⊎_elim
+      (λ here. record { number = ingest; spent = inl (omega (arith, fits), link_entries calls_most ingest (wire work.seen.name) readings clock work history did.0 are.0 (spent_link work.seen.end here)) })
+      others
+      (either (ended_spent work.seen.end) (list_any has_spent (map link_seen works)) some)
 
-sinks_spent : (releaser links sinks : ℕ) (works : List SinkWork) (history : List Entry) → releaser + length works ≤ sinks → SinksDid calls_most releaser works → AllReplies releaser works history → list_any has_spent (map sink_seen works) ≡ true → HasSpent links sinks history
-sinks_spent releaser links sinks [] history fits did are some = absurd cc
-sinks_spent releaser links sinks (work ∷ works) history fits did are some =
-    let others = sinks_spent (suc releaser) links sinks works history (omega (arith, fits)) did.1 are.1 in
-    ⊎_elim
-    (λ here. record { number = releaser; spent = inr (omega (arith, fits), sink_entries calls_most releaser work history did.0 are.0.replies (spent_sink work.seen.end here)) })
-    others
-    (either (drained_spent work.seen.end) (list_any has_spent (map sink_seen works)) some)
+  sinks_spent : (releaser links sinks : ℕ) (works : List (SinkWork C)) (history : List Entry) → releaser + length works ≤ sinks → SinksDid calls_most releaser works → AllReplies releaser works history → list_any has_spent (map sink_seen works) ≡ true → HasSpent links sinks history
+  sinks_spent releaser links sinks [] history fits did are some = absurd cc
+  sinks_spent releaser links sinks (work ∷ works) history fits did are some =
+      let others = sinks_spent (suc releaser) links sinks works history (omega (arith, fits)) did.1 are.1 in
+      ⊎_elim
+      (λ here. record { number = releaser; spent = inr (omega (arith, fits), sink_entries calls_most releaser work history did.0 are.0.replies (spent_sink work.seen.end here)) })
+      others
+      (either (drained_spent work.seen.end) (list_any has_spent (map sink_seen works)) some)
 
 -- ---- the end of all sinks
 
@@ -77,156 +78,162 @@ over_end sink_ends.Over failed spent = refl
 over_end sink_ends.Failed failed spent = absurd cc
 over_end sink_ends.Spent failed spent = absurd cc
 
--- where no sink failed or was spent, the first was told that all is over
-first_over : (works : List SinkWork) → 1 ≤ length works → SinksDid calls_most 0 works → list_any sink_failed (map sink_seen works) ≡ false → list_any has_spent (map sink_seen works) ≡ false → Contains (get_or (map sink_answers works) 0 []) Over
-first_over [] some did failed spent = absurd (omega (arith, some))
-first_over (work ∷ works) some did failed spent =
-    over_told work.seen.end work.answers did.0.written work.seen.written did.0.writes
-    (over_end work.seen.end
-    (or_parts (drained_failed work.seen.end) (list_any sink_failed (map sink_seen works)) failed).0
-    (or_parts (drained_spent work.seen.end) (list_any has_spent (map sink_seen works)) spent).0)
+module _ {C : Type 0} where
+  -- where no sink failed or was spent, the first was told that all is over
+  first_over : (works : List (SinkWork C)) → 1 ≤ length works → SinksDid calls_most 0 works → list_any sink_failed (map sink_seen works) ≡ false → list_any has_spent (map sink_seen works) ≡ false → Contains (get_or (map sink_answers works) 0 []) Over
+  first_over [] some did failed spent = absurd (omega (arith, some))
+  first_over (work ∷ works) some did failed spent =
+      over_told work.seen.end work.answers did.0.written work.seen.written did.0.writes
+      (over_end work.seen.end
+      (or_parts (drained_failed work.seen.end) (list_any sink_failed (map sink_seen works)) failed).0
+      (or_parts (drained_spent work.seen.end) (list_any has_spent (map sink_seen works)) spent).0)
 
--- ---- the session
+  -- ---- the session
 
--- what the passes of a closed turn are
-record PassesJoined (later : PassSeen) (done : List Seen) : Type 0 where
-  joined : later.joined ≡ None ∷ map calls_made done
-  made : later.made ≡ []
+  -- what the passes of a closed turn are
+  record PassesJoined (later : PassSeen C) (done : List (Seen C)) : Type 0 where
+    joined : later.joined ≡ None ∷ map calls_made done
+    made : later.made ≡ []
 
-passes_joined : (wanted : List Wanted) (before mid now : Told) (turn : TurnId) (cfg : Config) (first later : PassSeen) (workers done : List Seen) → OpensWorkers wanted before mid (first_pass turn cfg (suc (length wanted)) calls_most) first workers (Ok tt) → RunWorkers workers done → ClosesWorkers done mid now first later → PassesJoined later done
-passes_joined wanted before mid now turn cfg first later workers done opens runs closes =
-    let start : PassSeen = first_pass turn cfg (suc (length wanted)) calls_most in
-    let opened = opens_passes wanted before mid start first workers opens in
-    let joined : first.joined ≡ None ∷ map not_joined done = opened.joined ∙ ap (λ (others : List (Option (List Entry))). None ∷ others) (run_as_many workers done runs) in
-    let closed = closes_passes done (None ∷ []) mid now first later closes (run_numbered 1 workers done runs opened.numbered) joined in
-    record { joined = closed.joined; made = closed.made ∙ opened.made }
+  passes_joined : (wanted : List Wanted) (before mid start now : Told) (turn : TurnId) (cfg : C) (first later : PassSeen C) (workers done : List (Seen C)) → OpensWorkers wanted before mid (first_pass turn cfg (suc (length wanted)) calls_most) first workers (Ok tt) → RunWorkers workers done → ClosesWorkers done start now first later → PassesJoined later done
+  passes_joined wanted before mid start now turn cfg first later workers done opens runs closes =
+      let one : PassSeen C = first_pass turn cfg (suc (length wanted)) calls_most in
+      let opened = opens_passes wanted before mid one first workers opens in
+      let joined : first.joined ≡ None ∷ map not_joined done = opened.joined ∙ ap (λ (others : List (Option (List Entry))). None ∷ others) (run_as_many workers done runs) in
+      let closed = closes_passes done (None ∷ []) start now first later closes (run_numbered 1 workers done runs opened.numbered) joined in
+      record { joined = closed.joined; made = closed.made ∙ opened.made }
 
--- the workers of a session, as those of its links and its sinks
-record Works (arguments : ReceiveArguments) (cfg : Config) (before now : Told) (done : List Seen) (history : List Entry) : Type 0 where
-  links : List LinkWork
-  sinks : List SinkWork
-  link_names : arguments.links ≡ map link_name links
-  sink_names : arguments.sinks ≡ map sink_name sinks
-  done_are : done ≡ map link_seen links ++ map sink_seen sinks
-  links_did : LinksDid calls_most before.live.wire before.live.readings 0 before.live.made links
-  sinks_did : SinksDid calls_most 0 sinks
-  links_are : LinksClosed links now.live
-  sinks_are : SinksClosed sinks now
-  whole : IsWhole cfg (map link_arrivals links) (map sink_answers sinks) history
-  legal : IsLegal cfg history
+  -- the workers of a session, as those of its links and its sinks
+  record Works (arguments : ReceiveArguments) (cfg : Config) (before now : Told) (done : List (Seen C)) (history : List Entry) : Type 0 where
+    links : List (LinkWork C)
+    sinks : List (SinkWork C)
+    link_names : arguments.links ≡ map link_name links
+    sink_names : arguments.sinks ≡ map sink_name sinks
+    done_are : done ≡ map link_seen links ++ map sink_seen sinks
+    links_did : LinksDid calls_most before.live.wire before.live.readings 0 before.live.made links
+    sinks_did : SinksDid calls_most 0 sinks
+    links_are : LinksClosed links now.live
+    sinks_are : SinksClosed sinks now
+    whole : IsWhole cfg (map link_arrivals links) (map sink_answers sinks) history
+    legal : IsLegal cfg history
 
-works_of : (arguments : ReceiveArguments) (cfg : Config) (before now : Told) (last : Option (Ended Entry)) (came : Came) → AreDistinct arguments.links → AreDistinct arguments.sinks → (ran : RanSession (workers_wanted arguments) cfg before now last came) → Works arguments cfg before now ran.done (entries ran.end.history)
-works_of arguments cfg before now last came apart apart_sinks ran =
-    let start : PassSeen = first_pass ran.turn cfg (suc (length (workers_wanted arguments))) calls_most in
-    let opened = opens_both (links_wanted 0 arguments.links) (sinks_wanted 0 arguments.sinks) before ran.mid start ran.first ran.workers ran.opens in
-    let run = run_both opened.front opened.back ran.done (subst (λ (ws : List Seen). RunWorkers ws ran.done) opened.workers_are ran.runs) in
-    let closed = closes_both run.front_done run.back_done ran.mid now ran.first ran.later (subst (λ (ds : List Seen). ClosesWorkers ds ran.mid now ran.first ran.later) run.done_are ran.closes) in
-    let links = links_work calls_most 0 arguments.links before opened.mid start opened.middle opened.front run.front_done opened.opens_front run.runs_front refl in
-    let calls : opened.middle.calls ≡ calls_most = (opens_passes (links_wanted 0 arguments.links) before opened.mid start opened.middle opened.front opened.opens_front).calls in
-    let sinks = sinks_work calls_most 0 arguments.sinks opened.mid ran.mid opened.middle ran.first opened.back run.back_done opened.opens_back run.runs_back calls in
-    let are : ran.done ≡ map link_seen links.works ++ map sink_seen sinks.works = run.done_are ∙ ap (λ (front : List Seen). front ++ run.back_done) links.done_are ∙ ap (λ (back : List Seen). map link_seen links.works ++ back) sinks.done_are in
-    let passes = passes_joined (workers_wanted arguments) before ran.mid now ran.turn cfg ran.first ran.later ran.workers ran.done ran.opens ran.runs ran.closes in
-    let legal : IsLegal cfg (entries ran.end.history) = subst (λ (c : Config). IsLegal c (entries ran.end.history)) ran.closed.config_is ran.closed.stands.legal in
-    let closes_links = subst (λ (ds : List Seen). ClosesWorkers ds closed.mid now closed.middle ran.later) links.done_are closed.closes_front in
-    let closes_sinks = subst (λ (ds : List Seen). ClosesWorkers ds ran.mid closed.mid ran.first closed.middle) sinks.done_are closed.closes_back in record {
-      links = links.works;
-      sinks = sinks.works;
-      link_names = links.names_are;
-      sink_names = sinks.names_are;
-      done_are = are;
-      links_did = links.did;
-      sinks_did = sinks.did;
-      links_are = links_closed links.works closed.mid now closed.middle ran.later closes_links (subst AreDistinct links.names_are apart);
-      sinks_are = closed_same sinks.works closed.mid now (links_leave_pages links.works closed.mid now closed.middle ran.later closes_links)
-          (sinks_closed sinks.works ran.mid closed.mid ran.first closed.middle closes_sinks (subst AreDistinct sinks.names_are apart_sinks));
-      whole = is_whole cfg ran.end.history ran.end.passes (map link_arrivals links.works) (map sink_answers sinks.works)
-          (are_workers calls_most before.live.wire before.live.readings before.live.made links.works sinks.works ran.later ran.end.passes links.did sinks.did (passes.joined ∙ ap (λ (ds : List Seen). None ∷ map calls_made ds) are) passes.made ran.closed.passes)
-          ran.closed.calls legal;
-      legal = legal;
-    }
+  works_of : (arguments : ReceiveArguments) (config : Config) (cfg : C) (before opened running now : Told) (end : Ended Entry) (stop : Option Came) → AreDistinct arguments.links → AreDistinct arguments.sinks → (it : RanSession (workers_wanted arguments) cfg before opened running now end stop) → IsLegal config (entries end.history)
+      → Works arguments config before now it.ran.done (entries end.history)
+  works_of arguments config cfg before opened running now end stop apart apart_sinks it legal =
+      let ran = it.ran in
+      let start : PassSeen C = first_pass it.turn cfg (suc (length (workers_wanted arguments))) calls_most in
+      let both = opens_both (links_wanted 0 arguments.links) (sinks_wanted 0 arguments.sinks) before opened start it.first it.workers it.opens in
+      let run = run_both both.front both.back ran.done (subst (λ (ws : List (Seen C)). RunWorkers ws ran.done) both.workers_are ran.runs) in
+      let closed = closes_both run.front_done run.back_done running now it.first ran.later (subst (λ (ds : List (Seen C)). ClosesWorkers ds running now it.first ran.later) run.done_are ran.closes) in
+      let links = links_work calls_most 0 arguments.links before both.mid start both.middle both.front run.front_done both.opens_front run.runs_front refl in
+      let calls : both.middle.calls ≡ calls_most = (opens_passes (links_wanted 0 arguments.links) before both.mid start both.middle both.front both.opens_front).calls in
+      let sinks = sinks_work calls_most 0 arguments.sinks both.mid opened both.middle it.first both.back run.back_done both.opens_back run.runs_back calls in
+      let are : ran.done ≡ map link_seen links.works ++ map sink_seen sinks.works = run.done_are ∙ ap (λ (front : List (Seen C)). front ++ run.back_done) links.done_are ∙ ap (λ (back : List (Seen C)). map link_seen links.works ++ back) sinks.done_are in
+      let passes = passes_joined (workers_wanted arguments) before opened running now it.turn cfg it.first ran.later it.workers ran.done it.opens ran.runs ran.closes in
+      let closes_links = subst (λ (ds : List (Seen C)). ClosesWorkers ds closed.mid now closed.middle ran.later) links.done_are closed.closes_front in
+      let closes_sinks = subst (λ (ds : List (Seen C)). ClosesWorkers ds running closed.mid it.first closed.middle) sinks.done_are closed.closes_back in record {
+        links = links.works;
+        sinks = sinks.works;
+        link_names = links.names_are;
+        sink_names = sinks.names_are;
+        done_are = are;
+        links_did = links.did;
+        sinks_did = sinks.did;
+        links_are = links_closed links.works closed.mid now closed.middle ran.later closes_links (subst AreDistinct links.names_are apart);
+        sinks_are = closed_same sinks.works closed.mid now (links_leave_pages links.works closed.mid now closed.middle ran.later closes_links)
+            (sinks_closed sinks.works running closed.mid it.first closed.middle closes_sinks (subst AreDistinct sinks.names_are apart_sinks));
+        whole = is_whole config end.history end.passes (map link_arrivals links.works) (map sink_answers sinks.works)
+            (are_workers calls_most before.live.wire before.live.readings before.live.made links.works sinks.works ran.later end.passes links.did sinks.did (passes.joined ∙ ap (λ (ds : List (Seen C)). None ∷ map calls_made ds) are) passes.made ran.passes)
+            ran.calls legal;
+        legal = legal;
+      }
 
 -- the first clock has the number that was to be given
 first_clock : (made : Option ℕ) → made ≡ option_map (clock_after 0) made
 first_clock None = refl
 first_clock (Some made) = refl
 
-module _ (arguments : ReceiveArguments) (cfg : Config) (before now : Told) (done : List Seen) (history : List Entry) (works : Works arguments cfg before now done history) where
-  count_links : length (map link_arrivals works.links) ≡ length arguments.links
-  count_links = length-map works.links link_arrivals ∙ sym (length-map works.links link_name) ∙ ap length (sym works.link_names)
+module _ {C : Type 0} where
+  module _ (arguments : ReceiveArguments) (cfg : Config) (before now : Told) (done : List (Seen C)) (history : List Entry) (works : Works arguments cfg before now done history) where
+    count_links : length (map link_arrivals works.links) ≡ length arguments.links
+    count_links = length-map works.links link_arrivals ∙ sym (length-map works.links link_name) ∙ ap length (sym works.link_names)
 
-  count_sinks : length (map sink_answers works.sinks) ≡ length arguments.sinks
-  count_sinks = length-map works.sinks sink_answers ∙ sym (length-map works.sinks sink_name) ∙ ap length (sym works.sink_names)
+    count_sinks : length (map sink_answers works.sinks) ≡ length arguments.sinks
+    count_sinks = length-map works.sinks sink_answers ∙ sym (length-map works.sinks sink_name) ∙ ap length (sym works.sink_names)
 
-  arrivals : AreArrivals 0 works.links history
-  arrivals = are_arrivals 0 works.links history (λ k. ap (λ (i : ℕ). arrivals_by i history) (let same : 0 + k ≡ k = omega arith in same) ∙ works.whole.arrivals k)
+    arrivals : AreArrivals 0 works.links history
+    arrivals = are_arrivals 0 works.links history (λ k. ap (λ (i : ℕ). arrivals_by i history) (let same : 0 + k ≡ k = omega arith in same) ∙ works.whole.arrivals k)
 
-  replies : AllReplies 0 works.sinks history
-  replies = all_replies 0 works.sinks history
-      (λ r. ap (λ (i : ℕ). replies_by i history) (let same : 0 + r ≡ r = omega arith in same) ∙ works.whole.replies r)
-      (λ r. ap (λ (i : ℕ). records_of i history) (let same : 0 + r ≡ r = omega arith in same) ∙ works.whole.written r)
+    replies : AllReplies 0 works.sinks history
+    replies = all_replies 0 works.sinks history
+        (λ r. ap (λ (i : ℕ). replies_by i history) (let same : 0 + r ≡ r = omega arith in same) ∙ works.whole.replies r)
+        (λ r. ap (λ (i : ℕ). records_of i history) (let same : 0 + r ≡ r = omega arith in same) ∙ works.whole.written r)
 
-  workers : list_all (is_of_workers (length arguments.links) (length arguments.sinks)) history ≡ true
-  workers = ap (λ (n : ℕ). list_all (is_of_workers n (length arguments.sinks)) history) (sym count_links)
-      ∙ ap (λ (m : ℕ). list_all (is_of_workers (length (map link_arrivals works.links)) m) history) (sym count_sinks) ∙ works.whole.workers
+    workers : list_all (is_of_workers (length arguments.links) (length arguments.sinks)) history ≡ true
+    workers = ap (λ (n : ℕ). list_all (is_of_workers n (length arguments.sinks)) history) (sym count_links)
+        ∙ ap (λ (m : ℕ). list_all (is_of_workers (length (map link_arrivals works.links)) m) history) (sym count_sinks) ∙ works.whole.workers
 
-  ended : (ingest : ℕ) → ingest < length arguments.links → has_end history ingest ≡ true
-  ended ingest low = works.whole.ended ingest (omega (arith, low, count_links))
+    ended : (ingest : ℕ) → ingest < length arguments.links → has_end history ingest ≡ true
+    ended ingest low = works.whole.ended ingest (omega (arith, low, count_links))
 
-  heard : HeardLinks 0 arguments.links before.live now.live history
-  heard = subst (λ (names : List (List ℕ)). HeardLinks 0 names before.live now.live history) (sym works.link_names)
-      (heard_links 0 works.links before.live now.live history (subst (λ (clock : Option ℕ). LinksDid calls_most before.live.wire before.live.readings 0 clock works.links) (first_clock before.live.made) works.links_did) arrivals works.links_are)
+    heard : HeardLinks 0 arguments.links before.live now.live history
+    heard = subst (λ (names : List (List ℕ)). HeardLinks 0 names before.live now.live history) (sym works.link_names)
+        (heard_links 0 works.links before.live now.live history (subst (λ (clock : Option ℕ). LinksDid calls_most before.live.wire before.live.readings 0 clock works.links) (first_clock before.live.made) works.links_did) arrivals works.links_are)
 
-  held : HeldSinks 0 (files_told now (map opening_for (sinks_wanted 0 arguments.sinks))) history
-  held = subst (λ (names : List (List ℕ)). HeldSinks 0 (files_told now (map opening_for (sinks_wanted 0 names))) history) (sym works.sink_names)
-      (held_sinks 0 works.sinks now history works.sinks_did replies works.sinks_are)
+    held : HeldSinks 0 (files_told now (map opening_for (sinks_wanted 0 arguments.sinks))) history
+    held = subst (λ (names : List (List ℕ)). HeldSinks 0 (files_told now (map opening_for (sinks_wanted 0 names))) history) (sym works.sink_names)
+        (held_sinks 0 works.sinks now history works.sinks_did replies works.sinks_are)
 
-  both : (p : Seen → Bool) → list_any p done ≡ (list_any p (map link_seen works.links) || list_any p (map sink_seen works.sinks))
-  both p = ap (list_any p) works.done_are ∙ list_any-append p (map link_seen works.links) (map sink_seen works.sinks)
+    both : (p : Seen C → Bool) → list_any p done ≡ (list_any p (map link_seen works.links) || list_any p (map sink_seen works.sinks))
+    both p = ap (list_any p) works.done_are ∙ list_any-append p (map link_seen works.links) (map sink_seen works.sinks)
 
-  spent : list_any has_spent done ≡ true → HasSpent (length arguments.links) (length arguments.sinks) history
-  spent some =
-      let links : length works.links ≡ length arguments.links = sym (length-map works.links link_arrivals) ∙ count_links in
-      let sinks : length works.sinks ≡ length arguments.sinks = sym (length-map works.sinks sink_answers) ∙ count_sinks in
-      ⊎_elim
-      (links_spent 0 (length arguments.links) (length arguments.sinks) before.live.wire before.live.readings before.live.made works.links history (omega (arith, links)) works.links_did arrivals)
-      (sinks_spent 0 (length arguments.links) (length arguments.sinks) works.sinks history (omega (arith, sinks)) works.sinks_did replies)
-      (either (list_any has_spent (map link_seen works.links)) (list_any has_spent (map sink_seen works.sinks)) (sym (both has_spent) ∙ some))
+    spent : list_any has_spent done ≡ true → HasSpent (length arguments.links) (length arguments.sinks) history
+    spent some =
+        let links : length works.links ≡ length arguments.links = sym (length-map works.links link_arrivals) ∙ count_links in
+        let sinks : length works.sinks ≡ length arguments.sinks = sym (length-map works.sinks sink_answers) ∙ count_sinks in
+        ⊎_elim
+        (links_spent 0 (length arguments.links) (length arguments.sinks) before.live.wire before.live.readings before.live.made works.links history (omega (arith, links)) works.links_did arrivals)
+        (sinks_spent 0 (length arguments.links) (length arguments.sinks) works.sinks history (omega (arith, sinks)) works.sinks_did replies)
+        (either (list_any has_spent (map link_seen works.links)) (list_any has_spent (map sink_seen works.sinks)) (sym (both has_spent) ∙ some))
 
-  all_given : 1 ≤ length arguments.sinks → cfg.ingests ≡ length arguments.links → list_any sink_failed done ≡ false → list_any has_spent done ≡ false → given_in history ≡ length (released cfg (arrivals_in history))
-  all_given some ingests failed none =
-      let sinks : length works.sinks ≡ length arguments.sinks = sym (length-map works.sinks sink_answers) ∙ count_sinks in
-      works.whole.complete (ingests ∙ sym count_links) 0
-      (first_over works.sinks (omega (arith, some, sinks)) works.sinks_did
-      (or_parts (list_any sink_failed (map link_seen works.links)) (list_any sink_failed (map sink_seen works.sinks)) (sym (both sink_failed) ∙ failed)).1
-      (or_parts (list_any has_spent (map link_seen works.links)) (list_any has_spent (map sink_seen works.sinks)) (sym (both has_spent) ∙ none)).1)
+    all_given : 1 ≤ length arguments.sinks → cfg.ingests ≡ length arguments.links → list_any sink_failed done ≡ false → list_any has_spent done ≡ false → given_in history ≡ length (released cfg (arrivals_in history))
+    all_given some ingests failed none =
+        let sinks : length works.sinks ≡ length arguments.sinks = sym (length-map works.sinks sink_answers) ∙ count_sinks in
+        works.whole.complete (ingests ∙ sym count_links) 0
+        (first_over works.sinks (omega (arith, some, sinks)) works.sinks_did
+        (or_parts (list_any sink_failed (map link_seen works.links)) (list_any sink_failed (map sink_seen works.sinks)) (sym (both sink_failed) ∙ failed)).1
+        (or_parts (list_any has_spent (map link_seen works.links)) (list_any has_spent (map sink_seen works.sinks)) (sym (both has_spent) ∙ none)).1)
 
 -- what it comes to, by cases of why the workers came to no end
-ends_as : (arguments : ReceiveArguments) (cfg : Config) (history : List Entry) (report : Report) (read write spent : Bool) → report ≡ report_of history → (spent ≡ true → HasSpent (length arguments.links) (length arguments.sinks) history)
-    → (write ≡ false → spent ≡ false → given_in history ≡ length (released cfg (arrivals_in history))) → EndsAs arguments cfg history (came_by (stop_by read write spent) report)
-ends_as arguments cfg history report true write spent same has given = tt
-ends_as arguments cfg history report false true spent same has given = tt
-ends_as arguments cfg history report false false true same has given = (refl, refl, has refl)
-ends_as arguments cfg history report false false false same has given = (ap (λ (r : Report). report_text r) same, given refl refl)
+ends_as : (arguments : ReceiveArguments) (cfg : Config) (history : List Entry) (read write spent : Bool) → (spent ≡ true → HasSpent (length arguments.links) (length arguments.sinks) history)
+    → (write ≡ false → spent ≡ false → given_in history ≡ length (released cfg (arrivals_in history))) → EndsAs arguments cfg history (came_by (stop_by read write spent) (report_text (report_of history)))
+ends_as arguments cfg history true write spent has given = tt
+ends_as arguments cfg history false true spent has given = tt
+ends_as arguments cfg history false false true has given = (refl, refl, has refl)
+ends_as arguments cfg history false false false has given = (refl, given refl refl)
 
--- where all workers were opened, one legal history was made of the links, and the sinks hold what it gives
-pub receives : (arguments : ReceiveArguments) (words : List (List ℕ)) (parts : Parts) (setup : File) (before now : Told) (last : Option (Ended Entry)) (came : Came) → IsReceive arguments words → RanSession (workers_wanted arguments) (config_of arguments parts) before now last came → IsSetupIn setup.page parts
-    → Receives arguments before.live now.live last setup (drop (length arguments.links) (files_told now (map opening_for (workers_wanted arguments)))) came
-receives arguments words parts setup before now last came is ran found =
-    let cfg : Config = config_of arguments parts in
-    let history : List Entry = entries ran.end.history in
-    let works = works_of arguments cfg before now last came is.links_are.distinct is.sinks_are.distinct ran in record {
-      parts = parts;
-      found = found;
-      end = ran.end;
-      last_is = ran.last_is;
-      calls = ran.closed.calls;
-      workers = workers arguments cfg before now ran.done history works;
-      legal = works.legal;
-      heard = heard arguments cfg before now ran.done history works;
-      held = subst (λ (outs : List File). HeldSinks 0 outs history) (sym (outs_told arguments now)) (held arguments cfg before now ran.done history works);
-      ended = ended arguments cfg before now ran.done history works;
-      came_is = subst (EndsAs arguments cfg history) (sym ran.came_is)
-          (ends_as arguments cfg history ran.report (list_any link_failed ran.done) (list_any sink_failed ran.done) (list_any has_spent ran.done) (ran.closed.report_is ∙ ran.closed.stands.counts)
-          (spent arguments cfg before now ran.done history works)
-          (all_given arguments cfg before now ran.done history works is.sinks_are.some refl));
-    }
+module _ {C : Type 0} where
+  -- where all workers were opened, one legal history was made of the links, and the sinks hold what it gives. It comes to a failed write where a sink failed at the least
+  pub receives : (arguments : ReceiveArguments) (words : List (List ℕ)) (parts : Parts) (setup : File) (cfg : C) (before opened running now : Told) (end : Ended Entry) (stop : Option Came) (write : Bool) (last : Option (Ended Entry)) (came : Came) → IsReceive arguments words
+      → (it : RanSession (workers_wanted arguments) cfg before opened running now end stop) → IsLegal (config_of arguments parts) (entries end.history) → IsSetupIn setup.page parts → last ≡ Some end → (write ≡ false → list_any sink_failed it.ran.done ≡ false)
+      → came ≡ came_by (stop_by (list_any link_failed it.ran.done) write (list_any has_spent it.ran.done)) (report_text (report_of (entries end.history)))
+      → Receives arguments before.live now.live last setup (drop (length arguments.links) (files_told now (map opening_for (workers_wanted arguments)))) came
+  receives arguments words parts setup cfg before opened running now end stop write last came is it legal found last_is wrote came_is =
+      let config : Config = config_of arguments parts in
+      let history : List Entry = entries end.history in
+      let works = works_of arguments config cfg before opened running now end stop is.links_are.distinct is.sinks_are.distinct it legal in record {
+        parts = parts;
+        found = found;
+        end = end;
+        last_is = last_is;
+        calls = it.ran.calls;
+        workers = workers arguments config before now it.ran.done history works;
+        legal = legal;
+        heard = heard arguments config before now it.ran.done history works;
+        held = subst (λ (outs : List File). HeldSinks 0 outs history) (sym (outs_told arguments now)) (held arguments config before now it.ran.done history works);
+        ended = ended arguments config before now it.ran.done history works;
+        came_is = subst (EndsAs arguments config history) (sym came_is)
+            (ends_as arguments config history (list_any link_failed it.ran.done) write (list_any has_spent it.ran.done)
+            (spent arguments config before now it.ran.done history works)
+            (λ none clear. all_given arguments config before now it.ran.done history works is.sinks_are.some refl (wrote none) clear));
+      }

@@ -1,14 +1,6 @@
-pub mod Stopping
 pub mod Others
-pub mod Closings
-pub mod Openings
-pub mod Runs
-pub mod Sessions
-pub mod Opened
-pub mod Stopped
-pub mod Counted
-pub mod Performed
-pub mod Made
 pub mod Heard
 pub mod Held
 pub mod Histories
+pub mod Stopped
+pub mod Performed

@@ -1,10 +1,10 @@
 -- Names that are none of some others, one after another.
-use Rattle.std.proofs.Common.{◌≡◌, ◌≢◌, ℕ, ◌-◌, ◌≤◌, Bool, true, false, List, [], ◌∷◌, length, map, take, drop, slice_index_or, Bor, subst, sym, arith}
+use Rattle.std.proofs.Common.{◌≡◌, ◌≢◌, ℕ, ◌-◌, ◌≤◌, true, false, List, [], ◌∷◌, length, map, take, drop, slice_index_or, Bor, subst, arith}
 use Rattle.std.proofs.lemmas.List.{take_rest}
 use Rattle.std.proofs.lemmas.Slice.Eq.{bytes_eq-Decides}
 use Rattle.std.specs.Str.{bytes_eq}
 use Rattle.tesla_run_receive.specs.Arguments.{AreOthers}
-use Rattle.tesla_run_receive.specs.Session.{name_of}
+use Rattle.tesla_session.specs.Session.{name_of}
 
 other_name : (one name : List ℕ) → bytes_eq one name ≡ false → one ≢ name
 other_name one name test e = let same : bytes_eq one name ≡ true = (bytes_eq-Decides one name).1 e in cc

@@ -1,11 +1,12 @@
 -- What the words of the command receive ask for.
-use Rattle.std.specs.Prelude.{◌≡◌, ◌≢◌, ℕ, suc, ℤ, Bool, List, [], ◌∷◌, ◌++◌, length, map, ◌≤◌, codes, FitsSigned}
+use Rattle.std.specs.Prelude.{◌≡◌, ◌≢◌, ℕ, ℤ, List, [], ◌∷◌, length, map, ◌≤◌, codes, FitsSigned}
 use Rattle.std.specs.Fmt.{signed_decimal}
 use Rattle.std.specs.Int.{w64}
-use Rattle.tesla_desk.specs.Outside.{Opening, OfSource, OfSink, OfLink}
+use Rattle.tesla_desk.specs.Outside.{Opening, OfSource}
 use Rattle.tesla_front.specs.Words.{IsName, ArePlaces}
 use Rattle.tesla_front.specs.declared.words.Places.{Places}
 use Rattle.tesla_names.specs.Names.{AreNames}
+use Rattle.tesla_session.specs.Wanted.{Wanted, opening_for, wanted_for}
 use Rattle.tesla_run_receive.specs.declared.arguments.Arguments.{Arguments}
 
 -- the names of the setup, of the links and of the sinks, the lag, and how many packets are held at most
@@ -40,29 +41,9 @@ pub record IsReceive (arguments : ReceiveArguments) (words : List (List ℕ)) : 
   -- no output is the input
   pub outputs : AreOthers arguments.setup arguments.sinks
 
--- a worker that the words ask for: of the link or of the sink under a name, with its number among those of its kind
-pub data Wanted : Type 0 where
-  WantedLink : (ingest : ℕ) (name : List ℕ) → Wanted
-  WantedSink : (releaser : ℕ) (name : List ℕ) → Wanted
-
--- a worker for each link, numbered from the first argument on
-abbrev pub links_wanted : ℕ → List (List ℕ) → List Wanted
-links_wanted number [] = []
-links_wanted number (name ∷ names) = WantedLink number name ∷ links_wanted (suc number) names
-
--- a worker for each sink, numbered from the first argument on
-abbrev pub sinks_wanted : ℕ → List (List ℕ) → List Wanted
-sinks_wanted number [] = []
-sinks_wanted number (name ∷ names) = WantedSink number name ∷ sinks_wanted (suc number) names
-
 -- the workers that the words ask for: of the links, and then of the sinks
 abbrev pub workers_wanted : ReceiveArguments → List Wanted
-workers_wanted arguments = links_wanted 0 arguments.links ++ sinks_wanted 0 arguments.sinks
-
--- what is opened for a worker
-abbrev pub opening_for : Wanted → Opening
-opening_for (WantedLink ingest name) = OfLink name
-opening_for (WantedSink releaser name) = OfSink name
+workers_wanted arguments = wanted_for arguments.links arguments.sinks
 
 -- there are 1 to 32 links and sinks
 pub record AreFew (arguments : ReceiveArguments) : Type 0 where

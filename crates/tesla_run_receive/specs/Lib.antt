@@ -1,4 +1,4 @@
 pub mod Arguments
-pub mod Session
 pub mod Receive
+pub mod Running
 pub mod Usage

@@ -27,7 +27,7 @@ use Rattle.tesla_turn.specs.Held.{Ended}
 use Rattle.tesla_turn.specs.History.{entries, HasCalls}
 use Rattle.tesla_run_replay.specs.ReportText.{report_text}
 use Rattle.tesla_run_receive.specs.Arguments.{ReceiveArguments, IsReceive, workers_wanted, files_of_receive}
-use Rattle.tesla_run_receive.specs.Session.{calls_most, spent_line}
+use Rattle.tesla_session.specs.Session.{calls_most, spent_line}
 
 -- the configuration of the receiver: that of the words, with an ingest for each link
 abbrev pub config_of : ReceiveArguments → Parts → Config

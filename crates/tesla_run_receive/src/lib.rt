@@ -4,11 +4,9 @@
 mod arguments;
 mod forms;
 mod receive;
-mod running;
-mod session;
-mod stop;
 mod words;
-mod worker;
 
+pub use arguments::Arguments;
 pub use forms::RECEIVE;
-pub use receive::{Received, run_receive};
+pub use receive::{Received, new_receiver, run_receive};
+pub use words::{are_others, read_words};

@@ -1,22 +1,21 @@
 //! A run of the command `receive`.
 
-ghost use Rattle.std.specs.Prelude.{◌≡◌, ◌≤◌, ◌+◌, suc, [], ℕ, List, Some, None, IfOk, length, map, string_bytes, vec_capacity};
+ghost use Rattle.std.specs.Prelude.{◌≡◌, ◌≤◌, ◌+◌, [], ℕ, List, None, IfOk, length, map, string_bytes, vec_capacity};
 ghost use Rattle.std.specs.Option.{option_map};
+ghost use Rattle.tesla_fitting.specs.declared.config.Config.{Config};
 ghost use Rattle.tesla_front.specs.Came.{Usage, came_of, outcome_came, stop_came};
 ghost use Rattle.tesla_front.specs.Command.{Performs, RunsAs};
 ghost use Rattle.tesla_receiver.specs.Report.{report_of};
 ghost use Rattle.tesla_receiver.specs.Stands.{Stands};
 ghost use Rattle.tesla_receiver.specs.declared.history.Entry.{Entry};
+ghost use Rattle.tesla_run_replay.specs.ReportText.{report_text};
+ghost use Rattle.tesla_session.specs.Session.{calls_most, came_by};
 ghost use Rattle.tesla_turn.specs.Held.{first_pass};
 ghost use Rattle.tesla_run_receive.specs.Arguments.{AreFew, IsReceive, arguments_of, workers_wanted};
 ghost use Rattle.tesla_run_receive.specs.Receive.{config_of, receive};
-ghost use Rattle.tesla_run_receive.specs.Session.{OpensWorkers, RunWorkers, ClosesWorkers, RunsOpened, RunsSession, AreOf, HaveCalls, calls_most, came_by, stop_of, workers_of};
-ghost use Rattle.tesla_fitting.specs.declared.config.Config.{Config};
+ghost use Rattle.tesla_run_receive.specs.Running.{RunsReceiver};
 
 use crate::arguments::Arguments;
-use crate::running::run_workers;
-use crate::session::{Links, Sinks, close_links, close_sinks, open_links, open_sinks};
-use crate::stop::stop_in;
 use crate::words::arguments_in;
 use std::alloc::Global;
 use std::sync::Wait;
@@ -27,10 +26,8 @@ use tesla_desk::Desk;
 use tesla_front::{Fault, Lines, Outcome, Stop, outcome_of, setup_under};
 use tesla_receiver::Receiver;
 use tesla_run_replay::report_lines;
-use tesla_turn::{Last, Pass, Turn};
-
-/// How many calls each worker may make.
-const CALLS: u64 = 1 << 56;
+use tesla_session::{Ran, Session, open_session, prepared, run_opened};
+use tesla_turn::Last;
 
 /// What a run came to, and the whole history where the links and sinks were opened and the workers ran.
 #[derive(Drop)]
@@ -87,131 +84,45 @@ fn perform<R: Threads + Wait + Sync, D: Desk>(
     }
 }
 
-// A receiver with its turn, and room for its workers.
-struct Session<D: Desk> {
-    turn: Turn<Receiver>,
-    first: Pass<Receiver>,
-    links: Links<D>,
-    sinks: Sinks<D>,
-}
-
-// A new receiver with its turn: a pass for each worker, and the first.
-fn new_turn(
+/// A receiver with no history, under the setup and what the words ask for. `NoMemory`: there wasn't enough.
+pub fn new_receiver(
     alloc: Global,
     setup: Setup,
     arguments: &Arguments<'_>,
-) -> Result<(Turn<Receiver>, Pass<Receiver>), NoMemory>
+) -> Result<Receiver, NoMemory>
     requires few { AreFew (arguments_of arguments.now) }
-    ensures { IfOk result (λ made. made.1 ≡ first_pass made.0 (config_of (arguments_of arguments.now) setup) (1 + length arguments.now.links + length arguments.now.sinks) calls_most) }
+    ensures stands { IfOk result (λ receiver. Stands receiver []) }
+    ensures config { IfOk result (λ receiver. receiver.config ≡ config_of (arguments_of arguments.now) setup) }
 {
-    let links = arguments.links.len() as u8;
-    let sinks = arguments.sinks.len() as u8;
     let places = arguments.places;
-    let receiver = Receiver::open(
+    Receiver::open(
         alloc,
         setup,
         arguments.lag,
         places.capacity,
         places.quota,
-        links,
-    )?;
-    Turn::open(alloc, receiver, 1 + links + sinks, CALLS)
+        arguments.links.len() as u8,
+    )
 }
 
 // Takes all memory that a run needs.
-fn prepared<D: Desk>(
+fn new_session<D: Desk>(
     alloc: Global,
     setup: Setup,
     arguments: &Arguments<'_>,
-) -> Result<Session<D>, NoMemory>
+) -> Result<Session<D, Receiver>, NoMemory>
     requires few { AreFew (arguments_of arguments.now) }
     ensures links { IfOk result (λ it. (it.links.items ≡ []) × (length arguments.now.links ≤ vec_capacity it.links)) }
     ensures sinks { IfOk result (λ it. (it.sinks.items ≡ []) × (length arguments.now.sinks ≤ vec_capacity it.sinks)) }
     ensures first { IfOk result (λ it. it.first ≡ first_pass it.turn (config_of (arguments_of arguments.now) setup) (1 + length arguments.now.links + length arguments.now.sinks) calls_most) }
 {
-    let (turn, first) = new_turn(alloc, setup, arguments)?;
-    let links = Vec::with_capacity(alloc, arguments.links.len())?;
-    match Vec::with_capacity(alloc, arguments.sinks.len()) {
-        Ok(sinks) => Ok(Session {
-            turn,
-            first,
-            links,
-            sinks,
-        }),
-        Err(_) => {
-            links.destroy_empty();
-            Err(NoMemory)
-        }
-    }
-}
-
-// Opens the links and then the sinks, until an opening is refused.
-fn open_all<D: Desk>(
-    desk: &mut D,
-    arguments: &Arguments<'_>,
-    session: &mut Session<D>,
-) -> Result<(), Fault>
-    requires few { AreFew (arguments_of arguments.now) }
-    requires own { session.old.first.turn ≡ session.old.turn }
-    requires room { length arguments.now.links + length arguments.now.sinks ≤ session.old.first.room }
-    requires links { (session.old.links.items ≡ []) × (length arguments.now.links ≤ vec_capacity session.old.links) }
-    requires sinks { (session.old.sinks.items ≡ []) × (length arguments.now.sinks ≤ vec_capacity session.old.sinks) }
-    ensures opens { OpensWorkers (workers_wanted (arguments_of arguments.now)) (D.told desk.old) (D.told desk.new) session.old.first session.new.first (workers_of session.new.links.items session.new.sinks.items) result }
-    ensures turn { session.new.turn ≡ session.old.turn }
-{
-    let Session {
-        turn,
-        first,
-        links,
-        sinks,
-    } = session;
-    match open_links(desk, arguments.links.as_slice(), 0, turn, first, links) {
-        Ok(()) => open_sinks(desk, arguments.sinks.as_slice(), 0, turn, first, sinks),
-        Err(fault) => Err(fault),
-    }
-}
-
-// Runs all workers, and tells why they came to no end.
-fn run_all<R: Threads + Wait + Sync, D: Desk>(rt: &R, session: &mut Session<D>) -> Option<Stop>
-    requires own { AreOf session.old.turn (workers_of session.old.links.items session.old.sinks.items) }
-    requires left { HaveCalls (workers_of session.old.links.items session.old.sinks.items) }
-    ensures runs { RunWorkers (workers_of session.old.links.items session.old.sinks.items) (workers_of session.new.links.items session.new.sinks.items) }
-    ensures stop { option_map stop_came result ≡ stop_of (workers_of session.new.links.items session.new.sinks.items) }
-    ensures same { (session.new.turn ≡ session.old.turn) × (session.new.first ≡ session.old.first) }
-{
-    run_workers(
-        rt,
-        &session.turn,
-        session.links.as_mut_slice(),
-        session.sinks.as_mut_slice(),
-    );
-    stop_in(session.links.as_slice(), session.sinks.as_slice())
-}
-
-// Closes all workers, and gives the turn with the first pass, which has taken in theirs.
-fn close_all<D: Desk>(desk: &mut D, session: Session<D>) -> (Turn<Receiver>, Pass<Receiver>)
-    requires own { session.first.turn ≡ session.turn }
-    requires first { session.first.number ≡ 0 }
-    requires others { AreOf session.turn (workers_of session.links.items session.sinks.items) }
-    ensures closes { ClosesWorkers (workers_of session.links.items session.sinks.items) (D.told desk.old) (D.told desk.new) session.first result.1 }
-    ensures turn { result.0 ≡ session.turn }
-{
-    let Session {
-        turn,
-        mut first,
-        mut links,
-        mut sinks,
-    } = session;
-    close_sinks(desk, &turn, &mut first, &mut sinks);
-    sinks.destroy_empty();
-    close_links(desk, &turn, &mut first, &mut links);
-    links.destroy_empty();
-    (turn, first)
+    let receiver = new_receiver(alloc, setup, arguments)?;
+    prepared(alloc, receiver, &arguments.links, &arguments.sinks)
 }
 
 // What workers that ended so come to, with the receiver that they shared.
 fn ended(stop: Option<Stop>, receiver: &Receiver) -> Result<Lines, Stop>
-    ensures { (h : List Entry) → Stands receiver.now h → came_of result ≡ came_by (option_map stop_came stop) (report_of h) }
+    ensures { (h : List Entry) → Stands receiver.now h → came_of result ≡ came_by (option_map stop_came stop) (report_text (report_of h)) }
 {
     match stop {
         Some(stop) => Err(stop),
@@ -219,43 +130,29 @@ fn ended(stop: Option<Stop>, receiver: &Receiver) -> Result<Lines, Stop>
     }
 }
 
-// Runs the workers that are opened, closes them, and ends the turn.
-fn run_opened<R: Threads + Wait + Sync, D: Desk>(
-    rt: &R,
-    mut session: Session<D>,
-    desk: &mut D,
-) -> Came
-    requires own { session.first.turn ≡ session.turn }
-    requires first { session.first.number ≡ 0 }
-    requires others { AreOf session.turn (workers_of session.links.items session.sinks.items) }
-    requires left { HaveCalls (workers_of session.links.items session.sinks.items) }
-    ensures { (cfg : Config) → session.first.config ≡ Some cfg → RunsOpened cfg session.first (workers_of session.links.items session.sinks.items) (D.told desk.old) (D.told desk.new) result.1 (came_of result.0) }
-{
-    let stop = run_all(rt, &mut session);
-    let (turn, first) = close_all(desk, session);
-    let (receiver, last) = turn.close(rt, first);
-    (ended(stop, &receiver), Some(last))
-}
-
 // Opens the workers, and where none was refused runs them.
 fn run_session<R: Threads + Wait + Sync, D: Desk>(
     rt: &R,
     arguments: &Arguments<'_>,
-    mut session: Session<D>,
+    session: Session<D, Receiver>,
     desk: &mut D,
 ) -> Came
     requires few { AreFew (arguments_of arguments.now) }
     requires links { (session.links.items ≡ []) × (length arguments.now.links ≤ vec_capacity session.links) }
     requires sinks { (session.sinks.items ≡ []) × (length arguments.now.sinks ≤ vec_capacity session.sinks) }
     requires first { (cfg : Config) × (session.first ≡ first_pass session.turn cfg (1 + length arguments.now.links + length arguments.now.sinks) calls_most) }
-    ensures { (cfg : Config) → session.first ≡ first_pass session.turn cfg (1 + length arguments.now.links + length arguments.now.sinks) calls_most → RunsSession (workers_wanted (arguments_of arguments.now)) cfg (D.told desk.old) (D.told desk.new) result.1 (came_of result.0) }
+    ensures { (cfg : Config) → session.first ≡ first_pass session.turn cfg (1 + length arguments.now.links + length arguments.now.sinks) calls_most → RunsReceiver (workers_wanted (arguments_of arguments.now)) cfg (D.told desk.old) (D.told desk.new) result.1 (came_of result.0) }
 {
-    match open_all(desk, arguments, &mut session) {
-        Ok(()) => run_opened(rt, session, desk),
-        Err(fault) => {
-            let (_turn, _first) = close_all(desk, session);
-            (Err(Stop::Failed(fault)), None)
+    match open_session(&arguments.links, &arguments.sinks, session, desk) {
+        Ok(session) => {
+            let Ran {
+                stop,
+                station,
+                last,
+            } = run_opened(rt, session, desk);
+            (ended(stop, &station), Some(last))
         }
+        Err(fault) => (Err(Stop::Failed(fault)), None),
     }
 }
 
@@ -268,9 +165,9 @@ fn receive_under<R: Threads + Wait + Sync, D: Desk>(
     desk: &mut D,
 ) -> Came
     requires few { AreFew (arguments_of arguments.now) }
-    ensures { RunsSession (workers_wanted (arguments_of arguments.now)) (config_of (arguments_of arguments.now) setup) (D.told desk.old) (D.told desk.new) result.1 (came_of result.0) }
+    ensures { RunsReceiver (workers_wanted (arguments_of arguments.now)) (config_of (arguments_of arguments.now) setup) (D.told desk.old) (D.told desk.new) result.1 (came_of result.0) }
 {
-    match prepared(alloc, setup, arguments) {
+    match new_session(alloc, setup, arguments) {
         Ok(session) => run_session(rt, arguments, session, desk),
         Err(_) => (Err(Stop::Failed(Fault::NoMemory)), None),
     }

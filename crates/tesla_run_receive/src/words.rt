@@ -2,7 +2,7 @@
 
 ghost use Rattle.std.specs.Prelude.{◌≡◌, [], ◌∷◌, Some, None, IfSome, true, false, map, string_bytes, option_map, codes};
 ghost use Rattle.tesla_run_receive.specs.Arguments.{ReceiveArguments, IsReceive, AreOthers, arguments_of};
-ghost use Rattle.tesla_run_receive.specs.Session.{name_of};
+ghost use Rattle.tesla_session.specs.Session.{name_of};
 
 use crate::arguments::Arguments;
 use tesla_base::read_signed;
@@ -12,8 +12,8 @@ use tesla_names::read_names;
 /// The name of the command.
 const NAME: &str = "receive";
 
-// Whether none of the names is this one.
-fn are_others(name: &str, others: &[&str]) -> bool
+/// Whether none of the names is this one.
+pub fn are_others(name: &str, others: &[&str]) -> bool
     ensures yes { result ≡ true → AreOthers name.now (map name_of others.now) }
     ensures no { result ≡ false → AreOthers name.now (map name_of others.now) → ⊥ }
 {
@@ -28,8 +28,8 @@ fn are_others(name: &str, others: &[&str]) -> bool
     }
 }
 
-// What the words after the command ask for.
-fn read_words<'a>(
+/// What the words after the command ask for, as `arguments_in` says.
+pub fn read_words<'a>(
     setup: &'a str,
     lag: &[u8],
     capacity: &[u8],

@@ -5,7 +5,6 @@ use Rattle.std.proofs.lemmas.List.Concat.{flat_map-append}
 use Rattle.tesla_base.proofs.Lists.{list_all_both}
 use Rattle.tesla_desk.specs.Outside.{AppendsPrefix, with_bytes}
 use Rattle.tesla_desk.proofs.Told.{with_bytes_twice}
-use Rattle.tesla_capture.specs.Gathering.{Gathers}
 use Rattle.tesla_receiver.specs.declared.history.Entry.{Entry}
 use Rattle.tesla_receiver.specs.declared.history.Entry.TheVariants.{Taken}
 use Rattle.tesla_state.specs.declared.replies.Reply.{Reply}
@@ -58,33 +57,3 @@ drains_failed releaser made mid now written before after reply by on same all la
     subst (λ (w : Option (List ℕ)). AppendsPrefix w after (record_in reply)) all.writes.1 wrote,
   );
 }
-
--- ---- the one record that is gathered
-
-nothing_before : (bytes done : List ℕ) → Some bytes ≡ with_bytes (Some bytes) done → done ≡ []
-nothing_before bytes [] same = refl
-nothing_before bytes (first ∷ done) same =
-    let whole : bytes ≡ bytes ++ first ∷ done = cc in
-    absurd (omega (arith, ap (λ (bs : List ℕ). length bs) whole, length-append bytes (first ∷ done)))
-
--- a text that was gathered behind nothing, while the sink stayed as it was
-held_is : (bytes held none text : List ℕ) → none ≡ [] → Gathers (Some bytes) (Some bytes) held (none ++ text) → held ≡ text
-held_is bytes held none text empty both =
-    let front : both.done ≡ [] = nothing_before bytes both.done both.written in
-    sym (ap (λ (n : List ℕ). n ++ text) (sym empty) ∙ both.both ∙ ap (λ (f : List ℕ). f ++ held) front)
-
--- and was then written
-pub gathered_whole : (before mid after : Option (List ℕ)) (held none text told : List ℕ) → none ≡ [] → mid ≡ before → text ≡ told → Gathers before mid held (none ++ text) → after ≡ with_bytes mid held → after ≡ with_bytes before told
-gathered_whole before mid after held none text told empty same is both wrote = subst (λ (t : List ℕ). after ≡ with_bytes before t) is (whole before (subst (λ (m : Option (List ℕ)). Gathers before m held (none ++ text)) same both) (wrote ∙ ap (λ (m : Option (List ℕ)). with_bytes m held) same))
-  where
-    whole : (w : Option (List ℕ)) → Gathers w w held (none ++ text) → after ≡ with_bytes w held → after ≡ with_bytes w text
-    whole None b e = e
-    whole (Some bytes) b e = e ∙ ap (λ (bs : List ℕ). with_bytes (Some bytes) bs) (held_is bytes held none text empty b)
-
--- or a prefix of it was
-pub gathered_prefix : (before mid after : Option (List ℕ)) (held none text told : List ℕ) → none ≡ [] → mid ≡ before → text ≡ told → Gathers before mid held (none ++ text) → AppendsPrefix mid after held → AppendsPrefix before after told
-gathered_prefix before mid after held none text told empty same is both wrote = subst (λ (t : List ℕ). AppendsPrefix before after t) is (front before (subst (λ (m : Option (List ℕ)). Gathers before m held (none ++ text)) same both) (subst (λ (m : Option (List ℕ)). AppendsPrefix m after held) same wrote))
-  where
-    front : (w : Option (List ℕ)) → Gathers w w held (none ++ text) → AppendsPrefix w after held → AppendsPrefix w after text
-    front None b e = (0, record { fits = omega arith; written = e.1.written })
-    front (Some bytes) b e = subst (λ (t : List ℕ). AppendsPrefix (Some bytes) after t) (held_is bytes held none text empty b) e

@@ -5,7 +5,6 @@ ghost use Rattle.std.specs.List.{Contains, list_all, sum_by};
 ghost use Rattle.tesla_receiver.specs.History.{arrivals_in, ends, given_in, has_end};
 ghost use Rattle.tesla_receiver.specs.Packets.{released};
 ghost use Rattle.tesla_receiver.specs.Report.{records_of};
-ghost use Rattle.tesla_receiver.specs.Stands.{Stands};
 ghost use Rattle.tesla_receiver.specs.declared.history.Arrival.{Arrival};
 ghost use Rattle.tesla_state.specs.declared.replies.Reply.{Reply};
 ghost use Rattle.tesla_state.specs.declared.replies.Reply.TheVariants.{Over};
@@ -13,23 +12,23 @@ ghost use Rattle.tesla_turn.specs.History.{entries, HasCalls};
 ghost use Rattle.tesla_shared.specs.Whole.{AreWorkers, arrivals_by, is_of_workers, link_size, replies_by};
 ghost use Rattle.tesla_shared.specs.Workers.{records};
 
-use tesla_receiver::Receiver;
+use crate::Station;
 use tesla_turn::Last;
 
-/// A turn over a receiver was closed, and its passes were those of workers: one that made no call, one for each
+/// A turn over a station was closed, and its passes were those of workers: one that made no call, one for each
 /// link, and one for each sink. Then the whole history is what the workers made and nothing else, however their
 /// turns fell:
 ///
 /// - The arrivals of each link's ingest are those that its worker made, each once and in their order. The answers to
 ///   the takes for each sink are those that its worker got, in their order, and its records are those of these answers.
 /// - Each ingest has ended, once.
-/// - Where each ingest of the receiver has a link, and some sink's worker was told that all is over, every packet that
+/// - Where each ingest of its receiver has a link, and some sink's worker was told that all is over, every packet that
 ///   is released of all that arrived was given to some sink.
 ///
 /// The conditions are what `close` ensures. The passes are as `AreWorkers` says where `ingest` was called once for each
 /// link and `drain` once for each sink, in the order of their numbers and each on a pass of its own, and all were joined.
-pub fn whole_history(receiver: &Receiver, last: &Last<Receiver>)
-    requires stands { Stands receiver.now (entries last.now.history) }
+pub fn whole_history<V: Station>(station: &V, last: &Last<V>)
+    requires stands { V.stands station.now (entries last.now.history) }
     requires calls { HasCalls last.now.history last.now.passes }
     // Every entry is an arrival or the end of a link's ingest, or a take for a sink.
     ensures workers { (links : List (List Arrival)) (sinks : List (List Reply)) → AreWorkers links sinks last.now.passes →
@@ -48,8 +47,8 @@ pub fn whole_history(receiver: &Receiver, last: &Last<Receiver>)
         (releaser : ℕ) → records_of releaser (entries last.now.history) ≡ records (slice_index_or sinks releaser []) }
     // Where each ingest has a link, and a take was answered Over, as many packets were given as are released of all arrivals.
     ensures complete { (links : List (List Arrival)) (sinks : List (List Reply)) → AreWorkers links sinks last.now.passes →
-        receiver.now.config.ingests ≡ length links → (releaser : ℕ) → Contains (slice_index_or sinks releaser []) Over →
-        given_in (entries last.now.history) ≡ length (released receiver.now.config (arrivals_in (entries last.now.history))) }
+        (V.receiver station.now).ingests ≡ length links → (releaser : ℕ) → Contains (slice_index_or sinks releaser []) Over →
+        given_in (entries last.now.history) ≡ length (released (V.receiver station.now) (arrivals_in (entries last.now.history))) }
     // Each call stands once: the history is as long as the calls of all workers together.
     ensures size { (links : List (List Arrival)) (sinks : List (List Reply)) → AreWorkers links sinks last.now.passes →
         length last.now.history ≡ sum_by link_size links + sum_by length sinks }

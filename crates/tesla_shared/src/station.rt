@@ -1,6 +1,8 @@
 //! What workers share by turns.
 
 ghost use Rattle.std.specs.Prelude.{◌≡◌, ◌<◌, ◌≤◌, ◌^◌, ◌++◌, ◌∷◌, [], List, length};
+ghost use Rattle.tesla_fitting.specs.declared.config.Config.{Config};
+ghost use Rattle.tesla_receiver.specs.History.{IsLegal};
 ghost use Rattle.tesla_receiver.specs.declared.history.Entry.{Entry};
 ghost use Rattle.tesla_receiver.specs.declared.history.Entry.TheVariants.{Arrived, Taken, Ended};
 ghost use Rattle.tesla_state.specs.Replies.{reply_shown, KeepsBehind};
@@ -13,6 +15,9 @@ use tesla_turn::Chronicle;
 /// A receiver that threads share by turns. What stood for a history then stands for it with one entry more, which is
 /// the event with the answer that the call gives.
 pub trait Station: Chronicle<Entry = Entry> + Drop {
+    /// The configuration of its receiver.
+    ghost receiver: { Self → Config };
+
     /// Judges a datagram of an ingest, of at most 2,048 bytes, with the reading of the receiver's clock in microseconds.
     fn arrive<L: Ledger>(
         &mut self,
@@ -44,9 +49,16 @@ pub trait Station: Chronicle<Entry = Entry> + Drop {
         requires { (h : List Entry) × (length h < 2 ^ 63) × Self.stands self.old h }
         ensures stands { (h : List Entry) → length h < 2 ^ 63 → Self.stands self.old h → Self.stands self.new (h ++ Ended ingest ∷ []) }
         ensures config { Self.config self.new ≡ Self.config self.old };
+
+    /// Each history that it stands for is legal.
+    ghost legal: { (station : Self) (h : List Entry) → Self.stands station h → IsLegal (receiver station) h };
 }
 
 impl Station for Receiver {
+    ghost receiver = { λ station. station.config };
+
+    ghost legal = { λ station h stood. stood.legal };
+
     fn arrive<L: Ledger>(
         &mut self,
         ingest: u8,

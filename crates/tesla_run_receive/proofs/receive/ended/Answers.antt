@@ -3,9 +3,9 @@ use Rattle.std.specs.Option.{option_map}
 use Rattle.tesla_front.specs.Came.{Done, stop_came}
 use Rattle.tesla_receiver.specs.Report.{report_of}
 use Rattle.tesla_run_replay.specs.ReportText.{report_text}
-use Rattle.tesla_run_receive.specs.Session.{came_by}
+use Rattle.tesla_session.specs.Session.{came_by}
 use Rattle.tesla_run_receive.proofs.receive.ended.Goals as goal
 
 pub returns-in-None : goal.returns-in-None
 returns-in-None c h stands =
-    ap Done (c.report_lines.ensures ∙ ap report_text (c.report.ensures h stands)) ∙ sym (ap (λ stop. came_by (option_map stop_came stop) (report_of h)) c.in-None.is)
+    ap Done (c.report_lines.ensures ∙ ap report_text (c.report.ensures h stands)) ∙ sym (ap (λ stop. came_by (option_map stop_came stop) (report_text (report_of h))) c.in-None.is)

@@ -1,18 +1,13 @@
 use Rattle.std.proofs.Common.{refl}
-use Rattle.tesla_front.specs.Openings.{file_told}
 use Rattle.tesla_run_receive.specs.Arguments.{arguments_of}
-use Rattle.tesla_run_receive.proofs.Histories.{receives}
-use Rattle.tesla_run_receive.proofs.Performed.{are_files, performs_none, performs_session}
+use Rattle.tesla_run_receive.proofs.Performed.{are_files, performs_none, performs_run}
 use Rattle.tesla_run_receive.proofs.receive.perform.Goals as goal
 
 pub returns-in-Ok : goal.returns-in-Ok
 returns-in-Ok g c =
     let arguments = arguments_of c.args.arguments.now in
-    let old = g.D.Desk.told c.args.desk.now in
-    let read = g.D.Desk.told c.setup_under.new.desk in
-    let new = g.D.Desk.told c.receive_under.new.desk in
-    performs_session arguments c.in-Ok.setup old read new c.receive_under.result.1 _ c.in-Ok.ensures.pages c.in-Ok.ensures.live (are_files arguments c.requires.form.0 c.requires.form.1) c.requires.form.1.sinks_are.distinct c.in-Ok.ensures.opened c.in-Ok.ensures.causes c.receive_under.ensures
-    (λ ran. receives arguments c.requires.form.0 c.in-Ok.setup (file_told old arguments.setup) read new c.receive_under.result.1 _ c.requires.form.1 ran c.in-Ok.ensures.found)
+    performs_run arguments c.requires.form.0 c.in-Ok.setup (g.D.Desk.told c.args.desk.now) (g.D.Desk.told c.setup_under.new.desk) (g.D.Desk.told c.receive_under.new.desk) c.receive_under.result.1 _
+    c.requires.form.1 c.in-Ok.ensures.pages c.in-Ok.ensures.live c.in-Ok.ensures.found c.in-Ok.ensures.opened c.in-Ok.ensures.causes c.receive_under.ensures
 
 pub returns-in-Err : goal.returns-in-Err
 returns-in-Err g c =

@@ -1,66 +1,42 @@
-use Rattle.std.proofs.Common.{◌≡◌, ℕ, ◌+◌, suc, Ok, Err, length, refl, sym, subst, ap, ◌∙◌, arith}
+use Rattle.std.proofs.Common.{◌≡◌, ◌∙◌, inl, inr, Some, refl, sym, subst}
+use Rattle.std.specs.Option.{option_map}
 use Rattle.tesla_fitting.specs.declared.config.Config.{Config}
-use Rattle.tesla_turn.specs.Held.{TurnId}
+use Rattle.tesla_front.specs.Came.{stop_came}
+use Rattle.tesla_receiver.specs.History.{IsLegal}
+use Rattle.tesla_receiver.specs.Stands.{Stands}
+use Rattle.tesla_session.specs.Session.{workers_of}
+use Rattle.tesla_session.proofs.Sessions.{opened_same}
+use Rattle.tesla_turn.specs.History.{entries}
 use Rattle.tesla_run_receive.specs.Arguments.{arguments_of, workers_wanted}
-use Rattle.tesla_run_receive.specs.Session.{PassSeen, AreOf, workers_of}
-use Rattle.tesla_run_receive.proofs.Sessions.{opens_left, opens_of, opens_same, session_ran, session_refused, wants_all}
 use Rattle.tesla_run_receive.proofs.receive.run_session.Goals as goal
 
-pub run_opened-requires-clause-own : goal.run_opened-requires-clause-own
-run_opened-requires-clause-own g c κs within =
-    let done = c.open_all.new.session in
-    (opens_same (workers_wanted (arguments_of c.args.arguments.now)) (g.D.Desk.told c.args.desk.now) (g.D.Desk.told c.open_all.new.desk) c.args.session.first done.first (workers_of done.links.items done.sinks.items) (Ok tt) c.in-Ok.ensures.opens).turn
-    ∙ ap (λ (p : PassSeen). p.turn) c.requires.first.1 ∙ sym c.in-Ok.ensures.turn
-
-pub run_opened-requires-clause-first : goal.run_opened-requires-clause-first
-run_opened-requires-clause-first g c κs within =
-    let done = c.open_all.new.session in
-    (opens_same (workers_wanted (arguments_of c.args.arguments.now)) (g.D.Desk.told c.args.desk.now) (g.D.Desk.told c.open_all.new.desk) c.args.session.first done.first (workers_of done.links.items done.sinks.items) (Ok tt) c.in-Ok.ensures.opens).number
-    ∙ ap (λ (p : PassSeen). p.number) c.requires.first.1
-
-pub run_opened-requires-clause-others : goal.run_opened-requires-clause-others
-run_opened-requires-clause-others g c κs within =
-    let done = c.open_all.new.session in
-    let turn : c.args.session.first.turn ≡ done.turn = ap (λ (p : PassSeen). p.turn) c.requires.first.1 ∙ sym c.in-Ok.ensures.turn in
-    subst (λ (t : TurnId). AreOf t (workers_of done.links.items done.sinks.items)) turn
-    (opens_of (workers_wanted (arguments_of c.args.arguments.now)) (g.D.Desk.told c.args.desk.now) (g.D.Desk.told c.open_all.new.desk) c.args.session.first done.first (workers_of done.links.items done.sinks.items) (Ok tt) c.in-Ok.ensures.opens)
-
-pub run_opened-requires-clause-left : goal.run_opened-requires-clause-left
-run_opened-requires-clause-left g c κs within =
-    let done = c.open_all.new.session in
-    opens_left (workers_wanted (arguments_of c.args.arguments.now)) (g.D.Desk.told c.args.desk.now) (g.D.Desk.told c.open_all.new.desk) c.args.session.first done.first (workers_of done.links.items done.sinks.items) (Ok tt)
-    (omega (arith, ap (λ (p : PassSeen). p.calls) c.requires.first.1)) c.in-Ok.ensures.opens
-
-pub close_all-turn-requires-clause-own : goal.close_all-turn-requires-clause-own
-close_all-turn-requires-clause-own g c κs within =
-    let done = c.open_all.new.session in
-    (opens_same (workers_wanted (arguments_of c.args.arguments.now)) (g.D.Desk.told c.args.desk.now) (g.D.Desk.told c.open_all.new.desk) c.args.session.first done.first (workers_of done.links.items done.sinks.items) (Err c.in-Err.fault) c.in-Err.ensures.opens).turn
-    ∙ ap (λ (p : PassSeen). p.turn) c.requires.first.1 ∙ sym c.in-Err.ensures.turn
-
-pub close_all-turn-requires-clause-first : goal.close_all-turn-requires-clause-first
-close_all-turn-requires-clause-first g c κs within =
-    let done = c.open_all.new.session in
-    (opens_same (workers_wanted (arguments_of c.args.arguments.now)) (g.D.Desk.told c.args.desk.now) (g.D.Desk.told c.open_all.new.desk) c.args.session.first done.first (workers_of done.links.items done.sinks.items) (Err c.in-Err.fault) c.in-Err.ensures.opens).number
-    ∙ ap (λ (p : PassSeen). p.number) c.requires.first.1
-
-pub close_all-turn-requires-clause-others : goal.close_all-turn-requires-clause-others
-close_all-turn-requires-clause-others g c κs within =
-    let done = c.open_all.new.session in
-    let turn : c.args.session.first.turn ≡ done.turn = ap (λ (p : PassSeen). p.turn) c.requires.first.1 ∙ sym c.in-Err.ensures.turn in
-    subst (λ (t : TurnId). AreOf t (workers_of done.links.items done.sinks.items)) turn
-    (opens_of (workers_wanted (arguments_of c.args.arguments.now)) (g.D.Desk.told c.args.desk.now) (g.D.Desk.told c.open_all.new.desk) c.args.session.first done.first (workers_of done.links.items done.sinks.items) (Err c.in-Err.fault) c.in-Err.ensures.opens)
+pub run_opened-stop-requires-after_bounds : goal.run_opened-stop-requires-after_bounds
+run_opened-stop-requires-after_bounds g c κs within =
+    (workers_wanted (arguments_of c.args.arguments.now), c.requires.first.0, g.D.Desk.told c.args.desk.now, g.D.Desk.told c.open_session.new.desk, c.in-Ok.ensures.opened c.requires.first.0 c.requires.first.1)
 
 pub returns-in-Ok : goal.returns-in-Ok
 returns-in-Ok g c cfg first =
-    let done = c.open_all.new.session in
-    let arguments = arguments_of c.args.arguments.now in
-    session_ran (workers_wanted arguments) cfg c.args.session.turn (1 + length arguments.links + length arguments.sinks) (g.D.Desk.told c.args.desk.now) (g.D.Desk.told c.open_all.new.desk) (g.D.Desk.told c.run_opened.new.desk)
-    c.args.session.first done.first (workers_of done.links.items done.sinks.items) c.run_opened.result.1 _ first (omega (arith, wants_all arguments)) c.in-Ok.ensures.opens
-    (c.run_opened.ensures cfg ((opens_same (workers_wanted arguments) (g.D.Desk.told c.args.desk.now) (g.D.Desk.told c.open_all.new.desk) c.args.session.first done.first (workers_of done.links.items done.sinks.items) (Ok tt) c.in-Ok.ensures.opens).config ∙ ap (λ (p : PassSeen). p.config) first))
+    let wanted = workers_wanted (arguments_of c.args.arguments.now) in
+    let old = g.D.Desk.told c.args.desk.now in
+    let opened = g.D.Desk.told c.open_session.new.desk in
+    let session = c.in-Ok.session in
+    let workers = workers_of session.links.items session.sinks.items in
+    let opens = c.in-Ok.ensures.opened cfg first in
+    let state = c.run_opened-stop.result.station in
+    let end = c.run_opened-stop.result.last in
+    let history = entries end.history in
+    let stands : Stands state history = c.run_opened-stop.ensures.stands in
+    let configured : Some state.config ≡ Some cfg = sym c.run_opened-stop.ensures.config ∙ (opened_same wanted cfg old opened session.turn session.first workers opens).config in
+    let same : state.config ≡ cfg = cc in
+    inr (inr (record {
+      opened = opened;
+      end = end;
+      stop = option_map stop_came c.run_opened-stop.result.stop;
+      ran = record { turn = session.turn; first = session.first; workers = workers; opens = opens; ran = c.run_opened-stop.ensures.runs };
+      last_is = refl;
+      legal = subst (λ (config : Config). IsLegal config history) same stands.legal;
+      came_is = c.ended.ensures history stands;
+    }))
 
 pub returns-in-Err : goal.returns-in-Err
-returns-in-Err g c cfg first =
-    let done = c.open_all.new.session in
-    let arguments = arguments_of c.args.arguments.now in
-    session_refused (workers_wanted arguments) cfg c.args.session.turn (1 + length arguments.links + length arguments.sinks) (g.D.Desk.told c.args.desk.now) (g.D.Desk.told c.open_all.new.desk) (g.D.Desk.told c.close_all-turn.new.desk)
-    c.args.session.first done.first c.close_all-turn.result.1 (workers_of done.links.items done.sinks.items) c.in-Err.fault _ _ first (omega (arith, wants_all arguments)) c.in-Err.ensures.opens c.close_all-turn.ensures.closes refl refl
+returns-in-Err g c cfg first = inr (inl (record { fault = c.in-Err.fault; refused = c.in-Err.ensures.refused c.in-Err.fault refl cfg first; none = refl; came_is = refl }))

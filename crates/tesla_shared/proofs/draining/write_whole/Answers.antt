@@ -1,6 +1,6 @@
 use Rattle.std.proofs.Common.{◌≡◌, List, ℕ, length, take, ap, arith, rules}
 use Rattle.tesla_capture.specs.Release.{release_text}
-use Rattle.tesla_shared.proofs.Writing.{gathered_whole, gathered_prefix}
+use Rattle.tesla_capture.proofs.Gathered.{gathered_whole, gathered_prefix}
 use Rattle.tesla_shared.proofs.draining.write_whole.Goals as goal
 
 pub returns-then-put-clause-all : goal.returns-then-put-clause-all

@@ -4,24 +4,24 @@ use Rattle.tesla_shared.proofs.Whole.{is_whole, whole_size}
 use Rattle.tesla_shared.proofs.laws.whole_history.Goals as goal
 
 pub returns-clause-workers : goal.returns-clause-workers
-returns-clause-workers c links sinks are = (is_whole c.args.receiver.now.config c.args.last.now.history c.args.last.now.passes links sinks are c.requires.calls c.requires.stands.legal).workers
+returns-clause-workers g c links sinks are = (is_whole (g.V.Station.receiver c.args.station.now) c.args.last.now.history c.args.last.now.passes links sinks are c.requires.calls (g.met.V.Station.legal c.args.station.now (entries c.args.last.now.history) c.requires.stands)).workers
 
 pub returns-clause-arrivals : goal.returns-clause-arrivals
-returns-clause-arrivals c links sinks are = (is_whole c.args.receiver.now.config c.args.last.now.history c.args.last.now.passes links sinks are c.requires.calls c.requires.stands.legal).arrivals
+returns-clause-arrivals g c links sinks are = (is_whole (g.V.Station.receiver c.args.station.now) c.args.last.now.history c.args.last.now.passes links sinks are c.requires.calls (g.met.V.Station.legal c.args.station.now (entries c.args.last.now.history) c.requires.stands)).arrivals
 
 pub returns-clause-replies : goal.returns-clause-replies
-returns-clause-replies c links sinks are = (is_whole c.args.receiver.now.config c.args.last.now.history c.args.last.now.passes links sinks are c.requires.calls c.requires.stands.legal).replies
+returns-clause-replies g c links sinks are = (is_whole (g.V.Station.receiver c.args.station.now) c.args.last.now.history c.args.last.now.passes links sinks are c.requires.calls (g.met.V.Station.legal c.args.station.now (entries c.args.last.now.history) c.requires.stands)).replies
 
 pub returns-clause-ended : goal.returns-clause-ended
-returns-clause-ended c links sinks are ingest low =
-    let whole : IsWhole c.args.receiver.now.config links sinks (entries c.args.last.now.history) = is_whole c.args.receiver.now.config c.args.last.now.history c.args.last.now.passes links sinks are c.requires.calls c.requires.stands.legal in
+returns-clause-ended g c links sinks are ingest low =
+    let whole : IsWhole (g.V.Station.receiver c.args.station.now) links sinks (entries c.args.last.now.history) = is_whole (g.V.Station.receiver c.args.station.now) c.args.last.now.history c.args.last.now.passes links sinks are c.requires.calls (g.met.V.Station.legal c.args.station.now (entries c.args.last.now.history) c.requires.stands) in
     (whole.ended ingest low, whole.ended_once ingest low)
 
 pub returns-clause-written : goal.returns-clause-written
-returns-clause-written c links sinks are = (is_whole c.args.receiver.now.config c.args.last.now.history c.args.last.now.passes links sinks are c.requires.calls c.requires.stands.legal).written
+returns-clause-written g c links sinks are = (is_whole (g.V.Station.receiver c.args.station.now) c.args.last.now.history c.args.last.now.passes links sinks are c.requires.calls (g.met.V.Station.legal c.args.station.now (entries c.args.last.now.history) c.requires.stands)).written
 
 pub returns-clause-complete : goal.returns-clause-complete
-returns-clause-complete c links sinks are = (is_whole c.args.receiver.now.config c.args.last.now.history c.args.last.now.passes links sinks are c.requires.calls c.requires.stands.legal).complete
+returns-clause-complete g c links sinks are = (is_whole (g.V.Station.receiver c.args.station.now) c.args.last.now.history c.args.last.now.passes links sinks are c.requires.calls (g.met.V.Station.legal c.args.station.now (entries c.args.last.now.history) c.requires.stands)).complete
 
 pub returns-clause-size : goal.returns-clause-size
-returns-clause-size c links sinks are = whole_size c.args.last.now.history c.args.last.now.passes links sinks are c.requires.calls
+returns-clause-size g c links sinks are = whole_size c.args.last.now.history c.args.last.now.passes links sinks are c.requires.calls

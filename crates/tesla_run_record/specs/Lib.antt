@@ -1,0 +1,4 @@
+pub mod Arguments
+pub mod Record
+pub mod Running
+pub mod Usage

@@ -1,0 +1,12 @@
+//! The form of the command, as it is told.
+
+use tesla_front::FormText;
+
+/// The form of `record`.
+pub const RECORD: FormText = FormText {
+    words: "record SETUP LAG CAPACITY LINKS SINKS KEEP TAIL",
+    about: "    does as receive does, and writes the last KEEP events of the receiver with
+    their answers to TAIL when all links have ended.
+    KEEP: 1 to 4096
+",
+};

@@ -1,0 +1,223 @@
+//! A run of the command `record`.
+
+ghost use Rattle.std.specs.Prelude.{◌≡◌, ◌≤◌, ◌+◌, ◌||◌, [], ℕ, Bool, List, Ok, Err, Some, None, IfOk, IfSome, not, length, map, string_bytes, vec_capacity};
+ghost use Rattle.std.specs.Option.{option_map};
+ghost use Rattle.tesla_desk.specs.Outside.{OpensSink, Told};
+ghost use Rattle.tesla_front.specs.Came.{Usage, came_of, outcome_came, stop_came};
+ghost use Rattle.tesla_front.specs.Command.{Performs, RunsAs};
+ghost use Rattle.tesla_receiver.specs.Report.{report_of};
+ghost use Rattle.tesla_receiver.specs.declared.history.Entry.{Entry};
+ghost use Rattle.tesla_recorder.specs.Recorded.{RecordedStands};
+ghost use Rattle.tesla_recorder.specs.declared.recorded.RecordedConfig.{RecordedConfig};
+ghost use Rattle.tesla_run_receive.specs.Arguments.{AreFew, workers_wanted};
+ghost use Rattle.tesla_run_receive.specs.Receive.{config_of};
+ghost use Rattle.tesla_run_replay.specs.ReportText.{report_text};
+ghost use Rattle.tesla_session.specs.Session.{OpensAll, RefusesWorker, calls_most, came_by, stop_by, workers_of};
+ghost use Rattle.tesla_session.specs.Wanted.{Wanted, WantedSink};
+ghost use Rattle.tesla_turn.specs.Held.{first_pass};
+ghost use Rattle.tesla_run_record.specs.Arguments.{IsRecord, arguments_of};
+ghost use Rattle.tesla_run_record.specs.Record.{recording};
+ghost use Rattle.tesla_run_record.specs.Running.{RunsRecorder, RunsTailed};
+
+use crate::arguments::Arguments;
+use crate::tail::write_tail;
+use crate::words::arguments_in;
+use std::alloc::Global;
+use std::sync::Wait;
+use std::thread::Threads;
+use tesla_base::NoMemory;
+use tesla_commit::Setup;
+use tesla_desk::Desk;
+use tesla_front::{Fault, Lines, Outcome, Stop, outcome_of, setup_under};
+use tesla_recorder::Recorded;
+use tesla_run_receive::new_receiver;
+use tesla_run_replay::report_lines;
+use tesla_session::{Ran, Session, close_all, open_session, prepared, run_opened};
+use tesla_turn::Last;
+
+/// What a run came to, and the whole history where the links and the outputs were opened and the workers ran.
+#[derive(Drop)]
+pub struct RecordRun {
+    pub outcome: Outcome,
+    pub last: Option<Last<Recorded>>,
+}
+
+/// Runs the words as those of `record`.
+///
+/// SETUP is read and judged, and all memory is taken; then the links are opened in order, each with the next clock, the
+/// sinks, and TAIL. Then a worker runs for each link and each sink, as those of `receive` do. When they have ended, the last
+/// entries of the history are written to TAIL, whatever they came to. `Done` tells the counts. It waits for the links.
+pub fn run_record<R: Threads + Wait + Sync, D: Desk>(
+    rt: &R,
+    alloc: Global,
+    words: &[String],
+    desk: &mut D,
+) -> RecordRun
+    ensures runs { RunsAs (recording (D.told desk.old).live (D.told desk.new).live result.last) (map string_bytes words.now) (D.told desk.old) (D.told desk.new) (outcome_came result.outcome) }
+    ensures none { outcome_came result.outcome ≡ Usage → result.last ≡ None }
+{
+    match arguments_in(words) {
+        Some(arguments) => {
+            let (came, last) = perform(rt, alloc, &arguments, desk);
+            RecordRun {
+                outcome: outcome_of(came),
+                last,
+            }
+        }
+        None => RecordRun {
+            outcome: Outcome::Usage,
+            last: None,
+        },
+    }
+}
+
+// What the words of `record` come to, with the whole history where there is one.
+type Came = (Result<Lines, Stop>, Option<Last<Recorded>>);
+
+// Does what the words of `record` ask for.
+fn perform<R: Threads + Wait + Sync, D: Desk>(
+    rt: &R,
+    alloc: Global,
+    arguments: &Arguments<'_>,
+    desk: &mut D,
+) -> Came
+    requires form { (spelled : List (List ℕ)) × IsRecord (arguments_of arguments.now) spelled }
+    ensures { Performs (recording (D.told desk.old).live (D.told desk.new).live result.1) (arguments_of arguments.now) (D.told desk.old) (D.told desk.new) (came_of result.0) }
+{
+    match setup_under(alloc, arguments.receive.setup, desk) {
+        Ok(setup) => record_under(rt, alloc, setup, arguments, desk),
+        Err(stop) => (Err(stop), None),
+    }
+}
+
+// Takes all memory that a run needs.
+fn new_session<D: Desk>(
+    alloc: Global,
+    setup: Setup,
+    arguments: &Arguments<'_>,
+) -> Result<Session<D, Recorded>, NoMemory>
+    requires few { AreFew (arguments_of arguments.now).receive }
+    ensures links { IfOk result (λ it. (it.links.items ≡ []) × (length arguments.now.receive.links ≤ vec_capacity it.links)) }
+    ensures sinks { IfOk result (λ it. (it.sinks.items ≡ []) × (length arguments.now.receive.sinks ≤ vec_capacity it.sinks)) }
+    ensures first { IfOk result (λ it. it.first ≡ first_pass it.turn (record { config = config_of (arguments_of arguments.now).receive setup; keep = arguments.now.keep }) (1 + length arguments.now.receive.links + length arguments.now.receive.sinks) calls_most) }
+{
+    let receiver = new_receiver(alloc, setup, &arguments.receive)?;
+    let recorded = Recorded::open(alloc, receiver, arguments.keep)?;
+    prepared(
+        alloc,
+        recorded,
+        &arguments.receive.links,
+        &arguments.receive.sinks,
+    )
+}
+
+// Records under a setup.
+fn record_under<R: Threads + Wait + Sync, D: Desk>(
+    rt: &R,
+    alloc: Global,
+    setup: Setup,
+    arguments: &Arguments<'_>,
+    desk: &mut D,
+) -> Came
+    requires few { AreFew (arguments_of arguments.now).receive }
+    ensures { RunsRecorder (workers_wanted (arguments_of arguments.now).receive) (record { config = config_of (arguments_of arguments.now).receive setup; keep = arguments.now.keep }) arguments.now.tail.now (D.told desk.old) (D.told desk.new) result.1 (came_of result.0) }
+{
+    match new_session(alloc, setup, arguments) {
+        Ok(session) => run_session(rt, arguments, session, desk),
+        Err(_) => (Err(Stop::Failed(Fault::NoMemory)), None),
+    }
+}
+
+// Opens the links, the sinks and TAIL, and where none was refused runs the workers.
+fn run_session<R: Threads + Wait + Sync, D: Desk>(
+    rt: &R,
+    arguments: &Arguments<'_>,
+    session: Session<D, Recorded>,
+    desk: &mut D,
+) -> Came
+    requires few { AreFew (arguments_of arguments.now).receive }
+    requires links { (session.links.items ≡ []) × (length arguments.now.receive.links ≤ vec_capacity session.links) }
+    requires sinks { (session.sinks.items ≡ []) × (length arguments.now.receive.sinks ≤ vec_capacity session.sinks) }
+    requires first { (cfg : RecordedConfig) × (session.first ≡ first_pass session.turn cfg (1 + length arguments.now.receive.links + length arguments.now.receive.sinks) calls_most) }
+    ensures { (cfg : RecordedConfig) → session.first ≡ first_pass session.turn cfg (1 + length arguments.now.receive.links + length arguments.now.receive.sinks) calls_most → RunsRecorder (workers_wanted (arguments_of arguments.now).receive) cfg arguments.now.tail.now (D.told desk.old) (D.told desk.new) result.1 (came_of result.0) }
+{
+    let receive = &arguments.receive;
+    match open_session(&receive.links, &receive.sinks, session, desk) {
+        Ok(session) => run_opened_session(rt, arguments.tail, session, desk),
+        Err(fault) => (Err(Stop::Failed(fault)), None),
+    }
+}
+
+// Opens TAIL.
+fn open_tail<D: Desk>(desk: &mut D, name: &str) -> Result<D::Out, Fault>
+    ensures opened { IfOk result (λ it. OpensSink {A = Unit {0}} name.now (Ok tt) (D.told desk.old) (D.told desk.new)) }
+    ensures fresh { IfOk result (λ it. IfSome (D.Out.written it) (λ bytes. bytes ≡ []) × (D.Out.faults it ≡ 0) × (D.Out.name it ≡ name.now)) }
+    ensures refused { (fault : _) → result ≡ Err fault → RefusesWorker (WantedSink 0 name.now) (D.told desk.old) (D.told desk.new) fault }
+{
+    let tail = desk.open_sink(name)?;
+    Ok(tail)
+}
+
+// Opens TAIL behind the workers, and runs them. Where it is refused, they are closed.
+fn run_opened_session<R: Threads + Wait + Sync, D: Desk>(
+    rt: &R,
+    name: &str,
+    session: Session<D, Recorded>,
+    desk: &mut D,
+) -> Came
+    requires { (wanted : List Wanted) × (cfg : RecordedConfig) × (before : Told) × OpensAll wanted cfg before (D.told desk.old) session.turn session.first (workers_of session.links.items session.sinks.items) }
+    ensures { (wanted : List Wanted) (cfg : RecordedConfig) (before : Told) → OpensAll wanted cfg before (D.told desk.old) session.turn session.first (workers_of session.links.items session.sinks.items) → RunsRecorder wanted cfg name.now before (D.told desk.new) result.1 (came_of result.0) }
+{
+    match open_tail(desk, name) {
+        Ok(tail) => run_tailed(rt, session, tail, desk),
+        Err(fault) => {
+            close_all(desk, session);
+            (Err(Stop::Failed(fault)), None)
+        }
+    }
+}
+
+// Why the run came to no end, where TAIL was written or failed: a link that failed comes first, and a failed write before
+// calls that were spent.
+fn stop_with(stop: Option<Stop>, written: bool) -> Option<Stop>
+    ensures { (read write spent : Bool) → option_map stop_came stop ≡ stop_by read write spent → option_map stop_came result ≡ stop_by read (write || not written) spent }
+{
+    if written {
+        return stop;
+    }
+    match stop {
+        Some(Stop::Failed(Fault::Read)) => Some(Stop::Failed(Fault::Read)),
+        _ => Some(Stop::Failed(Fault::Write)),
+    }
+}
+
+// What workers that ended so come to, with the receiver that they shared.
+fn ended(stop: Option<Stop>, recorded: &Recorded) -> Result<Lines, Stop>
+    ensures { (h : List Entry) → RecordedStands recorded.now h → came_of result ≡ came_by (option_map stop_came stop) (report_text (report_of h)) }
+{
+    match stop {
+        Some(stop) => Err(stop),
+        None => Ok(report_lines(&recorded.report())),
+    }
+}
+
+// Runs the workers that are opened, closes them and ends the turn; then writes the last entries to TAIL, and closes it.
+fn run_tailed<R: Threads + Wait + Sync, D: Desk>(
+    rt: &R,
+    session: Session<D, Recorded>,
+    mut tail: D::Out,
+    desk: &mut D,
+) -> Came
+    requires opened { (wanted : List Wanted) × (cfg : RecordedConfig) × (before : Told) × (now : Told) × OpensAll wanted cfg before now session.turn session.first (workers_of session.links.items session.sinks.items) }
+    requires fresh { IfSome (D.Out.written tail) (λ bytes. bytes ≡ []) × (D.Out.faults tail ≡ 0) }
+    ensures { (cfg : RecordedConfig) → session.first.config ≡ Some cfg → RunsTailed cfg (D.Out.name tail) session.first (workers_of session.links.items session.sinks.items) (D.told desk.old) (D.told desk.new) result.1 (came_of result.0) }
+{
+    let Ran {
+        stop,
+        station,
+        last,
+    } = run_opened(rt, session, desk);
+    let written = write_tail(&mut tail, &station);
+    desk.close_sink(tail);
+    (ended(stop_with(stop, written), &station), Some(last))
+}

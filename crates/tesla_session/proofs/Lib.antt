@@ -1,0 +1,9 @@
+pub mod Stopping
+pub mod Closings
+pub mod Openings
+pub mod Runs
+pub mod Sessions
+pub mod Opened
+pub mod Fresh
+pub mod Counted
+pub mod Made

@@ -1,0 +1,292 @@
+-- What the workers of a station are seen to do, from their openings to their closings.
+use Rattle.std.specs.Prelude.{◌≡◌, ◌⊎◌, ◌↔◌, ℕ, suc, ◌-◌, ◌^◌, ◌<◌, ◌≤◌, length, Bool, true, false, List, [], ◌∷◌, ◌++◌, map, codes, slice_set, Option, Some, None, IfSome, Result, Ok, Err}
+use Rattle.std.specs.List.{list_any}
+use denote.Ref.{Bor}
+use Rattle.tesla_desk.specs.Clocks.{Ticking}
+use Rattle.tesla_desk.specs.Faults.{HasCause}
+use Rattle.tesla_desk.specs.Live.{OpenedLink, clock_told}
+use Rattle.tesla_desk.specs.Outside.{Told, OpensLink, OpensSink, ClosesLink, ClosesSink, MakesClock}
+use Rattle.tesla_desk.specs.declared.desk.OpenRefusal.{OpenRefusal}
+use Rattle.tesla_desk.specs.declared.link.Letter.{Letter}
+use Rattle.tesla_front.specs.Came.{Came, Done, Refused, Failed}
+use Rattle.tesla_front.specs.Fault.{unopened}
+use Rattle.tesla_front.specs.declared.fault.Fault.{Fault}
+use Rattle.tesla_front.specs.declared.fault.Fault.TheVariants.{Read, Write}
+use Rattle.tesla_receiver.specs.declared.history.Entry.{Entry}
+use Rattle.tesla_shared.specs.Workers.{Ingests, Drains}
+use Rattle.tesla_shared.specs.declared.draining.SinkEnd.{SinkEnd}
+use Rattle.tesla_shared.specs.declared.draining.SinkEnd.TheVariants as sink_ends
+use Rattle.tesla_shared.specs.declared.ingesting.LinkEnd.{LinkEnd}
+use Rattle.tesla_shared.specs.declared.ingesting.LinkEnd.TheVariants as link_ends
+use Rattle.tesla_turn.specs.Held.{Held, Ended, TurnId, OnlyCalls, first_pass, next_pass, left_of}
+use Rattle.tesla_turn.specs.History.{HasCalls, longer}
+use Rattle.tesla_session.specs.Wanted.{Wanted, WantedLink, WantedSink, links_wanted, sinks_wanted}
+
+-- a pass of a turn over a station with a configuration of this type
+abbrev pub PassSeen : Type 0 → Type 0
+PassSeen C = Held C Entry
+
+-- what is seen of the worker of a link: its number and name, the letters that are left and the count of faults of the link, what its clock tells, its pass, and why it ended last
+pub record LinkSeen (C : Type 0) : Type 0 where
+  pub ingest : ℕ
+  pub name : List ℕ
+  pub left : Option (List Letter)
+  pub faults : ℕ
+  pub told : Option Ticking
+  pub pass : PassSeen C
+  pub end : LinkEnd
+
+-- what is seen of the worker of a sink: its number and name, what was written and the count of faults of the sink, its pass, and why it ended last
+pub record SinkSeen (C : Type 0) : Type 0 where
+  pub releaser : ℕ
+  pub name : List ℕ
+  pub written : Option (List ℕ)
+  pub faults : ℕ
+  pub pass : PassSeen C
+  pub end : SinkEnd
+
+pub data Seen (C : Type 0) : Type 0 where
+  SeenLink : LinkSeen C → Seen C
+  SeenSink : SinkSeen C → Seen C
+
+abbrev pub ended_failed : LinkEnd → Bool
+ended_failed link_ends.Ended = false
+ended_failed link_ends.Failed = true
+ended_failed link_ends.Spent = false
+
+abbrev pub ended_spent : LinkEnd → Bool
+ended_spent link_ends.Ended = false
+ended_spent link_ends.Failed = false
+ended_spent link_ends.Spent = true
+
+abbrev pub drained_failed : SinkEnd → Bool
+drained_failed sink_ends.Over = false
+drained_failed sink_ends.Failed = true
+drained_failed sink_ends.Spent = false
+
+abbrev pub drained_spent : SinkEnd → Bool
+drained_spent sink_ends.Over = false
+drained_spent sink_ends.Failed = false
+drained_spent sink_ends.Spent = true
+
+-- how many calls a pass may make
+abbrev pub calls_most : ℕ
+calls_most = 2 ^ 56
+
+-- the line that tells that calls were spent
+abbrev pub spent_line : List ℕ
+spent_line = codes "calls spent\n"
+
+-- the worker ended so
+abbrev pub is_link_end : LinkEnd → LinkEnd → Bool
+is_link_end link_ends.Ended link_ends.Ended = true
+is_link_end link_ends.Failed link_ends.Failed = true
+is_link_end link_ends.Spent link_ends.Spent = true
+is_link_end _ _ = false
+
+abbrev pub is_sink_end : SinkEnd → SinkEnd → Bool
+is_sink_end sink_ends.Over sink_ends.Over = true
+is_sink_end sink_ends.Failed sink_ends.Failed = true
+is_sink_end sink_ends.Spent sink_ends.Spent = true
+is_sink_end _ _ = false
+
+-- why the workers came to no end: a link failed, or else a sink, or else calls were spent
+abbrev pub stop_by : Bool → Bool → Bool → Option Came
+stop_by true write spent = Some (Failed Read)
+stop_by false true spent = Some (Failed Write)
+stop_by false false true = Some (Refused 11 spent_line)
+stop_by false false false = None
+
+-- what workers come to: why they came to no end, or this text is told
+abbrev pub came_by : Option Came → List ℕ → Came
+came_by (Some stop) text = stop
+came_by None text = Done text
+
+-- the bytes of a name
+abbrev pub name_of : Bor (List ℕ) → List ℕ
+name_of name = name.now
+
+-- the opening for a worker was refused
+abbrev pub RefusesWorker : Wanted → Told → Told → Fault → Type 0
+RefusesWorker (WantedLink ingest name) before now fault = (refusal : OpenRefusal) × OpensLink {A = Unit {0}} name (Err refusal) before now × (fault ≡ unopened refusal)
+RefusesWorker (WantedSink releaser name) before now fault = (refusal : OpenRefusal) × OpensSink {A = Unit {0}} name (Err refusal) before now × (fault ≡ unopened refusal)
+
+module _ {C : Type 0} where
+  abbrev pub pass_of : Seen C → PassSeen C
+  pass_of (SeenLink worker) = worker.pass
+  pass_of (SeenSink worker) = worker.pass
+
+  -- all these workers have passes of one turn
+  abbrev pub AreOf : TurnId → List (Seen C) → Type 0
+  AreOf turn [] = Unit {0}
+  AreOf turn (worker ∷ workers) = ((pass_of worker).turn ≡ turn) × AreOf turn workers
+
+  -- ---- opening
+
+  -- the first pass after a split
+  abbrev pub split_pass : PassSeen C → PassSeen C
+  split_pass first = record first { room = first.room - 1; joined = first.joined ++ None ∷ [] }
+
+  -- the link was opened and its clock made; the worker has made no call
+  pub record OpensLinkWorker (ingest : ℕ) (name : List ℕ) (before now : Told) (first later : PassSeen C) (worker : LinkSeen C) : Type 0 where
+    pub opened : Told
+    pub opens : OpensLink {A = Unit {0}} name (Ok tt) before opened
+    pub makes : MakesClock opened now
+    pub ingest_is : worker.ingest ≡ ingest
+    pub name_is : worker.name ≡ name
+    pub letters : OpenedLink (before.live.wire name) worker.left
+    pub fresh : worker.faults ≡ 0
+    pub told_is : worker.told ≡ clock_told opened.live.readings opened.live.made
+    pub pass_is : worker.pass ≡ next_pass first
+    pub later_is : later ≡ split_pass first
+
+  -- the sink was opened; the worker has made no call
+  pub record OpensSinkWorker (releaser : ℕ) (name : List ℕ) (before now : Told) (first later : PassSeen C) (worker : SinkSeen C) : Type 0 where
+    pub opens : OpensSink {A = Unit {0}} name (Ok tt) before now
+    pub releaser_is : worker.releaser ≡ releaser
+    pub name_is : worker.name ≡ name
+    pub empty : IfSome worker.written (λ bytes. bytes ≡ [])
+    pub fresh : worker.faults ≡ 0
+    pub pass_is : worker.pass ≡ next_pass first
+    pub later_is : later ≡ split_pass first
+
+  abbrev pub OpensWorker : Wanted → Told → Told → PassSeen C → PassSeen C → Seen C → Type 0
+  OpensWorker (WantedLink ingest name) before now first later (SeenLink worker) = OpensLinkWorker ingest name before now first later worker
+  OpensWorker (WantedSink releaser name) before now first later (SeenSink worker) = OpensSinkWorker releaser name before now first later worker
+  OpensWorker _ before now first later _ = ⊥
+
+  -- the workers were opened in order, until an opening was refused
+  abbrev pub OpensWorkers : List Wanted → Told → Told → PassSeen C → PassSeen C → List (Seen C) → Result (Unit {0}) Fault → Type 0
+  OpensWorkers [] before now first later workers result = (workers ≡ []) × (now ≡ before) × (later ≡ first) × (result ≡ Ok tt)
+  OpensWorkers (wanted ∷ others) before now first later workers result =
+      ((fault : Fault) × RefusesWorker wanted before now fault × (later ≡ first) × (workers ≡ []) × (result ≡ Err fault))
+      ⊎ ((worker : Seen C) × (rest : List (Seen C)) × (mid : Told) × (middle : PassSeen C) × (workers ≡ worker ∷ rest)
+      × OpensWorker wanted before mid first middle worker × OpensWorkers others mid now middle later rest result)
+
+  -- the workers of these links were opened, numbered from the first argument on, and put behind the others
+  abbrev pub OpensLinks : ℕ → List (List ℕ) → Told → Told → PassSeen C → PassSeen C → List (LinkSeen C) → List (LinkSeen C) → Result (Unit {0}) Fault → Type 0
+  OpensLinks ingest names before now first later old new result =
+      (workers : List (LinkSeen C)) × (new ≡ old ++ workers) × OpensWorkers (links_wanted ingest names) before now first later (map SeenLink workers) result
+
+  -- the same of sinks
+  abbrev pub OpensSinks : ℕ → List (List ℕ) → Told → Told → PassSeen C → PassSeen C → List (SinkSeen C) → List (SinkSeen C) → Result (Unit {0}) Fault → Type 0
+  OpensSinks releaser names before now first later old new result =
+      (workers : List (SinkSeen C)) × (new ≡ old ++ workers) × OpensWorkers (sinks_wanted releaser names) before now first later (map SeenSink workers) result
+
+  -- ---- running
+
+  -- each of these workers has a call left
+  abbrev pub HaveCalls : List (Seen C) → Type 0
+  HaveCalls [] = Unit {0}
+  HaveCalls (worker ∷ workers) = (0 < left_of (pass_of worker)) × HaveCalls workers
+
+  -- the worker of a link did its work
+  pub record RunsLink (before after : LinkSeen C) : Type 0 where
+    pub ingest : after.ingest ≡ before.ingest
+    pub name : after.name ≡ before.name
+    pub ingests : Ingests before.ingest before.pass.made after.pass.made before.left after.left before.told after.told
+    pub ended : after.end ≡ link_ends.Ended → IfSome after.left (λ rest. rest ≡ [])
+    pub cause : HasCause before.faults after.faults (after.end ≡ link_ends.Failed)
+    pub spent : (after.end ≡ link_ends.Spent) ↔ (left_of after.pass ≡ 0)
+    pub few : length after.pass.made ≤ after.pass.calls
+    pub calls : OnlyCalls before.pass after.pass
+
+  -- the worker of a sink did its work
+  pub record RunsSink (before after : SinkSeen C) : Type 0 where
+    pub releaser : after.releaser ≡ before.releaser
+    pub name : after.name ≡ before.name
+    pub drains : Drains before.releaser after.end before.pass.made after.pass.made before.written after.written
+    pub cause : HasCause before.faults after.faults (after.end ≡ sink_ends.Failed)
+    pub spent : after.end ≡ sink_ends.Spent → left_of after.pass ≡ 0
+    pub calls : OnlyCalls before.pass after.pass
+
+  abbrev pub RunsWorker : Seen C → Seen C → Type 0
+  RunsWorker (SeenLink before) (SeenLink after) = RunsLink before after
+  RunsWorker (SeenSink before) (SeenSink after) = RunsSink before after
+  RunsWorker _ _ = ⊥
+
+  -- each worker did its work
+  abbrev pub RunWorkers : List (Seen C) → List (Seen C) → Type 0
+  RunWorkers [] [] = Unit {0}
+  RunWorkers (before ∷ befores) (after ∷ afters) = RunsWorker before after × RunWorkers befores afters
+  RunWorkers _ _ = ⊥
+
+  -- ---- closing
+
+  -- the first pass after it took in another
+  abbrev pub join_pass : PassSeen C → PassSeen C → PassSeen C
+  join_pass into other = record into { seen = longer into.seen other.seen; joined = slice_set into.joined other.number (Some other.made) }
+
+  -- the link or the sink of a worker was closed
+  abbrev pub ClosesWorker : Seen C → Told → Told → Type 0
+  ClosesWorker (SeenLink worker) before now = ClosesLink worker.name worker.left worker.faults before now
+  ClosesWorker (SeenSink worker) before now = ClosesSink worker.name worker.written worker.faults before now
+
+  -- the workers were closed, the last first, and their passes taken into the first pass
+  abbrev pub ClosesWorkers : List (Seen C) → Told → Told → PassSeen C → PassSeen C → Type 0
+  ClosesWorkers [] before now first later = (now ≡ before) × (later ≡ first)
+  ClosesWorkers (worker ∷ workers) before now first later =
+      (mid : Told) × (middle : PassSeen C) × ClosesWorkers workers before mid first middle × ClosesWorker worker mid now × (later ≡ join_pass middle (pass_of worker))
+
+  -- ---- the end
+
+  abbrev pub link_failed : Seen C → Bool
+  link_failed (SeenLink worker) = ended_failed worker.end
+  link_failed (SeenSink worker) = false
+
+  abbrev pub sink_failed : Seen C → Bool
+  sink_failed (SeenLink worker) = false
+  sink_failed (SeenSink worker) = drained_failed worker.end
+
+  abbrev pub has_spent : Seen C → Bool
+  has_spent (SeenLink worker) = ended_spent worker.end
+  has_spent (SeenSink worker) = drained_spent worker.end
+
+  -- one of these links ended so
+  abbrev pub any_link_ended : LinkEnd → List (LinkSeen C) → Bool
+  any_link_ended end links = list_any (λ (worker : LinkSeen C). is_link_end worker.end end) links
+
+  -- one of these sinks ended so
+  abbrev pub any_sink_ended : SinkEnd → List (SinkSeen C) → Bool
+  any_sink_ended end sinks = list_any (λ (worker : SinkSeen C). is_sink_end worker.end end) sinks
+
+  -- the workers as those of links and of sinks
+  abbrev pub workers_of : List (LinkSeen C) → List (SinkSeen C) → List (Seen C)
+  workers_of links sinks = map SeenLink links ++ map SeenSink sinks
+
+  abbrev pub stop_of : List (Seen C) → Option Came
+  stop_of workers = stop_by (list_any link_failed workers) (list_any sink_failed workers) (list_any has_spent workers)
+
+  -- ---- one run of the workers
+
+  -- all of these workers were opened: the turn, and its first pass behind the splits
+  abbrev pub OpensAll : List Wanted → C → Told → Told → TurnId → PassSeen C → List (Seen C) → Type 0
+  OpensAll wanted cfg before now turn first workers = OpensWorkers wanted before now (first_pass turn cfg (suc (length wanted)) calls_most) first workers (Ok tt)
+
+  -- workers that are opened did their work and were closed, and then the turn was: of its history each pass has its calls
+  pub record RunsOpened (first : PassSeen C) (workers : List (Seen C)) (before now : Told) (end : Ended Entry) (stop : Option Came) : Type 0 where
+    pub later : PassSeen C
+    pub done : List (Seen C)
+    pub runs : RunWorkers workers done
+    pub closes : ClosesWorkers done before now first later
+    pub passes : end.passes ≡ slice_set later.joined 0 (Some later.made)
+    pub calls : HasCalls end.history end.passes
+    pub stop_is : stop ≡ stop_of done
+
+  -- all workers were opened, did their work and were closed, told the desk before the openings and behind them, and before the closings and behind them
+  pub record RanSession (wanted : List Wanted) (cfg : C) (before opened running now : Told) (end : Ended Entry) (stop : Option Came) : Type 0 where
+    pub turn : TurnId
+    pub first : PassSeen C
+    pub workers : List (Seen C)
+    pub opens : OpensAll wanted cfg before opened turn first workers
+    pub ran : RunsOpened first workers running now end stop
+
+  -- an opening was refused, and those that were opened before were closed
+  pub record RefusedSession (wanted : List Wanted) (cfg : C) (before now : Told) (fault : Fault) : Type 0 where
+    pub turn : TurnId
+    pub mid : Told
+    pub first : PassSeen C
+    pub later : PassSeen C
+    pub workers : List (Seen C)
+    pub opens : OpensWorkers wanted before mid (first_pass turn cfg (suc (length wanted)) calls_most) first workers (Err fault)
+    pub closes : ClosesWorkers workers mid now first later

@@ -1,0 +1,109 @@
+//! The run of all workers at once.
+
+ghost use Rattle.std.specs.Prelude.{◌≡◌, ◌<◌, map, All};
+ghost use Rattle.std.specs.Thread.{IsSync, IsSend};
+ghost use Rattle.tesla_turn.specs.Held.{TurnId, left_of};
+ghost use Rattle.tesla_session.specs.Session.{Seen, SeenLink, SeenSink, RunsWorker, RunWorkers, AreOf, HaveCalls};
+
+use crate::worker::{LinkWorker, SinkWorker};
+use std::sync::Wait;
+use std::thread::{Threads, for_each_mut, join_mut};
+use tesla_desk::{Clock, Gate, Link, Sink};
+use tesla_shared::Station;
+use tesla_turn::Turn;
+
+/// What works over a turn of a station.
+trait Work<V: Station> {
+    /// What is seen of it.
+    ghost seen: { Self → Seen V.Config };
+
+    /// It may work over the turn.
+    ghost can_work: { TurnId → Self → Type 0 };
+
+    /// Does its work.
+    fn work<R: Wait>(&mut self, rt: &R, turn: &Turn<V>)
+        requires { can_work turn.now self.old }
+        ensures { RunsWorker (seen self.old) (seen self.new) };
+}
+
+impl<V: Station, K: Link, C: Clock, G: Gate> Work<V> for LinkWorker<V, K, C, G> {
+    ghost seen = { SeenLink };
+
+    ghost can_work = { λ turn it. (it.pass.turn ≡ turn) × (0 < left_of it.pass) };
+
+    fn work<R: Wait>(&mut self, rt: &R, turn: &Turn<V>) {
+        self.run(rt, turn);
+    }
+}
+
+impl<V: Station, S: Sink, G: Gate> Work<V> for SinkWorker<V, S, G> {
+    ghost seen = { SeenSink };
+
+    ghost can_work = { λ turn it. it.pass.turn ≡ turn };
+
+    fn work<R: Wait>(&mut self, rt: &R, turn: &Turn<V>) {
+        self.run(rt, turn);
+    }
+}
+
+// Runs workers of one kind, each in a thread of its own where one can be made.
+fn run_each<R: Threads + Wait + Sync, V: Station + Send, W: Work<V> + Send>(
+    rt: &R,
+    turn: &Turn<V>,
+    workers: &mut [W],
+)
+    requires { All (W.can_work turn.now) workers.old }
+    ensures { RunWorkers (map W.seen workers.old) (map W.seen workers.new) }
+{
+    if workers.is_empty() {
+        return;
+    }
+    let work = |_place: usize, worker: &mut W|
+        requires { W.can_work turn.now worker.now }
+        ensures { RunsWorker (W.seen worker.entry.now) (W.seen worker.exit.now) }
+    { worker.work(rt, turn) };
+    let threads = workers.len();
+    for_each_mut(rt, workers, threads, &work);
+}
+
+// Runs workers of two kinds at once, or the last after the first where no thread can be made.
+fn run_both<R: Threads + Wait + Sync, V: Station + Send, L: Work<V> + Send, F: Work<V> + Send>(
+    rt: &R,
+    turn: &Turn<V>,
+    last: &mut [L],
+    first: &mut [F],
+)
+    requires last { All (L.can_work turn.now) last.old }
+    requires first { All (F.can_work turn.now) first.old }
+    ensures last { RunWorkers (map L.seen last.old) (map L.seen last.new) }
+    ensures first { RunWorkers (map F.seen first.old) (map F.seen first.new) }
+{
+    let mut run_last = ||
+        requires { IsSync R.row × IsSend L.row × All (L.can_work turn.now) last.now }
+        ensures { RunWorkers (map L.seen last.entry.now) (map L.seen last.exit.now) }
+    { run_each(rt, turn, last) };
+    let mut run_first = ||
+        requires { IsSync R.row × IsSend F.row × All (F.can_work turn.now) first.now }
+        ensures { RunWorkers (map F.seen first.entry.now) (map F.seen first.exit.now) }
+    { run_each(rt, turn, first) };
+    join_mut(rt, &mut run_last, &mut run_first);
+}
+
+/// Runs all workers at once: each in a thread of its own where one can be made. Where none can be made
+/// the links' workers run before the sinks', so that such a run ends.
+pub fn run_workers<
+    R: Threads + Wait + Sync,
+    V: Station + Send,
+    K: Link + Send,
+    C: Clock + Send,
+    S: Sink + Send,
+    G: Gate + Send,
+>(rt: &R, turn: &Turn<V>, links: &mut [LinkWorker<V, K, C, G>], sinks: &mut [SinkWorker<V, S, G>])
+    requires links { AreOf turn.now (map SeenLink links.old) }
+    requires left { HaveCalls (map SeenLink links.old) }
+    requires sinks { AreOf turn.now (map SeenSink sinks.old) }
+    ensures links { RunWorkers (map SeenLink links.old) (map SeenLink links.new) }
+    ensures sinks { RunWorkers (map SeenSink sinks.old) (map SeenSink sinks.new) }
+{
+    run_both(rt, turn, sinks, links);
+}
