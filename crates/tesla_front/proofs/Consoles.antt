@@ -102,7 +102,7 @@ refused_run usage old opened done new came told written failed it is still =
     }
 
 -- an output that failed is none whose page or mail the console's closing changes
-failed_stays : (files : List Opening) (done new : Told) → AreFiles files → ((name : List ℕ) → name ≢ codes "-" → new.page name ≡ done.page name) → new.live ≡ done.live → AnyFailed files done → AnyFailed files new
+pub failed_stays : (files : List Opening) (done new : Told) → AreFiles files → ((name : List ℕ) → name ≢ codes "-" → new.page name ≡ done.page name) → new.live ≡ done.live → AnyFailed files done → AnyFailed files new
 failed_stays [] done new named pages live failed = failed
 failed_stays (OfSink name ∷ files) done new named pages live (inl own) = inl (subst (λ (p : Page). HasFailed p) (sym (pages name named.0)) own)
 failed_stays (OfSink name ∷ files) done new named pages live (inr others) = inr (failed_stays files done new named.1 pages live others)
@@ -110,7 +110,8 @@ failed_stays (OfPost name ∷ files) done new named pages live (inl own) = inl (
 failed_stays (OfPost name ∷ files) done new named pages live (inr others) = inr (failed_stays files done new named.1 pages live others)
 failed_stays (opening ∷ files) done new named pages live failed = failed_stays files done new named.1 pages live failed
 
-wider : (files : List Opening) (came : Came) (old counts : Faults) (done new : Told) → (AnyFailed files done → AnyFailed files new)
+-- the same causes where no output's failure is lost
+pub wider : (files : List Opening) (came : Came) (old counts : Faults) (done new : Told) → (AnyFailed files done → AnyFailed files new)
     → HasCausesBeside ((came ≡ Failed faults.Read) × AnyFailed files done) old counts (came ≡ Failed faults.Read) (came ≡ Failed faults.Write) (came ≡ Failed faults.Open)
     → HasCausesBeside ((came ≡ Failed faults.Read) × AnyFailed files new) old counts (came ≡ Failed faults.Read) (came ≡ Failed faults.Write) (came ≡ Failed faults.Open)
 wider files came old counts done new to causes = record {

@@ -2,6 +2,7 @@ pub mod SmallTexts
 pub mod Openings
 pub mod Told
 pub mod Consoles
+pub mod Printing
 mod Streams
 mod Slashes
 pub mod Commands

@@ -1,14 +1,15 @@
 -- The status of a fault comes only where its count rose.
 use Rattle.std.proofs.Common.{◌≡◌, ◌∙◌, ◌⊎◌, inl, inr, ◌-◌, ◌^◌, ◌<◌, ◌==◌, ℕ, Bool, true, false, nat_lt, if◌then◌else◌, List, refl, sym, ap, subst, arith}
 use Rattle.std.proofs.lemmas.Bool.Decides.{nat_tests}
-use Rattle.tesla_desk.specs.Faults.{Faults, Rose, no_faults, raised_where_failed}
+use Rattle.tesla_desk.specs.Faults.{Faults, HasCausesBeside, Rose, after_sink, no_faults, raised_where_failed}
 use Rattle.tesla_desk.specs.Outside.{Page, Untold, Absent, Holds, Told}
 use Rattle.tesla_desk.proofs.Counts.{not_rose, rose_where_some, rose_within, where_failed_stays}
 use Rattle.tesla_front.specs.Came.{Came, Done, Usage, Refused, Failed, HasOwnStatus, outcome_came, status_of}
 use Rattle.tesla_front.specs.Command.{Command}
 use Rattle.tesla_front.specs.Console.{Shows}
 use Rattle.tesla_front.specs.Fault.{IsUnfailed, fault_status, is_own_status}
-use Rattle.tesla_front.specs.Run.{HasConsole, HasStatusCauses, IsDoneAs, Runs}
+use Rattle.tesla_front.specs.Printing.{HasPrinted, PrintingCommand, RunsPrinting, ShowsAfter}
+use Rattle.tesla_front.specs.Run.{HasConsole, HasNoConsole, HasStatusCauses, Runs}
 use Rattle.tesla_front.specs.declared.fault.Fault.{Fault}
 use Rattle.tesla_front.specs.declared.fault.Fault.TheVariants as faults
 use Rattle.tesla_front.specs.declared.outcome.Outcome.{Outcome}
@@ -79,62 +80,96 @@ told_is usage came told failed (Holds text false) it = inl it.0
 told_is usage came told failed (Holds text true) (inl it) = inl it.0
 told_is usage came told failed (Holds text true) (inr it) = inr (it.0, it.2)
 
-done_causes : (command : Command) (arguments : command.Arguments) (usage : List ℕ) (old new : Told) (told : Came) (done : IsDoneAs command arguments usage old new told) → (told ≡ done.came) ⊎ ((told ≡ Failed faults.Write) × (0 < done.failed)) → ToldCauses told old.faults new.faults
-done_causes command arguments usage old new told done (inl same) =
-    let reads : new.faults.reads ≡ done.before_console.reads = ap (λ (f : Faults). f.reads) done.closed in
-    let writes : new.faults.writes ≡ raised_where_failed done.failed done.before_console.writes = ap (λ (f : Faults). f.writes) done.closed in
-    let openings : new.faults.openings ≡ done.before_console.openings = ap (λ (f : Faults). f.openings) done.closed in
-    let stays = where_failed_stays done.before_console.writes done.failed in
+-- a fault of what came raised its count, or a write to the console failed
+console_counts : {hidden : Type 0} (old before new : Faults) (came told : Came) (failed : ℕ) → HasCausesBeside hidden old before (came ≡ Failed faults.Read) (came ≡ Failed faults.Write) (came ≡ Failed faults.Open) → new ≡ after_sink before failed
+    → (told ≡ came) ⊎ ((told ≡ Failed faults.Write) × (0 < failed)) → ToldCauses told old new
+console_counts old before new came told failed counts closed (inl same) =
+    let reads : new.reads ≡ before.reads = ap (λ (f : Faults). f.reads) closed in
+    let writes : new.writes ≡ raised_where_failed failed before.writes = ap (λ (f : Faults). f.writes) closed in
+    let openings : new.openings ≡ before.openings = ap (λ (f : Faults). f.openings) closed in
+    let stays = where_failed_stays before.writes failed in
     record {
-      read = λ e. subst (λ (n : ℕ). Rose old.faults.reads n) (sym reads) (done.counts.reads.rose (sym same ∙ e));
-      write = λ e. rose_within old.faults.writes old.faults.writes done.before_console.writes new.faults.writes (omega arith) done.counts.writes.stays (omega (arith, writes, stays)) (done.counts.writes.rose (sym same ∙ e));
-      opening = λ e. subst (λ (n : ℕ). Rose old.faults.openings n) (sym openings) (done.counts.openings.rose (sym same ∙ e));
+      read = λ e. subst (λ (n : ℕ). Rose old.reads n) (sym reads) (counts.reads.rose (sym same ∙ e));
+      write = λ e. rose_within old.writes old.writes before.writes new.writes (omega arith) counts.writes.stays (omega (arith, writes, stays)) (counts.writes.rose (sym same ∙ e));
+      opening = λ e. subst (λ (n : ℕ). Rose old.openings n) (sym openings) (counts.openings.rose (sym same ∙ e));
     }
-done_causes command arguments usage old new told done (inr lost) =
-    let writes : new.faults.writes ≡ raised_where_failed done.failed done.before_console.writes = ap (λ (f : Faults). f.writes) done.closed in
-    let stays = where_failed_stays done.before_console.writes done.failed in
-    let rose : Rose done.before_console.writes new.faults.writes = subst (λ (n : ℕ). Rose done.before_console.writes n) (sym writes) (rose_where_some done.before_console.writes done.failed (inl lost.1)) in
+console_counts old before new came told failed counts closed (inr lost) =
+    let writes : new.writes ≡ raised_where_failed failed before.writes = ap (λ (f : Faults). f.writes) closed in
+    let stays = where_failed_stays before.writes failed in
+    let rose : Rose before.writes new.writes = subst (λ (n : ℕ). Rose before.writes n) (sym writes) (rose_where_some before.writes failed (inl lost.1)) in
     record {
       read = λ e. absurd (let no : Failed faults.Write ≡ Failed faults.Read = sym lost.0 ∙ e in cc);
-      write = λ _. rose_within old.faults.writes done.before_console.writes new.faults.writes new.faults.writes done.counts.writes.stays (omega (arith, writes, stays)) (omega arith) rose;
+      write = λ _. rose_within old.writes before.writes new.writes new.writes counts.writes.stays (omega (arith, writes, stays)) (omega arith) rose;
       opening = λ e. absurd (let no : Failed faults.Write ≡ Failed faults.Open = sym lost.0 ∙ e in cc);
+    }
+
+-- words that are no form raised no count, and are told so
+formed_causes : {A : Type 0} (told : Came) (old new : Faults) → ((A → ⊥) → told ≡ Usage) → (A → ToldCauses told old new) → ToldCauses told old new
+formed_causes {A} told old new usage done =
+    let formed : (fault : Fault) → told ≡ Failed fault → (A → ⊥) → ⊥ = λ fault e none. let no : Usage ≡ Failed fault = sym (usage none) ∙ e in cc in
+    record {
+      read = λ e. rose_indeed old.reads new.reads (λ none. formed faults.Read e (λ a. none ((done a).read e)));
+      write = λ e. rose_indeed old.writes new.writes (λ none. formed faults.Write e (λ a. none ((done a).write e)));
+      opening = λ e. rose_indeed old.openings new.openings (λ none. formed faults.Open e (λ a. none ((done a).opening e)));
     }
 
 console_causes : (command : Command) (usage : List ℕ) (words : List (List ℕ)) (old new : Told) (told : Came) → HasConsole command usage words old new told → ToldCauses told old.faults new.faults
 console_causes command usage words old new told ran =
-    let done : (arguments : command.Arguments) → command.IsForm arguments words → ToldCauses told old.faults new.faults =
-    λ arguments form. let it = ran.form arguments form in done_causes command arguments usage old new told it (told_is usage it.came told it.failed _ it.shows) in
-    let formed : (fault : Fault) → told ≡ Failed fault → ((arguments : command.Arguments) → command.IsForm arguments words → ⊥) → ⊥ =
-    λ fault e none. let no : Usage ≡ Failed fault = sym (ran.no_form none).is_usage ∙ e in cc in
-    record {
-      read = λ e. rose_indeed old.faults.reads new.faults.reads (λ none. formed faults.Read e (λ arguments form. none ((done arguments form).read e)));
-      write = λ e. rose_indeed old.faults.writes new.faults.writes (λ none. formed faults.Write e (λ arguments form. none ((done arguments form).write e)));
-      opening = λ e. rose_indeed old.faults.openings new.faults.openings (λ none. formed faults.Open e (λ arguments form. none ((done arguments form).opening e)));
-    }
+    formed_causes {A = (arguments : command.Arguments) × command.IsForm arguments words} told old.faults new.faults
+    (λ none. (ran.no_form (λ arguments form. none (arguments, form))).is_usage)
+    (λ a. let it = ran.form a.0 a.1 in console_counts old.faults it.before_console new.faults it.came told it.failed it.counts it.closed (told_is usage it.came told it.failed _ it.shows))
+
+-- the same of a command that prints lines: what the console shows is what came, or a write to it failed
+printed_is : (lines usage : List ℕ) (came told : Came) (failed : ℕ) (page : Page) → ShowsAfter lines usage came told failed page → (told ≡ came) ⊎ ((told ≡ Failed faults.Write) × (0 < failed))
+printed_is lines usage came told failed Untold (inl same) = inl same
+printed_is lines usage came told failed Untold (inr it) = inr (it.0, it.2)
+printed_is lines usage came told failed Absent none = absurd none
+printed_is lines usage came told failed (Holds text false) it = inl it.0
+printed_is lines usage came told failed (Holds text true) (some, inl it) = inl it.0
+printed_is lines usage came told failed (Holds text true) (some, inr (inl it)) = inl it.0
+printed_is lines usage came told failed (Holds text true) (some, inr (inr it)) = inr (it.0, some)
+
+printed_causes : (command : PrintingCommand) (usage : List ℕ) (words : List (List ℕ)) (old new : Told) (told : Came) → HasPrinted command usage words old new told → ToldCauses told old.faults new.faults
+printed_causes command usage words old new told ran =
+    formed_causes {A = (arguments : command.Arguments) × command.IsForm arguments words} told old.faults new.faults
+    (λ none. (ran.no_form (λ arguments form. none (arguments, form))).is_usage)
+    (λ a. let it = ran.form a.0 a.1 in console_counts old.faults it.before_console new.faults it.came told it.failed it.counts it.closed (printed_is it.lines usage it.came told it.failed _ it.shows))
 
 unopened_none : (told : Came) (fault : Fault) → (told ≡ Failed faults.Open) ⊎ (told ≡ Failed faults.NoMemory) → told ≡ Failed fault → (fault ≡ faults.Open → ⊥) → (fault ≡ faults.NoMemory → ⊥) → ⊥
 unopened_none told fault (inl is) e no_open no_memory = no_open (let same : Failed fault ≡ Failed faults.Open = sym e ∙ is in cc)
 unopened_none told fault (inr is) e no_open no_memory = no_memory (let same : Failed fault ≡ Failed faults.NoMemory = sym e ∙ is in cc)
 
-told_causes : (command : Command) (usage : List ℕ) (words : List (List ℕ)) (old new : Told) (told : Came) → Runs command usage words old new told → ToldCauses told old.faults new.faults
-told_causes command usage words old new told (inl none) = record {
+no_console_causes : (old new : Told) (told : Came) → HasNoConsole old new told → ToldCauses told old.faults new.faults
+no_console_causes old new told none = record {
   read = λ e. absurd (unopened_none told faults.Read none.fault e (λ no. cc) (λ no. cc));
   write = λ e. absurd (unopened_none told faults.Write none.fault e (λ no. cc) (λ no. cc));
   opening = λ e. none.counts.openings.rose e;
 }
+
+told_causes : (command : Command) (usage : List ℕ) (words : List (List ℕ)) (old new : Told) (told : Came) → Runs command usage words old new told → ToldCauses told old.faults new.faults
+told_causes command usage words old new told (inl none) = no_console_causes old new told none
 told_causes command usage words old new told (inr ran) = console_causes command usage words old new told ran
+
+told_printing : (command : PrintingCommand) (usage : List ℕ) (words : List (List ℕ)) (old new : Told) (told : Came) → RunsPrinting command usage words old new told → ToldCauses told old.faults new.faults
+told_printing command usage words old new told (inl none) = no_console_causes old new told none
+told_printing command usage words old new told (inr ran) = printed_causes command usage words old new told ran
 
 -- ---- both
 
+by_status : (told : Came) (old new : Faults) → HasOwnStatus told → ToldCauses told old new → HasStatusCauses (status_of told) old new
+by_status told old new own causes = record {
+  read = λ e. causes.read (fault_told told faults.Read own e);
+  write = λ e. causes.write (fault_told told faults.Write own e);
+  opening = λ e. causes.opening (fault_told told faults.Open own e);
+}
+
 -- the status of what a run came to is that of a fault only where its count rose
 pub status_causes : (command : Command) (usage : List ℕ) (words : List (List ℕ)) (old new : Told) (told : Came) → HasOwnStatus told → Runs command usage words old new told → HasStatusCauses (status_of told) old.faults new.faults
-status_causes command usage words old new told own runs =
-    let causes = told_causes command usage words old new told runs in
-    record {
-      read = λ e. causes.read (fault_told told faults.Read own e);
-      write = λ e. causes.write (fault_told told faults.Write own e);
-      opening = λ e. causes.opening (fault_told told faults.Open own e);
-    }
+status_causes command usage words old new told own runs = by_status told old.faults new.faults own (told_causes command usage words old new told runs)
+
+-- so it is of a command that prints lines while it goes
+pub printing_status_causes : (command : PrintingCommand) (usage : List ℕ) (words : List (List ℕ)) (old new : Told) (told : Came) → HasOwnStatus told → RunsPrinting command usage words old new told → HasStatusCauses (status_of told) old.faults new.faults
+printing_status_causes command usage words old new told own runs = by_status told old.faults new.faults own (told_printing command usage words old new told runs)
 
 -- and where no count can rise no such status comes
 pub never_failed : (status : ℕ) → HasStatusCauses status no_faults no_faults → IsUnfailed status

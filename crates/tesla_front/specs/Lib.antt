@@ -1,5 +1,6 @@
 pub mod Command
 pub mod Run
+pub mod Printing
 pub mod Came
 pub mod Console
 pub mod Usage

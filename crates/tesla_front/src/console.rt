@@ -58,8 +58,8 @@ fn tell_summary<S: Sink>(console: &mut S, forms: &[FormText], lines: Lines) -> O
     Outcome::Failed(Fault::Write)
 }
 
-// Writes the lines of an outcome that has no summary. False: a write failed.
-fn write_lines<S: Sink>(console: &mut S, forms: &[FormText], outcome: &Outcome) -> bool
+/// Writes the lines of an outcome that has no summary. False: a write failed.
+pub(crate) fn write_lines<S: Sink>(console: &mut S, forms: &[FormText], outcome: &Outcome) -> bool
     requires { IsDone (outcome_came outcome.now) → ⊥ }
     ensures all { result ≡ true → S.written console.new ≡ with_bytes (S.written console.old) (text_of (usage_of forms.now) (outcome_came outcome.now)) }
     ensures prefix { AppendsPrefix (S.written console.old) (S.written console.new) (text_of (usage_of forms.now) (outcome_came outcome.now)) }

@@ -1,9 +1,16 @@
-use Rattle.std.proofs.Common.{ℕ, map, string_bytes, subst, sym}
-use Rattle.tesla_front.specs.Came.{outcome_came}
+use Rattle.std.proofs.Common.{Bool, true, false, ℕ, List, map, string_bytes, subst, sym}
+use Rattle.tesla_desk.specs.Outside.{Told}
+use Rattle.tesla_front.specs.Came.{Came, HasOwnStatus, outcome_came, status_of}
 use Rattle.tesla_front.specs.Run.{HasStatusCauses}
-use Rattle.tesla_front.proofs.Statuses.{own_status, status_causes}
-use Rattle.tesla_tools.specs.Commands.{command_of, usage}
+use Rattle.tesla_front.proofs.Statuses.{own_status, printing_status_causes, status_causes}
+use Rattle.tesla_run_show.specs.Show.{show}
+use Rattle.tesla_tools.specs.Commands.{command_of, names_show, runs_where, usage}
 use Rattle.tesla_tools.proofs.tools.run_tools.Goals as goal
+
+-- the status is that of a fault only where its count rose, whichever tool was run
+causes_where : (shows : Bool) (words : List (List ℕ)) (old new : Told) (told : Came) → HasOwnStatus told → runs_where shows words old new told → HasStatusCauses (status_of told) old.faults new.faults
+causes_where true words old new told own runs = printing_status_causes show usage words old new told own runs
+causes_where false words old new told own runs = status_causes (command_of words) usage words old new told own runs
 
 pub returns-clause-causes : goal.returns-clause-causes
 returns-clause-causes g c =
@@ -12,4 +19,4 @@ returns-clause-causes g c =
     let new = g.D.Desk.told c.run_told.new.desk in
     let outcome = c.run_told.result in
     subst (λ (status : ℕ). HasStatusCauses status old.faults new.faults) (sym c.status.ensures)
-    (status_causes (command_of words) usage words old new (outcome_came outcome) (own_status outcome) c.run_told.ensures)
+    (causes_where (names_show words) words old new (outcome_came outcome) (own_status outcome) c.run_told.ensures)

@@ -5,7 +5,7 @@ use Rattle.tesla_front.specs.Came.{outcome_came}
 use Rattle.tesla_front.specs.Console.{Tells}
 use Rattle.tesla_front.proofs.Consoles.{Tolds, console_opened, console_unopened}
 use Rattle.tesla_tools.specs.Commands.{command_of, usage}
-use Rattle.tesla_tools.proofs.tools.run_told.Goals as goal
+use Rattle.tesla_tools.proofs.tools.come_told.Goals as goal
 
 pub returns-in-Ok : goal.returns-in-Ok
 returns-in-Ok g c =

@@ -1,0 +1,12 @@
+use Rattle.std.proofs.Common.{◌∙◌, refl}
+use Rattle.tesla_front.specs.Usage.{usage_of}
+use Rattle.tesla_front.proofs.Printing.{behind_done, behind_lost}
+use Rattle.tesla_front.proofs.printed.tell_last.Goals as goal
+
+pub returns-then-write_all-clause-tells : goal.returns-then-write_all-clause-tells
+returns-then-write_all-clause-tells g c =
+    behind_done (usage_of c.args.forms.now) c.args.lines.bytes _ _ _ _ _ (c.as_bytes.ensures.value ∙ c.as_str.ensures.value) (c.if-write_all.ensures.all refl) c.if-write_all.ensures.cause c.requires
+
+pub returns-clause-tells : goal.returns-clause-tells
+returns-clause-tells g c =
+    behind_lost (usage_of c.args.forms.now) c.args.lines.bytes _ _ _ _ _ _ (c.as_bytes.ensures.value ∙ c.as_str.ensures.value) c.write_all.ensures.prefix c.write_all.ensures.cause c.if-write_all.false c.requires

@@ -1,0 +1,7 @@
+mod TwoWords
+mod Listed
+mod Heads
+mod Shown
+mod Settled
+mod Performed
+mod Lists

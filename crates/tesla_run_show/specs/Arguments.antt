@@ -1,0 +1,22 @@
+-- What the words of the command show ask for.
+use Rattle.std.specs.Prelude.{◌≡◌, ℕ, List, [], ◌∷◌, codes}
+use Rattle.tesla_desk.specs.Outside.{Opening, OfSource}
+use Rattle.tesla_front.specs.Words.{IsName}
+use Rattle.tesla_run_show.specs.declared.arguments.Arguments.{Arguments}
+
+-- the name of the file
+pub record ShowArguments : Type 0 where
+  pub trace : List ℕ
+
+-- what the words that were read ask for
+abbrev pub arguments_of : Arguments → ShowArguments
+arguments_of words = record { trace = words.trace.now }
+
+-- the words are the form 'show TRACE'
+pub record IsShowForm (arguments : ShowArguments) (words : List (List ℕ)) : Type 0 where
+  pub spelled : words ≡ codes "show" ∷ arguments.trace ∷ []
+  pub trace_is : IsName arguments.trace
+
+-- the one file of the command
+abbrev pub files_of_show : ShowArguments → List Opening
+files_of_show arguments = OfSource arguments.trace ∷ []
