@@ -3,6 +3,7 @@
 
 use std::process::ExitCode;
 use tesla_cli_live::{is_live, run_live};
+use tesla_cli_recorded::{is_recorded, run_recorded};
 use tesla_live::{Gates, LiveDesk};
 use tesla_live_tools::{is_live_tool, run_live_tools};
 use tesla_program::{run_program, words};
@@ -16,6 +17,10 @@ fn main(rt: HostRuntime) -> ExitCode {
             let done = run_live(&rt, rt.alloc(), words.as_slice(), &mut desk);
             return ExitCode::from(done.status);
         }
+        if is_recorded(words.as_slice()) {
+            let done = run_recorded(&rt, rt.alloc(), words.as_slice(), &mut desk);
+            return ExitCode::from(done.status);
+        }
         if is_live_tool(words.as_slice()) {
             let done = run_live_tools(&rt, rt.alloc(), words.as_slice(), &mut desk);
             return ExitCode::from(done.status);
@@ -23,6 +28,7 @@ fn main(rt: HostRuntime) -> ExitCode {
     }
     let further = [
         tesla_cli_live::FORMS.as_slice(),
+        tesla_cli_recorded::FORMS.as_slice(),
         tesla_live_tools::FORMS.as_slice(),
     ];
     run_program(rt.alloc(), words, &further, &mut desk)

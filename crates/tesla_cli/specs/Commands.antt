@@ -3,6 +3,8 @@ use Rattle.std.specs.Prelude.{ℕ, Bool, true, false, List, [], ◌∷◌, ◌++
 use Rattle.std.specs.Str.{bytes_eq}
 use Rattle.tesla_front.specs.Command.{Command, no_command}
 use Rattle.tesla_front.specs.Usage.{usage_line}
+use Rattle.tesla_run_audit.specs.Audit.{audit}
+use Rattle.tesla_run_audit.specs.Usage as audits
 use Rattle.tesla_run_chain.specs.Chain.{chain}
 use Rattle.tesla_run_chain.specs.Usage as chains
 use Rattle.tesla_run_early.specs.Early.{early}
@@ -17,6 +19,8 @@ use Rattle.tesla_run_send.specs.Send.{send}
 use Rattle.tesla_run_send.specs.Usage as sends
 use Rattle.tesla_run_stress.specs.Stress.{stress}
 use Rattle.tesla_run_stress.specs.Usage as stresses
+use Rattle.tesla_run_trace.specs.Trace.{trace}
+use Rattle.tesla_run_trace.specs.Usage as traces
 use Rattle.tesla_run_weave.specs.Weave.{weave}
 use Rattle.tesla_run_weave.specs.Usage as weaves
 
@@ -36,8 +40,10 @@ command_named word =
     where_named (bytes_eq word (codes "stress")) stress (
     where_named (bytes_eq word (codes "roll")) roll (
     where_named (bytes_eq word (codes "weave")) weave (
-    where_named (bytes_eq word (codes "early")) early
-    no_command))))))))
+    where_named (bytes_eq word (codes "early")) early (
+    where_named (bytes_eq word (codes "trace")) trace (
+    where_named (bytes_eq word (codes "audit")) audit
+    no_command))))))))))
 
 -- the command of these words: the first of them names it
 abbrev pub command_of : List (List ℕ) → Command
@@ -46,7 +52,7 @@ command_of (word ∷ words) = command_named word
 
 -- the words of each form, in the order in which they are told
 abbrev pub forms : List (List ℕ)
-forms = replays.usages ++ chains.usages ++ sends.usage ∷ lags.usage ∷ stresses.usage ∷ rolls.usage ∷ weaves.usage ∷ earlies.usage ∷ []
+forms = replays.usages ++ chains.usages ++ sends.usage ∷ lags.usage ∷ stresses.usage ∷ rolls.usage ∷ weaves.usage ∷ earlies.usage ∷ traces.usage ∷ audits.usage ∷ []
 
 -- the usage lines of all
 abbrev pub usage : List ℕ

@@ -19,10 +19,10 @@ use tesla_front::{Fault, FormText, Outcome, tell};
 /// 0: it came to its end, and its lines were told. 1: the words are no form of a command. 2: SETUP isn't a setup.
 /// 3: CAPTURE isn't a capture, or SCRIPT isn't a script or has a record that the sender refuses, and what stands
 /// before the refused place was played or sent, and written; or SECRET doesn't have the seeds that are wanted; or ASK
-/// isn't an ask, or KEY isn't a key. 4: a read failed. 5: a write failed. 6: there was no memory. 7: something wasn't
-/// opened. 9: the lag is too large. 10: REPLY is refused.
+/// isn't an ask, or KEY isn't a key; or TRACE isn't a trace, and all entries before the refused place are right. 4: a read failed. 5: a write failed. 6: there was no memory. 7: something wasn't
+/// opened. 8: an entry of TRACE is wrong. 9: the lag is too large. 10: REPLY is refused.
 ///
-/// At 0 to 3, 6, 7, 9 and 10 no read and no write of a file failed, at 5 no read, and at 4 a write only while what was made
+/// At 0 to 3 and 6 to 10 no read and no write of a file failed, at 5 no read, and at 4 a write only while what was made
 /// before was written.
 pub fn run_here<D: Desk>(alloc: Global, words: &[String], desk: &mut D) -> u8
     ensures came { (told : Came) × (result ≡ status_of told) × Runs (command_of (map string_bytes words.now)) usage (map string_bytes words.now) (D.told desk.old) (D.told desk.new) told }

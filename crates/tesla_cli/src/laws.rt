@@ -8,6 +8,8 @@ ghost use Rattle.tesla_front.specs.Command.{Performs, RunsAs};
 ghost use Rattle.tesla_front.specs.Fault.{IsUnfailed};
 ghost use Rattle.tesla_front.specs.Run.{Runs};
 ghost use Rattle.tesla_cli.specs.Commands.{command_of, usage};
+ghost use Rattle.tesla_run_audit.specs.Arguments.{AuditArguments, IsAudit};
+ghost use Rattle.tesla_run_audit.specs.Audit.{audit};
 ghost use Rattle.tesla_run_chain.specs.Arguments.{ChainArguments, IsChain};
 ghost use Rattle.tesla_run_chain.specs.Chain.{chain};
 ghost use Rattle.tesla_run_early.specs.Early.{IsEarly, early};
@@ -21,6 +23,7 @@ ghost use Rattle.tesla_run_send.specs.Arguments.{IsSend, SendArguments};
 ghost use Rattle.tesla_run_send.specs.Send.{send};
 ghost use Rattle.tesla_run_stress.specs.Arguments.{IsStress, StressArguments};
 ghost use Rattle.tesla_run_stress.specs.Stress.{stress};
+ghost use Rattle.tesla_run_trace.specs.Trace.{IsTraceForm, trace};
 ghost use Rattle.tesla_run_weave.specs.Arguments.{IsWeave, WeaveArguments};
 ghost use Rattle.tesla_run_weave.specs.Weave.{weave};
 
@@ -38,6 +41,8 @@ pub fn forms_are_named()
     ensures rolls { (arguments : RollArguments) (words : List (List ℕ)) (old new : Told) (came : Came) → IsRoll arguments words → RunsAs (command_of words) words old new came → Performs roll arguments old new came }
     ensures weaves { (arguments : WeaveArguments) (words : List (List ℕ)) (old new : Told) (came : Came) → IsWeave arguments words → RunsAs (command_of words) words old new came → Performs weave arguments old new came }
     ensures earlies { (arguments : PlayedArguments) (words : List (List ℕ)) (old new : Told) (came : Came) → IsEarly arguments words → RunsAs (command_of words) words old new came → Performs early arguments old new came }
+    ensures traces { (arguments : PlayedArguments) (words : List (List ℕ)) (old new : Told) (came : Came) → IsTraceForm arguments words → RunsAs (command_of words) words old new came → Performs trace arguments old new came }
+    ensures audits { (arguments : AuditArguments) (words : List (List ℕ)) (old new : Told) (came : Came) → IsAudit arguments words → RunsAs (command_of words) words old new came → Performs audit arguments old new came }
 {}
 
 /// Runs the words as the top call does, over a desk on which no call from outside fails. The status is never 4, 5 or 7.

@@ -8,6 +8,7 @@ mod streams;
 mod sure;
 mod texts;
 mod times;
+mod traces;
 
 use std::alloc::Global;
 use std::test::Fail;
@@ -141,6 +142,7 @@ fn other_commands_that_fail(rt: HostRuntime) -> Result<(), Fail> {
         streams::chains(),
         times::runs(),
         loads::runs(),
+        traces::faults(),
     ] {
         assert_eq!(rt; wrong_of(rt.alloc(), runs, WHOLE)?.as_str(), "");
     }
@@ -150,10 +152,9 @@ fn other_commands_that_fail(rt: HostRuntime) -> Result<(), Fail> {
 #[test]
 fn worked_examples_in_pieces(rt: HostRuntime) -> Result<(), Fail> {
     for most in [WHOLE, 1, 2, 7] {
-        assert_eq!(rt;
-            wrong_of(rt.alloc(), replays::examples(), most)?.as_str(),
-            ""
-        );
+        for runs in [replays::examples(), traces::examples()] {
+            assert_eq!(rt; wrong_of(rt.alloc(), runs, most)?.as_str(), "");
+        }
     }
     Ok(())
 }

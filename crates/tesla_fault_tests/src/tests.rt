@@ -19,6 +19,7 @@ use std::thread::Threads;
 use tesla_base::Text;
 use tesla_cli::run_here;
 use tesla_cli_live::{is_live, run_live};
+use tesla_cli_recorded::{is_recorded, run_recorded};
 use tesla_desk::{CONSOLE, Desk, Letter, MemoryDesk};
 use tesla_live_tools::{is_live_tool, run_live_tools};
 use tesla_tools::{is_tool, run_tools};
@@ -128,6 +129,16 @@ fn status_of_live<R: Threads + Wait + Sync, D: Desk>(
     run_live(rt, alloc, words, desk).status
 }
 
+// The status of words of the command that records.
+fn status_of_recorded<R: Threads + Wait + Sync, D: Desk>(
+    rt: &R,
+    alloc: Global,
+    words: &[String],
+    desk: &mut D,
+) -> u8 {
+    run_recorded(rt, alloc, words, desk).status
+}
+
 // The status of words of a live tool.
 fn status_of_live_tool<R: Wait, D: Desk>(
     rt: &R,
@@ -156,6 +167,9 @@ fn status_of<R: Threads + Wait + Sync, D: Desk>(
 ) -> u8 {
     if is_live(words) {
         return status_of_live(rt, alloc, words, desk);
+    }
+    if is_recorded(words) {
+        return status_of_recorded(rt, alloc, words, desk);
     }
     if is_live_tool(words) {
         return status_of_live_tool(rt, alloc, words, desk);

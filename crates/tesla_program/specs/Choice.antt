@@ -8,5 +8,5 @@ use Rattle.tesla_tools.specs.Commands as tools
 
 -- a run of the words by the table of the tools where the first of them names one, and else by that of the other commands
 pub record RunsChosen (words : List (List ℕ)) (old new : Told) (told : Came) : Type 0 where
-  pub tool : tools.IsTool words → Runs (tools.command_of words) tools.usage words old new told
+  pub tool : tools.IsTool words → tools.RunsTool words old new told
   pub command : (tools.IsTool words → ⊥) → Runs (commands.command_of words) commands.usage words old new told

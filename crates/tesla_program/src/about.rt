@@ -26,8 +26,8 @@ const FOOT: &[u8] = b"tesla --help
 tesla --version
 
 Status: 0 done, 1 usage, 2 setup refused, 3 input refused, 4 read fault,
-5 write fault, 6 no memory, 7 open fault, 9 lag too large, 10 reply refused,
-11 calls spent.
+5 write fault, 6 no memory, 7 open fault, 8 answer refuted, 9 lag too large,
+10 reply refused, 11 calls spent.
 ";
 
 /// The text that one word alone asks for. `None` where the words are something else.

@@ -178,12 +178,57 @@ const OTHERS: &[(&str, &str)] = &[
     ),
 ];
 
+/// Traces and a tail.
+const TRACES: &[(&str, &str)] = &[
+    // The capture with both messages, its end, the packet that is given, and that all is over.
+    ("traced", "54545243010101000000000000118c30003b"),
+    ("traced", DATA_1_0_HI),
+    ("traced", "090301000000000000149970005b"),
+    ("traced", DATA_3_0_YO),
+    (
+        "traced",
+        "0903030002000200000000000000000000000100000000026869",
+    ),
+    ("traced", "020001"),
+    // The same, in which "yo" is late.
+    ("refuted", "54545243010101000000000000118c30003b"),
+    ("refuted", DATA_1_0_HI),
+    ("refuted", "090301000000000000149970005b"),
+    ("refuted", DATA_3_0_YO),
+    (
+        "refuted",
+        "06030002000200000000000000000000000100000000026869",
+    ),
+    ("refuted", "020001"),
+    // The first without its last byte.
+    ("cut-trace", "54545243010101000000000000118c30003b"),
+    ("cut-trace", DATA_1_0_HI),
+    ("cut-trace", "090301000000000000149970005b"),
+    ("cut-trace", DATA_3_0_YO),
+    (
+        "cut-trace",
+        "0903030002000200000000000000000000000100000000026869",
+    ),
+    ("cut-trace", "0200"),
+    // Both messages and a take, without an end.
+    ("traced-so-far", "54545243010101000000000000118c30003b"),
+    ("traced-so-far", DATA_1_0_HI),
+    ("traced-so-far", "090301000000000000149970005b"),
+    ("traced-so-far", DATA_3_0_YO),
+    (
+        "traced-so-far",
+        "090302000200000000000000000000000100000000026869",
+    ),
+    // Entries 7 and 8 of a history: a take that is over, and an end.
+    ("tail", "5454414c0100000000000000070200010301"),
+];
+
 fn texts() -> [&'static [(&'static str, &'static str)]; 2] {
     [TEXTS, MORE_TEXTS]
 }
 
-fn records() -> [&'static [(&'static str, &'static str)]; 4] {
-    [CAPTURES, MORE_CAPTURES, VERDICTS, OTHERS]
+fn records() -> [&'static [(&'static str, &'static str)]; 5] {
+    [CAPTURES, MORE_CAPTURES, VERDICTS, OTHERS, TRACES]
 }
 
 // Whether a run has to do with a page.

@@ -16,6 +16,7 @@ pub const REPLIED: &str =
 /// What is told of words that are no form of a tool.
 pub const USAGE: &str = "1 usage: ask READING ASK-OUT
 usage: reply ASK KEY READING REPLY-OUT
+usage: show TRACE
 ";
 
 const ASK: &str = "ask 5000000 out";

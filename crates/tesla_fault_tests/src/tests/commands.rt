@@ -67,6 +67,26 @@ const COMMANDS: &[Command] = &[
         outs: &["out"],
         counts: "openings 4, setup 23, first 19, out 2, - 12",
     },
+    // 211 bytes of TRACE.
+    Command {
+        words: "trace setup 30000 16 first out",
+        clock: &[],
+        calls: &[
+            ("setup", READ),
+            ("first", READ),
+            ("out", WRITE),
+            ("-", WRITE),
+        ],
+        outs: &["out"],
+        counts: "openings 4, setup 23, first 19, out 22, - 11",
+    },
+    Command {
+        words: "audit setup 30000 16 traced",
+        clock: &[],
+        calls: &[("setup", READ), ("traced", READ), ("-", WRITE)],
+        outs: &[],
+        counts: "openings 3, setup 23, traced 23, - 1",
+    },
     // 40 bytes of SCRIPT. SCRIPT-OUT has 39 more for the promise in "hi", and one more for "yo".
     Command {
         words: "weave setup script out 1",
@@ -144,6 +164,20 @@ const COMMANDS: &[Command] = &[
         ],
         outs: &["out"],
         counts: "openings 4, setup 23, both 5, out 2, - 11",
+    },
+    // The head of TAIL has 13 bytes, and the last entry three.
+    Command {
+        words: "record setup 30000 16 both out 1 tail",
+        clock: CLOCK,
+        calls: &[
+            ("setup", READ),
+            ("both", READ),
+            ("out", WRITE),
+            ("tail", WRITE),
+            ("-", WRITE),
+        ],
+        outs: &["out"],
+        counts: "openings 5, setup 23, both 5, out 2, tail 3, - 11",
     },
     // Two lines of 24 bytes.
     Command {

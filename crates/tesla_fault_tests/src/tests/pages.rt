@@ -27,6 +27,16 @@ const RECORDS: &[(&str, &str)] = &[
     ("one", "5443415001010000000000118c30003b"),
     ("one", DATA_1_0_HI),
     ("one", "02"),
+    // The trace of both messages, the end, the packet that is given, and that all is over.
+    ("traced", "54545243010101000000000000118c30003b"),
+    ("traced", DATA_1_0_HI),
+    ("traced", "090301000000000000149970005b"),
+    ("traced", DATA_3_0_YO),
+    (
+        "traced",
+        "0903030002000200000000000000000000000100000000026869",
+    ),
+    ("traced", "020001"),
     // "hi" in interval 1, "yo" in interval 3, and a disclosure.
     (
         "script",

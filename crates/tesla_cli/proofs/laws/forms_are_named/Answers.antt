@@ -44,3 +44,11 @@ returns-clause-weaves c arguments words old new came is runs =
 pub returns-clause-earlies : goal.returns-clause-earlies
 returns-clause-earlies c arguments words old new came is runs =
     (subst (λ (all : List (List ℕ)). RunsAs (command_of all) words old new came) is.spelled runs).form arguments is
+
+pub returns-clause-traces : goal.returns-clause-traces
+returns-clause-traces c arguments words old new came is runs =
+    (subst (λ (all : List (List ℕ)). RunsAs (command_of all) words old new came) is.spelled runs).form arguments is
+
+pub returns-clause-audits : goal.returns-clause-audits
+returns-clause-audits c arguments words old new came is runs =
+    (subst (λ (all : List (List ℕ)). RunsAs (command_of all) words old new came) is.spelled runs).form arguments is
