@@ -1,0 +1,77 @@
+"""Captures, scripts and records of packets (FORMATS.md, "Capture", "Script", "Release record", "Promising payload").
+
+No file here comes near 2^40 bytes, so `TooLarge` isn't among the kinds.
+"""
+import collections
+import struct
+
+Arrives = collections.namedtuple("Arrives", "reading bytes")
+Takes = collections.namedtuple("Takes", "")
+Sends = collections.namedtuple("Sends", "reading payload")
+Discloses = collections.namedtuple("Discloses", "reading")
+
+# A head, the record that carries bytes and how many these are at most, and the record of kind 2 with the bytes behind its kind.
+Grammar = collections.namedtuple("Grammar", "head carrying longest bare bare_size")
+CAPTURE = Grammar(b"TCAP\1", Arrives, 2_048, Takes, 0)
+SCRIPT = Grammar(b"TSCR\1", Sends, 1_200, Discloses, 8)
+# What is told of a packet that was given: how many were given before, its name, the chain that proves it, and its length.
+Head = collections.namedtuple("Head", "position interval number chain length")
+
+
+def record_text(record):
+    """The one spelling of a record."""
+    if isinstance(record, (Arrives, Sends)):
+        return b"\1" + struct.pack(">QH", record[0], len(record[1])) + record[1]
+    return b"\2" + (struct.pack(">Q", record.reading) if isinstance(record, Discloses) else b"")
+
+
+def file_text(grammar, records):
+    """The one spelling of a file."""
+    return grammar.head + b"".join(map(record_text, records))
+
+
+def record_at(grammar, text, place):
+    """The record at a place with the place behind it, or why that place is refused."""
+    kind = text[place]
+    if kind == 2:
+        behind = place + 1 + grammar.bare_size
+        fields = (int.from_bytes(text[place + 1:behind], "big"),) if grammar.bare_size else ()
+        return (grammar.bare(*fields), behind) if behind <= len(text) else "Truncated"
+    if kind != 1:
+        return "BadKind"
+    if place + 11 > len(text):
+        return "Truncated"
+    reading, length = struct.unpack_from(">QH", text, place + 1)
+    if length > grammar.longest:
+        return "TooLong"
+    behind = place + 11 + length
+    return (grammar.carrying(reading, text[place + 11:behind]), behind) if behind <= len(text) else "Truncated"
+
+
+def outline_of(grammar, text):
+    """The whole records of a file, each with its place, up to the first that is refused, and that place with its kind or None."""
+    if text[:5] != grammar.head:
+        return [], (0, "BadHead")
+    records, place = [], 5
+    while place < len(text):
+        found = record_at(grammar, text, place)
+        if isinstance(found, str):
+            return records, (place, found)
+        records.append((place, found[0]))
+        place = found[1]
+    return records, None
+
+
+def release_text(head, payload):
+    """The record of a packet that was given."""
+    return struct.pack(">QIHBH", *head) + payload
+
+
+def marked_text(mark, head, payload):
+    """The same behind one byte, which tells its epoch or its kind."""
+    return bytes([mark]) + release_text(head, payload)
+
+
+def accepted_text(interval, number, payload):
+    """The record of a message that was accepted on arrival."""
+    return b"\1" + struct.pack(">IHH", interval, number, len(payload)) + payload
