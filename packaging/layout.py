@@ -1,0 +1,106 @@
+"""Which files are installed, and where: the one table for packaging/install, packaging/remove and packaging/package."""
+import gzip
+import os
+import tempfile
+
+HERE = os.path.dirname(os.path.abspath(__file__))
+PROGRAM = os.path.normpath(f"{HERE}/../crates/tesla/out/tesla")
+LIST = "share/tesla/installed"
+# What is written in the sources for the folder under which all is installed.
+WRITTEN = ("/usr/bin/tesla ", "/usr/libexec/tesla/")
+
+# A source below this folder, where it goes below the prefix, and its rights. In a path that ends with .gz it is compressed.
+FILES = [
+    ("manuals/tesla.1", "share/man/man1/tesla.1.gz", 0o644),
+    ("manuals/tesla-formats.5", "share/man/man5/tesla-formats.5.gz", 0o644),
+    ("completions/tesla.bash", "share/bash-completion/completions/tesla", 0o644),
+    ("completions/_tesla", "share/zsh/site-functions/_tesla", 0o644),
+    ("systemd/tesla-receive@.service", "lib/systemd/system/tesla-receive@.service", 0o644),
+    ("systemd/tesla-feed@.service", "lib/systemd/system/tesla-feed@.service", 0o644),
+    ("systemd/sinks", "libexec/tesla/sinks", 0o755),
+    ("systemd/stream.env", "share/doc/tesla/examples/stream.env", 0o644),
+    ("wireshark/tesla.lua", "lib/wireshark/plugins/tesla.lua", 0o644),
+]
+# Where Debian wants something else.
+DEBIAN = {"completions/_tesla": "share/zsh/vendor-completions/_tesla"}
+
+
+def data_of(source, target, prefix):
+    """What is installed of a source."""
+    with open(f"{HERE}/{source}", "rb") as file:
+        data = file.read()
+    if source.startswith("systemd/"):
+        for written in WRITTEN:
+            data = data.replace(written.encode(), written.replace("/usr", prefix, 1).encode())
+    return gzip.compress(data, 9, mtime=0) if target.endswith(".gz") else data
+
+
+def files_of(program, prefix, places=None):
+    """Each file that is installed under the prefix: its path below it, its rights, and its bytes. The dissector is left out
+    where it isn't there."""
+    with open(program, "rb") as file:
+        yield "bin/tesla", 0o755, file.read()
+    for source, target, rights in FILES:
+        target = (places or {}).get(source, target)
+        if os.path.exists(f"{HERE}/{source}") or not source.startswith("wireshark/"):
+            yield target, rights, data_of(source, target, prefix)
+
+
+def write(path, rights, data):
+    """Writes a file under a new name and then moves it to its own, so that a program that runs from it isn't disturbed."""
+    descriptor, name = tempfile.mkstemp(dir=os.path.dirname(path))
+    with open(descriptor, "wb") as file:
+        file.write(data)
+    os.chmod(name, rights)
+    os.rename(name, path)
+
+
+def made(folder):
+    """Makes a folder and those above it, and answers the ones that weren't there."""
+    if os.path.isdir(folder):
+        return []
+    above = made(os.path.dirname(folder))
+    os.mkdir(folder)
+    os.chmod(folder, 0o755)
+    return [*above, folder]
+
+
+def listed(prefix):
+    """What was installed under a prefix: its folders, and its files."""
+    if not os.path.exists(f"{prefix}/{LIST}"):
+        return [], []
+    with open(f"{prefix}/{LIST}", encoding="utf-8") as file:
+        rows = [line.split(" ", 1) for line in file.read().splitlines()]
+    return [name for kind, name in rows if kind == "folder"], [name for kind, name in rows if kind == "file"]
+
+
+def install(program, prefix):
+    """Installs all under a prefix, takes away what an earlier version had installed beside it, and answers what is there."""
+    folders, before = listed(prefix)
+    now = []
+    for path, rights, data in files_of(program, prefix):
+        folders += [os.path.relpath(it, prefix) for it in made(os.path.dirname(f"{prefix}/{path}"))]
+        write(f"{prefix}/{path}", rights, data)
+        now.append(path)
+    folders += [os.path.relpath(it, prefix) for it in made(os.path.dirname(f"{prefix}/{LIST}"))]
+    rows = [f"folder {it}\n" for it in folders] + [f"file {it}\n" for it in now]
+    write(f"{prefix}/{LIST}", 0o644, "".join(rows).encode())
+    take_away(prefix, [], set(before) - set(now))
+    return now
+
+
+def take_away(prefix, folders, files):
+    """Takes away these files, and these folders where they are empty."""
+    for name in files:
+        if os.path.lexists(f"{prefix}/{name}"):
+            os.remove(f"{prefix}/{name}")
+    for name in sorted(folders, key=len, reverse=True):
+        if os.path.isdir(f"{prefix}/{name}") and not os.listdir(f"{prefix}/{name}"):
+            os.rmdir(f"{prefix}/{name}")
+
+
+def remove(prefix):
+    """Takes away all that was installed under a prefix, and answers how many files those were."""
+    folders, files = listed(prefix)
+    take_away(prefix, folders, [*files, LIST] if files else [])
+    return len(files)
