@@ -32,13 +32,17 @@ usage: stress SEED COUNT
 usage: roll SETUP LAG CAPACITY CAPTURE OUT
 usage: weave SETUP SCRIPT SCRIPT-OUT GAP
 usage: early SETUP LAG CAPACITY CAPTURE OUT
+usage: trace SETUP LAG CAPACITY CAPTURE TRACE
+usage: audit SETUP LAG CAPACITY TRACE
 """
 TOOLS = b"""\
 usage: ask READING ASK-OUT
 usage: reply ASK KEY READING REPLY-OUT
+usage: show TRACE
 """
 LIVE = b"usage: receive SETUP LAG CAPACITY LINKS SINKS\nusage: relay CAPACITY LINK POSTS\nusage: play CAPTURE POSTS\n"
 LIVE_TOOLS = b"usage: capture LINK CAPTURE\nusage: feed SETUP SECRET LINK POSTS\n"
+RECORDED = b"usage: record SETUP LAG CAPACITY LINKS SINKS KEEP TAIL\n"
 OPEN, READ, WRITE = b"open fault\n", b"read fault\n", b"write fault\n"
 
 # An exchange of times, and the key that both sides share. Another program made the reply.
@@ -80,7 +84,8 @@ class Trials:
         found = []
         for words, status, printed in runs:
             came = run(words, folder, env, **user)
-            found += zip(("the status", "printed", "of the system"), came, (status, printed, b""))
+            by = f" by {' '.join(words[1:])}" if len(runs) > 1 else ""
+            found += zip((f"the status{by}", f"printed{by}", f"of the system{by}"), came, (status, printed, b""))
         found += [(name, read(f"{folder}/{name}"), data) for name, data in {**files, **held}.items()]
         return [f"{what} {shown(one)}, and not {shown(other)}" for what, one, other in found if one != other]
 

@@ -7,6 +7,7 @@ import struct
 from program import read
 
 HERE = os.path.dirname(os.path.abspath(__file__))
+INPUTS, OUTPUTS = ("setup", "script", "capture", "trace-in"), ("out", "woven", "trace-out")
 COUNTS = "arrivals malformed foreign misfit future badkey late repeat full kept keys given".split()
 
 
@@ -28,10 +29,10 @@ def stored(group):
 
 def stored_run(group, name):
     """The run of this name in a folder beside this file."""
-    held = {it: read(f"{HERE}/{group}/{name}/{it}") for it in ("setup", "script", "capture", "out", "woven", "console")}
+    held = {it: read(f"{HERE}/{group}/{name}/{it}") for it in (*INPUTS, *OUTPUTS, "console")}
     words, status = (read(f"{HERE}/{group}/{name}/{it}").decode().splitlines() for it in ("words", "status"))
-    outputs = {it: held[it] for it in ("out", "woven") if it in words}
-    inputs = {it: held[it] for it in ("setup", "script", "capture") if it in words}
+    outputs = {it: held[it] for it in OUTPUTS if it in words}
+    inputs = {it: held[it] for it in INPUTS if it in words}
     return (f"{words[0]}: {name}", " ".join(words), int(status[0]), held["console"], outputs, inputs)
 
 
@@ -73,15 +74,17 @@ class Stream:
         """The record of a frame that comes in the middle of an interval."""
         return b"\1" + struct.pack(">QH", self.start + 100_000 * interval + 50_000, len(frame)) + frame
 
-    def row(self, chain, interval, tagged):
-        """The tag of a chain, without a key."""
+    def row(self, chain, interval, tagged, keyed):
+        """The tag of a chain; with the key that is due, where it has keys and there is one."""
         key = hmac.digest(self.keys[chain][interval], b"\1", "sha256")
-        return hmac.digest(key, struct.pack(">QB", self.stream, chain) + tagged, "sha256")[:16] + b"\0"
+        tag = hmac.digest(key, struct.pack(">QB", self.stream, chain) + tagged, "sha256")[:16]
+        due = interval - self.delays[chain]
+        return tag + (b"\1" + self.keys[chain][due] if keyed and due > 0 else b"\0")
 
-    def frame(self, interval, payload, number=0):
-        """A packet without keys."""
+    def frame(self, interval, payload, number=0, keyed=False):
+        """A packet, without keys if not said."""
         named = struct.pack(">IH", interval, number)
-        rows = b"".join(self.row(chain, interval, named + payload) for chain in range(len(self.delays)))
+        rows = b"".join(self.row(chain, interval, named + payload, keyed) for chain in range(len(self.delays)))
         told = named + struct.pack(">H", len(payload)) + payload + bytes([len(self.delays)]) + rows
         return b"TSLA\1\1" + struct.pack(">Q", self.stream) + told
 
@@ -89,10 +92,14 @@ class Stream:
         """The record of a packet without keys."""
         return self.arrival(interval, self.frame(interval, payload, number))
 
+    def told(self, *keys):
+        """A frame that tells keys, each of a chain and an index."""
+        rows = b"".join(struct.pack(">BI", chain, index) + self.keys[chain][index] for chain, index in keys)
+        return b"TSLA\1\2" + struct.pack(">QB", self.stream, len(keys)) + rows
+
     def disclosure(self, interval):
         """The record of the disclosure of an interval's key of the first chain, and a take."""
-        told = b"\1" + struct.pack(">BI", 0, interval) + self.keys[0][interval]
-        return self.arrival(interval + self.delays[0], b"TSLA\1\2" + struct.pack(">Q", self.stream) + told) + b"\2"
+        return self.arrival(interval + self.delays[0], self.told((0, interval))) + b"\2"
 
     def packet(self, interval, payload):
         """A packet, its key, and a take."""
