@@ -2,6 +2,7 @@
 //! readings rise along the history.
 
 ghost use Rattle.std.specs.Prelude.{◌≡◌, ◌<◌};
+ghost use Rattle.tesla_receiver.specs.Stands.{Stands};
 ghost use Rattle.tesla_turn.specs.Held.{OnlyCalls, left_of};
 
 use std::sync::Wait;
@@ -10,18 +11,21 @@ use std::sync::atomic::Ordering::SeqCst;
 use std::sync::ledger::Ledger;
 use std::test::*;
 use std::thread::{Threads, join};
-use tesla_base::{NoMemory, Steps};
+use tesla_base::Steps;
+use tesla_commit::read_setup;
 use tesla_desk::{Clock, Got, Link, OpenGate};
-use tesla_receiver::{Entry, Take, Verdict};
+use tesla_examples::SETUP;
+use tesla_receiver::{Config, Entry, Receiver, Take, Verdict};
 use tesla_shared::*;
 use tesla_turn::{Chronicle, Pass, Turn};
 
 // How many datagrams come to each worker.
 const EACH: u64 = 2_000;
 
-// Counts the arrivals, and sees whether their readings rise.
+// A receiver that counts the arrivals, and sees whether their readings rise.
 #[derive(Drop)]
 struct Rising {
+    receiver: Receiver,
     arrivals: u64,
     last: u64,
     rises: bool,
@@ -30,32 +34,38 @@ struct Rising {
 impl Chronicle for Rising {
     type Entry = Entry;
 
-    type Config = ();
+    type Config = Config;
 
-    ghost config = { λ _. tt };
+    ghost config = { λ rising. rising.receiver.config };
 
-    ghost stands = { λ _ _. Unit {0} };
+    ghost stands = { λ rising h. Stands rising.receiver h };
 }
 
 impl Station for Rising {
+    ghost receiver = { λ rising. rising.receiver.config };
+
+    ghost legal = { λ rising h stood. stood.legal };
+
     fn arrive<L: Ledger>(
         &mut self,
-        _ingest: u8,
+        ingest: u8,
         reading: u64,
-        _bytes: &[u8],
-        _steps: &mut Steps<L>,
+        bytes: &[u8],
+        steps: &mut Steps<L>,
     ) -> Verdict {
         self.arrivals = self.arrivals.saturating_add(1);
         self.rises = self.rises && self.last < reading;
         self.last = reading;
-        Verdict::Malformed
+        <Receiver as Station>::arrive(&mut self.receiver, ingest, reading, bytes, steps)
     }
 
-    fn take(&mut self, _releaser: u8, _into: &mut [u8; 1200]) -> Take {
-        Take::Over
+    fn take(&mut self, releaser: u8, into: &mut [u8; 1200]) -> Take {
+        <Receiver as Station>::take(&mut self.receiver, releaser, into)
     }
 
-    fn end(&mut self, _ingest: u8) {}
+    fn end(&mut self, ingest: u8) {
+        <Receiver as Station>::end(&mut self.receiver, ingest);
+    }
 }
 
 // A clock that workers share. Each reading is one more than that before it.
@@ -125,8 +135,10 @@ fn hears<R: Wait>(
 fn by_two_threads<R: Threads + Wait + Sync>(
     rt: &R,
     alloc: std::alloc::Global,
-) -> Result<Rising, NoMemory> {
+) -> Result<Rising, Fail> {
+    let setup = read_setup(alloc, SETUP.as_bytes())?;
     let rising = Rising {
+        receiver: Receiver::open(alloc, setup, 30_000, 16, 16, 2)?,
         arrivals: 0,
         last: 0,
         rises: true,
