@@ -9,6 +9,7 @@ ghost use Rattle.tesla_turn.specs.History.{entries};
 ghost use Rattle.tesla_session.specs.Wanted.{Wanted, wanted_for};
 ghost use Rattle.tesla_session.specs.Session.{AreOf, ClosesWorkers, HaveCalls, OpensAll, OpensWorkers, RefusedSession, RunWorkers, RunsOpened, calls_most, stop_of, workers_of};
 
+use crate::beside::{Beside, Nothing};
 use crate::running::run_workers;
 use crate::session::{Links, Sinks, close_links, close_sinks, open_links, open_sinks};
 use crate::stop::stop_in;
@@ -126,22 +127,25 @@ pub fn open_session<D: Desk, V: Station>(
     }
 }
 
-// Runs all workers, and tells why they came to no end.
-fn run_all<R: Threads + Wait + Sync, D: Desk, V: Station + Send>(
+// Runs all workers, and something beside them, and tells why they came to no end.
+fn run_all<R: Threads + Wait + Sync, D: Desk, V: Station + Send, B: Beside + Send>(
     rt: &R,
     session: &mut Session<D, V>,
+    beside: &mut B,
 ) -> Option<Stop>
     requires own { AreOf session.old.turn (workers_of session.old.links.items session.old.sinks.items) }
     requires left { HaveCalls (workers_of session.old.links.items session.old.sinks.items) }
     ensures runs { RunWorkers (workers_of session.old.links.items session.old.sinks.items) (workers_of session.new.links.items session.new.sinks.items) }
     ensures stop { option_map stop_came result ≡ stop_of (workers_of session.new.links.items session.new.sinks.items) }
     ensures same { (session.new.turn ≡ session.old.turn) × (session.new.first ≡ session.old.first) }
+    ensures beside { B.did beside.old beside.new }
 {
     run_workers(
         rt,
         &session.turn,
         session.links.as_mut_slice(),
         session.sinks.as_mut_slice(),
+        beside,
     );
     stop_in(session.links.as_slice(), session.sinks.as_slice())
 }
@@ -178,7 +182,7 @@ pub fn close_all<D: Desk, V: Station>(desk: &mut D, session: Session<D, V>)
 /// Runs the workers that are opened, closes them, and ends the turn. It waits for their links and for their turns.
 pub fn run_opened<R: Threads + Wait + Sync, D: Desk, V: Station + Send>(
     rt: &R,
-    mut session: Session<D, V>,
+    session: Session<D, V>,
     desk: &mut D,
 ) -> Ran<V>
     requires { (wanted : List Wanted) × (cfg : V.Config) × (before : Told) × (now : Told) × OpensAll wanted cfg before now session.turn session.first (workers_of session.links.items session.sinks.items) }
@@ -186,7 +190,24 @@ pub fn run_opened<R: Threads + Wait + Sync, D: Desk, V: Station + Send>(
     ensures stands { V.stands result.station (entries result.last.history) }
     ensures config { session.first.config ≡ Some (V.config result.station) }
 {
-    let stop = run_all(rt, &mut session);
+    run_opened_beside(rt, session, &mut Nothing, desk)
+}
+
+/// The same with something beside the workers, which runs in a thread of its own until they have ended, or behind them where no
+/// thread can be made.
+pub fn run_opened_beside<R: Threads + Wait + Sync, D: Desk, V: Station + Send, B: Beside + Send>(
+    rt: &R,
+    mut session: Session<D, V>,
+    beside: &mut B,
+    desk: &mut D,
+) -> Ran<V>
+    requires { (wanted : List Wanted) × (cfg : V.Config) × (before : Told) × (now : Told) × OpensAll wanted cfg before now session.turn session.first (workers_of session.links.items session.sinks.items) }
+    ensures runs { RunsOpened session.first (workers_of session.links.items session.sinks.items) (D.told desk.old) (D.told desk.new) result.last (option_map stop_came result.stop) }
+    ensures stands { V.stands result.station (entries result.last.history) }
+    ensures config { session.first.config ≡ Some (V.config result.station) }
+    ensures beside { B.did beside.old beside.new }
+{
+    let stop = run_all(rt, &mut session, beside);
     let (turn, first) = close_workers(desk, session);
     let (station, last) = turn.close(rt, first);
     Ran {

@@ -5,6 +5,7 @@ ghost use Rattle.std.specs.Thread.{IsSync, IsSend};
 ghost use Rattle.tesla_turn.specs.Held.{TurnId, left_of};
 ghost use Rattle.tesla_session.specs.Session.{Seen, SeenLink, SeenSink, RunsWorker, RunWorkers, AreOf, HaveCalls};
 
+use crate::beside::{Beside, Ended};
 use crate::worker::{LinkWorker, SinkWorker};
 use std::sync::Wait;
 use std::thread::{Threads, for_each_mut, join_mut};
@@ -89,8 +90,50 @@ fn run_both<R: Threads + Wait + Sync, V: Station + Send, L: Work<V> + Send, F: W
     join_mut(rt, &mut run_last, &mut run_first);
 }
 
+// Runs workers of two kinds at once, and something beside them, or behind them where no thread can be made.
+fn run_beside<
+    R: Threads + Wait + Sync,
+    V: Station + Send,
+    L: Work<V> + Send,
+    F: Work<V> + Send,
+    B: Beside + Send,
+>(rt: &R, turn: &Turn<V>, last: &mut [L], first: &mut [F], beside: &mut B)
+    requires last { All (L.can_work turn.now) last.old }
+    requires first { All (F.can_work turn.now) first.old }
+    ensures last { RunWorkers (map L.seen last.old) (map L.seen last.new) }
+    ensures first { RunWorkers (map F.seen first.old) (map F.seen first.new) }
+    ensures beside { B.did beside.old beside.new }
+{
+    let ended = Ended::new();
+    let flag = &ended;
+    let mut run_workers = ||
+        requires { IsSync R.row × IsSend L.row × IsSend F.row × All (L.can_work turn.now) last.now × All (F.can_work turn.now) first.now }
+        ensures { RunWorkers (map L.seen last.entry.now) (map L.seen last.exit.now) × RunWorkers (map F.seen first.entry.now) (map F.seen first.exit.now) }
+    { run_then_tell(rt, turn, last, first, flag) };
+    let mut run_other = ||
+        ensures { B.did beside.entry.now beside.exit.now }
+    { beside.run(rt, flag) };
+    join_mut(rt, &mut run_other, &mut run_workers);
+}
+
+// Runs workers of two kinds at once, and tells that they have ended.
+fn run_then_tell<R: Threads + Wait + Sync, V: Station + Send, L: Work<V> + Send, F: Work<V> + Send>(
+    rt: &R,
+    turn: &Turn<V>,
+    last: &mut [L],
+    first: &mut [F],
+    ended: &Ended,
+)
+    requires last { All (L.can_work turn.now) last.old }
+    requires first { All (F.can_work turn.now) first.old }
+    ensures { RunWorkers (map L.seen last.old) (map L.seen last.new) × RunWorkers (map F.seen first.old) (map F.seen first.new) }
+{
+    run_both(rt, turn, last, first);
+    ended.set();
+}
+
 /// Runs all workers at once: each in a thread of its own where one can be made. Where none can be made
-/// the links' workers run before the sinks', so that such a run ends.
+/// the links' workers run before the sinks', and what is beside them behind both, so that such a run ends.
 pub fn run_workers<
     R: Threads + Wait + Sync,
     V: Station + Send,
@@ -98,12 +141,20 @@ pub fn run_workers<
     C: Clock + Send,
     S: Sink + Send,
     G: Gate + Send,
->(rt: &R, turn: &Turn<V>, links: &mut [LinkWorker<V, K, C, G>], sinks: &mut [SinkWorker<V, S, G>])
+    B: Beside + Send,
+>(
+    rt: &R,
+    turn: &Turn<V>,
+    links: &mut [LinkWorker<V, K, C, G>],
+    sinks: &mut [SinkWorker<V, S, G>],
+    beside: &mut B,
+)
     requires links { AreOf turn.now (map SeenLink links.old) }
     requires left { HaveCalls (map SeenLink links.old) }
     requires sinks { AreOf turn.now (map SeenSink sinks.old) }
     ensures links { RunWorkers (map SeenLink links.old) (map SeenLink links.new) }
     ensures sinks { RunWorkers (map SeenSink sinks.old) (map SeenSink sinks.new) }
+    ensures beside { B.did beside.old beside.new }
 {
-    run_both(rt, turn, sinks, links);
+    run_beside(rt, turn, sinks, links, beside);
 }

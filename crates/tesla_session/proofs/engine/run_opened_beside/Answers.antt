@@ -2,7 +2,7 @@ use Rattle.std.proofs.Common.{sym, subst, ap, ◌∙◌}
 use Rattle.tesla_turn.specs.Held.{TurnId}
 use Rattle.tesla_session.specs.Session.{AreOf, ClosesWorkers, workers_of}
 use Rattle.tesla_session.proofs.Sessions.{closes_same, opened_left, opened_of, opened_same, runs_of}
-use Rattle.tesla_session.proofs.engine.run_opened.Goals as goal
+use Rattle.tesla_session.proofs.engine.run_opened_beside.Goals as goal
 
 pub run_all-stop-requires-clause-own : goal.run_all-stop-requires-clause-own
 run_all-stop-requires-clause-own g c κs within =
