@@ -1,5 +1,3 @@
-pub mod EightWords
+pub mod Spelled
 pub mod Tails
 pub mod Tailed
-pub mod Outputs
-pub mod Performed

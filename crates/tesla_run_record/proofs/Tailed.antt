@@ -1,10 +1,17 @@
--- What was written to TAIL, and under which configuration.
-use Rattle.std.proofs.Common.{◌≡◌, ℕ, Bool, true, false, not, Option, Some, IfSome, List, [], refl, ap, subst}
+-- What was written to TAIL, under which configuration, and what the page of TAIL then holds.
+use Rattle.std.proofs.Common.{◌≡◌, ◌⊎◌, ℕ, nat_lt, Bool, true, false, not, Option, Some, None, IfSome, List, [], take, refl, ap, subst, arith}
+use Rattle.std.proofs.lemmas.Bool.Decides.{nat_tests}
 use Rattle.tesla_desk.specs.Faults.{HasCause}
-use Rattle.tesla_desk.specs.Outside.{AppendsPrefix, with_bytes}
+use Rattle.tesla_desk.specs.Outside.{AppendsPrefix, Holds, page_of, with_bytes}
 use Rattle.tesla_desk.proofs.Counts.{cause_as}
+use Rattle.tesla_desk.proofs.Told.{first_written}
 use Rattle.tesla_fitting.specs.declared.config.Config.{Config}
+use Rattle.tesla_front.specs.Came.{Came, Failed}
+use Rattle.tesla_front.specs.declared.fault.Fault.TheVariants as faults
+use Rattle.tesla_receiver.specs.declared.history.Entry.{Entry}
 use Rattle.tesla_recorder.specs.declared.recorded.RecordedConfig.{RecordedConfig}
+use Rattle.tesla_run_receive.proofs.Heard.{fails_not}
+use Rattle.tesla_run_record.specs.Record.{HoldsTail, tail_of}
 use Rattle.tesla_run_record.specs.Running.{WritesTail}
 
 -- the parts of a configuration
@@ -34,3 +41,16 @@ writes_tail text before written fresh count done empty none all prefix cause = r
   prefix = prefix;
   cause = cause_as 0 count (subst (λ (n : ℕ). HasCause n count (done ≡ false)) none cause) (failed_by done) (failed_from done);
 }
+
+holds_by : (keep : ℕ) (history : List Entry) (fresh written : Option (List ℕ)) (count : ℕ) (failed : Bool) (came : Came) (bytes : List ℕ) (test : Bool) → nat_lt 0 count ≡ test → written ≡ Some bytes → WritesTail (tail_of keep history) fresh written count failed → (failed ≡ true → (came ≡ Failed faults.Read) ⊎ (came ≡ Failed faults.Write)) → HoldsTail keep history (Holds bytes test) came
+holds_by keep history fresh written count true came bytes false none told writes tells = absurd (fails_not count writes.cause none refl)
+holds_by keep history fresh written count false came bytes false none told writes tells = first_written fresh written (tail_of keep history) bytes writes.empty (writes.all refl) told
+holds_by keep history fresh written count true came bytes true some told writes tells =
+    ((writes.prefix.0, first_written fresh written (take writes.prefix.0 (tail_of keep history)) bytes writes.empty writes.prefix.1.written told), tells refl)
+holds_by keep history fresh written count false came bytes true some told writes tells =
+    absurd (let none : count ≡ 0 = writes.cause.still (λ e. absurd cc) in grind (arith, nat_tests, some, none))
+
+-- what the page of TAIL holds once it is closed
+pub holds_tail : (keep : ℕ) (history : List Entry) (fresh written : Option (List ℕ)) (count : ℕ) (failed : Bool) (came : Came) → WritesTail (tail_of keep history) fresh written count failed → (failed ≡ true → (came ≡ Failed faults.Read) ⊎ (came ≡ Failed faults.Write)) → HoldsTail keep history (page_of written count) came
+holds_tail keep history fresh None count failed came writes tells = tt
+holds_tail keep history fresh (Some bytes) count failed came writes tells = holds_by keep history fresh (Some bytes) count failed came bytes (nat_lt 0 count) refl refl writes tells

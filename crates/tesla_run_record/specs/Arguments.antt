@@ -1,8 +1,7 @@
 -- What the words of the command record ask for.
-use Rattle.std.specs.Prelude.{◌≡◌, ◌≢◌, ℕ, List, [], ◌∷◌, ◌++◌, codes}
-use Rattle.tesla_desk.specs.Outside.{Opening, OfSink}
+use Rattle.std.specs.Prelude.{◌≡◌, ◌≢◌, ℕ, List, [], ◌∷◌, codes}
 use Rattle.tesla_front.specs.Words.{IsName, IsNumberWithin}
-use Rattle.tesla_run_receive.specs.Arguments.{ReceiveArguments, IsReceive, AreOthers, files_of_receive}
+use Rattle.tesla_run_receive.specs.Arguments.{ReceiveArguments, IsReceive, AreOthers}
 use Rattle.tesla_run_receive.specs.Arguments as receiving
 use Rattle.tesla_run_record.specs.declared.arguments.Arguments.{Arguments}
 
@@ -31,7 +30,3 @@ pub record IsRecord (arguments : RecordArguments) (words : List (List ℕ)) : Ty
   -- no output is the input, and none is opened twice
   pub not_setup : arguments.tail ≢ arguments.receive.setup
   pub not_sink : AreOthers arguments.tail arguments.receive.sinks
-
--- what is opened, in order: the setup, the links, the sinks and TAIL
-abbrev pub files_of_record : RecordArguments → List Opening
-files_of_record arguments = files_of_receive arguments.receive ++ OfSink arguments.tail ∷ []

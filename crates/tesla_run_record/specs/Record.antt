@@ -1,20 +1,17 @@
 -- What the command record does.
-use Rattle.std.specs.Prelude.{◌≡◌, ◌⊎◌, ℕ, suc, ◌-◌, true, false, List, [], ◌∷◌, length, take, drop, Option, Some}
+use Rattle.std.specs.Prelude.{◌≡◌, ◌⊎◌, ℕ, ◌-◌, true, false, List, length, Option}
 use Rattle.tesla_desk.specs.Live.{Live}
 use Rattle.tesla_desk.specs.Outside.{Page, Untold, Absent, Holds}
 use Rattle.tesla_front.specs.Came.{Came, Failed}
 use Rattle.tesla_front.specs.Command.{Command}
 use Rattle.tesla_front.specs.Files.{IsPrefix}
-use Rattle.tesla_front.specs.Openings.{File}
 use Rattle.tesla_front.specs.declared.fault.Fault.TheVariants as faults
 use Rattle.tesla_receiver.specs.declared.history.Entry.{Entry}
 use Rattle.tesla_recorder.specs.Recorded.{last_entries}
 use Rattle.tesla_trace.specs.Trace.{tail_text}
 use Rattle.tesla_turn.specs.Held.{Ended}
-use Rattle.tesla_turn.specs.History.{entries}
-use Rattle.tesla_run_receive.specs.Arguments.{workers_wanted}
-use Rattle.tesla_run_receive.specs.Receive.{Receives, Stops}
-use Rattle.tesla_run_record.specs.Arguments.{RecordArguments, IsRecord, files_of_record}
+use Rattle.tesla_with_output.specs.Output.{WithOutput, with_output}
+use Rattle.tesla_run_record.specs.Arguments.{RecordArguments, IsRecord}
 
 -- the spelling of the last entries of a history, at most so many: behind the number of the first of them
 abbrev pub tail_of : ℕ → List Entry → List ℕ
@@ -27,20 +24,16 @@ HoldsTail keep history Absent came = ⊥
 HoldsTail keep history (Holds bytes false) came = bytes ≡ tail_of keep history
 HoldsTail keep history (Holds bytes true) came = IsPrefix (tail_of keep history) bytes × ((came ≡ Failed faults.Read) ⊎ (came ≡ Failed faults.Write))
 
--- TAIL, as the only file behind the sinks, told the history that was made
-abbrev pub TailHolds : ℕ → Option (Ended Entry) → List File → Came → Type 0
-TailHolds keep (Some end) (tail ∷ []) came = HoldsTail keep (entries end.history) tail.page came
-TailHolds keep _ _ came = ⊥
+-- the form of receive with one output more: the output is TAIL
+abbrev pub form_of_record : WithOutput
+form_of_record = record {
+  Arguments = RecordArguments;
+  IsForm = IsRecord;
+  receives = λ arguments. arguments.receive;
+  output = λ arguments. arguments.tail;
+  Holds = λ arguments. HoldsTail arguments.keep;
+}
 
--- what the run does: nothing was received, nor written to an output; or all was opened, a history was received, and TAIL has the last entries of it
-abbrev pub DoesRecord : Live → Live → Option (Ended Entry) → RecordArguments → ℕ → List File → List File → Came → Type 0
-DoesRecord before now last arguments opened (setup ∷ files) (setup_now ∷ files_now) came =
-    Stops arguments.receive opened before now last setup (drop (length arguments.receive.links) files) (drop (length arguments.receive.links) files_now) came
-    ⊎ ((opened ≡ suc (suc (length (workers_wanted arguments.receive))))
-    × Receives arguments.receive before now last setup (take (length arguments.receive.sinks) (drop (length arguments.receive.links) files_now)) came
-    × TailHolds arguments.keep last (drop (length arguments.receive.sinks) (drop (length arguments.receive.links) files_now)) came)
-DoesRecord before now last arguments opened files files_now came = ⊥
-
--- the command, told what the desk has of links and clocks before and afterwards, and the end of the turn where there was one: its words, its files and what it does
+-- the command, told what the desk has of links and clocks before and afterwards, and the end of the turn where there was one: nothing was received, nor written to an output; or all was opened, a history was received, and TAIL has the last entries of it
 abbrev pub recording : Live → Live → Option (Ended Entry) → Command
-recording before now last = record { Arguments = RecordArguments; IsForm = IsRecord; files = files_of_record; Does = DoesRecord before now last }
+recording before now last = with_output form_of_record before now last

@@ -1,19 +1,14 @@
 //! A run of the command `record`.
 
-ghost use Rattle.std.specs.Prelude.{◌≡◌, ◌≤◌, ◌+◌, ◌||◌, [], ℕ, Bool, List, Ok, Err, Some, None, IfOk, IfSome, not, length, map, string_bytes, vec_capacity};
-ghost use Rattle.std.specs.Option.{option_map};
-ghost use Rattle.tesla_desk.specs.Outside.{OpensSink, Told};
-ghost use Rattle.tesla_front.specs.Came.{Usage, came_of, outcome_came, stop_came};
+ghost use Rattle.std.specs.Prelude.{◌≡◌, ◌≤◌, ◌+◌, [], ℕ, List, Some, None, IfOk, IfSome, length, map, string_bytes, vec_capacity};
+ghost use Rattle.tesla_desk.specs.Outside.{Told};
+ghost use Rattle.tesla_front.specs.Came.{Usage, came_of, outcome_came};
 ghost use Rattle.tesla_front.specs.Command.{Performs, RunsAs};
-ghost use Rattle.tesla_receiver.specs.Report.{report_of};
-ghost use Rattle.tesla_receiver.specs.declared.history.Entry.{Entry};
-ghost use Rattle.tesla_recorder.specs.Recorded.{RecordedStands};
 ghost use Rattle.tesla_recorder.specs.declared.recorded.RecordedConfig.{RecordedConfig};
 ghost use Rattle.tesla_run_receive.specs.Arguments.{AreFew, workers_wanted};
 ghost use Rattle.tesla_run_receive.specs.Receive.{config_of};
-ghost use Rattle.tesla_run_replay.specs.ReportText.{report_text};
-ghost use Rattle.tesla_session.specs.Session.{OpensAll, RefusesWorker, calls_most, came_by, stop_by, workers_of};
-ghost use Rattle.tesla_session.specs.Wanted.{Wanted, WantedSink};
+ghost use Rattle.tesla_session.specs.Session.{OpensAll, calls_most, workers_of};
+ghost use Rattle.tesla_session.specs.Wanted.{Wanted};
 ghost use Rattle.tesla_turn.specs.Held.{first_pass};
 ghost use Rattle.tesla_run_record.specs.Arguments.{IsRecord, arguments_of};
 ghost use Rattle.tesla_run_record.specs.Record.{recording};
@@ -31,9 +26,9 @@ use tesla_desk::Desk;
 use tesla_front::{Fault, Lines, Outcome, Stop, outcome_of, setup_under};
 use tesla_recorder::Recorded;
 use tesla_run_receive::new_receiver;
-use tesla_run_replay::report_lines;
-use tesla_session::{Ran, Session, close_all, open_session, prepared, run_opened};
+use tesla_session::{Ran, Session, prepared, run_opened};
 use tesla_turn::Last;
+use tesla_with_output::{ended, open_with_output, stop_with};
 
 /// What a run came to, and the whole history where the links and the outputs were opened and the workers ran.
 #[derive(Drop)]
@@ -142,62 +137,15 @@ fn run_session<R: Threads + Wait + Sync, D: Desk>(
     ensures { (cfg : RecordedConfig) → session.first ≡ first_pass session.turn cfg (1 + length arguments.now.receive.links + length arguments.now.receive.sinks) calls_most → RunsRecorder (workers_wanted (arguments_of arguments.now).receive) cfg arguments.now.tail.now (D.told desk.old) (D.told desk.new) result.1 (came_of result.0) }
 {
     let receive = &arguments.receive;
-    match open_session(&receive.links, &receive.sinks, session, desk) {
-        Ok(session) => run_opened_session(rt, arguments.tail, session, desk),
+    match open_with_output(
+        &receive.links,
+        &receive.sinks,
+        arguments.tail,
+        session,
+        desk,
+    ) {
+        Ok((session, tail)) => run_tailed(rt, session, tail, desk),
         Err(fault) => (Err(Stop::Failed(fault)), None),
-    }
-}
-
-// Opens TAIL.
-fn open_tail<D: Desk>(desk: &mut D, name: &str) -> Result<D::Out, Fault>
-    ensures opened { IfOk result (λ it. OpensSink {A = Unit {0}} name.now (Ok tt) (D.told desk.old) (D.told desk.new)) }
-    ensures fresh { IfOk result (λ it. IfSome (D.Out.written it) (λ bytes. bytes ≡ []) × (D.Out.faults it ≡ 0) × (D.Out.name it ≡ name.now)) }
-    ensures refused { (fault : _) → result ≡ Err fault → RefusesWorker (WantedSink 0 name.now) (D.told desk.old) (D.told desk.new) fault }
-{
-    let tail = desk.open_sink(name)?;
-    Ok(tail)
-}
-
-// Opens TAIL behind the workers, and runs them. Where it is refused, they are closed.
-fn run_opened_session<R: Threads + Wait + Sync, D: Desk>(
-    rt: &R,
-    name: &str,
-    session: Session<D, Recorded>,
-    desk: &mut D,
-) -> Came
-    requires { (wanted : List Wanted) × (cfg : RecordedConfig) × (before : Told) × OpensAll wanted cfg before (D.told desk.old) session.turn session.first (workers_of session.links.items session.sinks.items) }
-    ensures { (wanted : List Wanted) (cfg : RecordedConfig) (before : Told) → OpensAll wanted cfg before (D.told desk.old) session.turn session.first (workers_of session.links.items session.sinks.items) → RunsRecorder wanted cfg name.now before (D.told desk.new) result.1 (came_of result.0) }
-{
-    match open_tail(desk, name) {
-        Ok(tail) => run_tailed(rt, session, tail, desk),
-        Err(fault) => {
-            close_all(desk, session);
-            (Err(Stop::Failed(fault)), None)
-        }
-    }
-}
-
-// Why the run came to no end, where TAIL was written or failed: a link that failed comes first, and a failed write before
-// calls that were spent.
-fn stop_with(stop: Option<Stop>, written: bool) -> Option<Stop>
-    ensures { (read write spent : Bool) → option_map stop_came stop ≡ stop_by read write spent → option_map stop_came result ≡ stop_by read (write || not written) spent }
-{
-    if written {
-        return stop;
-    }
-    match stop {
-        Some(Stop::Failed(Fault::Read)) => Some(Stop::Failed(Fault::Read)),
-        _ => Some(Stop::Failed(Fault::Write)),
-    }
-}
-
-// What workers that ended so come to, with the receiver that they shared.
-fn ended(stop: Option<Stop>, recorded: &Recorded) -> Result<Lines, Stop>
-    ensures { (h : List Entry) → RecordedStands recorded.now h → came_of result ≡ came_by (option_map stop_came stop) (report_text (report_of h)) }
-{
-    match stop {
-        Some(stop) => Err(stop),
-        None => Ok(report_lines(&recorded.report())),
     }
 }
 
@@ -219,5 +167,6 @@ fn run_tailed<R: Threads + Wait + Sync, D: Desk>(
     } = run_opened(rt, session, desk);
     let written = write_tail(&mut tail, &station);
     desk.close_sink(tail);
-    (ended(stop_with(stop, written), &station), Some(last))
+    let report = station.report();
+    (ended(stop_with(stop, written), &report), Some(last))
 }

@@ -1,14 +1,15 @@
 //! The words of the command `record`.
 
-ghost use Rattle.std.specs.Prelude.{◌≡◌, ◌≢◌, [], ◌∷◌, ℕ, List, Some, None, IfSome, true, false, map, string_bytes, option_map, codes};
+ghost use Rattle.std.specs.Prelude.{◌≡◌, ◌≢◌, [], ◌∷◌, ℕ, List, Some, None, IfSome, map, string_bytes, option_map, codes};
 ghost use Rattle.tesla_front.specs.Words.{IsName, IsNumberWithin};
 ghost use Rattle.tesla_run_receive.specs.Arguments.{AreOthers};
 ghost use Rattle.tesla_run_receive.specs.Arguments as receiving;
 ghost use Rattle.tesla_run_record.specs.Arguments.{RecordArguments, IsRecord, arguments_of};
 
 use crate::arguments::Arguments;
-use tesla_front::{is_name, number_in};
-use tesla_run_receive::{are_others, read_words};
+use tesla_front::number_in;
+use tesla_run_receive::read_words;
+use tesla_with_output::is_output;
 
 /// The name of the command.
 const NAME: &str = "record";
@@ -27,20 +28,6 @@ fn keep_in(word: &[u8]) -> Option<u32>
     }
 }
 
-// Whether TAIL is a name of a file, and of none that the other words name.
-fn is_tail(tail: &str, receive: &tesla_run_receive::Arguments<'_>) -> bool
-    ensures yes { result ≡ true → IsName tail.now × (tail.now ≢ receive.now.setup.now) × AreOthers tail.now receive.now.sinks }
-    ensures no { result ≡ false → IsName tail.now → tail.now ≢ receive.now.setup.now → AreOthers tail.now receive.now.sinks → ⊥ }
-{
-    if !is_name(tail) {
-        return false;
-    }
-    if tail == receive.setup {
-        return false;
-    }
-    are_others(tail, receive.sinks.as_slice())
-}
-
 // What the words after the command ask for, told those of receive.
 fn read_tail<'a>(
     receive: tesla_run_receive::Arguments<'a>,
@@ -53,7 +40,7 @@ fn read_tail<'a>(
     let Some(keep) = keep_in(keep) else {
         return None;
     };
-    if !is_tail(tail, &receive) {
+    if !is_output(tail, &receive) {
         return None;
     }
     Some(Arguments {

@@ -5,11 +5,11 @@ use Rattle.tesla_desk.specs.Outside.{ClosesSink}
 use Rattle.tesla_fitting.specs.declared.config.Config.{Config}
 use Rattle.tesla_front.specs.Came.{stop_came}
 use Rattle.tesla_receiver.specs.History.{IsLegal}
-use Rattle.tesla_receiver.specs.Report.{report_of}
 use Rattle.tesla_recorder.specs.Recorded.{RecordedStands}
 use Rattle.tesla_run_replay.specs.ReportText.{report_text}
-use Rattle.tesla_session.specs.Session.{came_by, has_spent, link_failed, sink_failed}
+use Rattle.tesla_session.specs.Session.{has_spent, link_failed, sink_failed}
 use Rattle.tesla_turn.specs.History.{entries}
+use Rattle.tesla_with_output.proofs.Performed.{came_told}
 use Rattle.tesla_run_record.specs.Record.{tail_of}
 use Rattle.tesla_run_record.specs.Running.{WritesTail}
 use Rattle.tesla_run_record.proofs.Tailed.{config_is, keep_is, writes_tail}
@@ -43,6 +43,6 @@ returns g c cfg configured =
       closes = subst (λ (name : List ℕ). ClosesSink name written count closed new) c.write_tail-written.ensures.name c.close_sink.ensures.desk;
       last_is = refl;
       legal = subst (λ (config : Config). IsLegal config history) (config_is state.receiver.config state.keep cfg same) stands.stood.legal;
-      came_is = c.ended.ensures history stands
-          ∙ ap (λ stop. came_by stop (report_text (report_of history))) (c.stop_with.ensures (list_any link_failed runs.done) (list_any sink_failed runs.done) (list_any has_spent runs.done) runs.stop_is);
+      came_is = came_told _ (option_map stop_came c.stop_with.result) _ (report_text c.report-report.result) _ c.ended.ensures
+          (c.stop_with.ensures (list_any link_failed runs.done) (list_any sink_failed runs.done) (list_any has_spent runs.done) runs.stop_is) (ap report_text (c.report-report.ensures history stands));
     }

@@ -1,6 +1,6 @@
 use Rattle.std.proofs.Common.{◌≡◌, List, ℕ, [], ◌∷◌, IfSome, codes, map, string_bytes, sym, subst, rules}
 use Rattle.tesla_run_record.specs.Arguments.{IsRecord, arguments_of}
-use Rattle.tesla_run_record.proofs.EightWords.{eight_is}
+use Rattle.tesla_with_output.proofs.EightWords.{eight_is}
 use Rattle.tesla_run_record.proofs.words.arguments_in.Goals as goal
 
 pub returns-clause-found : goal.returns-clause-found

@@ -3,7 +3,7 @@ use Rattle.std.specs.Option.{option_map}
 use Rattle.tesla_front.specs.Words.{IsName}
 use Rattle.tesla_run_receive.specs.Arguments.{ReceiveArguments, AreOthers}
 use Rattle.tesla_run_receive.specs.Arguments as receiving
-use Rattle.tesla_run_record.proofs.EightWords.{same_arguments, words_are}
+use Rattle.tesla_run_record.proofs.Spelled.{same_arguments, words_are}
 use Rattle.tesla_run_record.proofs.words.read_all.Goals as goal
 
 pub returns-in_default-clause-only : goal.returns-in_default-clause-only

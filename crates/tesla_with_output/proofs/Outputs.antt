@@ -1,4 +1,4 @@
--- TAIL beside the links and sinks, among the files of record.
+-- The output beside the links and sinks, among the files of the command.
 use Rattle.std.proofs.Common.{◌≡◌, ◌≢◌, ◌∙◌, ◌⊎◌, inl, inr, ℕ, suc, ◌+◌, ◌≤◌, Option, Some, None, List, [], ◌∷◌, ◌++◌, length, map, take, drop, codes, refl, sym, ap, subst, append_assoc, arith}
 use Rattle.std.proofs.lemmas.List.{take-append-le, take_all}
 use Rattle.std.proofs.Math.Seq.{take-append-add}
@@ -21,22 +21,22 @@ pub among_back : (opening : Opening) (files others : List Opening) → IsAmong o
 among_back opening [] others among = among
 among_back opening (file ∷ files) others among = inr (among_back opening files others among)
 
--- TAIL is none of the sinks
-none_sink : (releaser : ℕ) (tail : List ℕ) (names : List (List ℕ)) → AreOthers tail names → IsAmong (OfSink tail) (map opening_for (sinks_wanted releaser names)) → ⊥
-none_sink releaser tail [] others among = among
-none_sink releaser tail (name ∷ names) others (inl same) = others.0 (let e : name ≡ tail = cc in e)
-none_sink releaser tail (name ∷ names) others (inr among) = none_sink (suc releaser) tail names others.1 among
+-- the output is none of the sinks
+none_sink : (releaser : ℕ) (output : List ℕ) (names : List (List ℕ)) → AreOthers output names → IsAmong (OfSink output) (map opening_for (sinks_wanted releaser names)) → ⊥
+none_sink releaser output [] others among = among
+none_sink releaser output (name ∷ names) others (inl same) = others.0 (let e : name ≡ output = cc in e)
+none_sink releaser output (name ∷ names) others (inr among) = none_sink (suc releaser) output names others.1 among
 
-pub none_wanted : (ingest releaser : ℕ) (tail : List ℕ) (links sinks : List (List ℕ)) → AreOthers tail sinks → IsAmong (OfSink tail) (map opening_for (links_wanted ingest links ++ sinks_wanted releaser sinks)) → ⊥
-none_wanted ingest releaser tail [] sinks others among = none_sink releaser tail sinks others among
-none_wanted ingest releaser tail (link ∷ links) sinks others (inl same) = absurd cc
-none_wanted ingest releaser tail (link ∷ links) sinks others (inr among) = none_wanted (suc ingest) releaser tail links sinks others among
+pub none_wanted : (ingest releaser : ℕ) (output : List ℕ) (links sinks : List (List ℕ)) → AreOthers output sinks → IsAmong (OfSink output) (map opening_for (links_wanted ingest links ++ sinks_wanted releaser sinks)) → ⊥
+none_wanted ingest releaser output [] sinks others among = none_sink releaser output sinks others among
+none_wanted ingest releaser output (link ∷ links) sinks others (inl same) = absurd cc
+none_wanted ingest releaser output (link ∷ links) sinks others (inr among) = none_wanted (suc ingest) releaser output links sinks others among
 
 -- ---- openings
 
-pub are_files_more : (files : List Opening) (tail : List ℕ) → AreFiles files → tail ≢ codes "-" → AreFiles (files ++ OfSink tail ∷ [])
-are_files_more [] tail named other = (other, tt)
-are_files_more (file ∷ files) tail named other = (named.0, are_files_more files tail named.1 other)
+pub are_files_more : (files : List Opening) (output : List ℕ) → AreFiles files → output ≢ codes "-" → AreFiles (files ++ OfSink output ∷ [])
+are_files_more [] output named other = (other, tt)
+are_files_more (file ∷ files) output named other = (named.0, are_files_more files output named.1 other)
 
 openings_twice : (told : Option (List Opening)) (a b : List Opening) → with_openings (with_openings told a) b ≡ with_openings told (a ++ b)
 openings_twice None a b = refl
@@ -77,7 +77,7 @@ sink_after files opened name written faults before mid now opens among closes = 
 
 -- ---- what is told of the files
 
--- behind the links the files are the sinks and TAIL
+-- behind the links the files are the sinks and the output
 pub outs_told : (ingest : ℕ) (links : List (List ℕ)) (sinks : List Wanted) (others : List Opening) (told : Told) → drop (length links) (files_told told (map opening_for (links_wanted ingest links ++ sinks) ++ others)) ≡ files_told told (map opening_for sinks ++ others)
 outs_told ingest [] sinks others told = refl
 outs_told ingest (link ∷ links) sinks others told = outs_told (suc ingest) links sinks others told
@@ -86,30 +86,30 @@ pub sinks_told : (releaser : ℕ) (names : List (List ℕ)) (others : List Openi
 sinks_told releaser [] others told = refl
 sinks_told releaser (name ∷ names) others told = ap (λ (files : List File). file_told told name ∷ files) (sinks_told (suc releaser) names others told)
 
-pub tail_told : (releaser : ℕ) (names : List (List ℕ)) (others : List Opening) (told : Told) → drop (length names) (files_told told (map opening_for (sinks_wanted releaser names) ++ others)) ≡ files_told told others
-tail_told releaser [] others told = refl
-tail_told releaser (name ∷ names) others told = tail_told (suc releaser) names others told
+pub output_told : (releaser : ℕ) (names : List (List ℕ)) (others : List Opening) (told : Told) → drop (length names) (files_told told (map opening_for (sinks_wanted releaser names) ++ others)) ≡ files_told told others
+output_told releaser [] others told = refl
+output_told releaser (name ∷ names) others told = output_told (suc releaser) names others told
 
--- the closing of TAIL changes nothing of the sinks
-pub sinks_same : (releaser : ℕ) (tail : List ℕ) (names : List (List ℕ)) (before now : Told) → AreOthers tail names → ((n : List ℕ) → n ≢ tail → now.page n ≡ before.page n) → ((n : List ℕ) → now.left n ≡ before.left n) → files_told now (map opening_for (sinks_wanted releaser names)) ≡ files_told before (map opening_for (sinks_wanted releaser names))
-sinks_same releaser tail [] before now others pages lefts = refl
-sinks_same releaser tail (name ∷ names) before now others pages lefts =
+-- the closing of the output changes nothing of the sinks
+pub sinks_same : (releaser : ℕ) (output : List ℕ) (names : List (List ℕ)) (before now : Told) → AreOthers output names → ((n : List ℕ) → n ≢ output → now.page n ≡ before.page n) → ((n : List ℕ) → now.left n ≡ before.left n) → files_told now (map opening_for (sinks_wanted releaser names)) ≡ files_told before (map opening_for (sinks_wanted releaser names))
+sinks_same releaser output [] before now others pages lefts = refl
+sinks_same releaser output (name ∷ names) before now others pages lefts =
     let page : now.page name ≡ before.page name = pages name others.0 in
     let left : now.left name ≡ before.left name = lefts name in
-    let rest = sinks_same (suc releaser) tail names before now others.1 pages lefts in
+    let rest = sinks_same (suc releaser) output names before now others.1 pages lefts in
     let first : file_told now name ≡ file_told before name =
     ap (λ p. let f : File = record { page = p; left = now.left name } in f) page ∙ ap (λ l. let f : File = record { page = before.page name; left = l } in f) left in
     ap (λ f. f ∷ files_told now (map opening_for (sinks_wanted (suc releaser) names))) first ∙ ap (λ fs. file_told before name ∷ fs) rest
 
-unwritten_files : (releaser : ℕ) (names : List (List ℕ)) (tail : List ℕ) (before now : Told) → ((name : List ℕ) → (now.page name ≡ before.page name) ⊎ IsUnwritten (now.page name)) → UnwrittenSinks (files_told before (map opening_for (sinks_wanted releaser names) ++ OfSink tail ∷ [])) (files_told now (map opening_for (sinks_wanted releaser names) ++ OfSink tail ∷ []))
-unwritten_files releaser [] tail before now all = (all tail, tt)
-unwritten_files releaser (name ∷ names) tail before now all = (all name, unwritten_files (suc releaser) names tail before now all)
+unwritten_files : (releaser : ℕ) (names : List (List ℕ)) (output : List ℕ) (before now : Told) → ((name : List ℕ) → (now.page name ≡ before.page name) ⊎ IsUnwritten (now.page name)) → UnwrittenSinks (files_told before (map opening_for (sinks_wanted releaser names) ++ OfSink output ∷ [])) (files_told now (map opening_for (sinks_wanted releaser names) ++ OfSink output ∷ []))
+unwritten_files releaser [] output before now all = (all output, tt)
+unwritten_files releaser (name ∷ names) output before now all = (all name, unwritten_files (suc releaser) names output before now all)
 
--- nothing was written to the sinks and TAIL
-pub unwritten_outs : (ingest : ℕ) (links sinks : List (List ℕ)) (tail : List ℕ) (before now : Told) → ((name : List ℕ) → (now.page name ≡ before.page name) ⊎ IsUnwritten (now.page name))
-    → UnwrittenSinks (drop (length links) (files_told before (map opening_for (links_wanted ingest links ++ sinks_wanted 0 sinks) ++ OfSink tail ∷ []))) (drop (length links) (files_told now (map opening_for (links_wanted ingest links ++ sinks_wanted 0 sinks) ++ OfSink tail ∷ [])))
-unwritten_outs ingest [] sinks tail before now all = unwritten_files 0 sinks tail before now all
-unwritten_outs ingest (link ∷ links) sinks tail before now all = unwritten_outs (suc ingest) links sinks tail before now all
+-- nothing was written to the sinks and the output
+pub unwritten_outs : (ingest : ℕ) (links sinks : List (List ℕ)) (output : List ℕ) (before now : Told) → ((name : List ℕ) → (now.page name ≡ before.page name) ⊎ IsUnwritten (now.page name))
+    → UnwrittenSinks (drop (length links) (files_told before (map opening_for (links_wanted ingest links ++ sinks_wanted 0 sinks) ++ OfSink output ∷ []))) (drop (length links) (files_told now (map opening_for (links_wanted ingest links ++ sinks_wanted 0 sinks) ++ OfSink output ∷ [])))
+unwritten_outs ingest [] sinks output before now all = unwritten_files 0 sinks output before now all
+unwritten_outs ingest (link ∷ links) sinks output before now all = unwritten_outs (suc ingest) links sinks output before now all
 
 -- ---- outputs that failed
 

@@ -1,0 +1,47 @@
+-- What a command does that is receive with one output more, opened behind the sinks.
+use Rattle.std.specs.Prelude.{◌≡◌, ◌⊎◌, ℕ, suc, List, [], ◌∷◌, ◌++◌, length, take, drop, Option, Some}
+use Rattle.tesla_desk.specs.Live.{Live}
+use Rattle.tesla_desk.specs.Outside.{Opening, OfSink, Page}
+use Rattle.tesla_front.specs.Came.{Came}
+use Rattle.tesla_front.specs.Command.{Command}
+use Rattle.tesla_front.specs.Openings.{File}
+use Rattle.tesla_receiver.specs.declared.history.Entry.{Entry}
+use Rattle.tesla_turn.specs.Held.{Ended}
+use Rattle.tesla_turn.specs.History.{entries}
+use Rattle.tesla_run_receive.specs.Arguments.{ReceiveArguments, files_of_receive, workers_wanted}
+use Rattle.tesla_run_receive.specs.Receive.{Receives, Stops}
+
+-- a form of receive with one output more: what its words ask for, and which words ask for that; what they ask for of receive, the name of the output, and what its page holds, told the history that was made and what the run came to
+pub record WithOutput : Type 1 where
+  pub Arguments : Type 0
+  pub IsForm : Arguments → List (List ℕ) → Type 0
+  pub receives : Arguments → ReceiveArguments
+  pub output : Arguments → List ℕ
+  pub Holds : Arguments → List Entry → Page → Came → Type 0
+
+-- what is opened, in order: the setup, the links, the sinks and the output
+abbrev pub files_with : ReceiveArguments → List ℕ → List Opening
+files_with arguments output = files_of_receive arguments ++ OfSink output ∷ []
+
+-- the output, as the only file behind the sinks, told the history that was made
+abbrev pub OutputHolds : (List Entry → Page → Came → Type 0) → Option (Ended Entry) → List File → Came → Type 0
+OutputHolds Holds (Some end) (output ∷ []) came = Holds (entries end.history) output.page came
+OutputHolds Holds _ _ came = ⊥
+
+-- what the run does: nothing was received, nor written to an output; or all was opened, a history was received, and the output holds what the form says of it
+abbrev pub DoesWith : ReceiveArguments → (List Entry → Page → Came → Type 0) → Live → Live → Option (Ended Entry) → ℕ → List File → List File → Came → Type 0
+DoesWith arguments Holds before now last opened (setup ∷ files) (setup_now ∷ files_now) came =
+    Stops arguments opened before now last setup (drop (length arguments.links) files) (drop (length arguments.links) files_now) came
+    ⊎ ((opened ≡ suc (suc (length (workers_wanted arguments))))
+    × Receives arguments before now last setup (take (length arguments.sinks) (drop (length arguments.links) files_now)) came
+    × OutputHolds Holds last (drop (length arguments.sinks) (drop (length arguments.links) files_now)) came)
+DoesWith arguments Holds before now last opened files files_now came = ⊥
+
+-- the command of a form, told what the desk has of links and clocks before and afterwards, and the end of the turn where there was one: its words, its files and what it does
+abbrev pub with_output : WithOutput → Live → Live → Option (Ended Entry) → Command
+with_output form before now last = record {
+  Arguments = form.Arguments;
+  IsForm = form.IsForm;
+  files = λ arguments. files_with (form.receives arguments) (form.output arguments);
+  Does = λ arguments. DoesWith (form.receives arguments) (form.Holds arguments) before now last;
+}
