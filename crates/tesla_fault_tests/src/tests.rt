@@ -140,7 +140,7 @@ fn status_of_recorded<R: Threads + Wait + Sync, D: Desk>(
 }
 
 // The status of words of a live tool.
-fn status_of_live_tool<R: Wait, D: Desk>(
+fn status_of_live_tool<R: Threads + Wait + Sync, D: Desk>(
     rt: &R,
     alloc: Global,
     words: &[String],

@@ -12,6 +12,7 @@ use runs::Run;
 use std::alloc::Global;
 use std::sync::Wait;
 use std::test::*;
+use std::thread::Threads;
 use tesla_base::Text;
 use tesla_desk::{CONSOLE, Letter, MemoryDesk};
 use tesla_examples::SETUP;
@@ -160,7 +161,12 @@ fn words_of(alloc: Global, line: &str) -> Result<Vec<String>, Fail> {
 }
 
 // The status of a run of these words.
-fn status_of<R: Wait>(rt: &R, alloc: Global, words: &[String], desk: &mut MemoryDesk) -> u8 {
+fn status_of<R: Threads + Wait + Sync>(
+    rt: &R,
+    alloc: Global,
+    words: &[String],
+    desk: &mut MemoryDesk,
+) -> u8 {
     run_live_tools(rt, alloc, words, desk).status
 }
 
@@ -186,7 +192,7 @@ fn add_sent(alloc: Global, told: &mut String, desk: &MemoryDesk, post: &str) -> 
 }
 
 // What a run of these words over a desk comes to: the status, the console, and what the posts sent.
-fn told_of<R: Wait>(
+fn told_of<R: Threads + Wait + Sync>(
     rt: &R,
     alloc: Global,
     line: &str,
@@ -202,7 +208,7 @@ fn told_of<R: Wait>(
 }
 
 // What a run comes to.
-fn came_to<R: Wait>(rt: &R, alloc: Global, it: &Run) -> Result<String, Fail> {
+fn came_to<R: Threads + Wait + Sync>(rt: &R, alloc: Global, it: &Run) -> Result<String, Fail> {
     let mut desk = new_desk(alloc)?;
     put_link(alloc, &mut desk, it.link)?;
     put_clock(alloc, &mut desk, it.clock)?;
@@ -223,7 +229,7 @@ fn wanted_of(alloc: Global, it: &Run) -> Result<String, Fail> {
 }
 
 // The runs that come to something else, with what they come to.
-fn wrong_of<R: Wait>(rt: &R, alloc: Global, runs: &[Run]) -> Result<String, Fail> {
+fn wrong_of<R: Threads + Wait + Sync>(rt: &R, alloc: Global, runs: &[Run]) -> Result<String, Fail> {
     let mut wrong = String::new(alloc);
     for it in runs {
         let came = came_to(rt, alloc, it)?;
@@ -285,7 +291,12 @@ fn links_that_fail(rt: HostRuntime) -> Result<(), Fail> {
 }
 
 // What a run comes to over a link that brings a message, with a clock that goes on.
-fn refused<R: Wait>(rt: &R, alloc: Global, words: &str, settings: &str) -> Result<String, Fail> {
+fn refused<R: Threads + Wait + Sync>(
+    rt: &R,
+    alloc: Global,
+    words: &str,
+    settings: &str,
+) -> Result<String, Fail> {
     let mut desk = new_desk(alloc)?;
     put_link(alloc, &mut desk, "hi")?;
     put_clock(alloc, &mut desk, "1000000 1100000 2400000")?;

@@ -6,4 +6,7 @@ pub mod laws;
 mod live_tools;
 
 pub use commands::{FORMS, is_live_tool};
-pub use live_tools::run_live_tools;
+pub use live_tools::{Done, run_live_tools};
+
+#[cfg(test)]
+mod tests;

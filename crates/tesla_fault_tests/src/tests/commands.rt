@@ -179,6 +179,20 @@ const COMMANDS: &[Command] = &[
         outs: &["out"],
         counts: "openings 5, setup 23, both 5, out 2, tail 3, - 11",
     },
+    // The last line has between 112 and 120 bytes.
+    Command {
+        words: "watch setup 30000 16 both out status 3600",
+        clock: CLOCK,
+        calls: &[
+            ("setup", READ),
+            ("both", READ),
+            ("out", WRITE),
+            ("status", WRITE),
+            ("-", WRITE),
+        ],
+        outs: &["out"],
+        counts: "openings 5, setup 23, both 5, out 2, status 12, - 11",
+    },
     // Two lines of 24 bytes.
     Command {
         words: "relay 4 both p,q",

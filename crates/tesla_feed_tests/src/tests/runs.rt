@@ -322,7 +322,11 @@ const REFUSALS: &[Refusal] = &[
 ];
 
 /// What is told of words that are no form.
-pub const FORM: &str = "1 usage: capture LINK CAPTURE\nusage: feed SETUP SECRET LINK POSTS\n";
+pub const FORM: &str = "\
+1 usage: capture LINK CAPTURE
+usage: feed SETUP SECRET LINK POSTS
+usage: watch SETUP LAG CAPACITY LINKS SINKS STATUS EVERY
+";
 
 /// Words that are no form.
 pub const NO_FORMS: &[&str] = &[

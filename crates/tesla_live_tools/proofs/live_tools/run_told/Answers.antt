@@ -1,7 +1,9 @@
-use Rattle.std.proofs.Common.{◌∙◌, inl, inr, refl, subst, map, List, ℕ, string_bytes}
+use Rattle.std.proofs.Common.{◌∙◌, inl, inr, refl, sym, subst, map, List, ℕ, string_bytes}
+use Rattle.tesla_desk.specs.Live.{Live}
 use Rattle.tesla_desk.specs.Outside.{ClosesSink}
 use Rattle.tesla_desk.proofs.Counts.{counts_stay}
 use Rattle.tesla_front.specs.Came.{outcome_came}
+use Rattle.tesla_front.specs.Command.{IsNoForm}
 use Rattle.tesla_front.proofs.Consoles.{Tolds, live_console_opened, unopened_console}
 use Rattle.tesla_live_tools.specs.Commands.{command_of, usage}
 use Rattle.tesla_live_tools.proofs.live_tools.run_told.Goals as goal
@@ -13,7 +15,7 @@ returns-in-Ok g c =
     let opened = g.D.Desk.told c.open_sink.new.self in
     let done = g.D.Desk.told c.run_words-outcome.new.desk in
     let new = g.D.Desk.told c.close_sink.new.self in
-    let came = outcome_came c.run_words-outcome.result in
+    let came = outcome_came c.run_words-outcome.result.outcome in
     let told = outcome_came c.tell-told.result in
     let before = g.D.Out.Sink.written c.in-Ok.console in
     let written = g.D.Out.Sink.written c.tell-told.new.console in
@@ -30,8 +32,12 @@ returns-in-Ok g c =
       tells = c.tell-told.ensures.tells;
       closes = subst (λ (name : List ℕ). ClosesSink name written failed done new) named c.close_sink.ensures.desk;
     } in
-    (inr (live_console_opened (λ before now. command_of before now words) usage words old opened done new came told written failed tolds c.run_words-outcome.ensures), refl)
+    let last = c.run_words-outcome.result.last in
+    let runs = c.run_words-outcome.ensures.runs in
+    let unformed : IsNoForm (command_of old.live new.live last words) words → IsNoForm (command_of opened.live done.live last words) words =
+    λ none. subst (λ (live : Live). IsNoForm (command_of opened.live live last words) words) tolds.closes.live (subst (λ (live : Live). IsNoForm (command_of live new.live last words) words) (sym tolds.live) none) in
+    inr (live_console_opened (λ (before after : Live). command_of before after last words) usage words old opened done new came told written failed tolds runs, λ none. c.run_words-outcome.ensures.none (runs.usage (unformed none)).0, c.run_words-outcome.ensures.others)
 
 pub returns-in-Err : goal.returns-in-Err
 returns-in-Err g c =
-    rw c.from.ensures (inl (unopened_console _ c.in-Err.refusal (g.D.Desk.told c.args.desk.now) _ c.in-Err.ensures.desk), refl)
+    rw c.from.ensures (inl (unopened_console _ c.in-Err.refusal (g.D.Desk.told c.args.desk.now) _ c.in-Err.ensures.desk, refl))

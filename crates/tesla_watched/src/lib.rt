@@ -1,0 +1,9 @@
+//! A receiver whose counts are read while it works.
+#![tactic(auto)]
+
+mod watched;
+
+pub use watched::{Watched, WatchedConfig};
+
+#[cfg(test)]
+mod tests;
