@@ -41,7 +41,11 @@ usage: reply ASK KEY READING REPLY-OUT
 usage: show TRACE
 """
 LIVE = b"usage: receive SETUP LAG CAPACITY LINKS SINKS\nusage: relay CAPACITY LINK POSTS\nusage: play CAPTURE POSTS\n"
-LIVE_TOOLS = b"usage: capture LINK CAPTURE\nusage: feed SETUP SECRET LINK POSTS\n"
+LIVE_TOOLS = b"""\
+usage: capture LINK CAPTURE
+usage: feed SETUP SECRET LINK POSTS
+usage: watch SETUP LAG CAPACITY LINKS SINKS STATUS EVERY
+"""
 RECORDED = b"usage: record SETUP LAG CAPACITY LINKS SINKS KEEP TAIL\n"
 OPEN, READ, WRITE = b"open fault\n", b"read fault\n", b"write fault\n"
 
