@@ -6,6 +6,10 @@ use Rattle.atomic_table.specs.Seated.{TableId}
 abbrev pub CountersId : Type 0
 CountersId = TableId
 
+-- which counts these are where there are none
+abbrev pub no_counters : CountersId
+no_counters = record { words = 0; slots = 0; views_name = 0; atom = 0; block = 0; offset = 0; slot_names = [] }
+
 -- who sets the counts: which these are, and what they are now
 pub record Written : Type 0 where
   pub counters : CountersId

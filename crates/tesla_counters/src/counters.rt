@@ -1,12 +1,13 @@
 //! The counts, with who sets and who reads them.
+
 ghost use Rattle.std.specs.Prelude.{◌≡◌, [], IfOk};
 ghost use Rattle.tesla_counters.specs.Counts.{no_counts};
 ghost use Rattle.tesla_counters.specs.Steps.{IsReading};
 
 use crate::plays::Enter;
 use crate::reader::Reader;
-use crate::rule::Law;
-use crate::view::{Place, View};
+use crate::rule::CountsRule;
+use crate::view::{CountsSeat, View};
 use crate::writer::Writer;
 use atomic_table::Table;
 use std::alloc::Global;
@@ -20,7 +21,7 @@ pub const COUNTS: usize = 11;
 /// The counts themselves, as a configuration names them.
 #[derive(Drop)]
 pub struct Counters {
-    pub(crate) table: Table<u8, View, (), Law, Global>,
+    pub(crate) table: Table<u8, View, (), CountsRule, Global>,
 }
 
 impl Model for Counters {
@@ -59,7 +60,7 @@ pub fn open(alloc: Global) -> Result<(Writer, Reader), NoMemory>
 }
 
 // A seat that has seen nothing.
-fn enter(counters: &Counters) -> Place
+fn enter(counters: &Counters) -> CountsSeat
     ensures { IsReading counters.now no_counts result }
 {
     let (_, seat) = counters.table.shared.load_new_seat::<Enter>(0);

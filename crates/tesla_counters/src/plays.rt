@@ -1,4 +1,5 @@
 //! What each step on the table tells.
+
 ghost use Rattle.tesla_counters.specs.Steps.{entered, stored, looked, told, both_views, spent_view};
 
 use crate::view::View;

@@ -1,11 +1,12 @@
 //! Who reads the counts.
+
 ghost use Rattle.std.specs.Prelude.{◌≡◌};
 ghost use Rattle.tesla_counters.specs.Counts.{NoneFalls};
 ghost use Rattle.tesla_counters.specs.Steps.{IsReading};
 
 use crate::counters::{COUNTS, Counters};
 use crate::plays::Look;
-use crate::view::Place;
+use crate::view::CountsSeat;
 use std::marker::Model;
 use std::sync::Arc;
 
@@ -13,7 +14,7 @@ use std::sync::Arc;
 #[derive(Drop)]
 pub struct Reader {
     pub(crate) counters: Arc<Counters>,
-    pub(crate) seat: Place,
+    pub(crate) seat: CountsSeat,
     // What it read last.
     pub(crate) counts: [u64; COUNTS],
 }
@@ -31,7 +32,7 @@ impl Model for Reader {
 }
 
 impl Reader {
-    /// The counts now, each read by itself.
+    /// The counts now, each read by itself, the last one first.
     pub fn read(&mut self) -> [u64; COUNTS]
         ensures counts { result ≡ self.new.counts }
         ensures rise { NoneFalls self.old.counts self.new.counts }
@@ -43,12 +44,13 @@ impl Reader {
 }
 
 // Reads each word, and keeps what it found.
-fn look(counters: &Counters, seat: &mut Place, counts: &mut [u64; COUNTS])
+fn look(counters: &Counters, seat: &mut CountsSeat, counts: &mut [u64; COUNTS])
     requires { IsReading counters.now counts.old seat.old }
     ensures seat { IsReading counters.now counts.new seat.new }
     ensures rise { NoneFalls counts.old counts.new }
 {
-    for place in 0..COUNTS {
+    // The last first: a packet is given after it was kept, so given is read before kept, and no line tells more packets given than kept.
+    for place in (0..COUNTS).rev() {
         counts[place] = counters.table.shared.load::<Look>(seat, place);
     }
 }

@@ -3,9 +3,10 @@
 use crate::view::View;
 use atomic_table::TableRule;
 
-pub struct Law;
+/// What the words are to the views of the seats.
+pub struct CountsRule;
 
-impl TableRule<u8, View, ()> for Law {
+impl TableRule<u8, View, ()> for CountsRule {
     ghost use Rattle.tesla_counters.specs.Steps.{Ruled, first_view};
 
     ghost holds = { λ _. Ruled };

@@ -12,4 +12,4 @@ pub struct View {
 }
 
 // The table has no slot, so any type serves.
-pub(crate) type Place = Seat<u8, View>;
+pub(crate) type CountsSeat = Seat<u8, View>;

@@ -1,4 +1,5 @@
 //! Who sets the counts.
+
 ghost use Rattle.std.specs.Prelude.{◌≡◌, []};
 ghost use Rattle.tesla_counters.specs.Counts.{NoneFalls};
 ghost use Rattle.tesla_counters.specs.Steps.{IsSetting};
@@ -6,7 +7,7 @@ ghost use Rattle.tesla_counters.specs.Steps.{IsSetting};
 use crate::counters::{COUNTS, Counters};
 use crate::plays::{Merge, Put, Tell};
 use crate::reader::Reader;
-use crate::view::Place;
+use crate::view::CountsSeat;
 use std::marker::Model;
 use std::sync::Arc;
 
@@ -14,7 +15,7 @@ use std::sync::Arc;
 #[derive(Drop)]
 pub struct Writer {
     pub(crate) counters: Arc<Counters>,
-    pub(crate) seat: Place,
+    pub(crate) seat: CountsSeat,
     // What it has set, so that a count that stays is not stored.
     pub(crate) counts: [u64; COUNTS],
 }
@@ -59,7 +60,7 @@ impl Writer {
 // Stores the words that change, and keeps in `held` what was stored.
 fn store_changes(
     counters: &Counters,
-    seat: &mut Place,
+    seat: &mut CountsSeat,
     held: &mut [u64; COUNTS],
     counts: &[u64; COUNTS],
 )
@@ -80,7 +81,7 @@ fn store_changes(
 }
 
 // Joins the other seat. The load behind it changes nothing, and tells what the other had seen: a join tells nothing.
-fn take_in(counters: &Counters, seat: &mut Place, other: Place)
+fn take_in(counters: &Counters, seat: &mut CountsSeat, other: CountsSeat)
     requires seat { IsSetting counters.now seat.old.me.0.exact seat.old }
     requires other { (other.table_id ≡ counters.now) × (other.me.1 ≡ []) }
     ensures below { NoneFalls other.me.0.below seat.old.me.0.exact }

@@ -2,8 +2,7 @@
 use Rattle.std.proofs.Common.{◌≡◌, ◌∙◌, ◌==◌, ℕ, zero, suc, ◌+◌, ◌≤◌, List, [], ◌∷◌, ◌++◌, cond, append-nil, sym, ap, subst, arith}
 use Rattle.std.proofs.lemmas.List.Concat.{flat_map-append}
 use Rattle.std.proofs.lemmas.List.Sums.{sum_by-append}
-use Rattle.atomic_table.specs.Seated.{TableId}
-use Rattle.tesla_counters.specs.Counts.{NoneFalls}
+use Rattle.tesla_counters.specs.Counts.{CountersId, NoneFalls}
 use Rattle.tesla_receiver.specs.History.{arrival_in, arrivals_in, given_in, gives}
 use Rattle.tesla_receiver.specs.Report.{count_of, report_of, report_on}
 use Rattle.tesla_receiver.specs.declared.history.Arrival.{Arrival}
@@ -51,7 +50,7 @@ counts_ended history ingest =
     ap (λ (arrivals : List Arrival). counts_in (report_on arrivals (given_in (history ++ Ended ingest ∷ [])))) same ∙ ap (λ (n : ℕ). counts_in (report_on (arrivals_in history) n)) given
 
 -- a receiver that stands for one entry more, whose counts are still those before it: they don't fall to those of the whole
-pub counts_stand : (before after : State) (counters : TableId) (counts : List ℕ) (history : List Entry) (entry : Entry) → WatchedStands (record { receiver = before; counters = counters; counts = counts }) history → Stands after (history ++ entry ∷ []) → (h : List Entry) × Stands after h × NoneFalls counts (counts_in (report_of h))
+pub counts_stand : (before after : State) (counters : CountersId) (counts : List ℕ) (history : List Entry) (entry : Entry) → WatchedStands (record { receiver = before; counters = counters; counts = counts }) history → Stands after (history ++ entry ∷ []) → (h : List Entry) × Stands after h × NoneFalls counts (counts_in (report_of h))
 counts_stand before after counters counts history entry stood stands =
     (history ++ entry ∷ [], stands, subst (λ (cs : List ℕ). NoneFalls cs (counts_in (report_of (history ++ entry ∷ [])))) (sym stood.counted) (counts_rise history entry))
 

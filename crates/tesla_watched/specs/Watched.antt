@@ -1,6 +1,6 @@
 -- A receiver whose counts are read while it works.
 use Rattle.std.specs.Prelude.{◌≡◌, ℕ, List, [], ◌∷◌}
-use Rattle.atomic_table.specs.Seated.{TableId}
+use Rattle.tesla_counters.specs.Counts.{CountersId}
 use Rattle.tesla_receiver.specs.declared.history.Entry.{Entry}
 use Rattle.tesla_receiver.specs.Report.{report_of}
 use Rattle.tesla_receiver.specs.Stands.{Stands}
@@ -15,7 +15,7 @@ counts_in report =
 -- what a contract sees of a receiver whose counts are read: the receiver, which counts these are, and how they stand
 pub record WatchedState : Type 0 where
   pub receiver : State
-  pub counters : TableId
+  pub counters : CountersId
   pub counts : List ℕ
 
 -- it stands for a history: the receiver does, and the counts are those of the history's report

@@ -11,7 +11,7 @@ use std::alloc::Global;
 use std::marker::Model;
 use std::sync::ledger::Ledger;
 use tesla_base::{NoMemory, Steps};
-use tesla_counters::{Counters, Reader, Writer};
+use tesla_counters::{COUNTS, Counters, Reader, Writer};
 use tesla_receiver::{Config, Entry, Receiver, Report, Take, Verdict};
 use tesla_shared::Station;
 use tesla_turn::Chronicle;
@@ -52,7 +52,7 @@ impl Chronicle for Watched {
 }
 
 // The counts of a report but for its arrivals, in the order of its lines.
-fn counts_of(report: &Report) -> [u64; 11]
+fn counts_of(report: &Report) -> [u64; COUNTS]
     ensures { result ≡ counts_in report.now }
 {
     [
@@ -92,7 +92,7 @@ impl Watched {
     }
 
     /// The counts of the whole history but for its arrivals, in the order of the lines of a report.
-    pub fn counts(&self) -> [u64; 11]
+    pub fn counts(&self) -> [u64; COUNTS]
         ensures { (h : List Entry) → WatchedStands self.now h → result ≡ counts_in (report_of h) }
     {
         counts_of(&self.receiver.report())
