@@ -4,7 +4,8 @@ ghost use Rattle.std.specs.Prelude.{◌≡◌, ℕ, List, map, string_bytes};
 ghost use Rattle.tesla_desk.specs.Sure.{sure_told_by};
 ghost use Rattle.tesla_front.specs.Came.{Came, status_of};
 ghost use Rattle.tesla_front.specs.Fault.{IsUnfailed};
-ghost use Rattle.tesla_run_record.specs.Arguments.{IsRecord, RecordArguments};
+ghost use Rattle.tesla_run_record.specs.Arguments.{IsRecord};
+ghost use Rattle.tesla_with_output.specs.Arguments.{OutputArguments};
 ghost use Rattle.tesla_cli_recorded.specs.Commands.{IsRecorded, RunsRecorded};
 
 use crate::{RecordedDone, run_recorded};
@@ -15,7 +16,7 @@ use tesla_desk::SureDesk;
 
 /// Words that are the form of `record` are for this call.
 pub fn forms_are_named()
-    ensures { (arguments : RecordArguments) (words : List (List ℕ)) → IsRecord arguments words → IsRecorded words }
+    ensures { (arguments : OutputArguments) (words : List (List ℕ)) → IsRecord arguments words → IsRecorded words }
 {}
 
 /// Runs the words as the top call does, over a desk on which no call from outside fails. The status is never 4, 5 or 7.

@@ -334,6 +334,7 @@ fn words_of_a_live_tool(rt: HostRuntime) -> Result<(), Fail> {
         ("feed", true),
         ("feed setup secret in one", true),
         ("capture in", true),
+        ("watch setup", true),
         ("feeds setup", false),
         ("setup feed", false),
         ("", false),
@@ -342,5 +343,18 @@ fn words_of_a_live_tool(rt: HostRuntime) -> Result<(), Fail> {
         assert_eq!(rt; is_live_tool(words.as_slice()), wanted, "{line}");
     }
     assert!(rt; !is_live_tool(&[]));
+    Ok(())
+}
+
+#[test]
+fn last_line_of_watch(rt: HostRuntime) -> Result<(), Fail> {
+    let mut desk = new_desk(rt.alloc())?;
+    put_link(rt.alloc(), &mut desk, "hi")?;
+    desk.put_readings(1, &[1_700_000])?;
+    let words = words_of(rt.alloc(), "watch setup 30000 16 in out status 3600")?;
+    let done = run_live_tools(&rt, rt.alloc(), words.as_slice(), &mut desk);
+    assert!(rt; done.status == 0 && done.last.is_some());
+    assert!(rt; desk.page("status") == Some(runs::STATUS.as_bytes()));
+    assert!(rt; desk.page(CONSOLE) == Some(runs::REPORT.as_bytes()));
     Ok(())
 }

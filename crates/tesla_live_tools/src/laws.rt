@@ -12,9 +12,10 @@ ghost use Rattle.tesla_run_capture.specs.Arguments.{CaptureArguments, IsCaptureF
 ghost use Rattle.tesla_run_capture.specs.Capture.{capture};
 ghost use Rattle.tesla_run_feed.specs.Arguments.{FeedArguments, IsFeedForm};
 ghost use Rattle.tesla_run_feed.specs.Feeding.{feed};
-ghost use Rattle.tesla_run_watch.specs.Arguments.{IsWatch, WatchArguments};
+ghost use Rattle.tesla_run_watch.specs.Arguments.{IsWatch};
 ghost use Rattle.tesla_run_watch.specs.Watch.{watching};
 ghost use Rattle.tesla_turn.specs.Held.{Ended};
+ghost use Rattle.tesla_with_output.specs.Arguments.{OutputArguments};
 ghost use Rattle.tesla_live_tools.specs.Commands.{IsLiveTool, RunsLiveTools, command_of};
 
 use crate::{Done, run_live_tools};
@@ -27,10 +28,10 @@ use tesla_desk::SureDesk;
 pub fn forms_are_named()
     ensures captures { (arguments : CaptureArguments) (words : List (List ℕ)) (before now : Live) (last : Option (Ended Entry)) (old new : Told) (came : Came) → IsCaptureForm arguments words → RunsAs (command_of before now last words) words old new came → Performs (capture before now) arguments old new came }
     ensures feeds { (arguments : FeedArguments) (words : List (List ℕ)) (before now : Live) (last : Option (Ended Entry)) (old new : Told) (came : Came) → IsFeedForm arguments words → RunsAs (command_of before now last words) words old new came → Performs (feed before now) arguments old new came }
-    ensures watches { (arguments : WatchArguments) (words : List (List ℕ)) (before now : Live) (last : Option (Ended Entry)) (old new : Told) (came : Came) → IsWatch arguments words → RunsAs (command_of before now last words) words old new came → Performs (watching before now last) arguments old new came }
+    ensures watches { (arguments : OutputArguments) (words : List (List ℕ)) (before now : Live) (last : Option (Ended Entry)) (old new : Told) (came : Came) → IsWatch arguments words → RunsAs (command_of before now last words) words old new came → Performs (watching before now last) arguments old new came }
     ensures capture_is { (arguments : CaptureArguments) (words : List (List ℕ)) → IsCaptureForm arguments words → IsLiveTool words }
     ensures feed_is { (arguments : FeedArguments) (words : List (List ℕ)) → IsFeedForm arguments words → IsLiveTool words }
-    ensures watch_is { (arguments : WatchArguments) (words : List (List ℕ)) → IsWatch arguments words → IsLiveTool words }
+    ensures watch_is { (arguments : OutputArguments) (words : List (List ℕ)) → IsWatch arguments words → IsLiveTool words }
 {}
 
 /// Runs the words as the top call does, over a desk on which no call from outside fails. The status is never 4, 5 or 7.

@@ -7,6 +7,3 @@ mod live_tools;
 
 pub use commands::{FORMS, is_live_tool};
 pub use live_tools::{Done, run_live_tools};
-
-#[cfg(test)]
-mod tests;

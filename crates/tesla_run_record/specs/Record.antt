@@ -11,7 +11,7 @@ use Rattle.tesla_recorder.specs.Recorded.{last_entries}
 use Rattle.tesla_trace.specs.Trace.{tail_text}
 use Rattle.tesla_turn.specs.Held.{Ended}
 use Rattle.tesla_with_output.specs.Output.{WithOutput, with_output}
-use Rattle.tesla_run_record.specs.Arguments.{RecordArguments, IsRecord}
+use Rattle.tesla_run_record.specs.Arguments.{IsRecord}
 
 -- the spelling of the last entries of a history, at most so many: behind the number of the first of them
 abbrev pub tail_of : ℕ → List Entry → List ℕ
@@ -27,11 +27,8 @@ HoldsTail keep history (Holds bytes true) came = IsPrefix (tail_of keep history)
 -- the form of receive with one output more: the output is TAIL
 abbrev pub form_of_record : WithOutput
 form_of_record = record {
-  Arguments = RecordArguments;
   IsForm = IsRecord;
-  receives = λ arguments. arguments.receive;
-  output = λ arguments. arguments.tail;
-  Holds = λ arguments. HoldsTail arguments.keep;
+  Holds = λ arguments. HoldsTail arguments.number;
 }
 
 -- the command, told what the desk has of links and clocks before and afterwards, and the end of the turn where there was one: nothing was received, nor written to an output; or all was opened, a history was received, and TAIL has the last entries of it

@@ -1,6 +1,7 @@
 //! The form of the command, as it is told.
 
 use tesla_front::FormText;
+use tesla_with_output::{Form, Order};
 
 /// The form of `record`.
 pub const RECORD: FormText = FormText {
@@ -9,4 +10,11 @@ pub const RECORD: FormText = FormText {
     their answers to TAIL when all links have ended.
     KEEP: 1 to 4096
 ",
+};
+
+/// The words of `record`: the number is KEEP, and the output TAIL.
+pub(crate) const WORDS: Form = Form {
+    name: "record",
+    greatest: 4_096,
+    order: Order::NumberFirst,
 };

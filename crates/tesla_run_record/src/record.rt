@@ -10,13 +10,13 @@ ghost use Rattle.tesla_run_receive.specs.Receive.{config_of};
 ghost use Rattle.tesla_session.specs.Session.{OpensAll, calls_most, workers_of};
 ghost use Rattle.tesla_session.specs.Wanted.{Wanted};
 ghost use Rattle.tesla_turn.specs.Held.{first_pass};
-ghost use Rattle.tesla_run_record.specs.Arguments.{IsRecord, arguments_of};
+ghost use Rattle.tesla_with_output.specs.Arguments.{arguments_of};
+ghost use Rattle.tesla_run_record.specs.Arguments.{IsRecord};
 ghost use Rattle.tesla_run_record.specs.Record.{recording};
 ghost use Rattle.tesla_run_record.specs.Running.{RunsRecorder, RunsTailed};
 
-use crate::arguments::Arguments;
+use crate::forms::WORDS;
 use crate::tail::write_tail;
-use crate::words::arguments_in;
 use std::alloc::Global;
 use std::sync::Wait;
 use std::thread::Threads;
@@ -28,7 +28,7 @@ use tesla_recorder::Recorded;
 use tesla_run_receive::new_receiver;
 use tesla_session::{Ran, Session, prepared, run_opened};
 use tesla_turn::Last;
-use tesla_with_output::{ended, open_with_output, stop_with};
+use tesla_with_output::{Arguments, arguments_in, ended, open_with_output, stop_with};
 
 /// What a run came to, and the whole history where the links and the outputs were opened and the workers ran.
 #[derive(Drop)]
@@ -51,7 +51,7 @@ pub fn run_record<R: Threads + Wait + Sync, D: Desk>(
     ensures runs { RunsAs (recording (D.told desk.old).live (D.told desk.new).live result.last) (map string_bytes words.now) (D.told desk.old) (D.told desk.new) (outcome_came result.outcome) }
     ensures none { outcome_came result.outcome ≡ Usage → result.last ≡ None }
 {
-    match arguments_in(words) {
+    match arguments_in(&WORDS, words) {
         Some(arguments) => {
             let (came, last) = perform(rt, alloc, &arguments, desk);
             RecordRun {
@@ -92,12 +92,13 @@ fn new_session<D: Desk>(
     arguments: &Arguments<'_>,
 ) -> Result<Session<D, Recorded>, NoMemory>
     requires few { AreFew (arguments_of arguments.now).receive }
+    requires keep { arguments.now.number ≤ 4096 }
     ensures links { IfOk result (λ it. (it.links.items ≡ []) × (length arguments.now.receive.links ≤ vec_capacity it.links)) }
     ensures sinks { IfOk result (λ it. (it.sinks.items ≡ []) × (length arguments.now.receive.sinks ≤ vec_capacity it.sinks)) }
-    ensures first { IfOk result (λ it. it.first ≡ first_pass it.turn (record { config = config_of (arguments_of arguments.now).receive setup; keep = arguments.now.keep }) (1 + length arguments.now.receive.links + length arguments.now.receive.sinks) calls_most) }
+    ensures first { IfOk result (λ it. it.first ≡ first_pass it.turn (record { config = config_of (arguments_of arguments.now).receive setup; keep = arguments.now.number }) (1 + length arguments.now.receive.links + length arguments.now.receive.sinks) calls_most) }
 {
     let receiver = new_receiver(alloc, setup, &arguments.receive)?;
-    let recorded = Recorded::open(alloc, receiver, arguments.keep)?;
+    let recorded = Recorded::open(alloc, receiver, arguments.number)?;
     prepared(
         alloc,
         recorded,
@@ -115,7 +116,8 @@ fn record_under<R: Threads + Wait + Sync, D: Desk>(
     desk: &mut D,
 ) -> Came
     requires few { AreFew (arguments_of arguments.now).receive }
-    ensures { RunsRecorder (workers_wanted (arguments_of arguments.now).receive) (record { config = config_of (arguments_of arguments.now).receive setup; keep = arguments.now.keep }) arguments.now.tail.now (D.told desk.old) (D.told desk.new) result.1 (came_of result.0) }
+    requires keep { arguments.now.number ≤ 4096 }
+    ensures { RunsRecorder (workers_wanted (arguments_of arguments.now).receive) (record { config = config_of (arguments_of arguments.now).receive setup; keep = arguments.now.number }) arguments.now.output.now (D.told desk.old) (D.told desk.new) result.1 (came_of result.0) }
 {
     match new_session(alloc, setup, arguments) {
         Ok(session) => run_session(rt, arguments, session, desk),
@@ -134,13 +136,13 @@ fn run_session<R: Threads + Wait + Sync, D: Desk>(
     requires links { (session.links.items ≡ []) × (length arguments.now.receive.links ≤ vec_capacity session.links) }
     requires sinks { (session.sinks.items ≡ []) × (length arguments.now.receive.sinks ≤ vec_capacity session.sinks) }
     requires first { (cfg : RecordedConfig) × (session.first ≡ first_pass session.turn cfg (1 + length arguments.now.receive.links + length arguments.now.receive.sinks) calls_most) }
-    ensures { (cfg : RecordedConfig) → session.first ≡ first_pass session.turn cfg (1 + length arguments.now.receive.links + length arguments.now.receive.sinks) calls_most → RunsRecorder (workers_wanted (arguments_of arguments.now).receive) cfg arguments.now.tail.now (D.told desk.old) (D.told desk.new) result.1 (came_of result.0) }
+    ensures { (cfg : RecordedConfig) → session.first ≡ first_pass session.turn cfg (1 + length arguments.now.receive.links + length arguments.now.receive.sinks) calls_most → RunsRecorder (workers_wanted (arguments_of arguments.now).receive) cfg arguments.now.output.now (D.told desk.old) (D.told desk.new) result.1 (came_of result.0) }
 {
     let receive = &arguments.receive;
     match open_with_output(
         &receive.links,
         &receive.sinks,
-        arguments.tail,
+        arguments.output,
         session,
         desk,
     ) {

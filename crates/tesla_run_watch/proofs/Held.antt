@@ -14,12 +14,12 @@ use Rattle.tesla_run_watch.specs.Written.{WritesStatus}
 holds_by : (history : List Entry) (fresh written : Option (List ℕ)) (count : ℕ) (failed : Bool) (came : Came) (bytes : List ℕ) (test : Bool) → nat_lt 0 count ≡ test → written ≡ Some bytes → WritesStatus history fresh written count failed → (failed ≡ true → (came ≡ Failed faults.Read) ⊎ (came ≡ Failed faults.Write)) → HoldsStatus history (Holds bytes test) came
 holds_by history fresh written count true came bytes false none told writes tells = absurd (fails_not count writes.cause none refl)
 holds_by history fresh written count false came bytes false none told writes tells =
-    let all = writes.all refl in
-    record { lines = writes.lines; follow = writes.follow; ends = all.0; bytes_are = first_written fresh written (flat_map line_text writes.lines) bytes writes.empty all.1 told }
+    record { lines = writes.lines; follow = writes.follow; ends = writes.ends; bytes_are = first_written fresh written (flat_map line_text writes.lines) bytes writes.empty (writes.all refl) told }
 holds_by history fresh written count true came bytes true some told writes tells = (
   record {
     lines = writes.lines;
     follow = writes.follow;
+    ends = writes.ends;
     front = (writes.prefix.0, first_written fresh written (take writes.prefix.0 (flat_map line_text writes.lines)) bytes writes.empty writes.prefix.1.written told);
   },
   tells refl,

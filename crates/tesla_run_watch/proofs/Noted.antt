@@ -1,19 +1,18 @@
 -- Lines that are written to STATUS, one after another.
 use Rattle.std.proofs.Common.{◌≡◌, ◌∙◌, inl, inr, ℕ, Bool, true, false, List, [], ◌∷◌, ◌++◌, flat_map, Option, Some, IfSome, append-nil, append_assoc, refl, sym, ap, subst, arith}
 use Rattle.std.proofs.lemmas.List.Concat.{flat_map-append}
-use Rattle.atomic_table.specs.Seated.{TableId}
-use Rattle.tesla_counters.specs.Counts.{NoneFalls, no_counts}
+use Rattle.tesla_counters.specs.Counts.{CountersId, NoneFalls, no_counts}
 use Rattle.tesla_desk.specs.Faults.{HasCause}
 use Rattle.tesla_desk.specs.Outside.{AppendsPrefix, with_bytes}
 use Rattle.tesla_desk.proofs.Counts.{cause_as, cause_both, cause_none}
-use Rattle.tesla_desk.proofs.Told.{appends_none, prefix_after, prefix_none, with_more}
+use Rattle.tesla_desk.proofs.Told.{appends_none, prefix_after, prefix_longer, prefix_none, with_more}
 use Rattle.tesla_fitting.specs.declared.config.Config.{Config}
 use Rattle.tesla_receiver.specs.Report.{report_of}
 use Rattle.tesla_receiver.specs.declared.history.Entry.{Entry}
 use Rattle.tesla_state.specs.declared.report.Report.{Report}
 use Rattle.tesla_watched.specs.declared.watched.WatchedConfig.{WatchedConfig}
 use Rattle.tesla_run_watch.specs.Lines.{AddsUp, Follow, NoneFall, StatusLine, line_text, no_report, report_at, status_line}
-use Rattle.tesla_run_watch.specs.Written.{Notes, Puts, WritesStatus, report_behind}
+use Rattle.tesla_run_watch.specs.Written.{EndsWith, Notes, Puts, WritesStatus, report_behind}
 
 -- ---- text
 
@@ -89,18 +88,31 @@ text_more lines line = flat_map-append line_text lines (line ∷ []) ∙ ap (λ 
 abbrev pub line_at : ℕ → List ℕ → StatusLine
 line_at time counts = record { time = time; report = report_at counts }
 
--- what was noted before, with a line of counts that none falls to, which was put behind it, or nothing was put behind a failure
-module _ (earlier counts : List ℕ) (time : ℕ) (before old new : Option (List ℕ)) (first faults count : ℕ) (noted : Notes earlier before old first faults false) (falls : NoneFalls earlier counts) where
+-- counts that don't fall are not below the numbers behind lines that were noted
+pub falls_behind : (earlier counts : List ℕ) (lines : List StatusLine) → NoneFall (report_behind no_report lines) (report_at earlier) → NoneFalls earlier counts → NoneFall (report_behind no_report lines) (report_at counts)
+falls_behind earlier counts lines within falls = falls_then (report_behind no_report lines) (report_at earlier) (report_at counts) within (falls_at earlier counts falls)
+
+-- lines that were noted, and the line of these counts
+module _ (earlier counts : List ℕ) (time : ℕ) (before old : Option (List ℕ)) (first faults : ℕ) (was : Bool) (noted : Notes earlier before old first faults was) where
   abbrev pub lines_more : List StatusLine
   lines_more = noted.lines ++ line_at time counts ∷ []
 
-  pub follows : Follow no_report lines_more
-  follows = follow_more no_report noted.lines (line_at time counts) noted.follow refl (falls_then (report_behind no_report noted.lines) (report_at earlier) (report_at counts) noted.within (falls_at earlier counts falls))
+  pub follows : NoneFalls earlier counts → Follow no_report lines_more
+  follows falls = follow_more no_report noted.lines (line_at time counts) noted.follow refl (falls_behind earlier counts noted.lines noted.within falls)
 
-  pub written_more : new ≡ with_bytes old (status_line time (report_at counts)) → new ≡ with_bytes before (flat_map line_text lines_more)
+  pub ends_more : (history : List Entry) → report_at counts ≡ report_of history → EndsWith lines_more history
+  ends_more history whole = record { front = noted.lines; last = line_at time counts; lines_are = refl; report_is = whole }
+
+  -- where nothing more was written, there is a prefix of them as there was
+  pub prefix_still : AppendsPrefix before old (flat_map line_text lines_more)
+  prefix_still = subst (λ (bytes : List ℕ). AppendsPrefix before old bytes) (sym (text_more noted.lines (line_at time counts))) (prefix_longer before old (flat_map line_text noted.lines) (status_line time (report_at counts)) noted.prefix)
+
+-- the line of these counts was put behind what was noted
+module _ (earlier counts : List ℕ) (time : ℕ) (before old new : Option (List ℕ)) (first faults count : ℕ) (noted : Notes earlier before old first faults false) where
+  pub written_more : new ≡ with_bytes old (status_line time (report_at counts)) → new ≡ with_bytes before (flat_map line_text (lines_more earlier counts time before old first faults false noted))
   written_more put = with_more before old new (flat_map line_text noted.lines) (status_line time (report_at counts)) (noted.all refl) put ∙ ap (λ (bytes : List ℕ). with_bytes before bytes) (sym (text_more noted.lines (line_at time counts)))
 
-  pub prefix_more : AppendsPrefix old new (status_line time (report_at counts)) → AppendsPrefix before new (flat_map line_text lines_more)
+  pub prefix_more : AppendsPrefix old new (status_line time (report_at counts)) → AppendsPrefix before new (flat_map line_text (lines_more earlier counts time before old first faults false noted))
   prefix_more put = subst (λ (bytes : List ℕ). AppendsPrefix before new bytes) (sym (text_more noted.lines (line_at time counts))) (prefix_after before old new (flat_map line_text noted.lines) (status_line time (report_at counts)) (noted.all refl) put)
 
   pub caused : (failed : Bool) → HasCause faults count (failed ≡ true) → HasCause first count (failed ≡ true)
@@ -112,18 +124,18 @@ notes_more earlier counts time before old new first faults count true is noted f
     record {
       lines = noted.lines;
       follow = noted.follow;
-      within = falls_then (report_behind no_report noted.lines) (report_at earlier) (report_at counts) noted.within (falls_at earlier counts falls);
+      within = falls_behind earlier counts noted.lines noted.within falls;
       all = λ no. absurd (let clash : true ≡ false = sym still.0 ∙ no in cc);
       prefix = subst (λ (w : Option (List ℕ)). AppendsPrefix before w (flat_map line_text noted.lines)) (sym still.1) noted.prefix;
       cause = subst (λ (n : ℕ). HasCause first n (is ≡ true)) (sym still.2) (cause_as first faults noted.cause (λ e. refl) (λ e. still.0));
     }
 notes_more earlier counts time before old new first faults count false is noted falls puts = record {
-  lines = lines_more earlier counts time before old new first faults count noted falls;
-  follow = follows earlier counts time before old new first faults count noted falls;
+  lines = lines_more earlier counts time before old first faults false noted;
+  follow = follows earlier counts time before old first faults false noted falls;
   within = subst (λ (report : Report). NoneFall report (report_at counts)) (sym (behind_more no_report noted.lines (line_at time counts))) (falls_not (report_at counts));
-  all = λ no. written_more earlier counts time before old new first faults count noted falls (puts.all no).1;
-  prefix = prefix_more earlier counts time before old new first faults count noted falls (puts.prefix refl);
-  cause = caused earlier counts time before old new first faults count noted falls is (puts.cause refl);
+  all = λ no. written_more earlier counts time before old new first faults count noted (puts.all no).1;
+  prefix = prefix_more earlier counts time before old new first faults count noted (puts.prefix refl);
+  cause = caused earlier counts time before old new first faults count noted is (puts.cause refl);
 }
 
 -- ---- the last line
@@ -133,23 +145,22 @@ pub writes_last : (history : List Entry) (earlier counts : List ℕ) (time : ℕ
 writes_last history earlier counts time before old new faults count true is whole empty noted falls puts =
     let still = puts.still refl in
     record {
-      lines = noted.lines;
-      follow = noted.follow;
+      lines = lines_more earlier counts time before old 0 faults true noted;
+      follow = follows earlier counts time before old 0 faults true noted falls;
+      ends = ends_more earlier counts time before old 0 faults true noted history whole;
       empty = empty;
       all = λ no. absurd (let clash : true ≡ false = sym still.0 ∙ no in cc);
-      prefix = subst (λ (w : Option (List ℕ)). AppendsPrefix before w (flat_map line_text noted.lines)) (sym still.1) noted.prefix;
+      prefix = subst (λ (w : Option (List ℕ)). AppendsPrefix before w (flat_map line_text (lines_more earlier counts time before old 0 faults true noted))) (sym still.1) (prefix_still earlier counts time before old 0 faults true noted);
       cause = subst (λ (n : ℕ). HasCause 0 n (is ≡ true)) (sym still.2) (cause_as 0 faults noted.cause (λ e. refl) (λ e. still.0));
     }
 writes_last history earlier counts time before old new faults count false is whole empty noted falls puts = record {
-  lines = lines_more earlier counts time before old new 0 faults count noted falls;
-  follow = follows earlier counts time before old new 0 faults count noted falls;
+  lines = lines_more earlier counts time before old 0 faults false noted;
+  follow = follows earlier counts time before old 0 faults false noted falls;
+  ends = ends_more earlier counts time before old 0 faults false noted history whole;
   empty = empty;
-  all = λ no. (
-    record { front = noted.lines; last = line_at time counts; lines_are = refl; report_is = whole },
-    written_more earlier counts time before old new 0 faults count noted falls (puts.all no).1,
-  );
-  prefix = prefix_more earlier counts time before old new 0 faults count noted falls (puts.prefix refl);
-  cause = caused earlier counts time before old new 0 faults count noted falls is (puts.cause refl);
+  all = λ no. written_more earlier counts time before old new 0 faults count noted (puts.all no).1;
+  prefix = prefix_more earlier counts time before old new 0 faults count noted (puts.prefix refl);
+  cause = caused earlier counts time before old new 0 faults count noted is (puts.cause refl);
 }
 
 -- ---- before the first line
@@ -168,8 +179,8 @@ notes_none before faults = record {
 -- ---- configurations
 
 -- the parts of a configuration
-pub config_is : (config : Config) (counters : TableId) (cfg : WatchedConfig) → (let own : WatchedConfig = record { config = config; counters = counters } in Some own) ≡ Some cfg → config ≡ cfg.config
+pub config_is : (config : Config) (counters : CountersId) (cfg : WatchedConfig) → (let own : WatchedConfig = record { config = config; counters = counters } in Some own) ≡ Some cfg → config ≡ cfg.config
 config_is config counters cfg same = let one : (let own : WatchedConfig = record { config = config; counters = counters } in own) ≡ cfg = cc in ap (λ (c : WatchedConfig). c.config) one
 
-pub counters_are : (config : Config) (counters : TableId) (cfg : WatchedConfig) → (let own : WatchedConfig = record { config = config; counters = counters } in Some own) ≡ Some cfg → counters ≡ cfg.counters
+pub counters_are : (config : Config) (counters : CountersId) (cfg : WatchedConfig) → (let own : WatchedConfig = record { config = config; counters = counters } in Some own) ≡ Some cfg → counters ≡ cfg.counters
 counters_are config counters cfg same = let one : (let own : WatchedConfig = record { config = config; counters = counters } in own) ≡ cfg = cc in ap (λ (c : WatchedConfig). c.counters) one

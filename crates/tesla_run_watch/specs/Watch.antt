@@ -9,7 +9,7 @@ use Rattle.tesla_front.specs.declared.fault.Fault.TheVariants as faults
 use Rattle.tesla_receiver.specs.declared.history.Entry.{Entry}
 use Rattle.tesla_turn.specs.Held.{Ended}
 use Rattle.tesla_with_output.specs.Output.{WithOutput, with_output}
-use Rattle.tesla_run_watch.specs.Arguments.{IsWatch, WatchArguments}
+use Rattle.tesla_run_watch.specs.Arguments.{IsWatch}
 use Rattle.tesla_run_watch.specs.Lines.{Follow, StatusLine, line_text, no_report}
 use Rattle.tesla_run_watch.specs.Written.{EndsWith}
 
@@ -20,22 +20,23 @@ pub record AreLines (history : List Entry) (bytes : List ℕ) : Type 0 where
   pub ends : EndsWith lines history
   pub bytes_are : bytes ≡ flat_map line_text lines
 
--- the bytes are a prefix of such lines
-pub record BreakOff (bytes : List ℕ) : Type 0 where
+-- the bytes are a prefix of such lines, of which none has a count above the report's
+pub record BreakOff (history : List Entry) (bytes : List ℕ) : Type 0 where
   pub lines : List StatusLine
   pub follow : Follow no_report lines
+  pub ends : EndsWith lines history
   pub front : IsPrefix (flat_map line_text lines) bytes
 
--- STATUS holds lines, in which no number falls, and the last has the numbers of the whole history. Where it failed it holds a prefix of such lines, and a link or an output is told to have failed
+-- STATUS holds lines, in which no number falls, and the last has the numbers of the whole history's report. Where it failed it holds a prefix of such lines, and a link or an output is told to have failed
 abbrev pub HoldsStatus : List Entry → Page → Came → Type 0
 HoldsStatus history Untold came = Unit {0}
 HoldsStatus history Absent came = ⊥
 HoldsStatus history (Holds bytes false) came = AreLines history bytes
-HoldsStatus history (Holds bytes true) came = BreakOff bytes × ((came ≡ Failed faults.Read) ⊎ (came ≡ Failed faults.Write))
+HoldsStatus history (Holds bytes true) came = BreakOff history bytes × ((came ≡ Failed faults.Read) ⊎ (came ≡ Failed faults.Write))
 
 -- the form of receive with STATUS behind its sinks
 abbrev pub watched : WithOutput
-watched = record { Arguments = WatchArguments; IsForm = IsWatch; receives = λ arguments. arguments.receive; output = λ arguments. arguments.status; Holds = λ arguments. HoldsStatus }
+watched = record { IsForm = IsWatch; Holds = λ arguments. HoldsStatus }
 
 -- the command, told what the desk has of links and clocks before and afterwards, and the end of the turn where there was one
 abbrev pub watching : Live → Live → Option (Ended Entry) → Command

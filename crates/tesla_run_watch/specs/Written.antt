@@ -35,11 +35,12 @@ pub record EndsWith (lines : List StatusLine) (history : List Entry) : Type 0 wh
   pub lines_are : lines ≡ front ++ last ∷ []
   pub report_is : last.report ≡ report_of history
 
--- what was written to STATUS, which was new, told the whole history: lines, of which the last has the numbers of its report; or it failed, and has a prefix of such lines
+-- what was written to STATUS, which was new, told the whole history: lines, of which the last has the numbers of its report, or where it failed a prefix of such lines
 pub record WritesStatus (history : List Entry) (before written : Option (List ℕ)) (faults : ℕ) (failed : Bool) : Type 0 where
   pub lines : List StatusLine
   pub follow : Follow no_report lines
+  pub ends : EndsWith lines history
   pub empty : IfSome before (λ bytes. bytes ≡ [])
-  pub all : failed ≡ false → EndsWith lines history × (written ≡ with_bytes before (flat_map line_text lines))
+  pub all : failed ≡ false → written ≡ with_bytes before (flat_map line_text lines)
   pub prefix : AppendsPrefix before written (flat_map line_text lines)
   pub cause : HasCause 0 faults (failed ≡ true)

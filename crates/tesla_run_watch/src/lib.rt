@@ -1,14 +1,12 @@
 //! The command `watch`: the command `receive`, whose counts are written to a file while it goes on.
 #![tactic(auto)]
 
-mod arguments;
 mod due;
 mod forms;
 mod line;
 mod monitor;
 mod status;
 mod watch;
-mod words;
 
 pub use forms::WATCH;
 pub use watch::{WatchRun, run_watch};

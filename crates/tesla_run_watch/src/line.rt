@@ -7,13 +7,13 @@ ghost use Rattle.tesla_run_watch.specs.Lines.{arrivals_at, counts_text, number_t
 use itoa::Buffer;
 use tesla_front::Lines;
 
-// Adds a word of at most 11 bytes, and a number. These are at most 31 bytes.
+// Adds a word of at most 11 bytes, and a number. These are at most 50 bytes.
 #[tactic(auto, unfolding(crate::specs::Lines::number_text))]
-fn add_number(line: &mut Lines, word: &str, number: u64)
+fn add_number(line: &mut Lines, word: &str, number: u128)
     requires short { length word.now ≤ 11 }
-    requires room { array_string_len line.old + 31 ≤ 2048 }
+    requires room { array_string_len line.old + 50 ≤ 2048 }
     ensures text { line.new.bytes ≡ line.old.bytes ++ number_text word.now number }
-    ensures few { array_string_len line.new ≤ array_string_len line.old + 31 }
+    ensures few { array_string_len line.new ≤ array_string_len line.old + 50 }
 {
     let mut digits = Buffer::new();
     line.push_str(word);
@@ -36,36 +36,23 @@ fn arrivals_of(counts: &[u64; 11]) -> u128
         + u128::from(counts[9])
 }
 
-// Adds the number of the arrivals, with its name. These are at most 50 bytes.
-#[tactic(auto, unfolding(crate::specs::Lines::number_text))]
-fn add_arrivals(line: &mut Lines, number: u128)
-    requires room { array_string_len line.old + 50 ≤ 2048 }
-    ensures text { line.new.bytes ≡ line.old.bytes ++ number_text (codes " arrivals=") number }
-    ensures few { array_string_len line.new ≤ array_string_len line.old + 50 }
-{
-    let mut digits = Buffer::new();
-    line.push_str(" arrivals=");
-    line.push_str(digits.format(number));
-}
-
-// Adds the counts, each with its name. These are at most 341 bytes.
-
+// Adds the counts, each with its name. These are at most 550 bytes.
 fn add_counts(line: &mut Lines, counts: &[u64; 11])
-    requires room { array_string_len line.old + 341 ≤ 2048 }
+    requires room { array_string_len line.old + 550 ≤ 2048 }
     ensures text { line.new.bytes ≡ line.old.bytes ++ counts_text (report_at counts.now) }
-    ensures few { array_string_len line.new ≤ array_string_len line.old + 341 }
+    ensures few { array_string_len line.new ≤ array_string_len line.old + 550 }
 {
-    add_number(line, " malformed=", counts[0]);
-    add_number(line, " foreign=", counts[1]);
-    add_number(line, " misfit=", counts[2]);
-    add_number(line, " future=", counts[3]);
-    add_number(line, " badkey=", counts[4]);
-    add_number(line, " late=", counts[5]);
-    add_number(line, " repeat=", counts[6]);
-    add_number(line, " full=", counts[7]);
-    add_number(line, " kept=", counts[8]);
-    add_number(line, " keys=", counts[9]);
-    add_number(line, " given=", counts[10]);
+    add_number(line, " malformed=", u128::from(counts[0]));
+    add_number(line, " foreign=", u128::from(counts[1]));
+    add_number(line, " misfit=", u128::from(counts[2]));
+    add_number(line, " future=", u128::from(counts[3]));
+    add_number(line, " badkey=", u128::from(counts[4]));
+    add_number(line, " late=", u128::from(counts[5]));
+    add_number(line, " repeat=", u128::from(counts[6]));
+    add_number(line, " full=", u128::from(counts[7]));
+    add_number(line, " kept=", u128::from(counts[8]));
+    add_number(line, " keys=", u128::from(counts[9]));
+    add_number(line, " given=", u128::from(counts[10]));
 }
 
 /// The line of the counts at a reading of a clock, with its LF. It takes no memory.
@@ -74,8 +61,8 @@ pub(crate) fn line_of(time: u64, counts: &[u64; 11]) -> Lines
     ensures { result.bytes ≡ status_line time (report_at counts.now) }
 {
     let mut line = Lines::new();
-    add_number(&mut line, "time=", time);
-    add_arrivals(&mut line, arrivals_of(counts));
+    add_number(&mut line, "time=", u128::from(time));
+    add_number(&mut line, " arrivals=", arrivals_of(counts));
     add_counts(&mut line, counts);
     line.push_str("\n");
     line

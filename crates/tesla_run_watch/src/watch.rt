@@ -14,17 +14,17 @@ ghost use Rattle.tesla_receiver.specs.declared.history.Entry.{Entry};
 ghost use Rattle.tesla_turn.specs.Held.{first_pass};
 ghost use Rattle.tesla_watched.specs.Watched.{WatchedStands};
 ghost use Rattle.tesla_watched.specs.declared.watched.WatchedConfig.{WatchedConfig};
-ghost use Rattle.tesla_run_watch.specs.Arguments.{IsWatch, arguments_of};
+ghost use Rattle.tesla_with_output.specs.Arguments.{arguments_of};
+ghost use Rattle.tesla_run_watch.specs.Arguments.{IsWatch};
 ghost use Rattle.tesla_run_watch.specs.Running.{Finishes, RunsWatch, RunsWatched};
 ghost use Rattle.tesla_run_watch.specs.Watch.{watching};
 ghost use Rattle.tesla_run_watch.specs.Written.{Notes};
 
-use crate::arguments::Arguments;
 use crate::due::Due;
+use crate::forms::WORDS;
 use crate::line::line_of;
 use crate::monitor::Monitor;
 use crate::status::Status;
-use crate::words::arguments_in;
 use std::alloc::Global;
 use std::sync::Wait;
 use std::thread::Threads;
@@ -37,7 +37,7 @@ use tesla_run_receive::new_receiver;
 use tesla_session::{Ran, Session, prepared, run_opened_beside};
 use tesla_turn::Last;
 use tesla_watched::Watched;
-use tesla_with_output::{ended, open_with_output, stop_with};
+use tesla_with_output::{Arguments, arguments_in, ended, open_with_output, stop_with};
 
 /// What a run came to, and the whole history where the links and the outputs were opened and the workers ran.
 #[derive(Drop)]
@@ -62,7 +62,7 @@ pub fn run_watch<R: Threads + Wait + Sync, D: Desk>(
     ensures runs { RunsAs (watching (D.told desk.old).live (D.told desk.new).live result.last) (map string_bytes words.now) (D.told desk.old) (D.told desk.new) (outcome_came result.outcome) }
     ensures none { outcome_came result.outcome ≡ Usage → result.last ≡ None }
 {
-    match arguments_in(words) {
+    match arguments_in(&WORDS, words) {
         Some(arguments) => {
             let (came, last) = perform(rt, alloc, &arguments, desk);
             WatchRun {
@@ -128,7 +128,8 @@ fn watch_under<R: Threads + Wait + Sync, D: Desk>(
     desk: &mut D,
 ) -> Came
     requires few { AreFew (arguments_of arguments.now).receive }
-    ensures { (cfg : WatchedConfig) × (cfg.config ≡ config_of (arguments_of arguments.now).receive setup) × RunsWatch (workers_wanted (arguments_of arguments.now).receive) cfg arguments.now.status.now (D.told desk.old) (D.told desk.new) result.1 (came_of result.0) }
+    requires every { arguments.now.number ≤ 3600 }
+    ensures { (cfg : WatchedConfig) × (cfg.config ≡ config_of (arguments_of arguments.now).receive setup) × RunsWatch (workers_wanted (arguments_of arguments.now).receive) cfg arguments.now.output.now (D.told desk.old) (D.told desk.new) result.1 (came_of result.0) }
 {
     match new_session(alloc, setup, arguments) {
         Ok((session, reader)) => run_session(rt, arguments, session, reader, desk),
@@ -145,21 +146,22 @@ fn run_session<R: Threads + Wait + Sync, D: Desk>(
     desk: &mut D,
 ) -> Came
     requires few { AreFew (arguments_of arguments.now).receive }
+    requires every { arguments.now.number ≤ 3600 }
     requires links { (session.links.items ≡ []) × (length arguments.now.receive.links ≤ vec_capacity session.links) }
     requires sinks { (session.sinks.items ≡ []) × (length arguments.now.receive.sinks ≤ vec_capacity session.sinks) }
     requires first { (cfg : WatchedConfig) × (session.first ≡ first_pass session.turn cfg (1 + length arguments.now.receive.links + length arguments.now.receive.sinks) calls_most) × (cfg.counters ≡ reader.counters) }
     requires zero { reader.counts ≡ no_counts }
-    ensures { (cfg : WatchedConfig) → session.first ≡ first_pass session.turn cfg (1 + length arguments.now.receive.links + length arguments.now.receive.sinks) calls_most → RunsWatch (workers_wanted (arguments_of arguments.now).receive) cfg arguments.now.status.now (D.told desk.old) (D.told desk.new) result.1 (came_of result.0) }
+    ensures { (cfg : WatchedConfig) → session.first ≡ first_pass session.turn cfg (1 + length arguments.now.receive.links + length arguments.now.receive.sinks) calls_most → RunsWatch (workers_wanted (arguments_of arguments.now).receive) cfg arguments.now.output.now (D.told desk.old) (D.told desk.new) result.1 (came_of result.0) }
 {
     let receive = &arguments.receive;
     match open_with_output(
         &receive.links,
         &receive.sinks,
-        arguments.status,
+        arguments.output,
         session,
         desk,
     ) {
-        Ok((session, sink)) => run_watched(rt, arguments.every, session, sink, reader, desk),
+        Ok((session, sink)) => run_watched(rt, arguments.number, session, sink, reader, desk),
         Err(fault) => (Err(Stop::Failed(fault)), None),
     }
 }
@@ -177,7 +179,7 @@ fn run_watched<R: Threads + Wait + Sync, D: Desk>(
     requires opened { (wanted : List Wanted) × (cfg : WatchedConfig) × (before : Told) × (now : Told) × OpensAll wanted cfg before now session.turn session.first (workers_of session.links.items session.sinks.items) × (cfg.counters ≡ reader.counters) }
     requires fresh { IfSome (D.Out.written sink) (λ bytes. bytes ≡ []) × (D.Out.faults sink ≡ 0) }
     requires zero { reader.counts ≡ no_counts }
-    requires few { every ≤ 3600 }
+    requires few { (1 ≤ every) × (every ≤ 3600) }
     ensures { (cfg : WatchedConfig) → session.first.config ≡ Some cfg → RunsWatched cfg (D.Out.name sink) session.first (workers_of session.links.items session.sinks.items) (D.told desk.old) (D.told desk.new) result.1 (came_of result.0) }
 {
     let mut clock = desk.clock();

@@ -1,3 +1,3 @@
 pub mod Outputs
 pub mod Performed
-pub mod EightWords
+pub mod Spelled

@@ -40,6 +40,7 @@ use Rattle.tesla_run_receive.proofs.Held as holding
 use Rattle.tesla_run_receive.proofs.Histories.{receives}
 use Rattle.tesla_run_receive.proofs.Performed as receiving
 use Rattle.tesla_run_receive.proofs.Stopped.{unheard_names}
+use Rattle.tesla_with_output.specs.Arguments.{OutputArguments}
 use Rattle.tesla_with_output.specs.Output.{WithOutput, OutputHolds, files_with, with_output}
 use Rattle.tesla_with_output.specs.Running.{Ran, RefusedOutput, RefusesWith, RunsStation, Writing}
 use Rattle.tesla_with_output.proofs.Outputs.{among_back, among_opened, are_files_more, failed_back, failed_front, failed_still, none_wanted, opens_front, opens_more, outs_told, output_told, sink_after, sinks_same, sinks_told, unwritten_outs}
@@ -94,11 +95,11 @@ made_stays before now (inr made) = record {
 -- ---- the command
 
 -- there was no setup
-pub performs_none : (form : WithOutput) (arguments : form.Arguments) (words : List (List ℕ)) (before now : Told) (last : Option (Ended Entry)) (stop : Stop) → IsReceive (form.receives arguments) words → IsName (form.output arguments) → OpensSome (OfSource (form.receives arguments).setup ∷ []) before now → ((name : List ℕ) → now.page name ≡ before.page name) → now.live ≡ before.live
-    → IsNoSetup (before.page (form.receives arguments).setup) (stop_came stop) → StopCauses {A = Parts} (Err stop) before.faults now.faults → last ≡ None → Performs (with_output form before.live now.live last) arguments before now (stop_came stop)
+pub performs_none : (form : WithOutput) (arguments : OutputArguments) (words : List (List ℕ)) (before now : Told) (last : Option (Ended Entry)) (stop : Stop) → IsReceive arguments.receive words → IsName arguments.output → OpensSome (OfSource arguments.receive.setup ∷ []) before now → ((name : List ℕ) → now.page name ≡ before.page name) → now.live ≡ before.live
+    → IsNoSetup (before.page arguments.receive.setup) (stop_came stop) → StopCauses {A = Parts} (Err stop) before.faults now.faults → last ≡ None → Performs (with_output form before.live now.live last) arguments before now (stop_came stop)
 performs_none form arguments words before now last stop is named some pages live why causes none =
-    let received : ReceiveArguments = form.receives arguments in
-    let output : List ℕ = form.output arguments in
+    let received : ReceiveArguments = arguments.receive in
+    let output : List ℕ = arguments.output in
     let it = opens_some (OfSource received.setup) (map opening_for (workers_wanted received) ++ OfSink output ∷ []) before now some in
     record {
       named = are_files_more (files_of_receive received) output (receiving.are_files received words is) named.file;
@@ -114,16 +115,16 @@ performs_none form arguments words before now last stop is named some pages live
     }
 
 -- the setup was read, and then the workers and the output were opened, or not all were. What is written to the output tells what its page holds, and is the cause of its faults
-module _ (form : WithOutput) {C : Type 0} (receiver : C → Config) (Writes : Writing C) (arguments : form.Arguments) (words : List (List ℕ)) (parts : Parts) (cfg : C) (before read now : Told) (last : Option (Ended Entry)) (came : Came)
-    (is : IsReceive (form.receives arguments) words) (named : IsName (form.output arguments)) (others : AreOthers (form.output arguments) (form.receives arguments).sinks) (configured : receiver cfg ≡ config_of (form.receives arguments) parts)
+module _ (form : WithOutput) {C : Type 0} (receiver : C → Config) (Writes : Writing C) (arguments : OutputArguments) (words : List (List ℕ)) (parts : Parts) (cfg : C) (before read now : Told) (last : Option (Ended Entry)) (came : Came)
+    (is : IsReceive arguments.receive words) (named : IsName arguments.output) (others : AreOthers arguments.output arguments.receive.sinks) (configured : receiver cfg ≡ config_of arguments.receive parts)
     (holds : (history : List Entry) (fresh written : Option (List ℕ)) (count : ℕ) (failed : Bool) → Writes cfg history fresh written count failed → (failed ≡ true → (came ≡ Failed faults.Read) ⊎ (came ≡ Failed faults.Write)) → form.Holds arguments history (page_of written count) came)
     (caused : (history : List Entry) (fresh written : Option (List ℕ)) (count : ℕ) (failed : Bool) → Writes cfg history fresh written count failed → HasCause 0 count (failed ≡ true))
-    (pages : (name : List ℕ) → read.page name ≡ before.page name) (live : read.live ≡ before.live) (found : IsSetupIn (file_told before (form.receives arguments).setup).page parts) where
+    (pages : (name : List ℕ) → read.page name ≡ before.page name) (live : read.live ≡ before.live) (found : IsSetupIn (file_told before arguments.receive.setup).page parts) where
   abbrev Received : ReceiveArguments
-  Received = form.receives arguments
+  Received = arguments.receive
 
   abbrev Output : List ℕ
-  Output = form.output arguments
+  Output = arguments.output
 
   abbrev Behind : List Opening
   Behind = OfSink Output ∷ []

@@ -10,14 +10,12 @@ use Rattle.tesla_turn.specs.Held.{Ended}
 use Rattle.tesla_turn.specs.History.{entries}
 use Rattle.tesla_run_receive.specs.Arguments.{ReceiveArguments, files_of_receive, workers_wanted}
 use Rattle.tesla_run_receive.specs.Receive.{Receives, Stops}
+use Rattle.tesla_with_output.specs.Arguments.{OutputArguments}
 
--- a form of receive with one output more: what its words ask for, and which words ask for that; what they ask for of receive, the name of the output, and what its page holds, told the history that was made and what the run came to
+-- a form of receive with one output more: which words ask for what, and what the output's page holds, told the history that was made and what the run came to
 pub record WithOutput : Type 1 where
-  pub Arguments : Type 0
-  pub IsForm : Arguments → List (List ℕ) → Type 0
-  pub receives : Arguments → ReceiveArguments
-  pub output : Arguments → List ℕ
-  pub Holds : Arguments → List Entry → Page → Came → Type 0
+  pub IsForm : OutputArguments → List (List ℕ) → Type 0
+  pub Holds : OutputArguments → List Entry → Page → Came → Type 0
 
 -- what is opened, in order: the setup, the links, the sinks and the output
 abbrev pub files_with : ReceiveArguments → List ℕ → List Opening
@@ -40,8 +38,8 @@ DoesWith arguments Holds before now last opened files files_now came = ⊥
 -- the command of a form, told what the desk has of links and clocks before and afterwards, and the end of the turn where there was one: its words, its files and what it does
 abbrev pub with_output : WithOutput → Live → Live → Option (Ended Entry) → Command
 with_output form before now last = record {
-  Arguments = form.Arguments;
+  Arguments = OutputArguments;
   IsForm = form.IsForm;
-  files = λ arguments. files_with (form.receives arguments) (form.output arguments);
-  Does = λ arguments. DoesWith (form.receives arguments) (form.Holds arguments) before now last;
+  files = λ arguments. files_with arguments.receive arguments.output;
+  Does = λ arguments. DoesWith arguments.receive (form.Holds arguments) before now last;
 }

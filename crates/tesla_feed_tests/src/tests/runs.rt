@@ -386,3 +386,11 @@ pub fn links() -> &'static [Run] {
 pub fn refusals() -> &'static [Refusal] {
     REFUSALS
 }
+
+/// What a run of `watch` writes to STATUS behind a datagram that is no frame, where its clock reads 1.7 seconds.
+pub const STATUS: &str =
+    "time=1700000 arrivals=1 malformed=1 foreign=0 misfit=0 future=0 badkey=0 late=0 repeat=0 full=0 kept=0 keys=0 given=0\n";
+
+/// What it tells.
+pub const REPORT: &str =
+    "arrivals 1\nmalformed 1\nforeign 0\nmisfit 0\nfuture 0\nbadkey 0\nlate 0\nrepeat 0\nfull 0\nkept 0\nkeys 0\ngiven 0\n";

@@ -1,6 +1,6 @@
 use Rattle.std.proofs.Common.{None, map, string_bytes}
 use Rattle.tesla_front.proofs.Commands.{runs_form, runs_usage}
-use Rattle.tesla_run_record.specs.Arguments.{arguments_of}
+use Rattle.tesla_with_output.specs.Arguments.{arguments_of}
 use Rattle.tesla_run_record.specs.Record.{recording}
 use Rattle.tesla_run_record.proofs.record.run_record.Goals as goal
 

@@ -3,7 +3,7 @@ use Rattle.tesla_front.specs.Came.{came_of}
 use Rattle.tesla_session.specs.Session.{workers_of}
 use Rattle.tesla_session.proofs.Sessions.{opened_same}
 use Rattle.tesla_run_receive.specs.Arguments.{workers_wanted}
-use Rattle.tesla_run_record.specs.Arguments.{arguments_of}
+use Rattle.tesla_with_output.specs.Arguments.{arguments_of}
 use Rattle.tesla_run_record.specs.Running.{RunsTailed}
 use Rattle.tesla_run_record.proofs.record.run_session.Goals as goal
 

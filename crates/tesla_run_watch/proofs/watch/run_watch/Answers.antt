@@ -1,6 +1,6 @@
 use Rattle.std.proofs.Common.{None, map, string_bytes}
 use Rattle.tesla_front.proofs.Commands.{runs_form, runs_usage}
-use Rattle.tesla_run_watch.specs.Arguments.{arguments_of}
+use Rattle.tesla_with_output.specs.Arguments.{arguments_of}
 use Rattle.tesla_run_watch.specs.Watch.{watching}
 use Rattle.tesla_run_watch.proofs.watch.run_watch.Goals as goal
 

@@ -1,8 +1,8 @@
-use Rattle.std.proofs.Common.{[], inl, refl}
-use Rattle.atomic_table.specs.Seated.{TableId}
+use Rattle.std.proofs.Common.{inl, refl}
+use Rattle.tesla_counters.specs.Counts.{no_counters}
 use Rattle.tesla_run_receive.specs.Receive.{config_of}
 use Rattle.tesla_watched.specs.declared.watched.WatchedConfig.{WatchedConfig}
-use Rattle.tesla_run_watch.specs.Arguments.{arguments_of}
+use Rattle.tesla_with_output.specs.Arguments.{arguments_of}
 use Rattle.tesla_run_watch.proofs.watch.watch_under.Goals as goal
 
 pub run_session-requires-clause-first : goal.run_session-requires-clause-first
@@ -13,10 +13,6 @@ pub returns-in-Ok : goal.returns-in-Ok
 returns-in-Ok g c =
     let cfg : WatchedConfig = record { config = config_of (arguments_of c.args.arguments.now).receive c.args.setup; counters = c.in-Ok.reader.counters } in
     (cfg, refl, c.run_session.ensures cfg c.in-Ok.ensures.first)
-
--- there are no counts, and so any will do
-no_counters : TableId
-no_counters = record { words = 0; slots = 0; views_name = 0; atom = 0; block = 0; offset = 0; slot_names = [] }
 
 pub returns-in-Err : goal.returns-in-Err
 returns-in-Err g c = (record { config = config_of (arguments_of c.args.arguments.now).receive c.args.setup; counters = no_counters }, refl, inl (record { same = refl; none = refl; came_is = refl }))

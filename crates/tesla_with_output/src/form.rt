@@ -1,0 +1,18 @@
+//! The forms of commands with one output more.
+
+/// In which order the last two words stand.
+#[derive(Clone, Copy, Drop)]
+pub enum Order {
+    NumberFirst,
+    OutputFirst,
+}
+
+/// A form: the words of `receive` behind the name of a command, a number and the name of an output.
+#[derive(Drop)]
+pub struct Form {
+    /// The name of the command.
+    pub name: &'static str,
+    /// The greatest number.
+    pub greatest: u32,
+    pub order: Order,
+}
