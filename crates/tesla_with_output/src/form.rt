@@ -3,7 +3,9 @@
 /// In which order the last two words stand.
 #[derive(Clone, Copy, Drop)]
 pub enum Order {
+    /// The number, and then the output.
     NumberFirst,
+    /// The output, and then the number.
     OutputFirst,
 }
 
@@ -12,7 +14,8 @@ pub enum Order {
 pub struct Form {
     /// The name of the command.
     pub name: &'static str,
-    /// The greatest number.
+    /// The greatest number. The least is 1.
     pub greatest: u32,
+    /// Which of the last two words is the output.
     pub order: Order,
 }
