@@ -1,6 +1,7 @@
 """What the scripts of this folder share: running a program with its time and memory, and making streams."""
 import os
 import re
+import shutil
 import struct
 import subprocess
 import sys
@@ -13,8 +14,15 @@ TESLA = os.path.join(CRATES, "tesla", "out", "tesla")
 WORK = os.path.join(CRATES, "tesla_bench", "out", "tesla_bench")
 
 
+def want(program, package):
+    """Ends where a program isn't on this machine, and says of which Debian package it is."""
+    if not shutil.which(program):
+        sys.exit(f"there is no {program}: it is in the Debian package {package}")
+
+
 def run(words):
     """Runs the words, and gives seconds of processor time, kilobytes at most, and what was printed."""
+    want("/usr/bin/time", "time")
     # (a process that Python starts itself is said to have had Python's memory)
     with tempfile.NamedTemporaryFile("r") as peak:
         timed = ["/usr/bin/time", "-q", "-f", "%M", "-o", peak.name, *words]
@@ -31,6 +39,7 @@ def run(words):
 
 def instructions(words):
     """Runs the words under callgrind, and gives how many instructions it counted: the same for each run."""
+    want("valgrind", "valgrind")
     counted = subprocess.run(["valgrind", "--tool=callgrind", "--callgrind-out-file=/dev/null", *words],
                              stdout=subprocess.DEVNULL, stderr=subprocess.PIPE, check=True)
     return int(re.search(rb"Collected : ([0-9]+)", counted.stderr).group(1))

@@ -49,10 +49,14 @@ def files_of(program, prefix, places=None):
 def write(path, rights, data):
     """Writes a file under a new name and then moves it to its own, so that a program that runs from it isn't disturbed."""
     descriptor, name = tempfile.mkstemp(dir=os.path.dirname(path))
-    with open(descriptor, "wb") as file:
-        file.write(data)
-    os.chmod(name, rights)
-    os.rename(name, path)
+    try:
+        with open(descriptor, "wb") as file:
+            file.write(data)
+        os.chmod(name, rights)
+        os.rename(name, path)
+    except BaseException:
+        os.remove(name)
+        raise
 
 
 def made(folder):
@@ -74,25 +78,35 @@ def listed(prefix):
     return [name for kind, name in rows if kind == "folder"], [name for kind, name in rows if kind == "file"]
 
 
-def install(program, prefix):
-    """Installs all under a prefix, takes away what an earlier version had installed beside it, and answers what is there."""
-    folders, before = listed(prefix)
-    now = []
-    for path, rights, data in files_of(program, prefix):
-        folders += [os.path.relpath(it, prefix) for it in made(os.path.dirname(f"{prefix}/{path}"))]
-        write(f"{prefix}/{path}", rights, data)
-        now.append(path)
-    folders += [os.path.relpath(it, prefix) for it in made(os.path.dirname(f"{prefix}/{LIST}"))]
-    rows = [f"folder {it}\n" for it in folders] + [f"file {it}\n" for it in now]
+def note(prefix, folders, files):
+    """Writes the list of what is installed under a prefix."""
+    rows = [f"folder {it}\n" for it in folders] + [f"file {it}\n" for it in files]
     write(f"{prefix}/{LIST}", 0o644, "".join(rows).encode())
-    take_away(prefix, [], set(before) - set(now))
+
+
+def install(program, prefix):
+    """Installs all under a prefix, takes away what an earlier version had installed beside it, and answers what is there. An
+    installation that breaks off can be taken away, or made again."""
+    folders, before = listed(prefix)
+    files = list(files_of(program, prefix))
+    now = [path for path, _, _ in files]
+    gone = sorted({*before} - {*now})
+    for path in (LIST, *now):
+        new = [os.path.relpath(it, prefix) for it in made(os.path.dirname(f"{prefix}/{path}"))]
+        folders += new
+        if new or path == LIST:
+            note(prefix, folders, [*now, *gone])
+    for path, rights, data in files:
+        write(f"{prefix}/{path}", rights, data)
+    take_away(prefix, [], gone)
+    note(prefix, folders, now)
     return now
 
 
 def take_away(prefix, folders, files):
     """Takes away these files, and these folders where they are empty."""
     for name in files:
-        if os.path.lexists(f"{prefix}/{name}"):
+        if os.path.islink(f"{prefix}/{name}") or os.path.isfile(f"{prefix}/{name}"):
             os.remove(f"{prefix}/{name}")
     for name in sorted(folders, key=len, reverse=True):
         if os.path.isdir(f"{prefix}/{name}") and not os.listdir(f"{prefix}/{name}"):

@@ -6,13 +6,14 @@
    stands before it; of `early` a message that was accepted on arrival has `early` instead of position and chain.
 
    The status is 0 where the last record was whole, 1 where the file ends within a record, 2 where something else stands in
-   it, and 3 where it can't be read. */
+   it, 3 where it can't be read, and 4 where a line can't be written. */
 #include <inttypes.h>
 #include <string.h>
 
 #include "tesla_release.h"
 
-static void show(enum tesla_form form, const struct tesla_release *record)
+/* Prints a line. It answers 0 where it can't be written. */
+static int show(enum tesla_form form, const struct tesla_release *record)
 {
     size_t at;
     if (form == TESLA_ROLL)
@@ -32,7 +33,7 @@ static void show(enum tesla_form form, const struct tesla_release *record)
             printf("\\x%02x", byte);
     }
     putchar('\n');
-    fflush(stdout);
+    return fflush(stdout) == 0 && !ferror(stdout);
 }
 
 int main(int count, char **words)
@@ -58,7 +59,10 @@ int main(int count, char **words)
         return 3;
     }
     while ((result = tesla_read(form, file, room, &record)) == TESLA_RECORD)
-        show(form, &record);
+        if (!show(form, &record)) {
+            perror("standard output");
+            return 4;
+        }
     fclose(file);
     if (result != TESLA_END)
         fprintf(stderr, "%s\n", said[result]);

@@ -3,6 +3,7 @@
 
 FILE, the lines and the status are those of show.c beside it.
 """
+import os
 import sys
 
 import tesla_release
@@ -21,6 +22,17 @@ def line_of(form, record):
     return f"{epoch}{record.position} {record.interval} {record.number} {record.chain}: {shown(record.payload)}"
 
 
+def write(line):
+    """Prints a line, and says whether it could be written. No later line is tried then, also none that is held back."""
+    try:
+        print(line, flush=True)
+    except OSError as error:
+        print(f"standard output: {error.strerror}", file=sys.stderr)
+        os.dup2(os.open(os.devnull, os.O_WRONLY), sys.stdout.fileno())
+        return False
+    return True
+
+
 def main():
     forms = (tesla_release.ROLL, tesla_release.EARLY)
     if not 2 <= len(sys.argv) <= 3 or len(sys.argv) == 3 and sys.argv[2] not in forms:
@@ -30,7 +42,8 @@ def main():
     try:
         with open(sys.argv[1], "rb") as file:
             for record in tesla_release.records(file, form):
-                print(line_of(form, record), flush=True)
+                if not write(line_of(form, record)):
+                    return 4
     except tesla_release.Cut as cut:
         print(cut, file=sys.stderr)
         return 1

@@ -1,2 +1,2 @@
 pub mod LastEntries
-pub mod Places
+pub mod Texts

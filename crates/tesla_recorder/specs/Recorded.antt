@@ -1,29 +1,46 @@
--- A receiver with the last entries of its history.
-use Rattle.std.specs.Prelude.{◌≡◌, ℕ, ◌-◌, List, [], ◌∷◌, ◌++◌, length, drop}
+-- A receiver with the last entries of its history, as they are spelled.
+use Rattle.std.specs.Prelude.{◌≡◌, ℕ, ◌-◌, ◌≤◌, ◌*◌, List, [], ◌∷◌, ◌++◌, length, drop, take, map}
+use Rattle.std.specs.List.{All, sum}
+use Rattle.circular_buffer.specs.Buffer.{Buffer, keep_last}
 use Rattle.tesla_receiver.specs.declared.history.Entry.{Entry}
 use Rattle.tesla_receiver.specs.Stands.{Stands}
 use Rattle.tesla_state.specs.State.{State}
+use Rattle.tesla_trace.specs.Trace.{entry_text}
 
 -- the last entries of a history, at most so many
 abbrev pub last_entries : ℕ → List Entry → List Entry
 last_entries keep history = drop (length history - keep) history
 
--- how many entries are kept at most, and those that are, the oldest first
+-- how many texts are kept at most, and those that are, the oldest first
 pub record Tail : Type 0 where
   pub keep : ℕ
-  pub entries : List Entry
+  pub texts : List (List ℕ)
 
--- a tail with one entry more
-abbrev pub with_entry : Tail → Entry → Tail
-with_entry tail entry = record { keep = tail.keep; entries = last_entries tail.keep (tail.entries ++ entry ∷ []) }
+-- a tail with one text more
+abbrev pub with_text : Tail → List ℕ → Tail
+with_text tail text = record { keep = tail.keep; texts = keep_last tail.keep (tail.texts ++ text ∷ []) }
 
--- what a contract sees of a receiver with the last entries of its history
+-- the texts of these lengths that lie in bytes, one behind the other
+abbrev pub texts_in : List ℕ → List ℕ → List (List ℕ)
+texts_in [] bytes = []
+texts_in (size ∷ sizes) bytes = take size bytes ∷ texts_in sizes (drop size bytes)
+
+-- bytes hold texts of these lengths and nothing else, and there is room for as many of the longest as are kept at most
+pub record HoldsTexts (bytes lengths : Buffer ℕ) : Type 0 where
+  pub some : 1 ≤ lengths.capacity
+  pub few : lengths.capacity ≤ 4096
+  pub count : length lengths.items ≤ lengths.capacity
+  pub room : bytes.capacity ≡ lengths.capacity * 2070
+  pub short : All (λ size. size ≤ 2070) lengths.items
+  pub whole : sum lengths.items ≡ length bytes.items
+
+-- what a contract sees of a receiver with the last entries of its history: their texts, the oldest first
 pub record RecordedState : Type 0 where
   pub receiver : State
   pub keep : ℕ
-  pub entries : List Entry
+  pub texts : List (List ℕ)
 
--- it stands for a history: the receiver does, and the entries are its last ones
+-- it stands for a history: the receiver does, and the texts are the spellings of its last entries
 pub record RecordedStands (state : RecordedState) (history : List Entry) : Type 0 where
   pub stood : Stands state.receiver history
-  pub last : state.entries ≡ last_entries state.keep history
+  pub last : state.texts ≡ map entry_text (last_entries state.keep history)

@@ -1,11 +1,11 @@
 //! The receiver with the last entries of its history.
 
-ghost use Rattle.std.specs.Prelude.{◌≡◌, ◌<◌, ◌≤◌, ◌-◌, [], Some, List, length, min, slice_get, IfOk};
+ghost use Rattle.std.specs.Prelude.{◌≡◌, ◌≤◌, ◌-◌, ◌++◌, [], List, length, flat_map, min, IfOk};
 ghost use Rattle.tesla_receiver.specs.declared.history.Entry.{Entry};
 ghost use Rattle.tesla_receiver.specs.Report.{report_of};
 ghost use Rattle.tesla_receiver.specs.Stands.{Stands};
-ghost use Rattle.tesla_trace.specs.Entries.{IsEntry, entry_in};
-ghost use Rattle.tesla_recorder.specs.Recorded.{RecordedStands};
+ghost use Rattle.tesla_trace.specs.Trace.{entry_text};
+ghost use Rattle.tesla_recorder.specs.Recorded.{RecordedStands, last_entries};
 
 use crate::tail::LastEntries;
 use std::alloc::Global;
@@ -14,7 +14,6 @@ use std::sync::ledger::Ledger;
 use tesla_base::{NoMemory, Steps};
 use tesla_receiver::{Config, Entry, Receiver, Report, Take, Verdict};
 use tesla_shared::Station;
-use tesla_trace::EntryBuffer;
 use tesla_turn::Chronicle;
 
 /// A receiver, and the last entries of its history: each arrival with its verdict, each take with its answer, and each end.
@@ -38,7 +37,7 @@ impl Model for Recorded {
 
     ghost Value = { RecordedState };
 
-    ghost view = { λ r. record { receiver = r.receiver; keep = r.last.keep; entries = r.last.entries } };
+    ghost view = { λ r. record { receiver = r.receiver; keep = r.last.keep; texts = r.last.texts } };
 }
 
 impl Chronicle for Recorded {
@@ -55,7 +54,7 @@ impl Chronicle for Recorded {
 
 impl Recorded {
     /// Records of this receiver, which has had no event, the last entries from now on: so many, from 1 to 4,096. All memory
-    /// is taken here, some two kilobytes for each entry. `NoMemory`: there wasn't enough.
+    /// is taken here, 2,072 bytes for each entry. `NoMemory`: there wasn't enough.
     pub fn open(alloc: Global, receiver: Receiver, keep: u32) -> Result<Recorded, NoMemory>
         requires new { Stands receiver [] }
         requires some { 1 ≤ keep }
@@ -70,7 +69,7 @@ impl Recorded {
 
     /// How many entries are kept.
     pub fn kept(&self) -> usize
-        ensures count { result ≡ length self.now.entries }
+        ensures count { result ≡ length self.now.texts }
         ensures least { (h : List Entry) → RecordedStands self.now h → result ≡ min (length h) self.now.keep }
     {
         self.last.count()
@@ -78,20 +77,20 @@ impl Recorded {
 
     /// How many entries of the history stand before those that are kept.
     pub fn first(&self) -> u64
-        ensures { (h : List Entry) → RecordedStands self.now h → result ≡ length h - length self.now.entries }
+        ensures { (h : List Entry) → RecordedStands self.now h → result ≡ length h - length self.now.texts }
     {
         self.receiver
             .calls()
             .saturating_sub(self.last.count() as u64)
     }
 
-    /// One of the entries that are kept, counted from the oldest.
-    pub fn entry(&self, place: usize) -> &EntryBuffer
-        requires { place < length self.now.entries }
-        ensures value { slice_get self.now.entries place ≡ Some (entry_in result.now) }
-        ensures within { IsEntry result.now }
+    /// The entries that are kept, each as it is spelled in a tail, one behind the other and the oldest first. The second slice
+    /// goes on where the first ends.
+    pub fn texts(&self) -> (&[u8], &[u8])
+        ensures texts { result.0.now ++ result.1.now ≡ flat_map (λ text. text) self.now.texts }
+        ensures spelled { (h : List Entry) → RecordedStands self.now h → result.0.now ++ result.1.now ≡ flat_map entry_text (last_entries self.now.keep h) }
     {
-        self.last.at(place)
+        self.last.texts()
     }
 
     /// The counts of the whole history.

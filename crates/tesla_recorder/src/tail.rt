@@ -1,37 +1,39 @@
-//! The last entries of a history.
+//! The last entries of a history, as they are spelled in a tail.
 
-ghost use Rattle.std.specs.Prelude.{◌≡◌, ◌<◌, ◌≤◌, ◌+◌, ◌-◌, [], Some, drop, length, slice_get, IfOk};
+ghost use Rattle.std.specs.Prelude.{◌≡◌, ◌≤◌, ◌+◌, ◌-◌, ◌++◌, [], ◌∷◌, length, drop, take, flat_map, IfOk};
+ghost use Rattle.std.specs.List.{sum};
 ghost use Rattle.circular_buffer.specs.Buffer.{buffer};
 ghost use Rattle.tesla_receiver.specs.declared.history.Entry.TheVariants.{Arrived, Taken, Ended};
 ghost use Rattle.tesla_state.specs.Replies.{reply_shown};
-ghost use Rattle.tesla_trace.specs.Entries.{FitsReply, IsEntry, entry_in};
-ghost use Rattle.tesla_recorder.specs.Recorded.{with_entry};
+ghost use Rattle.tesla_trace.specs.Entries.{FitsReply};
+ghost use Rattle.tesla_trace.specs.Trace.{entry_text};
+ghost use Rattle.tesla_recorder.specs.Recorded.{HoldsTexts, with_text};
 
 use circular_buffer::HeapCircularBuffer;
 use std::alloc::Global;
 use std::marker::Model;
 use tesla_base::NoMemory;
 use tesla_receiver::{Take, Verdict};
-use tesla_trace::EntryBuffer;
+use tesla_trace::{arrived_front, given_front, verdict_bytes};
 
-/// The last entries of a history, in places that are all taken at the opening.
+/// How many bytes an entry has at most: those of an arrival of 2,048 bytes, with the longest verdict.
+const LONGEST: usize = 2_070;
+
+/// The last entries of a history as they are spelled, one behind the other, in memory that is all taken at the opening.
 #[derive(Drop)]
 pub(crate) struct LastEntries {
-    places: HeapCircularBuffer<Box<EntryBuffer>>,
-    free: Vec<Box<EntryBuffer>>,
+    bytes: HeapCircularBuffer<u8>,
+    lengths: HeapCircularBuffer<u16>,
 }
 
 impl Model for LastEntries {
-    ghost use Rattle.std.specs.Prelude.{◌≡◌, ◌+◌, ◌≤◌, length, map};
-    ghost use Rattle.std.specs.List.{All};
-    ghost use Rattle.tesla_trace.specs.Entries.{IsEntry, entry_in};
-    ghost use Rattle.tesla_recorder.specs.Recorded.{Tail};
+    ghost use Rattle.tesla_recorder.specs.Recorded.{HoldsTexts, Tail, texts_in};
 
     ghost Value = { Tail };
 
-    ghost view = { λ t. record { keep = t.places.capacity; entries = map (λ place. entry_in place.value) t.places.items } };
+    ghost view = { λ t. record { keep = t.lengths.capacity; texts = texts_in t.lengths.items t.bytes.items } };
 
-    ghost invariant = { λ t. (length t.places.items + length t.free.items ≡ t.places.capacity) × (1 ≤ t.places.capacity) × (t.places.capacity ≤ 4096) × All (λ place. IsEntry place.value) t.places.items };
+    ghost invariant = { λ t. HoldsTexts t.bytes t.lengths };
 }
 
 impl LastEntries {
@@ -39,83 +41,83 @@ impl LastEntries {
     pub(crate) fn open(alloc: Global, keep: u32) -> Result<LastEntries, NoMemory>
         requires some { 1 ≤ keep }
         requires few { keep ≤ 4096 }
-        ensures { IfOk result (λ t. t ≡ record { keep = keep; entries = [] }) }
+        ensures { IfOk result (λ t. t ≡ record { keep = keep; texts = [] }) }
     {
         let count = keep as usize;
-        let places = HeapCircularBuffer::with_capacity(alloc, count)?;
-        let mut free = Vec::with_capacity(alloc, count)?;
-        for _ in 0..count {
-            free.push(Box::new(alloc, EntryBuffer::new())?)?;
-        }
-        Ok(LastEntries { places, free })
+        let bytes = HeapCircularBuffer::with_capacity(alloc, count * LONGEST)?;
+        let lengths = HeapCircularBuffer::with_capacity(alloc, count)?;
+        Ok(LastEntries { bytes, lengths })
     }
 
     /// How many there are.
     pub(crate) fn count(&self) -> usize
-        ensures count { result ≡ length self.now.entries }
+        ensures count { result ≡ length self.now.texts }
         ensures within { result ≤ self.now.keep }
         ensures few { self.now.keep ≤ 4096 }
     {
-        self.places.len()
+        self.lengths.len()
     }
 
-    /// One of them, counted from the oldest.
-    pub(crate) fn at(&self, place: usize) -> &EntryBuffer
-        requires { place < length self.now.entries }
-        ensures value { slice_get self.now.entries place ≡ Some (entry_in result.now) }
-        ensures within { IsEntry result.now }
+    /// Their bytes, of which the second slice goes on where the first ends.
+    pub(crate) fn texts(&self) -> (&[u8], &[u8])
+        ensures { result.0.now ++ result.1.now ≡ flat_map (λ text. text) self.now.texts }
     {
-        let Some(entry) = self.places.get(place) else {
-            unreachable!()
-        };
-        entry
+        self.bytes.as_slices()
     }
 
     /// Puts an arrival behind them. The oldest is let go where there is no room.
     pub(crate) fn put_arrival(&mut self, ingest: u8, reading: u64, bytes: &[u8], verdict: Verdict)
         requires { length bytes.now ≤ 2048 }
-        ensures { self.new ≡ with_entry self.old (Arrived (record { ingest = ingest; reading = reading; bytes = bytes.now; verdict = verdict })) }
+        ensures { self.new ≡ with_text self.old (entry_text (Arrived (record { ingest = ingest; reading = reading; bytes = bytes.now; verdict = verdict }))) }
     {
-        let mut entry = free_place(&mut self.places, &mut self.free);
-        entry.set_arrival(ingest, reading, bytes, verdict);
-        self.places.push_back(entry);
+        let front = arrived_front(ingest, reading, bytes.len() as u16);
+        let told = verdict_bytes(verdict);
+        self.put(&front, bytes, &told.bytes[..told.length]);
     }
 
     /// Puts a take with its answer behind them. The oldest is let go where there is no room.
     pub(crate) fn put_take(&mut self, releaser: u8, reply: Take, payload: &[u8; 1200])
         requires { FitsReply reply payload.now }
-        ensures { self.new ≡ with_entry self.old (Taken releaser (reply_shown reply payload.now)) }
+        ensures { self.new ≡ with_text self.old (entry_text (Taken releaser (reply_shown reply payload.now))) }
     {
-        let mut entry = free_place(&mut self.places, &mut self.free);
-        entry.set_take(releaser, reply, payload);
-        self.places.push_back(entry);
+        match reply {
+            Take::Empty => self.put(&[2, releaser, 0], &[], &[]),
+            Take::Over => self.put(&[2, releaser, 1], &[], &[]),
+            Take::Given(head) => {
+                let given = &payload[..usize::from(head.length)];
+                self.put(&given_front(releaser, &head), given, &[]);
+            }
+        }
     }
 
     /// Puts the end of an ingest behind them. The oldest is let go where there is no room.
     pub(crate) fn put_end(&mut self, ingest: u8)
-        ensures { self.new ≡ with_entry self.old (Ended ingest) }
+        ensures { self.new ≡ with_text self.old (entry_text (Ended ingest)) }
     {
-        let mut entry = free_place(&mut self.places, &mut self.free);
-        entry.set_end(ingest);
-        self.places.push_back(entry);
+        self.put(&[3, ingest], &[], &[]);
+    }
+
+    /// Puts a text behind them, in three parts. The oldest is let go where there is no room.
+    fn put(&mut self, front: &[u8], body: &[u8], back: &[u8])
+        requires { length front.now + length body.now + length back.now ≤ 2070 }
+        ensures { self.new ≡ with_text self.old (front.now ++ body.now ++ back.now) }
+    {
+        let length = front.len() + body.len() + back.len();
+        make_room(&mut self.lengths, &mut self.bytes, length as u16);
+        self.bytes.extend_from_slice(front);
+        self.bytes.extend_from_slice(body);
+        self.bytes.extend_from_slice(back);
     }
 }
 
-/// A place for one entry more: a free one, or that of the oldest entry, which is let go.
-fn free_place(
-    places: &mut HeapCircularBuffer<Box<EntryBuffer>>,
-    free: &mut Vec<Box<EntryBuffer>>,
-) -> Box<EntryBuffer>
-    requires some { 1 ≤ places.old.capacity }
-    requires all { length places.old.items + length free.old.items ≡ places.old.capacity }
-    ensures left { places.new ≡ buffer (drop (length places.old.items + 1 - places.old.capacity) places.old.items) places.old.capacity }
-    ensures room { length places.new.items + 1 + length free.new.items ≡ places.old.capacity }
+/// Puts the length of one text more behind the others. Where there is no room the oldest length goes, and its bytes.
+fn make_room(lengths: &mut HeapCircularBuffer<u16>, bytes: &mut HeapCircularBuffer<u8>, size: u16)
+    requires held { HoldsTexts bytes.old lengths.old }
+    ensures lengths { lengths.new ≡ buffer (drop (length lengths.old.items + 1 - lengths.old.capacity) lengths.old.items ++ size ∷ []) lengths.old.capacity }
+    ensures bytes { bytes.new ≡ buffer (drop (sum (take (length lengths.old.items + 1 - lengths.old.capacity) lengths.old.items)) bytes.old.items) bytes.old.capacity }
 {
-    if let Some(place) = free.pop() {
-        return place;
+    if let Some(oldest) = lengths.push_back(size) {
+        let left = bytes.len() - usize::from(oldest);
+        bytes.truncate_front(left);
     }
-    let Some(place) = places.pop_front() else {
-        unreachable!()
-    };
-    place
 }

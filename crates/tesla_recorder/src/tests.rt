@@ -6,7 +6,6 @@ use tesla_commit::read_setup;
 use tesla_examples::SETUP;
 use tesla_receiver::{Receiver, Take};
 use tesla_shared::Station;
-use tesla_trace::EntryKind;
 
 fn is_sent<T: Send>() {}
 
@@ -22,9 +21,7 @@ fn two_entries_are_kept(rt: HostRuntime) -> Result<(), Fail> {
     recorded.end(0);
     assert!(rt; recorded.take(7, &mut payload) == Take::Over);
     assert!(rt; recorded.kept() == 2 && recorded.first() == 1);
-    let end = recorded.entry(0);
-    assert!(rt; end.kind == EntryKind::End && end.who == 0);
-    let take = recorded.entry(1);
-    assert!(rt; take.kind == EntryKind::Take && take.who == 7 && take.reply == Take::Over);
+    let (texts, rest) = recorded.texts();
+    assert!(rt; texts == [3, 0, 2, 7, 1].as_slice() && rest.is_empty());
     Ok(())
 }

@@ -14,14 +14,16 @@ const VERDICT_SIZE: usize = 10;
 
 /// A verdict as it is written.
 #[derive(Clone, Copy)]
-pub(crate) struct VerdictBytes {
-    pub(crate) bytes: [u8; VERDICT_SIZE],
-    pub(crate) length: usize,
+pub struct VerdictBytes {
+    /// Its bytes, at the front.
+    pub bytes: [u8; VERDICT_SIZE],
+    /// How many there are.
+    pub length: usize,
     ghost within: { length ≤ 10 },
 }
 
-/// The bytes of a verdict: its number, and what it tells beside that.
-pub(crate) fn verdict_bytes(verdict: Verdict) -> VerdictBytes
+/// The bytes of a verdict, which end the entry of an arrival: its number, and what it tells beside that. It takes no memory.
+pub fn verdict_bytes(verdict: Verdict) -> VerdictBytes
     ensures { take result.length result.bytes ≡ verdict_text verdict }
 {
     match verdict {
@@ -71,8 +73,9 @@ fn with_bound(bound: u64) -> VerdictBytes
     }
 }
 
-/// The fields of an arrival before its bytes.
-pub(crate) fn arrived_front(ingest: u8, reading: u64, length: u16) -> [u8; 12]
+/// The fields of an arrival before its bytes: the number of its ingest, the reading of the receiver's clock in microseconds,
+/// and how many bytes it has. It takes no memory.
+pub fn arrived_front(ingest: u8, reading: u64, length: u16) -> [u8; 12]
     ensures { result ≡ 1 ∷ ingest ∷ [] ++ to_be_bytes w64 reading ++ to_be_bytes w16 length }
 {
     let mut bytes = [1; 12];
@@ -82,8 +85,8 @@ pub(crate) fn arrived_front(ingest: u8, reading: u64, length: u16) -> [u8; 12]
     bytes
 }
 
-/// The fields of a take that gave a packet, before the payload.
-pub(crate) fn given_front(releaser: u8, head: &Head) -> [u8; 20]
+/// The fields of a take that gave a packet, before the payload. It takes no memory.
+pub fn given_front(releaser: u8, head: &Head) -> [u8; 20]
     ensures { result ≡ 2 ∷ releaser ∷ 2 ∷ head_text head.now }
 {
     let mut bytes = [2; 20];

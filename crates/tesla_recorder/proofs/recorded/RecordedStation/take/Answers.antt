@@ -8,7 +8,7 @@ use Rattle.tesla_recorder.proofs.recorded.RecordedStation.take.Goals as goal
 
 pub returns-clause-stands : goal.returns-clause-stands
 returns-clause-stands c h _ stood =
-    let before : RecordedStands (record { receiver = c.self.inside.receiver; keep = c.self.inside.last.keep; entries = c.self.inside.last.entries }) h = subst (λ (s : RecordedState). RecordedStands s h) (sym c.self.view_is) stood in
+    let before : RecordedStands (record { receiver = c.self.inside.receiver; keep = c.self.inside.last.keep; texts = c.self.inside.last.texts }) h = subst (λ (s : RecordedState). RecordedStands s h) (sym c.self.view_is) stood in
     stands_more _ _ c.self.inside.last _ h _ before
     (subst (λ (reply : Reply). Stands c.take-reply.new.self (h ++ Taken c.args.releaser reply ∷ [])) (sym (c.take-reply.ensures.answer h before.stood)) (c.take-reply.ensures.stands h before.stood))
     c.put_take.ensures

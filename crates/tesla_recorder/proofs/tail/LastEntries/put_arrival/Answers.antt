@@ -1,10 +1,10 @@
-use Rattle.std.proofs.Common.{Box, Global, length}
-use Rattle.tesla_trace.specs.Entries.{IsEntry}
-use Rattle.tesla_trace.specs.declared.entry.EntryBuffer.{EntryBuffer}
-use Rattle.tesla_recorder.proofs.Places.{put_keeps}
+use Rattle.std.proofs.Common.{◌∙◌, List, ℕ, [], ◌∷◌, ◌++◌, length, take, ap}
+use Rattle.std.specs.Int.{w16, w64, to_be_bytes}
+use Rattle.tesla_recorder.specs.Recorded.{with_text}
 use Rattle.tesla_recorder.proofs.tail.LastEntries.put_arrival.Goals as goal
 
-pub invariant_of-self : goal.invariant_of-self
-invariant_of-self c =
-    put_keeps (λ (place : Box EntryBuffer Global). IsEntry place.value) c.self.inside.places c.free_place-entry.new.places c.push_back.new.self (length c.free_place-entry.new.free.items) _
-    c.self.invariant.1 c.self.invariant.2 c.self.invariant.3 c.free_place-entry.ensures.left c.free_place-entry.ensures.room c.set_arrival.ensures.within c.push_back.ensures.items
+pub returns : goal.returns
+returns c =
+    c.put.ensures ∙ ap (λ (text : List ℕ). with_text c.args.self.now text)
+    (ap (λ (front : List ℕ). front ++ c.args.bytes.now ++ take c.verdict_bytes-told.result.length c.verdict_bytes-told.result.bytes) c.arrived_front-front.ensures
+    ∙ ap (λ (told : List ℕ). 1 ∷ c.args.ingest ∷ [] ++ to_be_bytes w64 c.args.reading ++ to_be_bytes w16 (length c.args.bytes.now) ++ c.args.bytes.now ++ told) c.verdict_bytes-told.ensures)

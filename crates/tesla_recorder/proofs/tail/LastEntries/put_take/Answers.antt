@@ -1,10 +1,10 @@
-use Rattle.std.proofs.Common.{Box, Global, length}
-use Rattle.tesla_trace.specs.Entries.{IsEntry}
-use Rattle.tesla_trace.specs.declared.entry.EntryBuffer.{EntryBuffer}
-use Rattle.tesla_recorder.proofs.Places.{put_keeps}
+use Rattle.std.proofs.Common.{◌≡◌, ◌∙◌, List, ℕ, take, ap, rules}
+use Rattle.tesla_trace.proofs.Sizes.{given_text}
+use Rattle.tesla_recorder.specs.Recorded.{with_text}
 use Rattle.tesla_recorder.proofs.tail.LastEntries.put_take.Goals as goal
 
-pub invariant_of-self : goal.invariant_of-self
-invariant_of-self c =
-    put_keeps (λ (place : Box EntryBuffer Global). IsEntry place.value) c.self.inside.places c.free_place-entry.new.places c.push_back.new.self (length c.free_place-entry.new.free.items) _
-    c.self.invariant.1 c.self.invariant.2 c.self.invariant.3 c.free_place-entry.ensures.left c.free_place-entry.ensures.room c.set_take.ensures.within c.push_back.ensures.items
+pub returns-in-Given : goal.returns-in-Given
+returns-in-Given c =
+    let length_is : c.from.result ≡ c.in-Given.head.length = search rules in
+    c.put-in-Given.ensures ∙ ap (λ (text : List ℕ). with_text c.args.self.now text)
+    (given_text c.args.releaser c.in-Given.head c.args.reply _ _ c.args.payload.now c.in-Given.is c.given_front.ensures (ap (λ (n : ℕ). take n c.args.payload.now) length_is))
