@@ -1,16 +1,26 @@
-"""Trials of a built program, for .ci/names, .ci/texts and .ci/live.
+"""Trials of a built program, for the checks of this folder that run one.
 
-A trial is a run in a folder of its own with copies of some files. After it the status, what was printed and what the
+A trial is mostly a run in a folder of its own with copies of some files. After it the status, what was printed and what the
 files hold are compared, and every file has to be as it was where nothing else is said.
+
+Programs run in real time here, on a machine that may stand still for a while. So a trial that goes wrong is made once more, and
+what went wrong before is printed all the same.
 """
+import glob
 import os
+import re
 import shutil
 import signal
+import socket
 import subprocess
 import sys
 import tempfile
+import traceback
 
-TOP = os.path.join(os.path.dirname(os.path.abspath(__file__)), "..", "crates", "tesla")
+HERE = os.path.dirname(os.path.abspath(__file__))
+TOP = os.path.join(HERE, "..", "crates", "tesla")
+# Seconds that a run has, and the ports that were given to one.
+SECONDS, GIVEN = 60, set()
 
 
 def read(path):
@@ -61,12 +71,108 @@ def run(words, folder, env, **user):
     ran = subprocess.Popen(words, cwd=folder, env=env, stdin=subprocess.DEVNULL, stdout=subprocess.PIPE,
                            stderr=subprocess.PIPE, start_new_session=True, **user)
     try:
-        printed, said = ran.communicate(timeout=60)
+        printed, said = ran.communicate(timeout=SECONDS)
     except subprocess.TimeoutExpired:
+        said = unended(ran.pid, SECONDS)
         os.killpg(ran.pid, signal.SIGKILL)
         ran.communicate()
-        return None, b"it hasn't ended after 60 seconds", b""
+        return None, b"", said.encode()
     return ran.returncode, printed, said
+
+
+def processes(session):
+    """The folders of /proc of the processes of a session, which has the number of its first process."""
+    for path in glob.glob("/proc/[0-9]*"):
+        try:
+            # (the name of the program stands in brackets)
+            fields = (read(f"{path}/stat") or b"").rpartition(b")")[2].split()
+        except OSError:
+            continue
+        if len(fields) > 3 and fields[3] == b"%d" % session:
+            yield path
+
+
+def unended(session, seconds):
+    """What is told of a session that hasn't ended after these seconds: what each of its threads waits for."""
+    lines = [f"it hasn't ended after {seconds} seconds"]
+    for path in processes(session):
+        try:
+            words = read(f"{path}/cmdline").replace(b"\0", b" ").decode(errors="replace")
+            waits = [read(f"{it}/wchan").decode() for it in sorted(glob.glob(f"{path}/task/*"))]
+            lines.append(f"{words[:200]}: {', '.join(waits)}")
+        except (OSError, AttributeError):
+            continue
+    return "\n".join(lines)
+
+
+def printed_by(words, seconds=120, **more):
+    """Runs words: the status, and all that was printed. What hasn't ended after these seconds is ended, and has no status."""
+    ran = subprocess.Popen(words, stdin=subprocess.DEVNULL, stdout=subprocess.PIPE, stderr=subprocess.STDOUT,
+                           start_new_session=True, **more)
+    try:
+        printed = ran.communicate(timeout=seconds)[0]
+    except subprocess.TimeoutExpired:
+        said = unended(ran.pid, seconds)
+        os.killpg(ran.pid, signal.SIGKILL)
+        return None, ran.communicate()[0].decode(errors="replace") + said
+    return ran.returncode, printed.decode(errors="replace")
+
+
+def free_ports(count, host="127.0.0.1"):
+    """Ports of UDP that nothing is bound to, each given once."""
+    family = socket.AF_INET6 if ":" in host else socket.AF_INET
+    held, found = [], []
+    while len(found) < count:
+        held.append(socket.socket(family, socket.SOCK_DGRAM))
+        held[-1].bind((host, 0))
+        port = held[-1].getsockname()[1]
+        if port not in GIVEN:
+            GIVEN.add(port)
+            found.append(port)
+    for it in held:
+        it.close()
+    return found
+
+
+def is_bound(port):
+    """Whether something is bound to the port."""
+    return any(b":%04X " % port in (read(path) or b"") for path in ("/proc/net/udp", "/proc/net/udp6"))
+
+
+def are_listening():
+    """Whether all live commands of this session are bound to the ports of their links."""
+    commands = [(read(f"{path}/cmdline") or b"").split(b"\0") for path in processes(os.getsid(0))]
+    links = [word for words in commands if os.path.basename(words[0]) == b"tesla" for word in words[2:]]
+    return all(is_bound(int(port)) for word in links for port in re.findall(rb":([0-9]+)/[0-9]+", word))
+
+
+# What stands in for `sleep` where documents let a program begin to listen: on a slow machine that may take longer.
+SLEEP = f"""#!{sys.executable}
+import sys, time
+sys.path.insert(0, {HERE!r})
+from program import are_listening
+time.sleep(float(sys.argv[1]))
+limit = time.time() + 20
+while not are_listening() and time.time() < limit:
+    time.sleep(0.05)
+"""
+
+
+def write_tool(folder, name, text):
+    """Writes a program of a few lines."""
+    with open(f"{folder}/{name}", "w", encoding="utf-8") as file:
+        file.write(text)
+    os.chmod(f"{folder}/{name}", 0o755)
+
+
+def faults_of(trial):
+    """What a trial says that is wrong. One that breaks off says where."""
+    try:
+        return trial()
+    except PermissionError:
+        raise
+    except Exception:
+        return traceback.format_exc().splitlines()
 
 
 class Trials:
@@ -76,7 +182,7 @@ class Trials:
         self.room = room
         self.program = shutil.copy(program, f"{room}/tesla")
         os.chmod(self.program, 0o755)
-        self.counts = {"ok": 0, "WRONG": 0, "skipped": 0}
+        self.counts = {"ok": 0, "WRONG": 0, "skipped": 0, "again": 0}
 
     def faults(self, folder, files, runs, held, env, user):
         """Makes the runs, one after the other, each of words with a status and what is printed, and says what is wrong."""
@@ -94,14 +200,19 @@ class Trials:
         return [f"{what} {shown(one)}, and not {shown(other)}" for what, one, other in found if one != other]
 
     def tried(self, name, files, runs, held, env, **user):
-        """Makes a trial of that name, and prints what it came to."""
-        folder = tempfile.mkdtemp(dir=self.room)
+        """Makes a trial of runs, as `made`."""
         try:
-            said = self.faults(folder, files, runs, held, env, user)
-            kind = "WRONG" if said else "ok"
+            self.made(name, lambda: self.faults(tempfile.mkdtemp(dir=self.room), files, runs, held, env, user))
         except PermissionError as error:
-            kind, said = "skipped", [f"permissions don't bind here: {error}"]
-        self.entered(name, kind, said)
+            self.entered(name, "skipped", [f"permissions don't bind here: {error}"])
+
+    def made(self, name, trial):
+        """Makes a trial of that name, which says what is wrong; once more where something is. Prints what it came to."""
+        said = faults_of(trial)
+        if said:
+            self.entered(name, "again", said)
+            said = faults_of(trial)
+        self.entered(name, "WRONG" if said else "ok", said)
 
     def entered(self, name, kind, said):
         """Counts a trial of that name, and prints what it came to."""
@@ -124,7 +235,8 @@ def main(doc, make):
         os.chmod(room, 0o711)
         trials = Trials(sys.argv[1], room)
         make(trials)
-    if trials.counts["skipped"]:
-        print(f"{trials.counts['skipped']} skipped")
+    for kind, text in (("skipped", "skipped"), ("again", "made once more")):
+        if trials.counts[kind]:
+            print(f"{trials.counts[kind]} {text}")
     print(f"{trials.counts['ok']} passed, {trials.counts['WRONG']} failed")
     sys.exit(1 if trials.counts["WRONG"] else 0)
