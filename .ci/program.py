@@ -3,8 +3,8 @@
 A trial is mostly a run in a folder of its own with copies of some files. After it the status, what was printed and what the
 files hold are compared, and every file has to be as it was where nothing else is said.
 
-Programs run in real time here, on a machine that may stand still for a while. So a trial that goes wrong is made once more, and
-what went wrong before is printed all the same.
+Programs run in real time here, on a machine that may stand still for a while, as a virtual one does whose host is busy. So a
+trial that goes wrong is made again, three times at most, and what went wrong before is printed all the same.
 """
 import glob
 import os
@@ -15,12 +15,15 @@ import socket
 import subprocess
 import sys
 import tempfile
+import threading
+import time
 import traceback
 
 HERE = os.path.dirname(os.path.abspath(__file__))
 TOP = os.path.join(HERE, "..", "crates", "tesla")
-# Seconds that a run has, and the ports that were given to one.
-SECONDS, GIVEN = 60, set()
+# Seconds that a run has, those that a machine stands still for where it is told, how often a trial is made at most, and the ports
+# that were given to one.
+SECONDS, STILL, TRIES, GIVEN = 60, 0.1, 3, set()
 
 
 def read(path):
@@ -175,6 +178,31 @@ def faults_of(trial):
         return traceback.format_exc().splitlines()
 
 
+def stand():
+    """For each hundredth of a second, for how many seconds the machine stood still instead."""
+    while True:
+        before = time.monotonic()
+        time.sleep(0.01)
+        yield max(0, time.monotonic() - before - 0.01)
+
+
+def calm():
+    """Waits until the machine hasn't stood still for three seconds; not longer than a minute."""
+    since = begun = time.monotonic()
+    for seconds in stand():
+        now = time.monotonic()
+        since = since if seconds < STILL else now
+        if since + 3 < now or begun + 60 < now:
+            return
+
+
+def watch(stood):
+    """Enters how long the machine stands still each time."""
+    for seconds in stand():
+        if seconds >= STILL:
+            stood.append(seconds)
+
+
 class Trials:
     """The trials of a program, of which a copy lies in the room, and what they came to."""
 
@@ -207,11 +235,13 @@ class Trials:
             self.entered(name, "skipped", [f"permissions don't bind here: {error}"])
 
     def made(self, name, trial):
-        """Makes a trial of that name, which says what is wrong; once more where something is. Prints what it came to."""
-        said = faults_of(trial)
-        if said:
-            self.entered(name, "again", said)
+        """Makes a trial of that name, which says what is wrong; again where something is. Prints what it came to."""
+        for left in reversed(range(TRIES)):
             said = faults_of(trial)
+            if not said or not left:
+                break
+            self.entered(name, "again", said)
+            calm()
         self.entered(name, "WRONG" if said else "ok", said)
 
     def entered(self, name, kind, said):
@@ -231,11 +261,15 @@ def main(doc, make):
         print(doc, file=sys.stderr)
         print("there is no program to try\n0 passed, 1 failed")
         sys.exit(2)
+    stood = []
+    threading.Thread(target=watch, args=[stood], daemon=True).start()
     with tempfile.TemporaryDirectory() as room:
         os.chmod(room, 0o711)
         trials = Trials(sys.argv[1], room)
         make(trials)
-    for kind, text in (("skipped", "skipped"), ("again", "made once more")):
+    if stood:
+        print(f"the machine stood still {len(stood)} times, for {max(stood):.1f} seconds at most")
+    for kind, text in (("skipped", "skipped"), ("again", "made again")):
         if trials.counts[kind]:
             print(f"{trials.counts[kind]} {text}")
     print(f"{trials.counts['ok']} passed, {trials.counts['WRONG']} failed")
