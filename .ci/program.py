@@ -21,9 +21,10 @@ import traceback
 
 HERE = os.path.dirname(os.path.abspath(__file__))
 TOP = os.path.join(HERE, "..", "crates", "tesla")
-# Seconds that a run has, those that a machine stands still for where it is told, how often a trial is made at most, and the ports
-# that were given to one.
-SECONDS, STILL, TRIES, GIVEN = 60, 0.1, 3, set()
+# Seconds that a run has, those that a machine stands still for where it is told, and how often a trial is made at most.
+SECONDS, STILL, TRIES = 60, 0.1, 3
+# The ports that were given to a run, and the seconds that were waited for a calm machine.
+GIVEN, WAITED = set(), []
 
 
 def read(path):
@@ -187,13 +188,15 @@ def stand():
 
 
 def calm():
-    """Waits until the machine hasn't stood still for three seconds; not longer than a minute."""
+    """Waits until the machine hasn't stood still for three seconds; not longer than three minutes, and ten in all."""
     since = begun = time.monotonic()
+    limit = begun + min(180, 600 - sum(WAITED))
     for seconds in stand():
         now = time.monotonic()
         since = since if seconds < STILL else now
-        if since + 3 < now or begun + 60 < now:
-            return
+        if since + 3 < now or limit < now:
+            break
+    WAITED.append(now - begun)
 
 
 def watch(stood):
