@@ -4,14 +4,18 @@
 use std::process::ExitCode;
 use tesla_cli_live::{is_live, run_live};
 use tesla_cli_recorded::{is_recorded, run_recorded};
-use tesla_live::{Gates, LiveDesk};
+use tesla_live::{Command, Gates, LiveDesk};
 use tesla_live_tools::{is_live_tool, run_live_tools};
 use tesla_program::{run_program, words};
 
 fn main(rt: HostRuntime) -> ExitCode {
     let gates = Gates::new();
-    let mut desk = LiveDesk::new(&rt, &gates);
     let words = words(&rt);
+    let command = match &words {
+        Ok(words) => command_in(words.as_slice()),
+        Err(_) => Command::Other,
+    };
+    let mut desk = LiveDesk::new(&rt, &gates, command);
     if let Ok(words) = &words {
         if is_live(words.as_slice()) {
             let done = run_live(&rt, rt.alloc(), words.as_slice(), &mut desk);
@@ -32,4 +36,12 @@ fn main(rt: HostRuntime) -> ExitCode {
         tesla_live_tools::FORMS.as_slice(),
     ];
     run_program(rt.alloc(), words, &further, &mut desk)
+}
+
+// The command that the first word names.
+fn command_in(words: &[String]) -> Command {
+    match words {
+        [name, ..] => Command::named(name.as_str()),
+        [] => Command::Other,
+    }
 }

@@ -2,12 +2,12 @@
 #![tactic(auto)]
 
 use std::process::ExitCode;
-use tesla_live::{Gates, LiveDesk};
+use tesla_live::{Command, Gates, LiveDesk};
 use tesla_program::{run_program, words};
 
 fn main(rt: HostRuntime) -> ExitCode {
     let gates = Gates::new();
-    let mut desk = LiveDesk::new(&rt, &gates);
+    let mut desk = LiveDesk::new(&rt, &gates, Command::Other);
     let words = words(&rt);
     run_program(rt.alloc(), words, &[], &mut desk)
 }

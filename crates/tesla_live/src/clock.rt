@@ -1,41 +1,96 @@
-//! A clock over the system's.
+//! The clock of a run over the system's clocks.
 
-ghost use Rattle.std.specs.Prelude.{◌≡◌, ◌/◌, ◌-◌, ◌^◌, min, None};
-ghost use Rattle.std.specs.Duration.{as_nanos};
+ghost use Rattle.std.specs.Prelude.{None};
 
+use crate::notices::{DIFFERENCE, Notices};
+use crate::rule::{Anchor, Times};
+use crate::times::times_now;
+use crate::{Command, Gates};
+use std::sync::Wait;
 use std::time;
 use std::time::Duration;
 use tesla_desk::Clock;
 
-/// The clock of the system, in microseconds since 1970. What it gives isn't told.
+/// How many seconds a run waits before it asks again for a clock that can't be read.
+const PAUSE: u64 = 1;
+
+/// Reads the system's clocks until both can be read, a second apart. It tells once on standard error that it waits.
+pub(crate) fn anchor_of<R: time::Clock + Eprint + Wait>(rt: &R, command: Command) -> Anchor {
+    let mut is_told = false;
+    for _ in rt.forever() {
+        if let Some(anchor) = Anchor::at(times_now(rt)) {
+            return anchor;
+        }
+        if !is_told {
+            let _ = eprintln!(rt;
+                "tesla: {}: the system's clock can't be read; waiting until it can",
+                command.name()
+            );
+            is_told = true;
+        }
+        rt.sleep(Duration::from_secs(PAUSE));
+    }
+    unreachable!()
+}
+
+/// The clock of a run, in microseconds since 1970: by [`Command::reading`] of the command, from the system's clock and one
+/// that can't be set. Where the two differ by more than a second it says so on standard error, and once a minute while
+/// they do. What it gives isn't told.
 #[derive(Drop)]
 pub struct MachineClock<'a, R> {
     rt: &'a R,
+    command: Command,
+    anchor: Anchor,
+    notices: &'a Notices,
 }
 
 impl<'a, R> MachineClock<'a, R> {
-    /// The clock of this system.
-    pub fn new(rt: &'a R) -> MachineClock<'a, R> {
-        MachineClock { rt }
-    }
-}
-
-impl<'a, R: time::Clock> Clock for MachineClock<'a, R> {
-    ghost told = { λ _. None };
-
-    /// 2^64 - 1 where the system's clock can't be read or stands before 1970: no packet is safe at that reading, so a clock
-    /// that fails makes nothing authentic.
-    fn now(&mut self) -> u64 {
-        match self.rt.since_1970() {
-            Ok(since) => micros(since),
-            Err(_) => u64::MAX,
+    /// The clock of a command whose run began at this anchor. Those that share the gates tell a difference once.
+    pub fn new(
+        rt: &'a R,
+        command: Command,
+        anchor: Anchor,
+        gates: &'a Gates,
+    ) -> MachineClock<'a, R> {
+        MachineClock {
+            rt,
+            command,
+            anchor,
+            notices: &gates.notices,
         }
     }
 }
 
-// The whole microseconds, or 2^64 - 1 where there are more.
-fn micros(since: Duration) -> u64
-    ensures { result ≡ min (as_nanos since / 1000) (2 ^ 64 - 1) }
-{
-    u64::try_from(since.as_micros()).unwrap_or(u64::MAX)
+impl<'a, R: Eprint> MachineClock<'a, R> {
+    // Tells by how much the system's clock differs from the steady one, where that is to be told.
+    fn tell_difference(&self, now: Times) {
+        let (Some(since_1970), Some(since_boot)) = (now.since_1970, now.since_boot) else {
+            return;
+        };
+        let steady = self.anchor.steady(since_boot);
+        let difference = since_1970.abs_diff(steady);
+        if !self.notices.is_due(difference > DIFFERENCE, since_boot) {
+            return;
+        }
+        let way = if steady < since_1970 {
+            "ahead of"
+        } else {
+            "behind"
+        };
+        let _ = eprintln!(self.rt;
+            "tesla: {}: the system's clock is {} s {way} the steady clock of this run",
+            self.command.name(),
+            difference / 1_000_000
+        );
+    }
+}
+
+impl<'a, R: time::Clock + Eprint> Clock for MachineClock<'a, R> {
+    ghost told = { λ _. None };
+
+    fn now(&mut self) -> u64 {
+        let now = times_now(self.rt);
+        self.tell_difference(now);
+        self.command.reading(&self.anchor, now)
+    }
 }

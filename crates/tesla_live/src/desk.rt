@@ -5,10 +5,11 @@ ghost use Rattle.tesla_desk.specs.Faults.{HasCause, no_faults, raised_where_fail
 ghost use Rattle.tesla_desk.specs.Live.{untold};
 ghost use Rattle.tesla_desk.specs.Outside.{Untold};
 
+use crate::clock::anchor_of;
 use crate::files::OpenedFiles;
 use crate::gate::{Gates, LiveGate};
 use crate::sink::Target;
-use crate::{FileSink, FileSource, MachineClock, UdpLink, UdpPost, link, post};
+use crate::{Anchor, Command, FileSink, FileSource, MachineClock, UdpLink, UdpPost, link, post};
 use std::io;
 use std::net::Net;
 use std::rt::Files;
@@ -17,8 +18,11 @@ use std::time::Clock;
 use tesla_base::Text;
 use tesla_desk::{CONSOLE, Desk, OpenRefusal};
 
-/// The files of the system, standard output under the name of the console, UDP sockets as links and posts, the system's
-/// clock, and gates that wake one another. It tells no bytes, no letters, no mail and no readings.
+/// The files of the system, standard output under the name of the console, UDP sockets as links and posts, clocks over the
+/// system's, and gates that wake one another. It tells no bytes, no letters, no mail and no readings.
+///
+/// A run begins where its first link, post or clock is opened. Both clocks of the system are read then, and that is where
+/// all clocks of the run go on from.
 ///
 /// A regular file that it opened before, or that is standard output, is refused as a sink, whatever the
 /// name, and is neither cut nor written.
@@ -26,23 +30,28 @@ use tesla_desk::{CONSOLE, Desk, OpenRefusal};
 pub struct LiveDesk<'a, R> {
     rt: &'a R,
     gates: &'a Gates,
+    command: Command,
+    // When the run began: none before its first live end is opened.
+    anchor: Option<Anchor>,
     opened: OpenedFiles,
     reads: u64,
     writes: u64,
     openings: u64,
 }
 
-impl<'a, R: Files + Net + Clock + Print + AllocGlobal + Wait + Sync> LiveDesk<'a, R>
+impl<'a, R: Files + Net + Clock + Eprint + Print + AllocGlobal + Wait + Sync> LiveDesk<'a, R>
 where
     R::File: Send,
 {
-    /// A desk with no faults, whose gates share these.
-    pub fn new(rt: &'a R, gates: &'a Gates) -> LiveDesk<'a, R>
+    /// A desk with no faults for a command, whose gates share these.
+    pub fn new(rt: &'a R, gates: &'a Gates, command: Command) -> LiveDesk<'a, R>
         ensures { (⟦<LiveDesk<'a, R> as Desk>⟧.told result).faults ≡ no_faults }
     {
         LiveDesk {
             rt,
             gates,
+            command,
+            anchor: None,
             opened: OpenedFiles::new(rt.alloc()),
             reads: 0,
             writes: 0,
@@ -51,7 +60,8 @@ where
     }
 }
 
-impl<'a, R: Files + Net + Clock + Print + AllocGlobal + Wait + Sync> Desk for LiveDesk<'a, R>
+impl<'a, R: Files + Net + Clock + Eprint + Print + AllocGlobal + Wait + Sync> Desk
+    for LiveDesk<'a, R>
 where
     R::File: Send,
 {
@@ -89,6 +99,7 @@ where
     }
 
     fn open_link(&mut self, name: &str) -> Result<UdpLink, OpenRefusal> {
+        let _began = begin(&mut self.anchor, self.rt, self.command);
         let link_name = Text::new(self.rt.alloc(), name.as_bytes())?;
         match link::bind(self.rt, name) {
             Ok(bound) => Ok(UdpLink::new(link_name, bound)),
@@ -97,6 +108,7 @@ where
     }
 
     fn open_post(&mut self, name: &str) -> Result<UdpPost, OpenRefusal> {
+        let _began = begin(&mut self.anchor, self.rt, self.command);
         let post_name = Text::new(self.rt.alloc(), name.as_bytes())?;
         match post::direct(self.rt, name) {
             Ok(directed) => Ok(UdpPost::new(post_name, directed)),
@@ -121,7 +133,8 @@ where
     }
 
     fn clock(&mut self) -> MachineClock<'a, R> {
-        MachineClock::new(self.rt)
+        let anchor = begin(&mut self.anchor, self.rt, self.command);
+        MachineClock::new(self.rt, self.command, anchor, self.gates)
     }
 
     fn gate(&mut self) -> LiveGate<'a, R> {
@@ -147,4 +160,14 @@ fn refusal_of(openings: &mut u64, error: io::Error) -> OpenRefusal
     }
     *openings = openings.saturating_add(1);
     OpenRefusal::Failed
+}
+
+// Both clocks at the beginning of the run. They are read where they were not before.
+fn begin<R: Clock + Eprint + Wait>(began: &mut Option<Anchor>, rt: &R, command: Command) -> Anchor {
+    if let Some(anchor) = *began {
+        return anchor;
+    }
+    let anchor = anchor_of(rt, command);
+    *began = Some(anchor);
+    anchor
 }

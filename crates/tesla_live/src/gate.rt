@@ -1,5 +1,6 @@
 //! Gates at which workers of the running system wait for one another.
 
+use crate::notices::Notices;
 use std::sync::Wait;
 use std::sync::atomic::AtomicU64;
 use std::sync::atomic::Ordering::SeqCst;
@@ -9,9 +10,11 @@ use tesla_desk::Gate;
 /// How many microseconds a gate rests at most.
 const REST: u64 = 100_000;
 
-/// What the gates of one desk share.
+/// What the gates of one desk share, and its clocks.
 #[derive(Drop)]
 pub struct Gates {
+    // What the clocks told.
+    pub(crate) notices: Notices,
     // How often something was released.
     generation: AtomicU64,
     // How many gates rest.
@@ -22,6 +25,7 @@ impl Gates {
     /// Nothing was released yet, and no gate rests.
     pub fn new() -> Gates {
         Gates {
+            notices: Notices::new(),
             generation: AtomicU64::new(0),
             resting: AtomicU64::new(0),
         }

@@ -3,8 +3,9 @@
 ghost use Rattle.std.specs.Prelude.{◌≡◌, ◌≤◌, IfOk, IfErr, IfSome, None};
 
 use crate::quiets::WAIT;
+use crate::times::monotonic;
 use libc::net as c;
-use libc::types::{pollfd, timespec};
+use libc::types::pollfd;
 use std::io;
 use std::io::ErrorKind;
 use std::net::UdpSocket;
@@ -102,15 +103,4 @@ impl TimedSocket {
         }
         self.receive_waiting(into)
     }
-}
-
-// Microseconds of the system's clock that isn't set back.
-fn monotonic() -> u64 {
-    let mut time = timespec {
-        tv_sec: 0,
-        tv_nsec: 0,
-    };
-    let _ = libc::clock_gettime(libc::CLOCK_MONOTONIC, &mut time);
-    let seconds = time.tv_sec.unsigned_abs().saturating_mul(1_000_000);
-    seconds.saturating_add(time.tv_nsec.unsigned_abs() / 1_000)
 }

@@ -80,7 +80,7 @@ fn a_file_with_blanks_in_its_name_is_cut_written_and_read_back(
     let name = " written by a test ";
     fs::write(&rt, name, "a longer text")?;
     let gates = Gates::new();
-    let mut desk = LiveDesk::new(&rt, &gates);
+    let mut desk = LiveDesk::new(&rt, &gates, Command::Other);
     let rewritten = rewrites(&rt, &mut desk, name);
     fs::remove_file(&rt, name)?;
     assert!(rt; rewritten);
@@ -101,7 +101,7 @@ fn a_file_that_was_opened_is_not_written_under_any_name(rt: HostRuntime) -> Resu
     fs::write(&rt, name, "the capture")?;
     fs::hard_link(&rt, name, link)?;
     let gates = Gates::new();
-    let mut desk = LiveDesk::new(&rt, &gates);
+    let mut desk = LiveDesk::new(&rt, &gates, Command::Other);
     let protected = protects(&mut desk, name, "./opened_by_a_test", link);
     let held = holds(&rt, name, b"the capture");
     fs::remove_file(&rt, link)?;
@@ -121,7 +121,7 @@ fn a_copy_of_an_opened_file_is_another_file_and_is_emptied(rt: HostRuntime) -> R
     fs::write(&rt, name, "the capture")?;
     fs::write(&rt, copy, "the capture")?;
     let gates = Gates::new();
-    let mut desk = LiveDesk::new(&rt, &gates);
+    let mut desk = LiveDesk::new(&rt, &gates, Command::Other);
     let emptied = empties(&rt, &mut desk, name, copy);
     fs::remove_file(&rt, copy)?;
     fs::remove_file(&rt, name)?;
@@ -138,7 +138,7 @@ fn prints<D: Desk>(desk: &mut D) -> bool {
 fn the_console_prints_what_is_written(rt: HostRuntime) -> Result<(), Fail> {
     let recording = Recording::new(&rt);
     let gates = Gates::new();
-    let mut desk = LiveDesk::new(&recording, &gates);
+    let mut desk = LiveDesk::new(&recording, &gates, Command::Other);
     let written = prints(&mut desk);
     drop(desk);
     let printed = recording.into_printed();
@@ -176,7 +176,7 @@ fn refuses_no_files<D: Desk>(desk: &mut D) -> bool {
 #[test]
 fn what_is_no_file_is_refused_by_name(rt: HostRuntime) {
     let gates = Gates::new();
-    let mut desk = LiveDesk::new(&rt, &gates);
+    let mut desk = LiveDesk::new(&rt, &gates, Command::Other);
     assert!(rt; refuses_no_files(&mut desk));
     assert!(rt; writes(&mut desk, "/dev/null", b"bytes"));
 }

@@ -3,7 +3,7 @@
 use std::time::Duration;
 use std::{io, time};
 use tesla_desk::{Clock, Desk};
-use tesla_live::{Gates, LiveDesk, MachineClock};
+use tesla_live::{Command, Gates, LiveDesk, MachineClock};
 
 /// Microseconds from 1970 to 2020.
 const TO_2020: u64 = 1_577_836_800_000_000;
@@ -35,7 +35,7 @@ fn readings<C: Clock>(clock: &mut C) -> (u64, u64) {
 #[test]
 fn the_clock_goes_on_from_the_present(rt: HostRuntime) {
     let gates = Gates::new();
-    let mut desk = LiveDesk::new(&rt, &gates);
+    let mut desk = LiveDesk::new(&rt, &gates, Command::Other);
     let (first, second) = readings(&mut desk.clock());
     assert!(rt; TO_2020 < first, "{first}");
     assert!(rt; first <= second, "{first} {second}");

@@ -3,7 +3,7 @@
 use std::test::Fail;
 use std::time::Instant;
 use tesla_desk::{Desk, Gate};
-use tesla_live::{Gates, LiveDesk};
+use tesla_live::{Command, Gates, LiveDesk};
 
 /// How often the gates rest. Without a wake-up each rest lasts 100 milliseconds.
 const ROUNDS: u64 = 40;
@@ -21,7 +21,7 @@ fn release<G: Gate>(gate: &mut G) {
 #[test]
 fn a_release_since_the_turn_ends_the_rest(rt: HostRuntime) -> Result<(), Fail> {
     let gates = Gates::new();
-    let mut desk = LiveDesk::new(&rt, &gates);
+    let mut desk = LiveDesk::new(&rt, &gates, Command::Other);
     let (mut sink, mut link) = (desk.gate(), desk.gate());
     let start = Instant::now(&rt)?;
     for _ in 0..ROUNDS {

@@ -5,7 +5,7 @@ use std::io;
 use std::net::{Net, SocketAddr, UdpSocket};
 use std::test::Fail;
 use tesla_desk::{Desk, Got, Link, OpenRefusal};
-use tesla_live::{Gates, LiveDesk};
+use tesla_live::{Command, Gates, LiveDesk};
 
 // A port of this address that no socket has now, and a socket that sends to it.
 fn free_port<R: Net>(rt: &R, host: &str) -> io::Result<(SocketAddr, UdpSocket)> {
@@ -104,7 +104,7 @@ fn hears_at<R: AllocGlobal + Net, D: Desk>(rt: &R, desk: &mut D, host: &str) -> 
 #[test]
 fn datagrams_come_until_the_link_was_quiet(rt: HostRuntime) -> Result<(), Fail> {
     let gates = Gates::new();
-    let mut desk = LiveDesk::new(&rt, &gates);
+    let mut desk = LiveDesk::new(&rt, &gates, Command::Other);
     assert!(rt; hears_at(&rt, &mut desk, "127.0.0.1")?);
     assert!(rt; hears_at(&rt, &mut desk, "::1")?);
     Ok(())
@@ -115,7 +115,7 @@ fn a_link_that_is_told_a_wait_is_quiet_sooner_and_ends_as_late(
     rt: HostRuntime,
 ) -> Result<(), Fail> {
     let gates = Gates::new();
-    let mut desk = LiveDesk::new(&rt, &gates);
+    let mut desk = LiveDesk::new(&rt, &gates, Command::Other);
     let (to, sender) = free_port(&rt, "127.0.0.1")?;
     let name = format!(in rt.alloc(); "{to}/1")?;
     let Ok((first, quiets, last)) = hear_told(&mut desk, name.as_str(), to, &sender) else {
@@ -164,7 +164,7 @@ fn first_opened<D: Desk>(desk: &mut D, names: &'static [&'static str]) -> Option
 #[test]
 fn what_is_no_address_is_refused(rt: HostRuntime) {
     let gates = Gates::new();
-    let mut desk = LiveDesk::new(&rt, &gates);
+    let mut desk = LiveDesk::new(&rt, &gates, Command::Other);
     assert_eq!(rt; first_opened(&mut desk, NO_ADDRESSES), None);
 }
 
@@ -177,7 +177,7 @@ fn name_at(alloc: Global, socket: &UdpSocket) -> Result<String, Fail> {
 #[test]
 fn an_address_is_refused_while_it_is_taken(rt: HostRuntime) -> Result<(), Fail> {
     let gates = Gates::new();
-    let mut desk = LiveDesk::new(&rt, &gates);
+    let mut desk = LiveDesk::new(&rt, &gates, Command::Other);
     let taken = UdpSocket::bind(&rt, "127.0.0.1:0")?;
     let name = name_at(rt.alloc(), &taken)?;
     assert!(rt; is_refused(&mut desk, name.as_str()));

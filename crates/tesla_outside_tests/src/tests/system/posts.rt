@@ -4,7 +4,7 @@ use std::net::{Net, UdpSocket};
 use std::test::Fail;
 use std::time::Duration;
 use tesla_desk::{Desk, OpenRefusal, Post, PostStep};
-use tesla_live::{Gates, LiveDesk};
+use tesla_live::{Command, Gates, LiveDesk};
 
 // Whether a new post answers this to a datagram of five bytes, and to an empty one.
 fn answers<D: Desk>(desk: &mut D, name: &str, want: PostStep) -> Result<bool, OpenRefusal> {
@@ -53,7 +53,7 @@ fn comes_to<R: AllocGlobal + Net, D: Desk>(rt: &R, desk: &mut D, host: &str) -> 
 #[test]
 fn what_is_sent_comes(rt: HostRuntime) -> Result<(), Fail> {
     let gates = Gates::new();
-    let mut desk = LiveDesk::new(&rt, &gates);
+    let mut desk = LiveDesk::new(&rt, &gates, Command::Other);
     assert!(rt; comes_to(&rt, &mut desk, "127.0.0.1")?);
     assert!(rt; comes_to(&rt, &mut desk, "::1")?);
     Ok(())
@@ -80,7 +80,7 @@ fn first_opened<D: Desk>(desk: &mut D, names: &'static [&'static str]) -> Option
 #[test]
 fn what_is_no_address_is_refused(rt: HostRuntime) {
     let gates = Gates::new();
-    let mut desk = LiveDesk::new(&rt, &gates);
+    let mut desk = LiveDesk::new(&rt, &gates, Command::Other);
     assert_eq!(rt; first_opened(&mut desk, NO_ADDRESSES), None);
     // No datagram can be sent to port 0.
     assert!(rt; is_opened(&mut desk, "127.0.0.1:0", PostStep::Failed));

@@ -1,0 +1,67 @@
+//! The command that a desk is for.
+
+ghost use Rattle.std.specs.Prelude.{◌≡◌, ◌≢◌, ◌≤◌};
+ghost use Rattle.tesla_live.specs.Rule as rule;
+
+use crate::rule::{Anchor, Times, receiver_reading, sender_reading};
+
+/// A command that runs over live links, posts and clocks, or another one.
+#[derive(Clone, Copy, Debug, PartialEq, Eq)]
+pub enum Command {
+    Capture,
+    Feed,
+    Play,
+    Receive,
+    Record,
+    Relay,
+    Watch,
+    /// One that runs over files alone.
+    Other,
+}
+
+impl Command {
+    /// The command of this name.
+    pub fn named(name: &str) -> Command {
+        match name {
+            "capture" => Command::Capture,
+            "feed" => Command::Feed,
+            "play" => Command::Play,
+            "receive" => Command::Receive,
+            "record" => Command::Record,
+            "relay" => Command::Relay,
+            "watch" => Command::Watch,
+            _ => Command::Other,
+        }
+    }
+
+    /// Its name, as lines on standard error begin with it.
+    pub fn name(self) -> &'static str {
+        match self {
+            Command::Capture => "capture",
+            Command::Feed => "feed",
+            Command::Play => "play",
+            Command::Receive => "receive",
+            Command::Record => "record",
+            Command::Relay => "relay",
+            Command::Watch => "watch",
+            Command::Other => "run",
+        }
+    }
+
+    /// What its clock gives at these times. Where a clock can't be read a play gives 0, at which nothing is due; a feed
+    /// gives 2^64 - 1, at which it sends nothing; and all others give 2^64 - 1, at which no packet is safe.
+    pub fn reading(self, anchor: &Anchor, now: Times) -> u64
+        ensures feeds { self ≡ Command.Feed → result ≡ rule.sender_reading anchor.now now }
+        ensures plays { self ≡ Command.Play → result ≤ rule.sender_reading anchor.now now }
+        ensures receives { self ≢ Command.Feed → self ≢ Command.Play → result ≡ rule.receiver_reading anchor.now now }
+    {
+        match self {
+            Command::Feed => sender_reading(anchor, now),
+            Command::Play => match sender_reading(anchor, now) {
+                u64::MAX => 0,
+                reading => reading,
+            },
+            _ => receiver_reading(anchor, now),
+        }
+    }
+}
