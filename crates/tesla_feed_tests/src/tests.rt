@@ -17,6 +17,7 @@ use tesla_base::Text;
 use tesla_desk::{CONSOLE, Letter, MemoryDesk};
 use tesla_examples::SETUP;
 use tesla_examples::version_two::SETUP_WITH_TAGS_OF_10_BYTES;
+use tesla_live::{Anchor, Times, sender_reading};
 use tesla_live_tools::{is_live_tool, run_live_tools};
 
 /// The seeds of the two chains of the setup.
@@ -269,6 +270,50 @@ fn clocks_that_fall_back(rt: HostRuntime) -> Result<(), Fail> {
 #[test]
 fn clocks_beyond_the_last_interval(rt: HostRuntime) -> Result<(), Fail> {
     assert_eq!(rt; wrong_of(&rt, rt.alloc(), runs::overs())?.as_str(), "");
+    Ok(())
+}
+
+#[test]
+fn openings_behind_the_end(rt: HostRuntime) -> Result<(), Fail> {
+    assert_eq!(rt; wrong_of(&rt, rt.alloc(), runs::ends())?.as_str(), "");
+    Ok(())
+}
+
+#[test]
+fn clocks_that_cannot_be_read(rt: HostRuntime) -> Result<(), Fail> {
+    assert_eq!(rt; wrong_of(&rt, rt.alloc(), runs::unread())?.as_str(), "");
+    Ok(())
+}
+
+// What a sender reads, whose system's clock is set to this behind its opening, while the one that can't be set goes on by
+// 10 milliseconds from reading to reading.
+fn set_ahead(alloc: Global, ahead: u64) -> Result<Vec<u64>, Fail> {
+    let anchor = Anchor {
+        since_1970: 1_250_000,
+        since_boot: 0,
+    };
+    let mut readings = Vec::new(alloc);
+    for number in 0..60u64 {
+        let now = Times {
+            since_1970: Some(if number == 0 { 1_250_000 } else { ahead }),
+            since_boot: Some(10_000 * number),
+        };
+        readings.push(sender_reading(&anchor, now))?;
+    }
+    Ok(readings)
+}
+
+#[test]
+fn clocks_that_are_set_ahead(rt: HostRuntime) -> Result<(), Fail> {
+    let wanted = wanted_of(rt.alloc(), &runs::STEADY)?;
+    for ahead in [u64::MAX, 9_000_000] {
+        let mut desk = new_desk(rt.alloc())?;
+        put_link(rt.alloc(), &mut desk, "a")?;
+        let readings = set_ahead(rt.alloc(), ahead)?;
+        desk.put_readings(0, readings.as_slice())?;
+        let told = told_of(&rt, rt.alloc(), "feed setup secret in one", &mut desk)?;
+        assert_eq!(rt; told.as_str(), wanted.as_str(), "{ahead}");
+    }
     Ok(())
 }
 

@@ -50,7 +50,7 @@ const PAUSES: &[Run] = &[Run {
     link: PAUSE,
     clock: PAUSE_CLOCK,
     set: "",
-    told: "0 messages 2\ndisclosures 6\ntoolong 0\nearly 0\nover 0\nbackward 0\nfull 0\n",
+    told: "0 messages 2\ndisclosures 6\ntoolong 0\nearly 0\nover 0\nbackward 0\nfull 0\nunread 0\n",
     one: PAUSED,
     two: PAUSED,
 }];
@@ -79,7 +79,7 @@ const RESTS: &[Run] = &[
         link: "a b _",
         clock: "500000 900000 1199999 1200000 1299999 1299999 1299999 1400000 1650000 1700000 2400000",
         set: "",
-        told: "0 messages 3\ndisclosures 3\ntoolong 0\nearly 0\nover 0\nbackward 0\nfull 0\n",
+        told: "0 messages 3\ndisclosures 3\ntoolong 0\nearly 0\nover 0\nbackward 0\nfull 0\nunread 0\n",
         one: UNTOLD,
         two: UNTOLD,
     },
@@ -89,7 +89,7 @@ const RESTS: &[Run] = &[
         link: "hi . yo",
         clock: "1050000 1100000 1150000 1350000 1360000 1800000 2400000",
         set: "",
-        told: "0 messages 2\ndisclosures 2\ntoolong 0\nearly 0\nover 0\nbackward 0\nfull 0\n",
+        told: "0 messages 2\ndisclosures 2\ntoolong 0\nearly 0\nover 0\nbackward 0\nfull 0\nunread 0\n",
         one: OF_VERSION_TWO,
         two: OF_VERSION_TWO,
     },
@@ -103,7 +103,7 @@ const LONGS: &[Run] = &[Run {
     link: "a *x *x *",
     clock: "1000000 1100000 1100000 1350000 1360000 1370000 1800000 2400000",
     set: "",
-    told: "0 messages 2\ndisclosures 2\ntoolong 2\nearly 0\nover 0\nbackward 0\nfull 0\n",
+    told: "0 messages 2\ndisclosures 2\ntoolong 2\nearly 0\nover 0\nbackward 0\nfull 0\nunread 0\n",
     one: LONG,
     two: LONG,
 }];
@@ -120,7 +120,7 @@ const FALLING: &[Run] = &[
         link: "a b . c . d e f",
         clock: "1150000 1200000 1350000 1250000 1250000 1150000 1150000 999999 1099999 1310000 1250000 1450000 1800000 2400000",
         set: "",
-        told: "0 messages 2\ndisclosures 2\ntoolong 0\nearly 2\nover 0\nbackward 2\nfull 0\n",
+        told: "0 messages 2\ndisclosures 2\ntoolong 0\nearly 2\nover 0\nbackward 2\nfull 0\nunread 0\n",
         one: FALLEN,
         two: FALLEN,
     },
@@ -131,7 +131,7 @@ const FALLING: &[Run] = &[
         link: ". a . b",
         clock: "1500000 1599999 1600000 1599999 1599999 1550000 1600000 1600000 2100000 2400000",
         set: "",
-        told: "0 messages 1\ndisclosures 1\ntoolong 0\nearly 0\nover 0\nbackward 1\nfull 0\n",
+        told: "0 messages 1\ndisclosures 1\ntoolong 0\nearly 0\nover 0\nbackward 1\nfull 0\nunread 0\n",
         one: FALLEN_TO_THE_OPENING,
         two: FALLEN_TO_THE_OPENING,
     },
@@ -161,7 +161,7 @@ const OVERS: &[Run] = &[
         link: "e x . y . . z",
         clock: "1700000 1800000 1850000 1900000 2000000 2050000 4000000 4100000 9000000 9900000",
         set: "",
-        told: "0 messages 1\ndisclosures 3\ntoolong 0\nearly 0\nover 3\nbackward 0\nfull 0\n",
+        told: "0 messages 1\ndisclosures 3\ntoolong 0\nearly 0\nover 3\nbackward 0\nfull 0\nunread 0\n",
         one: OVER,
         two: OVER,
     },
@@ -171,7 +171,7 @@ const OVERS: &[Run] = &[
         link: "e x",
         clock: "1799999 1899999 1899999 1900000 1950000 2200000 2299999 2300000 9900000",
         set: "",
-        told: "0 messages 1\ndisclosures 3\ntoolong 0\nearly 0\nover 1\nbackward 0\nfull 0\n",
+        told: "0 messages 1\ndisclosures 3\ntoolong 0\nearly 0\nover 1\nbackward 0\nfull 0\nunread 0\n",
         one: OVER_AT_THE_END,
         two: OVER_AT_THE_END,
     },
@@ -181,11 +181,69 @@ const OVERS: &[Run] = &[
         link: "x .",
         clock: "1900000 2000000 2000000 2300000 9900000",
         set: "",
-        told: "0 messages 0\ndisclosures 2\ntoolong 0\nearly 0\nover 1\nbackward 0\nfull 0\n",
+        told: "0 messages 0\ndisclosures 2\ntoolong 0\nearly 0\nover 1\nbackward 0\nfull 0\nunread 0\n",
         one: OPENED_OVER,
         two: OPENED_OVER,
     },
 ];
+
+const LAST_KEYS: &[&str] = &[KEYS_0_8_AND_1_8];
+
+// The last interval ends at 1900000, and the greatest delay is 5.
+const ENDS: &[Run] = &[
+    Run {
+        name: "an opening the greatest delay and 64 intervals behind the end",
+        words: TWO,
+        link: "x .",
+        clock: "8800000 8900000 8900000 9000000",
+        set: "",
+        told: "0 messages 0\ndisclosures 1\ntoolong 0\nearly 0\nover 1\nbackward 0\nfull 0\nunread 0\n",
+        one: LAST_KEYS,
+        two: LAST_KEYS,
+    },
+    Run {
+        name: "an opening a microsecond later",
+        words: TWO,
+        link: "x .",
+        clock: "8800001 8900000 8900000 9000000",
+        set: "",
+        told: "2 refused setup 0 Over\n",
+        one: &[],
+        two: &[],
+    },
+];
+
+const READ_AGAIN: &[&str] = &[BARE_2_0_A, KEYS_0_8_AND_1_8];
+
+const UNREAD: &[Run] = &[Run {
+    name: "a clock that can't be read at the opening, before the first interval, at a message and at a quiet",
+    words: TWO,
+    link: "b a .",
+    clock: "18446744073709551615 1150000 18446744073709551615 1200000 18446744073709551615 1210000 18446744073709551615 2400000",
+    set: "",
+    told: "0 messages 1\ndisclosures 1\ntoolong 0\nearly 0\nover 0\nbackward 0\nfull 0\nunread 1\n",
+    one: READ_AGAIN,
+    two: READ_AGAIN,
+}];
+
+/// What comes of a message in interval 3 by the steady clock: all keys are told in their intervals by it.
+pub const STEADY: Run = Run {
+    name: "a step ahead",
+    words: TWO,
+    link: "a",
+    clock: "",
+    set: "",
+    told: "0 messages 1\ndisclosures 5\ntoolong 0\nearly 0\nover 0\nbackward 0\nfull 0\nunread 0\n",
+    one: &[
+        DATA_3_0_A,
+        KEYS_0_2,
+        KEYS_0_3,
+        KEYS_0_4_AND_1_1,
+        KEYS_0_5_AND_1_2,
+        KEYS_0_6_AND_1_3,
+    ],
+    two: &[],
+};
 
 const POSTS: &[Run] = &[
     Run {
@@ -250,7 +308,7 @@ const SILENT: &[Run] = &[
         link: ". . . .",
         clock: "1000000 1100000 1200000 1300000 1310000 1600000 2400000",
         set: "",
-        told: "0 messages 0\ndisclosures 2\ntoolong 0\nearly 0\nover 0\nbackward 0\nfull 0\n",
+        told: "0 messages 0\ndisclosures 2\ntoolong 0\nearly 0\nover 0\nbackward 0\nfull 0\nunread 0\n",
         one: UNSAID,
         two: UNSAID,
     },
@@ -260,7 +318,7 @@ const SILENT: &[Run] = &[
         link: "",
         clock: "1000000 1100000 2400000",
         set: "",
-        told: "0 messages 0\ndisclosures 0\ntoolong 0\nearly 0\nover 0\nbackward 0\nfull 0\n",
+        told: "0 messages 0\ndisclosures 0\ntoolong 0\nearly 0\nover 0\nbackward 0\nfull 0\nunread 0\n",
         one: &[],
         two: &[],
     },
@@ -369,6 +427,14 @@ pub fn falling() -> &'static [Run] {
 
 pub fn overs() -> &'static [Run] {
     OVERS
+}
+
+pub fn ends() -> &'static [Run] {
+    ENDS
+}
+
+pub fn unread() -> &'static [Run] {
+    UNREAD
 }
 
 pub fn posts() -> &'static [Run] {

@@ -59,6 +59,16 @@ impl<R: AllocGlobal> Print for Recording<'_, R> {
     }
 }
 
+impl<R: Eprint> Eprint for Recording<'_, R> {
+    fn eprint<D: Display + Drop>(&self, value: D) -> io::Result<()> {
+        self.host.eprint(value)
+    }
+
+    fn eprintln<D: Display + Drop>(&self, value: D) -> io::Result<()> {
+        self.host.eprintln(value)
+    }
+}
+
 impl<R: Wait> Wait for Recording<'_, R> {}
 
 impl<R: Clock> Clock for Recording<'_, R> {
