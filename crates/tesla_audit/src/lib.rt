@@ -15,6 +15,3 @@ pub use formats::{TailFormat, TraceFormat};
 pub use step::TraceStep;
 pub use tail_reader::TailReader;
 pub use trace_reader::TraceReader;
-
-#[cfg(test)]
-mod tests;

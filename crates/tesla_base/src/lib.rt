@@ -23,6 +23,3 @@ pub use release::Head;
 pub use steps::Steps;
 pub use text::Text;
 pub use version::Version;
-
-#[cfg(test)]
-mod tests;

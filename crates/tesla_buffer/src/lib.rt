@@ -7,6 +7,3 @@ mod parts;
 
 pub use buffer::Buffer;
 pub use item::{Fate, Item};
-
-#[cfg(test)]
-mod tests;

@@ -25,6 +25,3 @@ pub use writing::{
     head_bytes, write_arrival, write_disclose, write_head, write_message, write_record,
     write_script_head, write_take,
 };
-
-#[cfg(test)]
-mod tests;

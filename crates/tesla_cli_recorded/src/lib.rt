@@ -7,6 +7,3 @@ mod run;
 
 pub use commands::{FORMS, is_recorded};
 pub use run::{RecordedDone, run_recorded};
-
-#[cfg(test)]
-mod tests;

@@ -5,6 +5,3 @@ mod safe;
 mod schedule;
 
 pub use schedule::Schedule;
-
-#[cfg(test)]
-mod tests;

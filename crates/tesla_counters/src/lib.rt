@@ -11,6 +11,3 @@ mod writer;
 pub use counters::{COUNTS, Counters, open};
 pub use reader::Reader;
 pub use writer::Writer;
-
-#[cfg(test)]
-mod tests;

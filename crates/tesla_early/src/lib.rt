@@ -7,6 +7,3 @@ mod promises;
 
 pub use early::{Early, EarlyVerdict};
 pub use tesla_promise::{MOST_BODY, Promise, promise_of, weave};
-
-#[cfg(test)]
-mod tests;

@@ -9,6 +9,3 @@ mod links;
 pub use index::Index;
 pub use key_table::KeyTable;
 pub use links::Links;
-
-#[cfg(test)]
-mod tests;

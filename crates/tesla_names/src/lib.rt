@@ -4,6 +4,3 @@
 mod names;
 
 pub use names::{Names, read_names};
-
-#[cfg(test)]
-mod tests;

@@ -87,6 +87,3 @@ pub fn run_program<D: Desk>(
 ) -> ExitCode {
     ExitCode::from(run_words(alloc, words, further, desk))
 }
-
-#[cfg(test)]
-mod tests;

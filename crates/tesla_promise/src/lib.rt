@@ -7,6 +7,3 @@ mod weaving;
 
 pub use promise::{Promise, hash_of, promise_of};
 pub use weaving::{MOST_BODY, weave};
-
-#[cfg(test)]
-mod tests;

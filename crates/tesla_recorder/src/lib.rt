@@ -5,6 +5,3 @@ mod recorded;
 mod tail;
 
 pub use recorded::{Recorded, RecordedConfig};
-
-#[cfg(test)]
-mod tests;

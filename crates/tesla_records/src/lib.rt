@@ -13,6 +13,3 @@ pub use format::{Format, HeadJudged, Judged};
 pub use reader::RecordsReader;
 pub use refusal::Refusal;
 pub use step::RecordsStep;
-
-#[cfg(test)]
-mod tests;

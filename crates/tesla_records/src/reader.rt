@@ -48,19 +48,6 @@ impl<F: Format> RecordsReader<F> {
         }
     }
 
-    /// A reader that has nothing pending at a place behind the head.
-    #[cfg(test)]
-    pub(crate) fn at(place: u64) -> RecordsReader<F>
-        requires { place ≤ limit }
-        ensures going { result.going ≡ true }
-    {
-        RecordsReader {
-            pieces: PieceReader::at(place),
-            going: true,
-            head: None,
-        }
-    }
-
     /// A reader in another format of the same file, of which nothing was taken yet: what was read ahead is pending there.
     /// After `BadHead` that is all of the file.
     pub fn as_format<G: Format>(self) -> RecordsReader<G>

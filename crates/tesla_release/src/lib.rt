@@ -4,6 +4,3 @@
 mod queue;
 
 pub use queue::{Queue, Waiting};
-
-#[cfg(test)]
-mod tests;

@@ -16,6 +16,3 @@ mod writing;
 pub use forms::WEAVE;
 pub use run::run_weave;
 pub use weave_kind::WeaveKind;
-
-#[cfg(test)]
-mod tests;

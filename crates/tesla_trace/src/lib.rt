@@ -16,8 +16,3 @@ pub use pieces::{VerdictBytes, arrived_front, given_front, verdict_bytes};
 pub use writing::{
     put_arrived, put_ended, put_taken, put_trace_head, write_entry, write_tail_head,
 };
-
-#[cfg(test)]
-mod reading_tests;
-#[cfg(test)]
-mod tests;

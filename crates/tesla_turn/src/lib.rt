@@ -25,6 +25,3 @@ pub use perform::SeatSpent;
 pub use split::NoRoom;
 pub use turn::Turn;
 pub use view::Call;
-
-#[cfg(test)]
-mod tests;

@@ -8,8 +8,6 @@ mod ordering;
 mod proving;
 mod reaching;
 mod release;
-#[cfg(test)]
-mod tests;
 mod tips;
 mod walk;
 

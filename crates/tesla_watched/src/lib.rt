@@ -4,6 +4,3 @@
 mod watched;
 
 pub use watched::{Watched, WatchedConfig};
-
-#[cfg(test)]
-mod tests;
