@@ -206,6 +206,19 @@ def watch(stood):
             stood.append(seconds)
 
 
+def just_ended(program, secret, command="chain", delays="2 5"):
+    """A setup of a stream that has ended a moment ago, with the seeds in `secret`: a feed of it sends its last keys, once. Its last
+    interval is the eighth, and all keys are due eight later."""
+    start = time.time_ns() // 1000 - 20 * 200_000
+    tag = " 10" if command == "chain2" else ""
+    with tempfile.TemporaryDirectory() as folder:
+        with open(f"{folder}/secret", "wb") as file:
+            file.write(secret)
+        words = f"{command} setup secret 00000000000000a7 {start} 200000 8{tag} {delays}"
+        subprocess.run([program, *words.split()], cwd=folder, check=True, stdout=subprocess.DEVNULL)
+        return read(f"{folder}/setup")
+
+
 class Trials:
     """The trials of a program, of which a copy lies in the room, and what they came to."""
 
