@@ -1,5 +1,5 @@
 -- The laws over worlds and histories: what a right clock and an honest stream buy.
-use Rattle.std.specs.Prelude.{◌≡◌, ◌≢◌, ◌⊎◌, ℕ, ◌-◌, ◌+◌, ◌<◌, ◌≤◌, ℤ, pos, ◌≤ℤ◌, ◌+ℤ◌, ◌-ℤ◌, true, ◌&&◌, List, [], ◌∷◌, length, take, replicate, get_or, Some, Ok, nat_lt, slice_get}
+use Rattle.std.specs.Prelude.{◌≡◌, ◌≢◌, ◌⊎◌, ℕ, ◌-◌, ◌+◌, ◌<◌, ◌≤◌, ℤ, pos, ◌≤ℤ◌, ◌+ℤ◌, ◌-ℤ◌, true, ◌&&◌, List, [], ◌∷◌, take, replicate, get_or, Some, Ok, nat_lt, slice_get}
 use Rattle.std.specs.List.{Contains, list_any}
 use Rattle.tesla_base.specs.declared.names.Key.{Key}
 use Rattle.tesla_clock.specs.Safe.{has_chain}
@@ -71,12 +71,16 @@ IsUntold cfg front chain interval =
     (i sent : ℕ) (text : List ℕ) (frame : Frame) (row : KeyRow) → slice_get front i ≡ Some (Sent sent text) → frame_of text ≡ Some frame →
     Contains (keys_of cfg frame) row → row.chain.0 ≡ chain → row.index < interval
 
--- where the clock bound holds of a world, what was sent before a kept packet came told no key of a chain of its set that reaches its interval
-abbrev pub KeptAreUntold : Config → List Moment → List Entry → Type 0
-KeptAreUntold cfg world history =
-    IsBounded cfg.lag world → (j came : ℕ) (bytes : List ℕ) (arrival : Arrival) (packet : Packet) (chain : ℕ) → slice_get world j ≡ Some (Came came bytes) →
+-- what was sent before a kept packet came told no key of a chain of its set that reaches its interval
+abbrev pub AreUntold : Config → List Moment → List Entry → Type 0
+AreUntold cfg world history =
+    (j came : ℕ) (bytes : List ℕ) (arrival : Arrival) (packet : Packet) (chain : ℕ) → slice_get world j ≡ Some (Came came bytes) →
     slice_get (arrivals_in history) (arrival_at world j) ≡ Some arrival → packet_of arrival ≡ Some packet → has_chain packet.chains chain ≡ true →
     IsUntold cfg (take j world) chain packet.frame.name.interval
+
+-- and so it is where the clock bound holds of the world
+abbrev pub KeptAreUntold : Config → List Moment → List Entry → Type 0
+KeptAreUntold cfg world history = IsBounded cfg.lag world → AreUntold cfg world history
 
 -- both: a data frame writes no index, so what its key stands for is said beside
 pub record IsSecure (cfg : Config) (seeds : List Key) (world : List Moment) (history : List Entry) : Type 0 where
@@ -152,6 +156,32 @@ abbrev pub TimeLaw : Type 0
 TimeLaw =
     (asked at_ask answered drift : ℕ) (lag : ℤ) (world : List Moment) → at_ask ≤ answered → HaveDrifted asked at_ask drift world →
     lag_judged answered asked drift ≡ Ok lag → IsBounded lag world
+
+-- ---- clocks that err on the safe side
+
+-- the same was sent or came at both moments; the first reading is at most the other where it is the sender's, and at least the other where it is the receiver's
+abbrev pub ErrsSafelyAt : Moment → Moment → Type 0
+ErrsSafelyAt (Sent reading bytes) (Sent right same) = (reading ≤ right) × (bytes ≡ same)
+ErrsSafelyAt (Sent reading bytes) (Came right same) = ⊥
+ErrsSafelyAt (Came reading bytes) (Sent right same) = ⊥
+ErrsSafelyAt (Came reading bytes) (Came right same) = (right ≤ reading) × (bytes ≡ same)
+
+-- two worlds in which the same was sent and came, and which differ in readings alone: at each moment the sender's reading is at most, and the receiver's at least, that of the other
+abbrev pub ErrsSafely : List Moment → List Moment → Type 0
+ErrsSafely [] [] = Unit {0}
+ErrsSafely [] (right ∷ others) = ⊥
+ErrsSafely (moment ∷ world) [] = ⊥
+ErrsSafely (moment ∷ world) (right ∷ others) = ErrsSafelyAt moment right × ErrsSafely world others
+
+-- where the clock bound holds of right clocks, it holds of clocks that err so
+abbrev pub SafeClocksAreBounded : Type 0
+SafeClocksAreBounded = (lag : ℤ) (world right : List Moment) → ErrsSafely world right → IsBounded lag right → IsBounded lag world
+
+-- and so what was sent before a kept packet came told no key that reaches its interval, with the premise on the right clocks alone
+abbrev pub SafeClocksAreSecure : Type 0
+SafeClocksAreSecure =
+    (cfg : Config) (seeds : List Key) (world right : List Moment) (log : List Call) (history : List Entry) → Joined cfg seeds world log history →
+    ErrsSafely world right → IsBounded cfg.lag right → AreUntold cfg world history
 
 -- ---- what the second half of the security condition is for
 

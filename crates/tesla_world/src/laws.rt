@@ -1,6 +1,6 @@
 //! The laws over worlds and histories, as contracts of functions that do nothing.
 
-ghost use Rattle.tesla_world.specs.Laws.{CommitmentLaw, DeliveryLaw, EarlyIsInsecure, HonestCompleteness, SecurityCondition, TimeLaw};
+ghost use Rattle.tesla_world.specs.Laws.{CommitmentLaw, DeliveryLaw, EarlyIsInsecure, HonestCompleteness, SafeClocksAreBounded, SafeClocksAreSecure, SecurityCondition, TimeLaw};
 
 /// In a legal history in which no two values on the walks of the keys of a chain collide under the one-way function, a
 /// key is good exactly where it is newer than those taken before and leads to the commitment (RFC 4082, section 3.5).
@@ -49,6 +49,18 @@ pub fn time()
     ensures { TimeLaw }
 {
     tesla_sync::laws::lags();
+}
+
+/// Clocks that err on the safe side: where the clock bound holds of what right clocks read at each moment, it holds where
+/// the sender's clock reads no more than a right one and the receiver's no less, since the lag bounds from above alone
+/// (RFC 4082, section 3.3: `D_t`). So the premise of the security condition holds too (section 3.5).
+pub fn clocks()
+    // The lag of right clocks bounds these.
+    ensures bounded { SafeClocksAreBounded }
+    // No frame that was sent before a kept packet came told a key of a chain of its set that reaches its interval.
+    ensures untold { SafeClocksAreSecure }
+{
+    safe();
 }
 
 /// What the second half of the security condition is for: a data frame writes no index, so a sender that tells each key
