@@ -3,8 +3,10 @@
 A trial is mostly a run in a folder of its own with copies of some files. After it the status, what was printed and what the
 files hold are compared, and every file has to be as it was where nothing else is said.
 
-Programs run in real time here, on a machine that may stand still for a while, as a virtual one does whose host is busy. So a
-trial that goes wrong is made again, three times at most, and what went wrong before is printed all the same.
+Some trials run in real time, on a machine that may stand still for a while, as a virtual one does whose host is busy. What such a
+trial says that follows from that alone, as a frame that came late or not at all, is a judgement by time (`Late`). A trial that says
+nothing worse is made again, three times at most, and what it said is printed all the same. A wrong byte, count, status or line
+fails at once, whatever the machine does.
 """
 import glob
 import os
@@ -22,7 +24,7 @@ import traceback
 HERE = os.path.dirname(os.path.abspath(__file__))
 TOP = os.path.join(HERE, "..", "crates", "tesla")
 # Seconds that a run has, those that a machine stands still for where it is told, and how often a trial is made at most.
-SECONDS, STILL, TRIES = 60, 0.1, 3
+SECONDS, STILL, TRIES = 180, 0.1, 3
 # The ports that were given to a run, and the seconds that were waited for a calm machine.
 GIVEN, WAITED = set(), []
 
@@ -169,6 +171,10 @@ def write_tool(folder, name, text):
     os.chmod(f"{folder}/{name}", 0o755)
 
 
+class Late(str):
+    """What a trial says that is wrong by time alone."""
+
+
 def faults_of(trial):
     """What a trial says that is wrong. One that breaks off says where."""
     try:
@@ -251,10 +257,10 @@ class Trials:
             self.entered(name, "skipped", [f"permissions don't bind here: {error}"])
 
     def made(self, name, trial):
-        """Makes a trial of that name, which says what is wrong; again where something is. Prints what it came to."""
+        """Makes a trial of that name, which says what is wrong; again where that is by time alone. Prints what it came to."""
         for left in reversed(range(TRIES)):
             said = faults_of(trial)
-            if not said or not left:
+            if not said or not left or not all(isinstance(it, Late) for it in said):
                 break
             self.entered(name, "again", said)
             calm()
