@@ -1,5 +1,5 @@
 -- What is made and sent, as events come one after another.
-use Rattle.std.proofs.Common.{◌≡◌, ◌∙◌, ℕ, ◌+◌, ◌<◌, ◌≤◌, Bool, true, false, List, [], ◌∷◌, ◌++◌, length, map, take, Option, Some, None, refl, sym, ap, subst, append_assoc, append-nil, length-append, arith}
+use Rattle.std.proofs.Common.{◌≡◌, ◌∙◌, ℕ, ◌+◌, Bool, true, false, List, [], ◌∷◌, ◌++◌, length, map, take, Option, Some, None, refl, sym, ap, subst, append_assoc, append-nil, length-append, arith}
 use Rattle.std.specs.List.{AllByRecursion}
 use Rattle.std.proofs.lemmas.List.{take-append-le, take_all}
 use Rattle.std.proofs.lemmas.List.Sums.{fold-append}
@@ -9,10 +9,10 @@ use Rattle.tesla_desk.specs.Faults.{HasCause}
 use Rattle.tesla_desk.specs.Links.{after_letters}
 use Rattle.tesla_desk.specs.declared.link.Letter.{Letter}
 use Rattle.tesla_posts.specs.Posts.{PostSeen, with_datagrams}
-use Rattle.tesla_sender.specs.Made.{Call, Stream, interval_at}
-use Rattle.tesla_feed.specs.Fed.{Event, Feeding, Rested, after_event, datagram_of, datagrams_from, datagrams_of, is_all_told, nothing_fed, reading_of}
-use Rattle.tesla_feed.specs.Feed.{AreNeeded, Heard, SendPosts, SendsPost, came_of, letter_of, rested_at}
-use Rattle.tesla_feed.specs.Steps.{Awaits, Goes, HandPosts, HandsPost, Hears, Makes, Rests, StandsFor, WaitsOn, fed_after, is_told_after}
+use Rattle.tesla_sender.specs.Made.{Call, Stream}
+use Rattle.tesla_feed.specs.Fed.{Event, Feeding, Rested, after_event, datagram_of, datagrams_from, datagrams_of, has_begun, is_all_told, is_unread, nothing_fed, reading_of}
+use Rattle.tesla_feed.specs.Feed.{AreNeeded, Heard, OpensAt, SendPosts, SendsPost, came_of, letter_of, rested_at}
+use Rattle.tesla_feed.specs.Steps.{Awaits, Goes, HandPosts, HandsPost, Hears, Makes, Misses, Rests, StandsFor, WaitsOn, fed_after, is_told_after}
 use Rattle.tesla_feed.specs.declared.feeder.Feeder.{Feeder}
 use Rattle.tesla_feed.proofs.Kept.{told_is}
 
@@ -93,6 +93,13 @@ goes_some stream first size made after first_posts posts posts_now feeder now fa
       sends = (let P : List (List ℕ) → Type 0 = λ ds. SendPosts ds first_posts posts_now failed_now in subst P (sym all) (posts_more (datagrams_of stream made.log) (take size now.frame) first_posts posts posts_now failed failed_now goes.sends hands));
     }
 
+-- or it made none
+pub goes_none : (stream : Stream) (first : ℕ) (made after : Feeding) (first_posts posts : List PostSeen) (feeder now : Feeder) (failed : List Bool) → Goes stream first made first_posts feeder posts failed → Makes stream first made after now None → Goes stream first after first_posts now posts failed
+goes_none stream first made after first_posts posts feeder now failed goes makes = record {
+  stands = makes.stands;
+  sends = subst (λ (log : List Call). SendPosts (datagrams_of stream log) first_posts posts failed) (sym makes.adds) goes.sends;
+}
+
 -- ---- readings
 
 -- no reading was taken yet
@@ -104,24 +111,46 @@ all_more P [] x all one = (one, tt)
 all_more P (y ∷ xs) x all one = (all.0, all_more P xs x all.1 one)
 
 -- one more, at which the first interval hadn't begun
-pub waits_more : (feeder mid now : Feeder) (reading : ℕ) (before then after : Option Ticking) → WaitsOn feeder mid before then → Ticks then after reading → now ≡ record mid { reading = reading } → interval_at mid.sender.stream.setup.times reading < mid.first → WaitsOn feeder now before after
-waits_more feeder mid now reading before then after on ticks noted less = record {
+pub waits_more : (feeder mid now : Feeder) (reading last : ℕ) (before then after : Option Ticking) → WaitsOn feeder mid before then → Ticks then after reading → now ≡ record mid { reading = last } → has_begun mid.sender.stream.setup.times mid.first reading ≡ false → WaitsOn feeder now before after
+waits_more feeder mid now reading last before then after on ticks noted early = record {
   early = on.early ++ reading ∷ [];
   gives = gives_more on.early before then after reading on.gives ticks;
-  waits = all_more (λ r. interval_at feeder.sender.stream.setup.times r < feeder.first) on.early reading on.waits (subst (λ (f : Feeder). interval_at f.sender.stream.setup.times reading < f.first) on.same less);
-  last = reading;
-  same = noted ∙ ap (λ (f : Feeder). let it : Feeder = record f { reading = reading } in it) on.same;
+  waits = all_more (λ r. has_begun feeder.sender.stream.setup.times feeder.first r ≡ false) on.early reading on.waits (subst (λ (f : Feeder). has_begun f.sender.stream.setup.times f.first reading ≡ false) on.same early);
+  last = last;
+  same = noted ∙ ap (λ (f : Feeder). let it : Feeder = record f { reading = last } in it) on.same;
 }
 
 -- and one at which it had
-pub awaits : (feeder mid now : Feeder) (reading : ℕ) (before then after : Option Ticking) → WaitsOn feeder mid before then → Ticks then after reading → now ≡ record mid { reading = reading } → mid.first ≤ interval_at mid.sender.stream.setup.times reading → Awaits feeder now before after
-awaits feeder mid now reading before then after on ticks noted begun = record {
+pub awaits : (feeder mid now : Feeder) (reading last : ℕ) (before then after : Option Ticking) → WaitsOn feeder mid before then → Ticks then after reading → now ≡ record mid { reading = last } → has_begun mid.sender.stream.setup.times mid.first reading ≡ true → Awaits feeder now before after
+awaits feeder mid now reading last before then after on ticks noted begun = record {
   early = on.early;
   begun = reading;
   gives = gives_more on.early before then after reading on.gives ticks;
   waits = on.waits;
-  begins = subst (λ (f : Feeder). f.first ≤ interval_at f.sender.stream.setup.times reading) on.same begun;
-  same = noted ∙ ap (λ (f : Feeder). let it : Feeder = record f { reading = reading } in it) on.same;
+  begins = subst (λ (f : Feeder). has_begun f.sender.stream.setup.times f.first reading ≡ true) on.same begun;
+  last = last;
+  same = noted ∙ ap (λ (f : Feeder). let it : Feeder = record f { reading = last } in it) on.same;
+}
+
+-- the clock wasn't asked yet
+pub misses_none : (told : Option Ticking) → Misses told told
+misses_none told = record { unread = []; gives = refl; missed = tt }
+
+-- it couldn't be read once more
+pub misses_more : (reading : ℕ) (before then after : Option Ticking) → Misses before then → Ticks then after reading → is_unread reading ≡ true → Misses before after
+misses_more reading before then after misses ticks unread = record {
+  unread = misses.unread ++ reading ∷ [];
+  gives = gives_more misses.unread before then after reading misses.gives ticks;
+  missed = all_more (λ r. is_unread r ≡ true) misses.unread reading misses.missed unread;
+}
+
+-- and then it could
+pub opens_at : (reading : ℕ) (before then after : Option Ticking) → Misses before then → Ticks then after reading → is_unread reading ≡ false → OpensAt reading before after
+opens_at reading before then after misses ticks read = record {
+  unread = misses.unread;
+  gives = gives_more misses.unread before then after reading misses.gives ticks;
+  missed = misses.missed;
+  read = read;
 }
 
 -- ---- events

@@ -1,6 +1,6 @@
 -- What a feeder keeps of what was made, after each call.
 use Rattle.std.proofs.Common.{◌≡◌, ◌∙◌, ℕ, ◌+◌, ◌≤◌, Bool, true, false, cond, List, [], ◌∷◌, ◌++◌, length, map, take, refl, sym, ap, subst, inl, inr, arith}
-use Rattle.std.specs.Prelude.{Result, Ok, Err, Option, Some, None, max, nat_le, nat_lt, eqb, ◌&&◌, ◌||◌, if◌then◌else◌, option_to_list}
+use Rattle.std.specs.Prelude.{Result, Ok, Err, Option, Some, None, max, nat_le, nat_lt, eqb, not, ◌&&◌, ◌||◌, if◌then◌else◌, option_to_list}
 use Rattle.std.specs.List.{list_all, list_any}
 use Rattle.std.proofs.lemmas.Bool.{cases_lt, le-ltb, leb-true, ltb-true, lt-ltb, ne_eqb, eq-eqb}
 use Rattle.std.proofs.lemmas.List.Sums.{fold-append, sum_by-append}
@@ -16,11 +16,11 @@ use Rattle.tesla_sender.specs.declared.refusal.SendRefusal.TheVariants as unsent
 use Rattle.tesla_sender.proofs.Logs.{named, spells_answered}
 use Rattle.tesla_world.specs.World.{frame_in}
 use Rattle.tesla_desk.specs.declared.link.Letter.TheVariants as letters
-use Rattle.tesla_feed.specs.Fed.{Came, Feeding, after_event, after_judged, after_none, datagram_of, is_all_told, is_due, last_message, latest_from, message_interval, name_from, tells_more, told_by, with_call, with_refusal}
-use Rattle.tesla_feed.specs.Steps.{Makes, StandsFor, after_refusal, is_due_after, is_told_after, one_more}
+use Rattle.tesla_feed.specs.Fed.{Came, Feeding, after_event, after_judged, after_none, datagram_of, has_begun, is_all_told, is_due, is_unread, last_message, latest_from, message_interval, name_from, tells_more, told_by, with_call, with_refusal, with_unread}
+use Rattle.tesla_feed.specs.Steps.{Makes, StandsFor, after_item, after_refusal, after_unread, is_due_after, is_told_after, one_more}
 use Rattle.tesla_feed.specs.declared.counts.FeedCounts.{FeedCounts}
 use Rattle.tesla_feed.specs.declared.feeder.Feeder.{Feeder}
-use Rattle.tesla_feed.proofs.Counting.{disclosure_counts, message_counts, refused_counts}
+use Rattle.tesla_feed.proofs.Counting.{disclosure_counts, message_counts, refused_counts, unread_counts}
 
 -- ---- logs with one call more
 
@@ -189,13 +189,23 @@ all_same : {A : Type 0} (p q : A → Bool) (xs : List A) → ((x : A) → p x �
 all_same p q [] same = refl
 all_same p q (x ∷ xs) same = ap (λ b. b && list_all p xs) (same x) ∙ ap (λ b. q x && b) (all_same p q xs same)
 
+-- whether one is due, told whether the clock couldn't be read
+abbrev due_where : Stream → ℕ → List Call → ℕ → Bool → Bool
+due_where stream first log reading unread =
+    let interval = interval_at stream.setup.times reading in
+    (not unread && nat_le first interval) && (nat_le (latest_of stream.setup.times log) interval && tells_more stream log interval)
+
+-- while it can't be read none is
+pub never_due : (stream : Stream) (first : ℕ) (log : List Call) (reading : ℕ) → is_unread reading ≡ true → is_due stream first log reading ≡ false
+never_due stream first log reading unread = ap (due_where stream first log reading) unread
+
 -- whether one is due is judged by what a feeder keeps
-pub due_is : (stream : Stream) (first : ℕ) (feeder : Feeder) (made : Feeding) (reading : ℕ) → StandsFor stream first feeder made → is_due stream first made.log reading ≡ is_due_after stream first feeder.latest (interval_at stream.setup.times reading)
-due_is stream first feeder made reading stands =
+pub due_is : (stream : Stream) (first : ℕ) (feeder : Feeder) (made : Feeding) (reading : ℕ) → is_unread reading ≡ false → StandsFor stream first feeder made → is_due stream first made.log reading ≡ is_due_after stream first feeder.latest (interval_at stream.setup.times reading)
+due_is stream first feeder made reading read stands =
     let times = stream.setup.times in
     let interval = interval_at times reading in
     let newer : tells_more stream made.log interval ≡ tells_newer feeder.latest interval (chains_of stream) = any_same (λ chain. nat_lt (told_by times made.log chain) (index_told interval chain)) (λ chain. nat_lt (index_told feeder.latest chain) (index_told interval chain)) (chains_of stream) (λ chain. ap (λ n. nat_lt n (index_told interval chain)) (stands.told chain)) in
-    ap (λ (l : ℕ). nat_le first interval && (nat_le l interval && tells_more stream made.log interval)) (sym stands.latest) ∙ ap (λ (b : Bool). nat_le first interval && (nat_le feeder.latest interval && b)) newer
+    ap (due_where stream first made.log reading) read ∙ ap (λ (l : ℕ). nat_le first interval && (nat_le l interval && tells_more stream made.log interval)) (sym stands.latest) ∙ ap (λ (b : Bool). nat_le first interval && (nat_le feeder.latest interval && b)) newer
 
 -- whether all keys were told is judged by what a feeder keeps
 pub told_is : (stream : Stream) (first : ℕ) (feeder : Feeder) (made : Feeding) → StandsFor stream first feeder made → is_all_told stream made.log ≡ is_told_after stream feeder.message feeder.latest
@@ -236,13 +246,27 @@ due_tells stream first latest interval due =
     let ways = and_ways (nat_le first interval) (nat_le latest interval) (tells_newer latest interval (chains_of stream)) due in
     record { begun = leb-true _ _ ways.0; later = leb-true _ _ ways.1; some = any_newer (λ chain. index_told latest chain) interval (chains_of stream) ways.2 }
 
+begun_ways : (unread begun : Bool) → (not unread && begun) ≡ true → (unread ≡ false) × (begun ≡ true)
+begun_ways false true is = (refl, refl)
+begun_ways false false is = absurd cc
+begun_ways true begun is = absurd cc
+
+-- and the clock was read
+pub log_read : (stream : Stream) (first : ℕ) (log : List Call) (reading : ℕ) → is_due stream first log reading ≡ true → is_unread reading ≡ false
+log_read stream first log reading due =
+    let times = stream.setup.times in
+    let interval = interval_at times reading in
+    let ways = and_ways (has_begun times first reading) (nat_le (latest_of times log) interval) (tells_more stream log interval) due in
+    (begun_ways (is_unread reading) (nat_le first interval) ways.0).0
+
 -- the same, judged by the log
 pub log_tells : (stream : Stream) (first : ℕ) (log : List Call) (reading : ℕ) → is_due stream first log reading ≡ true → IsDue stream first (latest_of stream.setup.times log) (interval_at stream.setup.times reading)
 log_tells stream first log reading due =
     let times = stream.setup.times in
     let interval = interval_at times reading in
-    let ways = and_ways (nat_le first interval) (nat_le (latest_of times log) interval) (tells_more stream log interval) due in
-    record { begun = leb-true _ _ ways.0; later = leb-true _ _ ways.1; some = any_newer (told_by times log) interval (chains_of stream) ways.2 }
+    let ways = and_ways (has_begun times first reading) (nat_le (latest_of times log) interval) (tells_more stream log interval) due in
+    let begun = begun_ways (is_unread reading) (nat_le first interval) ways.0 in
+    record { begun = leb-true _ _ begun.1; later = leb-true _ _ ways.1; some = any_newer (told_by times log) interval (chains_of stream) ways.2 }
 
 abbrev discloses : Bool → Bool → DiscloseRefusal → ℕ → Result ℕ DiscloseRefusal
 discloses backward due refusal interval = if backward then Err refusal else if due then Ok interval else Err undisclosed.NothingDue
@@ -305,9 +329,9 @@ abbrev disclosed_where : Feeding → ℕ → Bool → Feeding
 disclosed_where made reading due = if due then with_call made (Disclose reading) else made
 
 -- no disclosure was due
-pub makes_none : (stream : Stream) (first : ℕ) (feeder : Feeder) (made : Feeding) (reading : ℕ) → is_due_after stream first feeder.latest (interval_at stream.setup.times reading) ≡ false → StandsFor stream first feeder made → Makes stream first made (after_none stream first made reading) (record feeder { reading = reading }) None
-makes_none stream first feeder made reading due stands =
-    let none : after_none stream first made reading ≡ made = ap (disclosed_where made reading) (due_is stream first feeder made reading stands ∙ due) in
+pub makes_none : (stream : Stream) (first : ℕ) (feeder : Feeder) (made : Feeding) (reading : ℕ) → is_unread reading ≡ false → is_due_after stream first feeder.latest (interval_at stream.setup.times reading) ≡ false → StandsFor stream first feeder made → Makes stream first made (after_none stream first made reading) (record feeder { reading = reading }) None
+makes_none stream first feeder made reading read due stands =
+    let none : after_none stream first made reading ≡ made = ap (disclosed_where made reading) (due_is stream first feeder made reading read stands ∙ due) in
     let P : Feeding → Type 0 = λ after. Makes stream first made after (record feeder { reading = reading }) None in
     subst P (sym none) (record { stands = noted_stands stream first feeder made reading stands; adds = refl })
 
@@ -323,18 +347,18 @@ never_refused stream first feeder made reading refusal before now stands due ans
     subst P (told ∙ ap (disclosed stream) (due_accepted stream old.latest reading (omega (arith, stands.from, stands.latest, tells.begun, tells.later)) tells.some)) answers
 
 -- a disclosure that is due is made
-pub makes_disclosure : (stream : Stream) (first : ℕ) (feeder now : Feeder) (made : Feeding) (reading size : ℕ) (before : List ℕ) → is_due_after stream first feeder.latest (interval_at stream.setup.times reading) ≡ true → StandsFor stream first feeder made
+pub makes_disclosure : (stream : Stream) (first : ℕ) (feeder now : Feeder) (made : Feeding) (reading size : ℕ) (before : List ℕ) → is_unread reading ≡ false → is_due_after stream first feeder.latest (interval_at stream.setup.times reading) ≡ true → StandsFor stream first feeder made
     → Answers (ok_disclosed size) (told_disclosure feeder.sender reading) before now.frame → now.sender ≡ gone_on feeder.sender (interval_at stream.setup.times reading) now.sender.left
     → now.first ≡ feeder.first → now.latest ≡ interval_at stream.setup.times reading → now.message ≡ feeder.message → now.counts ≡ record feeder.counts { disclosures = one_more feeder.counts.disclosures }
     → Makes stream first made (after_none stream first made reading) now (Some size)
 unfolding made_disclosure
-makes_disclosure stream first feeder now made reading size before due stands answers sender first_is latest message counts =
+makes_disclosure stream first feeder now made reading size before read due stands answers sender first_is latest message counts =
     let times = stream.setup.times in
     let call = Disclose reading in
     let interval = interval_at times reading in
     let old = feeder.sender in
     let tells = due_tells stream first feeder.latest interval due in
-    let after : after_none stream first made reading ≡ with_call made call = ap (disclosed_where made reading) (due_is stream first feeder made reading stands ∙ due) in
+    let after : after_none stream first made reading ≡ with_call made call = ap (disclosed_where made reading) (due_is stream first feeder made reading read stands ∙ due) in
     let later : old.latest ≤ interval = omega (arith, stands.from, stands.latest, tells.begun, tells.later) in
     let told : told_disclosure old reading ≡ disclosed stream (disclosed_after times old.latest (any_due interval (chains_of stream)) reading) = ap (λ (s : Stream). disclosed s (disclosed_after s.setup.times old.latest (any_due (interval_at s.setup.times reading) (chains_of s)) reading)) stands.stream_is in
     let accepted : told_disclosure old reading ≡ Ok (disclosure_frame stream.setup (chains_of stream) interval) = told ∙ ap (disclosed stream) (due_accepted stream old.latest reading later tells.some) in
@@ -363,19 +387,24 @@ makes_disclosure stream first feeder now made reading size before due stands ans
       adds = (call, refl, datagram);
     })
 
+-- a message that came while the clock was read is judged by its name
+pub read_judged : (stream : Stream) (first : ℕ) (made : Feeding) (reading : ℕ) (payload : List ℕ) → is_unread reading ≡ false
+    → after_event stream first made (Came reading (letters.Datagram payload)) ≡ after_judged stream first made reading payload (name_from stream.setup.times first made.log reading payload)
+read_judged stream first made reading payload read = ap (λ (unread : Bool). if unread then with_unread made else after_judged stream first made reading payload (name_from stream.setup.times first made.log reading payload)) read
+
 -- a message is sent
-pub makes_message : (stream : Stream) (first : ℕ) (feeder now : Feeder) (made : Feeding) (reading : ℕ) (payload : List ℕ) (size : ℕ) (before : List ℕ) → StandsFor stream first feeder made
+pub makes_message : (stream : Stream) (first : ℕ) (feeder now : Feeder) (made : Feeding) (reading : ℕ) (payload : List ℕ) (size : ℕ) (before : List ℕ) → is_unread reading ≡ false → StandsFor stream first feeder made
     → Answers (ok_size size) (told_message feeder.sender reading payload) before now.frame → now.sender ≡ sent_in feeder.sender (interval_at stream.setup.times reading) now.sender.left
     → now.first ≡ feeder.first → now.latest ≡ interval_at stream.setup.times reading → now.message ≡ interval_at stream.setup.times reading → now.counts ≡ record feeder.counts { messages = one_more feeder.counts.messages }
     → Makes stream first made (after_event stream first made (Came reading (letters.Datagram payload))) now (Some size)
-makes_message stream first feeder now made reading payload size before stands answers sender first_is latest message counts =
+makes_message stream first feeder now made reading payload size before read stands answers sender first_is latest message counts =
     let times = stream.setup.times in
     let old = feeder.sender in
     let told : told_message old reading payload ≡ framed stream payload (name_after times old.latest (number_at old.latest old.used (interval_at times reading)) reading payload) = ap (λ (s : Stream). framed s payload (name_after s.setup.times old.latest (number_at old.latest old.used (interval_at s.setup.times reading)) reading payload)) stands.stream_is in
     let P : Result Frame SendRefusal → Type 0 = λ m. Answers (ok_size size) m before now.frame in
     let found = message_datagram stream first feeder made reading payload size before now.frame stands (subst P told answers) in
-    let Q : Result Name SendRefusal → Type 0 = λ n. Makes stream first made (after_judged stream first made reading payload n) now (Some size) in
-    subst Q (sym found.1) (record {
+    let Q : Feeding → Type 0 = λ a. Makes stream first made a now (Some size) in
+    subst Q (sym (read_judged stream first made reading payload read ∙ ap (after_judged stream first made reading payload) found.1)) (record {
       stands = message_stands stream first feeder now made reading payload found.0 stands found.1 sender first_is latest message counts;
       adds = (Message reading payload, refl, found.2);
     })
@@ -385,15 +414,44 @@ abbrev pub feeder_with : Feeder → State → List ℕ → FeedCounts → Feeder
 feeder_with feeder sender frame counts = record { sender = sender; frame = frame; first = feeder.first; latest = feeder.latest; message = feeder.message; reading = feeder.reading; counts = counts }
 
 -- a message is refused, and a disclosure may be due
-pub makes_refused : (feeder now : Feeder) (made : Feeding) (reading : ℕ) (payload : List ℕ) (refusal : SendRefusal) (frame : List ℕ) (sender : State) (counts : FeedCounts) (result : Option ℕ) → StandsFor feeder.sender.stream feeder.first feeder made
+pub makes_refused : (feeder now : Feeder) (made : Feeding) (reading : ℕ) (payload : List ℕ) (refusal : SendRefusal) (frame : List ℕ) (sender : State) (counts : FeedCounts) (result : Option ℕ) → is_unread reading ≡ false → StandsFor feeder.sender.stream feeder.first feeder made
     → Answers (err_size refusal) (told_message feeder.sender reading payload) feeder.frame frame → sender ≡ feeder.sender → counts ≡ after_refusal feeder.counts refusal
     → ((mid : Feeding) → StandsFor sender.stream feeder.first (feeder_with feeder sender frame counts) mid → Makes sender.stream feeder.first mid (after_none sender.stream feeder.first mid reading) now result)
     → Makes feeder.sender.stream feeder.first made (after_event feeder.sender.stream feeder.first made (Came reading (letters.Datagram payload))) now result
-makes_refused feeder now made reading payload refusal frame sender counts result stands answers same counted discloses =
+makes_refused feeder now made reading payload refusal frame sender counts result read stands answers same counted discloses =
     let stream = feeder.sender.stream in
     let first = feeder.first in
     let found = message_refused stream first feeder made reading payload refusal feeder.frame frame stands answers in
     let P : State → Type 0 = λ s. (mid : Feeding) → StandsFor s.stream first (feeder_with feeder s frame counts) mid → Makes s.stream first mid (after_none s.stream first mid reading) now result in
     let makes = subst P same discloses (with_refusal made refusal) (refused_stands stream first feeder made refusal frame counts counted stands) in
-    let Q : Result Name SendRefusal → Type 0 = λ n. Makes stream first made (after_judged stream first made reading payload n) now result in
-    subst Q (sym found) (record { stands = makes.stands; adds = makes.adds })
+    let Q : Feeding → Type 0 = λ a. Makes stream first made a now result in
+    subst Q (sym (read_judged stream first made reading payload read ∙ ap (after_judged stream first made reading payload) found)) (record { stands = makes.stands; adds = makes.adds })
+
+-- what is made while the clock can't be read: a message is counted
+unread_made : (stream : Stream) (first : ℕ) (made : Feeding) (reading : ℕ) (bytes : List ℕ) → is_unread reading ≡ true → after_item stream first made reading (Some bytes) ≡ with_unread made
+unread_made stream first made reading bytes unread = ap (λ (u : Bool). if u then with_unread made else after_judged stream first made reading bytes (name_from stream.setup.times first made.log reading bytes)) unread
+
+-- no frame is made while the clock can't be read
+pub makes_unread : (stream : Stream) (first : ℕ) (feeder now : Feeder) (made : Feeding) (reading : ℕ) (payload : Option (List ℕ)) → is_unread reading ≡ true → now ≡ record feeder { counts = after_unread feeder.counts payload } → StandsFor stream first feeder made → Makes stream first made (after_item stream first made reading payload) now None
+makes_unread stream first feeder now made reading None unread same stands =
+    let none : after_none stream first made reading ≡ made = ap (disclosed_where made reading) (never_due stream first made.log reading unread) in
+    let P : Feeder → Feeding → Type 0 = λ f a. Makes stream first made a f None in
+    subst (λ (f : Feeder). P f (after_none stream first made reading)) (sym same) (subst (P feeder) (sym none) (record { stands = stands; adds = refl }))
+makes_unread stream first feeder now made reading (Some bytes) unread same stands =
+    let P : Feeder → Feeding → Type 0 = λ f a. Makes stream first made a f None in
+    let it : Feeder = record feeder { counts = after_unread feeder.counts (Some bytes) } in
+    subst (λ (f : Feeder). P f (after_item stream first made reading (Some bytes))) (sym same)
+    (subst (P it) (sym (unread_made stream first made reading bytes unread)) (record {
+      stands = record {
+        stream_is = stands.stream_is;
+        first_is = stands.first_is;
+        from = stands.from;
+        used = stands.used;
+        none_later = stands.none_later;
+        latest = stands.latest;
+        told = stands.told;
+        message = stands.message;
+        counts = ap (λ (c : FeedCounts). let it : FeedCounts = record c { unread = one_more c.unread } in it) stands.counts ∙ sym (unread_counts made);
+      };
+      adds = refl;
+    }))

@@ -3,3 +3,5 @@ mod Kept
 mod Going
 mod Whole
 mod Logs
+mod Ended
+mod Timely

@@ -1,14 +1,14 @@
 -- A whole feed, put together from its parts.
-use Rattle.std.proofs.Common.{◌≡◌, ◌∙◌, ℕ, ◌<◌, ◌≤◌, Bool, true, false, List, [], ◌∷◌, ◌++◌, length, map, take, Option, Some, None, refl, sym, ap, subst, append_assoc, append-nil, arith}
-use Rattle.std.specs.Prelude.{IfSome, not}
+use Rattle.std.proofs.Common.{◌≡◌, ◌∙◌, ℕ, ◌≤◌, Bool, true, false, List, [], ◌∷◌, ◌++◌, length, map, take, Option, Some, None, refl, sym, ap, subst, append_assoc, append-nil, arith}
+use Rattle.std.specs.Prelude.{IfSome, if◌then◌else◌, not}
 use Rattle.std.specs.List.{AllByRecursion, list_all, list_any}
 use Rattle.std.proofs.lemmas.List.Sums.{fold-append}
-use Rattle.tesla_desk.specs.Clocks.{Gives, Ticking, Ticks}
+use Rattle.tesla_desk.specs.Clocks.{Gives, Ticking}
 use Rattle.tesla_desk.specs.declared.link.Letter.{Letter}
 use Rattle.tesla_posts.specs.Posts.{PostSeen, with_datagrams}
-use Rattle.tesla_sender.specs.Made.{Stream, interval_at}
-use Rattle.tesla_feed.specs.Fed.{Feeding, after_event, fed, first_interval, nothing_fed, reading_of}
-use Rattle.tesla_feed.specs.Feed.{Feeds, SendPosts, came_of, has_failed, rested_at}
+use Rattle.tesla_sender.specs.Made.{Stream}
+use Rattle.tesla_feed.specs.Fed.{Event, Feeding, after_event, fed, first_interval, has_begun, has_ended, nothing_fed, reading_of}
+use Rattle.tesla_feed.specs.Feed.{AreNeeded, Feeds, SendPosts, came_of, has_failed, rested_at}
 use Rattle.tesla_feed.specs.Steps.{Awaits, Goes, Hears, Rests, StandsFor, StopsHearing, fed_after, is_told_after}
 use Rattle.tesla_feed.specs.declared.feeder.Feeder.{Feeder}
 use Rattle.tesla_feed.specs.declared.feeding.FeedEnd.{FeedEnd}
@@ -37,16 +37,16 @@ none_sent f (x ∷ xs) (false ∷ marks) few none = (
 pub begun_stands : (stream : Stream) (first : ℕ) (feeder now : Feeder) (before after : Option Ticking) → StandsFor stream first feeder nothing_fed → Awaits feeder now before after → StandsFor now.sender.stream now.first now nothing_fed
 begun_stands stream first feeder now before after stands awaits =
     let P : Feeder → Type 0 = λ f. StandsFor f.sender.stream f.first f nothing_fed in
-    let noted = noted_stands stream first feeder nothing_fed awaits.begun stands in
-    let it : Feeder = record feeder { reading = awaits.begun } in
+    let noted = noted_stands stream first feeder nothing_fed awaits.last stands in
+    let it : Feeder = record feeder { reading = awaits.last } in
     let own = subst (λ (s : Stream). StandsFor s feeder.first it nothing_fed) (sym stands.stream_is) (subst (λ (f : ℕ). StandsFor stream f it nothing_fed) (sym stands.first_is) noted) in
     subst P (sym awaits.same) own
 
 -- ---- readings
 
 gives_both : (readings more : List ℕ) (before mid after : Option Ticking) → Gives readings before mid → Gives more mid after → Gives (readings ++ more) before after
-gives_both [] more before mid after first then = subst (λ (told : Option Ticking). Gives more told after) first then
-gives_both (reading ∷ readings) more before mid after first then = (first.0, first.1, gives_both readings more first.0 mid after first.2 then)
+gives_both [] more before mid after first next = subst (λ (told : Option Ticking). Gives more told after) first next
+gives_both (reading ∷ readings) more before mid after first next = (first.0, first.1, gives_both readings more first.0 mid after first.2 next)
 
 map_both : {A B : Type 0} (f : A → B) (xs ys : List A) → map f (xs ++ ys) ≡ map f xs ++ map f ys
 map_both f [] ys = refl
@@ -60,14 +60,18 @@ ended hearings.Ended mid failed later stops no_fault stays some = stops
 ended hearings.LinkFailed mid failed later stops no_fault stays some = absurd (no_fault refl)
 ended hearings.Unheard mid failed later stops no_fault stays some = absurd (both_ways (list_all has_failed failed) (ap (list_all has_failed) (stays stops) ∙ stops) some)
 
+-- what is made where the stream isn't over
+lasting_fed : (stream : Stream) (opening : ℕ) (events : List Event) → has_ended stream opening ≡ false → fed stream opening events ≡ fed_after stream (first_interval stream.setup.times opening) nothing_fed events
+lasting_fed stream opening events lasts = ap (λ (over : Bool). if over then nothing_fed else fed_after stream (first_interval stream.setup.times opening) nothing_fed events) lasts
+
 -- the parts of a run, in order
-pub record Parts (stream : Stream) (opening : ℕ) (opened begun heard told : Feeder) (marks failed : List Bool) (hearing : Hearing) (left later : Option (List Letter)) (first second third fourth last : Option Ticking) (posts mid now : List PostSeen) : Type 0 where
-  pub ticks : Ticks first second opening
+pub record Parts (stream : Stream) (opening : ℕ) (opened begun heard told : Feeder) (marks failed : List Bool) (hearing : Hearing) (left later : Option (List Letter)) (first second third last : Option Ticking) (posts mid now : List PostSeen) : Type 0 where
+  pub lasts : has_ended stream opening ≡ false
   pub stands : StandsFor stream (first_interval stream.setup.times opening) opened nothing_fed
-  pub awaits : Awaits opened begun second third
-  pub hears : Hears begun.sender.stream begun.first heard marks left later third fourth posts mid
+  pub awaits : Awaits opened begun first second
+  pub hears : Hears begun.sender.stream begun.first heard marks left later second third posts mid
   pub stops : StopsHearing hearing marks later
-  pub rests : (made : Feeding) (first_posts : List PostSeen) → Goes heard.sender.stream heard.first made first_posts heard mid marks → Rests heard.sender.stream heard.first made first_posts told failed fourth last now
+  pub rests : (made : Feeding) (first_posts : List PostSeen) → Goes heard.sender.stream heard.first made first_posts heard mid marks → Rests heard.sender.stream heard.first made first_posts told failed third last now
   pub stays : list_all has_failed marks ≡ true → failed ≡ marks
   pub ends : list_all has_failed failed ≡ false → is_told_after told.sender.stream told.message told.latest ≡ true
 
@@ -75,43 +79,41 @@ pub record Parts (stream : Stream) (opening : ℕ) (opened begun heard told : Fe
 of_equal : (P : Stream → ℕ → Type 0) (own stream : Stream) (first from : ℕ) → own ≡ stream → first ≡ from → P own first → P stream from
 of_equal P own stream first from same_stream same_first holds = subst (λ (f : ℕ). P stream f) same_first (subst (λ (s : Stream). P s first) same_stream holds)
 
-pub feeds_all : (stream : Stream) (opening : ℕ) (opened begun heard told : Feeder) (marks failed : List Bool) (hearing : Hearing) (result : FeedEnd) (left later : Option (List Letter)) (first second third fourth last : Option Ticking) (posts mid now : List PostSeen)
-    → Parts stream opening opened begun heard told marks failed hearing left later first second third fourth last posts mid now → (result.link_failed ≡ false → hearing ≡ hearings.LinkFailed → ⊥) → result.post_failed ≡ list_any has_failed failed → result.counts ≡ told.counts
-    → Feeds stream result left later first last posts now
-feeds_all stream opening opened begun heard told marks failed hearing result left later first second third fourth last posts mid now parts link_failed post_failed counts =
+pub feeds_all : (stream : Stream) (opening : ℕ) (opened begun heard told : Feeder) (marks failed : List Bool) (hearing : Hearing) (result : FeedEnd) (left later : Option (List Letter)) (first second third last : Option Ticking) (posts mid now : List PostSeen)
+    → Parts stream opening opened begun heard told marks failed hearing left later first second third last posts mid now → (result.link_failed ≡ false → hearing ≡ hearings.LinkFailed → ⊥) → result.post_failed ≡ list_any has_failed failed → result.counts ≡ told.counts
+    → Feeds stream opening result left later first last posts now
+feeds_all stream opening opened begun heard told marks failed hearing result left later first second third last posts mid now parts link_failed post_failed counts =
     let from = first_interval stream.setup.times opening in
     let same_stream : begun.sender.stream ≡ stream = ap (λ (f : Feeder). f.sender.stream) parts.awaits.same ∙ parts.stands.stream_is in
     let same_first : begun.first ≡ from = ap (λ (f : Feeder). f.first) parts.awaits.same ∙ parts.stands.first_is in
-    let hears : Hears stream from heard marks left later third fourth posts mid =
-    of_equal (λ s f. Hears s f heard marks left later third fourth posts mid) begun.sender.stream stream begun.first from same_stream same_first parts.hears in
+    let hears : Hears stream from heard marks left later second third posts mid =
+    of_equal (λ s f. Hears s f heard marks left later second third posts mid) begun.sender.stream stream begun.first from same_stream same_first parts.hears in
     let came = map came_of hears.heard in
     let made = fed_after stream from nothing_fed came in
     let goes = hears.goes in
-    let P : Stream → ℕ → Type 0 = λ s f. Goes s f made posts heard mid marks → Rests s f made posts told failed fourth last now in
-    let rests : Rests stream from made posts told failed fourth last now = of_equal P heard.sender.stream stream heard.first from goes.stands.stream_is goes.stands.first_is (parts.rests made posts) goes in
+    let P : Stream → ℕ → Type 0 = λ s f. Goes s f made posts heard mid marks → Rests s f made posts told failed third last now in
+    let rests : Rests stream from made posts told failed third last now = of_equal P heard.sender.stream stream heard.first from goes.stands.stream_is goes.stands.first_is (parts.rests made posts) goes in
     let rested = map rested_at rests.rests in
     let all = fed_after stream from made rested in
-    let whole : all ≡ fed stream opening (came ++ rested) = sym (fold-append (after_event stream from) nothing_fed came rested) in
-    let readings : Gives (map reading_of (came ++ rested)) third last = subst (λ (rs : List ℕ). Gives rs third last) (sym (map_both reading_of came rested)) (gives_both (map reading_of came) (map reading_of rested) third fourth last hears.gives rests.gives) in
+    let events = came ++ rested in
+    let whole : all ≡ fed stream opening events = sym (lasting_fed stream opening events parts.lasts ∙ fold-append (after_event stream from) nothing_fed came rested) in
+    let readings : Gives (map reading_of events) second last = subst (λ (rs : List ℕ). Gives rs second last) (sym (map_both reading_of came rested)) (gives_both (map reading_of came) (map reading_of rested) second third last hears.gives rests.gives) in
     let early = parts.awaits.early in
     let begins = parts.awaits.begun in
-    let waited : Gives (early ++ begins ∷ map reading_of (came ++ rested)) second last =
-    subst (λ (rs : List ℕ). Gives rs second last) (append_assoc early (begins ∷ []) (map reading_of (came ++ rested))) (gives_both (early ++ begins ∷ []) (map reading_of (came ++ rested)) second third last parts.awaits.gives readings) in
     record {
-      opening = opening;
       early = early;
       begun = begins;
       heard = hears.heard;
       rests = rests.rests;
-      gives = (second, parts.ticks, waited);
-      waits = (let W : Stream → ℕ → Type 0 = λ s f. AllByRecursion (λ reading. interval_at s.setup.times reading < f) early in of_equal W opened.sender.stream stream opened.first from parts.stands.stream_is parts.stands.first_is parts.awaits.waits);
-      begins = (let B : Stream → ℕ → Type 0 = λ s f. f ≤ interval_at s.setup.times begins in of_equal B opened.sender.stream stream opened.first from parts.stands.stream_is parts.stands.first_is parts.awaits.begins);
+      gives = subst (λ (rs : List ℕ). Gives rs first last) (append_assoc early (begins ∷ []) (map reading_of events)) (gives_both (early ++ begins ∷ []) (map reading_of events) first second last parts.awaits.gives readings);
+      waits = (let W : Stream → ℕ → Type 0 = λ s f. AllByRecursion (λ reading. has_begun s.setup.times f reading ≡ false) early in of_equal W opened.sender.stream stream opened.first from parts.stands.stream_is parts.stands.first_is parts.awaits.waits);
+      begins = (let B : Stream → ℕ → Type 0 = λ s f. has_begun s.setup.times f begins ≡ true in of_equal B opened.sender.stream stream opened.first from parts.stands.stream_is parts.stands.first_is parts.awaits.begins);
       left_is = hears.left_is;
       made = all;
       made_is = whole;
       failed = failed;
       posts_are = rests.goes.sends;
-      needed = rests.needed;
+      needed = subst (λ (m : Feeding). AreNeeded stream from m rests.rests) (sym (lasting_fed stream opening came parts.lasts)) rests.needed;
       told = λ some. told_is stream from told all rests.goes.stands ∙ ap (λ (s : Stream). is_told_after s told.message told.latest) (sym rests.goes.stands.stream_is) ∙ parts.ends some;
       ended = λ some fault. ended hearing marks failed later parts.stops (link_failed fault) parts.stays some;
       counts = counts ∙ rests.goes.stands.counts;

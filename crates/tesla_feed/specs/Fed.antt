@@ -1,5 +1,5 @@
 -- What a feed makes of what happens: the log of the calls that it makes of a sender, and why it refuses messages.
-use Rattle.std.specs.Prelude.{ℕ, ◌+◌, Bool, true, false, not, ◌&&◌, List, [], ◌∷◌, ◌++◌, length, map, max, nat_lt, nat_le, Result, Ok, Err, if◌then◌else◌, option_to_list}
+use Rattle.std.specs.Prelude.{ℕ, ◌+◌, ◌-◌, ◌*◌, ◌^◌, Bool, true, false, not, ◌&&◌, ◌==◌, List, [], ◌∷◌, ◌++◌, length, map, max, nat_lt, nat_le, Result, Ok, Err, if◌then◌else◌, option_to_list}
 use Rattle.std.specs.List.{count_by, fold, list_all, list_any}
 use Rattle.tesla_clock.specs.Schedule.{Times}
 use Rattle.tesla_base.specs.declared.names.Name.{Name}
@@ -24,11 +24,24 @@ abbrev pub reading_of : Event → ℕ
 reading_of (Came reading letter) = reading
 reading_of (Rested reading) = reading
 
+-- a clock that can't be read gives this in place of a reading: no call is made at it
+abbrev pub is_unread : ℕ → Bool
+is_unread reading = reading == 2 ^ 64 - 1
+
 -- ---- the opening
 
 -- the first interval in which a feed that was opened at this reading makes calls
 abbrev pub first_interval : Times → ℕ → ℕ
 first_interval times opening = interval_at times opening + 1
+
+-- the interval has begun by a reading
+abbrev pub has_begun : Times → ℕ → ℕ → Bool
+has_begun times first reading = not (is_unread reading) && nat_le first (interval_at times reading)
+
+-- a feed that was opened at this reading is over: on every chain it lies behind the end of the last interval by more than the delay and 64 intervals
+abbrev pub has_ended : Stream → ℕ → Bool
+has_ended stream opening =
+    list_all (λ chain. nat_lt (stream.setup.times.start + (stream.setup.times.last + 1 + chain.row.delay + 64) * stream.setup.times.length) opening) (chains_of stream)
 
 -- the interval of the last call, or the first interval where that is greater: a call in an earlier one goes backward
 abbrev pub latest_from : Times → ℕ → List Call → ℕ
@@ -50,24 +63,28 @@ told_by times log chain = fold (λ most call. max most (index_told (interval_in 
 abbrev pub tells_more : Stream → List Call → ℕ → Bool
 tells_more stream log interval = list_any (λ chain. nat_lt (told_by stream.setup.times log chain) (index_told interval chain)) (chains_of stream)
 
--- a disclosure at the reading is due after a log: it isn't in an interval before the first one or before that of the last call, and it tells a newer key
+-- a disclosure at the reading is due after a log: the clock was read, its interval isn't before the first one or before that of the last call, and it tells a newer key
 abbrev pub is_due : Stream → ℕ → List Call → ℕ → Bool
 is_due stream first log reading =
     let interval = interval_at stream.setup.times reading in
-    nat_le first interval && (nat_le (latest_of stream.setup.times log) interval && tells_more stream log interval)
+    has_begun stream.setup.times first reading && (nat_le (latest_of stream.setup.times log) interval && tells_more stream log interval)
 
 -- ---- one event
 
--- what was made: the calls, and why messages were refused, both in order
+-- what was made: the calls, and why messages were refused, both in order; and how many messages came while the clock couldn't be read
 pub record Feeding : Type 0 where
   pub log : List Call
   pub refused : List SendRefusal
+  pub unread : ℕ
 
 abbrev pub with_call : Feeding → Call → Feeding
-with_call made call = record { log = made.log ++ call ∷ []; refused = made.refused }
+with_call made call = record { log = made.log ++ call ∷ []; refused = made.refused; unread = made.unread }
 
 abbrev pub with_refusal : Feeding → SendRefusal → Feeding
-with_refusal made refusal = record { log = made.log; refused = made.refused ++ refusal ∷ [] }
+with_refusal made refusal = record { log = made.log; refused = made.refused ++ refusal ∷ []; unread = made.unread }
+
+abbrev pub with_unread : Feeding → Feeding
+with_unread made = record { log = made.log; refused = made.refused; unread = made.unread + 1 }
 
 -- no message was sent at the reading: a disclosure is made where one is due
 abbrev pub after_none : Stream → ℕ → Feeding → ℕ → Feeding
@@ -78,20 +95,21 @@ abbrev pub after_judged : Stream → ℕ → Feeding → ℕ → List ℕ → Re
 after_judged stream first made reading payload (Ok name) = with_call made (Message reading payload)
 after_judged stream first made reading payload (Err refusal) = after_none stream first (with_refusal made refusal) reading
 
--- each datagram is a message
+-- each datagram is a message; one that comes while the clock can't be read is counted, and nothing is made of it
 abbrev pub after_event : Stream → ℕ → Feeding → Event → Feeding
-after_event stream first made (Came reading (letters.Datagram bytes)) = after_judged stream first made reading bytes (name_from stream.setup.times first made.log reading bytes)
+after_event stream first made (Came reading (letters.Datagram bytes)) =
+    if is_unread reading then with_unread made else after_judged stream first made reading bytes (name_from stream.setup.times first made.log reading bytes)
 after_event stream first made (Came reading letters.Quiet) = after_none stream first made reading
 after_event stream first made (Rested reading) = after_none stream first made reading
 
 -- ---- a whole feed
 
 abbrev pub nothing_fed : Feeding
-nothing_fed = record { log = []; refused = [] }
+nothing_fed = record { log = []; refused = []; unread = 0 }
 
--- what a feed of the stream that was opened at this reading makes of these events
+-- what a feed of the stream that was opened at this reading makes of these events: one that is over makes nothing
 abbrev pub fed : Stream → ℕ → List Event → Feeding
-fed stream opening events = fold (after_event stream (first_interval stream.setup.times opening)) nothing_fed events
+fed stream opening events = if has_ended stream opening then nothing_fed else fold (after_event stream (first_interval stream.setup.times opening)) nothing_fed events
 
 -- ---- frames
 
@@ -161,4 +179,5 @@ counts_of made = record {
   over = counted (count_by is_over made.refused);
   backward = counted (count_by is_backward made.refused);
   full = counted (count_by is_full made.refused);
+  unread = counted made.unread;
 }

@@ -1,5 +1,5 @@
 -- What a run of a feed comes to: which readings of the clock and which items of the link it took, and what each post sent.
-use Rattle.std.specs.Prelude.{◌≡◌, ℕ, ◌<◌, ◌≤◌, Bool, true, false, List, [], ◌∷◌, ◌++◌, map, take, Option, IfSome}
+use Rattle.std.specs.Prelude.{◌≡◌, ℕ, Bool, true, false, List, [], ◌∷◌, ◌++◌, map, take, Option, Some, None, IfSome}
 use Rattle.std.specs.List.{AllByRecursion, list_all, list_any}
 use Rattle.tesla_desk.specs.Clocks.{Gives, Ticking}
 use Rattle.tesla_desk.specs.Faults.{HasCause}
@@ -7,9 +7,11 @@ use Rattle.tesla_desk.specs.Links.{after_letters}
 use Rattle.tesla_desk.specs.declared.link.Letter.{Letter}
 use Rattle.tesla_posts.specs.Counts.{IsSentCount}
 use Rattle.tesla_posts.specs.Posts.{PostSeen, with_datagrams}
-use Rattle.tesla_sender.specs.Made.{Stream, interval_at}
-use Rattle.tesla_feed.specs.Fed.{Event, Came, Rested, Feeding, after_event, counts_of, datagrams_of, fed, first_interval, is_all_told, reading_of}
+use Rattle.tesla_sender.specs.Made.{Stream}
+use Rattle.tesla_sender.specs.Stands.{Stands}
+use Rattle.tesla_feed.specs.Fed.{Event, Came, Rested, Feeding, after_event, counts_of, datagrams_of, fed, first_interval, has_begun, is_all_told, has_ended, is_unread, reading_of}
 use Rattle.tesla_feed.specs.declared.feeding.FeedEnd.{FeedEnd}
+use Rattle.tesla_feed.specs.declared.opening.OpenFeed.{OpenFeed}
 
 -- ---- events
 
@@ -55,19 +57,32 @@ SendPosts datagrams befores nows failed = ⊥
 abbrev pub has_failed : Bool → Bool
 has_failed failed = failed
 
+-- ---- the opening
+
+-- the clock was read until it could be, and its reading then is the opening
+pub record OpensAt (opening : ℕ) (before after : Option Ticking) : Type 0 where
+  pub unread : List ℕ
+  pub gives : Gives (unread ++ opening ∷ []) before after
+  pub missed : AllByRecursion (λ reading. is_unread reading ≡ true) unread
+  pub read : is_unread opening ≡ false
+
+-- a feed of the stream was opened with a sender that has accepted no call, or it is over at the opening
+abbrev pub OpensFeed : Stream → Option OpenFeed → Option Ticking → Option Ticking → Type 0
+OpensFeed stream None before after = (opening : ℕ) × OpensAt opening before after × (has_ended stream opening ≡ true)
+OpensFeed stream (Some feed) before after = OpensAt feed.opening before after × (has_ended stream feed.opening ≡ false) × (feed.sender.stream ≡ stream) × Stands feed.sender []
+
 -- ---- a run
 
--- what the feed of a stream comes to, over a link that has this left before and that afterwards, with a clock that told this before and that afterwards, and posts that are seen so before and so now
-pub record Feeds (stream : Stream) (result : FeedEnd) (left later : Option (List Letter)) (before after : Option Ticking) (posts posts_now : List PostSeen) : Type 0 where
-  -- the readings: that of the opening, those before the first interval had begun, the first one then, and one for each event
-  pub opening : ℕ
+-- what the feed of a stream that was opened at this reading comes to, over a link that has this left before and that afterwards, with a clock that told this before and that afterwards, and posts that are seen so before and so now
+pub record Feeds (stream : Stream) (opening : ℕ) (result : FeedEnd) (left later : Option (List Letter)) (before after : Option Ticking) (posts posts_now : List PostSeen) : Type 0 where
+  -- the readings behind the opening: those before the first interval had begun, the first one then, and one for each event
   pub early : List ℕ
   pub begun : ℕ
   pub heard : List Heard
   pub rests : List ℕ
-  pub gives : Gives (opening ∷ early ++ begun ∷ map reading_of (events_of heard rests)) before after
-  pub waits : AllByRecursion (λ reading. interval_at stream.setup.times reading < first_interval stream.setup.times opening) early
-  pub begins : first_interval stream.setup.times opening ≤ interval_at stream.setup.times begun
+  pub gives : Gives (early ++ begun ∷ map reading_of (events_of heard rests)) before after
+  pub waits : AllByRecursion (λ reading. has_begun stream.setup.times (first_interval stream.setup.times opening) reading ≡ false) early
+  pub begins : has_begun stream.setup.times (first_interval stream.setup.times opening) begun ≡ true
   -- the items left the link, in order
   pub left_is : left ≡ after_letters (map letter_of heard) later
   -- what was made, and what the posts sent of it

@@ -1,5 +1,5 @@
 -- What the inner steps of a feed come to.
-use Rattle.std.specs.Prelude.{◌≡◌, ℕ, ◌+◌, ◌-◌, ◌^◌, ◌<◌, ◌≤◌, Bool, true, false, ◌&&◌, List, [], ◌∷◌, ◌++◌, length, map, min, nat_le, take, Option, Some, None, IfSome}
+use Rattle.std.specs.Prelude.{◌≡◌, ℕ, ◌+◌, ◌-◌, ◌^◌, ◌<◌, Bool, true, false, ◌&&◌, List, [], ◌∷◌, ◌++◌, length, map, min, nat_le, take, Option, Some, None, IfSome, if◌then◌else◌}
 use Rattle.std.specs.List.{AllByRecursion, fold, list_all}
 use denote.Ref.{Bor}
 use Rattle.tesla_desk.specs.Clocks.{Gives, Ticking}
@@ -8,10 +8,10 @@ use Rattle.tesla_desk.specs.Links.{after_letters}
 use Rattle.tesla_desk.specs.declared.link.Letter.{Letter}
 use Rattle.tesla_desk.specs.declared.link.Letter.TheVariants as letters
 use Rattle.tesla_posts.specs.Posts.{PostSeen, with_datagrams}
-use Rattle.tesla_sender.specs.Made.{Call, Chain, Stream, chains_of, index_told, interval_at, latest_of, messages_of, tells_all, tells_newer}
+use Rattle.tesla_sender.specs.Made.{Call, Chain, Stream, chains_of, index_told, latest_of, messages_of, tells_all, tells_newer}
 use Rattle.tesla_sender.specs.declared.refusal.SendRefusal.{SendRefusal}
 use Rattle.tesla_sender.specs.declared.refusal.SendRefusal.TheVariants as unsent
-use Rattle.tesla_feed.specs.Fed.{Event, Came, Feeding, after_event, after_none, counts_of, datagram_of, datagrams_of, last_message, latest_from, nothing_fed, reading_of, told_by}
+use Rattle.tesla_feed.specs.Fed.{Event, Came, Feeding, after_event, after_none, counts_of, datagram_of, datagrams_of, has_begun, is_unread, last_message, latest_from, nothing_fed, reading_of, told_by}
 use Rattle.tesla_feed.specs.Feed.{AreNeeded, Heard, SendPosts, came_of, has_failed, letter_of, rested_at}
 use Rattle.tesla_feed.specs.declared.counts.FeedCounts.{FeedCounts}
 use Rattle.tesla_feed.specs.declared.feeder.Feeder.{Feeder}
@@ -31,6 +31,11 @@ after_refusal counts (unsent.Early reading) = record counts { early = one_more c
 after_refusal counts (unsent.Over interval) = record counts { over = one_more counts.over }
 after_refusal counts (unsent.Backward interval) = record counts { backward = one_more counts.backward }
 after_refusal counts (unsent.IntervalFull interval) = record counts { full = one_more counts.full }
+
+-- the counts after a message that came while the clock couldn't be read, or after none
+abbrev pub after_unread : FeedCounts → Option (List ℕ) → FeedCounts
+after_unread counts (Some bytes) = record counts { unread = one_more counts.unread }
+after_unread counts None = counts
 
 -- ---- the sender of a feed
 
@@ -93,16 +98,26 @@ abbrev pub after_item : Stream → ℕ → Feeding → ℕ → Option (List ℕ)
 after_item stream first made reading (Some bytes) = after_event stream first made (Came reading (letters.Datagram bytes))
 after_item stream first made reading None = after_none stream first made reading
 
+-- the last reading that was noted, after this one: what a clock gives while it can't be read isn't noted
+abbrev pub noted : ℕ → ℕ → ℕ
+noted before reading = if is_unread reading then before else reading
+
 -- this was made, and the posts, seen so at first, sent it
 pub record Goes (stream : Stream) (first : ℕ) (made : Feeding) (first_posts : List PostSeen) (feeder : Feeder) (posts : List PostSeen) (failed : List Bool) : Type 0 where
   pub stands : StandsFor stream first feeder made
   pub sends : SendPosts (datagrams_of stream made.log) first_posts posts failed
 
--- the clock gave readings of an interval before the feeder's first one
+-- the clock couldn't be read
+pub record Misses (before after : Option Ticking) : Type 0 where
+  pub unread : List ℕ
+  pub gives : Gives unread before after
+  pub missed : AllByRecursion (λ reading. is_unread reading ≡ true) unread
+
+-- the clock gave readings at which the feeder's first interval hadn't begun
 pub record WaitsOn (feeder now : Feeder) (before after : Option Ticking) : Type 0 where
   pub early : List ℕ
   pub gives : Gives early before after
-  pub waits : AllByRecursion (λ reading. interval_at feeder.sender.stream.setup.times reading < feeder.first) early
+  pub waits : AllByRecursion (λ reading. has_begun feeder.sender.stream.setup.times feeder.first reading ≡ false) early
   pub last : ℕ
   pub same : now ≡ record feeder { reading = last }
 
@@ -111,9 +126,10 @@ pub record Awaits (feeder now : Feeder) (before after : Option Ticking) : Type 0
   pub early : List ℕ
   pub begun : ℕ
   pub gives : Gives (early ++ begun ∷ []) before after
-  pub waits : AllByRecursion (λ reading. interval_at feeder.sender.stream.setup.times reading < feeder.first) early
-  pub begins : feeder.first ≤ interval_at feeder.sender.stream.setup.times begun
-  pub same : now ≡ record feeder { reading = begun }
+  pub waits : AllByRecursion (λ reading. has_begun feeder.sender.stream.setup.times feeder.first reading ≡ false) early
+  pub begins : has_begun feeder.sender.stream.setup.times feeder.first begun ≡ true
+  pub last : ℕ
+  pub same : now ≡ record feeder { reading = last }
 
 -- what these events make of what was made before
 abbrev pub fed_after : Stream → ℕ → Feeding → List Event → Feeding

@@ -23,12 +23,14 @@ pub struct FeedCounts {
     pub backward: u64,
     /// Messages in an interval whose 65,536 numbers were used.
     pub full: u64,
+    /// Messages that came while the clock couldn't be read.
+    pub unread: u64,
 }
 
 impl FeedCounts {
     /// Nothing was counted yet.
     pub fn new() -> FeedCounts
-        ensures { result ≡ record { messages = 0; disclosures = 0; too_long = 0; early = 0; over = 0; backward = 0; full = 0 } }
+        ensures { result ≡ record { messages = 0; disclosures = 0; too_long = 0; early = 0; over = 0; backward = 0; full = 0; unread = 0 } }
     {
         FeedCounts {
             messages: 0,
@@ -38,6 +40,7 @@ impl FeedCounts {
             over: 0,
             backward: 0,
             full: 0,
+            unread: 0,
         }
     }
 

@@ -1,13 +1,13 @@
 //! The sender of a feed: which calls are made of it, and what it refuses.
 
-ghost use Rattle.std.specs.Prelude.{◌≡◌, ◌≤◌, [], nat_le, IfSome};
-ghost use Rattle.tesla_sender.specs.Made.{interval_at};
+ghost use Rattle.std.specs.Prelude.{◌≡◌, ◌≤◌, [], false, IfSome};
 ghost use Rattle.tesla_sender.specs.Stands.{Stands};
-ghost use Rattle.tesla_feed.specs.Fed.{Came, Feeding, after_event, after_none, first_interval, nothing_fed};
-ghost use Rattle.tesla_feed.specs.Steps.{Makes, StandsFor, after_item, bytes_in, is_due_after, is_told_after};
+ghost use Rattle.tesla_feed.specs.Fed.{Came, Feeding, after_event, after_none, first_interval, has_begun, is_unread, nothing_fed};
+ghost use Rattle.tesla_feed.specs.Steps.{Makes, StandsFor, after_item, after_unread, bytes_in, is_due_after, is_told_after, noted};
 ghost use Rattle.tesla_desk.specs.declared.link.Letter.TheVariants as letters;
 
 use crate::FeedCounts;
+use crate::readings::is_unread;
 use std::sync::ledger::Ledger;
 use tesla_base::Steps;
 use tesla_sender::{FRAME_ROOM, Sender};
@@ -23,7 +23,7 @@ pub struct Feeder {
     // The intervals of the last call and of the last message, 0 where there is none.
     latest: u64,
     message: u64,
-    // The last reading of the clock.
+    // The last reading of the clock that could be had.
     reading: u64,
     counts: FeedCounts,
 }
@@ -55,13 +55,17 @@ impl Feeder {
         self.counts
     }
 
-    /// Notes a reading of the clock, and tells whether the first interval has begun by it.
+    /// Notes a reading of the clock, and tells whether the first interval has begun by it. Where the clock couldn't be
+    /// read it hasn't, and nothing is noted.
     pub fn has_begun(&mut self, reading: u64) -> bool
-        ensures begun { result ≡ nat_le self.old.first (interval_at self.old.sender.stream.setup.times reading) }
-        ensures same { self.new ≡ record self.old { reading = reading } }
+        ensures begun { result ≡ has_begun self.old.sender.stream.setup.times self.old.first reading }
+        ensures same { self.new ≡ record self.old { reading = noted self.old.reading reading } }
     {
-        self.reading = reading;
-        self.first <= self.sender.interval_at(reading)
+        if !is_unread(reading) {
+            self.reading = reading;
+            return self.first <= self.sender.interval_at(reading);
+        }
+        false
     }
 
     // Makes the frame of a message that came at this reading, or where it is refused that of a disclosure that is due,
@@ -72,6 +76,7 @@ impl Feeder {
         payload: &[u8],
         steps: &mut Steps<L>,
     ) -> Option<usize>
+        requires read { is_unread reading ≡ false }
         ensures makes { (made : Feeding) → StandsFor self.old.sender.stream self.old.first self.old made → Makes self.old.sender.stream self.old.first made (after_event self.old.sender.stream self.old.first made (Came reading (letters.Datagram payload.now))) self.new result }
         ensures room { IfSome result (λ length. length ≤ 2048) }
     {
@@ -95,6 +100,7 @@ impl Feeder {
 
     // Makes the frame of a disclosure at this reading, where one is due, and gives its length. `None`: none is due.
     fn disclose<L: Ledger>(&mut self, reading: u64, steps: &mut Steps<L>) -> Option<usize>
+        requires read { is_unread reading ≡ false }
         ensures makes { (made : Feeding) → StandsFor self.old.sender.stream self.old.first self.old made → Makes self.old.sender.stream self.old.first made (after_none self.old.sender.stream self.old.first made reading) self.new result }
         ensures room { IfSome result (λ length. length ≤ 2048) }
     {
@@ -113,7 +119,7 @@ impl Feeder {
     }
 
     /// Does what an event at this reading asks for: a message came, or none did. It gives the length of the frame that
-    /// is made.
+    /// is made. Where the clock couldn't be read none is, and a message that came is counted.
     pub fn take<L: Ledger>(
         &mut self,
         reading: u64,
@@ -123,9 +129,22 @@ impl Feeder {
         ensures makes { (made : Feeding) → StandsFor self.old.sender.stream self.old.first self.old made → Makes self.old.sender.stream self.old.first made (after_item self.old.sender.stream self.old.first made reading (bytes_in payload.entry)) self.new result }
         ensures room { IfSome result (λ length. length ≤ 2048) }
     {
+        if is_unread(reading) {
+            self.pass_over(payload);
+            return None;
+        }
         match payload {
             Some(payload) => self.message(reading, payload, steps),
             None => self.disclose(reading, steps),
+        }
+    }
+
+    // Counts a message that came while the clock couldn't be read.
+    fn pass_over(&mut self, payload: Option<&[u8]>)
+        ensures { self.new ≡ record self.old { counts = after_unread self.old.counts (bytes_in payload.entry) } }
+    {
+        if payload.is_some() {
+            self.counts.unread = self.counts.unread.saturating_add(1);
         }
     }
 

@@ -1,20 +1,20 @@
 //! A whole feed.
 
-ghost use Rattle.std.specs.Prelude.{◌≡◌, ◌≤◌, [], List, length, map, true};
+ghost use Rattle.std.specs.Prelude.{◌≡◌, ◌≤◌, [], List, length, map, false, true};
 ghost use Rattle.tesla_desk.specs.Faults.{HasCause};
 ghost use Rattle.tesla_posts.specs.Posts.{PostSeen};
 ghost use Rattle.tesla_sender.specs.Stands.{Stands};
+ghost use Rattle.tesla_feed.specs.Fed.{has_ended};
 ghost use Rattle.tesla_feed.specs.Feed.{Feeds};
 
-use crate::FeedCounts;
 use crate::feeder::Feeder;
 use crate::hearing::{Hearing, hear_all, tell_rest, wait_to_begin};
 use crate::posts::has_one_failed;
+use crate::{FeedCounts, OpenFeed};
 use std::sync::Wait;
 use std::sync::ledger::Ledger;
 use tesla_base::Steps;
 use tesla_desk::{Clock, Gate, Link, Post};
-use tesla_sender::Sender;
 
 /// How many posts a feed has at most.
 pub const MOST_POSTS: usize = 32;
@@ -32,29 +32,30 @@ pub struct FeedEnd {
 
 /// Feeds what comes over the link to the posts: each datagram is a message of the sender, at the reading of the clock
 /// when it came, and keys are told when they are due, also where nothing comes. Each frame is handed to each post, in
-/// their order.
+/// their order. Where the clock can't be read nothing is sent, and a message that came then is counted.
 ///
-/// The first reading of the clock is the opening: the feed makes no call in its interval or an earlier one, and asks
-/// the link for nothing before the next one has begun. After the link's end or failure it goes on until the key of the
-/// last message's interval was told on every chain. A post that fails sends no more; where all have failed the feed
-/// ends. It waits for the clock and for the link, and takes no memory.
+/// The feed makes no call in the interval of its opening or an earlier one, and asks the link for nothing before the
+/// next one has begun. After the link's end or failure it goes on until the key of the last message's interval was told
+/// on every chain. A post that fails sends no more; where all have failed the feed ends. It waits for the clock and for
+/// the link, and takes no memory.
 pub fn feed<R: Wait, L: Ledger, K: Link, C: Clock, P: Post, G: Gate>(
     rt: &R,
-    sender: Sender,
+    opened: OpenFeed,
     link: &mut K,
     clock: &mut C,
     posts: &mut [P],
     gate: &mut G,
     steps: &mut Steps<L>,
 ) -> FeedEnd
-    requires fresh { Stands sender [] }
+    requires fresh { Stands opened.sender [] }
+    requires lasts { has_ended opened.sender.stream opened.opening ≡ false }
     requires few { length posts.old ≤ 32 }
     ensures feeds { let seen : List P → List PostSeen = λ posts. map (λ post. record { name = P.name post; sent = P.sent post; faults = P.faults post }) posts in
-        Feeds sender.stream result (K.left link.old) (K.left link.new) (C.told clock.old) (C.told clock.new) (seen posts.old) (seen posts.new) }
+        Feeds opened.sender.stream opened.opening result (K.left link.old) (K.left link.new) (C.told clock.old) (C.told clock.new) (seen posts.old) (seen posts.new) }
     ensures cause { HasCause (K.faults link.old) (K.faults link.new) (result.link_failed ≡ true) }
     ensures name { K.name link.new ≡ K.name link.old }
 {
-    let opening = clock.now();
+    let OpenFeed { sender, opening } = opened;
     let mut feeder = Feeder::open(sender, opening, steps);
     wait_to_begin(rt, &mut feeder, clock, gate);
     let mut marks = [false; MOST_POSTS];

@@ -7,7 +7,10 @@ mod feeder;
 mod feeding;
 mod hearing;
 pub mod laws;
+mod opening;
 mod posts;
+mod readings;
 
 pub use counts::FeedCounts;
 pub use feeding::{FeedEnd, MOST_POSTS, feed};
+pub use opening::{OpenFeed, open_feed};

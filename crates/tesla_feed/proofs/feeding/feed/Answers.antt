@@ -11,15 +11,15 @@ pub hear_all-hearing-requires-clause-goes : goal.hear_all-hearing-requires-claus
 hear_all-hearing-requires-clause-goes g c =
     let seen = λ (post : g.row.P.Denot). let it : PostSeen = record { name = g.P.Post.name post; sent = g.P.Post.sent post; faults = g.P.Post.faults post } in it in
     record {
-      stands = begun_stands c.args.sender.stream _ c.open-feeder.result c.wait_to_begin.new.feeder _ _ c.open-feeder.ensures.stands c.wait_to_begin.ensures;
+      stands = begun_stands c.args.opened.sender.stream _ c.open-feeder.result c.wait_to_begin.new.feeder _ _ c.open-feeder.ensures.stands c.wait_to_begin.ensures;
       sends = none_sent seen c.args.posts.now _ (omega (arith, c.requires.few)) refl;
     }
 
 pub returns-clause-feeds : goal.returns-clause-feeds
 returns-clause-feeds g c =
-    feeds_all c.args.sender.stream c.now-opening.result c.open-feeder.result c.wait_to_begin.new.feeder c.hear_all-hearing.new.feeder c.tell_rest.new.feeder c.hear_all-hearing.new.failed c.tell_rest.new.failed c.hear_all-hearing.result _ _ _ _ _ _ _ _ _ _ _
+    feeds_all c.args.opened.sender.stream c.args.opened.opening c.open-feeder.result c.wait_to_begin.new.feeder c.hear_all-hearing.new.feeder c.tell_rest.new.feeder c.hear_all-hearing.new.failed c.tell_rest.new.failed c.hear_all-hearing.result _ _ _ _ _ _ _ _ _ _
     (record {
-      ticks = c.now-opening.ensures;
+      lasts = c.requires.lasts;
       stands = c.open-feeder.ensures.stands;
       awaits = c.wait_to_begin.ensures;
       hears = c.hear_all-hearing.ensures.hears;

@@ -1,0 +1,67 @@
+//! The opening of a feed.
+
+ghost use Rattle.std.specs.Prelude.{◌≡◌, []};
+ghost use Rattle.tesla_sender.specs.Stands.{Stands};
+ghost use Rattle.tesla_feed.specs.Fed.{has_ended};
+ghost use Rattle.tesla_feed.specs.Feed.{OpensAt, OpensFeed};
+
+use crate::readings::is_unread;
+use std::sync::Wait;
+use tesla_desk::{Clock, Gate};
+use tesla_sender::Sender;
+
+/// How many microseconds the gate rests at most between two readings of a clock that can't be read.
+const BETWEEN_READINGS: u64 = 1_000_000;
+
+/// How many intervals a feed may be opened behind the end of the last one and the delay of a chain.
+const LATEST_OPENING: u64 = 64;
+
+/// A sender that has accepted no call, and the reading of the clock at which its feed was opened, in microseconds.
+#[derive(Drop)]
+pub struct OpenFeed {
+    pub sender: Sender,
+    pub opening: u64,
+}
+
+/// Opens a feed of the sender: the clock is read until it can be, and that reading is the opening. The gate rests between
+/// two readings. `None` where the stream is over by then: the opening lies behind the end of the last interval by more
+/// than each chain's delay and 64 intervals.
+pub fn open_feed<R: Wait, C: Clock, G: Gate>(
+    rt: &R,
+    sender: Sender,
+    clock: &mut C,
+    gate: &mut G,
+) -> Option<OpenFeed>
+    requires { Stands sender [] }
+    ensures { OpensFeed sender.stream result (C.told clock.old) (C.told clock.new) }
+{
+    let opening = first_reading(rt, clock, gate);
+    if has_ended(&sender, opening) {
+        return None;
+    }
+    Some(OpenFeed { sender, opening })
+}
+
+// Reads the clock until it can be read, and gives that reading. The gate rests between two readings.
+fn first_reading<R: Wait, C: Clock, G: Gate>(rt: &R, clock: &mut C, gate: &mut G) -> u64
+    ensures { OpensAt result (C.told clock.old) (C.told clock.new) }
+{
+    for _ in rt.forever() {
+        let reading = clock.now();
+        if !is_unread(reading) {
+            return reading;
+        }
+        gate.rest_for(BETWEEN_READINGS);
+    }
+    unreachable!()
+}
+
+// Whether a feed that is opened at this reading is over: on each chain the last key was due at the latest 65 intervals
+// before that of the microsecond before the reading.
+fn has_ended(sender: &Sender, opening: u64) -> bool
+    ensures { result ≡ has_ended sender.now.stream opening }
+{
+    let last = u64::from(sender.schedule().last());
+    let interval = sender.interval_at(opening.saturating_sub(1));
+    sender.tells_all(last, interval.saturating_sub(LATEST_OPENING + 1))
+}
