@@ -1,16 +1,17 @@
 -- What was done with a sender, from the openings and closings of the link and the posts.
-use Rattle.std.proofs.Common.{◌≡◌, ◌∙◌, ◌⊎◌, inl, inr, ℕ, suc, ◌≤◌, Ok, Err, List, [], ◌∷◌, ◌++◌, map, length, Option, refl, sym, ap, subst, arith}
+use Rattle.std.proofs.Common.{◌≡◌, ◌∙◌, ◌⊎◌, inl, inr, ℕ, suc, ◌≤◌, true, false, Ok, Err, List, [], ◌∷◌, ◌++◌, map, length, Option, refl, sym, ap, subst, arith, append_assoc}
 use Rattle.std.proofs.lemmas.List.{length-map}
 use Rattle.std.specs.Option.{option_map}
+use Rattle.tesla_desk.specs.Clocks.{Gives, Ticking}
 use Rattle.tesla_desk.specs.Faults.{Faults, HasCause, HasCausesBeside, after_source, raised}
-use Rattle.tesla_desk.specs.Live.{LeavesAll, Live, OpenedLink, Remainder, remainder_of}
-use Rattle.tesla_desk.specs.Outside.{ClosesLink, OfLink, OfPost, OpensLink, Told}
+use Rattle.tesla_desk.specs.Live.{LeavesAll, Live, OpenedLink, Remainder, clock_told, remainder_of}
+use Rattle.tesla_desk.specs.Outside.{ClosesLink, MakesClock, OfLink, OfPost, OpensLink, Told}
 use Rattle.tesla_desk.specs.declared.desk.OpenRefusal.{OpenRefusal}
 use Rattle.tesla_desk.specs.declared.link.Letter.{Letter}
 use Rattle.tesla_desk.proofs.Told.{leaves_all}
-use Rattle.tesla_desk.proofs.Counts.{cause_none, causes_source, causes_then, counts_stay}
-use Rattle.tesla_feed.specs.Fed.{datagrams_of, reading_of}
-use Rattle.tesla_feed.specs.Feed.{events_of, letter_of}
+use Rattle.tesla_desk.proofs.Counts.{cause_none, causes_plain, causes_source, causes_then, counts_stay}
+use Rattle.tesla_feed.specs.Fed.{datagrams_of, has_ended, reading_of}
+use Rattle.tesla_feed.specs.Feed.{OpensAt, events_of, letter_of}
 use Rattle.tesla_front.specs.Came.{Came, Failed}
 use Rattle.tesla_front.specs.Fault.{unopened}
 use Rattle.tesla_front.specs.Openings.{AnyFailed, Opens}
@@ -21,19 +22,19 @@ use Rattle.tesla_names.specs.Names.{AreDistinct, IsNoneOf}
 use Rattle.tesla_posts.specs.Clocks.{ReadWhere}
 use Rattle.tesla_posts.specs.Closed.{AnyFaulty, ClosesTo, HasMails, IsUnsent}
 use Rattle.tesla_posts.specs.Links.{LeftWhere}
-use Rattle.tesla_posts.specs.Opened.{OpensTo, post_name}
+use Rattle.tesla_posts.specs.Opened.{AreFresh, OpensTo, post_name}
 use Rattle.tesla_posts.specs.Opening.{ClosesPosts}
 use Rattle.tesla_posts.specs.Posts.{PostSeen}
 use Rattle.tesla_posts.proofs.Closings.{closes_to, fresh_counts, fresh_mails, mails_same}
-use Rattle.tesla_posts.proofs.Clocks.{clock_alone, clock_made, clock_opens, live_alone, read_where}
+use Rattle.tesla_posts.proofs.Clocks.{clock_alone, clock_made, clock_opens, read_where}
 use Rattle.tesla_posts.proofs.Links.{left_where, link_tried}
 use Rattle.tesla_posts.proofs.Mails.{faulty_told, unsent_on}
 use Rattle.tesla_posts.proofs.Openings.{none_of_opened, opens_new, opens_still, refused_not_all}
 use Rattle.tesla_posts.proofs.Stopped.{came_cause, memory_counts, not_all_counts}
 use Rattle.tesla_run_feed.specs.Arguments.{FeedArguments, IsFeedForm, live_files}
-use Rattle.tesla_run_feed.specs.Feeding.{EndsAs, FeedsLink, SendPosts, Stops, TouchesLive}
-use Rattle.tesla_run_feed.specs.Lines.{came_with}
-use Rattle.tesla_run_feed.specs.Steps.{FeedsFiles, FeedsOpen, OpensAndFeeds, Refuses, RunsLinked}
+use Rattle.tesla_run_feed.specs.Feeding.{EndsAs, FeedsLink, FindsOver, SendPosts, Stops, TouchesLive}
+use Rattle.tesla_run_feed.specs.Lines.{came_with, stream_over}
+use Rattle.tesla_run_feed.specs.Steps.{FeedsFiles, FeedsOpen, OpensAndFeeds, Refuses, RunsLinked, TriesToFeed}
 use Rattle.tesla_run_feed.proofs.Ended.{end_read, ends_by, failed_either, no_open, read_end, write_failed}
 use Rattle.tesla_run_feed.proofs.Mailed.{each_told, faulty_marked, marked_faulty, names_kept, sends_posts}
 use Rattle.tesla_sender.specs.Made.{Stream}
@@ -52,7 +53,7 @@ stops_nothing : (arguments : FeedArguments) (before now : Live) (came : Came) �
 stops_nothing arguments before now came same cause = record {
   unheard = inl (ap (λ (l : Live). l.left arguments.link) same);
   unsent = λ name. inl (ap (λ (l : Live). l.mail name) same);
-  made = ap (λ (l : Live). l.made) same;
+  made = inl (ap (λ (l : Live). l.made) same);
   cause = cause;
 }
 
@@ -80,136 +81,195 @@ fed_unlinked {A} stream arguments refusal fault before now is tried =
       counts = not_all_counts (unopened refusal) before now not_all;
     })
 
--- ---- a link that was opened, and closed behind the posts
+-- ---- the clock
 
-module _ (stream : Stream) (arguments : FeedArguments) (left : Option (List Letter)) (before linked now : Told) (link_opened : OpenedLink (before.live.wire arguments.link) left) (link_live : linked.live ≡ before.live) (link_counts : linked.faults ≡ before.faults) (link_opens : Opens (OfLink arguments.link ∷ []) 1 before linked) (posts : List PostSeen) (tried closed : Told) (later : Option (List Letter)) (missed : ℕ)
+gives_both : (readings more : List ℕ) (before mid after : Option Ticking) → Gives readings before mid → Gives more mid after → Gives (readings ++ more) before after
+gives_both [] more before mid after gives others = subst (λ (told : Option Ticking). Gives more told after) gives others
+gives_both (reading ∷ readings) more before mid after (next, ticks, rest) others = (next, ticks, gives_both readings more next mid after rest others)
+
+-- the readings up to the opening, and those behind it
+gives_all : (unread : List ℕ) (opening : ℕ) (early later : List ℕ) (before mid after : Option Ticking) → Gives (unread ++ opening ∷ []) before mid → Gives (early ++ later) mid after → Gives (unread ++ opening ∷ early ++ later) before after
+gives_all unread opening early later before mid after gives others =
+    let same : (unread ++ opening ∷ []) ++ (early ++ later) ≡ unread ++ opening ∷ early ++ later = append_assoc unread (opening ∷ []) (early ++ later) ∙ sym (append_assoc unread (opening ∷ early) later) in
+    subst (λ (rs : List ℕ). Gives rs before after) same (gives_both (unread ++ opening ∷ []) (early ++ later) before mid after gives others)
+
+-- ---- a refused stream
+
+-- no count rises
+over_counts : {hidden : Type 0} (before now : Faults) → now ≡ before → HasCausesBeside hidden before now (stream_over ≡ Failed faults.Read) (stream_over ≡ Failed faults.Write) (stream_over ≡ Failed faults.Open)
+over_counts {hidden} before now same = causes_plain {hidden = hidden} before now (record {
+  reads = cause_none before.reads now.reads (ap (λ (f : Faults). f.reads) same) (λ e. absurd cc);
+  writes = cause_none before.writes now.writes (ap (λ (f : Faults). f.writes) same) (λ e. absurd cc);
+  openings = cause_none before.openings now.openings (ap (λ (f : Faults). f.openings) same) (λ e. absurd cc);
+})
+
+-- ---- a link that was opened, and closed behind the clock and the posts
+
+module _ (stream : Stream) (arguments : FeedArguments) (left : Option (List Letter)) (before clocked now : Told) (link_opened : OpenedLink (before.live.wire arguments.link) left) (clock_live : clocked.live ≡ record before.live { made = clocked.live.made }) (clock_counted : clocked.live.made ≡ option_map raised before.live.made) (clock_counts : clocked.faults ≡ before.faults) (link_opens : Opens (OfLink arguments.link ∷ []) 1 before clocked) (posts : List PostSeen) (tried closed : Told) (later : Option (List Letter)) (missed : ℕ)
     (closes : ClosesTo posts tried closed) (link_closed : ClosesLink arguments.link later missed closed now) where
   -- the link and so many posts were asked to be opened, and nothing else was
-  all_opens : (n : ℕ) → Opens (map OfPost arguments.posts) n linked tried → Opens (live_files arguments) (suc n) before now
+  all_opens : (n : ℕ) → Opens (map OfPost arguments.posts) n clocked tried → Opens (live_files arguments) (suc n) before now
   all_opens n opens =
-      opens_then (OfLink arguments.link) (map OfPost arguments.posts) n before linked now link_opens
-      (opens_still (map OfPost arguments.posts) n linked tried now opens (link_closed.asked ∙ closes.asked) (λ name. link_closed.pages name ∙ closes.pages name) (λ name. link_closed.lefts name ∙ closes.lefts name))
+      opens_then (OfLink arguments.link) (map OfPost arguments.posts) n before clocked now link_opens
+      (opens_still (map OfPost arguments.posts) n clocked tried now opens (link_closed.asked ∙ closes.asked) (λ name. link_closed.pages name ∙ closes.pages name) (λ name. link_closed.lefts name ∙ closes.lefts name))
 
-  all_touches : tried.live ≡ record before.live { made = tried.live.made } → ((name : List ℕ) → IsNoneOf name arguments.posts → IsNoneOf name (map post_name posts)) → TouchesLive arguments.link arguments.posts before.live now.live
-  all_touches same none_of = record {
-    wires = λ name. link_closed.wires name ∙ closes.wires name ∙ ap (λ (l : Live). l.wire name) same;
-    others = λ name other. link_closed.others name other ∙ closes.remainders name ∙ ap (λ (l : Live). l.left name) same;
-    mails = λ name none. link_closed.mails name ∙ closes.others name (none_of name none) ∙ ap (λ (l : Live). l.mail name) same;
-    readings = link_closed.clocks.0 ∙ closes.clocks.0 ∙ ap (λ (l : Live). l.readings) same;
-  }
+  -- what is told of links, posts and clocks is as before the posts were opened, and but for the clock as at first
+  module _ (same : tried.live ≡ clocked.live) where
+    at_first : tried.live ≡ record before.live { made = clocked.live.made }
+    at_first = same ∙ clock_live
 
-  all_made : now.live.made ≡ tried.live.made
-  all_made = link_closed.clocks.1 ∙ closes.clocks.1
+    all_touches : ((name : List ℕ) → IsNoneOf name arguments.posts → IsNoneOf name (map post_name posts)) → TouchesLive arguments.link arguments.posts before.live now.live
+    all_touches none_of = record {
+      wires = λ name. link_closed.wires name ∙ closes.wires name ∙ ap (λ (l : Live). l.wire name) at_first;
+      others = λ name other. link_closed.others name other ∙ closes.remainders name ∙ ap (λ (l : Live). l.left name) at_first;
+      mails = λ name none. link_closed.mails name ∙ closes.others name (none_of name none) ∙ ap (λ (l : Live). l.mail name) at_first;
+      readings = link_closed.clocks.0 ∙ closes.clocks.0 ∙ ap (λ (l : Live). l.readings) at_first;
+    }
+
+    all_made : now.live.made ≡ option_map raised before.live.made
+    all_made = link_closed.clocks.1 ∙ closes.clocks.1 ∙ ap (λ (l : Live). l.made) same ∙ clock_counted
+
+  -- ---- nothing was taken from the link
+
+  module _ (same : (later ≡ left) × (missed ≡ 0)) where
+    all_unheard : LeavesAll (before.live.wire arguments.link) (now.live.left arguments.link)
+    all_unheard =
+        subst (λ (r : Option Remainder). LeavesAll (before.live.wire arguments.link) r) (sym link_closed.own)
+        (subst (λ (l : Option (List Letter)). LeavesAll (before.live.wire arguments.link) (remainder_of l missed)) (sym same.0) (leaves_all (before.live.wire arguments.link) left missed link_opened same.1))
+
+    all_faults : AreFresh posts → now.faults ≡ tried.faults
+    all_faults fresh = link_closed.counts ∙ ap (λ (n : ℕ). after_source closed.faults n) same.1 ∙ fresh_counts posts tried closed fresh closes
+
+  -- ---- the stream was over
+
+  module _ (ticking : Option Ticking) (opening : ℕ) (opens_at : OpensAt opening (clock_told before.live.readings before.live.made) ticking) (over : has_ended stream opening ≡ true) (none : posts ≡ []) (same : tried ≡ clocked) (unheard : (later ≡ left) × (missed ≡ 0)) where
+    over_fresh : AreFresh posts
+    over_fresh = subst AreFresh (sym none) tt
+
+    over_live : tried.live ≡ clocked.live
+    over_live = ap (λ (t : Told). t.live) same
+
+    over_opens : Opens (map OfPost arguments.posts) 0 clocked tried
+    over_opens = opens_none (map OfPost arguments.posts) clocked tried (ap (λ (t : Told). t.openings) same) (λ name. ap (λ (t : Told). t.page name) same) (λ name. ap (λ (t : Told). t.left name) same)
+
+    over_none : (name : List ℕ) → IsNoneOf name (map post_name posts)
+    over_none name = subst (λ (ps : List PostSeen). IsNoneOf name (map post_name ps)) (sym none) tt
+
+    over_found : FindsOver arguments stream before.live now.live stream_over
+    over_found = record {
+      unread = opens_at.unread;
+      opening = opening;
+      clock = read_where (opens_at.unread ++ opening ∷ []) before.live.readings before.live.made ticking opens_at.gives;
+      clock_made = all_made over_live;
+      missed = opens_at.missed;
+      read = opens_at.read;
+      over = over;
+      unheard = all_unheard unheard;
+      unsent = λ name. link_closed.mails name ∙ closes.others name (over_none name) ∙ ap (λ (l : Live). l.mail name) (at_first over_live);
+      came_is = refl;
+    }
+
+    fed_over : FeedsFiles stream arguments before now stream_over
+    fed_over = record {
+      opened = 1;
+      opens = all_opens 0 over_opens;
+      touches = all_touches over_live (λ name other. over_none name);
+      does = inr (inl (refl, over_found));
+      counts = over_counts before.faults now.faults (all_faults unheard over_fresh ∙ ap (λ (t : Told). t.faults) same ∙ clock_counts);
+    }
 
   -- ---- the opening of a post was refused
 
-  module _ (posts_closed : ClosesPosts posts tried closed) (came : Came) (refuses : Refuses arguments.posts left later 0 missed linked tried posts came) where
-    refused_to : OpensTo arguments.posts posts linked tried (Err refuses.fault)
-    refused_to = opens_new arguments.posts linked tried posts (Err refuses.fault) refuses.opens
-
-    refused_live : tried.live ≡ before.live
-    refused_live = refused_to.live ∙ link_live
-
-    refused_unheard : LeavesAll (before.live.wire arguments.link) (now.live.left arguments.link)
-    refused_unheard =
-        subst (λ (r : Option Remainder). LeavesAll (before.live.wire arguments.link) r) (sym link_closed.own)
-        (subst (λ (l : Option (List Letter)). LeavesAll (before.live.wire arguments.link) (remainder_of l missed)) (sym refuses.same.0) (leaves_all (before.live.wire arguments.link) left missed link_opened refuses.same.1))
+  module _ (posts_closed : ClosesPosts posts tried closed) (came : Came) (refuses : Refuses arguments.posts left later 0 missed clocked tried posts came) where
+    refused_to : OpensTo arguments.posts posts clocked tried (Err refuses.fault)
+    refused_to = opens_new arguments.posts clocked tried posts (Err refuses.fault) refuses.opens
 
     refused_unsent : (name : List ℕ) → (now.live.mail name ≡ before.live.mail name) ⊎ IsUnsent (now.live.mail name)
     refused_unsent name =
         unsent_on before.live now.live closed.live name (link_closed.mails name)
-        (subst (λ (l : Live). (closed.live.mail name ≡ l.mail name) ⊎ IsUnsent (closed.live.mail name)) refused_live (fresh_mails posts tried closed refused_to.fresh posts_closed name))
+        (subst (λ (l : Live). (closed.live.mail name ≡ l.mail name) ⊎ IsUnsent (closed.live.mail name)) (at_first refused_to.live) (fresh_mails posts tried closed refused_to.fresh posts_closed name))
 
-    refused_faults : now.faults ≡ tried.faults
-    refused_faults = link_closed.counts ∙ ap (λ (n : ℕ). after_source closed.faults n) refuses.same.1 ∙ fresh_counts posts tried closed refused_to.fresh closes
-
-    pub fed_refused : FeedsFiles stream arguments before now came
+    fed_refused : FeedsFiles stream arguments before now came
     fed_refused =
         let fault = refuses.fault in
         let not_all = refused_to.refused fault refl in
-        let counts = causes_then before.faults linked.faults tried.faults link_counts (not_all_counts {hidden = (Failed fault ≡ Failed faults.Read) × AnyFailed (live_files arguments) now} fault linked tried not_all) in
+        let counts = causes_then before.faults clocked.faults tried.faults clock_counts (not_all_counts {hidden = (Failed fault ≡ Failed faults.Read) × AnyFailed (live_files arguments) now} fault clocked tried not_all) in
         subst (λ (c : Came). FeedsFiles stream arguments before now c) (sym refuses.came_is) (record {
           opened = suc refused_to.opened;
           opens = all_opens refused_to.opened refused_to.opens;
-          touches = all_touches (live_alone before.live tried.live refused_live) (λ name none. none_of_opened name arguments.posts posts linked tried (Err refuses.fault) refused_to none);
+          touches = all_touches refused_to.live (λ name none. none_of_opened name arguments.posts posts clocked tried (Err refuses.fault) refused_to none);
           does = inl (record {
-            unheard = inr refused_unheard;
+            unheard = inr (all_unheard refuses.same);
             unsent = refused_unsent;
-            made = all_made ∙ ap (λ (l : Live). l.made) refused_live;
+            made = inr (all_made refused_to.live);
             cause = came_cause fault not_all.cause;
           });
-          counts = subst (λ (f : Faults). HasCausesBeside ((Failed fault ≡ Failed faults.Read) × AnyFailed (live_files arguments) now) before.faults f (Failed fault ≡ Failed faults.Read) (Failed fault ≡ Failed faults.Write) (Failed fault ≡ Failed faults.Open)) (sym refused_faults) counts;
+          counts = subst (λ (f : Faults). HasCausesBeside ((Failed fault ≡ Failed faults.Read) × AnyFailed (live_files arguments) now) before.faults f (Failed fault ≡ Failed faults.Read) (Failed fault ≡ Failed faults.Write) (Failed fault ≡ Failed faults.Open)) (sym (all_faults refuses.same refused_to.fresh)) counts;
         })
 
   -- ---- all were opened
 
-  module _ (some : 1 ≤ length arguments.posts) (distinct : AreDistinct arguments.posts) (came : Came) (open_feeds : FeedsOpen stream arguments.posts left later 0 missed linked tried posts came) where
-    fed_to : OpensTo arguments.posts open_feeds.fresh linked open_feeds.opened (Ok tt)
-    fed_to = opens_new arguments.posts linked open_feeds.opened open_feeds.fresh (Ok tt) open_feeds.opens
-
-    fed_live : open_feeds.opened.live ≡ before.live
-    fed_live = fed_to.live ∙ link_live
-
-    fed_alone : tried.live ≡ record before.live { made = tried.live.made }
-    fed_alone = clock_alone before open_feeds.opened tried open_feeds.made.makes fed_live
+  module _ (some : 1 ≤ length arguments.posts) (distinct : AreDistinct arguments.posts) (came : Came) (opening : ℕ) (ticking : Option Ticking) (opens_at : OpensAt opening (clock_told before.live.readings before.live.made) ticking) (lasts : has_ended stream opening ≡ false) (open_feeds : FeedsOpen stream opening ticking arguments.posts left later 0 missed clocked tried posts came) where
+    fed_to : OpensTo arguments.posts open_feeds.fresh clocked tried (Ok tt)
+    fed_to = opens_new arguments.posts clocked tried open_feeds.fresh (Ok tt) open_feeds.opens
 
     fed_names : map post_name posts ≡ arguments.posts
     fed_names =
-        let feeds = open_feeds.made.feeds in
+        let feeds = open_feeds.fed.feeds in
         names_kept (datagrams_of stream feeds.made.log) open_feeds.fresh posts feeds.failed feeds.posts_are ∙ (fed_to.whole refl).names_are
 
     fed_mails : HasMails posts now
     fed_mails = mails_same posts closed now link_closed.mails (closes.mails (subst AreDistinct (sym fed_names) distinct))
 
-    fed_posts : SendPosts (datagrams_of stream open_feeds.made.feeds.made.log) arguments.posts now.live open_feeds.made.feeds.failed
+    fed_posts : SendPosts (datagrams_of stream open_feeds.fed.feeds.made.log) arguments.posts now.live open_feeds.fed.feeds.failed
     fed_posts =
-        let feeds = open_feeds.made.feeds in
+        let feeds = open_feeds.fed.feeds in
         subst (λ (ns : List (List ℕ)). SendPosts (datagrams_of stream feeds.made.log) ns now.live feeds.failed) fed_names
         (sends_posts (datagrams_of stream feeds.made.log) open_feeds.fresh posts feeds.failed now fed_to.fresh fed_mails feeds.posts_are)
 
-    fed_made : now.live.made ≡ option_map raised before.live.made
-    fed_made = all_made ∙ clock_made before open_feeds.opened tried open_feeds.made.makes fed_live
-
-    abbrev fed_readings : List ℕ
-    fed_readings = let feeds = open_feeds.made.feeds in feeds.opening ∷ feeds.early ++ feeds.begun ∷ map reading_of (events_of feeds.heard feeds.rests)
-
-    fed_clock : ReadWhere fed_readings before.live.readings before.live.made
+    fed_clock : let feeds = open_feeds.fed.feeds in ReadWhere (opens_at.unread ++ opening ∷ feeds.early ++ feeds.begun ∷ map reading_of (events_of feeds.heard feeds.rests)) before.live.readings before.live.made
     fed_clock =
-        subst (λ (l : Live). ReadWhere fed_readings l.readings l.made) fed_live
-        (read_where fed_readings open_feeds.opened.live.readings open_feeds.opened.live.made open_feeds.made.after open_feeds.made.feeds.gives)
+        let feeds = open_feeds.fed.feeds in
+        let later : List ℕ = feeds.begun ∷ map reading_of (events_of feeds.heard feeds.rests) in
+        read_where (opens_at.unread ++ opening ∷ feeds.early ++ later) before.live.readings before.live.made open_feeds.fed.after
+        (gives_all opens_at.unread opening feeds.early later (clock_told before.live.readings before.live.made) ticking open_feeds.fed.after opens_at.gives feeds.gives)
 
-    fed_link : LeftWhere (map letter_of open_feeds.made.feeds.heard) (before.live.wire arguments.link) (now.live.left arguments.link)
+    fed_link : LeftWhere (map letter_of open_feeds.fed.feeds.heard) (before.live.wire arguments.link) (now.live.left arguments.link)
     fed_link =
-        let taken = map letter_of open_feeds.made.feeds.heard in
+        let taken = map letter_of open_feeds.fed.feeds.heard in
         subst (λ (r : Option Remainder). LeftWhere taken (before.live.wire arguments.link) r) (sym link_closed.own)
-        (left_where taken (before.live.wire arguments.link) left later missed link_opened open_feeds.made.feeds.left_is)
+        (left_where taken (before.live.wire arguments.link) left later missed link_opened open_feeds.fed.feeds.left_is)
 
-    fed_some : 1 ≤ length open_feeds.made.feeds.failed
+    fed_some : 1 ≤ length open_feeds.fed.feeds.failed
     fed_some =
-        let feeds = open_feeds.made.feeds in
+        let feeds = open_feeds.fed.feeds in
         let size : length feeds.failed ≡ length arguments.posts =
         each_told (datagrams_of stream feeds.made.log) open_feeds.fresh posts feeds.failed feeds.posts_are
         ∙ sym (length-map posts post_name) ∙ ap (λ (ns : List (List ℕ)). length ns) fed_names in
         subst (λ (n : ℕ). 1 ≤ n) (sym size) some
 
-    fed_ends : EndsAs stream (now.live.left arguments.link) open_feeds.made.feeds.made open_feeds.made.feeds.failed (came_with open_feeds.end)
+    fed_ends : EndsAs stream (now.live.left arguments.link) open_feeds.fed.feeds.made open_feeds.fed.feeds.failed (came_with open_feeds.end)
     fed_ends =
-        let feeds = open_feeds.made.feeds in
+        let feeds = open_feeds.fed.feeds in
         let end = open_feeds.end in
         subst (λ (r : Option Remainder). EndsAs stream r feeds.made feeds.failed (came_with end)) (sym link_closed.own)
         (ends_by stream end.link_failed end.post_failed end.counts feeds.made feeds.failed later missed open_feeds.read fed_some feeds.told feeds.ended feeds.counts feeds.some_failed)
 
     fed_feeds : FeedsLink arguments stream before.live now.live (came_with open_feeds.end)
     fed_feeds =
-        let feeds = open_feeds.made.feeds in
+        let feeds = open_feeds.fed.feeds in
         record {
-          opening = feeds.opening;
+          unread = opens_at.unread;
+          opening = opening;
           early = feeds.early;
           begun = feeds.begun;
           heard = feeds.heard;
           rests = feeds.rests;
           clock = fed_clock;
-          clock_made = fed_made;
+          clock_made = all_made fed_to.live;
+          missed = opens_at.missed;
+          read = opens_at.read;
+          lasts = lasts;
           waits = feeds.waits;
           begins = feeds.begins;
           link = fed_link;
@@ -222,18 +282,18 @@ module _ (stream : Stream) (arguments : FeedArguments) (left : Option (List Lett
         }
 
     fed_faults : tried.faults ≡ before.faults
-    fed_faults = ap (λ (t : Told). t.faults) open_feeds.made.makes.same ∙ (fed_to.whole refl).counts ∙ link_counts
+    fed_faults = (fed_to.whole refl).counts ∙ clock_counts
 
     fed_faulty : AnyFaulty posts → (came_with open_feeds.end ≡ Failed faults.Read) ⊎ (came_with open_feeds.end ≡ Failed faults.Write)
     fed_faulty faulty =
-        let feeds = open_feeds.made.feeds in
+        let feeds = open_feeds.fed.feeds in
         let end = open_feeds.end in
         failed_either end.link_failed end.post_failed end.counts
         (feeds.some_failed ∙ faulty_marked (datagrams_of stream feeds.made.log) open_feeds.fresh posts feeds.failed fed_to.fresh feeds.posts_are faulty)
 
     fed_failed : came_with open_feeds.end ≡ Failed faults.Write → AnyFaulty posts
     fed_failed e =
-        let feeds = open_feeds.made.feeds in
+        let feeds = open_feeds.fed.feeds in
         let end = open_feeds.end in
         marked_faulty (datagrams_of stream feeds.made.log) open_feeds.fresh posts feeds.failed fed_to.fresh feeds.posts_are (sym feeds.some_failed ∙ write_failed end.link_failed end.post_failed end.counts e)
 
@@ -260,27 +320,64 @@ module _ (stream : Stream) (arguments : FeedArguments) (left : Option (List Lett
           openings = cause_none tried.faults.openings now.faults.openings openings (λ e. no_open end.link_failed end.post_failed end.counts e);
         }
 
-    pub fed_all : FeedsFiles stream arguments before now came
+    fed_all : FeedsFiles stream arguments before now came
     fed_all =
         subst (λ (c : Came). FeedsFiles stream arguments before now c) (sym open_feeds.came_is) (record {
           opened = suc fed_to.opened;
-          opens = all_opens fed_to.opened (clock_opens linked open_feeds.opened tried open_feeds.made.makes (map OfPost arguments.posts) fed_to.opened fed_to.opens);
-          touches = all_touches fed_alone (λ name none. subst (λ (ns : List (List ℕ)). IsNoneOf name ns) (sym fed_names) none);
-          does = inr (let all = (fed_to.whole refl).all in omega (arith, all), fed_feeds);
+          opens = all_opens fed_to.opened fed_to.opens;
+          touches = all_touches fed_to.live (λ name none. subst (λ (ns : List (List ℕ)). IsNoneOf name ns) (sym fed_names) none);
+          does = inr (inr (let all = (fed_to.whole refl).all in omega (arith, all), fed_feeds));
           counts = causes_then before.faults tried.faults now.faults fed_faults fed_causes;
         })
 
-fed_tried : (stream : Stream) (arguments : FeedArguments) (left : Option (List Letter)) (before linked now : Told) (link_opened : OpenedLink (before.live.wire arguments.link) left) (link_live : linked.live ≡ before.live) (link_counts : linked.faults ≡ before.faults) (link_opens : Opens (OfLink arguments.link ∷ []) 1 before linked) (posts : List PostSeen) (tried closed : Told) (later : Option (List Letter)) (missed : ℕ)
-    (posts_closed : ClosesPosts posts tried closed) (link_closed : ClosesLink arguments.link later missed closed now) (some : 1 ≤ length arguments.posts) (distinct : AreDistinct arguments.posts) (came : Came) → OpensAndFeeds stream arguments.posts left later 0 missed linked tried posts came → FeedsFiles stream arguments before now came
-fed_tried stream arguments left before linked now link_opened link_live link_counts link_opens posts tried closed later missed posts_closed link_closed some distinct came (inl refuses) =
-    fed_refused stream arguments left before linked now link_opened link_live link_counts link_opens posts tried closed later missed (closes_to posts tried closed posts_closed) link_closed posts_closed came refuses
-fed_tried stream arguments left before linked now link_opened link_live link_counts link_opens posts tried closed later missed posts_closed link_closed some distinct came (inr open_feeds) =
-    fed_all stream arguments left before linked now link_opened link_live link_counts link_opens posts tried closed later missed (closes_to posts tried closed posts_closed) link_closed some distinct came open_feeds
+  -- ---- the posts were opened, or one was refused
 
--- the link was opened, and then the posts were, and all was closed
+  fed_posts_tried : ClosesPosts posts tried closed → 1 ≤ length arguments.posts → AreDistinct arguments.posts → (came : Came) (opening : ℕ) (ticking : Option Ticking) → OpensAt opening (clock_told before.live.readings before.live.made) ticking → has_ended stream opening ≡ false → OpensAndFeeds stream opening ticking arguments.posts left later 0 missed clocked tried posts came → FeedsFiles stream arguments before now came
+  fed_posts_tried posts_closed some distinct came opening ticking opens_at lasts (inl refuses) = fed_refused posts_closed came refuses
+  fed_posts_tried posts_closed some distinct came opening ticking opens_at lasts (inr open_feeds) = fed_all some distinct came opening ticking opens_at lasts open_feeds
+
+-- ---- the opening of the feed
+
+module _ (stream : Stream) (arguments : FeedArguments) (left : Option (List Letter)) (before linked clocked now : Told) (link_opened : OpenedLink (before.live.wire arguments.link) left) (link_live : linked.live ≡ before.live) (link_counts : linked.faults ≡ before.faults) (link_opens : Opens (OfLink arguments.link ∷ []) 1 before linked) (posts : List PostSeen) (tried closed : Told) (later : Option (List Letter)) (missed : ℕ)
+    (posts_closed : ClosesPosts posts tried closed) (link_closed : ClosesLink arguments.link later missed closed now) (ticking : Option Ticking) (makes : MakesClock linked clocked) where
+  opened_alone : clocked.live ≡ record before.live { made = clocked.live.made }
+  opened_alone = clock_alone before linked clocked makes link_live
+
+  opened_made : clocked.live.made ≡ option_map raised before.live.made
+  opened_made = clock_made before linked clocked makes link_live
+
+  opened_counts : clocked.faults ≡ before.faults
+  opened_counts = ap (λ (t : Told). t.faults) makes.same ∙ link_counts
+
+  opened_opens : Opens (OfLink arguments.link ∷ []) 1 before clocked
+  opened_opens = clock_opens before linked clocked makes (OfLink arguments.link ∷ []) 1 link_opens
+
+  opened_at : (opening : ℕ) → OpensAt opening (clock_told linked.live.readings linked.live.made) ticking → OpensAt opening (clock_told before.live.readings before.live.made) ticking
+  opened_at opening opens_at = subst (λ (l : Live). OpensAt opening (clock_told l.readings l.made) ticking) link_live opens_at
+
+  opened_over : (opening : ℕ) → OpensAt opening (clock_told linked.live.readings linked.live.made) ticking → has_ended stream opening ≡ true → posts ≡ [] → tried ≡ clocked → (later ≡ left) × (missed ≡ 0) → FeedsFiles stream arguments before now stream_over
+  opened_over opening opens_at over none same unheard =
+      fed_over stream arguments left before clocked now link_opened opened_alone opened_made opened_counts opened_opens posts tried closed later missed (closes_to posts tried closed posts_closed) link_closed ticking opening (opened_at opening opens_at) over none same unheard
+
+  opened_goes : 1 ≤ length arguments.posts → AreDistinct arguments.posts → (came : Came) (opening : ℕ) → OpensAt opening (clock_told linked.live.readings linked.live.made) ticking → has_ended stream opening ≡ false → OpensAndFeeds stream opening ticking arguments.posts left later 0 missed clocked tried posts came → FeedsFiles stream arguments before now came
+  opened_goes some distinct came opening opens_at lasts goes =
+      fed_posts_tried stream arguments left before clocked now link_opened opened_alone opened_made opened_counts opened_opens posts tried closed later missed (closes_to posts tried closed posts_closed) link_closed posts_closed some distinct came opening ticking (opened_at opening opens_at) lasts goes
+
+fed_tried : (stream : Stream) (arguments : FeedArguments) (left : Option (List Letter)) (before linked now : Told) (link_opened : OpenedLink (before.live.wire arguments.link) left) (link_live : linked.live ≡ before.live) (link_counts : linked.faults ≡ before.faults) (link_opens : Opens (OfLink arguments.link ∷ []) 1 before linked) (posts : List PostSeen) (tried closed : Told) (later : Option (List Letter)) (missed : ℕ)
+    (posts_closed : ClosesPosts posts tried closed) (link_closed : ClosesLink arguments.link later missed closed now) (some : 1 ≤ length arguments.posts) (distinct : AreDistinct arguments.posts) (came : Came) → TriesToFeed stream arguments.posts left later 0 missed linked tried posts came → FeedsFiles stream arguments before now came
+fed_tried stream arguments left before linked now link_opened link_live link_counts link_opens posts tried closed later missed posts_closed link_closed some distinct came (inl ends) =
+    let opens = ends.opens.opens in
+    subst (λ (c : Came). FeedsFiles stream arguments before now c) (sym ends.came_is)
+    (opened_over stream arguments left before linked tried now link_opened link_live link_counts link_opens posts tried closed later missed posts_closed link_closed ends.ticking ends.opens.makes opens.0 opens.1 opens.2 ends.none refl ends.same)
+fed_tried stream arguments left before linked now link_opened link_live link_counts link_opens posts tried closed later missed posts_closed link_closed some distinct came (inr goes) =
+    let opens = goes.opens.opens in
+    opened_goes stream arguments left before linked goes.clocked now link_opened link_live link_counts link_opens posts tried closed later missed posts_closed link_closed goes.ticking goes.opens.makes some distinct came goes.feed.opening opens.0 opens.1
+    (subst (λ (s : Stream). OpensAndFeeds s goes.feed.opening goes.ticking arguments.posts left later 0 missed goes.clocked tried posts came) opens.2 goes.goes)
+
+-- the link was opened, what follows was tried, and all was closed
 pub fed_linked : {A : Type 0} (stream : Stream) (arguments : FeedArguments) (words : List (List ℕ)) (it : A) (name : List ℕ) (names : List (List ℕ)) (left : Option (List Letter)) (before linked now : Told) (came : Came) → IsFeedForm arguments words → name ≡ arguments.link → names ≡ arguments.posts → OpenedLink (before.live.wire arguments.link) left → OpensLink {A = A} arguments.link (Ok it) before linked → RunsLinked stream names name left linked now came → FeedsFiles stream arguments before now came
 fed_linked {A} stream arguments words it name names left before linked now came is own posts_are opened opens runs =
-    let tries = subst (λ (ns : List (List ℕ)). OpensAndFeeds stream ns left runs.later 0 runs.missed linked runs.tried runs.posts came) posts_are runs.tries in
+    let tries = subst (λ (ns : List (List ℕ)). TriesToFeed stream ns left runs.later 0 runs.missed linked runs.tried runs.posts came) posts_are runs.tries in
     let link_closed = subst (λ (n : List ℕ). ClosesLink n runs.later runs.missed runs.closed now) own runs.link_closed in
     let first = opens_first (OfLink arguments.link) [] before linked opens.asked (λ n none. opens.pages n) (λ n none. opens.lefts n) in
     fed_tried stream arguments left before linked now opened opens.live (counts_stay before.faults linked.faults opens.counts (λ e. absurd cc)) first runs.posts runs.tried runs.closed runs.later runs.missed runs.posts_closed link_closed is.posts_are.some is.posts_are.distinct came tries

@@ -1,5 +1,5 @@
 -- What the command feed does.
-use Rattle.std.specs.Prelude.{◌≡◌, ◌≢◌, ◌⊎◌, ℕ, ◌+◌, ◌<◌, ◌≤◌, Bool, true, false, List, [], ◌∷◌, ◌++◌, length, map, take, Option, Some, None}
+use Rattle.std.specs.Prelude.{◌≡◌, ◌≢◌, ◌⊎◌, ℕ, ◌+◌, Bool, true, false, List, [], ◌∷◌, ◌++◌, length, map, take, Option, Some, None}
 use Rattle.std.specs.List.{AllByRecursion, list_all, list_any}
 use Rattle.std.specs.Option.{option_map}
 use Rattle.tesla_base.specs.declared.names.Key.{Key}
@@ -7,7 +7,7 @@ use Rattle.tesla_commit.specs.Parts.{Parts}
 use Rattle.tesla_convert.specs.Meaning.{StopsAtSetup}
 use Rattle.tesla_desk.specs.Faults.{raised}
 use Rattle.tesla_desk.specs.Live.{Live, Remainder, LeavesAll, Mail}
-use Rattle.tesla_feed.specs.Fed.{Feeding, counts_of, datagrams_of, fed, first_interval, is_all_told, reading_of}
+use Rattle.tesla_feed.specs.Fed.{Feeding, counts_of, datagrams_of, fed, first_interval, has_begun, has_ended, is_all_told, is_unread, reading_of}
 use Rattle.tesla_feed.specs.Feed.{AreNeeded, Heard, came_of, events_of, has_failed, letter_of}
 use Rattle.tesla_front.specs.Came.{Came, Done, Failed}
 use Rattle.tesla_front.specs.Command.{Command}
@@ -20,18 +20,33 @@ use Rattle.tesla_posts.specs.Closed.{HoldsSent, IsUnsent}
 use Rattle.tesla_posts.specs.Counts.{IsSentCount}
 use Rattle.tesla_posts.specs.Links.{HasBroken, HasEnded, LeftWhere}
 use Rattle.tesla_run_feed.specs.Arguments.{FeedArguments, IsFeedForm, files_of_feed}
-use Rattle.tesla_run_feed.specs.Lines.{lines_of}
+use Rattle.tesla_run_feed.specs.Lines.{lines_of, stream_over}
 use Rattle.tesla_run_send.specs.Send.{AreSeeds, StopsAtSeeds, wrong_line}
-use Rattle.tesla_sender.specs.Made.{Stream, interval_at}
+use Rattle.tesla_sender.specs.Made.{Stream}
 
 -- ---- nothing was fed
 
--- the link or a post wasn't opened, or there was no memory: no letter left the link, no post sent anything, and no clock was made
+-- the link or a post wasn't opened, or there was no memory: no letter left the link, no post sent anything, and at most the next clock was made
 pub record Stops (arguments : FeedArguments) (before now : Live) (came : Came) : Type 0 where
   pub unheard : (now.left arguments.link ≡ before.left arguments.link) ⊎ LeavesAll (before.wire arguments.link) (now.left arguments.link)
   pub unsent : (name : List ℕ) → (now.mail name ≡ before.mail name) ⊎ IsUnsent (now.mail name)
-  pub made : now.made ≡ before.made
+  pub made : (now.made ≡ before.made) ⊎ (now.made ≡ option_map raised before.made)
   pub cause : (came ≡ Failed faults.Open) ⊎ (came ≡ Failed faults.NoMemory)
+
+-- the link was opened, and by the next clock the stream was over: no letter left the link, the mail under each name is as before, and the setup is refused
+pub record FindsOver (arguments : FeedArguments) (stream : Stream) (before now : Live) (came : Came) : Type 0 where
+  -- the readings of that clock: those before it could be read, and that of the opening
+  pub unread : List ℕ
+  pub opening : ℕ
+  pub clock : ReadWhere (unread ++ opening ∷ []) before.readings before.made
+  pub clock_made : now.made ≡ option_map raised before.made
+  pub missed : AllByRecursion (λ reading. is_unread reading ≡ true) unread
+  pub read : is_unread opening ≡ false
+  -- it lies behind the end of the last interval by more than the delay of each chain and 64 intervals
+  pub over : has_ended stream opening ≡ true
+  pub unheard : LeavesAll (before.wire arguments.link) (now.left arguments.link)
+  pub unsent : (name : List ℕ) → now.mail name ≡ before.mail name
+  pub came_is : came ≡ stream_over
 
 -- ---- the posts
 
@@ -73,16 +88,20 @@ EndsAs stream remainder made failed _ = ⊥
 
 -- what came over the link was fed to the posts by the sender of the stream
 pub record FeedsLink (arguments : FeedArguments) (stream : Stream) (before now : Live) (came : Came) : Type 0 where
-  -- the readings of the next clock: that of the opening, those before the first interval had begun, the first one then, and one for each event
+  -- the readings of the next clock: those before it could be read, that of the opening, those before the first interval had begun, the first one then, and one for each event
+  pub unread : List ℕ
   pub opening : ℕ
   pub early : List ℕ
   pub begun : ℕ
   pub heard : List Heard
   pub rests : List ℕ
-  pub clock : ReadWhere (opening ∷ early ++ begun ∷ map reading_of (events_of heard rests)) before.readings before.made
+  pub clock : ReadWhere (unread ++ opening ∷ early ++ begun ∷ map reading_of (events_of heard rests)) before.readings before.made
   pub clock_made : now.made ≡ option_map raised before.made
-  pub waits : AllByRecursion (λ reading. interval_at stream.setup.times reading < first_interval stream.setup.times opening) early
-  pub begins : first_interval stream.setup.times opening ≤ interval_at stream.setup.times begun
+  pub missed : AllByRecursion (λ reading. is_unread reading ≡ true) unread
+  pub read : is_unread opening ≡ false
+  pub lasts : has_ended stream opening ≡ false
+  pub waits : AllByRecursion (λ reading. has_begun stream.setup.times (first_interval stream.setup.times opening) reading ≡ false) early
+  pub begins : has_begun stream.setup.times (first_interval stream.setup.times opening) begun ≡ true
   -- what was heard left the link, in order
   pub link : LeftWhere (map letter_of heard) (before.wire arguments.link) (now.left arguments.link)
   -- what was made of it, and what each post sent of that
@@ -94,9 +113,12 @@ pub record FeedsLink (arguments : FeedArguments) (stream : Stream) (before now :
   pub needed : AreNeeded stream (first_interval stream.setup.times opening) (fed stream opening (map came_of heard)) rests
   pub ends : EndsAs stream (now.left arguments.link) made failed came
 
--- what is done with a sender of the stream, told how many files were asked to be opened: nothing was fed, or all were opened, and the link was fed to the posts
+-- what is done with a sender of the stream, told how many files were asked to be opened: nothing was fed, or the link was the last of them and the stream was over, or all were opened, and the link was fed to the posts
 abbrev pub FeedsOrStops : FeedArguments → Stream → ℕ → Live → Live → Came → Type 0
-FeedsOrStops arguments stream opened before now came = Stops arguments before now came ⊎ ((opened ≡ 3 + length arguments.posts) × FeedsLink arguments stream before now came)
+FeedsOrStops arguments stream opened before now came =
+    Stops arguments before now came
+    ⊎ ((opened ≡ 3) × FindsOver arguments stream before now came)
+    ⊎ ((opened ≡ 3 + length arguments.posts) × FeedsLink arguments stream before now came)
 
 -- ---- the command
 

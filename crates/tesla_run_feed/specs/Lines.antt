@@ -2,8 +2,9 @@
 use Rattle.std.specs.Prelude.{ℕ, Bool, true, false, List, ◌++◌, codes}
 use Rattle.tesla_feed.specs.declared.counts.FeedCounts.{FeedCounts}
 use Rattle.tesla_feed.specs.declared.feeding.FeedEnd.{FeedEnd}
-use Rattle.tesla_front.specs.Came.{Came, Done, Failed}
+use Rattle.tesla_front.specs.Came.{Came, Done, Failed, Refused}
 use Rattle.tesla_front.specs.Lines.{count_line}
+use Rattle.tesla_front.specs.Refusal.{refused_line}
 use Rattle.tesla_front.specs.declared.fault.Fault.TheVariants as faults
 
 -- how many messages and disclosures were sent
@@ -16,9 +17,13 @@ refused_lines counts =
     count_line (codes "toolong") counts.too_long ++ count_line (codes "early") counts.early ++ count_line (codes "over") counts.over
     ++ count_line (codes "backward") counts.backward ++ count_line (codes "full") counts.full
 
+-- how many messages came while the clock couldn't be read
+abbrev pub unread_line : FeedCounts → List ℕ
+unread_line counts = count_line (codes "unread") counts.unread
+
 -- all lines
 abbrev pub lines_of : FeedCounts → List ℕ
-lines_of counts = sent_lines counts ++ refused_lines counts
+lines_of counts = sent_lines counts ++ refused_lines counts ++ unread_line counts
 
 -- what a feed came to, told whether the link failed and whether a post did
 abbrev pub came_by : Bool → Bool → FeedCounts → Came
@@ -29,3 +34,7 @@ came_by false false counts = Done (lines_of counts)
 -- what a feed came to: a failed link, else a failed post, else the lines
 abbrev pub came_with : FeedEnd → Came
 came_with end = came_by end.link_failed end.post_failed end.counts
+
+-- what a stream that is over when its feed is opened comes to: its setup is refused
+abbrev pub stream_over : Came
+stream_over = Refused 2 (refused_line (codes "setup") 0 (codes "Over"))

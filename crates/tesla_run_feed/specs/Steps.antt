@@ -1,13 +1,14 @@
 -- What the inner steps of the command feed come to.
-use Rattle.std.specs.Prelude.{◌≡◌, ◌⊎◌, ℕ, suc, true, Option, None, List, [], ◌∷◌, Ok, Err}
+use Rattle.std.specs.Prelude.{◌≡◌, ◌⊎◌, ℕ, suc, true, Option, Some, None, List, [], ◌∷◌, Ok, Err}
 use Rattle.tesla_commit.specs.Parts.{Parts}
 use Rattle.tesla_desk.specs.Clocks.{Ticking}
 use Rattle.tesla_desk.specs.Faults.{Faults, HasCause, HasCausesBeside}
 use Rattle.tesla_desk.specs.Live.{clock_told}
 use Rattle.tesla_desk.specs.Outside.{ClosesLink, MakesClock, OfSource, Told}
 use Rattle.tesla_desk.specs.declared.link.Letter.{Letter}
-use Rattle.tesla_feed.specs.Feed.{Feeds}
+use Rattle.tesla_feed.specs.Feed.{Feeds, OpensFeed}
 use Rattle.tesla_feed.specs.declared.feeding.FeedEnd.{FeedEnd}
+use Rattle.tesla_feed.specs.declared.opening.OpenFeed.{OpenFeed}
 use Rattle.tesla_front.specs.Came.{Came, Failed}
 use Rattle.tesla_front.specs.Openings.{AnyFailed, Opens, file_told}
 use Rattle.tesla_front.specs.declared.fault.Fault.{Fault}
@@ -16,17 +17,23 @@ use Rattle.tesla_posts.specs.Opening.{ClosesPosts, OpensPosts}
 use Rattle.tesla_posts.specs.Posts.{PostSeen}
 use Rattle.tesla_run_feed.specs.Arguments.{FeedArguments, live_files}
 use Rattle.tesla_run_feed.specs.Feeding.{FeedsOrStops, FeedsWith, TouchesLive}
-use Rattle.tesla_run_feed.specs.Lines.{came_with}
+use Rattle.tesla_run_feed.specs.Lines.{came_with, stream_over}
 use Rattle.tesla_run_send.specs.Send.{IsNoSender, StopsAtSeeds, wrong_line}
 use Rattle.tesla_sender.specs.Made.{Stream}
 
+-- ---- the opening
+
+-- a clock was made that tells this by now, and a feed of the stream was opened with it, or is over
+pub record OpensByClock (stream : Stream) (feed : Option OpenFeed) (ticking : Option Ticking) (before now : Told) : Type 0 where
+  pub opens : OpensFeed stream feed (clock_told before.live.readings before.live.made) ticking
+  pub makes : MakesClock before now
+
 -- ---- the link and the posts
 
--- an open link was fed to open posts, with a clock that was made for it
-pub record FeedsMade (stream : Stream) (end : FeedEnd) (left later : Option (List Letter)) (posts posts_now : List PostSeen) (before now : Told) : Type 0 where
+-- an open link was fed to open posts, with a clock that told this before
+pub record FeedsPosts (stream : Stream) (opening : ℕ) (end : FeedEnd) (left later : Option (List Letter)) (ticking : Option Ticking) (posts posts_now : List PostSeen) : Type 0 where
   pub after : Option Ticking
-  pub feeds : Feeds stream end left later (clock_told before.live.readings before.live.made) after posts posts_now
-  pub makes : MakesClock before now
+  pub feeds : Feeds stream opening end left later ticking after posts posts_now
 
 -- the opening of a post was refused, and the link is as before
 pub record Refuses (names : List (List ℕ)) (left later : Option (List Letter)) (missed missed_now : ℕ) (before now : Told) (posts : List PostSeen) (came : Came) : Type 0 where
@@ -35,20 +42,40 @@ pub record Refuses (names : List (List ℕ)) (left later : Option (List Letter))
   pub same : (later ≡ left) × (missed_now ≡ missed)
   pub came_is : came ≡ Failed fault
 
--- the posts were opened, and the link was fed to them
-pub record FeedsOpen (stream : Stream) (names : List (List ℕ)) (left later : Option (List Letter)) (missed missed_now : ℕ) (before now : Told) (posts : List PostSeen) (came : Came) : Type 0 where
-  pub opened : Told
+-- the posts were opened, and the link was fed to them with a clock that told this
+pub record FeedsOpen (stream : Stream) (opening : ℕ) (ticking : Option Ticking) (names : List (List ℕ)) (left later : Option (List Letter)) (missed missed_now : ℕ) (before now : Told) (posts : List PostSeen) (came : Came) : Type 0 where
   pub fresh : List PostSeen
-  pub opens : OpensPosts names before opened [] fresh (Ok tt)
+  pub opens : OpensPosts names before now [] fresh (Ok tt)
   pub end : FeedEnd
-  pub made : FeedsMade stream end left later fresh posts opened now
+  pub fed : FeedsPosts stream opening end left later ticking fresh posts
   pub read : HasCause missed missed_now (end.link_failed ≡ true)
   pub came_is : came ≡ came_with end
 
 -- one of both
-abbrev pub OpensAndFeeds : Stream → List (List ℕ) → Option (List Letter) → Option (List Letter) → ℕ → ℕ → Told → Told → List PostSeen → Came → Type 0
-OpensAndFeeds stream names left later missed missed_now before now posts came =
-    Refuses names left later missed missed_now before now posts came ⊎ FeedsOpen stream names left later missed missed_now before now posts came
+abbrev pub OpensAndFeeds : Stream → ℕ → Option Ticking → List (List ℕ) → Option (List Letter) → Option (List Letter) → ℕ → ℕ → Told → Told → List PostSeen → Came → Type 0
+OpensAndFeeds stream opening ticking names left later missed missed_now before now posts came =
+    Refuses names left later missed missed_now before now posts came ⊎ FeedsOpen stream opening ticking names left later missed missed_now before now posts came
+
+-- the stream was over: no post was opened, and the link is as before
+pub record StopsOver (stream : Stream) (left later : Option (List Letter)) (missed missed_now : ℕ) (before now : Told) (posts : List PostSeen) (came : Came) : Type 0 where
+  pub ticking : Option Ticking
+  pub opens : OpensByClock stream None ticking before now
+  pub none : posts ≡ []
+  pub same : (later ≡ left) × (missed_now ≡ missed)
+  pub came_is : came ≡ stream_over
+
+-- a feed was opened with a clock, and then the posts were opened, or one was refused
+pub record GoesOn (stream : Stream) (names : List (List ℕ)) (left later : Option (List Letter)) (missed missed_now : ℕ) (before now : Told) (posts : List PostSeen) (came : Came) : Type 0 where
+  pub feed : OpenFeed
+  pub ticking : Option Ticking
+  pub clocked : Told
+  pub opens : OpensByClock stream (Some feed) ticking before clocked
+  pub goes : OpensAndFeeds feed.sender.stream feed.opening ticking names left later missed missed_now clocked now posts came
+
+-- one of both
+abbrev pub TriesToFeed : Stream → List (List ℕ) → Option (List Letter) → Option (List Letter) → ℕ → ℕ → Told → Told → List PostSeen → Came → Type 0
+TriesToFeed stream names left later missed missed_now before now posts came =
+    StopsOver stream left later missed missed_now before now posts came ⊎ GoesOn stream names left later missed missed_now before now posts came
 
 -- and then all was closed, the posts first
 pub record RunsLinked (stream : Stream) (names : List (List ℕ)) (link : List ℕ) (left : Option (List Letter)) (old new : Told) (came : Came) : Type 0 where
@@ -57,7 +84,7 @@ pub record RunsLinked (stream : Stream) (names : List (List ℕ)) (link : List �
   pub missed : ℕ
   pub posts : List PostSeen
   pub tried : Told
-  pub tries : OpensAndFeeds stream names left later 0 missed old tried posts came
+  pub tries : TriesToFeed stream names left later 0 missed old tried posts came
   pub closed : Told
   pub posts_closed : ClosesPosts posts tried closed
   pub link_closed : ClosesLink link later missed closed new

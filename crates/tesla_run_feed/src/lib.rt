@@ -4,6 +4,7 @@
 mod arguments;
 mod forms;
 mod lines;
+mod ready;
 mod run;
 mod words;
 

@@ -1,11 +1,11 @@
 //! The lines that tell what a feed came to.
 
 ghost use Rattle.std.specs.Prelude.{◌≡◌};
-ghost use Rattle.tesla_front.specs.Came.{came_of};
-ghost use Rattle.tesla_run_feed.specs.Lines.{came_with, lines_of};
+ghost use Rattle.tesla_front.specs.Came.{came_of, stop_came};
+ghost use Rattle.tesla_run_feed.specs.Lines.{came_with, lines_of, stream_over};
 
 use tesla_feed::{FeedCounts, FeedEnd};
-use tesla_front::{Fault, Lines, Stop, add_count};
+use tesla_front::{Fault, Lines, Stop, add_count, refused};
 
 // The lines of the counts.
 fn lines_of(counts: FeedCounts) -> Lines
@@ -19,6 +19,7 @@ fn lines_of(counts: FeedCounts) -> Lines
     add_count(&mut lines, "over", counts.over);
     add_count(&mut lines, "backward", counts.backward);
     add_count(&mut lines, "full", counts.full);
+    add_count(&mut lines, "unread", counts.unread);
     lines
 }
 
@@ -34,4 +35,11 @@ pub fn lines_after(end: FeedEnd) -> Result<Lines, Stop>
         return Err(Stop::Failed(Fault::Write));
     }
     Ok(lines_of(end.counts))
+}
+
+/// What a stream that is over when its feed is opened comes to: `Refused` as a setup. It takes no memory.
+pub fn stream_over() -> Stop
+    ensures { stop_came result ≡ stream_over }
+{
+    Stop::Refused(refused(2, "setup", 0, "Over"))
 }

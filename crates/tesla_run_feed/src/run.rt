@@ -1,18 +1,18 @@
 //! A run of the command `feed`.
 
-ghost use Rattle.std.specs.Prelude.{◌≡◌, ◌<◌, ◌≤◌, ℕ, [], List, length, map, string_bytes, true, vec_capacity};
-ghost use Rattle.tesla_desk.specs.Faults.{HasCause};
+ghost use Rattle.std.specs.Prelude.{◌≡◌, ◌<◌, ◌≤◌, ℕ, [], List, false, length, map, string_bytes, vec_capacity};
+ghost use Rattle.tesla_feed.specs.Fed.{has_ended};
 ghost use Rattle.tesla_front.specs.Came.{came_of, outcome_came};
 ghost use Rattle.tesla_front.specs.Command.{Performs, RunsAs};
 ghost use Rattle.tesla_posts.specs.Opening.{name_of};
-ghost use Rattle.tesla_posts.specs.Posts.{PostSeen};
 ghost use Rattle.tesla_sender.specs.Stands.{Stands};
 ghost use Rattle.tesla_run_feed.specs.Arguments.{IsFeedForm, arguments_of};
 ghost use Rattle.tesla_run_feed.specs.Feeding.{feed};
-ghost use Rattle.tesla_run_feed.specs.Steps.{FeedsFiles, FeedsMade, FeedsSeeded, FeedsSetup, OpensAndFeeds, RunsLinked};
+ghost use Rattle.tesla_run_feed.specs.Steps.{FeedsFiles, FeedsSeeded, FeedsSetup, OpensAndFeeds, RunsLinked, TriesToFeed};
 
 use crate::arguments::Arguments;
-use crate::lines::lines_after;
+use crate::lines::{lines_after, stream_over};
+use crate::ready::{ReadyFeed, feed_ready, open_with_clock};
 use crate::words::arguments_in;
 use std::alloc::Global;
 use std::marker::Brand;
@@ -21,7 +21,6 @@ use std::sync::ledger::{Blank, Ledger};
 use tesla_base::Steps;
 use tesla_commit::Setup;
 use tesla_desk::Desk;
-use tesla_feed::{FeedEnd, feed};
 use tesla_front::{Fault, Lines, Outcome, Stop, outcome_of, seeds_under, setup_under};
 use tesla_posts::{close_posts, open_posts};
 use tesla_run_send::sender_of;
@@ -32,14 +31,17 @@ use tesla_sender::Sender;
 /// SECRET, at the reading of the clock when it came, and its frame is sent by each of POSTS in their order. Keys are
 /// sent when they are due, also while nothing comes, and after the end of LINK until the key of the last message was
 /// sent. SECRET is opened after SETUP was judged, LINK after the sender was opened with the seeds and room for the posts
-/// was taken, and then the posts in order, until an opening is refused. The next clock is made once all are open.
+/// was taken. The next clock is made once LINK is open, and read until it can be. Unless the stream is over at that
+/// reading, the posts are opened in order, until an opening is refused.
 ///
-/// `Done` with the lines of how many messages and disclosures were sent, and how many messages were refused by each
-/// cause: LINK has ended, and no post failed. `Usage` exactly where the words are no form, and then nothing was opened.
-/// `Refused` with the first refused line of SETUP or of SECRET, where no file behind it was opened. `Failed` with `Read`:
-/// SETUP or SECRET was not read, or LINK failed; with `Write`: a post failed, and LINK didn't; with `Open` or `NoMemory`:
-/// nothing was fed. `Read`, `Write` and `Open` come only where the desk's count of that rose. It waits for the clock and
-/// for LINK.
+/// `Done` with the lines of how many messages and disclosures were sent, how many messages were refused by each cause,
+/// and how many came while the clock couldn't be read: LINK has ended, and no post failed. `Usage` exactly where the words
+/// are no form, and then nothing was opened. `Refused` with the first refused line of SETUP or of SECRET, where no file
+/// behind it was opened; or with `setup 0 Over`, where the stream is over: that reading lies behind the end of the last
+/// interval by more than the greatest delay and 64 intervals, as where the start was written in seconds. Then no post was
+/// opened, and nothing left LINK. `Failed` with `Read`: SETUP or SECRET was not read, or LINK failed; with `Write`: a post
+/// failed, and LINK didn't; with `Open` or `NoMemory`: nothing was fed. `Read`, `Write` and `Open` come only where the
+/// desk's count of that rose. It waits for the clock and for LINK.
 pub fn run_feed<R: Wait, D: Desk>(rt: &R, alloc: Global, words: &[String], desk: &mut D) -> Outcome
     ensures { RunsAs (feed (D.told desk.old).live (D.told desk.new).live) (map string_bytes words.now) (D.told desk.old) (D.told desk.new) (outcome_came result) }
 {
@@ -181,14 +183,14 @@ fn run_linked<L: Ledger, R: Wait, D: Desk>(
     ensures runs { RunsLinked sender.stream (map name_of names.now) (D.Wire.name link) (D.Wire.left link) (D.told desk.old) (D.told desk.new) (came_of result) }
     ensures none { posts.new.items ≡ [] }
 {
-    let came = open_and_feed(rt, sender, steps, names, &mut link, desk, posts);
+    let came = try_to_feed(rt, sender, steps, names, &mut link, desk, posts);
     close_posts(desk, posts);
     desk.close_link(link);
     came
 }
 
-// Opens the posts, and feeds an open link to them.
-fn open_and_feed<L: Ledger, R: Wait, D: Desk>(
+// Opens a feed and then the posts, and feeds an open link to them. Where the stream is over no post is opened.
+fn try_to_feed<L: Ledger, R: Wait, D: Desk>(
     rt: &R,
     sender: Sender,
     steps: &mut Steps<L>,
@@ -201,40 +203,35 @@ fn open_and_feed<L: Ledger, R: Wait, D: Desk>(
     requires few { length names.now ≤ 32 }
     requires empty { posts.old.items ≡ [] }
     requires room { length names.now ≤ vec_capacity posts.old }
-    ensures feeds { OpensAndFeeds sender.stream (map name_of names.now) (D.Wire.left link.old) (D.Wire.left link.new) (D.Wire.faults link.old) (D.Wire.faults link.new) (D.told desk.old) (D.told desk.new) (map (λ post. record { name = D.Port.name post; sent = D.Port.sent post; faults = D.Port.faults post }) posts.new.items) (came_of result) }
+    ensures tries { TriesToFeed sender.stream (map name_of names.now) (D.Wire.left link.old) (D.Wire.left link.new) (D.Wire.faults link.old) (D.Wire.faults link.new) (D.told desk.old) (D.told desk.new) (map (λ post. record { name = D.Port.name post; sent = D.Port.sent post; faults = D.Port.faults post }) posts.new.items) (came_of result) }
     ensures name { D.Wire.name link.new ≡ D.Wire.name link.old }
 {
-    match open_posts(desk, names, posts) {
-        Ok(()) => lines_after(feed_made(rt, sender, steps, link, desk, posts)),
-        Err(fault) => Err(Stop::Failed(fault)),
+    match open_with_clock(rt, sender, desk) {
+        Some(ready) => open_and_feed(rt, ready, steps, names, link, desk, posts),
+        None => Err(stream_over()),
     }
 }
 
-// Feeds an open link to open posts, with a new clock and a new gate.
-fn feed_made<L: Ledger, R: Wait, D: Desk>(
+// Opens the posts, and feeds an open link to them.
+fn open_and_feed<L: Ledger, R: Wait, D: Desk>(
     rt: &R,
-    sender: Sender,
+    ready: ReadyFeed<D::Time, D::Pause>,
     steps: &mut Steps<L>,
+    names: &[&str],
     link: &mut D::Wire,
     desk: &mut D,
     posts: &mut Vec<D::Port>,
-) -> FeedEnd
-    requires sender { Stands sender [] }
-    requires few { length posts.old.items ≤ 32 }
-    ensures feeds { let seen : List D.Port → List PostSeen = λ posts. map (λ post. record { name = D.Port.name post; sent = D.Port.sent post; faults = D.Port.faults post }) posts in
-        FeedsMade sender.stream result (D.Wire.left link.old) (D.Wire.left link.new) (seen posts.old.items) (seen posts.new.items) (D.told desk.old) (D.told desk.new) }
-    ensures cause { HasCause (D.Wire.faults link.old) (D.Wire.faults link.new) (result.link_failed ≡ true) }
+) -> Result<Lines, Stop>
+    requires fresh { Stands ready.opened.sender [] }
+    requires lasts { has_ended ready.opened.sender.stream ready.opened.opening ≡ false }
+    requires few { length names.now ≤ 32 }
+    requires empty { posts.old.items ≡ [] }
+    requires room { length names.now ≤ vec_capacity posts.old }
+    ensures feeds { OpensAndFeeds ready.opened.sender.stream ready.opened.opening (D.Time.told ready.clock) (map name_of names.now) (D.Wire.left link.old) (D.Wire.left link.new) (D.Wire.faults link.old) (D.Wire.faults link.new) (D.told desk.old) (D.told desk.new) (map (λ post. record { name = D.Port.name post; sent = D.Port.sent post; faults = D.Port.faults post }) posts.new.items) (came_of result) }
     ensures name { D.Wire.name link.new ≡ D.Wire.name link.old }
 {
-    let mut clock = desk.clock();
-    let mut gate = desk.gate();
-    feed(
-        rt,
-        sender,
-        link,
-        &mut clock,
-        posts.as_mut_slice(),
-        &mut gate,
-        steps,
-    )
+    match open_posts(desk, names, posts) {
+        Ok(()) => lines_after(feed_ready(rt, ready, steps, link, posts)),
+        Err(fault) => Err(Stop::Failed(fault)),
+    }
 }
