@@ -1,4 +1,5 @@
-//! Tests of what spells and reads frames, setups and seeds, against texts and bytes that another program made.
+//! Tests of what spells and reads the formats, and of the keys and numbers that they are made of, against texts and bytes
+//! from outside.
 #![tactic(auto)]
 
 #[cfg(test)]

@@ -1,4 +1,4 @@
-//! Tests of the workers of a live receiver over a desk in memory.
+//! Tests of what threads share: turns, counts, and a receiver with its workers and its record.
 #![tactic(auto)]
 
 #[cfg(test)]

@@ -1,4 +1,4 @@
-//! Tests of the sender, of the receiver and of worlds, against frames and answers that another program made.
+//! Tests of senders, of receivers and of both together, against frames and answers from outside.
 #![tactic(auto)]
 
 #[cfg(test)]

@@ -1,5 +1,6 @@
 //! A text of two seeds, and texts that are refused.
 
+use super::changed;
 use std::alloc::{AllocError, Global};
 use std::test::Fail;
 use tesla_base::{Key, Kind};
@@ -61,17 +62,11 @@ const CHANGES: &[(&str, &str, &str)] = &[
     ("22\n", "22\n\n", "4 WrongCount"),
 ];
 
-// What is told of the text of the two seeds with one change.
-fn told_with(alloc: Global, old: &str, new: &str) -> Result<String, Fail> {
-    let (before, after) = SEEDS.split_once(old).ok_or("it is there")?;
-    let text = format!(in alloc; "{before}{new}{after}")?;
-    Ok(told(alloc, text.as_str(), 2)?)
-}
-
 #[test]
 fn refused_lines(rt: HostRuntime) -> Result<(), Fail> {
     for (old, new, wanted) in CHANGES {
-        let given = told_with(rt.alloc(), old, new)?;
+        let text = changed(rt.alloc(), SEEDS, old, new)?;
+        let given = told(rt.alloc(), text.as_str(), 2)?;
         assert_eq!(rt; given.as_str(), *wanted, "{old} to {new}");
     }
     Ok(())
@@ -123,16 +118,11 @@ fn refused_lengths(rt: HostRuntime) -> Result<(), Fail> {
     Ok(())
 }
 
-// The refusal of a third line, as it is shown, and the name of its kind.
-fn shown_refusal(alloc: Global) -> Result<String, AllocError> {
-    let kind = SeedsKind::WrongCount;
-    let refusal = SeedsRefusal::At { line: 3, kind };
-    format!(in alloc; "{refusal:?} {}", kind.name())
-}
-
 #[test]
 fn shown_refusals(rt: HostRuntime) -> Result<(), Fail> {
-    let shown = shown_refusal(rt.alloc())?;
+    let kind = SeedsKind::WrongCount;
+    let refusal = SeedsRefusal::At { line: 3, kind };
+    let shown = format!(in rt.alloc(); "{refusal:?} {}", kind.name())?;
     assert_eq!(rt;
         shown.as_str(),
         "At { line: 3, kind: WrongCount } WrongCount"

@@ -1,5 +1,6 @@
 //! The base setup, a setup of version 2, and texts that are refused.
 
+use super::changed;
 use std::alloc::{AllocError, Global};
 use std::test::Fail;
 use tesla_base::{Key, StreamId};
@@ -146,25 +147,15 @@ fn told(alloc: Global, text: &str) -> Result<String, AllocError> {
     told_of(alloc, read_setup(alloc, text.as_bytes()))
 }
 
-// What is told of a text with one change.
-fn told_with(alloc: Global, whole: &str, old: &str, new: &str) -> Result<String, AllocError> {
-    match whole.split_once(old) {
-        None => String::from_str(alloc, "not there"),
-        Some((before, after)) => {
-            let text = format!(in alloc; "{before}{new}{after}")?;
-            told(alloc, text.as_str())
-        }
-    }
-}
-
 // The first change of which something else is told than expected.
 fn first_unmet(
     alloc: Global,
     whole: &str,
     changes: &'static [Change],
-) -> Result<Option<usize>, AllocError> {
+) -> Result<Option<usize>, Fail> {
     for (place, (old, new, wanted)) in changes.iter().enumerate() {
-        let given = told_with(alloc, whole, old, new)?;
+        let text = changed(alloc, whole, old, new)?;
+        let given = told(alloc, text.as_str())?;
         if given.as_str() != *wanted {
             return Ok(Some(place));
         }

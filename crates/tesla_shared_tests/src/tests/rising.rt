@@ -5,6 +5,7 @@ ghost use Rattle.std.specs.Prelude.{◌≡◌, ◌<◌};
 ghost use Rattle.tesla_receiver.specs.Stands.{Stands};
 ghost use Rattle.tesla_turn.specs.Held.{OnlyCalls, left_of};
 
+use super::receiver_of;
 use std::sync::Wait;
 use std::sync::atomic::AtomicU64;
 use std::sync::atomic::Ordering::SeqCst;
@@ -12,9 +13,7 @@ use std::sync::ledger::Ledger;
 use std::test::*;
 use std::thread::{Threads, join};
 use tesla_base::Steps;
-use tesla_commit::read_setup;
 use tesla_desk::{Clock, Got, Link, OpenGate};
-use tesla_examples::SETUP;
 use tesla_receiver::{Config, Entry, Receiver, Take, Verdict};
 use tesla_shared::*;
 use tesla_turn::{Chronicle, Pass, Turn};
@@ -136,9 +135,8 @@ fn by_two_threads<R: Threads + Wait + Sync>(
     rt: &R,
     alloc: std::alloc::Global,
 ) -> Result<Rising, Fail> {
-    let setup = read_setup(alloc, SETUP.as_bytes())?;
     let rising = Rising {
-        receiver: Receiver::open(alloc, setup, 30_000, 16, 16, 2)?,
+        receiver: receiver_of(alloc, 2)?,
         arrivals: 0,
         last: 0,
         rises: true,

@@ -148,22 +148,10 @@ fn all_are_met(
 }
 
 #[test]
-fn releases(rt: HostRuntime) -> Result<(), Fail> {
-    all_are_met(rt.alloc(), examples::releases())
-}
-
-#[test]
-fn keys_and_copies(rt: HostRuntime) -> Result<(), Fail> {
-    all_are_met(rt.alloc(), examples::keys())
-}
-
-#[test]
-fn repeats_and_full_buffers(rt: HostRuntime) -> Result<(), Fail> {
-    all_are_met(rt.alloc(), examples::repeats())
-}
-
-#[test]
-fn verdicts_and_ends(rt: HostRuntime) -> Result<(), Fail> {
+fn worked_examples(rt: HostRuntime) -> Result<(), Fail> {
+    all_are_met(rt.alloc(), examples::releases())?;
+    all_are_met(rt.alloc(), examples::keys())?;
+    all_are_met(rt.alloc(), examples::repeats())?;
     all_are_met(rt.alloc(), examples::verdicts())
 }
 

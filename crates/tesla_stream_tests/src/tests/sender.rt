@@ -1,11 +1,11 @@
 //! Senders called as the examples say.
 
-ghost use Rattle.std.specs.Prelude.{◌≡◌, ◌+◌, ◌*◌, ◌<◌, ◌≤◌, [], length, IfOk};
+ghost use Rattle.std.specs.Prelude.{◌≡◌, ◌+◌, ◌*◌, ◌<◌, ◌≤◌, length};
 ghost use Rattle.tesla_chain.specs.Cost.{W};
-ghost use Rattle.tesla_sender.specs.Stands.{Stands};
 
 mod examples;
 
+use super::{FRAME_ROOM, seeds_of, sender_of};
 use examples::*;
 use std::alloc::Global;
 use std::marker::Brand;
@@ -20,18 +20,6 @@ use tesla_sender::{Sender, SenderRefusal};
 
 /// The most bytes of a message's payload.
 const MOST_PAYLOAD: usize = 1_200;
-
-/// The bytes of the room in which a frame is made.
-const FRAME_ROOM: usize = 2_048;
-
-/// So many of the seeds of the examples, from their text.
-fn seeds_of(alloc: Global, count: u8) -> Result<Seeds, Fail>
-    requires { count ≤ 8 }
-    ensures { IfOk result (λ seeds. length seeds ≡ count) }
-{
-    let end = 14 + 70 * usize::from(count);
-    Ok(read_seeds(alloc, &SEEDS.as_bytes()[..end], count)?)
-}
 
 /// Whether the bytes are as the room was before.
 fn is_untouched(bytes: &[u8]) -> bool {
@@ -92,9 +80,7 @@ fn first_unmet<L: Ledger>(
     requires some { 0 < L.parts }
 {
     let mut steps = Steps::<L>::new(blank);
-    let setup = read_setup(alloc, setup)?;
-    let seeds = seeds_of(alloc, setup.count())?;
-    let mut sender = Sender::open(alloc, setup, &seeds, &mut steps)?;
+    let mut sender = sender_of(alloc, read_setup(alloc, setup)?, &mut steps)?;
     for (place, step) in rows.iter().enumerate() {
         if !is_met(alloc, &mut sender, step, &mut steps)? {
             return Ok(Some(place));
@@ -103,15 +89,9 @@ fn first_unmet<L: Ledger>(
     Ok(None)
 }
 
-#[test]
-fn sender_refusals(rt: HostRuntime) -> Result<(), Fail> {
-    let unmet = first_unmet::<Brand>(rt.alloc(), Blank::new(1), SETUP.as_bytes(), SENDER_REFUSALS)?;
-    assert_eq!(rt; unmet, None);
-    Ok(())
-}
-
 /// Setups, with the calls of their senders.
 const STREAMS: &[(&str, &[Step])] = &[
+    (SETUP, SENDER_REFUSALS),
     (SETUP, VERSION_ONE),
     (SETUP_WITH_TAGS_OF_10_BYTES, SHORT_TAGS),
 ];
@@ -167,18 +147,9 @@ fn largest_senders(rt: HostRuntime) -> Result<(), Fail> {
     Ok(())
 }
 
-/// A sender of the examples.
-fn sender_of<L: Ledger>(alloc: Global, steps: &mut Steps<L>) -> Result<Sender, Fail>
-    ensures { IfOk result (λ sender. Stands sender []) }
-{
-    let setup = read_setup(alloc, SETUP.as_bytes())?;
-    let seeds = seeds_of(alloc, setup.count())?;
-    Ok(Sender::open(alloc, setup, &seeds, steps)?)
-}
-
 /// A sender of the examples that has gone on to interval 3 without a message, and made the keys of the next one.
 fn sender_gone_on<L: Ledger>(alloc: Global, steps: &mut Steps<L>) -> Result<Sender, Fail> {
-    let mut sender = sender_of(alloc, steps)?;
+    let mut sender = sender_of(alloc, read_setup(alloc, SETUP.as_bytes())?, steps)?;
     sender.begin_at(3, steps);
     sender.make_next(steps);
     Ok(sender)
@@ -208,7 +179,7 @@ fn first_other<L: Ledger>(alloc: Global, blank: Blank) -> Result<Option<u64>, Fa
     requires some { 0 < L.parts }
 {
     let mut steps = Steps::<L>::new(blank);
-    let mut plain = sender_of(alloc, &mut steps)?;
+    let mut plain = sender_of(alloc, read_setup(alloc, SETUP.as_bytes())?, &mut steps)?;
     let mut ahead = sender_gone_on(alloc, &mut steps)?;
     for reading in FROM_INTERVAL_3 {
         if !make_the_same(&mut plain, &mut ahead, *reading, &mut steps) {
@@ -226,39 +197,31 @@ fn keys_made_ahead(rt: HostRuntime) -> Result<(), Fail> {
     Ok(())
 }
 
-/// Why two seeds are refused.
-fn refusal_of<L: Ledger>(
-    alloc: Global,
-    blank: Blank,
-    seeds: &[u8],
-) -> Result<Option<SenderRefusal>, Fail>
+/// How two seeds are refused: the refusal as it is shown, and the key that the seed made, in hexadecimal.
+fn refusal_of<L: Ledger>(alloc: Global, blank: Blank, seeds: &[u8]) -> Result<String, Fail>
     requires name { blank.name ≡ L.name }
     requires parts { blank.parts ≡ L.parts }
     requires some { 0 < L.parts }
 {
     let mut steps = Steps::<L>::new(blank);
     let setup = read_setup(alloc, SETUP.as_bytes())?;
-    let count = setup.count();
-    let seeds = read_seeds(alloc, seeds, count)?;
-    Ok(Sender::open(alloc, setup, &seeds, &mut steps).err())
-}
-
-/// The refusal as it is shown, and the key that the seed made, in hexadecimal.
-fn shown_refusal(alloc: Global, refusal: Option<SenderRefusal>) -> Result<String, Fail> {
-    let Some(SenderRefusal::WrongSeed { chain: _, made }) = refusal else {
-        return Err("a wrong seed is refused".into());
-    };
-    let digits = hex::encode(alloc, &made.0)?;
-    Ok(format!(in alloc; "{refusal:?} {digits}")?)
+    let seeds = read_seeds(alloc, seeds, setup.count())?;
+    match Sender::open(alloc, setup, &seeds, &mut steps) {
+        Err(SenderRefusal::WrongSeed { chain, made }) => {
+            let digits = hex::encode(alloc, &made.0)?;
+            let refusal = SenderRefusal::WrongSeed { chain, made };
+            Ok(format!(in alloc; "{refusal:?} {digits}")?)
+        }
+        _ => Err("a wrong seed is refused".into()),
+    }
 }
 
 #[test]
 fn wrong_seed(rt: HostRuntime) -> Result<(), Fail> {
-    let refusal = refusal_of::<Brand>(rt.alloc(), Blank::new(1), WRONG_SEEDS.as_bytes())?;
-    let shown = shown_refusal(rt.alloc(), refusal)?;
+    let shown = refusal_of::<Brand>(rt.alloc(), Blank::new(1), WRONG_SEEDS.as_bytes())?;
     assert_eq!(rt;
         shown.as_str(),
-        "Some(WrongSeed { chain: ChainNo(1), made: Key(..) }) 49350d4bcd1d5c7b178588cd8d8a5967c03a0aed09ed297f005779d014754fbd"
+        "WrongSeed { chain: ChainNo(1), made: Key(..) } 49350d4bcd1d5c7b178588cd8d8a5967c03a0aed09ed297f005779d014754fbd"
     );
     Ok(())
 }

@@ -2,19 +2,18 @@
 
 ghost use Rattle.std.specs.Prelude.{◌≡◌, ◌<◌, [], length, IfOk};
 ghost use Rattle.tesla_receiver.specs.Stands.{Stands};
-ghost use Rattle.tesla_sender.specs.Stands as sending;
 
+use super::{first_head, sender_of};
 use std::alloc::Global;
 use std::marker::Brand;
 use std::sync::ledger::{Blank, Ledger};
 use std::test::*;
-use tesla_base::{Head, Steps};
+use tesla_base::Steps;
 use tesla_commit::{Setup, read_setup};
 use tesla_examples::{BARE_2_0_A_WITH_THE_PAYLOAD_ALTERED, DATA_1_0_HI, SETUP};
 use tesla_fitting::Verdict;
 use tesla_receiver::{Receiver, Take};
-use tesla_seeds::{Seeds, read_seeds};
-use tesla_sender::{DiscloseRefusal, Sender};
+use tesla_sender::DiscloseRefusal;
 use tesla_world::*;
 
 /// What happens, with the answer that is expected.
@@ -49,9 +48,6 @@ const SLOW: Verdict = Verdict::Kept { chains: 2 };
 const NOTHING_DUE: Result<u32, JointRefusal> = Err(JointRefusal::Disclose(
     DiscloseRefusal::NothingDue,
 ));
-
-const SEEDS: &str =
-    "tesla-seeds 1\nseed 1111111111111111111111111111111111111111111111111111111111111111\nseed 2222222222222222222222222222222222222222222222222222222222222222\n";
 
 /// The second message brings the key of the first.
 const DELIVERS: &[Step] = &[
@@ -167,18 +163,6 @@ fn taken_by(joint: &mut Joint, payload: &str) -> (Take, bool)
     (take, into.starts_with(payload.as_bytes()))
 }
 
-// What a take gives of the first packet of an interval, told chain 0, with this payload.
-fn given(interval: u32, payload: &str) -> (Take, bool) {
-    let head = Head {
-        position: 0,
-        interval,
-        number: 0,
-        chain: 0,
-        length: payload.len().min(1200) as u16,
-    };
-    (Take::Given(head), true)
-}
-
 fn end(joint: &mut Joint)
     requires { joint.old.receiver.calls < 10000 }
 {
@@ -204,7 +188,10 @@ fn is_met<L: Ledger>(
         Injects(reading, digits, want) => {
             Ok(injected_by(alloc, joint, *reading, digits, steps)? == *want)
         }
-        Gives(interval, payload) => Ok(taken_by(joint, payload) == given(*interval, payload)),
+        Gives(interval, payload) => {
+            let head = first_head(0, *interval, payload.as_bytes());
+            Ok(taken_by(joint, payload) == (Take::Given(head), true))
+        }
         Empty => Ok(taken_by(joint, "") == (Take::Empty, true)),
         Ends => {
             end(joint);
@@ -214,30 +201,10 @@ fn is_met<L: Ledger>(
     }
 }
 
-// A setup of two chains.
-fn setup_of_two(alloc: Global) -> Result<Setup, Fail> {
-    Ok(read_setup(alloc, SETUP.as_bytes())?)
-}
-
 fn copy_of(alloc: Global, setup: &Setup) -> Result<Setup, Fail>
     ensures { IfOk result (λ copy. copy ≡ setup.now) }
 {
     Ok(setup.copy(alloc).ok().ok_or("there is memory")?)
-}
-
-fn seeds_of(alloc: Global, text: &str, count: u8) -> Result<Seeds, Fail>
-    ensures { IfOk result (λ seeds. length seeds ≡ count) }
-{
-    Ok(read_seeds(alloc, text.as_bytes(), count)?)
-}
-
-fn sender_of<L: Ledger>(alloc: Global, setup: Setup, steps: &mut Steps<L>) -> Result<Sender, Fail>
-    ensures setup { IfOk result (λ sender. sender.stream.setup ≡ setup) }
-    ensures seeds { IfOk result (λ sender. length sender.stream.seeds ≡ length setup.rows) }
-    ensures stands { IfOk result (λ sender. sending.Stands sender []) }
-{
-    let seeds = seeds_of(alloc, SEEDS, setup.count())?;
-    Ok(Sender::open(alloc, setup, &seeds, steps)?)
 }
 
 // A receiver whose lag is 30,000 microseconds.
@@ -250,7 +217,7 @@ fn receiver_of(alloc: Global, setup: Setup) -> Result<Receiver, Fail>
 }
 
 fn opened<L: Ledger>(alloc: Global, steps: &mut Steps<L>) -> Result<Joint, Fail> {
-    let setup = setup_of_two(alloc)?;
+    let setup = read_setup(alloc, SETUP.as_bytes())?;
     let copy = copy_of(alloc, &setup)?;
     let sender = sender_of(alloc, setup, steps)?;
     let receiver = receiver_of(alloc, copy)?;

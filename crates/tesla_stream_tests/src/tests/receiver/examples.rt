@@ -49,6 +49,33 @@ const USUAL: Opening = Opening {
     ingests: 1,
 };
 
+/// Room for one packet.
+const ONE_PLACE: Opening = Opening {
+    capacity: 1,
+    quota: 1,
+    ..USUAL
+};
+
+/// Room for two packets.
+const TWO_PLACES: Opening = Opening {
+    capacity: 2,
+    quota: 2,
+    ..USUAL
+};
+
+/// Room for four packets, two of an interval.
+const QUOTA_OF_TWO_PLACES: Opening = Opening {
+    capacity: 4,
+    quota: 2,
+    ..USUAL
+};
+
+/// Two ingests.
+const TWO_INGESTS: Opening = Opening {
+    ingests: 2,
+    ..USUAL
+};
+
 /// Version 2 with tags of 10 bytes.
 const SHORT_TAGS: Opening = Opening {
     setup: SETUP_WITH_TAGS_OF_10_BYTES,
@@ -118,15 +145,7 @@ const KEYS: &[(&str, Opening, Rows)] = &[
     ("last_interval", USUAL, LAST_INTERVAL),
     ("three_copies", USUAL, THREE_COPIES),
     ("second_copy_is_right", USUAL, SECOND_COPY_IS_RIGHT),
-    (
-        "proved_copy_is_gone",
-        Opening {
-            capacity: 2,
-            quota: 2,
-            ..USUAL
-        },
-        PROVED_COPY_IS_GONE,
-    ),
+    ("proved_copy_is_gone", TWO_PLACES, PROVED_COPY_IS_GONE),
 ];
 
 /// Examples of repeats and of full buffers, by their names.
@@ -136,38 +155,22 @@ const REPEATS: &[(&str, Opening, Rows)] = &[
     ("late_after_all_chains", USUAL, LATE_AFTER_ALL_CHAINS),
     (
         "full_until_all_chains_pass",
-        Opening {
-            capacity: 1,
-            quota: 1,
-            ..USUAL
-        },
+        ONE_PLACE,
         FULL_UNTIL_ALL_CHAINS_PASS,
     ),
     (
         "full_packet_brings_a_key",
-        Opening {
-            capacity: 2,
-            quota: 2,
-            ..USUAL
-        },
+        TWO_PLACES,
         FULL_PACKET_BRINGS_A_KEY,
     ),
     (
         "forgery_gives_its_place_back",
-        Opening {
-            capacity: 1,
-            quota: 1,
-            ..USUAL
-        },
+        ONE_PLACE,
         FORGERY_GIVES_ITS_PLACE_BACK,
     ),
     (
         "forgery_is_gone_with_its_own_chains",
-        Opening {
-            capacity: 1,
-            quota: 1,
-            ..USUAL
-        },
+        ONE_PLACE,
         FORGERY_IS_GONE_WITH_ITS_OWN_CHAINS,
     ),
     (
@@ -176,22 +179,10 @@ const REPEATS: &[(&str, Opening, Rows)] = &[
         KEY_COMES_BEFORE_ITS_PACKET,
     ),
     ("over_only_at_the_end", USUAL, OVER_ONLY_AT_THE_END),
-    (
-        "quota_of_two",
-        Opening {
-            capacity: 4,
-            quota: 2,
-            ..USUAL
-        },
-        QUOTA_OF_TWO,
-    ),
+    ("quota_of_two", QUOTA_OF_TWO_PLACES, QUOTA_OF_TWO),
     (
         "quota_counts_held_packets",
-        Opening {
-            capacity: 4,
-            quota: 2,
-            ..USUAL
-        },
+        QUOTA_OF_TWO_PLACES,
         QUOTA_COUNTS_HELD_PACKETS,
     ),
 ];
@@ -200,23 +191,8 @@ const REPEATS: &[(&str, Opening, Rows)] = &[
 const VERDICTS: &[(&str, Opening, Rows)] = &[
     ("order_of_verdicts", USUAL, ORDER_OF_VERDICTS),
     ("misfits", USUAL, MISFITS),
-    (
-        "repeat_though_full",
-        Opening {
-            capacity: 1,
-            quota: 1,
-            ..USUAL
-        },
-        REPEAT_THOUGH_FULL,
-    ),
-    (
-        "over_after_both_ends",
-        Opening {
-            ingests: 2,
-            ..USUAL
-        },
-        OVER_AFTER_BOTH_ENDS,
-    ),
+    ("repeat_though_full", ONE_PLACE, REPEAT_THOUGH_FULL),
+    ("over_after_both_ends", TWO_INGESTS, OVER_AFTER_BOTH_ENDS),
     ("short_tags", SHORT_TAGS, version_two::SHORT_TAGS),
     (
         "version_1_under_version_2",

@@ -1,4 +1,0 @@
-use Rattle.tesla_key_tests.proofs.tests.chains.text_without_keys.Given as goal
-
-abbrev pub ghosts-text_of : goal.ghosts-text_of
-ghosts-text_of g a = record { name = a.blank.name; parts = a.blank.parts }

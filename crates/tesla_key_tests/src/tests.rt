@@ -1,6 +1,0 @@
-//! A module for each crate that is tested.
-
-mod chains;
-mod exchange;
-mod functions;
-mod offers;
