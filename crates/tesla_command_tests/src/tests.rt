@@ -1,7 +1,13 @@
-//! Whole runs over a desk in memory that is set before: words go in; the status, the console and a file come out.
+//! Whole runs over a desk in memory that is set before: words go in; the status, the console, and what outputs and posts hold come
+//! out. All is plain text, so that a proof has little to look at.
 
+mod counting;
+mod feeds;
 mod files;
+mod flags;
+mod live;
 mod loads;
+mod paces;
 mod pages;
 mod replays;
 mod streams;
@@ -10,141 +16,129 @@ mod texts;
 mod times;
 mod traces;
 
+use counting::wrong_counts;
+use pages::new_desk;
 use std::alloc::Global;
+use std::io;
+use std::process::ExitCode;
+use std::sync::Wait;
 use std::test::Fail;
-use tesla_cli::run_here;
-use tesla_desk::{CONSOLE, MemoryDesk};
-use tesla_tools::{is_tool, run_tools};
+use std::thread::Threads;
+use tesla_cli_live::{is_live, run_live};
+use tesla_cli_recorded::{is_recorded, run_recorded};
+use tesla_desk::{Desk, MemoryDesk};
+use tesla_program::run_program;
+use tesla_test_desk::{Row, set_pieces, told_of, words_of};
+use tesla_tools::run_tools;
 
-/// A run over a desk in memory, and what it has to come to. All is plain text, so that a proof has little to look at.
-struct Run {
-    name: &'static str,
-    words: &'static str,
-    /// What is set of the desk, each behind a comma: `room NUMBER PAGE` for how many bytes sinks under that name take,
-    /// `piece NUMBER PAGE` for how many bytes a call moves at most, `fails NUMBER PAGE` for the call that fails, and
-    /// `unopened NUMBER` for the opening that fails, of which that of the console is 0.
-    set: &'static str,
-    /// The status, a space and the console.
-    told: &'static str,
-    /// The page whose begin `out` holds then, and how many of its bytes at most.
-    held: (&'static str, usize),
-}
-
-/// Of a page that is held whole.
+/// More bytes than any page has.
 const WHOLE: usize = 100_000;
 
-// Sets one thing of a desk.
-fn set_one(desk: &mut MemoryDesk, setting: &str) -> Result<(), Fail> {
-    let (kind, rest) = setting.split_once(' ').ok_or("a number")?;
-    let (number, page) = rest.split_once(' ').unwrap_or((rest, ""));
-    let number: u32 = number.parse()?;
-    match kind {
-        "room" => desk.set_room(page, number as usize)?,
-        "piece" => desk.set_piece(page, (number as usize).max(1))?,
-        "fails" => desk.fail_call(page, number as u64)?,
-        "unopened" => desk.fail_open(number as u64)?,
-        _ => return Err("another kind".into()),
-    }
-    Ok(())
+// The status of words of a live command.
+fn status_of_live<R: Threads + Wait + Sync, D: Desk>(
+    rt: &R,
+    alloc: Global,
+    words: &[String],
+    desk: &mut D,
+) -> u8 {
+    run_live(rt, alloc, words, desk).status
 }
 
-// Sets a desk so.
-fn set(desk: &mut MemoryDesk, settings: &str) -> Result<(), Fail> {
-    for setting in settings.split(',') {
-        if !setting.is_empty() {
-            set_one(desk, setting)?;
+// The status of words of the command that records.
+fn status_of_recorded<R: Threads + Wait + Sync, D: Desk>(
+    rt: &R,
+    alloc: Global,
+    words: &[String],
+    desk: &mut D,
+) -> u8 {
+    run_recorded(rt, alloc, words, desk).status
+}
+
+// The status of all other words.
+fn status_of_program<D: Desk>(alloc: Global, words: io::Result<Vec<String>>, desk: &mut D) -> u8 {
+    let status = run_program(alloc, words, &[], desk);
+    for number in 0..u8::MAX {
+        if status == ExitCode::from(number) {
+            return number;
         }
     }
-    Ok(())
+    u8::MAX
 }
 
-// The words of a line.
-fn words_of(alloc: Global, line: &str) -> Result<Vec<String>, Fail> {
-    let mut words = Vec::new(alloc);
-    for word in line.split(' ') {
-        words.push(String::from_str(alloc, word)?)?;
+// The status of words, by the call that the program makes for them.
+fn status_of<R: Threads + Wait + Sync, D: Desk>(
+    rt: &R,
+    alloc: Global,
+    words: Vec<String>,
+    desk: &mut D,
+) -> u8 {
+    if is_live(words.as_slice()) {
+        return status_of_live(rt, alloc, words.as_slice(), desk);
     }
-    Ok(words)
-}
-
-// Runs words as those of a tool, or of a command.
-fn status_of(alloc: Global, words: &[String], desk: &mut MemoryDesk) -> u8 {
-    if is_tool(words) {
-        run_tools(alloc, words, desk)
-    } else {
-        run_here(alloc, words, desk)
+    if is_recorded(words.as_slice()) {
+        return status_of_recorded(rt, alloc, words.as_slice(), desk);
     }
-}
-
-// What the console holds behind a status.
-fn told_of(alloc: Global, status: u8, desk: &MemoryDesk) -> Result<String, Fail> {
-    let console = std::str::from_utf8(desk.page(CONSOLE).unwrap_or(b""))?;
-    Ok(format!(in alloc; "{status} {console}")?)
-}
-
-// Whether these are the first bytes of others, so many of them at most.
-fn is_front(held: &[u8], whole: &[u8], most: usize) -> bool {
-    held == &whole[..whole.len().min(most)]
-}
-
-// Whether `out` holds the begin of that page.
-fn holds(desk: &MemoryDesk, page: &str, most: usize) -> bool {
-    let whole = desk.page(page).unwrap_or(b"");
-    let held = desk.page("out").unwrap_or(b"no such page");
-    desk.page(page).is_some() && is_front(held, whole, most)
-}
-
-// What a run comes to over a desk whose pages move at most so many bytes a call.
-fn came_to(alloc: Global, it: &Run, most: usize) -> Result<String, Fail> {
-    let mut desk = MemoryDesk::new(alloc, 10_000)?;
-    pages::put(alloc, &mut desk, it, most)?;
-    set(&mut desk, it.set)?;
-    let words = words_of(alloc, it.words)?;
-    let status = status_of(alloc, words.as_slice(), &mut desk);
-    let mut told = told_of(alloc, status, &desk)?;
-    if !holds(&desk, it.held.0, it.held.1) {
-        told.push_str(" with another page")?;
+    if feeds::is_one(words.as_slice()) {
+        return feeds::status_of(rt, alloc, words.as_slice(), desk);
     }
-    Ok(told)
+    status_of_program(alloc, Ok(words), desk)
 }
 
-// The runs that come to something else, with what they come to.
-fn wrong_of(alloc: Global, runs: &[Run], most: usize) -> Result<String, Fail> {
+// What is told of a run of these words: the status, a space and the console.
+fn told_by<R: Threads + Wait + Sync>(
+    rt: &R,
+    alloc: Global,
+    line: &str,
+    desk: &mut MemoryDesk,
+) -> Result<String, Fail> {
+    let status = status_of(rt, alloc, words_of(alloc, line)?, desk);
+    told_of(alloc, status, desk)
+}
+
+// What is wrong of a row, where its pages move at most so many bytes a call.
+fn wrong_in_row<R: Threads + Wait + Sync>(
+    rt: &R,
+    alloc: Global,
+    row: Row<'_>,
+    most: usize,
+) -> Result<String, Fail> {
+    let mut desk = new_desk(alloc)?;
+    set_pieces(&mut desk, row.words, most)?;
+    row.set_up(alloc, &mut desk)?;
+    let status = status_of(rt, alloc, words_of(alloc, row.words)?, &mut desk);
+    row.wrong(alloc, status, &desk)
+}
+
+// What is wrong of the rows of a table.
+fn wrong_in<R: Threads + Wait + Sync>(
+    rt: &R,
+    alloc: Global,
+    table: &str,
+    most: usize,
+) -> Result<String, Fail> {
     let mut wrong = String::new(alloc);
-    for it in runs {
-        let came = came_to(alloc, it, most)?;
-        if came.as_str() != it.told {
-            wrong.push_str(it.name)?;
-            wrong.push_str(": ")?;
-            wrong.push_str(came.as_str())?;
+    for text in table.split("\n* ") {
+        if !text.is_empty() {
+            let row = Row::of(text)?;
+            wrong.push_str(wrong_in_row(rt, alloc, row, most)?.as_str())?;
         }
     }
     Ok(wrong)
 }
 
 #[test]
-fn replays_that_fail(rt: HostRuntime) -> Result<(), Fail> {
-    for runs in [
-        replays::reads(),
-        replays::writes(),
-        replays::streams(),
-        replays::setups(),
+fn commands_that_fail(rt: HostRuntime) -> Result<(), Fail> {
+    for table in [
+        replays::FAULTS,
+        replays::OUTSIDE,
+        streams::FAULTS,
+        loads::FAULTS,
+        times::FAULTS,
+        traces::FAULTS,
+        texts::PROGRAM,
+        live::RUNS,
     ] {
-        assert_eq!(rt; wrong_of(rt.alloc(), runs, WHOLE)?.as_str(), "");
-    }
-    Ok(())
-}
-
-#[test]
-fn other_commands_that_fail(rt: HostRuntime) -> Result<(), Fail> {
-    for runs in [
-        streams::sends(),
-        streams::chains(),
-        times::runs(),
-        loads::runs(),
-        traces::faults(),
-    ] {
-        assert_eq!(rt; wrong_of(rt.alloc(), runs, WHOLE)?.as_str(), "");
+        assert_eq!(rt; wrong_in(&rt, rt.alloc(), table, WHOLE)?.as_str(), "");
     }
     Ok(())
 }
@@ -152,34 +146,70 @@ fn other_commands_that_fail(rt: HostRuntime) -> Result<(), Fail> {
 #[test]
 fn worked_examples_in_pieces(rt: HostRuntime) -> Result<(), Fail> {
     for most in [WHOLE, 1, 2, 7] {
-        for runs in [replays::examples(), traces::examples()] {
-            assert_eq!(rt; wrong_of(rt.alloc(), runs, most)?.as_str(), "");
+        for table in [replays::EXAMPLES, traces::EXAMPLES] {
+            assert_eq!(rt; wrong_in(&rt, rt.alloc(), table, most)?.as_str(), "");
         }
     }
     Ok(())
 }
 
-// Runs words as those of a tool.
-fn status_of_tool(alloc: Global, words: &[String], desk: &mut MemoryDesk) -> u8 {
-    run_tools(alloc, words, desk)
+#[test]
+fn each_outside_call_fails_once(rt: HostRuntime) -> Result<(), Fail> {
+    assert_eq!(rt;
+        wrong_counts(&rt, rt.alloc(), counting::COMMANDS)?.as_str(),
+        ""
+    );
+    Ok(())
 }
 
-// What the tools make of words, which needn't be for them.
-fn tools_of(alloc: Global, line: &str) -> Result<String, Fail> {
-    let mut desk = MemoryDesk::new(alloc, 1_000)?;
+// Whether a run with two links and two sinks comes to one of the outcomes that it may have.
+fn is_one_of_two_and_two<R: Threads + Wait + Sync>(rt: &R, alloc: Global) -> Result<bool, Fail> {
+    let mut desk = new_desk(alloc)?;
+    let words = words_of(alloc, "receive setup 30000 16 hi,yo out,other")?;
+    let status = status_of(rt, alloc, words, &mut desk);
+    for text in live::TWO_AND_TWO.split("\n* ") {
+        if !text.is_empty() && Row::of(text)?.wrong(alloc, status, &desk)?.is_empty() {
+            return Ok(true);
+        }
+    }
+    Ok(false)
+}
+
+#[test]
+fn two_links_and_two_sinks(rt: HostRuntime) -> Result<(), Fail> {
+    assert!(rt; is_one_of_two_and_two(&rt, rt.alloc())?);
+    Ok(())
+}
+
+// What a call tells of words that are in no form of its own.
+fn told_of_tools(alloc: Global, line: &str) -> Result<String, Fail> {
+    let mut desk = new_desk(alloc)?;
     let words = words_of(alloc, line)?;
-    let status = status_of_tool(alloc, words.as_slice(), &mut desk);
+    let status = run_tools(alloc, words.as_slice(), &mut desk);
+    told_of(alloc, status, &desk)
+}
+
+// The same of the live commands.
+fn told_of_live<R: Threads + Wait + Sync>(
+    rt: &R,
+    alloc: Global,
+    line: &str,
+) -> Result<String, Fail> {
+    let mut desk = new_desk(alloc)?;
+    let words = words_of(alloc, line)?;
+    let status = status_of_live(rt, alloc, words.as_slice(), &mut desk);
     told_of(alloc, status, &desk)
 }
 
 #[test]
-fn words_of_no_tool(rt: HostRuntime) -> Result<(), Fail> {
+fn words_of_no_form(rt: HostRuntime) -> Result<(), Fail> {
     for line in ["", "send setup secret script capture"] {
-        assert_eq!(rt;
-            tools_of(rt.alloc(), line)?.as_str(),
-            times::USAGE,
-            "{line}"
-        );
+        let told = told_of_tools(rt.alloc(), line)?;
+        assert_eq!(rt; told.as_str(), times::USAGE, "{line}");
+    }
+    for line in live::NO_FORMS {
+        let told = told_of_live(&rt, rt.alloc(), line)?;
+        assert_eq!(rt; told.as_str(), live::USAGE, "{line}");
     }
     Ok(())
 }

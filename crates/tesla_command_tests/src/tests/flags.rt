@@ -3,7 +3,7 @@
 ghost use Rattle.std.specs.Prelude.{◌≡◌};
 ghost use Rattle.tesla_desk.specs.Memory.{told_by};
 
-use super::{new_desk, status_of, words_of};
+use super::pages::new_desk;
 use std::alloc::Global;
 use std::sync::Wait;
 use std::sync::atomic::AtomicU64;
@@ -12,6 +12,7 @@ use std::test::*;
 use std::thread::{Threads, yield_now};
 use tesla_cli_live::run_live;
 use tesla_desk::{Desk, Gate, Heap, Letters, MemoryDesk, OpenRefusal, Outbox, Pages, Readings};
+use tesla_test_desk::words_of;
 
 /// How many workers there are.
 const WORKERS: u64 = 4;

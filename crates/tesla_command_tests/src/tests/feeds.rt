@@ -1,0 +1,388 @@
+//! Runs of the live tools, `feed`, `capture` and `watch`: what posts send, at which readings of the clock. Frames were made by
+//! another program.
+
+use super::counting::wrong_counts;
+use super::pages::new_desk;
+use super::{WHOLE, wrong_in};
+use std::alloc::Global;
+use std::sync::Wait;
+use std::test::Fail;
+use std::thread::Threads;
+use tesla_desk::{Desk, MemoryDesk};
+use tesla_live::{Anchor, Times, sender_reading};
+use tesla_live_tools::{is_live_tool, run_live_tools};
+use tesla_test_desk::{Row, told_of, words_of};
+
+/// What each of two posts sends, at which readings of the clock: at the opening, until the next interval has begun, at each item of the
+/// link, and at each rest behind it. Interval 0 begins at 1000000, and each is 100000 long. The last interval ends at 1900000, and the
+/// greatest delay is 5.
+const FEEDS: &str = r"
+* two messages and a pause $ feed setup secret in one,two
+link in 'hi . . . . . 'yo
+clock 0 1050000 1080000 1099999 1100000 1150000 1190000 1250000 1350000 1360000 1450000 1470000 1480000 1500000 1600000 1700000 1900000 2400000
+told 0 messages 2\ndisclosures 6\ntoolong 0\nearly 0\nover 0\nbackward 0\nfull 0\nunread 0\n
+sent one,two DATA_1_0_HI KEYS_0_1 KEYS_0_2 DATA_4_0_YO KEYS_0_3 KEYS_0_4_AND_1_1 KEYS_0_5_AND_1_2 KEYS_0_7_AND_1_4
+* three messages of an interval, and no key is told before the end of the link $ feed setup secret in one,two
+# It is opened before the start.
+link in 'a 'b '
+clock 0 500000 900000 1199999 1200000 1299999 1299999 1299999 1400000 1650000 1700000 2400000
+told 0 messages 3\ndisclosures 3\ntoolong 0\nearly 0\nover 0\nbackward 0\nfull 0\nunread 0\n
+sent one,two BARE_2_0_A BARE_2_1_B BARE_2_2_EMPTY KEYS_0_2 KEYS_0_4_AND_1_1 KEYS_0_5_AND_1_2
+* version 2 $ feed setup-with-tags secret in one,two
+link in 'hi . 'yo
+clock 0 1050000 1100000 1150000 1350000 1360000 1800000 2400000
+told 0 messages 2\ndisclosures 2\ntoolong 0\nearly 0\nover 0\nbackward 0\nfull 0\nunread 0\n
+sent one,two TWO_DATA_1_0_HI TWO_KEYS_0_1 TWO_DATA_3_0_YO TWO_KEYS_0_6_AND_1_3
+* 1,201 bytes twice, where a key is due and where none is, and 1,200 bytes $ feed setup secret in one,two
+link in 'a 78*1201 78*1201 78*1200
+clock 0 1000000 1100000 1100000 1350000 1360000 1370000 1800000 2400000
+told 0 messages 2\ndisclosures 2\ntoolong 2\nearly 0\nover 0\nbackward 0\nfull 0\nunread 0\n
+sent one,two BARE_1_0_A KEYS_0_1 54534c41010100000000000000a700000003000004b0+78*1200+024ebd63b3ec2c535dc0be1cf3a37a395d01e35f7f3127486559a519752e19c86876ea056b9c61cf68f0615c0ac4ee21be967a2305cce5dd1f774ace78248bc62d6100 KEYS_0_6_AND_1_3
+* a clock that falls back $ feed setup secret in one,two
+# Behind 'a' of interval 3 come 'b' in interval 2, 'c' in that of the opening, 'd' before the start and 'e' in interval 0.
+link in 'a 'b . 'c . 'd 'e 'f
+clock 0 1150000 1200000 1350000 1250000 1250000 1150000 1150000 999999 1099999 1310000 1250000 1450000 1800000 2400000
+told 0 messages 2\ndisclosures 2\ntoolong 0\nearly 2\nover 0\nbackward 2\nfull 0\nunread 0\n
+sent one,two DATA_3_0_A DATA_3_1_F KEYS_0_2 KEYS_0_6_AND_1_3
+* a clock that falls back to the interval of the opening, before the first message $ feed setup secret in one,two
+# No key is told there, though none was before.
+link in . 'a . 'b
+clock 0 1500000 1599999 1600000 1599999 1599999 1550000 1600000 1600000 2100000 2400000
+told 0 messages 1\ndisclosures 1\ntoolong 0\nearly 0\nover 0\nbackward 1\nfull 0\nunread 0\n
+sent one,two DATA_6_0_B KEYS_0_8_AND_1_6
+* messages after the last interval $ feed setup secret in one,two
+# The last keys are told in interval 30, and nothing is in interval 31 and behind it.
+link in 'e 'x . 'y . . 'z
+clock 0 1700000 1800000 1850000 1900000 2000000 2050000 4000000 4100000 9000000 9900000
+told 0 messages 1\ndisclosures 3\ntoolong 0\nearly 0\nover 3\nbackward 0\nfull 0\nunread 0\n
+sent one,two DATA_8_0_E KEYS_0_7_AND_1_4 KEYS_0_8_AND_1_5 KEYS_0_8_AND_1_8
+* the last keys are told behind the end of the link $ feed setup secret in one,two
+link in 'e 'x
+clock 0 1799999 1899999 1899999 1900000 1950000 2200000 2299999 2300000 9900000
+told 0 messages 1\ndisclosures 3\ntoolong 0\nearly 0\nover 1\nbackward 0\nfull 0\nunread 0\n
+sent one,two DATA_8_0_E KEYS_0_7_AND_1_4 KEYS_0_8_AND_1_7 KEYS_0_8_AND_1_8
+* an opening after the last interval $ feed setup secret in one,two
+link in 'x .
+clock 0 1900000 2000000 2000000 2300000 9900000
+told 0 messages 0\ndisclosures 2\ntoolong 0\nearly 0\nover 1\nbackward 0\nfull 0\nunread 0\n
+sent one,two KEYS_0_8_AND_1_5 KEYS_0_8_AND_1_8
+* an opening the greatest delay and 64 intervals behind the end $ feed setup secret in one,two
+link in 'x .
+clock 0 8800000 8900000 8900000 9000000
+told 0 messages 0\ndisclosures 1\ntoolong 0\nearly 0\nover 1\nbackward 0\nfull 0\nunread 0\n
+sent one,two KEYS_0_8_AND_1_8
+* an opening a microsecond later $ feed setup secret in one,two
+link in 'x .
+clock 0 8800001 8900000 8900000 9000000
+told 2 refused setup 0 Over\n
+silent one,two
+* a clock that can't be read at the opening, before the first interval, at a message and at a quiet $ feed setup secret in one,two
+link in 'b 'a .
+clock 0 18446744073709551615 1150000 18446744073709551615 1200000 18446744073709551615 1210000 18446744073709551615 2400000
+told 0 messages 1\ndisclosures 1\ntoolong 0\nearly 0\nover 0\nbackward 0\nfull 0\nunread 1\n
+sent one,two BARE_2_0_A KEYS_0_8_AND_1_8
+* a post fails at its second datagram $ feed setup secret in one,two
+link in 'hi . . . . . 'yo
+clock 0 1050000 1080000 1099999 1100000 1150000 1190000 1250000 1350000 1360000 1450000 1470000 1480000 1500000 1600000 1700000 1900000 2400000
+set fails 1 two
+told 5 write fault\n
+sent one DATA_1_0_HI KEYS_0_1 KEYS_0_2 DATA_4_0_YO KEYS_0_3 KEYS_0_4_AND_1_1 KEYS_0_5_AND_1_2 KEYS_0_7_AND_1_4
+sent two DATA_1_0_HI
+* a post has no room for its fourth datagram $ feed setup secret in one,two
+# The fifth would find room.
+link in 'hi . . . . . 'yo
+clock 0 1050000 1080000 1099999 1100000 1150000 1190000 1250000 1350000 1360000 1450000 1470000 1480000 1500000 1600000 1700000 1900000 2400000
+set room 220 one
+told 5 write fault\n
+sent one DATA_1_0_HI KEYS_0_1 KEYS_0_2
+sent two DATA_1_0_HI KEYS_0_1 KEYS_0_2 DATA_4_0_YO KEYS_0_3 KEYS_0_4_AND_1_1 KEYS_0_5_AND_1_2 KEYS_0_7_AND_1_4
+* the only post fails at once $ feed setup secret in one
+link in 'hi . . . . . 'yo
+clock 0 1050000 1080000 1099999 1100000 1150000 1190000 1250000 1350000 1360000 1450000 1470000 1480000 1500000 1600000 1700000 1900000 2400000
+set fails 0 one
+told 5 write fault\n
+silent one,two
+* both posts fail, one behind the other $ feed setup secret in one,two
+link in 'hi . . . . . 'yo
+clock 0 1050000 1080000 1099999 1100000 1150000 1190000 1250000 1350000 1360000 1450000 1470000 1480000 1500000 1600000 1700000 1900000 2400000
+set fails 0 one,fails 2 two
+told 5 write fault\n
+silent one
+sent two DATA_1_0_HI KEYS_0_1
+* 32 posts $ feed setup secret in two,a,b,c,d,e,f,g,h,i,j,k,l,m,n,o,p,q,r,s,t,u,v,w,x,y,z,A,B,C,D,one
+link in 'hi . . . . . 'yo
+clock 0 1050000 1080000 1099999 1100000 1150000 1190000 1250000 1350000 1360000 1450000 1470000 1480000 1500000 1600000 1700000 1900000 2400000
+set fails 3 a
+told 5 write fault\n
+sent one,two DATA_1_0_HI KEYS_0_1 KEYS_0_2 DATA_4_0_YO KEYS_0_3 KEYS_0_4_AND_1_1 KEYS_0_5_AND_1_2 KEYS_0_7_AND_1_4
+* no message $ feed setup secret in one,two
+link in . . . .
+clock 0 1000000 1100000 1200000 1300000 1310000 1600000 2400000
+told 0 messages 0\ndisclosures 2\ntoolong 0\nearly 0\nover 0\nbackward 0\nfull 0\nunread 0\n
+sent one,two KEYS_0_1 KEYS_0_4_AND_1_1
+* nothing comes $ feed setup secret in one,two
+link in
+clock 0 1000000 1100000 2400000
+told 0 messages 0\ndisclosures 0\ntoolong 0\nearly 0\nover 0\nbackward 0\nfull 0\nunread 0\n
+silent one,two
+* a link fails behind a message $ feed setup secret in one,two
+link in 'hi 'yo
+clock 0 1050000 1100000 1150000 1350000 1600000 2400000
+set fails 1 in
+told 4 read fault\n
+sent one,two DATA_1_0_HI KEYS_0_1 KEYS_0_4_AND_1_1
+* a link and a post fail $ feed setup secret in one,two
+# Both are failures, and that of the link is told.
+link in 'hi 'yo
+clock 0 1050000 1100000 1150000 1350000 1600000 2400000
+set fails 1 in,fails 1 two
+told 4 read fault\n
+sent one DATA_1_0_HI KEYS_0_1 KEYS_0_4_AND_1_1
+sent two DATA_1_0_HI
+";
+
+/// Runs that feed nothing.
+const REFUSALS: &str = r"
+* SETUP is missing $ feed none secret in one,two
+told 7 open fault\n
+silent one,two
+* SETUP is refused $ feed empty secret in one,two
+told 2 refused setup 1 BadLine\n
+silent one,two
+* SECRET is missing $ feed setup none in one,two
+told 7 open fault\n
+silent one,two
+* SECRET is empty $ feed setup empty in one,two
+told 3 refused seeds 1 WrongCount\n
+silent one,two
+* SECRET has another seed $ feed setup wrong-seeds in one,two
+told 3 refused seeds 3 WrongSeed\n
+silent one,two
+* LINK is missing $ feed setup secret none one,two
+told 7 open fault\n
+silent one,two
+* no memory has so much room for the first post $ feed setup secret in one,two
+set room 18446744073709551615 one
+told 6 no memory\n
+silent one,two
+* no memory has so much room for the second post $ feed setup secret in one,two
+set room 18446744073709551615 two
+told 6 no memory\n
+silent one,two
+";
+
+/// A quiet stands before each datagram. The opening of LINK is 1, and that of CAPTURE 2.
+const CAPTURES: &str = r"
+* capture: nothing fails $ capture few out
+# The head; each arrival with its reading, its length and its bytes; and the take behind it.
+clock 0 1 258 18446744073709551615
+told 0 captured 3\n
+holds out 5443415001010000000000000001000261620201000000000000010200000201ffffffffffffffff000378797a02
+* capture: the call of the link behind the second datagram $ capture few out
+# What is gathered is written where the link fails.
+clock 0 1 258 18446744073709551615
+set fails 4 few
+told 4 read fault\n
+holds out 54434150010100000000000000010002616202010000000000000102000002
+* capture: that, and then a write $ capture few out
+clock 0 1 258 18446744073709551615
+set fails 4 few,room 21 out
+told 4 read fault\n
+holds out 544341500101000000000000000100026162020100
+* capture: no room behind the head $ capture few out
+clock 0 1 258 18446744073709551615
+set room 7 out
+told 5 write fault\n
+holds out 54434150010100
+* capture: no room for the head $ capture few out
+clock 0 1 258 18446744073709551615
+set room 3 out
+told 5 write fault\n
+holds out 544341
+* capture: the third write $ capture few out
+# What is gathered is written at each quiet.
+clock 0 1 258 18446744073709551615
+set fails 2 out
+told 5 write fault\n
+holds out 54434150010100000000000000010002616202
+";
+
+/// What comes of a message in interval 3 by the steady clock: all keys are told in their intervals by it.
+const STEADY: &str = r"a step ahead $ feed setup secret in one
+link in 'a
+told 0 messages 1\ndisclosures 5\ntoolong 0\nearly 0\nover 0\nbackward 0\nfull 0\nunread 0\n
+sent one DATA_3_0_A KEYS_0_2 KEYS_0_3 KEYS_0_4_AND_1_1 KEYS_0_5_AND_1_2 KEYS_0_6_AND_1_3
+silent two
+";
+
+/// An ordinary run of each of these commands, as in `counting`.
+const COMMANDS: &str = "
+# The last line has between 112 and 120 bytes.
+watch setup 30000 16 both out status 3600: open 5, read setup 23, read both 5, write out 2, print status 12, print - 11
+# The head of 5 bytes, and what is gathered at the second quiet, 71 bytes, and at the end, 103.
+capture both out: open 3, read both 5, write out 20, print - 2
+# Keys at the quiet, the frame, and keys in the intervals 7, 9 and 10. The lines have 68 bytes.
+feed setup secret hi p,q: open 6, read setup 23, read secret 17, read hi 3, write p 5, write q 5, print - 7
+";
+
+/// What is told of words that are no form of a live tool.
+const USAGE: &str = "\
+1 usage: capture LINK CAPTURE
+usage: feed SETUP SECRET LINK POSTS
+usage: watch SETUP LAG CAPACITY LINKS SINKS STATUS EVERY
+";
+
+/// Words that are no form.
+const NO_FORMS: &[&str] = &[
+    "feed",
+    "feed setup secret in",
+    "feed setup secret in one two",
+    "feed setup secret in one,one",
+    "feed setup secret in one,",
+    "feed setup secret in one,-",
+    "feed setup secret - one",
+    "feed setup - in one",
+    "feed - secret in one",
+    "feed setup secret  one",
+    "feeds setup secret in one",
+    "feed setup secret in two,a,b,c,d,e,f,g,h,i,j,k,l,m,n,o,p,q,r,s,t,u,v,w,x,y,z,A,B,C,D,E,one",
+    "capture in",
+    "capture in out more",
+    "captures in out",
+    "capture - out",
+    "capture in -",
+    "capture  out",
+    "",
+];
+
+/// Whether the words are those of a live tool.
+pub fn is_one(words: &[String]) -> bool {
+    is_live_tool(words)
+}
+
+/// The status of words of a live tool.
+pub fn status_of<R: Threads + Wait + Sync, D: Desk>(
+    rt: &R,
+    alloc: Global,
+    words: &[String],
+    desk: &mut D,
+) -> u8 {
+    run_live_tools(rt, alloc, words, desk).status
+}
+
+#[test]
+fn runs_of_live_tools(rt: HostRuntime) -> Result<(), Fail> {
+    for table in [FEEDS, REFUSALS, CAPTURES] {
+        assert_eq!(rt; wrong_in(&rt, rt.alloc(), table, WHOLE)?.as_str(), "");
+    }
+    Ok(())
+}
+
+#[test]
+fn each_outside_call_of_live_tools_fails_once(rt: HostRuntime) -> Result<(), Fail> {
+    assert_eq!(rt; wrong_counts(&rt, rt.alloc(), COMMANDS)?.as_str(), "");
+    Ok(())
+}
+
+// What a sender reads, whose system's clock is set to this behind its opening, while the one that can't be set goes on by
+// 10 milliseconds from reading to reading.
+fn set_ahead(alloc: Global, ahead: u64) -> Result<Vec<u64>, Fail> {
+    let anchor = Anchor {
+        since_1970: 1_250_000,
+        since_boot: 0,
+    };
+    let mut readings = Vec::new(alloc);
+    for number in 0..60u64 {
+        let now = Times {
+            since_1970: Some(if number == 0 { 1_250_000 } else { ahead }),
+            since_boot: Some(10_000 * number),
+        };
+        readings.push(sender_reading(&anchor, now))?;
+    }
+    Ok(readings)
+}
+
+// What is wrong of a run whose clock is set ahead.
+fn wrong_ahead<R: Threads + Wait + Sync>(
+    rt: &R,
+    alloc: Global,
+    ahead: u64,
+) -> Result<String, Fail> {
+    let row = Row::of(STEADY)?;
+    let mut desk = new_desk(alloc)?;
+    row.set_up(alloc, &mut desk)?;
+    desk.put_readings(0, set_ahead(alloc, ahead)?.as_slice())?;
+    let words = words_of(alloc, row.words)?;
+    let status = status_of(rt, alloc, words.as_slice(), &mut desk);
+    row.wrong(alloc, status, &desk)
+}
+
+#[test]
+fn clocks_that_are_set_ahead(rt: HostRuntime) -> Result<(), Fail> {
+    for ahead in [u64::MAX, 9_000_000] {
+        assert_eq!(rt;
+            wrong_ahead(&rt, rt.alloc(), ahead)?.as_str(),
+            "",
+            "{ahead}"
+        );
+    }
+    Ok(())
+}
+
+// What is told of words that are in no form.
+fn told_by<R: Threads + Wait + Sync>(rt: &R, alloc: Global, line: &str) -> Result<String, Fail> {
+    let mut desk = new_desk(alloc)?;
+    let words = words_of(alloc, line)?;
+    let status = status_of(rt, alloc, words.as_slice(), &mut desk);
+    told_of(alloc, status, &desk)
+}
+
+#[test]
+fn words_of_no_form(rt: HostRuntime) -> Result<(), Fail> {
+    for line in NO_FORMS {
+        assert_eq!(rt; told_by(&rt, rt.alloc(), line)?.as_str(), USAGE, "{line}");
+    }
+    Ok(())
+}
+
+#[test]
+fn words_of_a_live_tool(rt: HostRuntime) -> Result<(), Fail> {
+    for (line, wanted) in [
+        ("feed", true),
+        ("feed setup secret in one", true),
+        ("capture in", true),
+        ("watch setup", true),
+        ("feeds setup", false),
+        ("setup feed", false),
+        ("", false),
+    ] {
+        let words = words_of(rt.alloc(), line)?;
+        assert_eq!(rt; is_live_tool(words.as_slice()), wanted, "{line}");
+    }
+    assert!(rt; !is_live_tool(&[]));
+    Ok(())
+}
+
+/// A run of `watch`, whose datagram is no frame, where the clock of STATUS reads 1.7 seconds.
+const WATCH: &str = r"last line of watch $ watch setup 30000 16 in out status 3600
+clock 1 1700000
+told 0 arrivals 1\nmalformed 1\nforeign 0\nmisfit 0\nfuture 0\nbadkey 0\nlate 0\nrepeat 0\nfull 0\nkept 0\nkeys 0\ngiven 0\n
+holds out
+";
+
+/// What it writes to STATUS.
+const STATUS: &str =
+    "time=1700000 arrivals=1 malformed=1 foreign=0 misfit=0 future=0 badkey=0 late=0 repeat=0 full=0 kept=0 keys=0 given=0\n";
+
+#[test]
+fn last_line_of_watch(rt: HostRuntime) -> Result<(), Fail> {
+    let row = Row::of(WATCH)?;
+    let mut desk = new_desk(rt.alloc())?;
+    row.set_up(rt.alloc(), &mut desk)?;
+    let words = words_of(rt.alloc(), row.words)?;
+    let done = run_live_tools(&rt, rt.alloc(), words.as_slice(), &mut desk);
+    assert!(rt; done.last.is_some());
+    assert!(rt; desk.page("status") == Some(STATUS.as_bytes()));
+    assert_eq!(rt; row.wrong(rt.alloc(), done.status, &desk)?.as_str(), "");
+    Ok(())
+}

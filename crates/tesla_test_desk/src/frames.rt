@@ -1,0 +1,94 @@
+//! The frames of `tesla_examples` by their names, and more of that stream.
+
+use tesla_examples::{version_two as two, *};
+
+const DATA: &[(&str, &str)] = &[
+    ("DATA_1_0_HI", DATA_1_0_HI),
+    ("DATA_1_0_HI_OF_STREAM_A6", DATA_1_0_HI_OF_STREAM_A6),
+    ("DATA_3_0_YO", DATA_3_0_YO),
+];
+
+const BARE: &[(&str, &str)] = &[
+    ("BARE_1_0_A", BARE_1_0_A),
+    ("BARE_1_0_B", BARE_1_0_B),
+    ("BARE_1_1_A", BARE_1_1_A),
+    ("BARE_1_2_A", BARE_1_2_A),
+    ("BARE_2_0_A", BARE_2_0_A),
+    ("BARE_2_0_B", BARE_2_0_B),
+    ("BARE_2_0_G", BARE_2_0_G),
+    ("BARE_2_1_C", BARE_2_1_C),
+    ("BARE_3_0_G", BARE_3_0_G),
+    ("BARE_3_0_Z", BARE_3_0_Z),
+    ("BARE_4_0_G", BARE_4_0_G),
+    ("BARE_5_0_G", BARE_5_0_G),
+    ("BARE_6_0_G", BARE_6_0_G),
+    ("BARE_9_0_A", BARE_9_0_A),
+];
+
+const KEYS: &[(&str, &str)] = &[
+    ("KEYS_0_1", KEYS_0_1),
+    ("KEYS_0_1_ALTERED", KEYS_0_1_ALTERED),
+    ("KEYS_0_2", KEYS_0_2),
+    ("KEYS_0_3", KEYS_0_3),
+    ("KEYS_0_6", KEYS_0_6),
+    ("KEYS_0_8_AND_1_8", KEYS_0_8_AND_1_8),
+    ("KEYS_1_2", KEYS_1_2),
+];
+
+/// In version 2.
+const VERSION_TWO: &[(&str, &str)] = &[
+    ("TWO_DATA_1_0_HI", two::DATA_1_0_HI),
+    ("TWO_DATA_3_0_YO", two::DATA_3_0_YO),
+    ("TWO_KEYS_0_1", two::KEYS_0_1),
+];
+
+/// Made by another program, and named as those: a name and its digits on each line.
+const MORE: &str = "\
+BARE_2_1_B 54534c41010100000000000000a700000002000100016202952ed43d7b00c693c2dd229e4b6e7a4300a614d7627896cc3530481d68e229c4db00
+BARE_2_2_EMPTY 54534c41010100000000000000a70000000200020000023653cce8ab7b1ae8d4b8ab43bd87d4b20001c93408262da437609f04521fee72da00
+DATA_3_0_A 54534c41010100000000000000a700000003000000016102bbd5253759f4811562da3abb1b9c535601e35f7f3127486559a519752e19c86876ea056b9c61cf68f0615c0ac4ee21be964d70cb6e6b6e2f5e598b9fbec0aeb9e300
+DATA_3_1_F 54534c41010100000000000000a700000003000100016602ce9f391033bee49aa3e982f9a5b0873701e35f7f3127486559a519752e19c86876ea056b9c61cf68f0615c0ac4ee21be967b907a0cf4a347b7f7a3aa3cde1faf6b00
+DATA_4_0_YO 54534c41010100000000000000a70000000400000002796f026421c1ada60b8ac07417f5973023a34101aa6e11571f3a77ec615f18c42c19b81af29bb467c55187c5ead1def28acbaa3c66223f757608a906474a6afb64ea486e00
+DATA_6_0_B 54534c41010100000000000000a7000000060000000162021bbc76c64f59e31ddf1598fedded52580155b0e8d555b11c3b08d24973b6d230d05cad7e94dcede9e3df555a00fb35b70e3c9fd775c5a14ad9931d369e5db7a3c9010e524a4768db13c03e2251efc579d5cb9ce09dbba425576a23fdb8da3cda1a06
+DATA_8_0_E 54534c41010100000000000000a700000008000000016502b5694d91bc75fddd3afd19548092d3ed0165138f36cd635ee115d5b92326353aa9df2c5e3683ce3b67d59b3b377233febbb4d4dd952a39751fdbc346bbf63e319901ef25acbc82b7b5b56dafb37f8b84862a15e1dc37e919cb5c19e734c3e8f3dcbb
+KEYS_0_4_AND_1_1 54534c41010200000000000000a702000000000455b0e8d555b11c3b08d24973b6d230d05cad7e94dcede9e3df555a00fb35b70e01000000010e524a4768db13c03e2251efc579d5cb9ce09dbba425576a23fdb8da3cda1a06
+KEYS_0_5_AND_1_2 54534c41010200000000000000a702000000000569b1d626743cb8007b3ae3854d657e0b9f1a8d0b4681816ea7391449a79ac8a901000000026471eb10bd546bf4ce23cc94f12e0c461f97b5e3952ca699c0183276fb22022a
+KEYS_0_6_AND_1_3 54534c41010200000000000000a702000000000665138f36cd635ee115d5b92326353aa9df2c5e3683ce3b67d59b3b377233febb0100000003ef25acbc82b7b5b56dafb37f8b84862a15e1dc37e919cb5c19e734c3e8f3dcbb
+KEYS_0_7_AND_1_4 54534c41010200000000000000a702000000000756eb22f9e4bd9471676a679d3e9ce01c1c55f20dbfef5ecfac8326e01c777dfb0100000004ac3a9b69088ee424d767ae8d7ee3dbfa6c259c10d790be4e61509b1fc9d4f522
+KEYS_0_8_AND_1_5 54534c41010200000000000000a7020000000008111111111111111111111111111111111111111111111111111111111111111101000000059f1b89613766d33eb25ee42c276ec08181d1204298851435b9630a27b810cbf0
+KEYS_0_8_AND_1_6 54534c41010200000000000000a7020000000008111111111111111111111111111111111111111111111111111111111111111101000000063404da19aacb44bcb4b8669c04e3626f6e5d4bfa9afd3f3fa183d0584147722a
+KEYS_0_8_AND_1_7 54534c41010200000000000000a7020000000008111111111111111111111111111111111111111111111111111111111111111101000000070e7783d9727e7fb470c37490f4a80bbedb975045e069cb1bea1e71f9ba6eddda
+TWO_KEYS_0_6_AND_1_3 54534c41020200000000000000a702000000000665138f36cd635ee115d5b92326353aa9df2c5e3683ce3b67d59b3b377233febb0100000003ef25acbc82b7b5b56dafb37f8b84862a15e1dc37e919cb5c19e734c3e8f3dcbb
+";
+
+// The frame with this name in a table.
+fn frame_in(table: &[(&'static str, &'static str)], name: &str) -> Option<&'static str> {
+    for (each, digits) in table {
+        if *each == name {
+            return Some(digits);
+        }
+    }
+    None
+}
+
+// The frame with this name in lines.
+fn frame_in_lines(lines: &'static str, name: &str) -> Option<&'static str> {
+    for line in lines.split('\n') {
+        if let Some((each, digits)) = line.split_once(' ')
+            && each == name
+        {
+            return Some(digits);
+        }
+    }
+    None
+}
+
+/// The hexadecimal digits of the frame with this name, before which stands `TWO_` for version 2.
+pub fn frame(name: &str) -> Option<&'static str> {
+    for table in [DATA, BARE, KEYS, VERSION_TWO] {
+        if let Some(digits) = frame_in(table, name) {
+            return Some(digits);
+        }
+    }
+    frame_in_lines(MORE, name)
+}
