@@ -2,16 +2,17 @@
 
 use crate::checks::{is_so, told_of};
 use crate::links::{put_clock, put_link};
-use crate::settings::set;
+use crate::settings::{add_to_page, set};
 use std::alloc::Global;
 use std::test::Fail;
 use tesla_desk::MemoryDesk;
 
 /// A row: a line `NAME $ WORDS`, and a line behind it for each thing that is set, and for each that has to be so then.
 ///
-/// Before the run, `link NAMES LETTERS` puts what links bring, `clock NUMBER READINGS` what a clock reads, and `set SETTINGS`
-/// sets the rest. Behind it, `told` has the status, a space and the console, where `\n` ends a line and a last `|` says
-/// nothing; and the other lines say what names hold. A line that begins with `# ` says nothing. Where no line tells of `out`, it holds what `before` does.
+/// Before the run, `page NAME WORD` adds bytes to a page, `link NAMES LETTERS` puts what links bring, `clock NUMBER READINGS`
+/// what a clock reads, and `set SETTINGS` sets the rest. Behind it, `told` has the status, a space and the console, where `\n`
+/// ends a line and a last `|` says nothing; and the other lines say what names hold. A line that begins with `# ` says nothing.
+/// Where no line tells of `out`, it holds what `before` does.
 #[derive(Clone, Copy)]
 pub struct Row<'a> {
     pub name: &'a str,
@@ -39,6 +40,7 @@ fn set_line(alloc: Global, desk: &mut MemoryDesk, line: &str) -> Result<(), Fail
     match kind {
         "link" => put_links(alloc, desk, names, words),
         "clock" => put_clock(alloc, desk, names.parse()?, words),
+        "page" => add_to_page(alloc, desk, names, words),
         "set" => set(desk, rest),
         _ => Ok(()),
     }
@@ -46,7 +48,7 @@ fn set_line(alloc: Global, desk: &mut MemoryDesk, line: &str) -> Result<(), Fail
 
 // Whether a line has nothing to say behind a run, or is that of the console.
 fn is_said(kind: &str) -> bool {
-    matches!(kind, "" | "#" | "link" | "clock" | "set" | "told")
+    matches!(kind, "" | "#" | "page" | "link" | "clock" | "set" | "told")
 }
 
 // Whether what a line says is so.

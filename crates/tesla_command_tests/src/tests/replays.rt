@@ -86,14 +86,17 @@ told 2 refused setup 7 DelaysNotRising\n
 * empty setup $ replay empty 30000 16 first out
 set piece 3 empty
 told 2 refused setup 1 BadLine\n
-* setup of 4,096 bytes $ replay x4096 30000 16 first out
-set piece 3 x4096
+* setup of 4,096 bytes $ replay letters 30000 16 first out
+page letters 78*4096
+set piece 3 letters
 told 2 refused setup 1 BadLine\n
-* setup of 4,097 bytes $ replay x4097 30000 16 first out
-set piece 3 x4097
+* setup of 4,097 bytes $ replay letters 30000 16 first out
+page letters 78*4097
+set piece 3 letters
 told 2 refused setup 0 TooLong\n
-* setup of 5,000 bytes $ replay x5000 30000 16 first out
-set piece 3 x5000
+* setup of 5,000 bytes $ replay letters 30000 16 first out
+page letters 78*5000
+set piece 3 letters
 told 2 refused setup 0 TooLong\n
 ";
 

@@ -6,7 +6,7 @@ use super::memory::{Page, Pieces};
 use tesla_audit::{Answer, TailReader, TraceReader, TraceStep, add_answer};
 use tesla_base::{ChainNo, Head, StreamId};
 use tesla_capture::Gatherer;
-use tesla_desk::Sink;
+use tesla_desk::{Sink, Source};
 use tesla_fitting::Verdict;
 use tesla_front::Lines;
 use tesla_state::Take;
@@ -109,17 +109,15 @@ const OF_TWO: [u8; 25] = [
     1, 0, 0, 0, 0, 0, 0, 0, 0, 9, 0, 1, 0x61, 6, // an arrival
 ];
 
-/// Reads a trace in pieces of two bytes, and writes its entries: how many there are, and what follows them.
-fn copy_entries(bytes: &[u8], page: &mut Page) -> (u8, TraceStep) {
-    let mut source = Pieces::new(bytes);
-    source.most = 2;
+/// Reads a trace, and writes its entries: how many there are, and what follows them.
+fn copy_entries<S: Source>(source: &mut S, page: &mut Page) -> (u8, TraceStep) {
     let mut reader = TraceReader::new();
     let mut entry = EntryBuffer::new();
     for count in 0..10 {
         if !reader.going() {
             return (count, TraceStep::Entry);
         }
-        match reader.next(&mut source, &mut entry) {
+        match reader.next(source, &mut entry) {
             TraceStep::Entry => {
                 let _ = write_entry(page, &entry);
             }
@@ -129,13 +127,20 @@ fn copy_entries(bytes: &[u8], page: &mut Page) -> (u8, TraceStep) {
     (10, TraceStep::Entry)
 }
 
+/// The same of these bytes, in pieces of two.
+fn copy_bytes(bytes: &[u8], page: &mut Page) -> (u8, TraceStep) {
+    let mut source = Pieces::new(bytes);
+    source.most = 2;
+    copy_entries(&mut source, page)
+}
+
 #[test]
 fn entries_are_read_and_written(rt: HostRuntime) {
     let mut page = Page::new();
-    assert_eq!(rt; copy_entries(&TRACE, &mut page), (5, TraceStep::End));
+    assert_eq!(rt; copy_bytes(&TRACE, &mut page), (5, TraceStep::End));
     assert_eq!(rt; page.text(), &TRACE[6..]);
     let mut page = Page::new();
-    assert_eq!(rt; copy_entries(&OF_TWO, &mut page), (3, TraceStep::End));
+    assert_eq!(rt; copy_bytes(&OF_TWO, &mut page), (3, TraceStep::End));
     assert_eq!(rt; page.text(), &OF_TWO[6..]);
 }
 
@@ -158,11 +163,11 @@ fn refused_traces(rt: HostRuntime) {
             place: *place,
             kind: *kind,
         };
-        let read = copy_entries(&bytes[..(*length).min(25)], &mut Page::new());
+        let read = copy_bytes(&bytes[..(*length).min(25)], &mut Page::new());
         assert_eq!(rt; read, (*entries, refused));
     }
     assert_eq!(rt;
-        copy_entries(&OF_TWO[..6], &mut Page::new()),
+        copy_bytes(&OF_TWO[..6], &mut Page::new()),
         (0, TraceStep::End)
     );
 }
