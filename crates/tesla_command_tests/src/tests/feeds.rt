@@ -221,8 +221,8 @@ const COMMANDS: &str = "
 watch setup 30000 16 both out status 3600: open 5, read setup 23, read both 5, write out 2, print status 12, print - 11
 # The head of 5 bytes, and what is gathered at the second quiet, 71 bytes, and at the end, 103.
 capture both out: open 3, read both 5, write out 20, print - 2
-# Keys at the quiet, the frame, and keys in the intervals 7, 9 and 10. The lines have 68 bytes.
-feed setup secret hi p,q: open 6, read setup 23, read secret 17, read hi 3, write p 5, write q 5, print - 7
+# Keys at the quiet, the frame, and keys in the intervals 7, 9 and 10. The lines have 77 bytes.
+feed setup secret hi p,q: open 6, read setup 23, read secret 17, read hi 3, write p 5, write q 5, print - 8
 ";
 
 /// What is told of words that are no form of a live tool.
