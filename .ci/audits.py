@@ -6,10 +6,14 @@ lines audits several files, of which each has another fault.
 """
 import struct
 
-from entries import VERDICTS, Arrival, Ended, Taken, answer_words, entry_text, read_trace, shown, tail_text, trace_text
-from histories import FIRST_TAG, HI, HISTORIES, SECOND_TAG, SETUP_2, altered
 from program import OPEN
-from streams import FALLING, SETUP_OF_ONE, refused, stored
+from histories import FIRST_TAG, HISTORIES, SECOND_TAG, SETUP_2
+from model.histories import Arrival, Ended, Taken
+from model.streams import altered
+from model.traces import answer_in, answer_line, entry_text, shown, tail_text, trace_outline_of, trace_text, whole
+from model.verdicts import VERDICTS
+from running import stored
+from streams import FALLING, SETUP_OF_ONE, refused
 
 STORED = stored("trace")
 AUDIT = "audit setup 30000 16 trace"
@@ -17,7 +21,7 @@ AUDIT = "audit setup 30000 16 trace"
 
 def refuted(number, answer):
     """The line of a wrong answer, in whose place this one is right."""
-    return f"refuted {number} {answer_words(answer)}\n".encode()
+    return f"refuted {number} {answer_line(answer)}\n".encode()
 
 
 def audits(name, entries, status, printed, ingests=1, line=AUDIT, **files):
@@ -55,26 +59,21 @@ def other_answers(answer):
 
 def with_answer(entry, answer):
     """The entry with another answer."""
-    return entry._replace(**{"verdict" if isinstance(entry, Arrival) else "answer": answer})
-
-
-def answer_of(entry):
-    """The answer of an entry; an end has none."""
-    return None if isinstance(entry, Ended) else entry[-1]
+    return entry._replace(**{"verdict" if isinstance(entry, Arrival) else "reply": answer})
 
 
 def told_otherwise(name, words, setup, ingests, entries):
     """For each entry with an answer a run over traces that tell others in its place."""
     for number, entry in enumerate(entries):
-        right = answer_of(entry)
-        if right is None:
+        right = answer_in(entry)
+        if not right:
             continue
         others = [it for it in TOLD if it != right] if isinstance(entry, Arrival) else other_answers(right)
-        files = {f"{at}-{answer_words(it).replace(' ', '-')}":
+        files = {f"{at}-{answer_line(it).replace(' ', '-')}":
                  trace_text([*entries[:number], with_answer(entry, it), *entries[number + 1:]], ingests)
                  for at, it in enumerate(others)}
         lines = [(f"{words} {it}", 8, refuted(number, right)) for it in files]
-        yield f"audit: {name}: entry {number}, {answer_words(right)}, told otherwise", lines, {}, {"setup": setup, **files}
+        yield f"audit: {name}: entry {number}, {answer_line(right)}, told otherwise", lines, {}, {"setup": setup, **files}
 
 
 def stored_legal():
@@ -84,29 +83,29 @@ def stored_legal():
         command, *words = line.split()
         if command == "trace" or printed.startswith(b"legal"):
             trace = outputs.get("trace-out") or inputs["trace-in"]
-            yield name, " ".join(["audit", *words[:3]]), inputs["setup"], *read_trace(trace)
+            yield name, " ".join(["audit", *words[:3]]), inputs["setup"], *whole(trace_outline_of(trace))
 
 
 def of_histories():
     """Runs over the histories, and over each with one answer told otherwise: one run for each entry."""
     for it in HISTORIES:
         entries, words = it.whole(), f"audit setup 30000 {it.capacity}"
-        answered = [at for at, entry in enumerate(entries) if answer_of(entry)]
+        answered = [at for at, entry in enumerate(entries) if answer_in(entry)]
         wrong = {f"wrong{at}": trace_text([*entries[:at], with_answer(entries[at], other(entries[at], at)), *entries[at + 1:]])
                  for at in (answered if len(answered) < 40 else answered[::60])}
         lines = [(f"{words} trace", 0, b"legal %d\n" % len(entries))]
-        lines += [(f"{words} {name}", 8, refuted(int(name[5:]), answer_of(entries[int(name[5:])]))) for name in wrong]
+        lines += [(f"{words} {name}", 8, refuted(int(name[5:]), answer_in(entries[int(name[5:])]))) for name in wrong]
         yield f"audit: {it.name}", lines, {}, {"setup": it.setup, "trace": it.trace(), **wrong}
 
 
 def other(entry, at):
     """Another answer than that of an entry."""
-    others = [it for it in TOLD if it != entry.verdict] if isinstance(entry, Arrival) else other_answers(entry.answer)
+    others = [it for it in TOLD if it != entry.verdict] if isinstance(entry, Arrival) else other_answers(entry.reply)
     return others[at % len(others)]
 
 
 # The entries of a trace whose first packet, "hi", is given behind the end, and the places of what is altered in it.
-_, BASE = next(read_trace(it[4]["trace-out"]) for it in STORED if it[0].endswith(": trace-is-written"))
+_, BASE = next(whole(trace_outline_of(it[4]["trace-out"])) for it in STORED if it[0].endswith(": trace-is-written"))
 FIRST, SECOND, END, GIVEN, OVER = BASE
 KEY = 22 + 2 + 1 + 17
 
@@ -119,23 +118,23 @@ def of_events():
     def second(**what):
         return [FIRST, SECOND._replace(**what), *BASE[2:]]
 
-    frame = FIRST.datagram
+    frame = FIRST.bytes
     for name, entries, number, right in (
             ("the greatest reading", first(reading=2 ** 64 - 1), 0, ("Late",)),
             ("a reading that is late for the fast chain", first(reading=1_270_000), 0, ("Kept", 2)),
             ("a reading before there is a bound", first(reading=969_999), 0, ("Future", None)),
             ("a reading in interval 0", first(reading=1_069_999), 0, ("Future", 0)),
             ("a reading of the second packet before its interval", second(reading=1_269_999), 1, ("Future", 2)),
-            ("another stream", first(datagram=frame[:13] + b"\xa6" + frame[14:]), 0, ("Foreign", 166)),
-            ("another byte of the stream", first(datagram=frame[:6] + b"\x80" + frame[7:]), 0, ("Foreign", 2 ** 63 + 167)),
-            ("another version", first(datagram=frame[:4] + b"\3" + frame[5:]), 0, ("Malformed",)),
-            ("an interval beyond the last", first(datagram=frame[:17] + b"\x09" + frame[18:]), 0, ("Misfit",)),
-            ("a datagram that is cut", first(datagram=frame[:-1]), 0, ("Malformed",)),
-            ("an empty datagram", second(datagram=b""), 1, ("Malformed",)),
-            ("another payload", first(datagram=altered(frame, 22)), 3, ("Over",)),
-            ("another number", first(datagram=altered(frame, 19)), 3, ("Over",)),
-            ("another tag of the fast chain", first(datagram=altered(frame, FIRST_TAG)), 3, ("Over",)),
-            ("another key", second(datagram=altered(SECOND.datagram, KEY)), 1, ("BadKey", 0)),
+            ("another stream", first(bytes=frame[:13] + b"\xa6" + frame[14:]), 0, ("Foreign", 166)),
+            ("another byte of the stream", first(bytes=frame[:6] + b"\x80" + frame[7:]), 0, ("Foreign", 2 ** 63 + 167)),
+            ("another version", first(bytes=frame[:4] + b"\3" + frame[5:]), 0, ("Malformed",)),
+            ("an interval beyond the last", first(bytes=frame[:17] + b"\x09" + frame[18:]), 0, ("Misfit",)),
+            ("a datagram that is cut", first(bytes=frame[:-1]), 0, ("Malformed",)),
+            ("an empty datagram", second(bytes=b""), 1, ("Malformed",)),
+            ("another payload", first(bytes=altered(frame, 22)), 3, ("Over",)),
+            ("another number", first(bytes=altered(frame, 19)), 3, ("Over",)),
+            ("another tag of the fast chain", first(bytes=altered(frame, FIRST_TAG)), 3, ("Over",)),
+            ("another key", second(bytes=altered(SECOND.bytes, KEY)), 1, ("BadKey", 0)),
             ("no first packet", BASE[1:], 2, ("Over",)),
             ("no second packet", [FIRST, END, GIVEN, OVER], 2, ("Over",)),
             ("the second packet first", [SECOND, FIRST, END, GIVEN, OVER], 1, ("Kept", 2)),
@@ -149,7 +148,7 @@ def of_events():
     for name, entries in (
             ("the last reading that is safe", first(reading=1_269_999)),
             ("the first reading in the interval", first(reading=1_070_000)),
-            ("another tag of the slow chain", first(datagram=altered(frame, SECOND_TAG))),
+            ("another tag of the slow chain", first(bytes=altered(frame, SECOND_TAG))),
             ("takes between", [FIRST, Taken(0, ("Empty",)), SECOND, GIVEN, Taken(0, ("Empty",)), END, OVER, OVER]),
             ("the end before all", [END, OVER, FIRST, OVER, SECOND, GIVEN, OVER]),
             ("another thread takes", [*BASE[:3], GIVEN._replace(releaser=255), OVER._replace(releaser=31)])):

@@ -3,10 +3,11 @@
 Each answer is known from how the history was made, by docs/PROTOCOL.md: what is safe, proved and held follows from the intervals,
 the delays of the chains and the keys that came. The streams are those of .ci/streams.py, mostly that of crates/tesla/data.
 """
-import struct
-
-from entries import Arrival, Ended, Taken, trace_text
-from streams import HEAD_2, ONE, TWO, Stream, chains, report
+from model.files import CAPTURE, Arrives, Takes, file_text
+from model.histories import Arrival, Ended, Taken, report_lines
+from model.streams import altered
+from model.traces import trace_text
+from streams import ONE, TWO, Stream, setup_of
 
 STREAM = Stream(0, 2, 5)
 OF_ONE = Stream(0, 2)
@@ -50,29 +51,19 @@ class History:
 
     def capture(self):
         """The capture of it."""
-        return b"TCAP\1" + b"".join(
-            b"\1" + struct.pack(">QH", it.reading, len(it.datagram)) + it.datagram if isinstance(it, Arrival) else b"\2"
-            for it in self.entries)
+        return file_text(CAPTURE, [Arrives(*it[1:3]) if isinstance(it, Arrival) else Takes() for it in self.entries])
 
     def whole(self):
         """Its entries, with the end of the input and the takes behind it."""
         return [*self.entries, Ended(0), *self.late, Taken(0, ("Over",))]
 
     def trace(self):
+        """The trace of it."""
         return trace_text(self.whole())
 
     def report(self):
-        counts = {"arrivals": 0, "given": self.given}
-        for it in (it for it in self.entries if isinstance(it, Arrival)):
-            for name in ("arrivals", it.verdict[0].lower()):
-                counts[name] = counts.get(name, 0) + 1
-        return report(**counts)
-
-
-def altered(text, place):
-    """The bytes with this one altered by exclusive or with 1."""
-    place %= len(text)
-    return text[:place] + bytes([text[place] ^ 1]) + text[place + 1:]
+        """The report of it."""
+        return report_lines(self.whole()).encode()
 
 
 def bare(interval, payload, number=0):
@@ -83,7 +74,7 @@ def bare(interval, payload, number=0):
 # Where the tags of both chains begin in a packet without keys, from its end.
 FIRST_TAG, SECOND_TAG = -34, -17
 # The packet "hi" and the disclosure of the key of interval 1 in version 2, with tags of 10 bytes.
-SETUP_2 = HEAD_2 + b"10\n" + chains((2, 0, ONE), (5, 0, TWO))
+SETUP_2 = setup_of((2, 0, ONE), (5, 0, TWO), tag=10)
 HI = bare(1, b"hi")
 HI_2 = b"TSLA\2" + HI[5:25] + b"\x0a" + HI[25:35] + b"\0" + HI[42:52] + b"\0"
 FIRST_KEY = STREAM.told((0, 1))

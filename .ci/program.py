@@ -8,12 +8,9 @@ trial says that follows from that alone, as a frame that came late or not at all
 nothing worse is made again, three times at most, and what it said is printed all the same. A wrong byte, count, status or line
 fails at once, whatever the machine does.
 """
-import glob
 import os
 import re
 import shutil
-import signal
-import socket
 import subprocess
 import sys
 import tempfile
@@ -22,22 +19,17 @@ import time
 import traceback
 
 HERE = os.path.dirname(os.path.abspath(__file__))
-TOP = os.path.join(HERE, "..", "crates", "tesla")
-# Seconds that a run has, those that a machine stands still for where it is told, and how often a trial is made at most.
-SECONDS, STILL, TRIES = 180, 0.1, 3
-# The ports that were given to a run, and the seconds that were waited for a calm machine.
-GIVEN, WAITED = set(), []
+# (what imports this first finds the modules at the top of the repository)
+sys.path.insert(0, os.path.dirname(HERE))
 
+from running import (  # noqa: E402
+    DATA as FOLDER, end, is_bound, make_stream, microseconds, processes, read, started, told_by, write)
 
-def read(path):
-    """The bytes of a file; None where there is none."""
-    if not os.path.exists(path):
-        return None
-    with open(path, "rb") as file:
-        return file.read()
-
-
-DATA = {name: read(f"{TOP}/data/{name}") for name in ("setup", "secret", "script", "capture")}
+# Seconds that a machine stands still for where it is told, and how often a trial is made at most.
+STILL, TRIES = 0.1, 3
+# The seconds that were waited for a calm machine.
+WAITED = []
+DATA = {name: read(f"{FOLDER}/{name}") for name in ("setup", "secret", "script", "capture")}
 USAGE = b"""\
 usage: replay SETUP LAG CAPACITY CAPTURE OUT
 usage: chain SETUP-OUT SECRET STREAM START INTERVAL LAST DELAY [DELAY] [DELAY] [DELAY]
@@ -63,6 +55,8 @@ usage: feed SETUP SECRET LINK POSTS
 usage: watch SETUP LAG CAPACITY LINKS SINKS STATUS EVERY
 """
 RECORDED = b"usage: record SETUP LAG CAPACITY LINKS SINKS KEEP TAIL\n"
+# What a feed tells to which nothing comes, of a stream that has just ended: the last keys are sent, once.
+FED = b"messages 0\ndisclosures 1\ntoolong 0\nearly 0\nover 0\nbackward 0\nfull 0\nunread 0\n"
 OPEN, READ, WRITE = b"open fault\n", b"read fault\n", b"write fault\n"
 
 # An exchange of times, and the key that both sides share. Another program made the reply.
@@ -70,79 +64,6 @@ DATA["ask"] = bytes.fromhex("5441534b01 00000000004c4b40")
 DATA["key"] = b"33" * 32 + b"\n"
 REPLY = bytes.fromhex("5452455001 00000000004c4b40 00000000004c9960"
                       "3f93d92142b11498f9b6bb8b6ad12bcba4fb97494e2e358b312629d145990fe6")
-
-
-def run(words, folder, env, **user):
-    """Runs words in the folder: the status, what was printed, and what was printed as an error."""
-    ran = subprocess.Popen(words, cwd=folder, env=env, stdin=subprocess.DEVNULL, stdout=subprocess.PIPE,
-                           stderr=subprocess.PIPE, start_new_session=True, **user)
-    try:
-        printed, said = ran.communicate(timeout=SECONDS)
-    except subprocess.TimeoutExpired:
-        said = unended(ran.pid, SECONDS)
-        os.killpg(ran.pid, signal.SIGKILL)
-        ran.communicate()
-        return None, b"", said.encode()
-    return ran.returncode, printed, said
-
-
-def processes(session):
-    """The folders of /proc of the processes of a session, which has the number of its first process."""
-    for path in glob.glob("/proc/[0-9]*"):
-        try:
-            # (the name of the program stands in brackets)
-            fields = (read(f"{path}/stat") or b"").rpartition(b")")[2].split()
-        except OSError:
-            continue
-        if len(fields) > 3 and fields[3] == b"%d" % session:
-            yield path
-
-
-def unended(session, seconds):
-    """What is told of a session that hasn't ended after these seconds: what each of its threads waits for."""
-    lines = [f"it hasn't ended after {seconds} seconds"]
-    for path in processes(session):
-        try:
-            words = read(f"{path}/cmdline").replace(b"\0", b" ").decode(errors="replace")
-            waits = [read(f"{it}/wchan").decode() for it in sorted(glob.glob(f"{path}/task/*"))]
-            lines.append(f"{words[:200]}: {', '.join(waits)}")
-        except (OSError, AttributeError):
-            continue
-    return "\n".join(lines)
-
-
-def printed_by(words, seconds=120, **more):
-    """Runs words: the status, and all that was printed. What hasn't ended after these seconds is ended, and has no status."""
-    ran = subprocess.Popen(words, stdin=subprocess.DEVNULL, stdout=subprocess.PIPE, stderr=subprocess.STDOUT,
-                           start_new_session=True, **more)
-    try:
-        printed = ran.communicate(timeout=seconds)[0]
-    except subprocess.TimeoutExpired:
-        said = unended(ran.pid, seconds)
-        os.killpg(ran.pid, signal.SIGKILL)
-        return None, ran.communicate()[0].decode(errors="replace") + said
-    return ran.returncode, printed.decode(errors="replace")
-
-
-def free_ports(count, host="127.0.0.1"):
-    """Ports of UDP that nothing is bound to, each given once."""
-    family = socket.AF_INET6 if ":" in host else socket.AF_INET
-    held, found = [], []
-    while len(found) < count:
-        held.append(socket.socket(family, socket.SOCK_DGRAM))
-        held[-1].bind((host, 0))
-        port = held[-1].getsockname()[1]
-        if port not in GIVEN:
-            GIVEN.add(port)
-            found.append(port)
-    for it in held:
-        it.close()
-    return found
-
-
-def is_bound(port):
-    """Whether something is bound to the port."""
-    return any(b":%04X " % port in (read(path) or b"") for path in ("/proc/net/udp", "/proc/net/udp6"))
 
 
 def are_listening():
@@ -157,10 +78,9 @@ SLEEP = f"""#!{sys.executable}
 import sys, time
 sys.path.insert(0, {HERE!r})
 from program import are_listening
+from running import wait_until
 time.sleep(float(sys.argv[1]))
-limit = time.time() + 20
-while not are_listening() and time.time() < limit:
-    time.sleep(0.05)
+wait_until(are_listening, 20, 0.05)
 """
 
 
@@ -212,16 +132,11 @@ def watch(stood):
             stood.append(seconds)
 
 
-def just_ended(program, secret, command="chain", delays="2 5"):
-    """A setup of a stream that has ended a moment ago, with the seeds in `secret`: a feed of it sends its last keys, once. Its last
-    interval is the eighth, and all keys are due eight later."""
-    start = time.time_ns() // 1000 - 20 * 200_000
-    tag = " 10" if command == "chain2" else ""
+def just_ended(program, delays=(2, 5), tag=None):
+    """A setup of a stream that has ended a moment ago: a feed of it sends its last keys, once. Its last interval is the eighth, and
+    all keys are due eight later."""
     with tempfile.TemporaryDirectory() as folder:
-        with open(f"{folder}/secret", "wb") as file:
-            file.write(secret)
-        words = f"{command} setup secret 00000000000000a7 {start} 200000 8{tag} {delays}"
-        subprocess.run([program, *words.split()], cwd=folder, check=True, stdout=subprocess.DEVNULL)
+        make_stream(program, folder, microseconds() - 20 * 200_000, 200_000, 8, delays, tag)
         return read(f"{folder}/setup")
 
 
@@ -237,13 +152,12 @@ class Trials:
     def faults(self, folder, files, runs, held, env, user):
         """Makes the runs, one after the other, each of words with a status and what is printed, and says what is wrong."""
         for name, data in files.items():
-            with open(f"{folder}/{name}", "wb") as file:
-                file.write(data)
+            write(f"{folder}/{name}", data)
         for path in (folder, *(f"{folder}/{name}" for name in files)) if user else ():
             os.chown(path, user["user"], user["group"])
         found = []
         for words, status, printed in runs:
-            came = run(words, folder, env, **user)
+            came = told_by(started(words, cwd=folder, env=env, stderr=subprocess.PIPE, **user))
             by = f" by {' '.join(words[1:])}" if len(runs) > 1 else ""
             found += zip((f"the status{by}", f"printed{by}", f"of the system{by}"), came, (status, printed, b""))
         found += [(name, read(f"{folder}/{name}"), data) for name, data in {**files, **held}.items()]
@@ -294,5 +208,4 @@ def main(doc, make):
     for kind, text in (("skipped", "skipped"), ("again", "made again")):
         if trials.counts[kind]:
             print(f"{trials.counts[kind]} {text}")
-    print(f"{trials.counts['ok']} passed, {trials.counts['WRONG']} failed")
-    sys.exit(1 if trials.counts["WRONG"] else 0)
+    end(trials.counts["ok"], trials.counts["WRONG"])

@@ -1,13 +1,16 @@
 """Runs of weave and early, for .ci/texts.
 
-What is expected is made here, with Python's library alone, as docs/PROTOCOL.md and docs/FORMATS.md say; the runs of
-.ci/early were made by another program. Each case is as in .ci/texts. The cases of early are of the stream of
-crates/tesla/data.
+What is expected is made here and spelled by the model; the runs of .ci/early were made by another program. Each case is as in
+.ci/texts. The cases of early are of the stream of crates/tesla/data.
 """
-import struct
+import collections
 
 from program import OPEN
-from streams import FALLING, Stream, accepted, plain, promising, refused, released, report, stored
+from model.clock import interval_of
+from model.files import SCRIPT, Discloses, Sends, file_text
+from model.promises import woven as woven_payloads
+from running import stored
+from streams import FALLING, Stream, accepted, plain, promising, refused, released, report
 
 STORED = stored("early")
 WEAVE, EARLY = "weave setup script out 1", "early setup 30000 16 capture out"
@@ -18,23 +21,18 @@ LAST = 4096
 
 def script(*records):
     """A script of messages, which are a reading and a body, and of disclosures, which are a reading alone."""
-    return b"TSCR\1" + b"".join(
-        struct.pack(">BQ", 2, it[0]) if len(it) == 1 else struct.pack(">BQH", 1, it[0], len(it[1])) + it[1] for it in records)
+    return file_text(SCRIPT, [Sends(*it) if len(it) == 2 else Discloses(*it) for it in records])
 
 
 def woven(gap, *records):
     """The script of these records, in which each message promises the one so many messages behind it."""
-    names, counts = [], {}
-    for reading, *_ in (it for it in records if len(it) == 2):
-        interval = (reading - 1_000_000) // 100_000
-        names.append((interval, counts.get(interval, 0)))
-        counts[interval] = names[-1][1] + 1
-    payloads = [plain(body) for _, body in (it for it in records if len(it) == 2)]
-    for at in reversed(range(len(payloads) - gap)):
-        interval, number = names[at + gap]
-        payloads[at] = promising(payloads[at][1:], interval, payloads[at + gap], number)
-    rest = iter(payloads)
-    return script(*((it[0], next(rest)) if len(it) == 2 else it for it in records))
+    messages, names, counts = [it for it in records if len(it) == 2], [], collections.Counter()
+    for reading, _ in messages:
+        interval = interval_of(STREAM.times, reading)
+        names.append((interval, counts[interval]))
+        counts[interval] += 1
+    payloads = iter(woven_payloads(gap, names, [body for _, body in messages]))
+    return script(*((it[0], next(payloads)) if len(it) == 2 else it for it in records))
 
 
 def weave(name, gap, *records):

@@ -1,14 +1,15 @@
 """Runs of trace and show, for .ci/texts.
 
-What is expected is made here, with Python's library alone, as docs/PROTOCOL.md and docs/FORMATS.md say; the runs of
-.ci/trace were made by another program. Each case is as in .ci/texts.
+What is expected is made here and spelled by the model; the runs of .ci/trace were made by another program. Each case is as in
+.ci/texts.
 """
-import struct
-
-from entries import Arrival, Ended, Taken, Text, read_trace, shown, tail_text, trace_text
-from histories import HI, HI_2, HISTORIES, bare
 from program import OPEN
-from streams import FALLING, refused, report, stored
+from histories import HI, HI_2, HISTORIES, bare
+from model.files import Arrives, record_text
+from model.histories import Arrival, Ended, Taken
+from model.traces import shown, tail_text, trace_outline_of, trace_text
+from running import stored
+from streams import FALLING, refused
 
 STORED = stored("trace")
 TRACE, SHOW = "trace setup 30000 16 capture out", "show trace"
@@ -29,7 +30,7 @@ def refused_behind(name, behind, kind, it=GAP):
             {"out": trace_text(it.entries)}, {"capture": capture + behind})
 
 
-ARRIVAL = b"\1" + struct.pack(">QH", 1_850_000, len(HI)) + HI
+ARRIVAL = record_text(Arrives(1_850_000, HI))
 TRACES = [
     *(it for it in STORED if it[1].startswith("trace")),
     *map(traced, HISTORIES),
@@ -54,31 +55,12 @@ def shows(name, data, printed, what=None):
     return (f"show: {name}", SHOW, 3 if what else 0, printed + (refused(f"trace {what}") if what else b""), {}, {"trace": data})
 
 
-def shown_front(data):
-    """What is shown of a trace before the first entry that is none, and how many bytes stand before that."""
-    text, found, place = Text(data, 6), [], 6
-    try:
-        for entry in text.entries():
-            found.append(entry)
-            place = text.at
-    except (ValueError, LookupError):
-        pass
-    return shown(found), place
-
-
 def shown_stored():
     """Runs over the stored traces, of which some are refused."""
-    for name, _, status, printed, outputs, inputs in STORED:
+    for name, _, _, _, outputs, inputs in STORED:
         data = outputs.get("trace-out") or inputs["trace-in"]
-        lines, place = shown_front(data)
-        if not 1 <= data[5] <= 32:
-            yield shows(name, data, b"", "0 BadHead")
-        elif place == len(data):
-            yield shows(name, data, lines)
-        elif status == 3:
-            yield (f"show: {name}", SHOW, 3, lines + printed, {}, {"trace": data})
-        else:
-            yield shows(name, data, lines, f"{place} Truncated")
+        _, entries, fault = trace_outline_of(data)
+        yield shows(name, data, shown(entries), fault and "%d %s" % fault)
 
 
 # Entries with the least and the greatest numbers, of which most are no receiver's.

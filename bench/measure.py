@@ -2,16 +2,24 @@
 import os
 import re
 import shutil
+import statistics
 import struct
 import subprocess
 import sys
 import tempfile
 
+# (what imports this first finds the modules at the top of the repository)
+sys.path.insert(0, os.path.join(os.path.dirname(os.path.abspath(__file__)), ".."))
+
+from model.files import CAPTURE, SCRIPT, Sends, capture_text, carried_in, file_text  # noqa: E402
+from model.records import records_in  # noqa: E402
+from running import PROGRAM as TESLA, TOP, make_stream, read, write  # noqa: E402
+
 RUNS = 3
 START, LENGTH = 1_000_000, 100_000
-CRATES = os.path.join(os.path.dirname(os.path.abspath(__file__)), "..", "crates")
-TESLA = os.path.join(CRATES, "tesla", "out", "tesla")
-WORK = os.path.join(CRATES, "tesla_bench", "out", "tesla_bench")
+WORK = f"{TOP}/crates/tesla_bench/out/tesla_bench"
+# Files lie in memory where they can, so that no disk is measured.
+MEMORY = "/dev/shm" if os.path.isdir("/dev/shm") else None
 
 
 def want(program, package):
@@ -51,21 +59,45 @@ def least(words, runs=RUNS):
     return min(it[0] for it in came), max(it[1] for it in came)
 
 
+def medians(words, rounds=15):
+    """The medians of the microseconds that these words take, which take turns."""
+    took = [[run(it)[0] * 1e6 for it in words] for _ in range(rounds)]
+    return list(map(statistics.median, zip(*took)))
+
+
+def told_in(doc, most):
+    """Whether the words of the system ask for instructions, and the others, of which there are so many at most."""
+    words = sys.argv[1:]
+    counted = words[:1] == ["--instructions"]
+    if len(words) > counted + most:
+        sys.exit(doc)
+    return counted, words[counted:]
+
+
+def each(figure, packets):
+    """What of a figure is a packet's, as text."""
+    return "%.*f" % (2 if figure < 100 * packets else 0, figure / packets)
+
+
 def reading(interval, part=0.5):
     """A reading within an interval."""
     return START + LENGTH * interval + int(LENGTH * part)
 
 
-def message(when, payload):
-    return b"\x01" + struct.pack(">QH", when, len(payload)) + payload
-
-
-def disclosure(when):
-    return b"\x02" + struct.pack(">Q", when)
-
-
 def payload(number, size):
+    """The payload of a message, of so many bytes."""
     return struct.pack(">Q", number) + bytes(size - 8)
+
+
+def sends(payloads, rate, first=1):
+    """The messages of these payloads, so many an interval, from the first interval on."""
+    when = lambda number: START + LENGTH * (first + number // rate) + LENGTH // rate * (number % rate)
+    return [Sends(when(number), text) for number, text in enumerate(payloads)]
+
+
+def intervals(packets, rate):
+    """How many intervals so many packets take."""
+    return (packets + rate - 1) // rate
 
 
 class Stream:
@@ -73,18 +105,15 @@ class Stream:
 
     def __init__(self, tesla, folder, last, delays):
         self.tesla, self.folder = tesla, folder
-        with open(self.path("secret"), "w") as it:
-            it.write("tesla-seeds 1\n" + "".join("seed %064x\n" % (chain + 1) for chain in range(len(delays))))
-        run([tesla, "chain", self.path("setup"), self.path("secret"), "00000000000000a7", str(START), str(LENGTH),
-             str(last), *map(str, delays)])
+        make_stream(tesla, folder, START, LENGTH, last, delays)
 
     def path(self, name):
+        """The path of a file of its folder."""
         return os.path.join(self.folder, name)
 
     def send(self, records):
         """The words that send these records of a script."""
-        with open(self.path("script"), "wb") as it:
-            it.write(b"TSCR\x01" + b"".join(records))
+        write(self.path("script"), file_text(SCRIPT, records))
         return [self.tesla, "send", self.path("setup"), self.path("secret"), self.path("script"), self.path("capture")]
 
     def replay(self, capacity, name="capture"):
@@ -93,31 +122,12 @@ class Stream:
 
     def arrivals(self):
         """The datagrams of the capture, each with its reading."""
-        with open(self.path("capture"), "rb") as it:
-            text = it.read()
-        place, found = 5, []
-        while place < len(text):
-            if text[place] == 2:
-                place += 1
-                continue
-            when, length = struct.unpack(">QH", text[place + 1:place + 11])
-            found.append((when, text[place + 11:place + 11 + length]))
-            place += 11 + length
-        return found
+        return carried_in(CAPTURE, read(self.path("capture")))
 
     def capture(self, arrivals):
         """Writes a capture of these arrivals, with a take behind each."""
-        with open(self.path("capture"), "wb") as it:
-            it.write(b"TCAP\x01" + b"".join(b"\x01" + struct.pack(">QH", when, len(frame)) + frame + b"\x02"
-                                            for when, frame in arrivals))
+        write(self.path("capture"), capture_text(arrivals))
 
     def released(self):
         """The payloads of what the last replay released."""
-        with open(self.path("out"), "rb") as it:
-            records = it.read()
-        place, found = 0, []
-        while place < len(records):
-            length = struct.unpack(">H", records[place + 15:place + 17])[0]
-            found.append(records[place + 17:place + 17 + length])
-            place += 17 + length
-        return found
+        return [it.payload for it in records_in(read(self.path("out")))]

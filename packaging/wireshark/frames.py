@@ -1,106 +1,56 @@
 """Datagrams and what is to be shown of them, for packaging/wireshark/generate and check.
 
-`fields_of` reads a datagram as docs/FORMATS.md says, and `stored` reads frames.txt, which was written by hand from there.
+`fields_of` tells the fields of a datagram as the model reads it, and `stored` reads frames.txt, which was written by hand from
+docs/FORMATS.md.
 `pcap` writes datagrams as a file of packets, each over Ethernet, IPv4 and UDP.
 """
 import os
 import struct
+import sys
 
 HERE = os.path.dirname(os.path.abspath(__file__))
+# (what imports this first finds the modules at the top of the repository)
+sys.path.insert(0, os.path.dirname(os.path.dirname(HERE)))
+
+from model.frames import DataFrame, frame_of  # noqa: E402
+
 SENDER, RECEIVER = (bytes([192, 0, 2, 7]), 40000), (bytes([192, 0, 2, 9]), 5001)
 # 2026-01-01, in microseconds.
 TIME = 1_767_225_600_000_000
-NUMBERS = ("version", "kind", "stream", "interval", "number", "length", "count", "tag_length", "flag", "chain", "index", "t_r", "t_s")
+NUMBERS = ("version", "kind", "stream", "interval", "number", "length", "count", "tag_length", "flag", "chain", "index", "t_r",
+           "t_s")
 BYTES = ("payload", "tag", "key")
 
 
-class Malformed(Exception):
-    """The bytes are none of what a stream sends."""
+def fields_of_frame(frame):
+    """The values of the fields of a frame behind its magic."""
+    values = {"version": [frame.version], "kind": [1 if isinstance(frame, DataFrame) else 2], "stream": [frame.stream]}
+    rows, told = frame.rows, {"count": [len(frame.rows)]}
+    if isinstance(frame, DataFrame):
+        keyed = [(chain, row.key) for chain, row in enumerate(rows) if row.key is not None]
+        told |= {"interval": [frame.interval], "number": [frame.number], "length": [len(frame.payload)]}
+        told |= {"payload": [frame.payload][:len(frame.payload)], "tag_length": [frame.tag_length][:frame.version - 1]}
+        told |= {"tag": [row.tag for row in rows], "flag": [int(row.key is not None) for row in rows]}
+        told |= {"chain": [chain for chain, _ in keyed], "key": [key for _, key in keyed]}
+    else:
+        told |= {name: [getattr(row, name) for row in rows] for name in ("chain", "index", "key")}
+    return {**values, **{name: them for name, them in told.items() if them}}
 
 
-class Bytes:
-    """A datagram that is read from its front, and the values of its fields."""
-
-    def __init__(self, data):
-        self.data = data
-        self.values = {}
-
-    def take(self, size):
-        if len(self.data) < size:
-            raise Malformed
-        taken, self.data = self.data[:size], self.data[size:]
-        return taken
-
-    def add(self, name, value):
-        self.values.setdefault(name, []).append(value)
-        return value
-
-    def number(self, name, size, least=0, most=2 ** 64):
-        value = self.add(name, int.from_bytes(self.take(size), "big"))
-        if not least <= value <= most:
-            raise Malformed
-        return value
-
-
-def read_data(it, version):
-    """A data frame, from its interval on."""
-    it.number("interval", 4)
-    it.number("number", 2)
-    length = it.number("length", 2, most=1200)
-    payload = it.take(length)
-    if length:
-        it.add("payload", payload)
-    count = it.number("count", 1, 1, 4 * version)
-    size = 16 if version == 1 else it.number("tag_length", 1, 10, 32)
-    for chain in range(count):
-        it.add("tag", it.take(size))
-        if it.number("flag", 1, most=1):
-            it.add("chain", chain)
-            it.add("key", it.take(32))
-
-
-def read_disclosure(it, version):
-    """A disclosure frame, from its count on."""
-    least = 0
-    for _ in range(it.number("count", 1, 1, 4 * version)):
-        least = it.number("chain", 1, least) + 1
-        it.number("index", 4)
-        it.add("key", it.take(32))
-
-
-def read_frame(it):
-    version = it.number("version", 1, 1, 2)
-    kind = it.number("kind", 1, 1, 2)
-    it.number("stream", 8)
-    (read_data if kind == 1 else read_disclosure)(it, version)
-
-
-def read_exchange(it, *times):
-    """An ask, or what is of a reply before its tag."""
-    it.number("version", 1, 1, 1)
-    for name in times:
-        it.number(name, 8)
+def fields_of_exchange(datagram):
+    """The values of the fields of an ask or a reply behind its magic; None where it is malformed."""
+    if datagram[4:5] != b"\1" or len(datagram) != {b"TASK": 13, b"TREP": 53}.get(datagram[:4]):
+        return None
+    times = dict(zip(("t_r", "t_s"), ([it] for it in struct.unpack_from(f">{len(datagram[:21]) // 8}Q", datagram, 5))))
+    return {"version": [1], **times, **({"tag": [datagram[21:]]} if datagram[21:] else {})}
 
 
 def fields_of(datagram):
     """The values of the fields of a frame, an ask or a reply; None where it is malformed."""
-    it = Bytes(datagram)
-    try:
-        magic = it.take(4)
-        if magic == b"TSLA":
-            read_frame(it)
-        elif magic == b"TASK":
-            read_exchange(it, "t_r")
-        elif magic == b"TREP":
-            read_exchange(it, "t_r", "t_s")
-            it.add("tag", it.take(32))
-        else:
-            raise Malformed
-        if it.data:
-            raise Malformed
-    except Malformed:
-        return None
-    return it.values
+    if datagram[:4] != b"TSLA":
+        return fields_of_exchange(datagram)
+    frame = frame_of(datagram)
+    return frame and fields_of_frame(frame)
 
 
 class Packet:

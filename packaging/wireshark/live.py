@@ -1,13 +1,13 @@
 """A real run, for packaging/wireshark/record and check: what was sent, and what tshark has to show of its recording.
 
-The seeds of both streams are known, so each tag and each key that live.pcap holds is made here once more, as docs/PROTOCOL.md
-says, with the functions of Python's library alone.
+The seeds of both streams are known, so each tag and each key that live.pcap holds is made here once more, by the model.
 """
-import hmac
 import os
 import struct
 
 from frames import HERE, fields_of
+from model.keys import hmac_of, tag_of, walk
+from running import seeds
 
 MESSAGES = [b"hello ", b"world"]
 SHARED = bytes([0x33]) * 32
@@ -21,24 +21,16 @@ class Sent:
 
     def __init__(self, version, stream, tag, last, delays):
         self.version, self.stream, self.tag, self.last, self.delays = version, stream, tag, last, delays
-        self.seeds = [bytes([0x11 * (1 + chain)]) * 32 for chain in range(len(delays))]
-
-    def secret(self):
-        """The seeds file."""
-        return "tesla-seeds 1\n" + "".join(f"seed {seed.hex()}\n" for seed in self.seeds)
+        self.seeds = seeds(len(delays))
 
     def key(self, chain, index):
         """A key of a chain."""
-        key = self.seeds[chain]
-        for _ in range(self.last - index):
-            key = hmac.digest(key, b"\0", "sha256")
-        return key
+        return walk(self.seeds[chain], self.last - index)
 
     def tagged(self, chain, values):
         """The tag of a message for a chain."""
         [interval], [number], payload = values["interval"], values["number"], values["payload"][0]
-        text = struct.pack(">QBIH", self.stream, chain, interval, number) + payload
-        return hmac.digest(hmac.digest(self.key(chain, interval), b"\1", "sha256"), text, "sha256")[:self.tag]
+        return tag_of(self.tag, self.key(chain, interval), self.stream, chain, interval, number, payload)
 
     def faults(self, values):
         """What is wrong with a frame."""
@@ -68,7 +60,7 @@ def ask():
 def reply():
     """The reply to it."""
     text = b"TREP\1" + struct.pack(">QQ", ASKED, REPLIED)
-    return text + hmac.digest(SHARED, text, "sha256")
+    return text + hmac_of(SHARED, text)
 
 
 def recorded():

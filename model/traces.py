@@ -1,11 +1,12 @@
-"""Traces: histories with every answer, as files (DEFINITIONS.md, "Trace")."""
+"""Traces and tails: histories with every answer, or the last of it, as files, and as they are shown (DEFINITIONS.md, "Trace")."""
 import struct
 
-from .files import Head, release_text
-from .histories import VERDICTS, Arrival, Ended, Taken
+from .frames import DataFrame, frame_of
+from .histories import Arrival, Ended, Taken, given_by, gives
+from .records import release_text
+from .verdicts import REPLIES, VERDICTS
 
-HEAD = b"TTRC\1"
-REPLIES = "Empty Over Given".split()
+HEAD, TAIL_HEAD = b"TTRC\1", b"TTAL\1"
 
 
 def verdict_text(verdict):
@@ -19,24 +20,24 @@ def verdict_text(verdict):
     return number + bytes(told)
 
 
-def reply_text(reply):
-    """An answer to a take."""
-    return bytes([REPLIES.index(reply[0])]) + (release_text(*reply[1:]) if reply[0] == "Given" else b"")
-
-
 def entry_text(entry):
     """The one spelling of an entry."""
     if isinstance(entry, Arrival):
         fields = struct.pack(">BQH", entry.ingest, entry.reading, len(entry.bytes))
         return b"\1" + fields + entry.bytes + verdict_text(entry.verdict)
     if isinstance(entry, Taken):
-        return bytes([2, entry.releaser]) + reply_text(entry.reply)
+        return bytes([2, entry.releaser, REPLIES.index(entry.reply[0])]) + (release_text(given_by(entry)) if gives(entry) else b"")
     return bytes([3, entry.ingest])
 
 
-def trace_text(ingests, history):
+def trace_text(history, ingests=1):
     """The one spelling of a trace."""
     return HEAD + bytes([ingests]) + b"".join(map(entry_text, history))
+
+
+def tail_text(first, history):
+    """The one spelling of a tail of these entries, before which there are so many others."""
+    return TAIL_HEAD + struct.pack(">Q", first) + b"".join(map(entry_text, history))
 
 
 class Wrong(Exception):
@@ -87,9 +88,7 @@ class Parts:
         name = self.code_part(REPLIES, 0)
         if name != "Given":
             return (name,)
-        fields = [self.number_part(count) for count in (8, 4, 2, 1)]
-        payload = self.counted_part(1_200)
-        return name, Head(*fields, len(payload)), payload
+        return name, *(self.number_part(count) for count in (8, 4, 2, 1)), self.counted_part(1_200)
 
     def entry_part(self):
         """An entry."""
@@ -103,19 +102,39 @@ class Parts:
         raise Wrong("BadKind")
 
 
-def trace_outline_of(text):
-    """The number of ingests, the whole entries before the first place that is refused, and that place with its kind or None."""
-    if text[:5] != HEAD or len(text) < 6 or not 1 <= text[5] <= 32:
-        return None, [], (0, "BadHead")
-    entries, place = [], 6
+def entries_from(text, place):
+    """The whole entries from a place on, before the first place that is refused, and that place with its kind or None."""
+    entries = []
     while place < len(text):
         parts = Parts(text, place)
         try:
             entries.append(parts.entry_part())
         except Wrong as wrong:
-            return text[5], entries, (place, str(wrong))
+            return entries, (place, str(wrong))
         place = parts.place
-    return text[5], entries, None
+    return entries, None
+
+
+def trace_outline_of(text):
+    """The number of ingests, the whole entries before the first place that is refused, and that place with its kind or None."""
+    if text[:5] != HEAD or len(text) < 6 or not 1 <= text[5] <= 32:
+        return None, [], (0, "BadHead")
+    return text[5], *entries_from(text, 6)
+
+
+def tail_outline_of(text):
+    """The same of a tail, with the number of the entries before it."""
+    if text[:5] != TAIL_HEAD or len(text) < 13:
+        return None, [], (0, "BadHead")
+    return int.from_bytes(text[5:13], "big"), *entries_from(text, 13)
+
+
+def whole(outline):
+    """What an outline has of a text that isn't refused: the number of its head, and its entries."""
+    *found, fault = outline
+    if fault:
+        raise ValueError("refused at %d: %s" % fault)
+    return found
 
 
 def answer_in(entry):
@@ -124,6 +143,25 @@ def answer_in(entry):
 
 
 def answer_line(answer):
-    """The name of an answer, followed by its numbers."""
-    numbers = answer[1] if answer[0] == "Given" else answer[1:]
-    return " ".join([answer[0], *("none" if number is None else str(number) for number in numbers)])
+    """The name of an answer, followed by its numbers, and of a payload how many bytes it has."""
+    name, *told = answer
+    numbers = [len(it) if isinstance(it, bytes) else "none" if it is None else it for it in told]
+    return " ".join(map(str, [name, *numbers]))
+
+
+def named(text):
+    """The interval and the number of a data frame as they are printed; a hyphen for other bytes."""
+    frame = frame_of(text)
+    return f"{frame.interval}/{frame.number}" if isinstance(frame, DataFrame) else "-"
+
+
+def shown_line(entry):
+    """The line of an entry without its number."""
+    if isinstance(entry, Arrival):
+        return f"arrival {entry.ingest} {entry.reading} {answer_line(entry.verdict)} {named(entry.bytes)}"
+    return f"take {entry.releaser} {answer_line(entry.reply)}" if isinstance(entry, Taken) else f"end {entry.ingest}"
+
+
+def shown(history, first=0):
+    """What `show` prints of these entries, of which the first has this number."""
+    return "".join(f"{number} {shown_line(entry)}\n" for number, entry in enumerate(history, first)).encode()

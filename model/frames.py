@@ -25,6 +25,11 @@ def frame_text(frame):
     return b"TSLA" + bytes([frame.version, 1]) + name + payload + counts + rows
 
 
+def without_keys(frame):
+    """A data frame without its keys."""
+    return frame._replace(rows=tuple(row._replace(key=None) for row in frame.rows))
+
+
 class NoFrame(Exception):
     """The bytes are no frame."""
 

@@ -281,7 +281,7 @@ CHANGES = [
     ("the other version fits", histories, "is_misfit", lambda right: histories.fields_misfit),
     ("keys aren't of the future", histories, "is_future", without_key_test),
     ("a take is over after the first end", histories, "has_end", any_end),
-    ("a position is one too great", histories, "head_of", shifted(lambda head: head._replace(position=head.position + 1))),
+    ("a position is one too great", histories, "record_of", shifted(lambda it: it._replace(position=it.position + 1))),
     ("handovers need no new stream", epochs, "next_judged", shifted(lambda it: ("Opened",) if it[0] == "UsedStream" else it)),
     ("each epoch hands over", epochs, "next_of", any_epoch),
     ("fifteen epochs", epochs, "next_of", epochs_at_most(15)),

@@ -5,10 +5,11 @@ A history of epochs is a list of calls with their answers. The history of each e
 import collections
 
 from . import histories
-from .files import CAPTURE, marked_text, outline_of
+from .files import CAPTURE, outline_of
 from .frames import frame_of
 from .histories import Arrival, Config, Ended, Taken
 from .listed import Listed, remembered
+from .records import Record, marked_text
 from .setups import Refused, judged
 
 MOST_EPOCHS = 16
@@ -30,7 +31,7 @@ def handover_text(payload):
 def setup_opened(entry):
     """The setup of the epoch that an entry opened, if it did."""
     opened = isinstance(entry, RollTaken) and entry.next == ("Opened",)
-    return [judged(handover_text(entry.answers[-1][2]))] if opened else []
+    return [judged(handover_text(entry.answers[-1][-1]))] if opened else []
 
 
 @remembered
@@ -121,7 +122,7 @@ def roll_entry_of(cfg, history, event):
     answers = answers_in(cfg, history)
     if answers[-1][0] != "Given":
         return RollTaken(event.releaser, answers, None)
-    return RollTaken(event.releaser, answers, next_of(configs_in(cfg, history), len(answers) - 1, answers[-1][2]))
+    return RollTaken(event.releaser, answers, next_of(configs_in(cfg, history), len(answers) - 1, answers[-1][-1]))
 
 
 # ---- what a capture plays
@@ -160,4 +161,4 @@ def roll_gives(entry):
 def roll_records_of(history):
     """The records of what the takes gave, in order, each behind the number of its epoch."""
     given = [entry.answers for entry in history if roll_gives(entry)]
-    return b"".join(marked_text(len(answers) - 1, *answers[-1][1:]) for answers in given)
+    return b"".join(marked_text(len(answers) - 1, Record(*answers[-1][1:])) for answers in given)

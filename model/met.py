@@ -1,7 +1,8 @@
 """What cases come to: which verdicts, answers, refusals and ends were met."""
 from .epochs import RollTaken
-from .histories import VERDICTS, Arrival, Taken
+from .histories import Arrival, Taken
 from .listed import Listed
+from .verdicts import VERDICTS
 from . import promises
 
 SETUP_KINDS = "TooLong NoChain TooManyChains BadLine BadNumber LimitPassed BadHex DelaysNotRising IndexPastLast".split()
@@ -41,7 +42,7 @@ def met_by_entry(cfg, entry):
     if isinstance(entry, Arrival):
         return [f"verdict {entry.verdict[0]}", met_by_verdict(cfg, entry.verdict)]
     if isinstance(entry, Taken):
-        by = ["given by another chain" if entry.reply[1].chain else "given by chain 0"] if entry.reply[0] == "Given" else []
+        by = ["given by another chain" if entry.reply[4] else "given by chain 0"] if entry.reply[0] == "Given" else []
         return [f"reply {entry.reply[0]}", *by]
     if isinstance(entry, RollTaken) and entry.next:
         return [f"next {entry.next[0]}", *(["given by the sixteenth epoch"] if len(entry.answers) == 16 else [])]

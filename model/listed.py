@@ -3,10 +3,10 @@ import functools
 
 
 class Listed:
-    """A list. One with an element more is another list, which knows the one before. `memo` has what functions answered of it."""
+    """A list. One with an element more is another list, which knows the one before."""
 
     def __init__(self, before=None, items=()):
-        self.before, self.items, self.memo = before, items, {}
+        self.before, self.items = before, items
 
     def __iter__(self):
         return iter(self.items)
@@ -28,13 +28,14 @@ class Listed:
 
 
 def remembered(function):
-    """A function of a configuration and of a list, or of something else with a memo, that answers the same question only once."""
+    """A function of a configuration and of a list, or an arrival, in whose `memo` it keeps what it answered, so that it answers the
+    same question only once."""
     @functools.wraps(function)
     def answer(cfg, items, *others):
-        question = (function, cfg, others)
-        if question not in items.memo:
-            items.memo[question] = function(cfg, items, *others)
-        return items.memo[question]
+        memo, question = vars(items).setdefault("memo", {}), (function, cfg, others)
+        if question not in memo:
+            memo[question] = function(cfg, items, *others)
+        return memo[question]
     return answer
 
 

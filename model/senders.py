@@ -9,9 +9,16 @@ from .clock import interval_of
 from .files import SCRIPT, Arrives, Sends, Takes, outline_of
 from .frames import DataFrame, KeyRow, KeysFrame, TagRow, frame_text
 from .keys import tag_of, walk
+from .setups import ChainRow, Setup
 
 # A setup, and a seed for each of its chains.
 Stream = collections.namedtuple("Stream", "setup seeds")
+
+
+def stream_of(version, number, times, tag_length, delays, seeds):
+    """The stream of these seeds whose commitments are the keys of index 0."""
+    rows = tuple(ChainRow(delay, 0, walk(seed, times.last)) for delay, seed in zip(delays, seeds))
+    return Stream(Setup(version, number, times, tag_length, rows), tuple(seeds))
 
 
 def interval_at(times, reading):

@@ -84,6 +84,12 @@ def reading_drawn(draw, times, lag, bound):
 
 # ---- damage
 
+def altered(text, place):
+    """The bytes with this one altered by exclusive or with 1."""
+    place %= len(text)
+    return text[:place] + bytes([text[place] ^ 1]) + text[place + 1:]
+
+
 def damaged(draw, text):
     """Bytes that were damaged: cut, altered, lengthened or shortened somewhere."""
     at = draw.randrange(len(text) + 1)

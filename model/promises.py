@@ -3,10 +3,11 @@ import collections
 import hashlib
 import struct
 
-from .files import SCRIPT, Sends, accepted_text, file_text, marked_text, outline_of
+from .files import SCRIPT, Sends, file_text, outline_of
 from .frames import DataFrame, frame_of
-from .histories import Arrival, gives, name_of
+from .histories import Arrival, given_by, gives, name_of
 from .listed import each_after, remembered
+from .records import Accepted, accepted_text, marked_text
 from . import senders
 
 MOST_PROMISES = 4_096
@@ -98,7 +99,7 @@ def learnt(cfg, history):
         return []
     before, entry = learnt(cfg, history.before), history.last
     if gives(entry):
-        return before + taught_by(entry.reply[2])
+        return before + taught_by(entry.reply[-1])
     if not isinstance(entry, Arrival) or not is_early(cfg, history.before, entry):
         return before
     frame = candidate(entry)
@@ -115,9 +116,9 @@ def is_early(cfg, history, arrival):
 def early_record_in(cfg, history, entry):
     """What is written of an entry behind a history."""
     if gives(entry):
-        return [marked_text(0, *entry.reply[1:])]
+        return [marked_text(0, given_by(entry))]
     if isinstance(entry, Arrival) and is_early(cfg, history, entry):
-        return [accepted_text(*name_of(candidate(entry)), candidate(entry).payload)]
+        return [accepted_text(Accepted(*name_of(candidate(entry)), candidate(entry).payload))]
     return []
 
 

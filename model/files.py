@@ -1,4 +1,4 @@
-"""Captures, scripts and records of packets (FORMATS.md, "Capture", "Script", "Release record", "Promising payload").
+"""Captures and scripts: their one spelling, and the records that a text holds (FORMATS.md, "Capture", "Script").
 
 No file here comes near 2^40 bytes, so `TooLarge` isn't among the kinds.
 """
@@ -14,8 +14,6 @@ Discloses = collections.namedtuple("Discloses", "reading")
 Grammar = collections.namedtuple("Grammar", "head carrying longest bare bare_size")
 CAPTURE = Grammar(b"TCAP\1", Arrives, 2_048, Takes, 0)
 SCRIPT = Grammar(b"TSCR\1", Sends, 1_200, Discloses, 8)
-# What is told of a packet that was given: how many were given before, its name, the chain that proves it, and its length.
-Head = collections.namedtuple("Head", "position interval number chain length")
 
 
 def record_text(record):
@@ -62,16 +60,14 @@ def outline_of(grammar, text):
     return records, None
 
 
-def release_text(head, payload):
-    """The record of a packet that was given."""
-    return struct.pack(">QIHBH", *head) + payload
+def carried_in(grammar, text):
+    """What the records of a whole file carry that carry bytes: the reading and the bytes of each."""
+    records, fault = outline_of(grammar, text)
+    if fault:
+        raise ValueError("refused at %d: %s" % fault)
+    return [tuple(record) for _, record in records if isinstance(record, grammar.carrying)]
 
 
-def marked_text(mark, head, payload):
-    """The same behind one byte, which tells its epoch or its kind."""
-    return bytes([mark]) + release_text(head, payload)
-
-
-def accepted_text(interval, number, payload):
-    """The record of a message that was accepted on arrival."""
-    return b"\1" + struct.pack(">IHH", interval, number, len(payload)) + payload
+def capture_text(arrivals):
+    """The capture of these arrivals, each of a reading and bytes, with a take behind each."""
+    return file_text(CAPTURE, [record for arrival in arrivals for record in (Arrives(*arrival), Takes())])

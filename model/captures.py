@@ -2,7 +2,7 @@
 import hashlib
 
 from .files import Arrives, Takes
-from .frames import DataFrame, KeyRow, KeysFrame, TagRow, frame_text
+from .frames import DataFrame, KeyRow, KeysFrame, TagRow, frame_text, without_keys
 from .histories import name_of
 from .promises import Promise, promising_text, woven
 from .senders import due_rows, key_of, message_frame
@@ -55,7 +55,7 @@ class Way:
         """A message that was promised."""
         interval, number = self.draw.choice(self.promises[-3:]) if self.promises else (self.now, 0)
         frame = message_frame(self.stream, interval, number, self.payload(interval, number))
-        return frame if self.draw.chance(0.5) else frame._replace(rows=tuple(row._replace(key=None) for row in frame.rows))
+        return frame if self.draw.chance(0.5) else without_keys(frame)
 
     def honest(self):
         """A message of now."""
@@ -64,8 +64,7 @@ class Way:
 
     def keyless(self):
         """A message without its keys."""
-        frame = self.honest()
-        return frame._replace(rows=tuple(row._replace(key=None) for row in frame.rows))
+        return without_keys(self.honest())
 
     def part(self):
         """A message, or keys, of which some are missing."""
@@ -241,9 +240,8 @@ class Way:
         interval = max(self.now, self.setup.rows[0].index + 1)
         self.now = interval + self.draw.choice((0, 1))
         frame = message_frame(self.stream, interval, self.draw.randrange(3), payload)
-        keyless = frame._replace(rows=tuple(row._replace(key=None) for row in frame.rows))
         keys = self.keys([(0, min(interval, self.setup.times.last))])
-        return [self.comes(keyless, interval), self.comes(keys, interval + self.setup.rows[0].delay)]
+        return [self.comes(without_keys(frame), interval), self.comes(keys, interval + self.setup.rows[0].delay)]
 
 
 def replaced_byte(text, at, byte):

@@ -8,10 +8,9 @@ import functools
 from . import epochs, histories, promises, senders, traces
 from .clock import Times
 from .files import CAPTURE, file_text, outline_of
-from .histories import Config, arrivals_in
-from .keys import walk
+from .histories import Config, arrivals_in, report_lines
 from .listed import Listed
-from .setups import LONGEST_TAG, ChainRow, Refused, Setup, judged, seeds_judged, setup_text
+from .setups import LONGEST_TAG, Refused, judged, seeds_judged, setup_text
 
 
 # The status, what is printed, what each output holds that was opened, and the configuration and the history where there are such.
@@ -65,11 +64,6 @@ def came_to(file, fault, lines):
 
 # ---- commands that play a capture
 
-def report_text(history):
-    """The lines of a report."""
-    return "".join(map(counted, histories.LINES, histories.report_of(history)))
-
-
 @functools.lru_cache(maxsize=2)
 def history_of(cfg, capture):
     """The one history that a file plays."""
@@ -80,19 +74,19 @@ def replay(cfg, capture, fault):
     """Release records: of all that is released, or where a place is refused of the takes before it."""
     history = history_of(cfg, capture)
     text = histories.released_text(cfg, arrivals_in(cfg, history)) if fault is None else histories.records_of(0, history)
-    return report_text(history), text, history
+    return report_lines(history), text, history
 
 
 def trace(cfg, capture, _):
     """The trace of the history."""
     history = history_of(cfg, capture)
-    return report_text(history), traces.trace_text(1, history), history
+    return report_lines(history), traces.trace_text(history), history
 
 
 def early(cfg, capture, _):
     """The records of packets that were given, and of messages that were accepted on arrival."""
     history = history_of(cfg, capture)
-    lines = report_text(history) + counted("early", promises.early_count(cfg, history))
+    lines = report_lines(history) + counted("early", promises.early_count(cfg, history))
     return lines, b"".join(promises.early_records_of(cfg, history)), history
 
 
@@ -150,9 +144,9 @@ def make_setup(version, files, out, secret, stream, start, interval, last, *numb
     """The setup whose commitments are the seeds walked down to index 0."""
     tag_length, *delays = map(int, numbers) if version == 2 else (LONGEST_TAG[1], *map(int, numbers))
     seeds = seeds_in(files, secret, len(delays))
-    rows = tuple(ChainRow(delay, 0, walk(seed, int(last))) for delay, seed in zip(delays, seeds))
-    setup = Setup(version, int(stream, 16), Times(int(start), int(interval), int(last)), tag_length, rows)
-    return Came(0, counted("chains", len(rows)), {out: setup_text(setup)})
+    times = Times(int(start), int(interval), int(last))
+    made = senders.stream_of(version, int(stream, 16), times, tag_length, delays, seeds)
+    return Came(0, counted("chains", len(delays)), {out: setup_text(made.setup)})
 
 
 COMMANDS = {

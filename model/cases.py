@@ -12,6 +12,7 @@ from .rolls import rolled, rolled_quickly
 from .setups import seeds_text, setup_text
 from .streams import (Draw, capacity_drawn, damaged, first_interval, lag_drawn, reading_drawn, seeds_altered, setup_altered,
                       stream_drawn)
+from .verdicts import VERDICTS
 
 Case = collections.namedtuple("Case", "kind files runs")
 
@@ -68,7 +69,7 @@ def epochs_case(draw):
 def entry_altered(draw, entry):
     """An entry with another answer, or by chance with the same."""
     if isinstance(entry, Arrival):
-        name = draw.choice(histories.VERDICTS)
+        name = draw.choice(VERDICTS)
         told = {"Foreign": (draw.choice((0xa7, 2 ** 64 - 1)),), "Future": (draw.choice((None, 0, 3)),),
                 "BadKey": (draw.randrange(3),), "Kept": (draw.randrange(256),)}
         same = entry.verdict[0] if draw.chance(0.3) else name
@@ -76,12 +77,12 @@ def entry_altered(draw, entry):
     if not isinstance(entry, Taken):
         return Ended(entry.ingest ^ 1)
     if entry.reply[0] != "Given":
-        return Taken(entry.releaser, draw.choice((("Empty",), ("Over",), ("Given", traces.Head(0, 1, 0, 0, 1), b"x"))))
-    _, head, payload = entry.reply
-    heads = (head._replace(position=head.position + 1), head._replace(interval=head.interval ^ 1),
-             head._replace(number=head.number ^ 1), head._replace(chain=head.chain ^ 1))
-    other = payload[:-1] if payload else b"x"
-    replies = (("Empty",), ("Over",), ("Given", draw.choice(heads), payload), ("Given", head._replace(length=len(other)), other))
+        return Taken(entry.releaser, draw.choice((("Empty",), ("Over",), ("Given", 0, 1, 0, 0, b"x"))))
+    given = histories.given_by(entry)
+    others = (given._replace(position=given.position + 1), given._replace(interval=given.interval ^ 1),
+              given._replace(number=given.number ^ 1), given._replace(chain=given.chain ^ 1))
+    shorter = given._replace(payload=given.payload[:-1] if given.payload else b"x")
+    replies = (("Empty",), ("Over",), ("Given", *draw.choice(others)), ("Given", *shorter))
     return Taken(entry.releaser, draw.choice(replies))
 
 
@@ -97,7 +98,7 @@ def trace_altered(draw, text):
     at = draw.choice([at for at, other in enumerate(names) if other == name])
     altered = [entry_altered(draw, entries[at])]
     middle = draw.choice((altered, altered, [], [entries[at]] * 2, [Ended(0), entries[at]]))
-    whole = traces.trace_text(ingests, entries[:at] + middle + entries[at + 1:])
+    whole = traces.trace_text(entries[:at] + middle + entries[at + 1:], ingests)
     return damaged(draw, whole) if draw.chance(0.15) else whole
 
 
@@ -116,7 +117,7 @@ def traces_case(draw):
         else:
             event = Taken(draw.randrange(3), None) if event == "take" else Ended(draw.randrange(min(ingests, 3) + 1))
         history = history.having(histories.entry_of(cfg, history, event))
-    legal = traces.trace_text(ingests, history)
+    legal = traces.trace_text(history, ingests)
     files = {"setup": setup_text(stream.setup), "legal": legal, "other": trace_altered(draw, legal)}
     return files, [["audit", "setup", str(lag), capacity, name] for name in ("legal", "other")]
 
@@ -165,7 +166,7 @@ def texts_case(draw):
     while stream.setup.times.last > 1_000:
         stream = stream_drawn(draw)
     files = {"setup": setup_text(stream.setup), "secret": seeds_text(stream.seeds), "capture": file_text(CAPTURE, []),
-             "script": file_text(SCRIPT, script_drawn(draw, stream)), "other": traces.trace_text(1, [])}
+             "script": file_text(SCRIPT, script_drawn(draw, stream)), "other": traces.trace_text([])}
     kind = draw.pick({"setup": 6, "secret": 4, "missing": 1})
     if kind == "setup":
         files["setup"] = setup_altered(draw, stream.setup)

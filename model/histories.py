@@ -1,18 +1,18 @@
 """What happened to a receiver, and the one answer to each event (DEFINITIONS.md, "Histories").
 
 A history is a list of entries: arrivals with their verdicts, takes with their replies, and ends of ingests. The definitions look
-at all of it. A verdict is a tuple of its name and of what it tells; so is a reply.
+at all of it. A verdict is a tuple of its name and of what it tells; so is a reply,
+of which `Given` tells what stands in the release record.
 """
 import collections
 
 from . import clock, frames
-from .files import CAPTURE, Arrives, Head, outline_of, release_text
+from .files import CAPTURE, Arrives, outline_of
 from .frames import DataFrame, KeyRow, frame_of
 from .keys import tag_of, walk
 from .listed import Listed, each_after, remembered
-
-VERDICTS = "Malformed Foreign Misfit Future BadKey Late Repeat Full Kept Keys".split()
-LINES = "arrivals malformed foreign misfit future badkey late repeat full kept keys given".split()
+from .records import Record, release_text
+from .verdicts import COUNTS, VERDICTS, report_text
 
 Packet = collections.namedtuple("Packet", "chains frame")
 # A packet that is released: its place among the arrivals, its name, and the chain that proves it.
@@ -28,12 +28,8 @@ class Config:
         self.setup, self.lag, self.capacity, self.quota, self.ingests = setup, lag, capacity, quota, ingests
 
 
-class Arrival:
+class Arrival(collections.namedtuple("Arrival", "ingest reading bytes verdict")):
     """What came: its ingest, its reading, its bytes, and its verdict."""
-
-    def __init__(self, ingest, reading, text, verdict):
-        self.ingest, self.reading, self.bytes, self.verdict = ingest, reading, text, verdict
-        self.memo = {}
 
 
 def chains(cfg):
@@ -296,6 +292,11 @@ def gives(entry):
     return isinstance(entry, Taken) and entry.reply[0] == "Given"
 
 
+def given_by(entry):
+    """The record of the packet that a take gave."""
+    return Record(*entry.reply[1:])
+
+
 @remembered
 def given_in(_, history):
     """How many takes gave a packet."""
@@ -307,9 +308,9 @@ def has_end(history, ingest):
     return Ended(ingest) in [entry for entry in history if isinstance(entry, Ended)]
 
 
-def head_of(position, release, payload):
-    """The head of the release record of a packet."""
-    return Head(position, *release.name, release.chain, len(payload))
+def record_of(position, release, payload):
+    """The release record of a packet."""
+    return Record(position, *release.name, release.chain, payload)
 
 
 def reply_to(cfg, history):
@@ -318,7 +319,7 @@ def reply_to(cfg, history):
     if given < len(released(cfg, arrivals)):
         release = released(cfg, arrivals)[given]
         payload = frame_of(arrivals.items[release.place].bytes).payload
-        return "Given", head_of(given, release, payload), payload
+        return "Given", *record_of(given, release, payload)
     return ("Over",) if all(has_end(history, ingest) for ingest in range(cfg.ingests)) else ("Empty",)
 
 
@@ -380,13 +381,18 @@ def report_of(history):
     return [len(verdicts), *map(verdicts.count, VERDICTS), sum(map(gives, history))]
 
 
+def report_lines(history):
+    """The lines of the report of a history."""
+    return report_text(dict(zip(COUNTS, report_of(history))))
+
+
 def records_of(releaser, history):
     """The release records of a releaser's takes that gave a packet, in order."""
-    return b"".join(release_text(*entry.reply[1:]) for entry in history if gives(entry) and entry.releaser == releaser)
+    return b"".join(release_text(given_by(entry)) for entry in history if gives(entry) and entry.releaser == releaser)
 
 
 def released_text(cfg, arrivals):
     """The release records of all that is released."""
     payloads = [frame_of(arrivals.items[release.place].bytes).payload for release in released(cfg, arrivals)]
     numbered = enumerate(zip(released(cfg, arrivals), payloads))
-    return b"".join(release_text(head_of(position, release, payload), payload) for position, (release, payload) in numbered)
+    return b"".join(release_text(record_of(position, release, payload)) for position, (release, payload) in numbered)

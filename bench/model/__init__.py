@@ -1,7 +1,0 @@
-"""A second model of the program, written from the definitions alone.
-
-Each function here is one definition of docs/DEFINITIONS.md, under the name that it has there, and speaks of a whole history: what
-was taken, released or given is looked up in the list of all that happened, and nothing is kept beside it. Python's own library is
-all that it stands on. `commands` says what each command comes to; `streams`, `captures` and `cases` make the cases that
-bench/differences tries.
-"""
