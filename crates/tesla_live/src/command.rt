@@ -1,6 +1,6 @@
 //! The command that a desk is for.
 
-ghost use Rattle.std.specs.Prelude.{◌≡◌, ◌≢◌, ◌≤◌};
+ghost use Rattle.std.specs.Prelude.{◌≡◌, ◌≢◌, codes};
 ghost use Rattle.tesla_live.specs.Rule as rule;
 
 use crate::rule::{Anchor, Times, receiver_reading, sender_reading};
@@ -21,17 +21,18 @@ pub enum Command {
 
 impl Command {
     /// The command of this name.
-    pub fn named(name: &str) -> Command {
-        match name {
-            "capture" => Command::Capture,
-            "feed" => Command::Feed,
-            "play" => Command::Play,
-            "receive" => Command::Receive,
-            "record" => Command::Record,
-            "relay" => Command::Relay,
-            "watch" => Command::Watch,
-            _ => Command::Other,
+    pub fn named(name: &str) -> Command
+        ensures feeds { name.now ≡ codes "feed" → result ≡ Command.Feed }
+        ensures plays { name.now ≡ codes "play" → result ≡ Command.Play }
+        ensures only { (result ≡ Command.Feed → name.now ≡ codes "feed") × (result ≡ Command.Play → name.now ≡ codes "play") }
+    {
+        if name == "feed" {
+            return Command::Feed;
         }
+        if name == "play" {
+            return Command::Play;
+        }
+        receiving(name)
     }
 
     /// Its name, as lines on standard error begin with it.
@@ -51,9 +52,7 @@ impl Command {
     /// What its clock gives at these times. Where a clock can't be read a play gives 0, at which nothing is due; a feed
     /// gives 2^64 - 1, at which it sends nothing; and all others give 2^64 - 1, at which no packet is safe.
     pub fn reading(self, anchor: &Anchor, now: Times) -> u64
-        ensures feeds { self ≡ Command.Feed → result ≡ rule.sender_reading anchor.now now }
-        ensures plays { self ≡ Command.Play → result ≤ rule.sender_reading anchor.now now }
-        ensures receives { self ≢ Command.Feed → self ≢ Command.Play → result ≡ rule.receiver_reading anchor.now now }
+        ensures { result ≡ rule.reading_for self anchor.now now }
     {
         match self {
             Command::Feed => sender_reading(anchor, now),
@@ -63,5 +62,19 @@ impl Command {
             },
             _ => receiver_reading(anchor, now),
         }
+    }
+}
+
+// The command of this name, where it sends nothing of its own.
+fn receiving(name: &str) -> Command
+    ensures { (result ≢ Command.Feed) × (result ≢ Command.Play) }
+{
+    match name {
+        "capture" => Command::Capture,
+        "receive" => Command::Receive,
+        "record" => Command::Record,
+        "relay" => Command::Relay,
+        "watch" => Command::Watch,
+        _ => Command::Other,
     }
 }

@@ -1,6 +1,6 @@
 //! The rule by which a run reads the time (RFC 4082, section 3.3: the receiver's bound on the sender's clock).
 
-ghost use Rattle.std.specs.Prelude.{◌≡◌, ◌≤◌, ◌^◌, ◌-◌, Some};
+ghost use Rattle.std.specs.Prelude.{◌≡◌};
 ghost use Rattle.tesla_live.specs.Rule as rule;
 
 /// What the system's clocks read at one moment, each in microseconds, and `None` where it can't be read.
@@ -22,7 +22,7 @@ pub struct Anchor {
 impl Anchor {
     /// An anchor at these times. `None` where one of them can't be read.
     pub fn at(times: Times) -> Option<Anchor>
-        ensures { (anchor : Anchor) → result ≡ Some anchor → (times.since_1970 ≡ Some anchor.since_1970) × (times.since_boot ≡ Some anchor.since_boot) }
+        ensures { result ≡ rule.anchor_of times.since_1970 times.since_boot }
     {
         let Some(since_1970) = times.since_1970 else {
             return None;
