@@ -11,7 +11,7 @@ ghost use Rattle.tesla_audit.specs.Checks.{Checks, IsShort};
 
 use std::marker::Model;
 use std::sync::ledger::Ledger;
-use tesla_base::Steps;
+use tesla_base::{MOST_DATAGRAM, MOST_PAYLOAD, Steps};
 use tesla_fitting::Verdict;
 use tesla_receiver::Receiver;
 use tesla_state::Take;
@@ -31,7 +31,7 @@ pub enum Answer {
 pub struct Auditor {
     receiver: Receiver,
     // The payload of the packet that was given last.
-    payload: [u8; 1200],
+    payload: [u8; MOST_PAYLOAD],
 }
 
 impl Model for Auditor {
@@ -49,7 +49,7 @@ impl Auditor {
     {
         Auditor {
             receiver,
-            payload: [0; 1200],
+            payload: [0; MOST_PAYLOAD],
         }
     }
 
@@ -112,7 +112,12 @@ impl Auditor {
     }
 
     /// Judges a take with its answer, whose payload stands at the front.
-    fn check_take(&mut self, releaser: u8, told: Take, payload: &[u8; 2048]) -> Result<(), Answer>
+    fn check_take(
+        &mut self,
+        releaser: u8,
+        told: Take,
+        payload: &[u8; MOST_DATAGRAM],
+    ) -> Result<(), Answer>
         requires calls { self.old.calls + 1 < 2 ^ 64 }
         ensures checks { (h : List Entry) → Stands self.old h → Checks self.old.config h (Taken releaser (reply_shown told payload.now)) result }
         ensures stands { (h : List Entry) → Stands self.old h → Stands self.new (h ++ entry_of self.old.config h (Takes releaser) ∷ []) }
@@ -129,7 +134,7 @@ impl Auditor {
 }
 
 /// Whether both have the payload of the packet that this answer gives, if it gives one.
-fn is_same_payload(reply: Take, right: &[u8; 1200], told: &[u8; 2048]) -> bool
+fn is_same_payload(reply: Take, right: &[u8; MOST_PAYLOAD], told: &[u8; MOST_DATAGRAM]) -> bool
     requires { IsShort reply }
     ensures same { result ≡ true → reply_shown reply right.now ≡ reply_shown reply told.now }
     ensures other { result ≡ false → reply_shown reply right.now ≢ reply_shown reply told.now }

@@ -3,6 +3,7 @@
 ghost use Rattle.std.specs.Prelude.{◌≡◌, ◌≤◌, length, codes, Some};
 ghost use Rattle.tesla_base.specs.Tag.{tag_bytes, wide_tag};
 
+use crate::limits::{KEY_BYTES, MOST_TAG_BYTES, TAG_BYTES};
 use std::fmt;
 
 /// The number of a stream.
@@ -15,7 +16,7 @@ pub struct ChainNo(pub u8);
 
 /// A key of a chain, or a MAC key made from one: 32 bytes. `Debug` shows none of them.
 #[derive(Clone, Copy, PartialEq, Eq)]
-pub struct Key(pub [u8; 32]);
+pub struct Key(pub [u8; KEY_BYTES]);
 
 impl fmt::Debug for Key {
     ghost debug_output = { λ _. Some (codes "Key(..)") };
@@ -27,14 +28,14 @@ impl fmt::Debug for Key {
 
 /// The tag of a message on one chain where tags have 16 bytes: the first ones of an HMAC-SHA-256.
 #[derive(Clone, Copy, Debug, PartialEq, Eq)]
-pub struct Tag(pub [u8; 16]);
+pub struct Tag(pub [u8; TAG_BYTES]);
 
 /// The tag of a message on one chain: the first `length` bytes of an HMAC-SHA-256. A tag of this project
 /// has zeros from `length` on, so two are equal where their bytes and their lengths are.
 #[derive(Clone, Copy, Debug, PartialEq, Eq)]
 pub struct WideTag {
     /// The room of a tag; its bytes stand first.
-    pub bytes: [u8; 32],
+    pub bytes: [u8; MOST_TAG_BYTES],
     /// How many bytes the tag has: at most 32.
     pub length: u8,
 }
@@ -45,7 +46,7 @@ impl WideTag {
         requires { length bytes.now ≤ 32 }
         ensures { result ≡ wide_tag bytes.now }
     {
-        let mut room = [0; 32];
+        let mut room = [0; MOST_TAG_BYTES];
         room[..bytes.len()].copy_from_slice(bytes);
         WideTag {
             bytes: room,

@@ -3,6 +3,8 @@
 ghost use Rattle.std.specs.Prelude.{◌≡◌};
 ghost use Rattle.tesla_base.specs.Version.{number_of, version_of, most_chains, shortest_tag, longest_tag};
 
+use crate::limits::{MOST_TAG_BYTES, TAG_BYTES};
+
 /// A version of the formats of setups and frames. A stream's frames have the version of its setup.
 #[derive(Clone, Copy, Debug, PartialEq, Eq)]
 pub enum Version {
@@ -49,7 +51,7 @@ impl Version {
         ensures { result ≡ shortest_tag self }
     {
         match self {
-            Version::One => 16,
+            Version::One => TAG_BYTES as u8,
             Version::Two => 10,
         }
     }
@@ -59,8 +61,8 @@ impl Version {
         ensures { result ≡ longest_tag self }
     {
         match self {
-            Version::One => 16,
-            Version::Two => 32,
+            Version::One => TAG_BYTES as u8,
+            Version::Two => MOST_TAG_BYTES as u8,
         }
     }
 }

@@ -1,6 +1,6 @@
 //! What a buffer holds of a packet.
 
-use tesla_base::{Name, WideTag};
+use tesla_base::{MOST_PAYLOAD, Name, WideTag};
 
 /// A packet that is held until it is gone, with what the receiver must know of it. The fields lie in memory in this
 /// order, so those that are read most often stand in front of the payload.
@@ -19,7 +19,7 @@ pub struct Item {
     /// How many bytes the message has.
     pub length: u16,
     /// The room of the message; its bytes stand first.
-    pub payload: [u8; 1200],
+    pub payload: [u8; MOST_PAYLOAD],
     /// The room of the tags; those of the packet stand first, in the order of the chains.
     pub tags: [WideTag; 8],
 }

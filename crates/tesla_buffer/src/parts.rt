@@ -6,7 +6,7 @@ ghost use Rattle.tesla_buffer.specs.Held.{IsMadeOf, is_resting, wide_tag_in};
 ghost use Rattle.tesla_buffer.specs.Stored.{key_of_name};
 
 use crate::Item;
-use tesla_base::{Name, WideTag};
+use tesla_base::{MOST_PAYLOAD, MOST_TAG_BYTES, Name, WideTag};
 use tesla_frame::DataView;
 
 /// An item of which nothing is said.
@@ -20,9 +20,9 @@ const EMPTY: Item = Item {
     released: false,
     taken: false,
     length: 0,
-    payload: [0; 1200],
+    payload: [0; MOST_PAYLOAD],
     tags: [WideTag {
-        bytes: [0; 32],
+        bytes: [0; MOST_TAG_BYTES],
         length: 0,
     }; 8],
 };

@@ -6,7 +6,8 @@ ghost use Rattle.tesla_capture.specs.Capture.{capture};
 ghost use Rattle.tesla_capture.specs.Script.{script};
 ghost use Rattle.tesla_capture.specs.Formats.{IsGrammar, capture_is, script_is};
 
-use crate::sizes::{HEAD_SIZE, LONGEST_DATAGRAM, LONGEST_PAYLOAD};
+use crate::sizes::HEAD_SIZE;
+use tesla_base::{MOST_DATAGRAM, MOST_PAYLOAD};
 
 /// What one format has of its own.
 pub trait Format {
@@ -41,7 +42,7 @@ impl Format for CaptureFormat {
     }
 
     fn longest() -> u16 {
-        LONGEST_DATAGRAM as u16
+        MOST_DATAGRAM as u16
     }
 
     fn timed() -> bool {
@@ -63,7 +64,7 @@ impl Format for ScriptFormat {
     }
 
     fn longest() -> u16 {
-        LONGEST_PAYLOAD as u16
+        MOST_PAYLOAD as u16
     }
 
     fn timed() -> bool {

@@ -12,8 +12,9 @@ ghost use Rattle.tesla_capture.specs.FileOf.{is_file};
 use crate::format::{Format, ScriptFormat};
 use crate::judging::{Found, judge_head, judge_record, record_found};
 use crate::record::{RecordFault, Told};
-use crate::sizes::{HEAD_SIZE, LONGEST_DATAGRAM, LONGEST_PAYLOAD};
+use crate::sizes::HEAD_SIZE;
 use std::marker::PhantomData;
+use tesla_base::{MOST_DATAGRAM, MOST_PAYLOAD};
 use tesla_records::{HeadJudged, Judged};
 
 /// Tells of the record of these bytes, and puts the bytes that it carries at the front of the room.
@@ -49,7 +50,7 @@ impl<F: Format> tesla_records::Format for FileFormat<F> {
 
     type Kind = RecordFault;
 
-    type Room = [u8; LONGEST_DATAGRAM];
+    type Room = [u8; MOST_DATAGRAM];
 
     type Taken = Told;
 
@@ -75,7 +76,7 @@ impl<F: Format> tesla_records::Format for FileFormat<F> {
         judge_record::<F>(bytes)
     }
 
-    fn put(bytes: &[u8], room: &mut [u8; LONGEST_DATAGRAM]) -> Told {
+    fn put(bytes: &[u8], room: &mut [u8; MOST_DATAGRAM]) -> Told {
         put_record::<F>(bytes, room)
     }
 }
@@ -91,7 +92,7 @@ impl tesla_records::Format for ScriptFile {
 
     type Kind = RecordFault;
 
-    type Room = [u8; LONGEST_PAYLOAD];
+    type Room = [u8; MOST_PAYLOAD];
 
     type Taken = Told;
 
@@ -117,7 +118,7 @@ impl tesla_records::Format for ScriptFile {
         judge_record::<ScriptFormat>(bytes)
     }
 
-    fn put(bytes: &[u8], room: &mut [u8; LONGEST_PAYLOAD]) -> Told {
+    fn put(bytes: &[u8], room: &mut [u8; MOST_PAYLOAD]) -> Told {
         put_record::<ScriptFormat>(bytes, room)
     }
 }

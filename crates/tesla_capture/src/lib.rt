@@ -19,7 +19,6 @@ pub use reader::Reader;
 pub use record::{RecordKind, RecordStep, ScriptStep, Step};
 pub use record_reader::RecordReader;
 pub use script::ScriptReader;
-pub use sizes::{LONGEST_DATAGRAM, LONGEST_PAYLOAD};
 pub use tesla_base::Head;
 pub use writing::{
     head_bytes, write_arrival, write_disclose, write_head, write_message, write_record,

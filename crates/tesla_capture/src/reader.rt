@@ -10,7 +10,7 @@ ghost use Rattle.tesla_capture.specs.Steps.{Gives, Moves, length_given, goes_on}
 use crate::format::CaptureFormat;
 use crate::record::{RecordStep, Step};
 use crate::record_reader::RecordReader;
-use crate::sizes::LONGEST_DATAGRAM;
+use tesla_base::MOST_DATAGRAM;
 use tesla_desk::Source;
 
 /// Reads a capture.
@@ -18,7 +18,7 @@ pub type Reader = RecordReader<CaptureFormat>;
 
 impl RecordReader<CaptureFormat> {
     /// The next record, as `next_record` gives it: the datagram of an arrival is put at the front of `into`.
-    pub fn next<S: Source>(&mut self, source: &mut S, into: &mut [u8; LONGEST_DATAGRAM]) -> Step
+    pub fn next<S: Source>(&mut self, source: &mut S, into: &mut [u8; MOST_DATAGRAM]) -> Step
         requires going { self.old.going ≡ true }
         ensures gives { (rest : List ℕ) → ahead self.old (S.left source.old) ≡ Some rest → Gives capture (step_of result) self.old.place rest self.new.place (ahead self.new (S.left source.new)) into.new }
         ensures moves { Moves capture (step_of result) self.old.place self.new.place }

@@ -10,8 +10,8 @@ ghost use Rattle.tesla_capture.specs.Steps.{pending, ahead, Gives, Moves, length
 use crate::format::Format;
 use crate::kinds::FileFormat;
 use crate::record::{RecordFault, RecordKind, RecordStep, Told};
-use crate::sizes::LONGEST_DATAGRAM;
 use std::marker::Model;
+use tesla_base::MOST_DATAGRAM;
 use tesla_desk::Source;
 use tesla_records::{RecordsReader, RecordsStep, Refusal};
 
@@ -103,7 +103,7 @@ impl<F: Format> RecordReader<F> {
     pub fn next_record<S: Source>(
         &mut self,
         source: &mut S,
-        into: &mut [u8; LONGEST_DATAGRAM],
+        into: &mut [u8; MOST_DATAGRAM],
     ) -> RecordStep
         requires going { self.old.going ≡ true }
         ensures gives { (rest : List ℕ) → ahead self.old (S.left source.old) ≡ Some rest → Gives F.grammar result self.old.place rest self.new.place (ahead self.new (S.left source.new)) into.new }

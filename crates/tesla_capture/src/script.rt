@@ -11,8 +11,8 @@ ghost use Rattle.tesla_capture.specs.Steps.{Gives, Moves, length_given, goes_on}
 use crate::kinds::ScriptFile;
 use crate::record::{RecordStep, ScriptStep};
 use crate::record_reader::step_as;
-use crate::sizes::LONGEST_PAYLOAD;
 use std::marker::Model;
+use tesla_base::MOST_PAYLOAD;
 use tesla_desk::Source;
 use tesla_records::RecordsReader;
 
@@ -58,7 +58,7 @@ impl ScriptReader {
     }
 
     /// The next record, as a reader of records gives it.
-    fn step<S: Source>(&mut self, source: &mut S, into: &mut [u8; LONGEST_PAYLOAD]) -> RecordStep
+    fn step<S: Source>(&mut self, source: &mut S, into: &mut [u8; MOST_PAYLOAD]) -> RecordStep
         requires going { self.old.going ≡ true }
         ensures gives { (rest : List ℕ) → ahead self.old (S.left source.old) ≡ Some rest → Gives script result self.old.place rest self.new.place (ahead self.new (S.left source.new)) into.new }
         ensures moves { Moves script result self.old.place self.new.place }
@@ -73,11 +73,7 @@ impl ScriptReader {
     }
 
     /// The next record, as [`RecordReader::next_record`](crate::RecordReader::next_record) gives it: the payload of a message is put at the front of `into`.
-    pub fn next<S: Source>(
-        &mut self,
-        source: &mut S,
-        into: &mut [u8; LONGEST_PAYLOAD],
-    ) -> ScriptStep
+    pub fn next<S: Source>(&mut self, source: &mut S, into: &mut [u8; MOST_PAYLOAD]) -> ScriptStep
         requires going { self.old.going ≡ true }
         ensures gives { (rest : List ℕ) → ahead self.old (S.left source.old) ≡ Some rest → Gives script (script_step_of result) self.old.place rest self.new.place (ahead self.new (S.left source.new)) into.new }
         ensures moves { Moves script (script_step_of result) self.old.place self.new.place }

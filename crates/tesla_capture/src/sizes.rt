@@ -14,9 +14,3 @@ pub const RELEASE_HEAD_SIZE: usize = 17;
 
 /// The fields of the record of a message that was accepted on arrival, before its payload.
 pub const ACCEPTED_SIZE: usize = 9;
-
-/// The datagram of an arrival, at most.
-pub const LONGEST_DATAGRAM: usize = 2048;
-
-/// The payload of a message, at most.
-pub const LONGEST_PAYLOAD: usize = 1200;

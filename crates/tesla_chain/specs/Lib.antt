@@ -1,1 +1,4 @@
 pub mod Cost
+pub mod Levels
+pub mod Traversal
+pub mod Kept

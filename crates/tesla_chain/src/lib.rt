@@ -2,5 +2,10 @@
 #![tactic(auto)]
 
 mod keys;
+mod level;
+mod opening;
+mod skipping;
+mod traversal;
 
 pub use keys::key_at;
+pub use traversal::Traversal;

@@ -5,8 +5,8 @@ use Rattle.std.proofs.lemmas.Bool.{cases_Bool, cond-false, cond-true}
 use Rattle.std.proofs.lemmas.List.{length-append, take_all, take_more}
 use Rattle.std.proofs.lemmas.List.Sums.{sum_by-append, sum_by-set}
 use Rattle.std.proofs.lemmas.Option.{get_or_from_slice_get, slice_get_within}
-use Rattle.tesla_promise.specs.Payloads.{promise_of}
-use Rattle.tesla_promise.specs.declared.promise.Promise.{Promise}
+use Rattle.tesla_early.specs.Payloads.{promise_of}
+use Rattle.tesla_early.specs.declared.promise.Promise.{Promise}
 use Rattle.tesla_receiver.specs.declared.history.Arrival.{Arrival}
 use Rattle.tesla_receiver.specs.declared.history.Entry.{Entry}
 use Rattle.tesla_receiver.specs.declared.history.Entry.TheVariants.{Arrived, Taken, Ended}
@@ -15,7 +15,7 @@ use Rattle.tesla_state.specs.declared.replies.Reply.TheVariants.{Given, Empty, O
 use Rattle.tesla_early.specs.Early.{Message, accepted, candidate, is_early, is_promised, learnt}
 use Rattle.tesla_early.specs.Laws.{is_used}
 use Rattle.tesla_early.specs.Learnt.{Learnt, taught_by, taught_with}
-use Rattle.tesla_early.specs.Texts.{early_arrivals, early_count, early_in}
+use Rattle.tesla_early.specs.Counted.{early_arrivals, early_count, early_in}
 use Rattle.tesla_early.proofs.Accepted.{is_of_message}
 use Rattle.tesla_early.proofs.Learnt.{learnt_next, learnt_past}
 use Rattle.tesla_early.proofs.Steps.{Accepts, after_accepted, after_given, before, past_end}

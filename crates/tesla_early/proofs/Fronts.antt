@@ -2,15 +2,15 @@
 use Rattle.std.proofs.Common.{◌≡◌, ◌≤◌, ℕ, zero, suc, List, [], ◌++◌, length, map, refl, sym, ap, ⊎_elim, ◌∙◌, append_assoc, arith}
 use Rattle.std.proofs.lemmas.Bool.{cases_eq}
 use Rattle.std.proofs.lemmas.List.{append-nil, length-append, take_at}
-use Rattle.tesla_promise.specs.Payloads.{promise_of}
-use Rattle.tesla_promise.specs.declared.promise.Promise.{Promise}
+use Rattle.tesla_early.specs.Payloads.{promise_of}
+use Rattle.tesla_early.specs.declared.promise.Promise.{Promise}
 use Rattle.tesla_receiver.specs.declared.history.Arrival.{Arrival}
 use Rattle.tesla_receiver.specs.declared.history.Entry.{Entry}
 use Rattle.tesla_receiver.proofs.EachAfter.{each_after-append}
 use Rattle.tesla_state.specs.Releases.{each_after}
 use Rattle.tesla_early.specs.Early.{learnt}
 use Rattle.tesla_early.specs.Laws.{origin_of}
-use Rattle.tesla_early.specs.Texts.{early_arrivals, early_in}
+use Rattle.tesla_early.specs.Counted.{early_arrivals, early_in}
 use Rattle.tesla_early.proofs.Steps.{origins, origins_step, origins_taught, origins_with}
 use Rattle.tesla_early.proofs.Places.{origins_all}
 

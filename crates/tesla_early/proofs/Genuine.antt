@@ -7,11 +7,11 @@ use Rattle.std.proofs.lemmas.Slice.Eq.{bytes_eq-Decides}
 use Rattle.sha2.specs.Sha256.{sha256}
 use Rattle.sha2.proofs.Facts256.{length-sha256}
 use Rattle.tesla_base.specs.declared.names.Name.{Name}
-use Rattle.tesla_promise.specs.Payloads.{promise_for, promise_of, promising_text}
-use Rattle.tesla_promise.specs.Woven.{woven, woven_payload}
-use Rattle.tesla_promise.specs.declared.promise.Promise.{Promise}
-use Rattle.tesla_promise.proofs.Each.{is_woven_at, length-woven}
-use Rattle.tesla_promise.proofs.Spelled.{plain_has_none, promise_read}
+use Rattle.tesla_early.specs.Payloads.{promise_for, promise_of, promising_text}
+use Rattle.tesla_early.specs.Woven.{woven, woven_payload}
+use Rattle.tesla_early.specs.declared.promise.Promise.{Promise}
+use Rattle.tesla_early.proofs.Each.{is_woven_at, length-woven}
+use Rattle.tesla_early.proofs.Spelled.{plain_has_none, promise_read}
 use Rattle.tesla_receiver.specs.declared.history.Entry.{Entry}
 use Rattle.tesla_early.specs.Early.{Message}
 use Rattle.tesla_early.specs.Laws.{Collides, GivenAreOf, IsOneOf, NamesFit, WasEarly}

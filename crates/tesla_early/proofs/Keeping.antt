@@ -6,8 +6,8 @@ use Rattle.std.proofs.lemmas.List.{append-nil, drop-append-le, drop-drop, drop-m
 use Rattle.sha2.specs.Sha256.{sha256}
 use Rattle.tesla_base.specs.declared.names.Name.{Name}
 use Rattle.tesla_fitting.specs.declared.verdict.Verdict.{Verdict}
-use Rattle.tesla_promise.specs.Payloads.{promise_of}
-use Rattle.tesla_promise.specs.declared.promise.Promise.{Promise}
+use Rattle.tesla_early.specs.Payloads.{promise_of}
+use Rattle.tesla_early.specs.declared.promise.Promise.{Promise}
 use Rattle.tesla_receiver.specs.History.{Arrives, Ends, Takes, entry_of, reply_to}
 use Rattle.tesla_receiver.specs.Stands.{Stands}
 use Rattle.tesla_receiver.specs.declared.history.Arrival.{Arrival}

@@ -12,3 +12,7 @@ pub mod Genuine
 pub mod Ring
 pub mod Using
 pub mod Keeping
+pub mod Each
+pub mod FromEnd
+pub mod Joined
+pub mod Spelled

@@ -3,9 +3,9 @@ use Rattle.std.proofs.Common.{◌≡◌, ◌≤◌, ◌<◌, ◌^◌, ℕ, ◌+�
 use Rattle.std.specs.Prelude.{slice_get}
 use Rattle.std.proofs.lemmas.Option.{same_Some}
 use Rattle.tesla_base.proofs.Lists.{from_drop, list_any_got}
-use Rattle.tesla_promise.specs.Payloads.{promise_for, promise_of}
-use Rattle.tesla_promise.specs.Woven.{woven}
-use Rattle.tesla_promise.proofs.Each.{woven_read}
+use Rattle.tesla_early.specs.Payloads.{promise_for, promise_of}
+use Rattle.tesla_early.specs.Woven.{woven}
+use Rattle.tesla_early.proofs.Each.{woven_read}
 use Rattle.tesla_base.specs.declared.names.Name.{Name}
 use Rattle.tesla_receiver.specs.declared.history.Arrival.{Arrival}
 use Rattle.tesla_receiver.specs.declared.history.Entry.{Entry}

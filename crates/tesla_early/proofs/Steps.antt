@@ -6,8 +6,8 @@ use Rattle.std.proofs.lemmas.List.{map-append}
 use Rattle.std.proofs.lemmas.Option.{slice_get_within}
 use Rattle.sha2.specs.Sha256.{sha256}
 use Rattle.tesla_base.proofs.Lists.{slice_get-append}
-use Rattle.tesla_promise.specs.Payloads.{promise_of}
-use Rattle.tesla_promise.specs.declared.promise.Promise.{Promise}
+use Rattle.tesla_early.specs.Payloads.{promise_of}
+use Rattle.tesla_early.specs.declared.promise.Promise.{Promise}
 use Rattle.tesla_receiver.specs.declared.history.Arrival.{Arrival}
 use Rattle.tesla_receiver.specs.declared.history.Entry.{Entry}
 use Rattle.tesla_receiver.specs.declared.history.Entry.TheVariants.{Arrived, Taken, Ended}

@@ -5,8 +5,8 @@ use Rattle.sha2.specs.Sha256.{sha256}
 use Rattle.tesla_base.specs.declared.names.Name.{Name}
 use Rattle.tesla_fitting.specs.declared.verdict.Verdict.{Verdict}
 use Rattle.tesla_frame.specs.Frame.{Frame}
-use Rattle.tesla_promise.specs.Payloads.{promise_of}
-use Rattle.tesla_promise.specs.declared.promise.Promise.{Promise}
+use Rattle.tesla_early.specs.Payloads.{promise_of}
+use Rattle.tesla_early.specs.declared.promise.Promise.{Promise}
 use Rattle.tesla_early.specs.Early.{Message, may_be_early, message_in}
 use Rattle.tesla_early.specs.Learnt.{last_of}
 use Rattle.tesla_early.specs.Stands.{Kept}

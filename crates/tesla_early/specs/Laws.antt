@@ -3,8 +3,8 @@ use Rattle.std.specs.Prelude.{◌≡◌, ◌≢◌, ◌⊎◌, ◌≤◌, ◌<�
 use Rattle.sha2.specs.Sha256.{sha256}
 use Rattle.tesla_base.specs.declared.names.Name.{Name}
 use Rattle.tesla_base.specs.declared.release.Head.{Head}
-use Rattle.tesla_promise.specs.Payloads.{promise_for, promise_of}
-use Rattle.tesla_promise.specs.declared.promise.Promise.{Promise}
+use Rattle.tesla_early.specs.Payloads.{promise_for, promise_of}
+use Rattle.tesla_early.specs.declared.promise.Promise.{Promise}
 use Rattle.tesla_fitting.specs.declared.config.Config.{Config}
 use Rattle.tesla_receiver.specs.History.{arrivals_in, given_in, payload_of}
 use Rattle.tesla_receiver.specs.Packets.{released}

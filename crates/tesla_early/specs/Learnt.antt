@@ -2,8 +2,8 @@
 use Rattle.std.specs.Prelude.{ℕ, ◌-◌, ◌==◌, ◌&&◌, not, Bool, true, false, List, [], ◌∷◌, ◌++◌, length, take, drop, Option, Some, None, bytes_eq, if◌then◌else◌}
 use Rattle.std.specs.List.{list_any}
 use Rattle.tesla_base.specs.declared.names.Name.{Name}
-use Rattle.tesla_promise.specs.Payloads.{promise_of}
-use Rattle.tesla_promise.specs.declared.promise.Promise.{Promise}
+use Rattle.tesla_early.specs.Payloads.{promise_of}
+use Rattle.tesla_early.specs.declared.promise.Promise.{Promise}
 
 -- a promise that an entry of a history taught, and whether an early arrival has used it
 pub record Learnt : Type 0 where

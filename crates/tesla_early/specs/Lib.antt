@@ -3,5 +3,7 @@ pub mod Early
 pub mod Stands
 pub mod Kept
 pub mod Ring
-pub mod Texts
+pub mod Counted
 pub mod Laws
+pub mod Payloads
+pub mod Woven

@@ -1,6 +1,6 @@
 -- What is kept of a history: what its receiver keeps, and the last promises.
 use Rattle.std.specs.Prelude.{◌≡◌, ℕ, Bool, List, map}
-use Rattle.tesla_promise.specs.declared.promise.Promise.{Promise}
+use Rattle.tesla_early.specs.declared.promise.Promise.{Promise}
 use Rattle.tesla_receiver.specs.Stands.{Stands}
 use Rattle.tesla_receiver.specs.declared.history.Entry.{Entry}
 use Rattle.tesla_state.specs.State.{State}

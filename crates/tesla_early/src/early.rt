@@ -4,10 +4,10 @@ ghost use Rattle.std.specs.Prelude.{◌≡◌, ◌+◌, ◌^◌, ◌<◌, ◌≤
 ghost use Rattle.tesla_base.specs.declared.names.ChainNo.{ChainNo};
 ghost use Rattle.tesla_frame.specs.Reading.{frame_of};
 ghost use Rattle.tesla_frame.specs.Shown.{shown};
-ghost use Rattle.tesla_promise.specs.Payloads.{promise_of};
+ghost use Rattle.tesla_early.specs.Payloads.{promise_of};
 ghost use Rattle.tesla_receiver.specs.Costs.{most_evaluations, most_offers};
 ghost use Rattle.tesla_receiver.specs.History.{Arrives, Takes, Ends, arrivals_in, entry_of, reply_to};
-ghost use Rattle.tesla_receiver.specs.Played.{waiting_in};
+ghost use Rattle.tesla_receiver.specs.Events.{waiting_in};
 ghost use Rattle.tesla_receiver.specs.Report.{report_of};
 ghost use Rattle.tesla_receiver.specs.Stands.{Stands};
 ghost use Rattle.tesla_receiver.specs.declared.history.Entry.{Entry};
@@ -17,13 +17,13 @@ ghost use Rattle.tesla_early.specs.Early.{is_early, may_be_early};
 ghost use Rattle.tesla_early.specs.Kept.{candidate_in, is_promised_by, kept_after, kept_with};
 ghost use Rattle.tesla_early.specs.Stands.{EarlyStands};
 
+use crate::promise_of;
 use crate::promises::Promises;
 use std::alloc::Global;
 use std::marker::Model;
 use std::sync::ledger::Ledger;
-use tesla_base::{NoMemory, Steps};
+use tesla_base::{MOST_PAYLOAD, NoMemory, Steps};
 use tesla_frame::{FrameView, read_frame};
-use tesla_promise::promise_of;
 use tesla_receiver::{Receiver, Report, Take, Verdict};
 
 /// The verdict on an arrival, and whether its message is accepted at once.
@@ -172,7 +172,7 @@ impl Early {
 
     /// Gives the next released packet, whose payload is then at the front of the buffer, or says whether all ingests have
     /// ended. The rest of the buffer stays as it was. What a packet that is given promises is learnt. It takes no memory.
-    pub fn take(&mut self, releaser: u8, into: &mut [u8; 1200]) -> Take
+    pub fn take(&mut self, releaser: u8, into: &mut [u8; MOST_PAYLOAD]) -> Take
         requires { self.old.receiver.calls + 1 < 2 ^ 64 }
         ensures answer { (h : List Entry) → EarlyStands self.old h → reply_shown result into.new ≡ reply_to self.old.receiver.config h }
         ensures stands { (h : List Entry) → EarlyStands self.old h → EarlyStands self.new (h ++ entry_of self.old.receiver.config h (Takes releaser) ∷ []) }

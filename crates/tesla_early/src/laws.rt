@@ -2,9 +2,9 @@
 
 ghost use Rattle.std.specs.Prelude.{◌≡◌, ◌⊎◌, ◌<◌, ◌≤◌, ◌+◌, ◌^◌, ◌++◌, ℕ, List, Some, true, count_by, length, map, slice_get};
 ghost use Rattle.tesla_base.specs.declared.names.Name.{Name};
-ghost use Rattle.tesla_promise.specs.Payloads.{promise_for, promise_of};
-ghost use Rattle.tesla_promise.specs.Woven.{woven};
-ghost use Rattle.tesla_promise.specs.declared.promise.Promise.{Promise};
+ghost use Rattle.tesla_early.specs.Payloads.{promise_for, promise_of};
+ghost use Rattle.tesla_early.specs.Woven.{woven};
+ghost use Rattle.tesla_early.specs.declared.promise.Promise.{Promise};
 ghost use Rattle.tesla_fitting.specs.declared.config.Config.{Config};
 ghost use Rattle.tesla_receiver.specs.History.{IsLegal};
 ghost use Rattle.tesla_receiver.specs.declared.history.Arrival.{Arrival};
@@ -12,7 +12,7 @@ ghost use Rattle.tesla_receiver.specs.declared.history.Entry.{Entry};
 ghost use Rattle.tesla_early.specs.Early.{Message, candidate, is_early, learnt};
 ghost use Rattle.tesla_early.specs.Laws.{Collides, Gave, GivenAreOf, IsLearnt, IsLive, IsOneOf, IsReleased, NamesFit, ReachesReleased, Taught, TaughtPromise, Uses, WasEarly, WasPromised, is_used, origin_of};
 ghost use Rattle.tesla_early.specs.Learnt.{Learnt};
-ghost use Rattle.tesla_early.specs.Texts.{early_arrivals, early_count};
+ghost use Rattle.tesla_early.specs.Counted.{early_arrivals, early_count};
 
 /// Where `weave` made the payloads, the message that comes `gap` behind one that taught its promise is early: where it
 /// arrives with one of the four verdicts, fewer than `most` promises were learnt after its own, and no arrival before used it.

@@ -3,7 +3,11 @@
 
 mod early;
 pub mod laws;
+pub mod payload_laws;
+mod promise;
 mod promises;
+mod weaving;
 
 pub use early::{Early, EarlyVerdict};
-pub use tesla_promise::{MOST_BODY, Promise, promise_of, weave};
+pub use promise::{Promise, hash_of, promise_of};
+pub use weaving::{MOST_BODY, weave};

@@ -9,11 +9,11 @@ ghost use Rattle.tesla_early.specs.Kept.{is_of_message, is_of_name, use_first_ke
 ghost use Rattle.tesla_early.specs.Learnt.{last_of};
 ghost use Rattle.tesla_early.specs.Ring.{IsDigest, bucket_of, count_after, is_found, kept_in, place_after, room_made};
 
+use crate::{Promise, hash_of};
 use std::alloc::Global;
 use std::marker::Model;
 use tesla_base::{Name, NoMemory};
 use tesla_links::Links;
-use tesla_promise::{Promise, hash_of};
 
 /// A promise at its place, and whether it is used.
 #[derive(Clone, Copy)]

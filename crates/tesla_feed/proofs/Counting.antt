@@ -5,7 +5,7 @@ use Rattle.std.proofs.lemmas.List.Sums.{sum_by-append}
 use Rattle.tesla_sender.specs.Made.{Message, Disclose}
 use Rattle.tesla_sender.specs.declared.refusal.SendRefusal.{SendRefusal}
 use Rattle.tesla_sender.specs.declared.refusal.SendRefusal.TheVariants as unsent
-use Rattle.tesla_posts.specs.Counts.{counted}
+use Rattle.tesla_relay.specs.Counts.{counted}
 use Rattle.tesla_feed.specs.Fed.{Feeding, counts_of, is_backward, is_disclosure, is_early, is_full, is_message, is_over, is_too_long, with_call, with_refusal, with_unread}
 use Rattle.tesla_feed.specs.Steps.{after_refusal, one_more}
 use Rattle.tesla_feed.specs.declared.counts.FeedCounts.{FeedCounts}

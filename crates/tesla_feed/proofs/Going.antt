@@ -8,7 +8,7 @@ use Rattle.tesla_desk.specs.Clocks.{Gives, Ticking, Ticks}
 use Rattle.tesla_desk.specs.Faults.{HasCause}
 use Rattle.tesla_desk.specs.Links.{after_letters}
 use Rattle.tesla_desk.specs.declared.link.Letter.{Letter}
-use Rattle.tesla_posts.specs.Posts.{PostSeen, with_datagrams}
+use Rattle.tesla_relay.specs.Posts.{PostSeen, with_datagrams}
 use Rattle.tesla_sender.specs.Made.{Call, Stream}
 use Rattle.tesla_feed.specs.Fed.{Event, Feeding, Rested, after_event, datagram_of, datagrams_from, datagrams_of, has_begun, is_all_told, is_unread, nothing_fed, reading_of}
 use Rattle.tesla_feed.specs.Feed.{AreNeeded, Heard, OpensAt, SendPosts, SendsPost, came_of, letter_of, rested_at}

@@ -7,14 +7,13 @@ use Rattle.std.proofs.lemmas.List.Sums.{fold-append, sum_by-append}
 use Rattle.tesla_base.specs.declared.names.Name.{Name}
 use Rattle.tesla_clock.specs.Schedule.{Times}
 use Rattle.tesla_frame.specs.Frame.{Frame, frame_text}
-use Rattle.tesla_sender.specs.Made.{Call, Message, Disclose, Chain, Stream, any_due, chains_of, disclosed, disclosed_after, disclosure_frame, framed, index_told, interval_at, interval_in, is_message_of, latest_of, made_disclosure, made_message, message_frame, messages_of, name_after, name_of, tells_newer}
+use Rattle.tesla_sender.specs.Made.{Call, Message, Disclose, Chain, Stream, any_due, chains_of, disclosed, disclosed_after, disclosure_frame, frame_in, framed, index_told, interval_at, interval_in, is_message_of, latest_of, made_disclosure, made_message, message_frame, messages_of, name_after, name_of, tells_newer}
 use Rattle.tesla_sender.specs.Stands.{Answers, State, gone_on, number_at, sent_in, told_disclosure, told_message}
 use Rattle.tesla_sender.specs.declared.refusal.DiscloseRefusal.{DiscloseRefusal}
 use Rattle.tesla_sender.specs.declared.refusal.DiscloseRefusal.TheVariants as undisclosed
 use Rattle.tesla_sender.specs.declared.refusal.SendRefusal.{SendRefusal}
 use Rattle.tesla_sender.specs.declared.refusal.SendRefusal.TheVariants as unsent
 use Rattle.tesla_sender.proofs.Logs.{named, spells_answered}
-use Rattle.tesla_world.specs.World.{frame_in}
 use Rattle.tesla_desk.specs.declared.link.Letter.TheVariants as letters
 use Rattle.tesla_feed.specs.Fed.{Came, Feeding, after_event, after_judged, after_none, datagram_of, has_begun, is_all_told, is_due, is_unread, last_message, latest_from, message_interval, name_from, tells_more, told_by, with_call, with_refusal, with_unread}
 use Rattle.tesla_feed.specs.Steps.{Makes, StandsFor, after_item, after_refusal, after_unread, is_due_after, is_told_after, one_more}

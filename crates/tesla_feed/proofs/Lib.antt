@@ -1,7 +1,6 @@
 mod Counting
-mod Kept
+pub mod Kept
 mod Going
 mod Whole
-mod Logs
+pub mod Logs
 mod Ended
-mod Timely

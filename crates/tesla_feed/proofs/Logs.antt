@@ -10,12 +10,11 @@ use Rattle.tesla_base.specs.declared.names.Name.{Name}
 use Rattle.tesla_clock.specs.Schedule.{Times}
 use Rattle.tesla_desk.specs.declared.link.Letter.TheVariants as letters
 use Rattle.tesla_frame.specs.Frame.{Frame}
-use Rattle.tesla_sender.specs.Made.{Call, Message, Disclose, Stream, chains_of, disclosed, disclosure_frame, framed, interval_at, interval_in, latest_of, made_disclosure, made_message, message_frame}
+use Rattle.tesla_sender.specs.Made.{Call, Message, Disclose, Stream, chains_of, disclosed, disclosure_frame, framed, interval_at, interval_in, latest_of, made_disclosure, made_message, message_frame, reading_of}
 use Rattle.tesla_sender.specs.Stands.{AreAcceptedAfter, IsAccepted}
 use Rattle.tesla_sender.specs.declared.refusal.DiscloseRefusal.{DiscloseRefusal}
 use Rattle.tesla_sender.specs.declared.refusal.SendRefusal.{SendRefusal}
 use Rattle.tesla_sender.proofs.Logs.{named}
-use Rattle.tesla_world.specs.World.{reading_of}
 use Rattle.tesla_feed.specs.Fed.{Came, Event, Feeding, Rested, after_event, after_judged, after_none, fed, first_interval, has_ended, is_due, is_unread, latest_from, name_from, nothing_fed, with_call, with_refusal, with_unread}
 use Rattle.tesla_feed.specs.Fed as feeds
 use Rattle.tesla_feed.specs.Laws.{FeedsApart, FeedsAreAccepted, FeedsEnd}

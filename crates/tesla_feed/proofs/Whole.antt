@@ -5,7 +5,7 @@ use Rattle.std.specs.List.{AllByRecursion, list_all, list_any}
 use Rattle.std.proofs.lemmas.List.Sums.{fold-append}
 use Rattle.tesla_desk.specs.Clocks.{Gives, Ticking}
 use Rattle.tesla_desk.specs.declared.link.Letter.{Letter}
-use Rattle.tesla_posts.specs.Posts.{PostSeen, with_datagrams}
+use Rattle.tesla_relay.specs.Posts.{PostSeen, with_datagrams}
 use Rattle.tesla_sender.specs.Made.{Stream}
 use Rattle.tesla_feed.specs.Fed.{Event, Feeding, after_event, fed, first_interval, has_begun, has_ended, nothing_fed, reading_of}
 use Rattle.tesla_feed.specs.Feed.{AreNeeded, Feeds, SendPosts, came_of, has_failed, rested_at}

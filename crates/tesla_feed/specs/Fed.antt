@@ -6,11 +6,10 @@ use Rattle.tesla_base.specs.declared.names.Name.{Name}
 use Rattle.tesla_desk.specs.declared.link.Letter.{Letter}
 use Rattle.tesla_desk.specs.declared.link.Letter.TheVariants as letters
 use Rattle.tesla_frame.specs.Frame.{frame_text}
-use Rattle.tesla_posts.specs.Counts.{counted}
-use Rattle.tesla_sender.specs.Made.{Call, Message, Disclose, Chain, Stream, chains_of, index_told, interval_at, interval_in, latest_of, messages_of, name_after}
+use Rattle.tesla_relay.specs.Counts.{counted}
+use Rattle.tesla_sender.specs.Made.{Call, Message, Disclose, Chain, Stream, chains_of, frame_made, index_told, interval_at, interval_in, latest_of, messages_of, name_after}
 use Rattle.tesla_sender.specs.declared.refusal.SendRefusal.{SendRefusal}
 use Rattle.tesla_sender.specs.declared.refusal.SendRefusal.TheVariants as unsent
-use Rattle.tesla_world.specs.World.{frame_made}
 use Rattle.tesla_feed.specs.declared.counts.FeedCounts.{FeedCounts}
 
 -- ---- what happens

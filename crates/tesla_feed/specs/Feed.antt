@@ -5,8 +5,8 @@ use Rattle.tesla_desk.specs.Clocks.{Gives, Ticking}
 use Rattle.tesla_desk.specs.Faults.{HasCause}
 use Rattle.tesla_desk.specs.Links.{after_letters}
 use Rattle.tesla_desk.specs.declared.link.Letter.{Letter}
-use Rattle.tesla_posts.specs.Counts.{IsSentCount}
-use Rattle.tesla_posts.specs.Posts.{PostSeen, with_datagrams}
+use Rattle.tesla_relay.specs.Counts.{IsSentCount}
+use Rattle.tesla_relay.specs.Posts.{PostSeen, with_datagrams}
 use Rattle.tesla_sender.specs.Made.{Stream}
 use Rattle.tesla_sender.specs.Stands.{Stands}
 use Rattle.tesla_feed.specs.Fed.{Event, Came, Rested, Feeding, after_event, counts_of, datagrams_of, fed, first_interval, has_begun, is_all_told, has_ended, is_unread, reading_of}

@@ -9,15 +9,15 @@ ghost use Rattle.tesla_desk.specs.declared.link.Letter.TheVariants as letters;
 use crate::FeedCounts;
 use crate::readings::is_unread;
 use std::sync::ledger::Ledger;
-use tesla_base::Steps;
-use tesla_sender::{FRAME_ROOM, Sender};
+use tesla_base::{MOST_DATAGRAM, Steps};
+use tesla_sender::Sender;
 
 /// A sender with its room for a frame, and what a feed remembers of the calls that it made.
 #[derive(Drop)]
 pub struct Feeder {
     sender: Sender,
     /// The frame that was made last stands at its front.
-    pub frame: [u8; FRAME_ROOM],
+    pub frame: [u8; MOST_DATAGRAM],
     // The first interval in which a call is made.
     first: u64,
     // The intervals of the last call and of the last message, 0 where there is none.
@@ -39,7 +39,7 @@ impl Feeder {
         sender.begin_at(first, steps);
         Feeder {
             sender,
-            frame: [0; FRAME_ROOM],
+            frame: [0; MOST_DATAGRAM],
             first,
             latest: 0,
             message: 0,

@@ -2,7 +2,7 @@
 
 ghost use Rattle.std.specs.Prelude.{◌≡◌, ◌≤◌, List, false, length, map, true};
 ghost use Rattle.tesla_desk.specs.Faults.{HasCause};
-ghost use Rattle.tesla_posts.specs.Posts.{PostSeen};
+ghost use Rattle.tesla_relay.specs.Posts.{PostSeen};
 ghost use Rattle.std.specs.List.{list_all};
 ghost use Rattle.tesla_feed.specs.Feed.{has_failed};
 ghost use Rattle.tesla_feed.specs.Fed.{Feeding, nothing_fed};
@@ -12,7 +12,7 @@ use crate::feeder::Feeder;
 use crate::posts::{hand, have_all_failed};
 use std::sync::Wait;
 use std::sync::ledger::Ledger;
-use tesla_base::Steps;
+use tesla_base::{MOST_DATAGRAM, Steps};
 use tesla_desk::{Clock, Gate, Got, Link, Post};
 
 /// Why a feed asks its link for nothing more.
@@ -86,7 +86,7 @@ pub fn hear_all<R: Wait, L: Ledger, K: Link, C: Clock, P: Post>(
     ensures name { K.name link.new ≡ K.name link.old }
     ensures each { (length posts.new ≡ length posts.old) × (length failed.new ≡ length failed.old) }
 {
-    let mut buffer = [0; 2048];
+    let mut buffer = [0; MOST_DATAGRAM];
     for _ in rt.forever() {
         if have_all_failed(failed) {
             return Hearing::Unheard;

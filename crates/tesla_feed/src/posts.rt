@@ -2,7 +2,7 @@
 
 ghost use Rattle.std.specs.Prelude.{◌≡◌, ◌≤◌, List, length, map, not};
 ghost use Rattle.std.specs.List.{list_all, list_any};
-ghost use Rattle.tesla_posts.specs.Posts.{PostSeen};
+ghost use Rattle.tesla_relay.specs.Posts.{PostSeen};
 ghost use Rattle.tesla_feed.specs.Feed.{has_failed};
 ghost use Rattle.tesla_feed.specs.Steps.{HandsPost, HandPosts};
 

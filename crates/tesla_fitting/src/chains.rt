@@ -5,7 +5,7 @@ ghost use Rattle.tesla_clock.specs.Safe.{has_chain};
 ghost use Rattle.tesla_fitting.specs.Config.{chain_row};
 
 use crate::Config;
-use tesla_base::Key;
+use tesla_base::{KEY_BYTES, Key};
 use tesla_commit::ChainRow;
 
 /// The commitment and delay of a chain, or an empty row where the setup has no such chain.
@@ -18,7 +18,7 @@ pub fn chain_row(config: &Config, chain: u8) -> ChainRow
         ChainRow {
             delay: 0,
             index: 0,
-            key: Key([0; 32]),
+            key: Key([0; KEY_BYTES]),
         }
     }
 }

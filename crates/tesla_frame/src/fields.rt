@@ -4,7 +4,7 @@ ghost use Rattle.std.specs.Prelude.{◌≡◌, ◌≤◌, length, option_map, If
 ghost use Rattle.tesla_base.specs.Version.{most_chains, IsTagLength};
 ghost use Rattle.tesla_frame.specs.Reading.{byte_at, byte_within, count_at, tag_length_at, payload_at};
 
-use tesla_base::{Version, take_u16};
+use tesla_base::{MOST_PAYLOAD, Version, take_u16};
 
 /// The first byte.
 #[tactic(auto, unfolding(crate::specs::Reading::byte_at))]
@@ -65,7 +65,7 @@ pub fn payload_of(bytes: &[u8]) -> Option<(&[u8], &[u8])>
         return None;
     };
     let length = length as usize;
-    if 1200 < length || rest.len() < length {
+    if MOST_PAYLOAD < length || rest.len() < length {
         return None;
     }
     Some(rest.split_at(length))

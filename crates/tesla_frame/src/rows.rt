@@ -5,7 +5,7 @@ ghost use Rattle.tesla_frame.specs.Reading.{rows_at, tag_row_at, chains_rise};
 ghost use Rattle.tesla_frame.specs.View.{key_in, optional_key_in, tag_row_in, IsRowAt, AreRowsAt, key_row_in, key_rows_in};
 
 use crate::row::KeyRow;
-use tesla_base::{ChainNo, Key};
+use tesla_base::{ChainNo, KEY_BYTES, Key};
 
 /// How many bytes a row of a disclosure frame has.
 pub const KEY_ROW: usize = 37;
@@ -15,8 +15,8 @@ fn key_of(bytes: &[u8]) -> Key
     requires { 32 ≤ length bytes.now }
     ensures { result ≡ key_in bytes.now }
 {
-    let mut key = [0; 32];
-    key.copy_from_slice(&bytes[..32]);
+    let mut key = [0; KEY_BYTES];
+    key.copy_from_slice(&bytes[..KEY_BYTES]);
     Key(key)
 }
 

@@ -10,10 +10,10 @@ ghost use Rattle.tesla_frame.specs.Written.{Begins, rows_of, first_length, HasLe
 
 use crate::reading::MAGIC;
 use crate::row::KeyRow;
-use tesla_base::{ChainNo, Key, Name, StreamId, Version, WideTag};
+use tesla_base::{ChainNo, Key, MOST_DATAGRAM, Name, StreamId, Version, WideTag};
 
 /// Puts the piece at a place, and gives the place after it.
-fn put(into: &mut [u8; 2048], at: usize, piece: &[u8]) -> usize
+fn put(into: &mut [u8; MOST_DATAGRAM], at: usize, piece: &[u8]) -> usize
     requires { at + length piece.now ≤ 2048 }
     ensures next { result ≡ at + length piece.now }
     ensures bytes { AreBytes piece.now }
@@ -61,7 +61,13 @@ fn keys_head(version: Version, stream: StreamId) -> [u8; 14]
 }
 
 /// Puts the number of rows, and in version 2 the length of their tags.
-fn put_counts(into: &mut [u8; 2048], at: usize, version: Version, count: u8, size: u8) -> usize
+fn put_counts(
+    into: &mut [u8; MOST_DATAGRAM],
+    at: usize,
+    version: Version,
+    count: u8,
+    size: u8,
+) -> usize
     requires { at + 2 ≤ 2048 }
     ensures next { result ≡ at + length (counts_text version count size) }
     ensures few { result ≤ at + 2 }
@@ -74,7 +80,7 @@ fn put_counts(into: &mut [u8; 2048], at: usize, version: Version, count: u8, siz
 }
 
 /// Puts the tag and the key of one chain.
-fn put_tag_row(into: &mut [u8; 2048], at: usize, tag: &WideTag, key: &Option<Key>) -> usize
+fn put_tag_row(into: &mut [u8; MOST_DATAGRAM], at: usize, tag: &WideTag, key: &Option<Key>) -> usize
     requires room { at + 65 ≤ 2048 }
     requires size { tag.now.length ≤ 32 }
     ensures next { result ≡ at + length (tag_row_text (record { tag = tag_bytes tag.now; key = key.now })) }
@@ -94,7 +100,7 @@ fn put_tag_row(into: &mut [u8; 2048], at: usize, tag: &WideTag, key: &Option<Key
 
 /// Puts a row for each tag, with the key at its place.
 fn put_tag_rows(
-    into: &mut [u8; 2048],
+    into: &mut [u8; MOST_DATAGRAM],
     at: usize,
     size: u8,
     tags: &[WideTag],
@@ -140,7 +146,7 @@ pub fn write_data(
     payload: &[u8],
     tags: &[WideTag],
     keys: &[Option<Key>],
-    into: &mut [u8; 2048],
+    into: &mut [u8; MOST_DATAGRAM],
 ) -> usize
     requires version { IsVersion version }
     requires limit { length payload.now ≤ 1200 }
@@ -177,7 +183,7 @@ fn key_head(chain: ChainNo, index: u32) -> [u8; 5]
 }
 
 /// Puts a disclosed key with its chain and its index.
-fn put_key_row(into: &mut [u8; 2048], at: usize, row: &KeyRow) -> usize
+fn put_key_row(into: &mut [u8; MOST_DATAGRAM], at: usize, row: &KeyRow) -> usize
     requires { at + 37 ≤ 2048 }
     ensures next { result ≡ at + length (key_row_text row.now) }
     ensures few { result ≤ at + 37 }
@@ -190,7 +196,7 @@ fn put_key_row(into: &mut [u8; 2048], at: usize, row: &KeyRow) -> usize
 }
 
 /// Puts the rows one after the other.
-fn put_key_rows(into: &mut [u8; 2048], at: usize, rows: &[KeyRow]) -> usize
+fn put_key_rows(into: &mut [u8; MOST_DATAGRAM], at: usize, rows: &[KeyRow]) -> usize
     requires { at + 37 * length rows.now ≤ 2048 }
     ensures next { result ≡ at + length (flat_map key_row_text rows.now) }
     ensures rows { AllByRecursion IsKeyRow rows.now }
@@ -212,7 +218,7 @@ pub fn write_disclosure(
     version: u8,
     stream: StreamId,
     rows: &[KeyRow],
-    into: &mut [u8; 2048],
+    into: &mut [u8; MOST_DATAGRAM],
 ) -> usize
     requires version { IsVersion version }
     requires some { 1 ≤ length rows.now }

@@ -9,13 +9,13 @@ ghost use Rattle.tesla_prf.specs.Keys.{tag_text, tag_under};
 
 use crate::hmac::{Begun, DIGEST};
 use std::sync::ledger::Ledger;
-use tesla_base::{ChainNo, Key, Name, Steps, StreamId, Tag, WideTag};
+use tesla_base::{ChainNo, Key, Name, Steps, StreamId, TAG_BYTES, Tag, WideTag};
 
 /// The bytes that the text of a tag has before the payload.
 const HEADING: usize = 15;
 
 /// The bytes of a tag of version 1.
-const TAG_LENGTH: usize = 16;
+const TAG_LENGTH: usize = TAG_BYTES;
 
 /// What the text of a tag has before the payload: the stream, the chain, the interval and the number, in 8, 1, 4
 /// and 2 bytes, each number with its highest byte first.

@@ -1,4 +1,4 @@
--- Histories grow by events, each with its entry, and the release records grow with them.
+-- Histories grow by events, each with its entry.
 use Rattle.std.proofs.Common.{◌≡◌, ℕ, zero, suc, ◌+◌, ◌≤◌, cond, List, [], ◌∷◌, ◌++◌, take, Some, refl, sym, ap, subst, ◌∙◌, arith, append_assoc}
 use Rattle.std.specs.Prelude.{slice_get}
 use Rattle.std.proofs.lemmas.List.{append-nil}
@@ -7,8 +7,8 @@ use Rattle.std.proofs.lemmas.List.Sums.{sum_by-append}
 use Rattle.tesla_fitting.specs.declared.config.Config.{Config}
 use Rattle.tesla_receiver.specs.declared.history.Entry.{Entry}
 use Rattle.tesla_receiver.specs.History.{Event, event_of, entry_of, IsLegalAfter, IsLegal, arrival_in, arrivals_in, gives, given_in}
-use Rattle.tesla_receiver.specs.Report.{record_in, records_of}
-use Rattle.tesla_receiver.specs.Played.{after_events}
+use Rattle.tesla_receiver.specs.Events.{after_events}
+use Rattle.tesla_receiver.proofs.Standing.{entered_legal}
 
 -- one event more adds its entry
 pub after_one : (cfg : Config) (h : List Entry) (events : List Event) (event : Event) → after_events cfg h (events ++ event ∷ []) ≡ after_events cfg h events ++ entry_of cfg (after_events cfg h events) event ∷ []
@@ -21,14 +21,6 @@ after_grows cfg h [] = ([], sym (append-nil h))
 after_grows cfg h (event ∷ events) =
     let next = after_grows cfg (h ++ entry_of cfg h event ∷ []) events in
     (entry_of cfg h event ∷ next.0, next.1 ∙ append_assoc h (entry_of cfg h event ∷ []) next.0)
-
--- the records of two histories, one after the other
-pub records_both : (releaser : ℕ) (h more : List Entry) → records_of releaser (h ++ more) ≡ records_of releaser h ++ records_of releaser more
-records_both releaser h more = flat_map-append (record_in releaser) h more
-
--- the records with one entry more
-pub records_more : (releaser : ℕ) (h : List Entry) (e : Entry) → records_of releaser (h ++ e ∷ []) ≡ records_of releaser h ++ record_in releaser e
-records_more releaser h e = records_both releaser h (e ∷ []) ∙ ap (λ r. records_of releaser h ++ r) (append-nil (record_in releaser e))
 
 -- the arrivals with one entry more
 pub arrivals_more : (h : List Entry) (e : Entry) → arrivals_in (h ++ e ∷ []) ≡ arrivals_in h ++ arrival_in e
@@ -57,3 +49,8 @@ legal_after_at cfg before (x ∷ h) (suc n) e l at =
 -- each entry of a legal history is the one answer after those before it
 pub legal_at : (cfg : Config) (h : List Entry) (n : ℕ) (e : Entry) → IsLegal cfg h → slice_get h n ≡ Some e → e ≡ entry_of cfg (take n h) (event_of e)
 legal_at cfg h n e l at = legal_after_at cfg [] h n e l at
+
+-- events lead from a legal history to a legal one
+pub legal_after_events : (cfg : Config) (h : List Entry) (events : List Event) → IsLegal cfg h → IsLegal cfg (after_events cfg h events)
+legal_after_events cfg h [] l = l
+legal_after_events cfg h (event ∷ events) l = legal_after_events cfg (h ++ entry_of cfg h event ∷ []) events (entered_legal cfg h event l)

@@ -16,7 +16,7 @@ use Rattle.tesla_walks.specs.declared.release.Release.{Release}
 use Rattle.tesla_receiver.specs.Packets.{released}
 use Rattle.tesla_receiver.specs.History.{Takes, entry_of, arrivals_in, gives, given_in, has_end, payload_of, reply_to, reply_with}
 use Rattle.tesla_state.specs.Releases.{head_of}
-use Rattle.tesla_receiver.specs.Played.{after_events, waiting_in, giving, Finishes}
+use Rattle.tesla_receiver.specs.Events.{after_events, waiting_in, giving, Finishes}
 use Rattle.tesla_receiver.proofs.Events.{arrivals_more}
 use Rattle.tesla_receiver.proofs.Standing.{ended_same, has_end_more, given_same}
 

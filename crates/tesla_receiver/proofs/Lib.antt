@@ -4,7 +4,6 @@ pub mod Grown
 pub mod Verdicts
 pub mod Standing
 pub mod Places
-pub mod Playing
 pub mod Events
 pub mod Fronts
 pub mod Finishing

@@ -1,22 +1,19 @@
--- A released packet's place is that of an arrival, so its record stays when more arrives.
-use Rattle.std.proofs.Common.{◌≡◌, ℕ, ◌+◌, ◌<◌, ◌≤◌, Bool, true, false, cond, List, [], ◌∷◌, ◌++◌, length, length-append, take, flat_map, Option, Some, None, refl, ap, subst, ◌∙◌, arith}
+-- A released packet's place is that of an arrival.
+use Rattle.std.proofs.Common.{◌≡◌, ℕ, ◌+◌, ◌<◌, ◌≤◌, Bool, true, false, cond, List, [], ◌∷◌, ◌++◌, length, length-append, flat_map, Option, Some, None, refl, ap, subst, ◌∙◌, arith}
 use Rattle.std.specs.Prelude.{nat_lt, find}
 use Rattle.std.specs.List.{list_any, list_all, enumerate_from}
-use Rattle.std.proofs.lemmas.Bool.{lt-ltb, ltb-true, and_from, and_parts}
+use Rattle.std.proofs.lemmas.Bool.{lt-ltb, and_from, and_parts}
 use Rattle.std.proofs.lemmas.List.Folds.{list_all-append}
-use Rattle.tesla_base.proofs.Lists.{list_all_both, list_all-take, slice_get-append}
-use Rattle.tesla_capture.specs.Release.{release_text}
+use Rattle.tesla_base.proofs.Lists.{list_all_both}
 use Rattle.tesla_frame.specs.declared.row.KeyRow.{KeyRow}
 use Rattle.tesla_fitting.specs.declared.config.Config.{Config}
 use Rattle.tesla_receiver.specs.declared.history.Arrival.{Arrival}
 use Rattle.tesla_receiver.specs.declared.packet.Packet.{Packet}
 use Rattle.tesla_walks.specs.declared.release.Release.{Release}
 use Rattle.tesla_fitting.specs.Config.{chains}
-use Rattle.tesla_state.specs.Releases.{each_after, has_name, unless_named, head_of}
+use Rattle.tesla_state.specs.Releases.{each_after, has_name, unless_named}
 use Rattle.tesla_receiver.specs.Keys.{new_keys}
 use Rattle.tesla_receiver.specs.Packets.{packet_of, proves, release_on, release_of, batch, candidates, released}
-use Rattle.tesla_receiver.specs.History.{payload_of}
-use Rattle.tesla_receiver.specs.Report.{text_of, texts_of}
 
 -- the packet's place is below n
 abbrev pub is_below : ℕ → Release → Bool
@@ -64,16 +61,3 @@ released_below cfg arrivals =
     let same : length {A = Arrival} [] + length arrivals ≡ length arrivals = omega arith in
     firsts_pass (is_below (length arrivals)) [] (each_after (batch cfg) [] arrivals)
     (subst (λ n. list_all (is_below n) (each_after (batch cfg) [] arrivals) ≡ true) same (candidates_below cfg [] arrivals))
-
-texts_stay_from : (arrivals more : List Arrival) (n : ℕ) (xs : List Release) → list_all (is_below (length arrivals)) xs ≡ true → flat_map (text_of (arrivals ++ more)) (enumerate_from n xs) ≡ flat_map (text_of arrivals) (enumerate_from n xs)
-texts_stay_from arrivals more n [] p = refl
-texts_stay_from arrivals more n (x ∷ xs) p =
-    let same = slice_get-append arrivals more x.place (ltb-true x.place (length arrivals) ((and_parts (is_below (length arrivals) x) (list_all (is_below (length arrivals)) xs) p).0)) in
-    let later = texts_stay_from arrivals more (n + 1) xs ((and_parts (is_below (length arrivals) x) (list_all (is_below (length arrivals)) xs) p).1) in
-    ap (λ (o : Option Arrival). release_text (head_of n x (payload_of o)) (payload_of o) ++ flat_map (text_of (arrivals ++ more)) (enumerate_from (n + 1) xs)) same
-    ∙ ap (λ rs. text_of arrivals (n, x) ++ rs) later
-
--- the records of packets that were released before stay when more arrives
-pub texts_stay : (cfg : Config) (arrivals more : List Arrival) (k : ℕ) → texts_of (arrivals ++ more) (take k (released cfg arrivals)) ≡ texts_of arrivals (take k (released cfg arrivals))
-texts_stay cfg arrivals more k =
-    texts_stay_from arrivals more 0 (take k (released cfg arrivals)) (list_all-take (is_below (length arrivals)) k (released cfg arrivals) (released_below cfg arrivals))

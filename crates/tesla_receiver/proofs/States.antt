@@ -7,7 +7,7 @@ use Rattle.tesla_receiver.specs.declared.history.Entry.{Entry}
 use Rattle.tesla_fitting.specs.Config.{chains}
 use Rattle.tesla_receiver.specs.History.{IsLegal, arrivals_in, given_in, held_in, held_of_interval, has_end}
 use Rattle.tesla_receiver.specs.Packets.{released}
-use Rattle.tesla_receiver.specs.Played.{waiting_in}
+use Rattle.tesla_receiver.specs.Events.{waiting_in}
 use Rattle.tesla_receiver.specs.Report.{report_of}
 use Rattle.tesla_state.specs.State.{State}
 use Rattle.tesla_receiver.specs.Stands.{Stands, holdings}

@@ -4,7 +4,7 @@ pub mod Held
 pub mod Answer
 pub mod History
 pub mod Report
-pub mod Played
+pub mod Events
 pub mod Tips
 pub mod Stands
 pub mod Consistent

@@ -3,8 +3,8 @@
 ghost use Rattle.tesla_receiver.specs.Stands.{Stands};
 
 use crate::{Entry, Receiver};
+use tesla_base::Chronicle;
 use tesla_fitting::Config;
-use tesla_turn::Chronicle;
 
 /// The histories of a receiver are those that it stands for; no event changes what it is set up with.
 impl Chronicle for Receiver {

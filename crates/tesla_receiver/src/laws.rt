@@ -1,7 +1,6 @@
 //! What is so of every history, as contracts of functions that do nothing.
 
-ghost use Rattle.std.specs.Prelude.{◌≡◌, ◌<◌, ◌≤◌, ◌↔◌, ◌++◌, ◌∷◌, [], ℕ, Bool, List, Some, true, false, take, slice_get};
-ghost use Rattle.tesla_capture.specs.Capture.{Record};
+ghost use Rattle.std.specs.Prelude.{◌≡◌, ◌<◌, ◌≤◌, ◌↔◌, ◌++◌, ◌∷◌, [], ℕ, List, Some, true, false, take, slice_get};
 ghost use Rattle.tesla_frame.specs.declared.row.KeyRow.{KeyRow};
 ghost use Rattle.tesla_keys.specs.Offers.{offer_of, IsGood};
 ghost use Rattle.tesla_fitting.specs.declared.config.Config.{Config};
@@ -16,27 +15,17 @@ ghost use Rattle.tesla_receiver.specs.Refusals.{ChangesCountsAlone};
 ghost use Rattle.tesla_fitting.specs.Rows.{leads_to};
 ghost use Rattle.tesla_receiver.specs.Tips.{tip_of};
 ghost use Rattle.tesla_receiver.specs.Packets.{released};
-ghost use Rattle.tesla_receiver.specs.Report.{records_of, released_text};
-ghost use Rattle.tesla_receiver.specs.Played.{after_events, Finishes, played};
+ghost use Rattle.tesla_receiver.specs.Events.{after_events, Finishes};
 
-/// The history that a capture plays: its answers are the ones that a receiver gives, and with its
-/// end it writes the record of each released packet, in order, and of no other.
-pub fn played_history()
-    // Each entry has the one answer after those before it.
-    ensures legal { (cfg : Config) (records : List Record) (whole : Bool) → IsLegal cfg (played cfg records whole) }
-    // A whole capture's takes write all that is released of its arrivals.
-    ensures all { (cfg : Config) (records : List Record) → records_of 0 (played cfg records true) ≡ released_text cfg (arrivals_in (played cfg records true)) }
-{}
-
-/// How a history grows by events, and the release records with it.
+/// How a history grows by events.
 pub fn events()
     // One event more adds its entry.
     ensures one { (cfg : Config) (h : List Entry) (es : List Event) (e : Event) →
         after_events cfg h (es ++ e ∷ []) ≡ after_events cfg h es ++ entry_of cfg (after_events cfg h es) e ∷ [] }
     // What was before the events stays.
     ensures front { (cfg : Config) (h : List Entry) (es : List Event) → (more : List Entry) × (after_events cfg h es ≡ h ++ more) }
-    // The records of two histories, one after the other.
-    ensures both { (releaser : ℕ) (h more : List Entry) → records_of releaser (h ++ more) ≡ records_of releaser h ++ records_of releaser more }
+    // Events lead from a legal history to a legal one.
+    ensures legal { (cfg : Config) (h : List Entry) (es : List Event) → IsLegal cfg h → IsLegal cfg (after_events cfg h es) }
 {}
 
 /// What a history is finished with, where there is one ingest: its end, a take that gives for each

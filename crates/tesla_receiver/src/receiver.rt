@@ -8,7 +8,7 @@ ghost use Rattle.tesla_receiver.specs.declared.history.Entry.TheVariants.{Arrive
 ghost use Rattle.tesla_base.specs.declared.names.ChainNo.{ChainNo};
 ghost use Rattle.tesla_receiver.specs.Costs.{most_evaluations, most_offers};
 ghost use Rattle.tesla_receiver.specs.History.{Arrives, Takes, Ends, arrivals_in, entry_of, has_end, reply_to, held_in};
-ghost use Rattle.tesla_receiver.specs.Played.{waiting_in};
+ghost use Rattle.tesla_receiver.specs.Events.{waiting_in};
 ghost use Rattle.tesla_state.specs.Replies.{reply_shown, KeepsBehind};
 ghost use Rattle.tesla_receiver.specs.Report.{report_of};
 ghost use Rattle.tesla_receiver.specs.Stands.{Stands};
@@ -16,7 +16,7 @@ ghost use Rattle.tesla_receiver.specs.Stands.{Stands};
 use std::alloc::Global;
 use std::marker::Model;
 use std::sync::ledger::Ledger;
-use tesla_base::{NoMemory, Steps};
+use tesla_base::{MOST_PAYLOAD, NoMemory, Steps};
 use tesla_commit::Setup;
 use tesla_fitting::Verdict;
 use tesla_frame::{FrameView, read_frame};
@@ -118,7 +118,7 @@ impl Receiver {
 
     /// Gives the next released packet, whose payload is then at the front of the buffer, or says whether
     /// all ingests have ended. The rest of the buffer stays as it was. It takes no memory.
-    pub fn take(&mut self, releaser: u8, into: &mut [u8; 1200]) -> Take
+    pub fn take(&mut self, releaser: u8, into: &mut [u8; MOST_PAYLOAD]) -> Take
         requires { self.old.calls + 1 < 2 ^ 64 }
         ensures answer { (h : List Entry) → Stands self.old h → reply_shown result into.new ≡ reply_to self.old.config h }
         ensures stands { (h : List Entry) → Stands self.old h → Stands self.new (h ++ entry_of self.old.config h (Takes releaser) ∷ []) }

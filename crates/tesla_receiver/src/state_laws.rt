@@ -11,7 +11,7 @@ ghost use Rattle.tesla_receiver.specs.Consistent.{IsConsistent};
 ghost use Rattle.tesla_receiver.specs.Costs.{most_evaluations, most_offers};
 ghost use Rattle.tesla_state.specs.Costs.{most_by, offers_by};
 ghost use Rattle.tesla_receiver.specs.History.{Arrives, Takes, Ends, entry_of, reply_to, IsLegal, arrivals_in, given_in, held_in, held_of_interval};
-ghost use Rattle.tesla_receiver.specs.Played.{waiting_in};
+ghost use Rattle.tesla_receiver.specs.Events.{waiting_in};
 ghost use Rattle.tesla_state.specs.State.{State};
 ghost use Rattle.tesla_receiver.specs.Stands.{Stands};
 ghost use Rattle.tesla_state.specs.Steps.{in_interval, opened, judged, after_arrival, reply_by, after_take, after_end};

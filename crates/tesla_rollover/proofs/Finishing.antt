@@ -14,7 +14,7 @@ use Rattle.tesla_commit.specs.Parts.{Parts}
 use Rattle.tesla_fitting.specs.declared.config.Config.{Config}
 use Rattle.tesla_receiver.specs.History.{Ends, Takes, arrival_in, arrivals_in, ends, given_in, gives, has_end, payload_of, reply_to, reply_with}
 use Rattle.tesla_receiver.specs.Packets.{candidates, released}
-use Rattle.tesla_receiver.specs.Played.{waiting_in}
+use Rattle.tesla_receiver.specs.Events.{waiting_in}
 use Rattle.tesla_receiver.specs.declared.history.Arrival.{Arrival}
 use Rattle.tesla_receiver.specs.declared.history.Entry.{Entry}
 use Rattle.tesla_receiver.specs.declared.history.Entry.TheVariants.{Taken, Ended}
@@ -26,7 +26,7 @@ use Rattle.tesla_walks.specs.declared.release.Release.{Release}
 use Rattle.tesla_rollover.specs.Epochs.{IsRollLegal, answers_in, next_of, payload_given, reply_at, roll_entry_of, up_to_given}
 use Rattle.tesla_rollover.specs.History.{RollEntry, RollEnded, RollTaken, config_at, config_with, configs_in, ends_before, entries_on, epoch_count, has_roll_end, history_at, opens, roll_ends, setup_given, setups_opened, taken_on}
 use Rattle.tesla_rollover.specs.Laws.{RollFinishes, roll_giving}
-use Rattle.tesla_rollover.specs.Played.{roll_after_events, roll_finished, roll_waiting_in, waiting_at}
+use Rattle.tesla_rollover.specs.Events.{roll_after_events, roll_finished, roll_waiting_in, waiting_at}
 use Rattle.tesla_rollover.specs.Replies.{IsEmpty, IsOver, is_over}
 use Rattle.tesla_rollover.specs.declared.answers.Next.{Next}
 use Rattle.tesla_rollover.proofs.Entries.{at_more, count_same, setups_more}

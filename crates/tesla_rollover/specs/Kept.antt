@@ -5,7 +5,7 @@ use Rattle.tesla_base.specs.declared.release.Head.{Head}
 use Rattle.tesla_commit.specs.Parts.{Parts}
 use Rattle.tesla_fitting.specs.declared.config.Config.{Config}
 use Rattle.tesla_receiver.specs.History.{has_end, reply_to}
-use Rattle.tesla_receiver.specs.Played.{waiting_in}
+use Rattle.tesla_receiver.specs.Events.{waiting_in}
 use Rattle.tesla_receiver.specs.Stands.{Stands}
 use Rattle.tesla_receiver.specs.declared.history.Entry.{Entry}
 use Rattle.tesla_receiver.specs.declared.history.Entry.TheVariants.{Taken, Ended}

@@ -13,7 +13,7 @@ use Rattle.tesla_walks.specs.declared.release.Release.{Release}
 use Rattle.tesla_rollover.specs.Epochs.{IsRollLegal}
 use Rattle.tesla_rollover.specs.Handover.{setup_in}
 use Rattle.tesla_rollover.specs.History.{RollEntry, RollEnded, RollTaken, config_at, epoch_count, history_at}
-use Rattle.tesla_rollover.specs.Played.{roll_finished, roll_waiting_in}
+use Rattle.tesla_rollover.specs.Events.{roll_finished, roll_waiting_in}
 use Rattle.tesla_rollover.specs.Replies.{IsOver, reply_in}
 use Rattle.tesla_rollover.specs.declared.answers.Next.{Next}
 

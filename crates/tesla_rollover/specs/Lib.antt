@@ -4,5 +4,5 @@ pub mod Epochs
 pub mod Replies
 pub mod Stands
 pub mod Kept
-pub mod Played
+pub mod Events
 pub mod Laws

@@ -8,7 +8,7 @@ ghost use Rattle.tesla_rollover.specs.Kept.{AskedKeepsBehind, IsCalled, asked_fr
 ghost use Rattle.tesla_rollover.specs.Stands.{StandAll};
 
 use crate::epoch::Epoch;
-use tesla_base::Head;
+use tesla_base::{Head, MOST_PAYLOAD};
 use tesla_receiver::Take;
 
 /// What epochs that were asked for a packet came to.
@@ -23,7 +23,7 @@ pub enum Asked {
 }
 
 /// Asks epochs in order, of which the first has that number, one take each, until one gives a packet. It takes no memory.
-pub fn ask(epochs: &mut [Epoch], number: u8, releaser: u8, into: &mut [u8; 1200]) -> Asked
+pub fn ask(epochs: &mut [Epoch], number: u8, releaser: u8, into: &mut [u8; MOST_PAYLOAD]) -> Asked
     requires few { number + length epochs.old ≤ 16 }
     requires calls { (most : ℕ) × (most + 1 < 2 ^ 64) × AllByRecursion (IsCalled most) epochs.old }
     ensures answer { (hs : List (List Entry)) → StandAll (receivers_of epochs.old) hs →

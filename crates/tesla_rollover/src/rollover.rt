@@ -5,7 +5,7 @@ ghost use Rattle.tesla_receiver.specs.Costs.{most_evaluations};
 ghost use Rattle.tesla_receiver.specs.History.{Arrives, Ends, Takes, arrivals_in};
 ghost use Rattle.tesla_rollover.specs.Epochs.{roll_entry_of};
 ghost use Rattle.tesla_rollover.specs.History.{RollArrived, RollEntry, config_at, epoch_count, history_at, roll_given_in};
-ghost use Rattle.tesla_rollover.specs.Played.{roll_waiting_in};
+ghost use Rattle.tesla_rollover.specs.Events.{roll_waiting_in};
 ghost use Rattle.tesla_rollover.specs.Replies.{RollKeepsBehind, has_memory, reply_in, roll_shown};
 ghost use Rattle.tesla_rollover.specs.Stands.{RollStands};
 
@@ -17,7 +17,7 @@ use crate::{RollTake, RollVerdict};
 use std::alloc::Global;
 use std::marker::Model;
 use std::sync::ledger::Ledger;
-use tesla_base::{NoMemory, Steps};
+use tesla_base::{MOST_PAYLOAD, NoMemory, Steps};
 use tesla_commit::Setup;
 use tesla_fitting::Config;
 use tesla_frame::read_frame;
@@ -118,7 +118,7 @@ impl Rollover {
     /// the front of the buffer, whose rest stays as it was. Where it hands over to a stream of its own, the next epoch is
     /// opened; so only a packet that was released and given can open one. Memory is taken for that alone, and where it is
     /// wanting the packet is given all the same.
-    pub fn take(&mut self, alloc: Global, releaser: u8, into: &mut [u8; 1200]) -> RollTake
+    pub fn take(&mut self, alloc: Global, releaser: u8, into: &mut [u8; MOST_PAYLOAD]) -> RollTake
         requires { self.old.calls < 2 ^ 56 }
         ensures answer { (h : List RollEntry) → RollStands self.old h → roll_shown result into.new ≡ reply_in (roll_entry_of self.old.config h (has_memory result) (Takes releaser)) }
         ensures stands { (h : List RollEntry) → RollStands self.old h → RollStands self.new (h ++ roll_entry_of self.old.config h (has_memory result) (Takes releaser) ∷ []) }

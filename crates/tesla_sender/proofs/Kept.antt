@@ -9,7 +9,7 @@ use Rattle.tesla_base.specs.declared.names.Key.{Key}
 use Rattle.tesla_prf.specs.Keys.{mac_of}
 use Rattle.tesla_sender.specs.Made.{key_of}
 use Rattle.tesla_sender.specs.Chains.{keys_after, keys_to, HasKept, IsUsed}
-use Rattle.tesla_traversal.specs.Traversal.{Traversing, IsOpened, HasComeTo, HasGiven, next_given}
+use Rattle.tesla_chain.specs.Traversal.{Traversing, IsOpened, HasComeTo, HasGiven, next_given}
 
 -- ---- lists
 

@@ -12,7 +12,7 @@ use Rattle.tesla_sender.specs.Cost.{steps_along}
 use Rattle.tesla_sender.specs.Made.{Chain, key_of, row_of}
 use Rattle.tesla_sender.specs.declared.refusal.SenderRefusal.{SenderRefusal}
 use Rattle.tesla_sender.specs.declared.refusal.SenderRefusal.TheVariants.{WrongSeed, NoMemory}
-use Rattle.tesla_traversal.specs.Traversal.{Traversing}
+use Rattle.tesla_chain.specs.Traversal.{Traversing}
 
 -- how far a chain has come: its keys of index 1 to `reached` were made, the MAC key of interval `tagging` is
 -- prepared, none where that is 0, the other keys still take at most `left` steps, and its tables, the traversal's

@@ -162,3 +162,18 @@ disclosed stream (Err refusal) = Err refusal
 unfoldable pub made_disclosure : Stream → List Call → ℕ → Result Frame DiscloseRefusal
 made_disclosure stream log reading =
     disclosed stream (disclosed_after stream.setup.times (latest_of stream.setup.times log) (any_due (interval_at stream.setup.times reading) (chains_of stream)) reading)
+
+-- ---- calls
+
+abbrev pub reading_of : Call → ℕ
+reading_of (Message reading payload) = reading
+reading_of (Disclose reading) = reading
+
+abbrev pub frame_in : {E : Type 0} → Result Frame E → Option Frame
+frame_in (Ok frame) = Some frame
+frame_in (Err refusal) = None
+
+-- the frame that a call makes after the accepted calls before it
+abbrev pub frame_made : Stream → List Call → Call → Option Frame
+frame_made stream log (Message reading payload) = frame_in (made_message stream log reading payload)
+frame_made stream log (Disclose reading) = frame_in (made_disclosure stream log reading)

@@ -11,11 +11,10 @@ use std::alloc::Global;
 use std::marker::Model;
 use std::sync::ledger::Ledger;
 use tesla_base::{ChainNo, Key, Name, Steps, WideTag};
-use tesla_chain::key_at;
+use tesla_chain::{Traversal, key_at};
 use tesla_commit::{ChainRow, Setup};
 use tesla_frame::KeyRow;
 use tesla_prf::{PreparedKey, mac_key};
-use tesla_traversal::Traversal;
 
 /// A key chain as far as it was used: the traversal that gives its keys in order, the last keys that it gave, and the
 /// MAC key of the last interval with a message. With the key of the interval after the present one, the last keys still

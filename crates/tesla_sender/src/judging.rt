@@ -4,9 +4,8 @@ ghost use Rattle.std.specs.Prelude.{◌≡◌, ◌≤◌};
 ghost use Rattle.tesla_sender.specs.Made.{disclosed_after, interval_at, name_after};
 ghost use Rattle.tesla_sender.specs.Stands.{number_at};
 
-use crate::limits::MOST_PAYLOAD;
 use crate::{DiscloseRefusal, SendRefusal};
-use tesla_base::Name;
+use tesla_base::{MOST_PAYLOAD, Name};
 use tesla_clock::Schedule;
 
 /// The interval of a reading, 0 before the start.

@@ -12,7 +12,6 @@ mod rows;
 mod sender;
 mod writing;
 
-pub use limits::FRAME_ROOM;
 pub use namer::Namer;
 pub use refusal::{DiscloseRefusal, SendRefusal, SenderRefusal};
 pub use sender::Sender;

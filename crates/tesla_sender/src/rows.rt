@@ -12,6 +12,15 @@ use tesla_base::{Key, Name, Steps, WideTag};
 use tesla_commit::Setup;
 use tesla_frame::KeyRow;
 
+/// A message, and the name that it is sent under.
+#[derive(Clone, Copy, Debug)]
+pub struct Message<'a> {
+    /// The name.
+    pub name: Name,
+    /// The bytes of the message.
+    pub payload: &'a [u8],
+}
+
 /// Makes the MAC key of each chain of an interval, where it isn't there: at most one counted step a chain, and one key
 /// a chain is prepared beside it.
 pub fn prepare_all<L: Ledger>(chains: &mut Vec<SendingChain>, interval: u32, steps: &mut Steps<L>)
@@ -46,23 +55,22 @@ pub fn advance_all<L: Ledger>(chains: &mut Vec<SendingChain>, interval: u32, ste
 pub fn put_tags<L: Ledger>(
     chains: &[SendingChain],
     setup: &Setup,
-    name: Name,
-    payload: &[u8],
+    message: &Message<'_>,
     at: usize,
     tags: &mut [WideTag],
     steps: &mut Steps<L>,
 )
     requires room { at + length chains.now ≤ length tags.old }
-    requires some { 1 ≤ name.interval }
-    requires prepared { All (IsPrepared name.interval) chains.now }
-    ensures tags { take (at + length chains.now) tags.new ≡ take at tags.old ++ map (tag_made setup.now name payload.now) (map chain_in chains.now) }
-    ensures lengths { AllByRecursion (HasLength setup.now.tag_length) (map (tag_made setup.now name payload.now) (map chain_in chains.now)) }
+    requires some { 1 ≤ message.now.name.interval }
+    requires prepared { All (IsPrepared message.now.name.interval) chains.now }
+    ensures tags { take (at + length chains.now) tags.new ≡ take at tags.old ++ map (tag_made setup.now message.now.name message.now.payload.now) (map chain_in chains.now) }
+    ensures lengths { AllByRecursion (HasLength setup.now.tag_length) (map (tag_made setup.now message.now.name message.now.payload.now) (map chain_in chains.now)) }
     ensures cost { steps.new ≡ steps.old + length chains.now }
 {
     match chains {
         [chain, chains @ ..] => {
-            tags[at] = chain.tag(setup, name, payload, steps);
-            put_tags(chains, setup, name, payload, at + 1, tags, steps);
+            tags[at] = chain.tag(setup, message.name, message.payload, steps);
+            put_tags(chains, setup, message, at + 1, tags, steps);
         }
         [] => {}
     }

@@ -10,7 +10,6 @@ ghost use Rattle.tesla_sender.specs.Stands.{Answers, IsWritten, Spells, Stands, 
 
 use crate::chain::SendingChain;
 use crate::judging::{interval_at, judge_disclosure, judge_message};
-use crate::limits::FRAME_ROOM;
 use crate::opening::open_chains;
 use crate::rows::{advance_all, any_due, prepare_all, tells_all, tells_newer};
 use crate::writing::{write_due, write_message};
@@ -19,7 +18,7 @@ use std::alloc::Global;
 use std::fmt;
 use std::marker::Model;
 use std::sync::ledger::Ledger;
-use tesla_base::{Name, Steps};
+use tesla_base::{MOST_DATAGRAM, Name, Steps};
 use tesla_clock::Schedule;
 use tesla_commit::Setup;
 use tesla_seeds::Seeds;
@@ -165,7 +164,7 @@ impl Sender {
         &mut self,
         name: Name,
         payload: &[u8],
-        into: &mut [u8; FRAME_ROOM],
+        into: &mut [u8; MOST_DATAGRAM],
         steps: &mut Steps<L>,
     ) -> usize
         requires some { 1 ≤ name.interval }
@@ -203,7 +202,7 @@ impl Sender {
         &mut self,
         reading: u64,
         payload: &[u8],
-        into: &mut [u8; FRAME_ROOM],
+        into: &mut [u8; MOST_DATAGRAM],
         steps: &mut Steps<L>,
     ) -> Result<usize, SendRefusal>
         ensures told { Answers result (told_message self.old reading payload.now) into.old into.new }
@@ -235,7 +234,7 @@ impl Sender {
         &mut self,
         reading: u64,
         payload: &[u8],
-        into: &mut [u8; FRAME_ROOM],
+        into: &mut [u8; MOST_DATAGRAM],
         steps: &mut Steps<L>,
     ) -> Result<usize, SendRefusal>
         ensures told { Answers result (told_message self.old reading payload.now) into.old into.new }
@@ -257,7 +256,7 @@ impl Sender {
     fn disclose_in<L: Ledger>(
         &mut self,
         interval: u64,
-        into: &mut [u8; FRAME_ROOM],
+        into: &mut [u8; MOST_DATAGRAM],
         steps: &mut Steps<L>,
     ) -> usize
         requires later { self.old.latest ≤ interval }
@@ -283,7 +282,7 @@ impl Sender {
     fn answer_disclosure<L: Ledger>(
         &mut self,
         reading: u64,
-        into: &mut [u8; FRAME_ROOM],
+        into: &mut [u8; MOST_DATAGRAM],
         steps: &mut Steps<L>,
     ) -> Result<usize, DiscloseRefusal>
         ensures told { Answers result (told_disclosure self.old reading) into.old into.new }
@@ -312,7 +311,7 @@ impl Sender {
     pub fn disclose<L: Ledger>(
         &mut self,
         reading: u64,
-        into: &mut [u8; FRAME_ROOM],
+        into: &mut [u8; MOST_DATAGRAM],
         steps: &mut Steps<L>,
     ) -> Result<usize, DiscloseRefusal>
         ensures told { Answers result (told_disclosure self.old reading) into.old into.new }

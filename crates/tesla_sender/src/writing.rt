@@ -7,10 +7,10 @@ ghost use Rattle.tesla_sender.specs.Chains.{chain_in, AreNumbered, HasMade, IsPr
 ghost use Rattle.tesla_sender.specs.Stands.{IsWritten};
 
 use crate::chain::SendingChain;
-use crate::limits::{FRAME_ROOM, MOST_CHAINS};
-use crate::rows::{put_due, put_keys, put_tags};
+use crate::limits::MOST_CHAINS;
+use crate::rows::{Message, put_due, put_keys, put_tags};
 use std::sync::ledger::Ledger;
-use tesla_base::{ChainNo, Key, Name, Steps, WideTag};
+use tesla_base::{ChainNo, KEY_BYTES, Key, MOST_DATAGRAM, MOST_TAG_BYTES, Name, Steps, WideTag};
 use tesla_commit::Setup;
 use tesla_frame::{KeyRow, write_data, write_disclosure};
 
@@ -21,7 +21,7 @@ pub fn write_message<L: Ledger>(
     setup: &Setup,
     name: Name,
     payload: &[u8],
-    into: &mut [u8; FRAME_ROOM],
+    into: &mut [u8; MOST_DATAGRAM],
     steps: &mut Steps<L>,
 ) -> usize
     requires same { length chains.now ≡ length setup.now.rows }
@@ -33,12 +33,13 @@ pub fn write_message<L: Ledger>(
 {
     let count = usize::from(setup.count());
     let none = WideTag {
-        bytes: [0; 32],
+        bytes: [0; MOST_TAG_BYTES],
         length: 0,
     };
     let mut tags = [none; MOST_CHAINS];
     let mut keys = [None; MOST_CHAINS];
-    put_tags(chains, setup, name, payload, 0, &mut tags, steps);
+    let message = Message { name, payload };
+    put_tags(chains, setup, &message, 0, &mut tags, steps);
     put_keys(chains, name.interval, 0, &mut keys);
     write_data(
         setup.version(),
@@ -56,7 +57,7 @@ pub fn write_due(
     chains: &[SendingChain],
     setup: &Setup,
     interval: u64,
-    into: &mut [u8; FRAME_ROOM],
+    into: &mut [u8; MOST_DATAGRAM],
 ) -> usize
     requires same { length chains.now ≡ length setup.now.rows }
     requires numbered { AreNumbered 0 (map chain_in chains.now) }
@@ -67,7 +68,7 @@ pub fn write_due(
     let none = KeyRow {
         chain: ChainNo(0),
         index: 0,
-        key: Key([0; 32]),
+        key: Key([0; KEY_BYTES]),
     };
     let _count = setup.count();
     let mut rows = [none; MOST_CHAINS];

@@ -1,5 +1,5 @@
 -- An arrival, by the state of a receiver.
-use Rattle.std.proofs.Common.{◌≡◌, ℕ, suc, zero, Bool, true, false, cond, ◌||◌, List, [], ◌∷◌, ◌++◌, length, map, flat_map, take, drop, Option, Some, None, refl, sym, ap, ◌∙◌, arith, ◌==◌}
+use Rattle.std.proofs.Common.{◌≡◌, ℕ, suc, zero, Bool, true, false, cond, ◌||◌, List, [], ◌∷◌, ◌++◌, length, map, take, drop, Option, Some, None, refl, sym, subst, ap, ◌∙◌, arith, ◌==◌}
 use Rattle.std.specs.Prelude.{not, find, option_map, count_by, nat_lt}
 use Rattle.std.specs.List.{list_any, filter, enumerate_from}
 use Rattle.std.proofs.lemmas.Bool.{or_parts, true≢false, eqb-true}
@@ -17,10 +17,11 @@ use Rattle.tesla_fitting.specs.declared.verdict.Verdict.TheVariants.{Malformed, 
 use Rattle.tesla_fitting.specs.Fitting.{stream_of, version_in, is_misfit, is_future, is_early}
 use Rattle.tesla_fitting.specs.Rows.{keys_of}
 use Rattle.tesla_state.specs.Judged.{verdict_by}
-use Rattle.tesla_state.specs.Kept.{state_of}
+use Rattle.tesla_state.specs.Kept.{AreTaken, state_of}
 use Rattle.tesla_state.specs.State.{State}
-use Rattle.tesla_state.specs.Steps.{judged, judged_frame, entered_frame, refused, refused_of, after_arrival, bound_at, is_named_so, in_interval, judged_packet, own, with_keys, batch_of, released_of, kept_after}
-use Rattle.tesla_walks.specs.Tips.{fails, tips_after}
+use Rattle.tesla_state.specs.Steps.{judged, judged_frame, entered_frame, refused, refused_of, after_arrival, bound_at, is_named_so, in_interval, judged_packet, own, with_keys}
+use Rattle.tesla_walks.specs.Tips.{fails}
+use Rattle.tesla_walks.specs.Walking.{Walking, rows_of}
 use Rattle.tesla_state.specs.Stored.{Placed, Stored, holding_at, is_named, is_of}
 use Rattle.tesla_state.proofs.Marked.{any_mapped}
 
@@ -51,11 +52,13 @@ own_none order (Kept chains) f h = absurd (h chains refl)
 own_none order Keys f h = refl
 
 -- the state once keys were taken
-pub keys_are : (cfg : Config) (tips later : List Tip) (old new : Stored) (ended : List Bool) (counts : Report) (calls reserved : ℕ) (rows : List KeyRow) → later ≡ tips_after tips rows → map holding_at new.held ≡ flat_map (kept_after cfg (tips_after tips rows) (batch_of cfg tips rows (map holding_at old.held)) (released_of (map holding_at old.held) (batch_of cfg tips rows (map holding_at old.held)))) (map holding_at old.held) → new.waiting ≡ old.waiting ++ released_of (map holding_at old.held) (batch_of cfg tips rows (map holding_at old.held)) → state_of cfg later new ended counts calls reserved ≡ with_keys (state_of cfg tips old ended counts calls reserved) rows
-keys_are cfg tips later old new ended counts calls reserved rows a b c =
-    ap (λ (ts : List Tip). record { config = cfg; tips = ts; held = map holding_at new.held; waiting = new.waiting; ended = ended; counts = counts; calls = calls; reserved = reserved }) a
-    ∙ ap (λ hs. record { config = cfg; tips = tips_after tips rows; held = hs; waiting = new.waiting; ended = ended; counts = counts; calls = calls; reserved = reserved }) b
-    ∙ ap (λ ws. record { config = cfg; tips = tips_after tips rows; held = flat_map (kept_after cfg (tips_after tips rows) (batch_of cfg tips rows (map holding_at old.held)) (released_of (map holding_at old.held) (batch_of cfg tips rows (map holding_at old.held)))) (map holding_at old.held); waiting = ws; ended = ended; counts = counts; calls = calls; reserved = reserved }) c
+pub keys_are : {cfg : Config} {tips later : List Tip} {new : List KeyRow} {old now : Stored} → AreTaken cfg tips later new old now → (ended : List Bool) (counts : Report) (calls reserved : ℕ) → state_of cfg later now ended counts calls reserved ≡ with_keys (state_of cfg tips old ended counts calls reserved) new
+keys_are {cfg} {tips} {later} {new} {old} {now} t ended counts calls reserved =
+    let s : State = state_of cfg tips old ended counts calls reserved in
+    let w : State = with_keys s new in
+    ap (λ (ts : List Tip). record s { tips = ts; held = map holding_at now.held; waiting = now.waiting }) t.newest
+    ∙ ap (λ hs. record w { held = hs; waiting = now.waiting }) t.held
+    ∙ ap (λ ws. record w { waiting = ws }) t.waiting
 
 -- ---- the whole arrival
 
@@ -97,8 +100,19 @@ take_front (suc n) [] zs h = absurd (omega (arith, h))
 take_front (suc n) (y ∷ ys) zs h = ap (λ rs. y ∷ rs) (take_front n ys zs (omega (arith, h)))
 
 -- the newest keys are written back whole
-pub tips_back : (n : ℕ) (now xs ys : List Tip) → length now ≡ n → length ys ≡ length now → take n (ys ++ drop (length ys) xs) ≡ ys
+tips_back : (n : ℕ) (now xs ys : List Tip) → length now ≡ n → length ys ≡ length now → take n (ys ++ drop (length ys) xs) ≡ ys
 tips_back n now xs ys long same = take_front n ys (drop (length ys) xs) (same ∙ long)
+
+-- keys that are taken from slices of the tables are taken from the tables
+module _ {n : ℕ} {slice tips : List Tip} (later : List Tip) (whole : slice ≡ tips) (long : length slice ≡ n) (same : length later ≡ length slice) where
+  pub taken_back : {cfg : Config} {walking walks : List Walking} {old now : Stored} → walking ≡ walks → AreTaken cfg slice later (rows_of walking) old now → AreTaken cfg tips (take n (later ++ drop (length later) tips)) (rows_of walks) old now
+  taken_back {cfg} {walking} {walks} {old} {now} walked taken =
+      subst (λ (ts : List Tip). AreTaken cfg tips ts (rows_of walks) old now) (sym (tips_back n slice tips later long same))
+      (subst (λ (ts : List Tip). AreTaken cfg ts later (rows_of walks) old now) whole
+      (subst (λ (ws : List Walking). AreTaken cfg slice later (rows_of ws) old now) walked taken))
+
+  pub length_back : length (take n (later ++ drop (length later) tips)) ≡ length tips
+  length_back = ap (λ (ts : List Tip). length ts) (tips_back n slice tips later long same) ∙ same ∙ ap (λ (ts : List Tip). length ts) whole
 
 -- a frame that isn't refused before its keys fits the setup
 pub fits_where : (other misfit : Bool) (x y : Verdict) (o : Option Verdict) → cond other (Some x) (cond misfit (Some y) o) ≡ None → misfit ≡ false

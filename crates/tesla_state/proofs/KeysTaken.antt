@@ -21,6 +21,7 @@ use Rattle.tesla_fitting.specs.Rows.{is_of}
 use Rattle.tesla_walks.specs.Offered.{IsOfChains}
 use Rattle.tesla_walks.specs.Tips.{raised, no_tip, tips_after}
 use Rattle.tesla_walks.specs.Holding.{Holding}
+use Rattle.tesla_state.specs.declared.reach.Reach.{Reach}
 use Rattle.tesla_state.specs.Steps.{is_let_go, is_over, is_passed, marked, kept_after, batch_of, released_of}
 use Rattle.tesla_walks.specs.Proved.{proof_of, proves_on, released_on}
 use Rattle.tesla_state.specs.Stored.{Placed, place_of, holding_at, order_of, after_batch, is_idle, in_span, in_reach, AreNeeded}
@@ -63,20 +64,20 @@ filter_one false true q x h = ap (λ t. map holding_at (cond t (x ∷ []) [])) h
 filter_one false false q x h = ap (λ t. map holding_at (cond t (x ∷ []) [])) h
 
 -- what is known of a packet: one of the batch isn't released, and one of another interval is needed
-abbrev pub is_fit : Config → List Tip → List Release → ℕ → ℕ → List ℕ → List KeyRow → Placed → Bool
-is_fit cfg tips batch low high indices new x = (not (list_any (is_at x.holding.order) batch) || not x.holding.released) && (in_reach low high indices new x || not (is_idle cfg tips x))
+abbrev pub is_fit : Config → List Tip → List Release → Reach → List KeyRow → Placed → Bool
+is_fit cfg tips batch reach new x = (not (list_any (is_at x.holding.order) batch) || not x.holding.released) && (in_reach reach new x || not (is_idle cfg tips x))
 
-one_after : (cfg : Config) (tips : List Tip) (batch now : List Release) (low high : ℕ) (indices : List ℕ) (new : List KeyRow) (x : Placed) → is_fit cfg tips batch low high indices new x ≡ true → map holding_at (filter (λ y. not (in_reach low high indices new y && is_idle cfg tips y)) (after_batch batch now x)) ≡ kept_after cfg tips batch now x.holding
-one_after cfg tips batch now low high indices new x fit =
-    let parts = and_parts (not (list_any (is_at x.holding.order) batch) || not x.holding.released) (in_reach low high indices new x || not (is_idle cfg tips x)) fit in
+one_after : (cfg : Config) (tips : List Tip) (batch now : List Release) (reach : Reach) (new : List KeyRow) (x : Placed) → is_fit cfg tips batch reach new x ≡ true → map holding_at (filter (λ y. not (in_reach reach new y && is_idle cfg tips y)) (after_batch batch now x)) ≡ kept_after cfg tips batch now x.holding
+one_after cfg tips batch now reach new x fit =
+    let parts = and_parts (not (list_any (is_at x.holding.order) batch) || not x.holding.released) (in_reach reach new x || not (is_idle cfg tips x)) fit in
     let y : Placed = record x { holding = marked now x.holding } in
     let b : Bool = list_any (is_at x.holding.order) batch in
     let n : Bool = list_any (is_at x.holding.order) now in
     let a : Bool = list_all (is_over tips x.holding) (chains cfg) in
     let p : Bool = list_all (is_passed tips x.holding.name.interval) (chains cfg) in
-    filter_one (b && not n) (in_reach low high indices new x && is_idle cfg tips y) (λ z. not (in_reach low high indices new z && is_idle cfg tips z)) y refl
+    filter_one (b && not n) (in_reach reach new x && is_idle cfg tips y) (λ z. not (in_reach reach new z && is_idle cfg tips z)) y refl
     ∙ ap (λ t. cond t [] (marked now x.holding ∷ []))
-    (sym (let_go_both b n x.holding.released x.holding.taken a p (in_reach low high indices new x) parts.0 parts.1))
+    (sym (let_go_both b n x.holding.released x.holding.taken a p (in_reach reach new x) parts.0 parts.1))
 
 -- ---- all packets
 
@@ -92,12 +93,12 @@ pub map_flat : {A : Type 0} (f : A → List Placed) (xs : List A) → map holdin
 map_flat f [] = refl
 map_flat f (x ∷ xs) = map-append_holdings (f x) (flat_map f xs) ∙ ap (λ ys. map holding_at (f x) ++ ys) (map_flat f xs)
 
-pub held_after : (cfg : Config) (tips : List Tip) (batch now : List Release) (low high : ℕ) (indices : List ℕ) (new : List KeyRow) (held : List Placed) → list_all (is_fit cfg tips batch low high indices new) held ≡ true → map holding_at (filter (λ y. not (in_reach low high indices new y && is_idle cfg tips y)) (flat_map (after_batch batch now) held)) ≡ flat_map (kept_after cfg tips batch now) (map holding_at held)
-held_after cfg tips batch now low high indices new held fit =
-    ap (map holding_at) (filter_flat (λ y. not (in_reach low high indices new y && is_idle cfg tips y)) (after_batch batch now) held)
-    ∙ map_flat (λ x. filter (λ y. not (in_reach low high indices new y && is_idle cfg tips y)) (after_batch batch now x)) held
-    ∙ flat_same_in (λ x. map holding_at (filter (λ y. not (in_reach low high indices new y && is_idle cfg tips y)) (after_batch batch now x))) (λ x. kept_after cfg tips batch now x.holding) (is_fit cfg tips batch low high indices new)
-    (λ x h. one_after cfg tips batch now low high indices new x h) held fit
+pub held_after : (cfg : Config) (tips : List Tip) (batch now : List Release) (reach : Reach) (new : List KeyRow) (held : List Placed) → list_all (is_fit cfg tips batch reach new) held ≡ true → map holding_at (filter (λ y. not (in_reach reach new y && is_idle cfg tips y)) (flat_map (after_batch batch now) held)) ≡ flat_map (kept_after cfg tips batch now) (map holding_at held)
+held_after cfg tips batch now reach new held fit =
+    ap (map holding_at) (filter_flat (λ y. not (in_reach reach new y && is_idle cfg tips y)) (after_batch batch now) held)
+    ∙ map_flat (λ x. filter (λ y. not (in_reach reach new y && is_idle cfg tips y)) (after_batch batch now x)) held
+    ∙ flat_same_in (λ x. map holding_at (filter (λ y. not (in_reach reach new y && is_idle cfg tips y)) (after_batch batch now x))) (λ x. kept_after cfg tips batch now x.holding) (is_fit cfg tips batch reach new)
+    (λ x h. one_after cfg tips batch now reach new x h) held fit
     ∙ sym (flat_map-map (kept_after cfg tips batch now) holding_at held)
 
 -- ---- what is proved wasn't released
@@ -218,28 +219,28 @@ all_and p q (x ∷ xs) a b =
     let v = and_parts (q x) (list_all q xs) b in
     and_from (p x && q x) (list_all (λ y. p y && q y) xs) (and_from (p x) (q x) u.0 v.0) (all_and p q xs u.1 v.1)
 
-module _ (cfg : Config) (tips : List Tip) (new : List KeyRow) (low high : ℕ) (indices : List ℕ) (spans : Spans tips new low high) (are : AreIndices tips indices) (of_chains : All (IsOfChains (length tips)) new) where
-  unreached : (x : Placed) → in_reach low high indices new x ≡ false → is_reached (index_in tips) new x.holding.name.interval ≡ false
+module _ (cfg : Config) (tips : List Tip) (new : List KeyRow) (reach : Reach) (spans : Spans tips new reach.low reach.high) (are : AreIndices tips reach.indices) (of_chains : All (IsOfChains (length tips)) new) where
+  unreached : (x : Placed) → in_reach reach new x ≡ false → is_reached (index_in tips) new x.holding.name.interval ≡ false
   unreached x out =
       ⊎_elim
-      (λ e. outside_unreached tips new low high x.holding.name.interval spans.above spans.below e)
-      (λ e. sym (reached_by tips indices new x.holding.name.interval are of_chains) ∙ e)
-      (and_cases (in_span low high x) (is_reached (index_at indices) new x.holding.name.interval) out)
+      (λ e. outside_unreached tips new reach.low reach.high x.holding.name.interval spans.above spans.below e)
+      (λ e. sym (reached_by tips reach.indices new x.holding.name.interval are of_chains) ∙ e)
+      (and_cases (in_span reach.low reach.high x) (is_reached (index_at reach.indices) new x.holding.name.interval) out)
 
-  fit_one : (x : Placed) → not (is_idle cfg tips x) ≡ true → (in_reach low high indices new x || not (is_idle cfg (tips_after tips new) x)) ≡ true
+  fit_one : (x : Placed) → not (is_idle cfg tips x) ≡ true → (in_reach reach new x || not (is_idle cfg (tips_after tips new) x)) ≡ true
   fit_one x h =
       ⊎_elim
-      (λ e. or_left (in_reach low high indices new x) (not (is_idle cfg (tips_after tips new) x)) e)
-      (λ e. or_right (in_reach low high indices new x) (not (is_idle cfg (tips_after tips new) x)) (ap not (idle_same cfg tips new x (unreached x e)) ∙ h))
-      (cases_Bool (in_reach low high indices new x))
+      (λ e. or_left (in_reach reach new x) (not (is_idle cfg (tips_after tips new) x)) e)
+      (λ e. or_right (in_reach reach new x) (not (is_idle cfg (tips_after tips new) x)) (ap not (idle_same cfg tips new x (unreached x e)) ∙ h))
+      (cases_Bool (in_reach reach new x))
 
   -- what is held once keys were taken
-  pub kept_is : (now : List Release) (held : List Placed) → Distinct (map order_of held) → AreNeeded cfg tips held → map holding_at (filter (λ y. not (in_reach low high indices new y && is_idle cfg (tips_after tips new) y)) (flat_map (after_batch (batch_of cfg tips new (map holding_at held)) now) held)) ≡ flat_map (kept_after cfg (tips_after tips new) (batch_of cfg tips new (map holding_at held)) now) (map holding_at held)
+  pub kept_is : (now : List Release) (held : List Placed) → Distinct (map order_of held) → AreNeeded cfg tips held → map holding_at (filter (λ y. not (in_reach reach new y && is_idle cfg (tips_after tips new) y)) (flat_map (after_batch (batch_of cfg tips new (map holding_at held)) now) held)) ≡ flat_map (kept_after cfg (tips_after tips new) (batch_of cfg tips new (map holding_at held)) now) (map holding_at held)
   kept_is now held d needed =
-      held_after cfg (tips_after tips new) (batch_of cfg tips new (map holding_at held)) now low high indices new held
-      (all_and (unreleased_in (batch_of cfg tips new (map holding_at held))) (λ x. in_reach low high indices new x || not (is_idle cfg (tips_after tips new) x)) held
+      held_after cfg (tips_after tips new) (batch_of cfg tips new (map holding_at held)) now reach new held
+      (all_and (unreleased_in (batch_of cfg tips new (map holding_at held))) (λ x. in_reach reach new x || not (is_idle cfg (tips_after tips new) x)) held
       (all_unreleased cfg tips new held d)
-      (list_all_weaker (λ x. not (is_idle cfg tips x)) (λ x. in_reach low high indices new x || not (is_idle cfg (tips_after tips new) x)) held fit_one needed))
+      (list_all_weaker (λ x. not (is_idle cfg tips x)) (λ x. in_reach reach new x || not (is_idle cfg (tips_after tips new) x)) held fit_one needed))
 
 -- ---- without new keys
 

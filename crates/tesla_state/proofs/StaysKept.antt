@@ -9,6 +9,7 @@ use Rattle.tesla_clock.proofs.Sets.{set_has}
 use Rattle.tesla_clock.specs.Safe.{has_chain, chain_set}
 use Rattle.tesla_clock.specs.Safe as clock
 use Rattle.tesla_frame.specs.Frame.{Frame, Data, Disclosure, DataFrame}
+use Rattle.tesla_frame.specs.declared.row.KeyRow.{KeyRow}
 use Rattle.tesla_keys.specs.Tip.{Tip}
 use Rattle.tesla_fitting.specs.declared.config.Config.{Config}
 use Rattle.tesla_walks.specs.declared.release.Release.{Release}
@@ -18,13 +19,13 @@ use Rattle.tesla_fitting.specs.Config.{chains, chain_row}
 use Rattle.tesla_walks.specs.Proved.{RiseBy}
 use Rattle.tesla_state.specs.Gathering.{order_of}
 use Rattle.tesla_state.specs.Releases.{is_at}
-use Rattle.tesla_state.specs.Kept.{IsBefore}
+use Rattle.tesla_state.specs.Kept.{AreTaken, IsBefore}
 use Rattle.tesla_state.specs.State.{State}
 use Rattle.tesla_walks.specs.Holding.{Holding}
 use Rattle.tesla_fitting.specs.Rows.{tag_in}
-use Rattle.tesla_state.specs.Steps.{is_named_so, in_interval, is_over, is_passed, is_let_go, marked, kept_after, own, one_if, safe_by, judged_packet}
-use Rattle.tesla_walks.specs.Tips.{tip_at}
-use Rattle.tesla_state.specs.Stored.{Placed, holding_at, is_idle, AreNeeded}
+use Rattle.tesla_state.specs.Steps.{batch_of, released_of, is_named_so, in_interval, is_over, is_passed, is_let_go, marked, kept_after, own, one_if, safe_by, judged_packet}
+use Rattle.tesla_walks.specs.Tips.{tip_at, tips_after}
+use Rattle.tesla_state.specs.Stored.{Placed, Stored, holding_at, is_idle, AreNeeded}
 use Rattle.tesla_state.proofs.Gathering.{GivesOwn, gives_rising}
 use Rattle.tesla_state.proofs.Marked.{all_mapped}
 use Rattle.tesla_state.proofs.TakenNext.{own_before}
@@ -167,14 +168,23 @@ needed_shown : (cfg : Config) (tips : List Tip) (held : List Placed) → list_al
 needed_shown cfg tips held = sym (all_mapped (is_needed cfg tips) (λ (x : Placed). not (is_idle cfg tips x)) holding_at (λ x. refl) held)
 
 -- what is kept once keys were taken
-pub keys_rise : (cfg : Config) (tips : List Tip) (batch now : List Release) (n : ℕ) (xs ys : List Holding) → ys ≡ flat_map (kept_after cfg tips batch now) xs → RiseBy order_of xs → RiseBy order_of ys
-keys_rise cfg tips batch now n xs ys e r = subst (RiseBy order_of) (sym e) (gives_rising order_of order_of (kept_after cfg tips batch now) (own_kept cfg tips batch now) xs r)
+module _ {cfg : Config} {tips later : List Tip} {new : List KeyRow} {old now : Stored} (taken : AreTaken cfg tips later new old now) where
+  abbrev batch : List Release
+  batch = batch_of cfg tips new (map holding_at old.held)
 
-pub keys_before : (cfg : Config) (tips : List Tip) (batch now : List Release) (n : ℕ) (xs ys : List Holding) → ys ≡ flat_map (kept_after cfg tips batch now) xs → All (IsBefore n) xs → All (IsBefore n) ys
-keys_before cfg tips batch now n xs ys e b = subst (All (IsBefore n)) (sym e) (own_before (kept_after cfg tips batch now) n (own_kept cfg tips batch now) xs b)
+  abbrev fresh : List Release
+  fresh = released_of (map holding_at old.held) batch
 
-pub keys_needed : (cfg : Config) (tips : List Tip) (batch now : List Release) (xs : List Holding) (held : List Placed) → map holding_at held ≡ flat_map (kept_after cfg tips batch now) xs → AreNeeded cfg tips held
-keys_needed cfg tips batch now xs held e = needed_shown cfg tips held ∙ ap (list_all (is_needed cfg tips)) e ∙ needed_kept cfg tips batch now xs
+  pub keys_rise : RiseBy order_of (map holding_at old.held) → RiseBy order_of (map holding_at now.held)
+  keys_rise r = subst (RiseBy order_of) (sym taken.held) (gives_rising order_of order_of (kept_after cfg (tips_after tips new) batch fresh) (own_kept cfg (tips_after tips new) batch fresh) (map holding_at old.held) r)
+
+  pub keys_before : (n : ℕ) → All (IsBefore n) (map holding_at old.held) → All (IsBefore n) (map holding_at now.held)
+  keys_before n b = subst (All (IsBefore n)) (sym taken.held) (own_before (kept_after cfg (tips_after tips new) batch fresh) n (own_kept cfg (tips_after tips new) batch fresh) (map holding_at old.held) b)
+
+  pub keys_needed : AreNeeded cfg later now.held
+  keys_needed =
+      subst (λ (ts : List Tip). AreNeeded cfg ts now.held) (sym taken.newest)
+      (needed_shown cfg (tips_after tips new) now.held ∙ ap (list_all (is_needed cfg (tips_after tips new))) taken.held ∙ needed_kept cfg (tips_after tips new) batch fresh (map holding_at old.held))
 
 -- one more is needed
 pub needed_more : (s : State) (bound : Option ℕ) (n : ℕ) (v : Verdict) (f : DataFrame) (held more : List Placed) → v ≡ judged_packet s (safe_by s bound f.name.interval) f → AreNeeded s.config s.tips held → map holding_at more ≡ map holding_at held ++ own n v (Data f) → AreNeeded s.config s.tips more

@@ -1,5 +1,6 @@
 -- What a receiver that keeps no arrivals holds, and how it is seen.
-use Rattle.std.specs.Prelude.{◌≡◌, ℕ, ◌+◌, ◌<◌, ◌≤◌, Bool, List, All, length, map}
+use Rattle.std.specs.Prelude.{◌≡◌, ℕ, ◌+◌, ◌<◌, ◌≤◌, ◌++◌, Bool, List, All, flat_map, length, map}
+use Rattle.tesla_frame.specs.declared.row.KeyRow.{KeyRow}
 use Rattle.tesla_keys.specs.Tip.{Tip}
 use Rattle.tesla_fitting.specs.declared.config.Config.{Config}
 use Rattle.tesla_state.specs.declared.report.Report.{Report}
@@ -7,7 +8,10 @@ use Rattle.tesla_walks.specs.Proved.{RiseBy}
 use Rattle.tesla_state.specs.Gathering.{order_of}
 use Rattle.tesla_state.specs.State.{State}
 use Rattle.tesla_walks.specs.Holding.{Holding}
+use Rattle.tesla_state.specs.Steps.{batch_of, kept_after, released_of}
 use Rattle.tesla_state.specs.Stored.{Stored, holding_at, AreNeeded}
+use Rattle.tesla_state.specs.declared.tables.Tables.{Tables}
+use Rattle.tesla_walks.specs.Tips.{tips_after}
 
 -- the parts of a receiver as one state
 abbrev pub state_of : Config → List Tip → Stored → List Bool → Report → ℕ → ℕ → State
@@ -21,6 +25,9 @@ state_of cfg tips store ended counts calls reserved = record {
   calls = calls;
   reserved = reserved;
 }
+
+abbrev pub state_in : Tables → List Bool → Report → ℕ → ℕ → State
+state_in tables = state_of tables.config tables.tips.items tables.store
 
 -- how many entries all tables have room for, by the room of each Vec and by the store
 abbrev pub reserved_in : ℕ → Stored → ℕ → ℕ → ℕ → ℕ
@@ -40,6 +47,17 @@ pub record CountsWithin (calls : ℕ) (r : Report) : Type 0 where
   pub kept : r.kept ≤ calls
   pub keys : r.keys ≤ calls
   pub given : r.given ≤ calls
+
+-- new keys are taken: each is the newest of its chain, what they prove is released, and what is needed no more is gone
+pub record AreTaken (cfg : Config) (tips later : List Tip) (new : List KeyRow) (old now : Stored) : Type 0 where
+  pub newest : later ≡ tips_after tips new
+  pub held : let before = map holding_at old.held in let batch = batch_of cfg tips new before in
+      map holding_at now.held ≡ flat_map (kept_after cfg (tips_after tips new) batch (released_of before batch)) before
+  pub waiting : let before = map holding_at old.held in now.waiting ≡ old.waiting ++ released_of before (batch_of cfg tips new before)
+  pub capacity : now.capacity ≡ old.capacity
+  pub reserved : now.reserved ≡ old.reserved
+  pub chains : now.chains ≡ old.chains
+  pub given : now.given ≡ old.given
 
 -- the packet's number is below
 abbrev pub IsBefore : ℕ → Holding → Type 0

@@ -18,6 +18,7 @@ use Rattle.tesla_state.specs.Releases.{is_at, head_of}
 use Rattle.tesla_walks.specs.ItemShown.{holding_in, IsItem}
 use Rattle.tesla_walks.specs.Holding.{Holding}
 use Rattle.tesla_state.specs.Steps.{is_named_so, is_let_go, is_passed, marked, in_interval}
+use Rattle.tesla_state.specs.declared.reach.Reach.{Reach}
 
 -- a held packet with its place
 pub record Placed : Type 0 where
@@ -184,8 +185,8 @@ abbrev pub in_span : ℕ → ℕ → Placed → Bool
 in_span low high x = nat_lt low x.holding.name.interval && nat_le x.holding.name.interval high
 
 -- its interval is, and new keys are the first of their chains to reach it
-abbrev pub in_reach : ℕ → ℕ → List ℕ → List KeyRow → Placed → Bool
-in_reach low high indices new x = in_span low high x && is_reached (index_at indices) new x.holding.name.interval
+abbrev pub in_reach : Reach → List KeyRow → Placed → Bool
+in_reach reach new x = in_span reach.low reach.high x && is_reached (index_at reach.indices) new x.holding.name.interval
 
 -- a packet after the one of that number was taken
 abbrev pub after_take : Config → List Tip → ℕ → Placed → List Placed

@@ -1,21 +1,22 @@
 //! New keys are taken: what they prove is released, and what is needed no more is let go.
 
-ghost use Rattle.std.specs.Prelude.{◌≡◌, ◌+◌, ◌*◌, ◌++◌, ◌≤◌, All, ℕ, true, length, map, flat_map, vec_capacity};
+ghost use Rattle.std.specs.Prelude.{◌≡◌, ◌+◌, ◌*◌, ◌≤◌, All, ℕ, length, map, vec_capacity};
 ghost use Rattle.tesla_frame.specs.Frame.{ChainsRise};
 ghost use Rattle.tesla_walks.specs.Proved.{RiseBy};
 ghost use Rattle.tesla_state.specs.Gathering.{order_of};
 ghost use Rattle.tesla_walks.specs.Offered.{IsOfChains, AreGood};
-ghost use Rattle.tesla_walks.specs.Tips.{tips_after};
-ghost use Rattle.tesla_state.specs.Steps.{batch_of, released_of, kept_after};
+ghost use Rattle.tesla_state.specs.Kept.{AreTaken};
 ghost use Rattle.tesla_state.specs.Stored.{holding_at, AreNeeded};
 ghost use Rattle.tesla_walks.specs.Walking.{rows_of, IsAbove, left, pairs};
 
 use crate::Store;
+use crate::newest::Newest;
+use crate::reach::reach_of;
 use std::sync::ledger::Ledger;
 use tesla_base::Steps;
 use tesla_fitting::Config;
 use tesla_keys::Verifier;
-use tesla_walks::{Proved, Walk, indices, raise, span};
+use tesla_walks::{Proved, Walk, raise};
 
 /// Takes the keys of walks, which are good: each is the newest of its chain from then on. The held packets that they
 /// prove are released in order of arrival, one of each name, and what is needed no more is let go. Without keys nothing
@@ -38,15 +39,7 @@ pub fn take_keys<L: Ledger>(
     requires good { AreGood tips.old (rows_of walks.old) }
     requires above { (interval : ℕ) → All (IsAbove interval) walks.old }
     requires room { store.old.capacity ≤ vec_capacity batch.old }
-    ensures tips { tips.new ≡ tips_after tips.old (rows_of walks.old) }
-    ensures held { let new = rows_of walks.old in let before = map holding_at store.old.held in let batch = batch_of config.now tips.old new before in
-        map holding_at store.new.held ≡ flat_map (kept_after config.now (tips_after tips.old new) batch (released_of before batch)) before }
-    ensures waiting { let before = map holding_at store.old.held in
-        store.new.waiting ≡ store.old.waiting ++ released_of before (batch_of config.now tips.old (rows_of walks.old) before) }
-    ensures capacity { store.new.capacity ≡ store.old.capacity }
-    ensures reserved { store.new.reserved ≡ store.old.reserved }
-    ensures chains { store.new.chains ≡ store.old.chains }
-    ensures given { store.new.given ≡ store.old.given }
+    ensures taken { AreTaken config.now tips.old tips.new (rows_of walks.old) store.old store.new }
     ensures room { vec_capacity batch.new ≡ vec_capacity batch.old }
     ensures cost { steps.new ≤ steps.old + left tips.old walks.old + 2 * pairs config.now tips.old (rows_of walks.old) (map holding_at store.old.held) }
 {
@@ -54,11 +47,10 @@ pub fn take_keys<L: Ledger>(
         raise(tips, walks);
         return;
     }
-    let (low, high) = span(tips, walks);
-    let before = indices(config, tips);
+    let reach = reach_of(config, tips, walks);
     batch.clear();
-    store.prove_held(config, tips, walks, &before, low, high, batch, steps);
+    store.prove_held(&Newest { config, tips }, walks, &reach, batch, steps);
     raise(tips, walks);
     store.release_all(batch);
-    store.let_go(config, tips, walks, &before, low, high);
+    store.let_go(config, tips, walks, &reach);
 }

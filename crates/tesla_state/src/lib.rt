@@ -8,12 +8,15 @@ mod ended;
 mod holding;
 mod judging;
 mod keys;
+mod newest;
 mod passing;
+mod reach;
 mod releasing;
 mod replies;
 mod report;
 mod state;
 mod store;
+mod tables;
 mod taking;
 mod trying;
 

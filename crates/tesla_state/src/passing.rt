@@ -11,6 +11,7 @@ ghost use Rattle.tesla_state.specs.Stored.{Placed, place_of, stands_at, waits, w
 ghost use Rattle.tesla_walks.specs.Walking.{rows_of};
 
 use crate::Store;
+use crate::reach::Reach;
 use tesla_base::Place;
 use tesla_buffer::Item;
 use tesla_fitting::{Config, has_chain};
@@ -154,29 +155,21 @@ impl Store {
         }
     }
 
-    /// Lets the packets of the intervals above `low`, up to `high`, go that aren't needed any more, where new keys were
-    /// the first of their chains to reach the interval. The others are needed as before.
-    pub fn let_go(
-        &mut self,
-        config: &Config,
-        tips: &[Verifier],
-        walks: &[Walk],
-        indices: &[u32; 8],
-        low: u32,
-        high: u32,
-    )
+    /// Lets the packets go that aren't needed any more, of the intervals that new keys were the first of their chains to
+    /// reach. The others are needed as before.
+    pub fn let_go(&mut self, config: &Config, tips: &[Verifier], walks: &[Walk], reach: &Reach)
         requires tips { length tips.now ≡ length config.now.setup.rows }
         requires chains { All (IsOfChains 8) (rows_of walks.now) }
         requires apart { Distinct (map place_of self.old.held) }
         ensures capacity { self.new.capacity ≡ self.old.capacity }
         ensures reserved { self.new.reserved ≡ self.old.reserved }
         ensures chains { self.new.chains ≡ self.old.chains }
-        ensures held { self.new.held ≡ filter (λ x. not (in_reach low high indices.now (rows_of walks.now) x && is_idle config.now tips.now x)) self.old.held }
+        ensures held { self.new.held ≡ filter (λ x. not (in_reach reach.now (rows_of walks.now) x && is_idle config.now tips.now x)) self.old.held }
         ensures waiting { self.new.waiting ≡ self.old.waiting }
         ensures given { self.new.given ≡ self.old.given }
     {
-        let mut most = high;
-        while let Some(interval) = highest_reached(indices, walks, low, most) {
+        let mut most = reach.high;
+        while let Some(interval) = highest_reached(&reach.indices, walks, reach.low, most) {
             self.sweep(config, tips, interval);
             most = interval - 1;
         }

@@ -13,16 +13,16 @@ ghost use Rattle.tesla_walks.specs.Tips.{first_tip};
 use crate::arriving::receive;
 use crate::counts::count;
 use crate::ended::{all_set, mark};
+use crate::tables::Tables;
 use crate::{Report, Store, Take};
 use std::alloc::Global;
 use std::marker::Model;
 use std::sync::ledger::Ledger;
-use tesla_base::{NoMemory, Steps};
+use tesla_base::{MOST_PAYLOAD, NoMemory, Steps};
 use tesla_commit::Setup;
 use tesla_fitting::{Config, Verdict};
 use tesla_frame::FrameView;
-use tesla_keys::Verifier;
-use tesla_walks::{Proved, Walk, first_tips};
+use tesla_walks::first_tips;
 
 /// The counts before any event.
 const NOTHING: Report = Report {
@@ -44,11 +44,7 @@ const NOTHING: Report = Report {
 /// which ingests have ended, and the counts. All memory is taken when it is opened. It knows of no history.
 #[derive(Drop)]
 pub struct ReceiverState {
-    config: Config,
-    tips: Vec<Verifier>,
-    store: Store,
-    walks: Vec<Walk>,
-    batch: Vec<Proved>,
+    tables: Tables,
     ended: Vec<bool>,
     counts: Report,
     calls: u64,
@@ -56,14 +52,14 @@ pub struct ReceiverState {
 
 impl Model for ReceiverState {
     ghost use Rattle.std.specs.Prelude.{vec_capacity};
-    ghost use Rattle.tesla_state.specs.Kept.{reserved_in, state_of, IsKept};
+    ghost use Rattle.tesla_state.specs.Kept.{reserved_in, state_in, IsKept};
     ghost use Rattle.tesla_state.specs.State.{State};
 
     ghost Value = { State };
 
-    ghost view = { λ k. state_of k.config k.tips.items k.store k.ended.items k.counts k.calls (reserved_in (vec_capacity k.tips) k.store (vec_capacity k.walks) (vec_capacity k.batch) (vec_capacity k.ended)) };
+    ghost view = { λ k. state_in k.tables k.ended.items k.counts k.calls (reserved_in (vec_capacity k.tables.tips) k.tables.store (vec_capacity k.tables.walks) (vec_capacity k.tables.batch) (vec_capacity k.ended)) };
 
-    ghost invariant = { λ k. IsKept k.config k.tips.items k.store (vec_capacity k.walks) (vec_capacity k.batch) k.counts k.calls };
+    ghost invariant = { λ k. IsKept k.tables.config k.tables.tips.items k.tables.store (vec_capacity k.tables.walks) (vec_capacity k.tables.batch) k.counts k.calls };
 }
 
 impl ReceiverState {
@@ -97,11 +93,13 @@ impl ReceiverState {
         let tips = first_tips(alloc, &config)?;
         let store = Store::open(alloc, capacity, config.setup.count())?;
         Ok(ReceiverState {
-            config,
-            tips,
-            store,
-            walks: Vec::with_capacity(alloc, 8)?,
-            batch: Vec::with_capacity(alloc, capacity as usize)?,
+            tables: Tables {
+                config,
+                tips,
+                store,
+                walks: Vec::with_capacity(alloc, 8)?,
+                batch: Vec::with_capacity(alloc, capacity as usize)?,
+            },
             ended,
             counts: NOTHING,
             calls: 0,
@@ -130,11 +128,7 @@ impl ReceiverState {
         ensures badkey { (chain : ChainNo) → result ≡ Verdict.BadKey chain → steps.new ≤ steps.old + offers_by self.old bytes.now }
     {
         let verdict = receive(
-            &self.config,
-            &mut self.tips,
-            &mut self.store,
-            &mut self.walks,
-            &mut self.batch,
+            &mut self.tables,
             self.counts.arrivals,
             reading,
             bytes,
@@ -148,7 +142,7 @@ impl ReceiverState {
 
     /// Gives the next released packet, whose payload is then at the front of the buffer, or says whether all ingests
     /// have ended. The rest of the buffer stays as it was. It takes no memory.
-    pub fn take(&mut self, into: &mut [u8; 1200]) -> Take
+    pub fn take(&mut self, into: &mut [u8; MOST_PAYLOAD]) -> Take
         requires { self.old.calls + 1 < 2 ^ 64 }
         ensures answer { reply_shown result into.new ≡ reply_by self.old }
         ensures state { self.new ≡ after_take self.old }
@@ -156,7 +150,12 @@ impl ReceiverState {
         ensures behind { KeepsBehind result into.old into.new }
     {
         self.calls += 1;
-        let head = self.store.take(&self.config, self.tips.as_slice(), self.counts.given, into);
+        let head = self.tables.store.take(
+            &self.tables.config,
+            self.tables.tips.as_slice(),
+            self.counts.given,
+            into,
+        );
         let Some(head) = head else {
             return if all_set(&self.ended) {
                 Take::Over
@@ -206,7 +205,7 @@ impl ReceiverState {
     pub fn waiting(&self) -> u32
         ensures { result ≡ length self.now.waiting }
     {
-        self.store.waiting()
+        self.tables.store.waiting()
     }
 
     /// How many packets are held.
@@ -214,6 +213,6 @@ impl ReceiverState {
         ensures value { result ≡ length self.now.held }
         ensures most { result ≤ self.now.config.capacity }
     {
-        self.store.held()
+        self.tables.store.held()
     }
 }

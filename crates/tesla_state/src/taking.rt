@@ -9,13 +9,13 @@ ghost use Rattle.tesla_state.specs.Stored.{order_of, IsGiven};
 
 use crate::Store;
 use crate::passing::all_passed;
-use tesla_base::Head;
+use tesla_base::{Head, MOST_PAYLOAD};
 use tesla_buffer::{Fate, Item};
 use tesla_fitting::Config;
 use tesla_keys::Verifier;
 
 // Copies a packet's payload to the front of the buffer. The rest of the buffer stays as it was.
-fn give(item: &Item, chain: u8, position: u64, into: &mut [u8; 1200]) -> Head
+fn give(item: &Item, chain: u8, position: u64, into: &mut [u8; MOST_PAYLOAD]) -> Head
     requires { item.now.length ≤ 1200 }
     ensures head { result ≡ record { position = position; interval = item.now.name.interval; number = item.now.name.number; chain = chain; length = item.now.length } }
     ensures payload { take item.now.length into.new ≡ take item.now.length item.now.payload }
@@ -54,7 +54,7 @@ impl Store {
         config: &Config,
         tips: &[Verifier],
         position: u64,
-        into: &mut [u8; 1200],
+        into: &mut [u8; MOST_PAYLOAD],
     ) -> Option<Head>
         requires tips { length tips.now ≡ length config.now.setup.rows }
         requires orders { Distinct (map order_of self.old.held) }

@@ -15,10 +15,10 @@ ghost use Rattle.tesla_state.specs.Stored.{Placed, place_proved, place_here, hol
 ghost use Rattle.tesla_walks.specs.Walking.{rows_of, IsAbove, left, tries, pairs};
 
 use crate::Store;
+use crate::newest::Newest;
+use crate::reach::Reach;
 use std::sync::ledger::Ledger;
 use tesla_base::{Place, Steps};
-use tesla_fitting::Config;
-use tesla_keys::Verifier;
 use tesla_walks::{Proved, Walk, highest_reached, prove, sort};
 
 // Appends what was proved, if it was.
@@ -48,30 +48,36 @@ impl Store {
     // `prove`.
     fn try_at<L: Ledger>(
         &self,
-        config: &Config,
-        tips: &[Verifier],
+        newest: &Newest<'_>,
         walks: &mut [Walk],
         place: Place,
         batch: &mut Vec<Proved>,
         steps: &mut Steps<L>,
     )
-        requires tips { length tips.now ≡ length config.now.setup.rows }
-        requires chains { self.now.chains ≡ length config.now.setup.rows }
+        requires tips { length newest.now.tips.now ≡ length newest.now.config.now.setup.rows }
+        requires chains { self.now.chains ≡ length newest.now.config.now.setup.rows }
         requires rise { ChainsRise (rows_of walks.old) }
         requires live { list_any (stands_at place.0) self.now.held ≡ true }
         requires above { (x : Placed) → find (stands_at place.0) self.now.held ≡ Some x → All (IsAbove x.holding.name.interval) walks.old }
         requires room { length batch.old.items < vec_capacity batch.old }
         ensures releases { (x : Placed) → find (stands_at place.0) self.now.held ≡ Some x →
-            map release_in batch.new.items ≡ map release_in batch.old.items ++ proof_of config.now tips.now (rows_of walks.old) x.holding }
+            map release_in batch.new.items ≡ map release_in batch.old.items ++ proof_of newest.now.config.now newest.now.tips.now (rows_of walks.old) x.holding }
         ensures proved { AreProved self.now.held batch.old.items → AreProved self.now.held batch.new.items }
         ensures long { length batch.new.items ≤ length batch.old.items + 1 }
         ensures capacity { vec_capacity batch.new ≡ vec_capacity batch.old }
         ensures rows { rows_of walks.new ≡ rows_of walks.old }
         ensures above { (x : Placed) → find (stands_at place.0) self.now.held ≡ Some x → All (IsAbove x.holding.name.interval) walks.new }
         ensures cost { (x : Placed) → find (stands_at place.0) self.now.held ≡ Some x →
-            steps.new + left tips.now walks.new ≤ steps.old + left tips.now walks.old + 2 * tries config.now tips.now (rows_of walks.old) x.holding }
+            steps.new + left newest.now.tips.now walks.new ≤ steps.old + left newest.now.tips.now walks.old + 2 * tries newest.now.config.now newest.now.tips.now (rows_of walks.old) x.holding }
     {
-        let proved = prove(config, tips, walks, self.item(place), place, steps);
+        let proved = prove(
+            newest.config,
+            newest.tips,
+            walks,
+            self.item(place),
+            place,
+            steps,
+        );
         append(batch, proved);
     }
 
@@ -79,27 +85,26 @@ impl Store {
     // nothing of them.
     fn try_interval<L: Ledger>(
         &self,
-        config: &Config,
-        tips: &[Verifier],
+        newest: &Newest<'_>,
         walks: &mut [Walk],
         interval: u32,
         batch: &mut Vec<Proved>,
         steps: &mut Steps<L>,
     )
-        requires tips { length tips.now ≡ length config.now.setup.rows }
-        requires chains { self.now.chains ≡ length config.now.setup.rows }
+        requires tips { length newest.now.tips.now ≡ length newest.now.config.now.setup.rows }
+        requires chains { self.now.chains ≡ length newest.now.config.now.setup.rows }
         requires apart { Distinct (map place_here self.now.held) }
         requires rise { ChainsRise (rows_of walks.old) }
         requires above { All (IsAbove interval) walks.old }
         requires room { length batch.old.items + length (filter (is_of interval) self.now.held) ≤ vec_capacity batch.old }
-        ensures releases { map release_in batch.new.items ≡ map release_in batch.old.items ++ in_turn (proof_of config.now tips.now (rows_of walks.old)) (map holding_at self.now.held) interval }
+        ensures releases { map release_in batch.new.items ≡ map release_in batch.old.items ++ in_turn (proof_of newest.now.config.now newest.now.tips.now (rows_of walks.old)) (map holding_at self.now.held) interval }
         ensures proved { AreProved self.now.held batch.old.items → AreProved self.now.held batch.new.items }
         ensures long { length batch.new.items ≤ length batch.old.items + length (filter (is_of interval) self.now.held) }
         ensures capacity { vec_capacity batch.new ≡ vec_capacity batch.old }
         ensures rows { rows_of walks.new ≡ rows_of walks.old }
         ensures above { All (IsAbove interval) walks.new }
-        ensures cost { steps.new + left tips.now walks.new ≤ steps.old + left tips.now walks.old
-            + 2 * pairs config.now tips.now (rows_of walks.old) (filter (in_interval interval) (map holding_at self.now.held)) }
+        ensures cost { steps.new + left newest.now.tips.now walks.new ≤ steps.old + left newest.now.tips.now walks.old
+            + 2 * pairs newest.now.config.now newest.now.tips.now (rows_of walks.old) (filter (in_interval interval) (map holding_at self.now.held)) }
     {
         let mut next = self.first_unreleased(interval);
         for _looked in 0..self.unreleased_in(interval) {
@@ -107,83 +112,76 @@ impl Store {
                 return;
             };
             next = self.next_unreleased(place);
-            self.try_at(config, tips, walks, place, batch, steps);
+            self.try_at(newest, walks, place, batch, steps);
         }
     }
 
-    // Tries the packets of the intervals above `low`, up to `high`, that new keys are the first of their chains to
-    // reach, from the highest of these intervals down. Keys prove nothing of the others.
+    // Tries the packets of the intervals that new keys are the first of their chains to reach, from the highest of
+    // these intervals down. Keys prove nothing of the others.
     fn try_span<L: Ledger>(
         &self,
-        config: &Config,
-        tips: &[Verifier],
+        newest: &Newest<'_>,
         walks: &mut [Walk],
-        indices: &[u32; 8],
-        low: u32,
-        high: u32,
+        reach: &Reach,
         batch: &mut Vec<Proved>,
         steps: &mut Steps<L>,
     )
-        requires tips { length tips.now ≡ length config.now.setup.rows }
-        requires chains { self.now.chains ≡ length config.now.setup.rows }
+        requires tips { length newest.now.tips.now ≡ length newest.now.config.now.setup.rows }
+        requires chains { self.now.chains ≡ length newest.now.config.now.setup.rows }
         requires apart { Distinct (map place_here self.now.held) }
-        requires of_chains { All (IsOfChains (length tips.now)) (rows_of walks.old) }
-        requires indices { AreIndices tips.now indices.now }
-        requires few { length tips.now ≤ 8 }
+        requires of_chains { All (IsOfChains (length newest.now.tips.now)) (rows_of walks.old) }
+        requires indices { AreIndices newest.now.tips.now reach.now.indices }
+        requires few { length newest.now.tips.now ≤ 8 }
         requires rise { ChainsRise (rows_of walks.old) }
-        requires above { All (IsAbove high) walks.old }
-        requires spans { Spans tips.now (rows_of walks.old) low high }
+        requires above { All (IsAbove reach.now.high) walks.old }
+        requires spans { Spans newest.now.tips.now (rows_of walks.old) reach.now.low reach.now.high }
         requires empty { batch.old.items ≡ [] }
         requires room { length self.now.held ≤ vec_capacity batch.old }
-        ensures releases { IsPermutation (batch_of config.now tips.now (rows_of walks.old) (map holding_at self.now.held)) (map release_in batch.new.items) }
+        ensures releases { IsPermutation (batch_of newest.now.config.now newest.now.tips.now (rows_of walks.old) (map holding_at self.now.held)) (map release_in batch.new.items) }
         ensures proved { AreProved self.now.held batch.new.items }
         ensures capacity { vec_capacity batch.new ≡ vec_capacity batch.old }
         ensures rows { rows_of walks.new ≡ rows_of walks.old }
-        ensures cost { steps.new + left tips.now walks.new ≤ steps.old + left tips.now walks.old
-            + 2 * pairs config.now tips.now (rows_of walks.old) (map holding_at self.now.held) }
+        ensures cost { steps.new + left newest.now.tips.now walks.new ≤ steps.old + left newest.now.tips.now walks.old
+            + 2 * pairs newest.now.config.now newest.now.tips.now (rows_of walks.old) (map holding_at self.now.held) }
     {
-        let mut most = high;
-        while let Some(interval) = highest_reached(indices, walks, low, most) {
-            self.try_interval(config, tips, walks, interval, batch, steps);
+        let mut most = reach.high;
+        while let Some(interval) = highest_reached(&reach.indices, walks, reach.low, most) {
+            self.try_interval(newest, walks, interval, batch, steps);
             most = interval - 1;
         }
     }
 
-    /// What new keys prove of the packets that are held, in order of arrival. The intervals above `low`, up to
-    /// `high`, are those that the keys may prove. The counted steps are those of the walks, and at most two for each
-    /// packet that isn't released and each chain on which it is tried.
+    /// What new keys prove of the packets that are held, in order of arrival. The counted steps are those of the walks,
+    /// and at most two for each packet that isn't released and each chain on which it is tried.
     pub fn prove_held<L: Ledger>(
         &self,
-        config: &Config,
-        tips: &[Verifier],
+        newest: &Newest<'_>,
         walks: &mut [Walk],
-        indices: &[u32; 8],
-        low: u32,
-        high: u32,
+        reach: &Reach,
         batch: &mut Vec<Proved>,
         steps: &mut Steps<L>,
     )
-        requires tips { length tips.now ≡ length config.now.setup.rows }
-        requires chains { self.now.chains ≡ length config.now.setup.rows }
+        requires tips { length newest.now.tips.now ≡ length newest.now.config.now.setup.rows }
+        requires chains { self.now.chains ≡ length newest.now.config.now.setup.rows }
         requires apart { Distinct (map place_here self.now.held) }
         requires orders { RiseBy order_of (map holding_at self.now.held) }
-        requires of_chains { All (IsOfChains (length tips.now)) (rows_of walks.old) }
-        requires indices { AreIndices tips.now indices.now }
-        requires few { length tips.now ≤ 8 }
+        requires of_chains { All (IsOfChains (length newest.now.tips.now)) (rows_of walks.old) }
+        requires indices { AreIndices newest.now.tips.now reach.now.indices }
+        requires few { length newest.now.tips.now ≤ 8 }
         requires rise { ChainsRise (rows_of walks.old) }
-        requires above { All (IsAbove high) walks.old }
-        requires spans { Spans tips.now (rows_of walks.old) low high }
+        requires above { All (IsAbove reach.now.high) walks.old }
+        requires spans { Spans newest.now.tips.now (rows_of walks.old) reach.now.low reach.now.high }
         requires empty { batch.old.items ≡ [] }
         requires room { length self.now.held ≤ vec_capacity batch.old }
-        ensures releases { map release_in batch.new.items ≡ batch_of config.now tips.now (rows_of walks.old) (map holding_at self.now.held) }
+        ensures releases { map release_in batch.new.items ≡ batch_of newest.now.config.now newest.now.tips.now (rows_of walks.old) (map holding_at self.now.held) }
         ensures proved { AreProved self.now.held batch.new.items }
         ensures places { Distinct (map place_proved batch.new.items) }
         ensures capacity { vec_capacity batch.new ≡ vec_capacity batch.old }
         ensures rows { rows_of walks.new ≡ rows_of walks.old }
-        ensures cost { steps.new + left tips.now walks.new ≤ steps.old + left tips.now walks.old
-            + 2 * pairs config.now tips.now (rows_of walks.old) (map holding_at self.now.held) }
+        ensures cost { steps.new + left newest.now.tips.now walks.new ≤ steps.old + left newest.now.tips.now walks.old
+            + 2 * pairs newest.now.config.now newest.now.tips.now (rows_of walks.old) (map holding_at self.now.held) }
     {
-        self.try_span(config, tips, walks, indices, low, high, batch, steps);
+        self.try_span(newest, walks, reach, batch, steps);
         order(batch);
     }
 }

@@ -6,7 +6,7 @@ ghost use Rattle.tesla_base.specs.declared.names.Key.{Key};
 ghost use Rattle.tesla_sync.specs.KeyText.{IsKeyText, key_of, key_text};
 
 use hex::{decode_to_slice, encode_to_slice};
-use tesla_base::Key;
+use tesla_base::{KEY_BYTES, Key};
 
 /// The digits of a key.
 const DIGITS: usize = 64;
@@ -33,7 +33,7 @@ fn key(text: &[u8]) -> Option<Key>
         return None;
     }
     let (digits, _) = text.split_at(DIGITS);
-    let mut bytes = [0; 32];
+    let mut bytes = [0; KEY_BYTES];
     if decode_to_slice(digits, &mut bytes).is_err() {
         return None;
     }

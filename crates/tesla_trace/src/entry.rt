@@ -5,6 +5,7 @@ ghost use Rattle.tesla_receiver.specs.declared.history.Entry.TheVariants.{Arrive
 ghost use Rattle.tesla_state.specs.Replies.{reply_shown};
 ghost use Rattle.tesla_trace.specs.Entries.{FitsReply, IsEntry, entry_in};
 
+use tesla_base::{MOST_DATAGRAM, MOST_PAYLOAD};
 use tesla_fitting::Verdict;
 use tesla_state::Take;
 
@@ -35,7 +36,7 @@ pub struct EntryBuffer {
     /// How many bytes the datagram has, or the payload that was given.
     pub length: u16,
     /// The datagram, or the payload that was given, at the front.
-    pub bytes: [u8; 2048],
+    pub bytes: [u8; MOST_DATAGRAM],
 }
 
 impl EntryBuffer {
@@ -51,7 +52,7 @@ impl EntryBuffer {
             verdict: Verdict::Malformed,
             reply: Take::Empty,
             length: 0,
-            bytes: [0; 2048],
+            bytes: [0; MOST_DATAGRAM],
         }
     }
 
@@ -72,7 +73,7 @@ impl EntryBuffer {
 
     /// Makes it a take by this releaser, with its answer. The payload of a packet that was given, of at most 1,200 bytes, is
     /// at the front of the payload. It takes no memory.
-    pub fn set_take(&mut self, releaser: u8, reply: Take, payload: &[u8; 1200])
+    pub fn set_take(&mut self, releaser: u8, reply: Take, payload: &[u8; MOST_PAYLOAD])
         requires { FitsReply reply payload.now }
         ensures entry { entry_in self.new ≡ Taken releaser (reply_shown reply payload.now) }
         ensures within { IsEntry self.new }

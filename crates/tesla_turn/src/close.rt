@@ -2,7 +2,6 @@
 ghost use Rattle.std.specs.Prelude.{◌≡◌, slice_set, Some};
 ghost use Rattle.tesla_turn.specs.History.{entries, BeginsWith, HasCalls};
 
-use crate::chronicle::Chronicle;
 use crate::pass::Pass;
 use crate::seats::give_back;
 use crate::turn::Turn;
@@ -11,6 +10,7 @@ use crate::wait::enter;
 use atomic_table::Badge;
 use std::marker::Model;
 use std::sync::Wait;
+use tesla_base::Chronicle;
 
 /// The whole history of a turn that was closed. It takes no bytes.
 ///

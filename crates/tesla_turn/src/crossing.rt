@@ -1,9 +1,9 @@
 //! What may go to another thread, or be shared between threads.
 
-use crate::chronicle::Chronicle;
 use crate::close::Last;
 use crate::pass::Pass;
 use crate::turn::Turn;
+use tesla_base::Chronicle;
 
 fn is_sent<T: Send>() {}
 

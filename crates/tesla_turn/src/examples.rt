@@ -2,9 +2,9 @@
 ghost use Rattle.std.specs.Prelude.{◌≡◌, ◌≤◌, ◌++◌, ◌∷◌, [], List, length, vec_len, vec_capacity, IfOk};
 ghost use Rattle.tesla_turn.specs.Examples.{sum_after, taken, IsLegal, place_at};
 
-use crate::chronicle::{Act, Chronicle};
+use crate::act::Act;
 use std::alloc::Global;
-use tesla_base::NoMemory;
+use tesla_base::{Chronicle, NoMemory};
 
 /// A sum modulo 2^64.
 #[derive(Clone, Copy, Debug, PartialEq, Eq)]

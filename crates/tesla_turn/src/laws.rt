@@ -3,8 +3,8 @@ ghost use Rattle.std.specs.Prelude.{◌≡◌, length};
 ghost use Rattle.std.specs.List.{sum_by};
 ghost use Rattle.tesla_turn.specs.History.{entries, HasCalls, AllJoined, IsMerge, known_calls};
 
-use crate::chronicle::Chronicle;
 use crate::close::Last;
+use tesla_base::Chronicle;
 
 /// What happened is one history. Where every pass was joined, it is a merge of the calls of the passes:
 /// each call stands in it once, those of one pass in their order, and nothing else. The value that the

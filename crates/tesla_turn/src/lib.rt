@@ -1,7 +1,7 @@
 //! Threads act on one value, each in its turn: what happened is one history, in which each call stands once.
 #![tactic(auto)]
 
-mod chronicle;
+mod act;
 mod close;
 mod crossing;
 mod entrance;
@@ -17,11 +17,12 @@ mod turn;
 mod view;
 mod wait;
 
-pub use chronicle::{Act, Chronicle};
+pub use act::Act;
 pub use close::Last;
 pub use crossing::crosses;
 pub use pass::Pass;
 pub use perform::SeatSpent;
 pub use split::NoRoom;
+pub use tesla_base::Chronicle;
 pub use turn::Turn;
 pub use view::Call;

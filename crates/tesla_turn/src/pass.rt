@@ -2,9 +2,9 @@
 ghost use Rattle.std.specs.Prelude.{◌≡◌, ◌+◌, ◌↔◌, IsTrue, length};
 ghost use Rattle.tesla_turn.specs.Held.{left_of};
 
-use crate::chronicle::Chronicle;
 use crate::seats::Place;
 use std::marker::Model;
+use tesla_base::Chronicle;
 
 /// The right of one thread to act in its turns, a bounded number of times. It may go to another thread.
 ///

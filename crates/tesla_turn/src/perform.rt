@@ -2,13 +2,14 @@
 ghost use Rattle.std.specs.Prelude.{◌≡◌, ◌<◌, ◌↔◌, IsErr, IfOk, IfErr, IsTrue, is_err};
 ghost use Rattle.tesla_turn.specs.Held.{Made, Stood, left_of};
 
-use crate::chronicle::{Act, Chronicle};
+use crate::act::Act;
 use crate::pass::Pass;
 use crate::seats::{hand_on, put_back};
 use crate::turn::Turn;
 use crate::wait::enter;
 use std::marker::Brand;
 use std::sync::Wait;
+use tesla_base::Chronicle;
 
 /// The pass has made all its calls.
 #[derive(Clone, Copy, Debug, PartialEq, Eq)]

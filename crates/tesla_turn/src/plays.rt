@@ -2,10 +2,10 @@
 ghost use Rattle.std.specs.Prelude.{List, [], ◌∷◌};
 ghost use Rattle.tesla_turn.specs.Steps.{drew, looked, handed_on, gave_back, gave_pass, new_view, both_views, spent_view};
 
-use crate::chronicle::Chronicle;
 use crate::view::View;
 use atomic_table::{Join, Play, Split};
 use std::marker::{Brand, PhantomData};
+use tesla_base::Chronicle;
 
 /// A ticket is drawn.
 pub(crate) struct Draw;

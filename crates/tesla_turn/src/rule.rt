@@ -1,10 +1,10 @@
 //! The rule of the table that threads share.
 
-use crate::chronicle::Chronicle;
 use crate::view::View;
 use atomic_table::TableRule;
 use std::marker::PhantomData;
 use std::snapshot::Snapshot;
+use tesla_base::Chronicle;
 
 /// What a turn is opened with.
 #[derive(Drop)]

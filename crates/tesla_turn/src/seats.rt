@@ -4,11 +4,12 @@ ghost use Rattle.tesla_turn.specs.declared.view.Phase.TheVariants.{Idle, Waits, 
 ghost use Rattle.tesla_turn.specs.History.{entries};
 ghost use Rattle.tesla_turn.specs.Steps.{IsTurn, IsSameSeat, IsLive, Reached, with_ticket, with_call};
 
-use crate::chronicle::{Act, Chronicle};
+use crate::act::Act;
 use crate::plays::{Adding, Draw, GiveBack, HandOn, Look};
 use crate::rule::{Law, Plan};
 use crate::view::View;
 use atomic_table::{Seat, Shared};
+use tesla_base::Chronicle;
 
 /// What the threads share of the table.
 pub(crate) type Top<V> = Shared<

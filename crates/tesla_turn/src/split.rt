@@ -3,10 +3,10 @@ ghost use Rattle.std.specs.Prelude.{◌≡◌, ◌<◌, ◌-◌, ◌↔◌, ◌+
 ghost use Rattle.tesla_turn.specs.History.{longer};
 ghost use Rattle.tesla_turn.specs.Held.{next_pass};
 
-use crate::chronicle::Chronicle;
 use crate::pass::Pass;
 use crate::plays::{Cut, Merge};
 use crate::turn::Turn;
+use tesla_base::Chronicle;
 
 /// The pass may give no further pass.
 #[derive(Clone, Copy, Debug, PartialEq, Eq)]

@@ -3,7 +3,6 @@ ghost use Rattle.std.specs.Prelude.{◌≡◌, ◌*◌, ◌<◌, ◌≤◌, ◌^
 ghost use Rattle.tesla_turn.specs.Steps.{IsTurn, first_view};
 ghost use Rattle.tesla_turn.specs.Held.{first_pass};
 
-use crate::chronicle::Chronicle;
 use crate::entrance::Entrance;
 use crate::pass::Pass;
 use crate::rule::{Law, Plan};
@@ -12,7 +11,7 @@ use atomic_table::{Refused, Seat, Table};
 use std::alloc::Global;
 use std::marker::Model;
 use std::snapshot::Snapshot;
-use tesla_base::NoMemory;
+use tesla_base::{Chronicle, NoMemory};
 
 /// A value that threads share by turns. Threads share it by `&`.
 ///

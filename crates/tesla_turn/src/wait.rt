@@ -3,12 +3,12 @@ ghost use Rattle.std.specs.Prelude.{◌≡◌, ℕ, ◌<◌, ◌∷◌, [], Some
 ghost use Rattle.tesla_turn.specs.declared.view.Phase.TheVariants.{Idle, Waits};
 ghost use Rattle.tesla_turn.specs.Steps.{IsTurn, IsSameSeat, IsLive, Reached, with_ticket};
 
-use crate::chronicle::Chronicle;
 use crate::entrance::Entrance;
 use crate::plays::Look;
 use crate::seats::{Place, Top, draw};
 use std::sync::Wait;
 use std::thread::yield_now;
+use tesla_base::Chronicle;
 
 // Waits for the turn of this ticket, and takes the slot. Behind the entrance it has come.
 fn await_turn<V: Chronicle, R: Wait>(rt: &R, top: &Top<V>, seat: &mut Place<V>, ticket: u64)

@@ -18,13 +18,13 @@ use Rattle.tesla_receiver.specs.Keys.{newest}
 use Rattle.tesla_receiver.specs.Packets.{released}
 use Rattle.tesla_receiver.specs.declared.history.Arrival.{Arrival}
 use Rattle.tesla_receiver.specs.declared.history.Entry.{Entry}
-use Rattle.tesla_sender.specs.Made.{Call, Chain, Disclose, Message, Stream, any_due, chains_from, chains_of, disclosed, disclosed_after, disclosure_frame, framed, interval_at, latest_of, made_disclosure, made_message, message_frame, name_of, row_of}
+use Rattle.tesla_sender.specs.Made.{Call, Chain, Disclose, Message, Stream, any_due, chains_from, chains_of, disclosed, disclosed_after, disclosure_frame, frame_in, frame_made, framed, interval_at, latest_of, made_disclosure, made_message, message_frame, name_of, row_of}
 use Rattle.tesla_sender.specs.declared.refusal.DiscloseRefusal.{DiscloseRefusal}
 use Rattle.tesla_sender.specs.declared.refusal.SendRefusal.{SendRefusal}
 use Rattle.tesla_state.specs.Releases.{has_name}
 use Rattle.tesla_walks.specs.declared.release.Release.{Release}
 use Rattle.tesla_world.specs.Laws.{DeliveryLaw, HasSendersTag, seed_in}
-use Rattle.tesla_world.specs.World.{Came, Dated, Joined, Moment, Sent, arrival_at, came_in, dated_of, frame_in, frame_made, sent_in}
+use Rattle.tesla_world.specs.World.{Came, Dated, Joined, Moment, Sent, arrival_at, came_in, dated_of, sent_in}
 use Rattle.tesla_world.proofs.Completeness.{below_with, proved_at}
 use Rattle.tesla_world.proofs.Newest.{newest_reaches, reached_by, take_further, take_got}
 use Rattle.tesla_world.proofs.Sent.{sent_for, sent_number}

@@ -15,12 +15,12 @@ use Rattle.tesla_fitting.specs.Rows.{carried, keys_of}
 use Rattle.tesla_fitting.specs.declared.config.Config.{Config}
 use Rattle.tesla_frame.specs.Frame.{Frame, TagRow}
 use Rattle.tesla_frame.specs.declared.row.KeyRow.{KeyRow}
-use Rattle.tesla_sender.specs.Made.{Call, Message, Disclose, Stream, Chain, any_due, chains_from, chains_of, disclosed, disclosed_after, disclosure_frame, due_row, due_rows, framed, interval_at, key_due, key_of, latest_of, made_disclosure, made_message, message_frame, messages_of, name_after, name_of, row_of}
+use Rattle.tesla_sender.specs.Made.{Call, Message, Disclose, Stream, Chain, any_due, chains_from, chains_of, disclosed, disclosed_after, disclosure_frame, due_row, due_rows, frame_in, frame_made, framed, interval_at, key_due, key_of, latest_of, made_disclosure, made_message, message_frame, messages_of, name_after, name_of, reading_of, row_of}
 use Rattle.tesla_sender.specs.declared.refusal.DiscloseRefusal.{DiscloseRefusal}
 use Rattle.tesla_sender.specs.declared.refusal.DiscloseRefusal.TheVariants as undisclosed
 use Rattle.tesla_sender.specs.declared.refusal.SendRefusal.{SendRefusal}
 use Rattle.tesla_sender.specs.declared.refusal.SendRefusal.TheVariants as unsent
-use Rattle.tesla_world.specs.World.{Moment, Sent, AreSentFor, frame_in, frame_made, reading_of, sent_in}
+use Rattle.tesla_world.specs.World.{Moment, Sent, AreSentFor, sent_in}
 use Rattle.tesla_world.specs.Laws.{seed_in, senders_key}
 use Rattle.tesla_world.proofs.Sent.{HasCall, sent_for, sent_number}
 

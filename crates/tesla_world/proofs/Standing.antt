@@ -12,14 +12,14 @@ use Rattle.tesla_receiver.specs.History.{Arrives, Event, IsLegal, arrival_in, ar
 use Rattle.tesla_receiver.specs.Stands.{Stands}
 use Rattle.tesla_receiver.specs.declared.history.Entry.{Entry}
 use Rattle.tesla_receiver.specs.declared.history.Entry.TheVariants.{Arrived}
-use Rattle.tesla_sender.specs.Made.{Call, Disclose, Message, Stream, made_disclosure, made_message}
+use Rattle.tesla_sender.specs.Made.{Call, Disclose, Message, Stream, frame_in, made_disclosure, made_message, reading_of}
 use Rattle.tesla_sender.specs.Stands as sending
 use Rattle.tesla_sender.specs.declared.refusal.DiscloseRefusal.{DiscloseRefusal}
 use Rattle.tesla_sender.specs.declared.refusal.SendRefusal.{SendRefusal}
 use Rattle.tesla_state.specs.State.{State}
 use Rattle.tesla_world.specs.Joint.{HasCome, HasHad, HasSent, IsLawful, JointState, StandsFor, bytes_of}
 use Rattle.tesla_world.specs.Laws.{HonestCompleteness, SecurityCondition}
-use Rattle.tesla_world.specs.World.{AreSentFor, Came, Dated, IsSentFor, Joined, Moment, Sent, came_at, came_in, dated_of, frame_in, reading_of, sent_at, sent_in}
+use Rattle.tesla_world.specs.World.{AreSentFor, Came, Dated, IsSentFor, Joined, Moment, Sent, came_at, came_in, dated_of, sent_at, sent_in}
 
 -- the laws hold of each world that a joint stands for
 pub joint_lawful : SecurityCondition → HonestCompleteness → (joint : JointState) → IsLawful joint

@@ -6,13 +6,13 @@ use Rattle.tesla_receiver.specs.History.{Arrives, Event, entry_of}
 use Rattle.tesla_receiver.specs.Stands.{Stands}
 use Rattle.tesla_receiver.specs.declared.history.Entry.{Entry}
 use Rattle.tesla_receiver.specs.declared.history.Entry.TheVariants.{Arrived}
-use Rattle.tesla_sender.specs.Made.{Call}
+use Rattle.tesla_sender.specs.Made.{Call, reading_of}
 use Rattle.tesla_sender.specs.Stands as sending
 use Rattle.tesla_sender.specs.declared.refusal.DiscloseRefusal.{DiscloseRefusal}
 use Rattle.tesla_sender.specs.declared.refusal.SendRefusal.{SendRefusal}
 use Rattle.tesla_state.specs.State.{State}
 use Rattle.tesla_world.specs.Laws.{IsComplete, IsSecure}
-use Rattle.tesla_world.specs.World.{Came, Dated, Joined, Moment, Sent, reading_of, sent_in}
+use Rattle.tesla_world.specs.World.{Came, Dated, Joined, Moment, Sent, sent_in}
 use Rattle.tesla_world.specs.declared.refusal.JointRefusal.{JointRefusal}
 use Rattle.tesla_world.specs.declared.refusal.JointRefusal.TheVariants as refused
 use Rattle.tesla_world.specs.declared.refusal.NoSuch.{NoSuch}

@@ -1,12 +1,12 @@
 -- Worlds: what was sent and what came, in the order in which it happened, with the readings of the clocks (RFC 4082, sections 3.3 and 3.5).
-use Rattle.std.specs.Prelude.{◌≡◌, ℕ, ◌<◌, ℤ, pos, ◌≤ℤ◌, ◌+ℤ◌, List, [], ◌∷◌, ◌++◌, length, map, take, Option, Some, None, Result, Ok, Err, slice_get, flat_map}
+use Rattle.std.specs.Prelude.{◌≡◌, ℕ, ◌<◌, ℤ, pos, ◌≤ℤ◌, ◌+ℤ◌, List, [], ◌∷◌, ◌++◌, length, map, take, Some, slice_get, flat_map}
 use Rattle.tesla_base.specs.declared.names.Key.{Key}
 use Rattle.tesla_fitting.specs.declared.config.Config.{Config}
 use Rattle.tesla_frame.specs.Frame.{Frame, IsFrame}
 use Rattle.tesla_receiver.specs.History.{IsLegal, arrivals_in}
 use Rattle.tesla_receiver.specs.declared.history.Arrival.{Arrival}
 use Rattle.tesla_receiver.specs.declared.history.Entry.{Entry}
-use Rattle.tesla_sender.specs.Made.{Call, Message, Disclose, Stream, made_message, made_disclosure}
+use Rattle.tesla_sender.specs.Made.{Call, Stream, frame_made, reading_of}
 
 -- a frame was sent at this reading of the sender's clock, or a datagram came at this reading of the receiver's
 pub data Moment : Type 0 where
@@ -41,19 +41,6 @@ IsBounded lag world =
     pos sent ≤ℤ (pos came +ℤ lag)
 
 -- ---- the sender's part
-
-abbrev pub reading_of : Call → ℕ
-reading_of (Message reading payload) = reading
-reading_of (Disclose reading) = reading
-
-abbrev pub frame_in : {E : Type 0} → Result Frame E → Option Frame
-frame_in (Ok frame) = Some frame
-frame_in (Err refusal) = None
-
--- the frame that a call makes after the accepted calls before it
-abbrev pub frame_made : Stream → List Call → Call → Option Frame
-frame_made stream log (Message reading payload) = frame_in (made_message stream log reading payload)
-frame_made stream log (Disclose reading) = frame_in (made_disclosure stream log reading)
 
 -- what was sent is the frame of the call, at its reading
 pub record IsSentFor (stream : Stream) (log : List Call) (call : Call) (sent : Dated) : Type 0 where

@@ -4,15 +4,12 @@ ghost use Rattle.std.specs.Prelude.{◌≡◌, ◌+◌, ◌<◌, ◌≤◌, ◌+
 
 use std::alloc::Global;
 use std::marker::Model;
-use tesla_base::NoMemory;
-
-/// The bytes of a room for a frame.
-pub const FRAME_ROOM: usize = 2048;
+use tesla_base::{MOST_DATAGRAM, NoMemory};
 
 /// A frame, at the front of a room. Contracts see its bytes.
 #[derive(Drop)]
 pub struct SentFrame {
-    room: [u8; FRAME_ROOM],
+    room: [u8; MOST_DATAGRAM],
     length: usize,
 }
 
@@ -28,7 +25,7 @@ impl Model for SentFrame {
 
 impl SentFrame {
     /// The frame of so many bytes at the front of the room.
-    pub fn new(room: [u8; FRAME_ROOM], length: usize) -> SentFrame
+    pub fn new(room: [u8; MOST_DATAGRAM], length: usize) -> SentFrame
         requires { length ≤ 2048 }
         ensures { result ≡ take length room }
     {

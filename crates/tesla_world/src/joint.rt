@@ -10,12 +10,12 @@ ghost use Rattle.tesla_state.specs.Replies.{KeepsBehind, reply_shown};
 ghost use Rattle.tesla_world.specs.Joint.{Delivers, HasCome, HasHad, IsLawful, JointState, RefusesDisclosure, RefusesMessage, Sends, StandsFor};
 ghost use Rattle.tesla_world.specs.World.{Moment};
 
-use crate::frames::{FRAME_ROOM, Frames, SentFrame};
+use crate::frames::{Frames, SentFrame};
 use crate::{JointRefusal, NoSuch, laws};
 use std::alloc::Global;
 use std::marker::Model;
 use std::sync::ledger::Ledger;
-use tesla_base::Steps;
+use tesla_base::{MOST_DATAGRAM, MOST_PAYLOAD, Steps};
 use tesla_fitting::Verdict;
 use tesla_receiver::{Receiver, Take};
 use tesla_sender::Sender;
@@ -105,7 +105,7 @@ impl Joint {
         each_is_lawful();
         self.frames.make_room(alloc)?;
         let number = self.frames.count() as u32;
-        let mut room = [0; FRAME_ROOM];
+        let mut room = [0; MOST_DATAGRAM];
         match self.sender.message(reading, payload, &mut room, steps) {
             Ok(length) => {
                 self.frames.push(SentFrame::new(room, length));
@@ -135,7 +135,7 @@ impl Joint {
         each_is_lawful();
         self.frames.make_room(alloc)?;
         let number = self.frames.count() as u32;
-        let mut room = [0; FRAME_ROOM];
+        let mut room = [0; MOST_DATAGRAM];
         match self.sender.disclose(reading, &mut room, steps) {
             Ok(size) => {
                 self.frames.push(SentFrame::new(room, size));
@@ -178,7 +178,7 @@ impl Joint {
 
     /// Gives the next released packet, whose payload is then at the front of the buffer, or says whether the datagrams
     /// have ended. The rest of the buffer stays as it was. It takes no memory.
-    pub fn take(&mut self, into: &mut [u8; 1200]) -> Take
+    pub fn take(&mut self, into: &mut [u8; MOST_PAYLOAD]) -> Take
         requires { self.old.receiver.calls + 1 < 2 ^ 64 }
         ensures answer { (world : List Moment) (log : List Call) (history : List Entry) → StandsFor self.old world log history →
             reply_shown result into.new ≡ reply_to self.old.receiver.config history }

@@ -2,7 +2,7 @@ use Rattle.std.proofs.Common.{◌∙◌, refl, ap, arith}
 use denote.Enum.Bare.{sameb}
 use Rattle.tesla_feed.specs.contracts.hearing.Hearing.{the_type}
 use Rattle.tesla_feed.specs.declared.hearing.Hearing.TheVariants as hearings
-use Rattle.tesla_posts.specs.Posts.{PostSeen}
+use Rattle.tesla_relay.specs.Posts.{PostSeen}
 use Rattle.tesla_feed.proofs.Going.{both_ways}
 use Rattle.tesla_feed.proofs.Whole.{begun_stands, feeds_all, none_sent}
 use Rattle.tesla_feed.proofs.feeding.feed.Goals as goal

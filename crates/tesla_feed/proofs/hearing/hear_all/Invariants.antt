@@ -1,5 +1,5 @@
 use Rattle.std.proofs.Common.{◌≡◌, List, length, map}
-use Rattle.tesla_posts.specs.Posts.{PostSeen}
+use Rattle.tesla_relay.specs.Posts.{PostSeen}
 use Rattle.tesla_feed.specs.Steps.{Hears}
 use Rattle.tesla_feed.proofs.hearing.hear_all.Given as goal
 

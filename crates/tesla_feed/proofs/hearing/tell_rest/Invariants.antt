@@ -1,6 +1,6 @@
 use Rattle.std.proofs.Common.{◌≡◌, List, length, map, true}
 use Rattle.std.specs.List.{list_all}
-use Rattle.tesla_posts.specs.Posts.{PostSeen}
+use Rattle.tesla_relay.specs.Posts.{PostSeen}
 use Rattle.tesla_feed.specs.Fed.{Feeding}
 use Rattle.tesla_feed.specs.Feed.{has_failed}
 use Rattle.tesla_feed.specs.Steps.{Goes, Rests}

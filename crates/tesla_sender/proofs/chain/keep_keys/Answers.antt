@@ -1,7 +1,7 @@
 use Rattle.std.proofs.Common.{◌≡◌, ◌<◌, Some, sym, ◌∙◌, ap, arith}
 use Rattle.std.proofs.Math.Nat.{add-mul}
 use Rattle.tesla_chain.specs.Cost.{bits}
-use Rattle.tesla_traversal.specs.Traversal.{next_given}
+use Rattle.tesla_chain.specs.Traversal.{next_given}
 use Rattle.tesla_sender.proofs.Kept.{kept_more, kept_none}
 use Rattle.tesla_sender.proofs.chain.keep_keys.Goals as goal
 

@@ -1,5 +1,5 @@
 use Rattle.std.proofs.Common.{◌++◌, ◌∷◌, [], ℕ, take, refl, sym, ap, ◌∙◌, subst}
-use Rattle.tesla_promise.specs.Payloads.{promise_of}
+use Rattle.tesla_early.specs.Payloads.{promise_of}
 use Rattle.tesla_receiver.specs.History.{Takes, entry_of}
 use Rattle.tesla_state.specs.Replies.{reply_shown}
 use Rattle.tesla_state.specs.declared.replies.Reply.TheVariants as replies

@@ -1,6 +1,6 @@
 use Rattle.std.proofs.Common.{◌≡◌, ℕ, ◌+◌, ◌-◌, ◌*◌, ◌≤◌, ◌∙◌, ap, subst, arith}
 use Rattle.tesla_chain.specs.Cost.{bits}
-use Rattle.tesla_traversal.proofs.Digits.{by_keys}
+use Rattle.tesla_chain.proofs.Digits.{by_keys}
 use Rattle.tesla_sender.specs.Chains.{HasKept, Progress, steps_to}
 use Rattle.tesla_sender.proofs.Costs.{far_cost}
 use Rattle.tesla_sender.proofs.Kept.{used_far, used_near}

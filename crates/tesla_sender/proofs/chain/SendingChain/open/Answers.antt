@@ -1,6 +1,6 @@
 use Rattle.std.proofs.Common.{sym, subst}
-use Rattle.tesla_traversal.specs.Traversal.{Traversing, IsOpened}
-use Rattle.tesla_traversal.specs.contracts.traversal.Traversal.{the_view}
+use Rattle.tesla_chain.specs.Traversal.{Traversing, IsOpened}
+use Rattle.tesla_chain.specs.contracts.traversal.Traversal.{the_view}
 use Rattle.tesla_sender.proofs.Kept.{used_none}
 use Rattle.tesla_sender.proofs.chain.SendingChain.open.Goals as goal
 

@@ -5,7 +5,7 @@ use Rattle.tesla_state.proofs.Sweeping.{Spanned}
 use Rattle.tesla_state.proofs.store.Store.let_go.Given as goal
 
 abbrev pub invariant-loop-interval : goal.invariant-loop-interval
-invariant-loop-interval l = Spanned l.initial.self l.self (is_reached (index_at l.indices) (rows_of l.walks)) (is_idle l.config l.tips) l.low l.most l.high
+invariant-loop-interval l = Spanned l.initial.self l.self (is_reached (index_at l.reach.indices) (rows_of l.walks)) (is_idle l.config l.tips) l.reach.low l.most l.reach.high
 
 -- the intervals are looked at from the highest down
 abbrev pub decreases-loop-interval : goal.decreases-loop-interval

@@ -11,8 +11,8 @@ use Rattle.tesla_state.proofs.store.Store.prove_held.Goals as goal
 
 pub returns : goal.returns
 returns g c =
-    let releases : List Release = batch_of c.args.config.now c.args.tips.now (rows_of c.args.walks.now) (map holding_at c.args.self.now.held) in
-    let rises : RiseBy place_of releases = batch_rises c.args.config.now c.args.tips.now (rows_of c.args.walks.now) (map holding_at c.args.self.now.held) c.requires.orders in
+    let releases : List Release = batch_of c.args.newest.now.config.now c.args.newest.now.tips.now (rows_of c.args.walks.now) (map holding_at c.args.self.now.held) in
+    let rises : RiseBy place_of releases = batch_rises c.args.newest.now.config.now c.args.newest.now.tips.now (rows_of c.args.walks.now) (map holding_at c.args.self.now.held) c.requires.orders in
     let told : map release_in c.order.new.batch.items ≡ releases = c.order.ensures.order releases rises c.try_span.ensures.releases in
     let proved : AreProved c.args.self.now.held c.order.new.batch.items = proved_permuted c.args.self.now.held c.try_span.new.batch.items c.order.new.batch.items c.order.ensures.same c.try_span.ensures.proved in
     let before : vec_capacity c.try_span.new.batch ≡ vec_capacity c.args.batch.now = c.try_span.ensures.capacity in

@@ -25,16 +25,16 @@ returns-clause-releases g c y e =
     let same : x ≡ y = cc in
     ap (map release_in) c.append.ensures.items ∙ map-released c.args.batch.now.items (option_to_list c.prove-proved.result)
     ∙ ap (λ rs. map release_in c.args.batch.now.items ++ rs)
-    (c.prove-proved.ensures.value ∙ ap (λ (n : ℕ). proof_of c.args.config.now c.args.tips.now (rows_of c.args.walks.now) (holding_in n c.item.result.now)) (sym c.requires.chains)
-    ∙ ap (λ (z : Placed). proof_of c.args.config.now c.args.tips.now (rows_of c.args.walks.now) z.holding) same)
+    (c.prove-proved.ensures.value ∙ ap (λ (n : ℕ). proof_of c.args.newest.now.config.now c.args.newest.now.tips.now (rows_of c.args.walks.now) (holding_in n c.item.result.now)) (sym c.requires.chains)
+    ∙ ap (λ (z : Placed). proof_of c.args.newest.now.config.now c.args.newest.now.tips.now (rows_of c.args.walks.now) z.holding) same)
 
 pub returns-clause-proved : goal.returns-clause-proved
 returns-clause-proved g c h =
     let x : Placed = record { place = c.args.place.0; holding = holding_in c.args.self.now.chains c.item.result.now } in
     ap (λ (qs : List Proved). list_all (λ (p : Proved). list_any (is_proved_by p) c.args.self.now.held) qs) c.append.ensures.items
     ∙ list_all_both (λ (p : Proved). list_any (is_proved_by p) c.args.self.now.held) c.args.batch.now.items (option_to_list c.prove-proved.result) h
-    (one_proved c.args.config.now c.args.tips.now (rows_of c.args.walks.now) c.args.self.now.held c.args.place x c.prove-proved.result c.item.ensures.item
-    (c.prove-proved.ensures.value ∙ ap (λ (n : ℕ). proof_of c.args.config.now c.args.tips.now (rows_of c.args.walks.now) (holding_in n c.item.result.now)) (sym c.requires.chains)) c.prove-proved.ensures.place)
+    (one_proved c.args.newest.now.config.now c.args.newest.now.tips.now (rows_of c.args.walks.now) c.args.self.now.held c.args.place x c.prove-proved.result c.item.ensures.item
+    (c.prove-proved.ensures.value ∙ ap (λ (n : ℕ). proof_of c.args.newest.now.config.now c.args.newest.now.tips.now (rows_of c.args.walks.now) (holding_in n c.item.result.now)) (sym c.requires.chains)) c.prove-proved.ensures.place)
 
 pub returns-clause-above : goal.returns-clause-above
 returns-clause-above g c y e =
@@ -48,5 +48,5 @@ returns-clause-cost g c y e =
     let x : Placed = record { place = c.args.place.0; holding = holding_in c.args.self.now.chains c.item.result.now } in
     let found : Some x ≡ Some y = sym c.item.ensures.item ∙ e in
     let same : x ≡ y = cc in
-    let paid = subst (λ (n : ℕ). c.prove-proved.new.steps + left c.args.tips.now c.prove-proved.new.walks ≤ c.args.steps.now + left c.args.tips.now c.args.walks.now + 2 * tries c.args.config.now c.args.tips.now (rows_of c.args.walks.now) (holding_in n c.item.result.now)) (sym c.requires.chains) c.prove-proved.ensures.cost in
-    subst (λ (z : Placed). c.prove-proved.new.steps + left c.args.tips.now c.prove-proved.new.walks ≤ c.args.steps.now + left c.args.tips.now c.args.walks.now + 2 * tries c.args.config.now c.args.tips.now (rows_of c.args.walks.now) z.holding) same paid
+    let paid = subst (λ (n : ℕ). c.prove-proved.new.steps + left c.args.newest.now.tips.now c.prove-proved.new.walks ≤ c.args.steps.now + left c.args.newest.now.tips.now c.args.walks.now + 2 * tries c.args.newest.now.config.now c.args.newest.now.tips.now (rows_of c.args.walks.now) (holding_in n c.item.result.now)) (sym c.requires.chains) c.prove-proved.ensures.cost in
+    subst (λ (z : Placed). c.prove-proved.new.steps + left c.args.newest.now.tips.now c.prove-proved.new.walks ≤ c.args.steps.now + left c.args.newest.now.tips.now c.args.walks.now + 2 * tries c.args.newest.now.config.now c.args.newest.now.tips.now (rows_of c.args.walks.now) z.holding) same paid

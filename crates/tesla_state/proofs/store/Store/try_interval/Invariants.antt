@@ -7,7 +7,7 @@ use Rattle.tesla_state.proofs.store.Store.try_interval.Given as goal
 
 abbrev pub invariant-loop-looked : goal.invariant-loop-looked
 invariant-loop-looked g l = record {
-  walk : Trying l.config l.tips l.initial.walks l.walks l.self.held l.interval l._looked l.next l.initial.batch.items l.batch.items;
+  walk : Trying l.newest.config.now l.newest.tips.now l.initial.walks l.walks l.self.held l.interval l._looked l.next l.initial.batch.items l.batch.items;
   capacity : vec_capacity l.batch ≡ vec_capacity l.initial.batch;
-  cost : l.steps + left l.tips l.walks ≤ l.initial.steps + left l.tips l.initial.walks + 2 * pairs l.config l.tips (rows_of l.initial.walks) (map holding_at (take l._looked (filter (is_unreleased_of l.interval) l.self.held)));
+  cost : l.steps + left l.newest.tips.now l.walks ≤ l.initial.steps + left l.newest.tips.now l.initial.walks + 2 * pairs l.newest.config.now l.newest.tips.now (rows_of l.initial.walks) (map holding_at (take l._looked (filter (is_unreleased_of l.interval) l.self.held)));
 }

@@ -8,9 +8,9 @@ use Rattle.tesla_state.proofs.store.Store.try_span.Given as goal
 
 abbrev pub invariant-loop-interval : goal.invariant-loop-interval
 invariant-loop-interval g l = record {
-  walk : Spanning l.config l.tips l.initial.walks l.walks l.self.held l.most l.batch.items;
+  walk : Spanning l.newest.config.now l.newest.tips.now l.initial.walks l.walks l.self.held l.most l.batch.items;
   capacity : vec_capacity l.batch ≡ vec_capacity l.initial.batch;
-  cost : l.steps + left l.tips l.walks ≤ l.initial.steps + left l.tips l.initial.walks + 2 * pairs l.config l.tips (rows_of l.initial.walks) (filter (is_past l.most) (map holding_at l.self.held));
+  cost : l.steps + left l.newest.tips.now l.walks ≤ l.initial.steps + left l.newest.tips.now l.initial.walks + 2 * pairs l.newest.config.now l.newest.tips.now (rows_of l.initial.walks) (filter (is_past l.most) (map holding_at l.self.held));
 }
 
 -- the intervals are tried from the highest down

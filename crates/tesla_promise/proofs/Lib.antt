@@ -1,4 +1,0 @@
-pub mod Each
-pub mod FromEnd
-pub mod Joined
-pub mod Spelled
