@@ -1,12 +1,6 @@
-pub mod Calls
 pub mod Clocks
 pub mod Faults
 pub mod Links
 pub mod Live
-pub mod LiveMemory
-pub mod Memory
 pub mod Outside
 pub mod Posts
-pub mod Settings
-pub mod Stored
-pub mod Sure

@@ -3,7 +3,7 @@
 ghost use Rattle.std.specs.Prelude.{◌≡◌, IfOk};
 
 use std::alloc::Global;
-use tesla_base::{NoMemory, Text};
+use tesla_base::{MOST_DATAGRAM, NoMemory, Text};
 
 /// What a link brings: a datagram, or the news that none came for a while.
 #[derive(Debug, Drop)]
@@ -59,7 +59,7 @@ pub trait Link {
 
     /// Takes the next letter, and puts a datagram, of at most 2,048 bytes, at the front of the buffer.
     /// `Failed` is answered exactly where the count of faults rose.
-    fn next(&mut self, into: &mut [u8; 2048]) -> Got
+    fn next(&mut self, into: &mut [u8; MOST_DATAGRAM]) -> Got
         ensures step { Gets (left self.old) (left self.new) into.new result }
         ensures cause { HasCause (faults self.old) (faults self.new) (result ≡ Got.Failed) }
         ensures name { name self.new ≡ name self.old };

@@ -11,7 +11,7 @@ use std::io;
 use std::io::ErrorKind;
 use std::net::{Net, UdpSocket};
 use std::os::fd::AsRawFd;
-use tesla_base::{Text, read_decimal};
+use tesla_base::{MOST_DATAGRAM, Text, read_decimal};
 use tesla_desk::{Got, Link};
 
 /// For how many bytes of datagrams that wait the system is asked.
@@ -119,7 +119,7 @@ impl Link for UdpLink {
 
     /// Asks the system once, unless the link has ended, and a second time only where the link was told a wait and no
     /// datagram is there. Of a longer datagram the bytes behind the first 2,048 are lost.
-    fn next(&mut self, into: &mut [u8; 2048]) -> Got {
+    fn next(&mut self, into: &mut [u8; MOST_DATAGRAM]) -> Got {
         if self.quiets.are_over() {
             return Got::End;
         }

@@ -11,6 +11,7 @@ use std::io::ErrorKind;
 use std::net::UdpSocket;
 use std::os::fd::AsRawFd;
 use std::time::Duration;
+use tesla_base::MOST_DATAGRAM;
 
 /// Why a call brought no datagram, and for how many microseconds it waited.
 #[derive(Clone, Copy)]
@@ -41,7 +42,7 @@ impl TimedSocket {
 
     /// Asks the system for a datagram. One that was told no wait asks once. One that was told a wait asks first for a
     /// datagram that is there already, and waits only where there is none.
-    pub(crate) fn receive(&mut self, into: &mut [u8; 2048]) -> Result<usize, Missed>
+    pub(crate) fn receive(&mut self, into: &mut [u8; MOST_DATAGRAM]) -> Result<usize, Missed>
         ensures fits { IfOk result (λ length. length ≤ 2048) }
         ensures waited { IfErr result (λ missed. missed.waited ≤ 100000) }
         ensures untold { self.old.told ≡ None → IfErr result (λ missed. missed.waited ≡ 100000) }
@@ -66,7 +67,7 @@ impl TimedSocket {
     }
 
     // A datagram that is there already.
-    fn receive_at_once(&self, into: &mut [u8; 2048]) -> Option<usize>
+    fn receive_at_once(&self, into: &mut [u8; MOST_DATAGRAM]) -> Option<usize>
         ensures { IfSome result (λ length. length ≤ 2048) }
     {
         let got = unsafe { c::recv(self.socket.as_raw_fd(), into, c::MSG_DONTWAIT) };
@@ -74,7 +75,7 @@ impl TimedSocket {
     }
 
     // The next datagram, where it comes in time.
-    fn receive_waiting(&self, into: &mut [u8; 2048]) -> Result<usize, ErrorKind>
+    fn receive_waiting(&self, into: &mut [u8; MOST_DATAGRAM]) -> Result<usize, ErrorKind>
         ensures { IfOk result (λ length. length ≤ 2048) }
     {
         match self.socket.recv(into) {
@@ -85,7 +86,7 @@ impl TimedSocket {
 
     // The next datagram, where it comes within so many microseconds. The system's own limit to a receive is rounded up
     // to its tick of some milliseconds, and that of a poll to a millisecond.
-    fn receive_within(&self, wait: u64, into: &mut [u8; 2048]) -> Result<usize, ErrorKind>
+    fn receive_within(&self, wait: u64, into: &mut [u8; MOST_DATAGRAM]) -> Result<usize, ErrorKind>
         ensures { IfOk result (λ length. length ≤ 2048) }
     {
         let mut asked = [pollfd {

@@ -1,0 +1,3 @@
+pub mod Mail
+mod Never
+pub mod Remembering
