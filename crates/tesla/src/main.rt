@@ -2,10 +2,11 @@
 #![tactic(auto)]
 
 use std::process::ExitCode;
-use tesla_cli_live::{is_live, run_live};
-use tesla_cli_recorded::{is_recorded, run_recorded};
+use tesla_cli_live::{
+    is_live, is_live_tool, is_recorded, live, live_tools, recorded, run_live, run_live_tools,
+    run_recorded,
+};
 use tesla_live::{Command, Gates, LiveDesk};
-use tesla_live_tools::{is_live_tool, run_live_tools};
 use tesla_program::{run_program, words};
 
 fn main(rt: HostRuntime) -> ExitCode {
@@ -31,9 +32,9 @@ fn main(rt: HostRuntime) -> ExitCode {
         }
     }
     let further = [
-        tesla_cli_live::FORMS.as_slice(),
-        tesla_cli_recorded::FORMS.as_slice(),
-        tesla_live_tools::FORMS.as_slice(),
+        live::FORMS.as_slice(),
+        recorded::FORMS.as_slice(),
+        live_tools::FORMS.as_slice(),
     ];
     run_program(rt.alloc(), words, &further, &mut desk)
 }

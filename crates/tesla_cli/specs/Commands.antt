@@ -1,8 +1,16 @@
--- The commands: the word that names each, and how they are told.
-use Rattle.std.specs.Prelude.{ℕ, Bool, true, false, List, [], ◌∷◌, ◌++◌, codes, flat_map}
+-- The commands over files, and the tools beside them: the word that names each, how they are told, and one run of a tool.
+use Rattle.std.specs.Prelude.{◌≡◌, ℕ, Bool, true, false, List, [], ◌∷◌, ◌++◌, codes, flat_map}
 use Rattle.std.specs.Str.{bytes_eq}
+use Rattle.tesla_desk.specs.Outside.{Told}
+use Rattle.tesla_front.specs.Came.{Came}
 use Rattle.tesla_front.specs.Command.{Command, no_command}
+use Rattle.tesla_front.specs.Printing.{RunsPrinting}
+use Rattle.tesla_front.specs.Run.{Runs}
+use Rattle.tesla_front.specs.Table.{command_in, is_named, where_named}
 use Rattle.tesla_front.specs.Usage.{usage_line}
+use Rattle.tesla_run_ask.specs.Asking.{ask}
+use Rattle.tesla_run_ask.specs.Replying.{reply}
+use Rattle.tesla_run_ask.specs.Usage as asks
 use Rattle.tesla_run_audit.specs.Audit.{audit}
 use Rattle.tesla_run_audit.specs.Usage as audits
 use Rattle.tesla_run_chain.specs.Chain.{chain}
@@ -17,6 +25,8 @@ use Rattle.tesla_run_roll.specs.Roll.{roll}
 use Rattle.tesla_run_roll.specs.Usage as rolls
 use Rattle.tesla_run_send.specs.Send.{send}
 use Rattle.tesla_run_send.specs.Usage as sends
+use Rattle.tesla_run_show.specs.Show.{show}
+use Rattle.tesla_run_show.specs.Usage as shows
 use Rattle.tesla_run_stress.specs.Stress.{stress}
 use Rattle.tesla_run_stress.specs.Usage as stresses
 use Rattle.tesla_run_trace.specs.Trace.{trace}
@@ -24,10 +34,7 @@ use Rattle.tesla_run_trace.specs.Usage as traces
 use Rattle.tesla_run_weave.specs.Weave.{weave}
 use Rattle.tesla_run_weave.specs.Usage as weaves
 
--- the command where the word is this one, and else another
-abbrev pub where_named : Bool → Command → Command → Command
-where_named true command other = command
-where_named false command other = other
+-- ---- the streams
 
 -- the command that a word names
 abbrev pub command_named : List ℕ → Command
@@ -47,13 +54,49 @@ command_named word =
 
 -- the command of these words: the first of them names it
 abbrev pub command_of : List (List ℕ) → Command
-command_of [] = no_command
-command_of (word ∷ words) = command_named word
+command_of words = command_in command_named words
 
 -- the words of each form, in the order in which they are told
 abbrev pub forms : List (List ℕ)
-forms = replays.usages ++ chains.usages ++ sends.usage ∷ lags.usage ∷ stresses.usage ∷ rolls.usage ∷ weaves.usage ∷ earlies.usage ∷ traces.usage ∷ audits.usage ∷ []
+forms =
+    replays.usages ++ chains.usages ++ sends.usage ∷ lags.usage ∷ stresses.usage ∷ rolls.usage ∷ weaves.usage ∷ earlies.usage ∷ traces.usage ∷ audits.usage ∷ []
 
 -- the usage lines of all
 abbrev pub usage : List ℕ
 usage = flat_map usage_line forms
+
+-- ---- the tools
+
+-- the first word names a tool
+abbrev pub IsTool : List (List ℕ) → Type 0
+IsTool words = is_named (codes "ask" ∷ codes "reply" ∷ codes "show" ∷ []) words ≡ true
+
+-- the tool that a word names, of those that print nothing before their end
+abbrev pub tool_named : List ℕ → Command
+tool_named word = where_named (bytes_eq word (codes "ask")) ask (where_named (bytes_eq word (codes "reply")) reply no_command)
+
+-- the tool of these words: the first of them names it
+abbrev pub tool_of : List (List ℕ) → Command
+tool_of words = command_in tool_named words
+
+-- the words of each form, in the order in which they are told
+abbrev pub tool_forms : List (List ℕ)
+tool_forms = asks.usages ++ shows.usage ∷ []
+
+-- the usage lines of all
+abbrev pub tool_usage : List ℕ
+tool_usage = flat_map usage_line tool_forms
+
+-- the first word names show, which prints lines while it goes
+abbrev pub names_show : List (List ℕ) → Bool
+names_show [] = false
+names_show (word ∷ words) = bytes_eq word (codes "show")
+
+-- a run of words, told whether they are for show
+abbrev pub runs_where : Bool → List (List ℕ) → Told → Told → Came → Type 0
+runs_where true words old new told = RunsPrinting show tool_usage words old new told
+runs_where false words old new told = Runs (tool_of words) tool_usage words old new told
+
+-- one run of the words over a desk: what it tells before and after, and what the run came to, as it was told
+abbrev pub RunsTool : List (List ℕ) → Told → Told → Came → Type 0
+RunsTool words old new told = runs_where (names_show words) words old new told

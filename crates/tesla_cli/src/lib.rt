@@ -1,9 +1,10 @@
-//! The commands that run without threads: which word names each, and one run of them.
+//! The commands over files, in two tables, that of the streams themselves and that of the tools beside them: which word
+//! names each, and one run of any words.
 #![tactic(auto)]
 
-mod commands;
 mod here;
 pub mod laws;
+mod tools;
 
-pub use commands::{FORMS, run_words};
-pub use here::run_here;
+pub use here::{FORMS, run_here};
+pub use tools::{TOOLS, is_tool, run_tools};

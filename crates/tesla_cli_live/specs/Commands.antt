@@ -1,70 +1,113 @@
--- The live commands: the word that names each, how they are told, and one run of them.
-use Rattle.std.specs.Prelude.{◌≡◌, ◌⊎◌, ◌++◌, ℕ, Bool, true, false, List, [], ◌∷◌, Option, None, codes, flat_map}
+-- The live commands, in three tables: the word that names each, how they are told, and one run of them.
+use Rattle.std.specs.Prelude.{◌≡◌, ◌++◌, ℕ, true, List, [], ◌∷◌, Option, codes, flat_map}
 use Rattle.std.specs.Str.{bytes_eq}
 use Rattle.tesla_desk.specs.Live.{Live}
 use Rattle.tesla_desk.specs.Outside.{Told}
 use Rattle.tesla_front.specs.Came.{Came}
-use Rattle.tesla_front.specs.Command.{Command, IsNoForm, no_command}
-use Rattle.tesla_front.specs.Run.{HasNoConsole, HasConsole}
+use Rattle.tesla_front.specs.Command.{Command, no_command}
+use Rattle.tesla_front.specs.Table.{IsFirst, RunsLeaving, RunsTable, command_in, is_named, where_named}
 use Rattle.tesla_front.specs.Usage.{usage_line}
 use Rattle.tesla_receiver.specs.declared.history.Entry.{Entry}
-use Rattle.tesla_turn.specs.Held.{Ended}
+use Rattle.tesla_run_capture.specs.Capture.{capture}
+use Rattle.tesla_run_capture.specs.Usage as capturing
+use Rattle.tesla_run_feed.specs.Feeding.{feed}
+use Rattle.tesla_run_feed.specs.Usage as feeding
 use Rattle.tesla_run_play.specs.Playing.{play}
 use Rattle.tesla_run_play.specs.Usage as playing
 use Rattle.tesla_run_receive.specs.Receive.{receive}
 use Rattle.tesla_run_receive.specs.Usage as receiving
+use Rattle.tesla_run_record.specs.Record.{recording}
+use Rattle.tesla_run_record.specs.Usage as records
 use Rattle.tesla_run_relay.specs.Relay.{relay}
 use Rattle.tesla_run_relay.specs.Usage as relaying
+use Rattle.tesla_run_watch.specs.Usage as watches
+use Rattle.tesla_run_watch.specs.Watch.{watching}
+use Rattle.tesla_turn.specs.Held.{Ended}
 
--- the word names a live command
-abbrev pub NamesLive : List ℕ → Type 0
-NamesLive word = (word ≡ codes "receive") ⊎ (word ≡ codes "relay") ⊎ (word ≡ codes "play")
+-- ---- receive, relay and play
 
 -- the first word names one
 abbrev pub IsLive : List (List ℕ) → Type 0
-IsLive [] = ⊥
-IsLive (word ∷ words) = NamesLive word
-
--- the command where the word is this one, and else another
-abbrev pub where_named : Bool → Command → Command → Command
-where_named true command other = command
-where_named false command other = other
+IsLive words = is_named (codes "receive" ∷ codes "relay" ∷ codes "play" ∷ []) words ≡ true
 
 -- the command that a word names, told what the desk has of links, posts and clocks before and afterwards, and the end of the turn where there was one
-abbrev pub command_named : Live → Live → Option (Ended Entry) → List ℕ → Command
-command_named before now last word =
-    where_named (bytes_eq word (codes "receive")) (receive before now last)
-    (where_named (bytes_eq word (codes "relay")) (relay before now) (where_named (bytes_eq word (codes "play")) (play before now) no_command))
+abbrev pub live_named : Live → Live → Option (Ended Entry) → List ℕ → Command
+live_named before now last word =
+    where_named (bytes_eq word (codes "receive")) (receive before now last) (
+    where_named (bytes_eq word (codes "relay")) (relay before now) (
+    where_named (bytes_eq word (codes "play")) (play before now)
+    no_command))
 
 -- the command of these words: the first of them names it
-abbrev pub command_of : Live → Live → Option (Ended Entry) → List (List ℕ) → Command
-command_of before now last [] = no_command
-command_of before now last (word ∷ words) = command_named before now last word
+abbrev pub live_of : Live → Live → Option (Ended Entry) → List (List ℕ) → Command
+live_of before now last words = command_in (live_named before now last) words
 
--- the first word names the command that makes a history
+-- the first word names the command that leaves a history
 abbrev pub IsReceive : List (List ℕ) → Type 0
-IsReceive [] = ⊥
-IsReceive (word ∷ words) = word ≡ codes "receive"
+IsReceive words = IsFirst (codes "receive") words
 
--- the words of each form, in the order in which they are told
-abbrev pub forms : List (List ℕ)
-forms = receiving.usages ++ relaying.usages ++ playing.usages
+-- the usage lines of all, in the order in which they are told
+abbrev pub live_usage : List ℕ
+live_usage = flat_map usage_line (receiving.usages ++ relaying.usages ++ playing.usages)
 
--- the usage lines of all
-abbrev pub usage : List ℕ
-usage = flat_map usage_line forms
+-- the words were run as those of their command; of relay and play, and of words that are no form, there is no history
+abbrev pub RunsLiveWords : List (List ℕ) → Told → Told → Option (Ended Entry) → Came → Type 0
+RunsLiveWords words old new last came = RunsLeaving (λ before now left. live_of before now left words) (IsReceive words) words old new last came
 
--- a run without the console: nothing else was opened
-abbrev pub RunsUnheard : Told → Told → Option (Ended Entry) → Came → Type 0
-RunsUnheard old new last told = HasNoConsole old new told × (last ≡ None)
-
--- a run with it: the words are no form, or the command did what it does; of relay and play, and of words that are no form, there is no history
-abbrev pub RunsHeard : List (List ℕ) → Told → Told → Option (Ended Entry) → Came → Type 0
-RunsHeard words old new last told =
-    HasConsole (command_of old.live new.live last words) usage words old new told
-    × (IsNoForm (command_of old.live new.live last words) words → last ≡ None)
-    × ((IsReceive words → ⊥) → last ≡ None)
-
--- one run of the words over a desk: what it tells before and after, the whole history where there is one, and what the run came to, as it was told
+-- one run of the words over a desk, with the console
 abbrev pub RunsLive : List (List ℕ) → Told → Told → Option (Ended Entry) → Came → Type 0
-RunsLive words old new last told = RunsUnheard old new last told ⊎ RunsHeard words old new last told
+RunsLive words old new last told = RunsTable (λ before now left. live_of before now left words) (IsReceive words) live_usage words old new last told
+
+-- ---- capture, feed and watch
+
+-- the first word names one
+abbrev pub IsLiveTool : List (List ℕ) → Type 0
+IsLiveTool words = is_named (codes "capture" ∷ codes "feed" ∷ codes "watch" ∷ []) words ≡ true
+
+-- the tool that a word names, told the same
+abbrev pub live_tool_named : Live → Live → Option (Ended Entry) → List ℕ → Command
+live_tool_named before now last word =
+    where_named (bytes_eq word (codes "capture")) (capture before now) (
+    where_named (bytes_eq word (codes "feed")) (feed before now) (
+    where_named (bytes_eq word (codes "watch")) (watching before now last)
+    no_command))
+
+-- the tool of these words: the first of them names it
+abbrev pub live_tool_of : Live → Live → Option (Ended Entry) → List (List ℕ) → Command
+live_tool_of before now last words = command_in (live_tool_named before now last) words
+
+-- the first word names the tool that leaves a history
+abbrev pub IsWatching : List (List ℕ) → Type 0
+IsWatching words = IsFirst (codes "watch") words
+
+-- the usage lines of all, in the order in which they are told
+abbrev pub live_tool_usage : List ℕ
+live_tool_usage = flat_map usage_line (capturing.usages ++ feeding.usages ++ watches.usages)
+
+-- the words were run as those of their tool; of capture and feed, and of words that are no form, there is no history
+abbrev pub RunsLiveToolWords : List (List ℕ) → Told → Told → Option (Ended Entry) → Came → Type 0
+RunsLiveToolWords words old new last came =
+    RunsLeaving (λ before now left. live_tool_of before now left words) (IsWatching words) words old new last came
+
+-- one run of the words over a desk, with the console
+abbrev pub RunsLiveTools : List (List ℕ) → Told → Told → Option (Ended Entry) → Came → Type 0
+RunsLiveTools words old new last told =
+    RunsTable (λ before now left. live_tool_of before now left words) (IsWatching words) live_tool_usage words old new last told
+
+-- ---- record
+
+-- the first word names it
+abbrev pub IsRecorded : List (List ℕ) → Type 0
+IsRecorded words = is_named (codes "record" ∷ []) words ≡ true
+
+-- the usage lines
+abbrev pub record_usage : List ℕ
+record_usage = flat_map usage_line records.usages
+
+-- the words were run as those of record; of words that are not its form there is no history
+abbrev pub RunsRecordedWords : List (List ℕ) → Told → Told → Option (Ended Entry) → Came → Type 0
+RunsRecordedWords words old new last came = RunsLeaving recording (Unit {0}) words old new last came
+
+-- one run of the words over a desk, with the console
+abbrev pub RunsRecorded : List (List ℕ) → Told → Told → Option (Ended Entry) → Came → Type 0
+RunsRecorded words old new last told = RunsTable recording (Unit {0}) record_usage words old new last told

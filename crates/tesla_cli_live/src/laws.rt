@@ -3,35 +3,50 @@
 ghost use Rattle.std.specs.Prelude.{◌≡◌, ℕ, List, Option, map, string_bytes};
 ghost use Rattle.tesla_desk.specs.Live.{Live};
 ghost use Rattle.tesla_desk.specs.Outside.{Told};
-ghost use Rattle.tesla_desk.specs.Sure.{sure_told_by};
+ghost use Rattle.tesla_memory_desk.specs.Sure.{sure_told_by};
 ghost use Rattle.tesla_front.specs.Came.{Came, status_of};
 ghost use Rattle.tesla_front.specs.Command.{Performs, RunsAs};
 ghost use Rattle.tesla_front.specs.Fault.{IsUnfailed};
 ghost use Rattle.tesla_receiver.specs.declared.history.Entry.{Entry};
+ghost use Rattle.tesla_turn.specs.Held.{Ended};
+ghost use Rattle.tesla_cli_live.specs.Commands.{IsLive, IsLiveTool, IsRecorded, RunsLive, RunsLiveTools, RunsRecorded, live_of, live_tool_of};
+ghost use Rattle.tesla_run_capture.specs.Arguments.{CaptureArguments, IsCaptureForm};
+ghost use Rattle.tesla_run_capture.specs.Capture.{capture};
+ghost use Rattle.tesla_run_feed.specs.Arguments.{FeedArguments, IsFeedForm};
+ghost use Rattle.tesla_run_feed.specs.Feeding.{feed};
 ghost use Rattle.tesla_run_play.specs.Arguments.{IsPlayForm, PlayArguments};
 ghost use Rattle.tesla_run_play.specs.Playing.{play};
 ghost use Rattle.tesla_run_receive.specs.Arguments.{IsReceive, ReceiveArguments};
 ghost use Rattle.tesla_run_receive.specs.Receive.{receive};
+ghost use Rattle.tesla_run_record.specs.Arguments.{IsRecord};
 ghost use Rattle.tesla_run_relay.specs.Arguments.{IsRelayForm, RelayArguments};
 ghost use Rattle.tesla_run_relay.specs.Relay.{relay};
-ghost use Rattle.tesla_turn.specs.Held.{Ended};
-ghost use Rattle.tesla_cli_live.specs.Commands.{IsLive, RunsLive, command_of};
+ghost use Rattle.tesla_run_watch.specs.Arguments.{IsWatch};
+ghost use Rattle.tesla_run_watch.specs.Watch.{watching};
+ghost use Rattle.tesla_run_receive.specs.OutputArguments.{OutputArguments};
 
-use crate::{Done, run_live};
+use crate::{Done, LiveToolsDone, RecordedDone, run_live, run_live_tools, run_recorded};
 use std::alloc::Global;
 use std::sync::Wait;
 use std::thread::Threads;
-use tesla_desk::SureDesk;
+use tesla_memory_desk::SureDesk;
 
-/// Words that are a form of some command are run as that command, and are for this table: the first word of each form
+/// Words that are a form of some command are run as that command, and are for its table: the first word of each form
 /// names it.
 pub fn forms_are_named()
-    ensures receives { (arguments : ReceiveArguments) (words : List (List ℕ)) (before now : Live) (last : Option (Ended Entry)) (old new : Told) (came : Came) → IsReceive arguments words → RunsAs (command_of before now last words) words old new came → Performs (receive before now last) arguments old new came }
-    ensures relays { (arguments : RelayArguments) (words : List (List ℕ)) (before now : Live) (last : Option (Ended Entry)) (old new : Told) (came : Came) → IsRelayForm arguments words → RunsAs (command_of before now last words) words old new came → Performs (relay before now) arguments old new came }
-    ensures plays { (arguments : PlayArguments) (words : List (List ℕ)) (before now : Live) (last : Option (Ended Entry)) (old new : Told) (came : Came) → IsPlayForm arguments words → RunsAs (command_of before now last words) words old new came → Performs (play before now) arguments old new came }
+    ensures receives { (arguments : ReceiveArguments) (words : List (List ℕ)) (before now : Live) (last : Option (Ended Entry)) (old new : Told) (came : Came) → IsReceive arguments words → RunsAs (live_of before now last words) words old new came → Performs (receive before now last) arguments old new came }
+    ensures relays { (arguments : RelayArguments) (words : List (List ℕ)) (before now : Live) (last : Option (Ended Entry)) (old new : Told) (came : Came) → IsRelayForm arguments words → RunsAs (live_of before now last words) words old new came → Performs (relay before now) arguments old new came }
+    ensures plays { (arguments : PlayArguments) (words : List (List ℕ)) (before now : Live) (last : Option (Ended Entry)) (old new : Told) (came : Came) → IsPlayForm arguments words → RunsAs (live_of before now last words) words old new came → Performs (play before now) arguments old new came }
     ensures receive_is { (arguments : ReceiveArguments) (words : List (List ℕ)) → IsReceive arguments words → IsLive words }
     ensures relay_is { (arguments : RelayArguments) (words : List (List ℕ)) → IsRelayForm arguments words → IsLive words }
     ensures play_is { (arguments : PlayArguments) (words : List (List ℕ)) → IsPlayForm arguments words → IsLive words }
+    ensures captures { (arguments : CaptureArguments) (words : List (List ℕ)) (before now : Live) (last : Option (Ended Entry)) (old new : Told) (came : Came) → IsCaptureForm arguments words → RunsAs (live_tool_of before now last words) words old new came → Performs (capture before now) arguments old new came }
+    ensures feeds { (arguments : FeedArguments) (words : List (List ℕ)) (before now : Live) (last : Option (Ended Entry)) (old new : Told) (came : Came) → IsFeedForm arguments words → RunsAs (live_tool_of before now last words) words old new came → Performs (feed before now) arguments old new came }
+    ensures watches { (arguments : OutputArguments) (words : List (List ℕ)) (before now : Live) (last : Option (Ended Entry)) (old new : Told) (came : Came) → IsWatch arguments words → RunsAs (live_tool_of before now last words) words old new came → Performs (watching before now last) arguments old new came }
+    ensures capture_is { (arguments : CaptureArguments) (words : List (List ℕ)) → IsCaptureForm arguments words → IsLiveTool words }
+    ensures feed_is { (arguments : FeedArguments) (words : List (List ℕ)) → IsFeedForm arguments words → IsLiveTool words }
+    ensures watch_is { (arguments : OutputArguments) (words : List (List ℕ)) → IsWatch arguments words → IsLiveTool words }
+    ensures record_is { (arguments : OutputArguments) (words : List (List ℕ)) → IsRecord arguments words → IsRecorded words }
 {}
 
 /// Runs the words as the top call does, over a desk on which no call from outside fails. The status is never 4, 5 or 7.
@@ -45,4 +60,30 @@ pub fn run_surely<R: Threads + Wait + Sync>(
     ensures unfailed { IsUnfailed result.status }
 {
     run_live(rt, alloc, words, desk)
+}
+
+/// The same of the live tools.
+pub fn run_live_tools_surely<R: Threads + Wait + Sync>(
+    rt: &R,
+    alloc: Global,
+    words: &[String],
+    desk: &mut SureDesk,
+) -> LiveToolsDone
+    ensures came { (told : Came) × (result.status ≡ status_of told) × RunsLiveTools (map string_bytes words.now) (sure_told_by desk.old) (sure_told_by desk.new) result.last told }
+    ensures unfailed { IsUnfailed result.status }
+{
+    run_live_tools(rt, alloc, words, desk)
+}
+
+/// The same of `record`.
+pub fn run_recorded_surely<R: Threads + Wait + Sync>(
+    rt: &R,
+    alloc: Global,
+    words: &[String],
+    desk: &mut SureDesk,
+) -> RecordedDone
+    ensures came { (told : Came) × (result.status ≡ status_of told) × RunsRecorded (map string_bytes words.now) (sure_told_by desk.old) (sure_told_by desk.new) result.last told }
+    ensures unfailed { IsUnfailed result.status }
+{
+    run_recorded(rt, alloc, words, desk)
 }

@@ -1,20 +1,54 @@
-//! The top call of the live commands.
+//! The live commands: their forms, which word names each, and one run of them.
 
-ghost use Rattle.std.specs.Prelude.{◌≡◌, map, string_bytes};
-ghost use Rattle.tesla_front.specs.Came.{Came, outcome_came, status_of};
+ghost use Rattle.std.specs.Prelude.{◌≡◌, None, true, false, map, string_bytes};
+ghost use Rattle.tesla_front.specs.Came.{Came, Usage, outcome_came, status_of};
+ghost use Rattle.tesla_front.specs.Command.{RunsAs};
 ghost use Rattle.tesla_front.specs.Run.{HasStatusCauses};
-ghost use Rattle.tesla_cli_live.specs.Commands.{RunsLive};
+ghost use Rattle.tesla_cli_live.specs.Commands.{IsLive, IsReceive, RunsLive, RunsLiveWords, live_of};
 
-use crate::FORMS;
-use crate::commands::run_words;
 use std::alloc::Global;
 use std::sync::Wait;
 use std::thread::Threads;
-use tesla_desk::{CONSOLE, Desk};
-use tesla_front::{Fault, Outcome, tell};
+use tesla_desk::Desk;
+use tesla_front::{FormText, LiveRun, Outcome, is_named, run_table, without_history};
 use tesla_receiver::Receiver;
-use tesla_run_receive::Received;
+use tesla_run_play::{PLAY, run_play};
+use tesla_run_receive::{RECEIVE, run_receive};
+use tesla_run_relay::{RELAY, run_relay};
 use tesla_turn::Last;
+
+/// The forms of the commands, in the order in which they are told.
+pub const FORMS: [FormText; 3] = [RECEIVE, RELAY, PLAY];
+
+/// Whether the words are for this table: the first of them names one of its commands.
+pub fn is_live(words: &[String]) -> bool
+    ensures yes { result ≡ true → IsLive (map string_bytes words.now) }
+    ensures no { result ≡ false → IsLive (map string_bytes words.now) → ⊥ }
+{
+    is_named(words, &["receive", "relay", "play"])
+}
+
+// Runs the words as those of the command that the first of them names. `Usage` where it names none, or there is no
+// word, and then nothing was opened. There is a history behind `receive` alone.
+fn run_words<R: Threads + Wait + Sync, D: Desk>(
+    rt: &R,
+    alloc: Global,
+    words: &[String],
+    desk: &mut D,
+) -> LiveRun<Last<Receiver>>
+    ensures runs { RunsAs (live_of (D.told desk.old).live (D.told desk.new).live result.last (map string_bytes words.now)) (map string_bytes words.now) (D.told desk.old) (D.told desk.new) (outcome_came result.outcome) }
+    ensures none { outcome_came result.outcome ≡ Usage → result.last ≡ None }
+    ensures others { (IsReceive (map string_bytes words.now) → ⊥) → result.last ≡ None }
+{
+    match words {
+        [word, ..] if word.as_str() == "receive" => run_receive(rt, alloc, words, desk),
+        [word, ..] if word.as_str() == "relay" => without_history(run_relay(
+            rt, alloc, words, desk,
+        )),
+        [word, ..] if word.as_str() == "play" => without_history(run_play(rt, alloc, words, desk)),
+        _ => without_history(Outcome::Usage),
+    }
+}
 
 /// What a run of a live command came to.
 #[derive(Drop)]
@@ -29,13 +63,13 @@ pub struct Done {
 /// Runs the words as those of the command that the first of them names, over the desk.
 ///
 /// The console is opened first, and then what the command opens, each once, in the order of its form and as far as it
-/// comes. What the command came to is told on the console. It waits for links, for the turns of its workers, and for the
-/// readings of clocks.
+/// comes. What the command came to is told on the console. It waits for links, for the turns of its workers, and for
+/// the readings of clocks.
 ///
-/// 0: it came to its end, and the report was told. 1: the words are no form of a command. 2: SETUP isn't a setup. 3: CAPTURE
-/// is no capture, and the arrivals before the place that is refused were sent. 4: a link, or a read of SETUP or CAPTURE,
-/// failed. 5: a write or a post failed. 6: there was no memory, and nothing was received or sent. 7: something wasn't
-/// opened. 11: the calls of a worker were spent.
+/// 0: it came to its end, and the report was told. 1: the words are no form of a command. 2: SETUP isn't a setup. 3:
+/// CAPTURE is no capture, and the arrivals before the place that is refused were sent. 4: a link, or a read of SETUP or
+/// CAPTURE, failed. 5: a write or a post failed. 6: there was no memory, and nothing was received or sent. 7: something
+/// wasn't opened. 11: the calls of a worker were spent.
 pub fn run_live<R: Threads + Wait + Sync, D: Desk>(
     rt: &R,
     alloc: Global,
@@ -45,35 +79,16 @@ pub fn run_live<R: Threads + Wait + Sync, D: Desk>(
     ensures came { (told : Came) × (result.status ≡ status_of told) × RunsLive (map string_bytes words.now) (D.told desk.old) (D.told desk.new) result.last told }
     ensures causes { HasStatusCauses result.status (D.told desk.old).faults (D.told desk.new).faults }
 {
-    let Received { outcome, last } = run_told(rt, alloc, words, desk);
+    let run = run_table(
+        words,
+        desk,
+        &FORMS,
+        move |words: &[String], desk: &mut D|
+            ensures { RunsLiveWords (map string_bytes words.now) (D.told desk.old) (D.told desk.new) result.last (outcome_came result.outcome) }
+        { run_words(rt, alloc, words, desk) },
+    );
     Done {
-        status: outcome.status(),
-        last,
-    }
-}
-
-// The same, with what it came to as it was told.
-fn run_told<R: Threads + Wait + Sync, D: Desk>(
-    rt: &R,
-    alloc: Global,
-    words: &[String],
-    desk: &mut D,
-) -> Received
-    ensures { RunsLive (map string_bytes words.now) (D.told desk.old) (D.told desk.new) result.last (outcome_came result.outcome) }
-{
-    match desk.open_sink(CONSOLE) {
-        Ok(mut console) => {
-            let Received { outcome, last } = run_words(rt, alloc, words, desk);
-            let told = tell(&mut console, &FORMS, outcome);
-            desk.close_sink(console);
-            Received {
-                outcome: told,
-                last,
-            }
-        }
-        Err(refusal) => Received {
-            outcome: Outcome::Failed(Fault::from(refusal)),
-            last: None,
-        },
+        status: run.outcome.status(),
+        last: run.last,
     }
 }

@@ -3,7 +3,7 @@ use Rattle.std.proofs.Common.{◌≡◌, ◌∙◌, ◌≢◌, ◌⊎◌, inl, i
 use Rattle.std.proofs.lemmas.Bool.Decides.{nat_tests}
 use Rattle.tesla_desk.specs.Live.{Live}
 use Rattle.tesla_desk.specs.Faults.{Faults, HasCausesBeside, after_sink}
-use Rattle.tesla_desk.specs.Outside.{Page, Holds, Told, Opening, OfSink, OfPost, OpensSink, ClosesSink, with_opening, with_openings, page_of}
+use Rattle.tesla_desk.specs.Outside.{Page, Holds, Told, Opening, OfSink, OfPost, OpensSink, with_opening, with_openings, page_of}
 use Rattle.tesla_desk.specs.declared.desk.OpenRefusal.{OpenRefusal}
 use Rattle.tesla_desk.specs.declared.desk.OpenRefusal.TheVariants as refused
 use Rattle.tesla_desk.proofs.Counts.{cause_as}
@@ -14,7 +14,8 @@ use Rattle.tesla_front.specs.Console.{Shows, Tells}
 use Rattle.tesla_front.specs.Fault.{unopened}
 use Rattle.tesla_front.specs.Files.{HasFailed, HasFailedMail}
 use Rattle.tesla_front.specs.Openings.{AnyFailed, AreFiles, File, files_told}
-use Rattle.tesla_front.specs.Run.{HasConsole, HasNoConsole, IsDoneAs, Runs, TellsUsage, console}
+use Rattle.tesla_front.specs.Run.{HasConsole, HasNoConsole, IsDoneAs, TellsUsage, console}
+use Rattle.tesla_front.specs.Table.{Tolds}
 use Rattle.tesla_front.specs.declared.fault.Fault.TheVariants as faults
 use Rattle.tesla_front.proofs.Openings.{files_same, stays_all}
 
@@ -62,25 +63,10 @@ unopened_console A refusal old new opens = record {
   counts = record { reads = opens.counts.reads; writes = opens.counts.writes; openings = cause_as old.faults.openings new.faults.openings opens.counts.openings (failed_open A refusal) (open_failed A refusal) };
 }
 
-pub console_unopened : (A : Type 0) (command : Command) (usage : List ℕ) (words : List (List ℕ)) (refusal : OpenRefusal) (old new : Told) → OpensSink {A = A} (codes "-") (Err refusal) old new → Runs command usage words old new (Failed (unopened refusal))
-console_unopened A command usage words refusal old new opens = inl (unopened_console A refusal old new opens)
-
 -- ---- the console was opened
 
--- it was opened before what was done, told what came, and closed
-pub record Tolds (usage : List ℕ) (old opened done new : Told) (came told : Came) (written : Option (List ℕ)) (failed : ℕ) : Type 0 where
-  pub asked : opened.openings ≡ with_opening old.openings console
-  pub pages : (name : List ℕ) → name ≢ codes "-" → opened.page name ≡ old.page name
-  pub lefts : (name : List ℕ) → opened.left name ≡ old.left name
-  pub live : opened.live ≡ old.live
-  pub counts : opened.faults ≡ old.faults
-  pub before : Option (List ℕ)
-  pub empty : IfSome before (λ bytes. bytes ≡ [])
-  pub tells : Tells usage came told before written failed
-  pub closes : ClosesSink (codes "-") written failed done new
-
 shown : (usage : List ℕ) (old opened done new : Told) (came told : Came) (written : Option (List ℕ)) (failed : ℕ) → Tolds usage old opened done new came told written failed → Shows usage came told failed (new.page (codes "-"))
-shown usage old opened done new came told written failed it = subst (λ (p : Page). Shows usage came told failed p) (sym it.closes.own) (shows_by usage came told it.before written failed it.empty it.tells)
+shown usage old opened done new came told written failed it = subst (λ (p : Page). Shows usage came told failed p) (sym it.closes.own) (shows_by usage came told it.before written failed it.opens.empty it.tells)
 
 usage_stays : (usage : List ℕ) (told : Came) (before now : Option (List ℕ)) (failed : ℕ) → Tells usage Usage told before now failed → told ≡ Usage
 usage_stays usage told before now failed (inl it) = it.0
@@ -91,13 +77,13 @@ refused_run : (usage : List ℕ) (old opened done new : Told) (came told : Came)
 refused_run usage old opened done new came told written failed it is still =
     let one : Tolds usage old opened opened new Usage told written failed = subst (λ (c : Came). Tolds usage old opened opened new c told written failed) is (subst (λ (t : Told). Tolds usage old opened t new came told written failed) still it) in
     record {
-      asked = one.closes.asked ∙ one.asked ∙ openings_none (with_opening old.openings console) ∙ openings_first old.openings console [];
-      pages = λ name other. one.closes.pages name other ∙ one.pages name other;
-      lefts = λ name. one.closes.lefts name ∙ one.lefts name;
-      live = one.closes.live ∙ one.live;
+      asked = one.closes.asked ∙ one.opens.asked ∙ openings_none (with_opening old.openings console) ∙ openings_first old.openings console [];
+      pages = λ name other. one.closes.pages name other ∙ one.opens.pages name other;
+      lefts = λ name. one.closes.lefts name ∙ one.opens.lefts name;
+      live = one.closes.live ∙ one.opens.live;
       is_usage = usage_stays usage told one.before written failed one.tells;
       failed = failed;
-      counts = one.closes.counts ∙ ap (λ f. after_sink f failed) one.counts;
+      counts = one.closes.counts ∙ ap (λ f. after_sink f failed) one.opens.counts;
       shows = shown usage old opened opened new Usage told written failed one;
     }
 
@@ -123,15 +109,15 @@ wider files came old counts done new to causes = record {
 done_run : (command : Command) (usage : List ℕ) (arguments : command.Arguments) (old opened done new : Told) (came told : Came) (written : Option (List ℕ)) (failed : ℕ) → Tolds usage old opened done new came told written failed → Performs command arguments opened done came → IsDoneAs command arguments usage old new told
 done_run command usage arguments old opened done new came told written failed it performs = record {
   opened = performs.opened;
-  asked = it.closes.asked ∙ performs.opens.asked ∙ ap (λ asked. with_openings asked (take performs.opened (command.files arguments))) it.asked ∙ openings_first old.openings console (take performs.opened (command.files arguments));
-  pages = λ name other none. it.closes.pages name other ∙ performs.opens.pages name none ∙ it.pages name other;
-  lefts = λ name none. it.closes.lefts name ∙ performs.opens.lefts name none ∙ it.lefts name;
+  asked = it.closes.asked ∙ performs.opens.asked ∙ ap (λ asked. with_openings asked (take performs.opened (command.files arguments))) it.opens.asked ∙ openings_first old.openings console (take performs.opened (command.files arguments));
+  pages = λ name other none. it.closes.pages name other ∙ performs.opens.pages name none ∙ it.opens.pages name other;
+  lefts = λ name none. it.closes.lefts name ∙ performs.opens.lefts name none ∙ it.opens.lefts name;
   came = came;
-  does = subst (λ (files : List File). command.Does arguments performs.opened files (files_told new (command.files arguments)) came) (files_same (command.files arguments) old opened performs.named it.pages it.lefts)
+  does = subst (λ (files : List File). command.Does arguments performs.opened files (files_told new (command.files arguments)) came) (files_same (command.files arguments) old opened performs.named it.opens.pages it.opens.lefts)
       (subst (λ (files : List File). command.Does arguments performs.opened (files_told opened (command.files arguments)) files came) (sym (files_same (command.files arguments) done new performs.named it.closes.pages it.closes.lefts)) performs.does);
   before_console = done.faults;
   counts = wider (command.files arguments) came old.faults done.faults done new (failed_stays (command.files arguments) done new performs.named it.closes.pages it.closes.live)
-      (subst (λ (f : Faults). HasCausesBeside ((came ≡ Failed faults.Read) × AnyFailed (command.files arguments) done) f done.faults (came ≡ Failed faults.Read) (came ≡ Failed faults.Write) (came ≡ Failed faults.Open)) it.counts performs.counts);
+      (subst (λ (f : Faults). HasCausesBeside ((came ≡ Failed faults.Read) × AnyFailed (command.files arguments) done) f done.faults (came ≡ Failed faults.Read) (came ≡ Failed faults.Write) (came ≡ Failed faults.Open)) it.opens.counts performs.counts);
   failed = failed;
   closed = it.closes.counts;
   shows = shown usage old opened done new came told written failed it;
@@ -148,6 +134,6 @@ console_opened command usage words old opened done new came told written failed 
 pub live_console_opened : (command : Live → Live → Command) (usage : List ℕ) (words : List (List ℕ)) (old opened done new : Told) (came told : Came) (written : Option (List ℕ)) (failed : ℕ) → Tolds usage old opened done new came told written failed
     → RunsAs (command opened.live done.live) words opened done came → HasConsole (command old.live new.live) usage words old new told
 live_console_opened command usage words old opened done new came told written failed it runs =
-    subst (λ (live : Live). HasConsole (command live new.live) usage words old new told) it.live
+    subst (λ (live : Live). HasConsole (command live new.live) usage words old new told) it.opens.live
     (subst (λ (live : Live). HasConsole (command opened.live live) usage words old new told) (sym it.closes.live)
     (console_opened (command opened.live done.live) usage words old opened done new came told written failed it runs))

@@ -3,8 +3,11 @@ pub mod Openings
 pub mod Told
 pub mod Consoles
 pub mod Printing
+pub mod Tables
 mod Streams
 mod Slashes
 pub mod Commands
 pub mod WordLists
 pub mod Statuses
+mod Among
+mod Parts

@@ -1,26 +1,25 @@
 -- A console that was opened before, on which a command printed lines, and that was told what came, and closed.
-use Rattle.std.proofs.Common.{◌≡◌, ◌∙◌, ◌≢◌, inl, inr, ◌<◌, ◌+◌, ℕ, Bool, true, false, nat_lt, Option, Some, None, IfSome, Err, List, [], ◌++◌, length, take, codes, refl, sym, ap, subst, arith}
+use Rattle.std.proofs.Common.{◌≡◌, ◌∙◌, inl, inr, ◌<◌, ◌+◌, ℕ, Bool, true, false, nat_lt, Option, Some, None, IfSome, List, [], ◌++◌, length, take, codes, refl, sym, ap, subst, arith}
 use Rattle.std.specs.Option.{option_map}
 use Rattle.std.proofs.Math.Seq.{take-append-add}
 use Rattle.std.proofs.lemmas.Bool.Decides.{nat_tests}
 use Rattle.std.proofs.lemmas.List.{take-append-le}
 use Rattle.tesla_desk.specs.Faults.{Faults, HasCause, HasCausesBeside}
-use Rattle.tesla_desk.specs.Outside.{Page, Holds, Told, OpensSink, ClosesSink, AppendsPrefix, with_bytes, with_opening, with_openings, page_of}
-use Rattle.tesla_desk.specs.declared.desk.OpenRefusal.{OpenRefusal}
+use Rattle.tesla_desk.specs.Outside.{Page, Holds, Told, ClosesSink, AppendsPrefix, with_bytes, with_openings, page_of}
 use Rattle.tesla_desk.proofs.Told.{first_written, openings_first, with_bytes_twice}
 use Rattle.tesla_front.specs.Came.{Came, Done, Usage, Refused, Failed, IsDone, outcome_came, text_of}
 use Rattle.tesla_front.specs.Command.{RunsAs, no_command}
 use Rattle.tesla_front.specs.Console.{Tells}
-use Rattle.tesla_front.specs.Fault.{unopened}
 use Rattle.tesla_front.specs.Openings.{AnyFailed, File, files_told}
-use Rattle.tesla_front.specs.Printing.{HasPrinted, IsFault, IsPrintedAs, PerformsPrinting, PrintingCommand, PrintsAs, PrintsLines, RunsPrinting, ShowsAfter, TellsBehind, TellsPrinted, summary_of}
+use Rattle.tesla_front.specs.Printing.{HasPrinted, IsFault, IsPrintedAs, PerformsPrinting, PrintingCommand, PrintsAs, PrintsLines, ShowsAfter, TellsBehind, TellsPrinted, summary_of}
 use Rattle.tesla_front.specs.Run.{TellsUsage, console}
+use Rattle.tesla_front.specs.Table.{OpensConsole, Tolds}
 use Rattle.tesla_front.specs.declared.fault.Fault.{Fault}
 use Rattle.tesla_front.specs.declared.fault.Fault.TheVariants as faults
 use Rattle.tesla_front.specs.declared.outcome.Outcome.TheVariants as outcomes
 use Rattle.tesla_front.specs.declared.printed.Printed.{Printed}
 use Rattle.tesla_front.specs.declared.printed.Printed.TheVariants.{Whole, Broken}
-use Rattle.tesla_front.proofs.Consoles.{Tolds, console_opened, failed_stays, unopened_console, wider}
+use Rattle.tesla_front.proofs.Consoles.{console_opened, failed_stays, wider}
 use Rattle.tesla_front.proofs.Openings.{files_same}
 use Rattle.tesla_front.proofs.Told.{rose_some}
 
@@ -113,13 +112,8 @@ shown_after usage lines came told (Broken fault) before mid now old new empty pr
 
 -- the console was opened before what was done, has the lines that were printed, was told what came, and closed
 pub record Printeds (usage : List ℕ) (old opened done new : Told) (printed : Printed) (told : Came) (mid written : Option (List ℕ)) (middle failed : ℕ) : Type 0 where
-  pub asked : opened.openings ≡ with_opening old.openings console
-  pub pages : (name : List ℕ) → name ≢ codes "-" → opened.page name ≡ old.page name
-  pub lefts : (name : List ℕ) → opened.left name ≡ old.left name
-  pub live : opened.live ≡ old.live
-  pub counts : opened.faults ≡ old.faults
   pub before : Option (List ℕ)
-  pub empty : IfSome before (λ bytes. bytes ≡ [])
+  pub opens : OpensConsole old opened before
   pub tells : TellsPrinted usage printed told mid written middle failed
   pub closes : ClosesSink (codes "-") written failed done new
 
@@ -138,13 +132,8 @@ unprinted_run : (usage : List ℕ) (words : List (List ℕ)) (old opened done ne
     → printed ≡ Whole outcomes.Usage → done ≡ opened → mid ≡ it.before → TellsUsage usage old new told
 unprinted_run usage words old opened done new printed told mid written middle failed it is still same =
     let tolds : Tolds usage old opened done new Usage told written failed = record {
-      asked = it.asked;
-      pages = it.pages;
-      lefts = it.lefts;
-      live = it.live;
-      counts = it.counts;
       before = it.before;
-      empty = it.empty;
+      opens = it.opens;
       tells = subst (λ (m : Option (List ℕ)). Tells usage Usage told m written failed) same (usage_told usage told printed mid written middle failed is it.tells);
       closes = it.closes;
     } in
@@ -158,20 +147,20 @@ printed_run command usage arguments old opened done new printed told mid written
     let came = performs.came in
     record {
       opened = performs.opened;
-      asked = it.closes.asked ∙ performs.opens.asked ∙ ap (λ asked. with_openings asked (take performs.opened files)) it.asked ∙ openings_first old.openings console (take performs.opened files);
-      pages = λ name other none. it.closes.pages name other ∙ performs.opens.pages name none ∙ it.pages name other;
-      lefts = λ name none. it.closes.lefts name ∙ performs.opens.lefts name none ∙ it.lefts name;
+      asked = it.closes.asked ∙ performs.opens.asked ∙ ap (λ asked. with_openings asked (take performs.opened files)) it.opens.asked ∙ openings_first old.openings console (take performs.opened files);
+      pages = λ name other none. it.closes.pages name other ∙ performs.opens.pages name none ∙ it.opens.pages name other;
+      lefts = λ name none. it.closes.lefts name ∙ performs.opens.lefts name none ∙ it.opens.lefts name;
       lines = performs.lines;
       came = came;
-      does = subst (λ (fs : List File). command.Does arguments performs.opened fs (files_told new files) performs.lines came) (files_same files old opened performs.named it.pages it.lefts)
+      does = subst (λ (fs : List File). command.Does arguments performs.opened fs (files_told new files) performs.lines came) (files_same files old opened performs.named it.opens.pages it.opens.lefts)
           (subst (λ (fs : List File). command.Does arguments performs.opened (files_told opened files) fs performs.lines came) (sym (files_same files done new performs.named it.closes.pages it.closes.lefts)) performs.does);
       before_console = done.faults;
       counts = wider files came old.faults done.faults done new (failed_stays files done new performs.named it.closes.pages it.closes.live)
-          (subst (λ (f : Faults). HasCausesBeside ((came ≡ Failed faults.Read) × AnyFailed files done) f done.faults (came ≡ Failed faults.Read) (came ≡ Failed faults.Write) (came ≡ Failed faults.Open)) it.counts performs.counts);
+          (subst (λ (f : Faults). HasCausesBeside ((came ≡ Failed faults.Read) × AnyFailed files done) f done.faults (came ≡ Failed faults.Read) (came ≡ Failed faults.Write) (came ≡ Failed faults.Open)) it.opens.counts performs.counts);
       failed = failed;
       closed = it.closes.counts;
       shows = subst (λ (p : Page). ShowsAfter performs.lines usage came told failed p) (sym it.closes.own)
-          (shown_after usage performs.lines came told printed it.before mid written middle failed it.empty performs.prints it.tells);
+          (shown_after usage performs.lines came told printed it.before mid written middle failed it.opens.empty performs.prints it.tells);
     }
 
 -- a run with the console opened
@@ -181,10 +170,6 @@ printing_opened command usage words old opened done new printed told mid written
   no_form = λ none. let is = runs.usage none in unprinted_run usage words old opened done new printed told mid written middle failed it is.0 is.1 is.2;
   form = λ arguments spelled. printed_run command usage arguments old opened done new printed told mid written middle failed it (runs.form arguments spelled);
 }
-
--- a run without the console
-pub printing_unopened : (A : Type 0) (command : PrintingCommand) (usage : List ℕ) (words : List (List ℕ)) (refusal : OpenRefusal) (old new : Told) → OpensSink {A = A} (codes "-") (Err refusal) old new → RunsPrinting command usage words old new (Failed (unopened refusal))
-printing_unopened A command usage words refusal old new opens = inl (unopened_console A refusal old new opens)
 
 -- ---- the steps of a command
 

@@ -1,6 +1,7 @@
 pub mod Command
 pub mod Run
 pub mod Printing
+pub mod Table
 pub mod Came
 pub mod Console
 pub mod Usage
@@ -12,3 +13,5 @@ pub mod Refusal
 pub mod Lines
 pub mod Setup
 pub mod Seeds
+pub mod Names
+pub mod Parts

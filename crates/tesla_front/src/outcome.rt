@@ -1,6 +1,6 @@
 //! What a run of words comes to.
 
-ghost use Rattle.std.specs.Prelude.{◌≡◌};
+ghost use Rattle.std.specs.Prelude.{◌≡◌, None};
 ghost use Rattle.tesla_front.specs.Came.{came_of, outcome_came, status_of};
 
 use crate::{Fault, Lines, Refusal, Stop};
@@ -40,5 +40,23 @@ impl Outcome {
             Outcome::Refused(refusal) => refusal.status,
             Outcome::Failed(fault) => fault.status(),
         }
+    }
+}
+
+/// What a run of a live command comes to, and the history that it leaves, where there is one.
+#[derive(Drop)]
+pub struct LiveRun<T> {
+    pub outcome: Outcome,
+    pub last: Option<T>,
+}
+
+/// A run that leaves no history.
+pub fn without_history<T>(outcome: Outcome) -> LiveRun<T>
+    ensures outcome { result.outcome ≡ outcome }
+    ensures last { result.last ≡ None }
+{
+    LiveRun {
+        outcome,
+        last: None,
     }
 }

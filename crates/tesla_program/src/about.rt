@@ -4,10 +4,9 @@ ghost use Rattle.std.specs.Prelude.{◌≡◌, [], ◌∷◌, Some, IfSome, fals
 ghost use Rattle.tesla_desk.specs.Faults.{HasCause};
 ghost use Rattle.tesla_program.specs.About.{word_of};
 
-use tesla_cli::FORMS;
+use tesla_cli::{FORMS, TOOLS};
 use tesla_desk::{Sink, write_all};
 use tesla_front::FormText;
-use tesla_tools::FORMS as TOOLS;
 
 /// A text about the program.
 #[derive(Clone, Copy, Debug, PartialEq, Eq)]

@@ -5,9 +5,8 @@ ghost use Rattle.tesla_front.specs.Came.{Came, status_of};
 ghost use Rattle.tesla_program.specs.Choice.{RunsChosen};
 
 use std::alloc::Global;
-use tesla_cli::run_here;
+use tesla_cli::{is_tool, run_here, run_tools};
 use tesla_desk::Desk;
-use tesla_tools::{is_tool, run_tools};
 
 /// Runs the words as those of a tool where the first of them names one, and else as those of the other commands, and
 /// gives the status.

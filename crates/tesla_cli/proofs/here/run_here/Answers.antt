@@ -1,15 +1,23 @@
-use Rattle.std.proofs.Common.{ℕ, map, string_bytes, subst, sym}
+use Rattle.std.proofs.Common.{List, ℕ, map, string_bytes, subst}
 use Rattle.tesla_front.specs.Came.{outcome_came}
-use Rattle.tesla_front.specs.Run.{HasStatusCauses}
-use Rattle.tesla_front.proofs.Statuses.{own_status, status_causes}
-use Rattle.tesla_cli.specs.Commands.{command_of, usage}
+use Rattle.tesla_front.specs.Run.{Runs}
+use Rattle.tesla_front.proofs.Tables.{plain_causes, plain_run}
+use Rattle.tesla_cli.specs.Commands.{command_of}
 use Rattle.tesla_cli.proofs.here.run_here.Goals as goal
+
+pub returns-clause-came : goal.returns-clause-came
+returns-clause-came g c =
+    let words = map string_bytes c.args.words.now in
+    let old = g.D.Desk.told c.args.desk.now in
+    let new = g.D.Desk.told c.run_table-run.new.desk in
+    let runs = plain_run g.D.Desk.told _ (command_of words) _ words _ _ _ (λ opened done run ran. ran) c.run_table-run.ensures in (
+      _,
+      c.status.ensures,
+      subst (λ (lines : List ℕ). Runs (command_of words) lines words old new (outcome_came c.run_table-run.result.outcome)) c.forms.ensures runs,
+    )
 
 pub returns-clause-causes : goal.returns-clause-causes
 returns-clause-causes g c =
     let words = map string_bytes c.args.words.now in
-    let old = g.D.Desk.told c.args.desk.now in
-    let new = g.D.Desk.told c.run_told.new.desk in
-    let outcome = c.run_told.result in
-    subst (λ (status : ℕ). HasStatusCauses status old.faults new.faults) (sym c.status.ensures)
-    (status_causes (command_of words) usage words old new (outcome_came outcome) (own_status outcome) c.run_told.ensures)
+    plain_causes (command_of words) _ words _ _ c.run_table-run.result.outcome _ c.status.ensures
+    (plain_run g.D.Desk.told _ (command_of words) _ words _ _ _ (λ opened done run ran. ran) c.run_table-run.ensures)

@@ -1,54 +1,80 @@
-use Rattle.std.proofs.Common.{◌≡◌, ℕ, List, ◌∷◌, subst}
+use Rattle.std.proofs.Common.{◌≡◌, ◌⊎◌, inl, inr, ℕ, List, ◌∷◌, subst, sym}
 use Rattle.tesla_base.specs.declared.version.Version.{Version}
 use Rattle.tesla_base.specs.declared.version.Version.TheVariants.{One, Two}
 use Rattle.tesla_desk.specs.Outside.{Told}
 use Rattle.tesla_front.specs.Came.{Came}
 use Rattle.tesla_front.specs.Command.{RunsAs}
+use Rattle.tesla_front.specs.Printing.{IsPrintedAs, RunsPrinting}
+use Rattle.tesla_front.specs.Run.{HasNoConsole}
+use Rattle.tesla_front.proofs.Tables.{as_spelled}
 use Rattle.tesla_run_chain.specs.Arguments as chains
 use Rattle.tesla_run_chain.specs.Chain.{chain}
-use Rattle.tesla_cli.specs.Commands.{command_of}
+use Rattle.tesla_run_show.specs.Arguments.{IsShowForm, ShowArguments}
+use Rattle.tesla_run_show.specs.Show.{show}
+use Rattle.tesla_cli.specs.Commands.{RunsTool, command_of, tool_of, tool_usage}
 use Rattle.tesla_cli.proofs.laws.forms_are_named.Goals as goal
 
 -- both words of a chain name it
-both_named : (version : Version) (rest words : List (List ℕ)) (old new : Told) (came : Came) → words ≡ chains.command_of version ∷ rest → RunsAs (command_of words) words old new came → RunsAs chain words old new came
-both_named One rest words old new came spelled runs = subst (λ (all : List (List ℕ)). RunsAs (command_of all) words old new came) spelled runs
-both_named Two rest words old new came spelled runs = subst (λ (all : List (List ℕ)). RunsAs (command_of all) words old new came) spelled runs
+both_named : (version : Version) (rest words : List (List ℕ)) (old new : Told) (came : Came) → words ≡ chains.command_of version ∷ rest
+    → RunsAs (command_of words) words old new came → RunsAs chain words old new came
+both_named One rest words old new came spelled runs = as_spelled command_of words _ old new came spelled runs
+both_named Two rest words old new came spelled runs = as_spelled command_of words _ old new came spelled runs
 
 pub returns-clause-replays : goal.returns-clause-replays
 returns-clause-replays c arguments words old new came is runs =
-    (subst (λ (all : List (List ℕ)). RunsAs (command_of all) words old new came) is.spelled runs).form arguments is
+    (as_spelled command_of words _ old new came is.spelled runs).form arguments is
 
 pub returns-clause-chains : goal.returns-clause-chains
-returns-clause-chains c arguments words old new came is runs = (both_named arguments.version _ words old new came is.spelled runs).form arguments is
+returns-clause-chains c arguments words old new came is runs =
+    (both_named arguments.version _ words old new came is.spelled runs).form arguments is
 
 pub returns-clause-sends : goal.returns-clause-sends
 returns-clause-sends c arguments words old new came is runs =
-    (subst (λ (all : List (List ℕ)). RunsAs (command_of all) words old new came) is.spelled runs).form arguments is
+    (as_spelled command_of words _ old new came is.spelled runs).form arguments is
 
 pub returns-clause-lags : goal.returns-clause-lags
 returns-clause-lags c arguments words old new came is runs =
-    (subst (λ (all : List (List ℕ)). RunsAs (command_of all) words old new came) is.spelled runs).form arguments is
+    (as_spelled command_of words _ old new came is.spelled runs).form arguments is
 
 pub returns-clause-stresses : goal.returns-clause-stresses
 returns-clause-stresses c arguments words old new came is runs =
-    (subst (λ (all : List (List ℕ)). RunsAs (command_of all) words old new came) is.spelled runs).form arguments is
+    (as_spelled command_of words _ old new came is.spelled runs).form arguments is
 
 pub returns-clause-rolls : goal.returns-clause-rolls
 returns-clause-rolls c arguments words old new came is runs =
-    (subst (λ (all : List (List ℕ)). RunsAs (command_of all) words old new came) is.spelled runs).form arguments is
+    (as_spelled command_of words _ old new came is.spelled runs).form arguments is
 
 pub returns-clause-weaves : goal.returns-clause-weaves
 returns-clause-weaves c arguments words old new came is runs =
-    (subst (λ (all : List (List ℕ)). RunsAs (command_of all) words old new came) is.spelled runs).form arguments is
+    (as_spelled command_of words _ old new came is.spelled runs).form arguments is
 
 pub returns-clause-earlies : goal.returns-clause-earlies
 returns-clause-earlies c arguments words old new came is runs =
-    (subst (λ (all : List (List ℕ)). RunsAs (command_of all) words old new came) is.spelled runs).form arguments is
+    (as_spelled command_of words _ old new came is.spelled runs).form arguments is
 
 pub returns-clause-traces : goal.returns-clause-traces
 returns-clause-traces c arguments words old new came is runs =
-    (subst (λ (all : List (List ℕ)). RunsAs (command_of all) words old new came) is.spelled runs).form arguments is
+    (as_spelled command_of words _ old new came is.spelled runs).form arguments is
 
 pub returns-clause-audits : goal.returns-clause-audits
 returns-clause-audits c arguments words old new came is runs =
-    (subst (λ (all : List (List ℕ)). RunsAs (command_of all) words old new came) is.spelled runs).form arguments is
+    (as_spelled command_of words _ old new came is.spelled runs).form arguments is
+
+pub returns-clause-asks : goal.returns-clause-asks
+returns-clause-asks c arguments words old new came is runs =
+    (as_spelled tool_of words _ old new came is.spelled runs).form arguments is
+
+pub returns-clause-replies : goal.returns-clause-replies
+returns-clause-replies c arguments words old new came is runs =
+    (as_spelled tool_of words _ old new came is.spelled runs).form arguments is
+
+shown : (arguments : ShowArguments) (words : List (List ℕ)) (old new : Told) (came : Came) → IsShowForm arguments words
+    → RunsPrinting show tool_usage words old new came → HasNoConsole old new came ⊎ IsPrintedAs show arguments tool_usage old new came
+shown arguments words old new came is (inl none) = inl none
+shown arguments words old new came is (inr ran) = inr (ran.form arguments is)
+
+pub returns-clause-shows : goal.returns-clause-shows
+returns-clause-shows c arguments words old new came is runs =
+    let there : RunsPrinting show tool_usage words old new came =
+    subst (λ (all : List (List ℕ)). RunsTool all old new came → RunsPrinting show tool_usage all old new came) (sym is.spelled) (λ it. it) runs in
+    shown arguments words old new came is there

@@ -1,18 +1,21 @@
-use Rattle.std.proofs.Common.{ℕ, map, string_bytes, subst, sym}
-use Rattle.tesla_front.specs.Came.{outcome_came}
-use Rattle.tesla_front.specs.Run.{HasStatusCauses}
-use Rattle.tesla_front.proofs.Statuses.{own_status, status_causes}
-use Rattle.tesla_cli_live.specs.Commands.{command_of, usage}
-use Rattle.tesla_cli_live.proofs.Heard.{runs_live}
+use Rattle.std.proofs.Common.{Option, map, string_bytes}
+use Rattle.tesla_desk.specs.Live.{Live}
+use Rattle.tesla_front.specs.Command.{Command}
+use Rattle.tesla_front.proofs.Tables.{table_causes, table_run}
+use Rattle.tesla_receiver.specs.declared.history.Entry.{Entry}
+use Rattle.tesla_turn.specs.Held.{Ended}
+use Rattle.tesla_cli_live.specs.Commands.{IsReceive, live_of, live_usage}
 use Rattle.tesla_cli_live.proofs.live.run_live.Goals as goal
+
+pub returns-clause-came : goal.returns-clause-came
+returns-clause-came g c =
+    let words = map string_bytes c.args.words.now in
+    let command : Live → Live → Option (Ended Entry) → Command = λ before now last. live_of before now last words in
+    (_, c.status.ensures, table_run g.D.Desk.told _ command (IsReceive words) live_usage words _ _ _ (λ opened done run ran. ran) c.run_table-run.ensures)
 
 pub returns-clause-causes : goal.returns-clause-causes
 returns-clause-causes g c =
     let words = map string_bytes c.args.words.now in
-    let old = g.D.Desk.told c.args.desk.now in
-    let new = g.D.Desk.told c.run_told-outcome.new.desk in
-    let last = c.run_told-outcome.result.last in
-    let outcome = c.run_told-outcome.result.outcome in
-    let told = outcome_came outcome in
-    subst (λ (status : ℕ). HasStatusCauses status old.faults new.faults) (sym c.status.ensures)
-    (status_causes (command_of old.live new.live last words) usage words old new told (own_status outcome) (runs_live words old new last told c.run_told-outcome.ensures))
+    let command : Live → Live → Option (Ended Entry) → Command = λ before now last. live_of before now last words in
+    table_causes command (IsReceive words) live_usage words _ _ _ c.run_table-run.result.outcome _ c.status.ensures
+    (table_run g.D.Desk.told _ command (IsReceive words) live_usage words _ _ _ (λ opened done run ran. ran) c.run_table-run.ensures)

@@ -1,0 +1,93 @@
+//! The live tools: their forms, which word names each, and one run of them.
+
+ghost use Rattle.std.specs.Prelude.{◌≡◌, None, true, false, map, string_bytes};
+ghost use Rattle.tesla_front.specs.Came.{Came, Usage, outcome_came, status_of};
+ghost use Rattle.tesla_front.specs.Command.{RunsAs};
+ghost use Rattle.tesla_front.specs.Run.{HasStatusCauses};
+ghost use Rattle.tesla_cli_live.specs.Commands.{IsLiveTool, IsWatching, RunsLiveToolWords, RunsLiveTools, live_tool_of};
+
+use std::alloc::Global;
+use std::sync::Wait;
+use std::thread::Threads;
+use tesla_desk::Desk;
+use tesla_front::{FormText, LiveRun, Outcome, is_named, run_table, without_history};
+use tesla_run_capture::{CAPTURE, run_capture};
+use tesla_run_feed::{FEED, run_feed};
+use tesla_run_watch::{WATCH, run_watch};
+use tesla_turn::Last;
+use tesla_watched::Watched;
+
+/// The forms of the tools, in the order in which they are told.
+pub const FORMS: [FormText; 3] = [CAPTURE, FEED, WATCH];
+
+/// Whether the words are for this table: the first of them names one of its tools.
+pub fn is_live_tool(words: &[String]) -> bool
+    ensures yes { result ≡ true → IsLiveTool (map string_bytes words.now) }
+    ensures no { result ≡ false → IsLiveTool (map string_bytes words.now) → ⊥ }
+{
+    is_named(words, &["capture", "feed", "watch"])
+}
+
+// Runs the words as those of the tool that the first of them names. `Usage` where it names none, or there is no word,
+// and then nothing was opened. There is a history behind `watch` alone.
+fn run_words<R: Threads + Wait + Sync, D: Desk>(
+    rt: &R,
+    alloc: Global,
+    words: &[String],
+    desk: &mut D,
+) -> LiveRun<Last<Watched>>
+    ensures runs { RunsAs (live_tool_of (D.told desk.old).live (D.told desk.new).live result.last (map string_bytes words.now)) (map string_bytes words.now) (D.told desk.old) (D.told desk.new) (outcome_came result.outcome) }
+    ensures none { outcome_came result.outcome ≡ Usage → result.last ≡ None }
+    ensures others { (IsWatching (map string_bytes words.now) → ⊥) → result.last ≡ None }
+{
+    match words {
+        [word, ..] if word.as_str() == "capture" => {
+            without_history(run_capture(rt, words, desk))
+        }
+        [word, ..] if word.as_str() == "feed" => without_history(run_feed(rt, alloc, words, desk)),
+        [word, ..] if word.as_str() == "watch" => run_watch(rt, alloc, words, desk),
+        _ => without_history(Outcome::Usage),
+    }
+}
+
+/// What a run of a live tool came to.
+#[derive(Drop)]
+pub struct LiveToolsDone {
+    /// The status that the program ends with.
+    pub status: u8,
+    /// The whole history of `watch`, where its links and outputs were opened and its workers ran; `None` of every other
+    /// tool. It takes no bytes.
+    pub last: Option<Last<Watched>>,
+}
+
+/// Runs the words as those of the live tool that the first of them names, over the desk.
+///
+/// The console is opened first, and then what the tool opens, each once, in the order of its form and as far as it
+/// comes. What the tool came to is told on the console. It waits for links, for the turns of workers, and for the
+/// readings of clocks.
+///
+/// 0: it came to its end, and its lines were told. 1: the words are no form of a tool. 2: SETUP isn't a setup. 3:
+/// SECRET isn't seeds of it. 4: a link, or a read of SETUP or SECRET, failed. 5: a write or a post failed. 6: there was
+/// no memory, and nothing was received. 7: something wasn't opened. 11: the calls of a worker were spent.
+pub fn run_live_tools<R: Threads + Wait + Sync, D: Desk>(
+    rt: &R,
+    alloc: Global,
+    words: &[String],
+    desk: &mut D,
+) -> LiveToolsDone
+    ensures came { (told : Came) × (result.status ≡ status_of told) × RunsLiveTools (map string_bytes words.now) (D.told desk.old) (D.told desk.new) result.last told }
+    ensures causes { HasStatusCauses result.status (D.told desk.old).faults (D.told desk.new).faults }
+{
+    let run = run_table(
+        words,
+        desk,
+        &FORMS,
+        move |words: &[String], desk: &mut D|
+            ensures { RunsLiveToolWords (map string_bytes words.now) (D.told desk.old) (D.told desk.new) result.last (outcome_came result.outcome) }
+        { run_words(rt, alloc, words, desk) },
+    );
+    LiveToolsDone {
+        status: run.outcome.status(),
+        last: run.last,
+    }
+}

@@ -1,2 +1,0 @@
-mod FirstWord
-mod Heard

@@ -1,5 +1,0 @@
-use Rattle.tesla_front.proofs.Statuses.{never_failed}
-use Rattle.tesla_cli_recorded.proofs.laws.run_surely.Goals as goal
-
-pub returns-clause-unfailed : goal.returns-clause-unfailed
-returns-clause-unfailed g c = never_failed c.run_recorded.result.status c.run_recorded.ensures.causes

@@ -1,0 +1,94 @@
+-- A table of commands: which of them words name, and one run of it, from what was run with the console.
+use Rattle.std.proofs.Common.{◌≡◌, ◌≤◌, ◌∙◌, inl, inr, ◌||◌, Bool, true, Option, List, [], ◌∷◌, ℕ, length, get_or, map, refl, sym, ap, subst, arith}
+use denote.Ref.{Bor, MutBor}
+use Rattle.std.specs.List.{list_any}
+use Rattle.std.specs.Str.{bytes_eq}
+use Rattle.std.proofs.lemmas.Slice.Eq.{bytes_eq-Decides}
+use Rattle.tesla_desk.specs.Live.{Live}
+use Rattle.tesla_desk.specs.Outside.{Told}
+use Rattle.tesla_front.specs.Came.{Came, outcome_came, status_of}
+use Rattle.tesla_front.specs.Command.{Command, IsNoForm, RunsAs}
+use Rattle.tesla_front.specs.Parts.{texts_of}
+use Rattle.tesla_front.specs.Run.{HasStatusCauses, Runs}
+use Rattle.tesla_front.specs.Table.{IsFirst, RunsConsole, RunsLeaving, RunsTable, is_named}
+use Rattle.tesla_front.specs.declared.outcome.LiveRun.{LiveRun}
+use Rattle.tesla_front.specs.declared.outcome.Outcome.{Outcome}
+use Rattle.tesla_front.proofs.Consoles.{console_opened, live_console_opened}
+use Rattle.tesla_front.proofs.Statuses.{own_status, status_causes}
+
+-- ---- the words
+
+any_text : (names : List (Bor (List ℕ))) (word : List ℕ)
+    → list_any (λ name. bytes_eq name.now word) names ≡ list_any (λ name. bytes_eq name word) (texts_of names)
+any_text [] word = refl
+any_text (name ∷ names) word = ap (λ rest. bytes_eq name.now word || rest) (any_text names word)
+
+-- the first of some words, told, is one of these names
+pub first_named : {A : Type 0} (f : A → List ℕ) (names : List (Bor (List ℕ))) (xs : List A) (first : A) (word : List ℕ) → 1 ≤ length xs
+    → first ≡ get_or xs 0 first → word ≡ f first
+    → list_any (λ name. bytes_eq name.now word) names ≡ is_named (texts_of names) (map f xs)
+first_named f names [] first word some is same = absurd (omega arith)
+first_named f names (x ∷ xs) first word some is same = any_text names word ∙ ap (λ w. list_any (λ name. bytes_eq name w) (texts_of names)) (same ∙ ap f is)
+
+-- where the first of some words, told, is tested to be this name, it is
+pub first_is : {A : Type 0} (f : A → List ℕ) (name : List ℕ) (xs : List A) (first : A) (word : List ℕ) (test : Bool) → 1 ≤ length xs
+    → first ≡ get_or xs 0 first → word ≡ f first → test ≡ bytes_eq word name → test ≡ true → IsFirst name (map f xs)
+first_is f name [] first word test some is same tests passed = absurd (omega arith)
+first_is f name (x ∷ xs) first word test some is same tests passed = sym (same ∙ ap f is) ∙ (bytes_eq-Decides word name).0 (sym tests ∙ passed)
+
+-- words that are spelled so were run as the command of such words
+pub as_spelled : (command : List (List ℕ) → Command) (words spelled : List (List ℕ)) (old new : Told) (came : Came) → words ≡ spelled
+    → RunsAs (command words) words old new came → RunsAs (command spelled) words old new came
+as_spelled command words spelled old new came is runs = subst (λ (all : List (List ℕ)). RunsAs (command all) words old new came) is runs
+
+-- ---- the run
+
+-- what was run with the console is a run of the command of the words, where each call runs them so
+pub table_run : {D T : Type 0} (told : D → Told) (Calls : MutBor D → LiveRun T → MutBor D → Type 0) (command : Live → Live → Option T → Command)
+    (Leaves : Type 0) (usage : List ℕ) (words : List (List ℕ)) (old new : D) (result : LiveRun T)
+    → ((opened done : MutBor D) (run : LiveRun T) → Calls opened run done
+    → RunsLeaving command Leaves words (told opened.now) (told done.now) run.last (outcome_came run.outcome))
+    → RunsConsole told Calls usage old new result → RunsTable command Leaves usage words (told old) (told new) result.last (outcome_came result.outcome)
+table_run told Calls command Leaves usage words old new result runs (inl none) = inl none
+table_run {D} {T} told Calls command Leaves usage words old new result runs (inr it) =
+    let opened = told it.opened.now in
+    let done = told it.done.now in
+    let came = outcome_came it.run.outcome in
+    let live = λ (before now : Live). command before now result.last in
+    let ran : RunsLeaving command Leaves words opened done result.last came =
+    subst (λ (last : Option T). RunsLeaving command Leaves words opened done last came) (sym it.last) (runs it.opened it.done it.run it.runs) in
+    let unformed : IsNoForm (live (told old).live (told new).live) words → IsNoForm (live opened.live done.live) words =
+    λ none. subst (λ (now : Live). IsNoForm (live opened.live now) words) it.tolds.closes.live
+    (subst (λ (before : Live). IsNoForm (live before (told new).live) words) (sym it.tolds.opens.live) none) in
+    inr (
+      live_console_opened live usage words (told old) opened done (told new) came (outcome_came result.outcome) it.written it.failed it.tolds ran.runs,
+      λ none. ran.none (ran.runs.usage (unformed none)).0,
+      ran.others,
+    )
+
+-- so it is where the command is told no history
+pub plain_run : {D T : Type 0} (told : D → Told) (Calls : MutBor D → LiveRun T → MutBor D → Type 0) (command : Command) (usage : List ℕ)
+    (words : List (List ℕ)) (old new : D) (result : LiveRun T)
+    → ((opened done : MutBor D) (run : LiveRun T) → Calls opened run done → RunsAs command words (told opened.now) (told done.now) (outcome_came run.outcome))
+    → RunsConsole told Calls usage old new result → Runs command usage words (told old) (told new) (outcome_came result.outcome)
+plain_run told Calls command usage words old new result runs (inl none) = inl none.0
+plain_run told Calls command usage words old new result runs (inr it) =
+    inr (console_opened command usage words (told old) (told it.opened.now) (told it.done.now) (told new) (outcome_came it.run.outcome)
+    (outcome_came result.outcome) it.written it.failed it.tolds (runs it.opened it.done it.run it.runs))
+
+-- the status of what a run came to is that of a fault only where its count rose
+pub plain_causes : (command : Command) (usage : List ℕ) (words : List (List ℕ)) (old new : Told) (outcome : Outcome) (status : ℕ)
+    → status ≡ status_of (outcome_came outcome)
+    → Runs command usage words old new (outcome_came outcome) → HasStatusCauses status old.faults new.faults
+plain_causes command usage words old new outcome status is runs =
+    subst (λ (s : ℕ). HasStatusCauses s old.faults new.faults) (sym is)
+    (status_causes command usage words old new (outcome_came outcome) (own_status outcome) runs)
+
+-- so it is of a command that is told the history
+pub table_causes : {T : Type 0} (command : Live → Live → Option T → Command) (Leaves : Type 0) (usage : List ℕ) (words : List (List ℕ)) (old new : Told)
+    (last : Option T) (outcome : Outcome) (status : ℕ) → status ≡ status_of (outcome_came outcome)
+    → RunsTable command Leaves usage words old new last (outcome_came outcome) → HasStatusCauses status old.faults new.faults
+table_causes command Leaves usage words old new last outcome status is (inl none) =
+    plain_causes (command old.live new.live last) usage words old new outcome status is (inl none.0)
+table_causes command Leaves usage words old new last outcome status is (inr ran) =
+    plain_causes (command old.live new.live last) usage words old new outcome status is (inr ran.0)

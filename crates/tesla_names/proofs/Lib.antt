@@ -1,2 +1,0 @@
-mod Among
-mod Parts
