@@ -3,10 +3,8 @@ use Rattle.std.proofs.Common.{◌≡◌, ℕ, ◌-◌, List, [], ◌∷◌, ◌+
 use Rattle.std.proofs.lemmas.List.{drop-append-le, drop-drop, drop-map, length-drop, length-map, map_push}
 use Rattle.circular_buffer.specs.Buffer.{keep_last}
 use Rattle.tesla_receiver.specs.declared.history.Entry.{Entry}
-use Rattle.tesla_receiver.specs.Stands.{Stands}
-use Rattle.tesla_state.specs.State.{State}
 use Rattle.tesla_trace.specs.Trace.{entry_text}
-use Rattle.tesla_recorder.specs.Recorded.{RecordedStands, Tail, last_entries, with_text}
+use Rattle.tesla_recorder.specs.Recorded.{RecordedState, RecordedStands, Tail, last_entries, with_text}
 
 -- they are the last ones of those kept and the new one
 last_more : (keep : ℕ) (history : List Entry) (entry : Entry) → last_entries keep (last_entries keep history ++ entry ∷ []) ≡ last_entries keep (history ++ entry ∷ [])
@@ -27,11 +25,15 @@ texts_more keep texts history entry same =
     ∙ drop-map entry_text (length kept - keep) kept
     ∙ ap (λ es. map entry_text es) (last_more keep history entry)
 
--- a receiver that stands for a history with one entry more, whose text was put behind those kept
-pub stands_more : (before after : State) (tail now : Tail) (history : List Entry) (entry : Entry) → RecordedStands (record { receiver = before; keep = tail.keep; texts = tail.texts }) history → Stands after (history ++ entry ∷ []) → now ≡ with_text tail (entry_text entry) → RecordedStands (record { receiver = after; keep = now.keep; texts = now.texts }) (history ++ entry ∷ [])
-stands_more before after tail now history entry stood stands put =
-    subst (λ (t : Tail). RecordedStands (record { receiver = after; keep = t.keep; texts = t.texts }) (history ++ entry ∷ [])) (sym put)
-    (record { stood = stands; last = texts_more tail.keep tail.texts history entry stood.last })
+-- a station that stands for a history with one entry more, whose text was put behind those kept
+pub stands_more : {V : Type 0} (stands : V → List Entry → Type 0) (state : RecordedState V) (before after : V) (tail now : Tail) (history : List Entry) (entry : Entry)
+    → record { station = before; keep = tail.keep; texts = tail.texts } ≡ state → RecordedStands stands state history
+    → (stands before history → stands after (history ++ entry ∷ [])) → now ≡ with_text tail (entry_text entry)
+    → RecordedStands stands (record { station = after; keep = now.keep; texts = now.texts }) (history ++ entry ∷ [])
+stands_more stands state before after tail now history entry same stood stands_now put =
+    let old = subst (λ s. RecordedStands stands s history) (sym same) stood in
+    subst (λ (t : Tail). RecordedStands stands (record { station = after; keep = t.keep; texts = t.texts }) (history ++ entry ∷ [])) (sym put)
+    (record { stood = stands_now old.stood; last = texts_more tail.keep tail.texts history entry old.last })
 
 -- the texts of entries, one behind the other
 pub all_spelled : (entries : List Entry) → flat_map (λ text. text) (map entry_text entries) ≡ flat_map entry_text entries

@@ -1,10 +1,8 @@
--- A receiver with the last entries of its history, as they are spelled.
+-- A station with the last entries of its history, as they are spelled.
 use Rattle.std.specs.Prelude.{◌≡◌, ℕ, ◌-◌, ◌≤◌, ◌*◌, List, [], ◌∷◌, ◌++◌, length, drop, take, map}
 use Rattle.std.specs.List.{All, sum}
 use Rattle.circular_buffer.specs.Buffer.{Buffer, keep_last}
 use Rattle.tesla_receiver.specs.declared.history.Entry.{Entry}
-use Rattle.tesla_receiver.specs.Stands.{Stands}
-use Rattle.tesla_state.specs.State.{State}
 use Rattle.tesla_trace.specs.Trace.{entry_text}
 
 -- the last entries of a history, at most so many
@@ -34,13 +32,13 @@ pub record HoldsTexts (bytes lengths : Buffer ℕ) : Type 0 where
   pub short : All (λ size. size ≤ 2070) lengths.items
   pub whole : sum lengths.items ≡ length bytes.items
 
--- what a contract sees of a receiver with the last entries of its history: their texts, the oldest first
-pub record RecordedState : Type 0 where
-  pub receiver : State
+-- what a contract sees of a station with the last entries of its history: their texts, the oldest first
+pub record RecordedState (V : Type 0) : Type 0 where
+  pub station : V
   pub keep : ℕ
   pub texts : List (List ℕ)
 
--- it stands for a history: the receiver does, and the texts are the spellings of its last entries
-pub record RecordedStands (state : RecordedState) (history : List Entry) : Type 0 where
-  pub stood : Stands state.receiver history
+-- it stands for a history: the station does, and the texts are the spellings of its last entries
+pub record RecordedStands {V : Type 0} (stands : V → List Entry → Type 0) (state : RecordedState V) (history : List Entry) : Type 0 where
+  pub stood : stands state.station history
   pub last : state.texts ≡ map entry_text (last_entries state.keep history)

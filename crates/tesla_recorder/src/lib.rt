@@ -1,4 +1,4 @@
-//! A receiver that records the last entries of its history.
+//! A station that records the last entries of its history.
 #![tactic(auto)]
 
 mod recorded;

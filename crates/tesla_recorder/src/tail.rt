@@ -12,7 +12,7 @@ ghost use Rattle.tesla_recorder.specs.Recorded.{HoldsTexts, with_text};
 use circular_buffer::HeapCircularBuffer;
 use std::alloc::Global;
 use std::marker::Model;
-use tesla_base::NoMemory;
+use tesla_base::{MOST_PAYLOAD, NoMemory};
 use tesla_receiver::{Take, Verdict};
 use tesla_trace::{arrived_front, given_front, verdict_bytes};
 
@@ -76,7 +76,7 @@ impl LastEntries {
     }
 
     /// Puts a take with its answer behind them. The oldest is let go where there is no room.
-    pub(crate) fn put_take(&mut self, releaser: u8, reply: Take, payload: &[u8; 1200])
+    pub(crate) fn put_take(&mut self, releaser: u8, reply: Take, payload: &[u8; MOST_PAYLOAD])
         requires { FitsReply reply payload.now }
         ensures { self.new ≡ with_text self.old (entry_text (Taken releaser (reply_shown reply payload.now))) }
     {

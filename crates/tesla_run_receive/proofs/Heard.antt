@@ -7,7 +7,7 @@ use Rattle.tesla_desk.specs.Faults.{HasCause, raised}
 use Rattle.tesla_desk.specs.Live.{Live, Wire, UntoldWire, AbsentWire, HoldsWire, Remainder, clock_told, remainder_of}
 use Rattle.tesla_desk.specs.Outside.{Told}
 use Rattle.tesla_desk.specs.declared.link.Letter.{Letter}
-use Rattle.tesla_names.specs.Names.{AreDistinct, IsNoneOf}
+use Rattle.tesla_front.specs.Names.{AreDistinct, IsNoneOf}
 use Rattle.tesla_receiver.specs.declared.history.Arrival.{Arrival}
 use Rattle.tesla_receiver.specs.declared.history.Entry.{Entry}
 use Rattle.tesla_receiver.specs.declared.history.Entry.TheVariants.{Arrived, Ended}

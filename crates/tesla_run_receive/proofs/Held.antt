@@ -9,8 +9,8 @@ use Rattle.tesla_desk.specs.Faults.{HasCause}
 use Rattle.tesla_desk.specs.Outside.{Told, Holds, page_of}
 use Rattle.tesla_desk.proofs.Told.{first_written, with_bytes_twice}
 use Rattle.tesla_front.specs.Openings.{File, files_told}
-use Rattle.tesla_names.specs.Names.{AreDistinct, IsNoneOf}
-use Rattle.tesla_receiver.specs.Report.{records_of}
+use Rattle.tesla_front.specs.Names.{AreDistinct, IsNoneOf}
+use Rattle.tesla_replay.specs.Records.{records_of}
 use Rattle.tesla_receiver.specs.declared.history.Entry.{Entry}
 use Rattle.tesla_shared.specs.Whole.{replies_by}
 use Rattle.tesla_shared.specs.Workers.{Writes, record_in, records}

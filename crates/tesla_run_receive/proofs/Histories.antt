@@ -12,10 +12,11 @@ use Rattle.tesla_fitting.specs.declared.config.Config.{Config}
 use Rattle.tesla_front.specs.Came.{Came}
 use Rattle.tesla_front.specs.Openings.{File, files_told}
 use Rattle.tesla_front.specs.Setup.{IsSetupIn}
-use Rattle.tesla_names.specs.Names.{AreDistinct}
+use Rattle.tesla_front.specs.Names.{AreDistinct}
 use Rattle.tesla_receiver.specs.History.{IsLegal, arrivals_in, given_in, has_end}
 use Rattle.tesla_receiver.specs.Packets.{released}
-use Rattle.tesla_receiver.specs.Report.{records_of, report_of}
+use Rattle.tesla_receiver.specs.Report.{report_of}
+use Rattle.tesla_replay.specs.Records.{records_of}
 use Rattle.tesla_receiver.specs.declared.history.Entry.{Entry}
 use Rattle.tesla_run_replay.specs.ReportText.{report_text}
 use Rattle.tesla_shared.specs.Whole.{IsWhole, arrivals_by, is_of_workers, replies_by}

@@ -1,6 +1,8 @@
-pub mod Others
+pub mod Behind
 pub mod Heard
 pub mod Held
 pub mod Histories
-pub mod Stopped
+pub mod Others
+pub mod Outputs
 pub mod Performed
+pub mod Spelled

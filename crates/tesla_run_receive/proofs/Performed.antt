@@ -1,38 +1,46 @@
--- What the command receive did, told what became of its setup, and then of its workers.
-use Rattle.std.proofs.Common.{◌≡◌, ◌∙◌, inl, inr, ℕ, suc, Option, None, Ok, Err, List, [], ◌∷◌, ◌++◌, length, map, refl, sym, ap, subst, arith}
+-- What a live command did, told what became of its setup, and then of its workers and of its output.
+use Rattle.std.proofs.Common.{◌≡◌, ◌∙◌, ◌⊎◌, ◌||◌, inl, inr, ℕ, suc, ◌≤◌, Bool, true, false, Option, None, Some, Ok, Err, List, [], ◌∷◌, ◌++◌, length, map, take, drop, refl, sym, ap, subst, arith}
 use Rattle.std.specs.List.{list_any}
-use Rattle.std.proofs.lemmas.List.{length-map, take_all}
+use Rattle.std.proofs.lemmas.Bool.{or_parts}
+use Rattle.std.proofs.lemmas.List.{length-append, length-map}
 use Rattle.tesla_commit.specs.Parts.{Parts}
-use Rattle.tesla_desk.specs.Faults.{HasCausesBeside}
-use Rattle.tesla_desk.specs.Live.{Live}
-use Rattle.tesla_desk.specs.Outside.{Told, Opening, OfSource, OfSink}
-use Rattle.tesla_desk.proofs.Counts.{cause_none, causes_none, causes_then}
+use Rattle.tesla_desk.specs.Faults.{HasCauses, HasCausesBeside}
+use Rattle.tesla_desk.specs.Live.{Live, LeavesAll}
+use Rattle.tesla_desk.specs.Outside.{Told, Opening, OfSource, OfSink, Page}
+use Rattle.tesla_desk.proofs.Counts.{cause_none, causes_both, causes_none, causes_then}
 use Rattle.tesla_fitting.specs.declared.config.Config.{Config}
 use Rattle.tesla_front.specs.Came.{Came, Failed, stop_came}
 use Rattle.tesla_front.specs.Command.{Performs}
-use Rattle.tesla_front.specs.Openings.{AreFiles, AnyFailed, IsAmong, Opens, OpensSome, file_told, files_told}
+use Rattle.tesla_front.specs.Files.{IsUnwritten}
+use Rattle.tesla_front.specs.Names.{AreListNames}
+use Rattle.tesla_front.specs.Openings.{AnyFailed, AreFiles, File, IsAmong, Opens, OpensSome, file_told, files_told}
 use Rattle.tesla_front.specs.Refusal.{StopCauses}
 use Rattle.tesla_front.specs.Setup.{IsNoSetup, IsSetupIn}
+use Rattle.tesla_front.specs.declared.fault.Fault.{Fault}
 use Rattle.tesla_front.specs.declared.fault.Fault.TheVariants as faults
 use Rattle.tesla_front.specs.declared.refusal.Stop.{Stop}
 use Rattle.tesla_front.proofs.Commands.{counts_stopped}
 use Rattle.tesla_front.proofs.Openings.{opens_none, opens_some, opens_then}
-use Rattle.tesla_names.specs.Names.{AreListNames}
 use Rattle.tesla_receiver.specs.Report.{report_of}
 use Rattle.tesla_receiver.specs.declared.history.Entry.{Entry}
 use Rattle.tesla_run_replay.specs.ReportText.{report_text}
-use Rattle.tesla_session.specs.Session.{came_by, has_spent, link_failed, sink_failed, stop_of}
-use Rattle.tesla_session.specs.Wanted.{links_wanted, sinks_wanted, opening_for}
-use Rattle.tesla_session.proofs.Counted.{AreApart, apart_wanted, counts_came, counts_came_none, counts_opened, counts_ran, counts_refused}
-use Rattle.tesla_session.proofs.Fresh.{refused_fault}
+use Rattle.tesla_session.specs.Session.{RanSession, RefusedSession, came_by, has_spent, link_failed, sink_failed, stop_by}
+use Rattle.tesla_session.specs.Wanted.{Wanted, links_wanted, opening_for, sinks_wanted}
+use Rattle.tesla_session.proofs.Counted.{apart_wanted, counts_came, counts_came_none, counts_opened, counts_ran, counts_refused, counts_unrun}
+use Rattle.tesla_session.proofs.Fresh.{refused_fault, unheard_links, unwritten_pages}
 use Rattle.tesla_session.proofs.Opened.{closes_after, opening_of, openings_are, opens_files, opens_refused_session, runs_openings}
+use Rattle.tesla_state.specs.State.{State}
 use Rattle.tesla_turn.specs.Held.{Ended}
 use Rattle.tesla_turn.specs.History.{entries}
-use Rattle.tesla_run_receive.specs.Arguments.{ReceiveArguments, IsReceive, workers_wanted, files_of_receive}
-use Rattle.tesla_run_receive.specs.Receive.{Receives, config_of, receive}
-use Rattle.tesla_run_receive.specs.Running.{RunsReceiver}
+use Rattle.tesla_run_receive.specs.Arguments.{ReceiveArguments, IsReceive, files_of_receive, workers_wanted}
+use Rattle.tesla_run_receive.specs.Output.{WithOutput, OutputHolds, with_output}
+use Rattle.tesla_run_receive.specs.OutputArguments.{OutputArguments}
+use Rattle.tesla_run_receive.specs.Receive.{Receives, UnheardLinks, config_of, receive}
+use Rattle.tesla_run_receive.specs.Running.{Ran, RefusedOutput, RunsStation, Unopened, with_behind}
+use Rattle.tesla_run_receive.proofs.Behind.{BehindHolds, IsApart, all_opened, among_all, are_files_behind, ends_behind, front_opened, refused_behind}
+use Rattle.tesla_run_receive.proofs.Held as holding
 use Rattle.tesla_run_receive.proofs.Histories.{receives}
-use Rattle.tesla_run_receive.proofs.Stopped.{outs_told, stops_run, unheard_names, unwritten_sinks}
+use Rattle.tesla_run_receive.proofs.Outputs.{outs_told, output_told, sinks_told, unwritten_behind}
 
 -- ---- names
 
@@ -44,94 +52,279 @@ are_wanted : (ingest releaser : ℕ) (links sinks : List (List ℕ)) → AreList
 are_wanted ingest releaser [] sinks links_named named = are_sinks releaser sinks named
 are_wanted ingest releaser (name ∷ names) sinks (own, links_named) named = (own.named.file, are_wanted (suc ingest) releaser names sinks links_named named)
 
--- none of the files is the console
-pub are_files : (arguments : ReceiveArguments) (words : List (List ℕ)) → IsReceive arguments words → AreFiles (files_of_receive arguments)
-are_files arguments words is = (is.setup.file, are_wanted 0 0 arguments.links arguments.sinks is.links_are.each is.sinks_are.each)
+-- ---- what it came to
 
--- ---- the command
+-- what it came to, told why the workers came to no end and which text is told else
+pub came_told : (came : Came) (stop own : Option Came) (text told : List ℕ) → came ≡ came_by stop text → stop ≡ own → text ≡ told → came ≡ came_by own told
+came_told came stop own text told came_is stops texts = came_is ∙ ap (λ (t : List ℕ). came_by stop t) texts ∙ ap (λ (s : Option Came). came_by s told) stops
+
+-- where the output failed, it came to a failed read or a failed write
+came_failed : (text : List ℕ) (read write spent failed : Bool) (came : Came) → came ≡ came_by (stop_by read (write || failed) spent) text → failed ≡ true → (came ≡ Failed faults.Read) ⊎ (came ≡ Failed faults.Write)
+came_failed text true true spent failed came is some = inl is
+came_failed text true false spent true came is some = inl is
+came_failed text true false spent false came is some = absurd cc
+came_failed text false true spent failed came is some = inr is
+came_failed text false false spent true came is some = inr is
+came_failed text false false spent false came is some = absurd cc
+
+either : (a b : Bool) → (a || b) ≡ true → (a ≡ true) ⊎ (b ≡ true)
+either true b is = inl refl
+either false b is = inr is
+
+from_either : (a b : Bool) → (a ≡ true) ⊎ (b ≡ true) → (a || b) ≡ true
+from_either true b some = refl
+from_either false b (inl never) = absurd cc
+from_either false b (inr is) = is
+
+-- ---- a live run
+
+unheard_names : (names : List (List ℕ)) (before now : Live) → ((name : List ℕ) → (now.left name ≡ before.left name) ⊎ LeavesAll (before.wire name) (now.left name)) → UnheardLinks names before now
+unheard_names [] before now all = tt
+unheard_names (name ∷ names) before now all = (all name, unheard_names names before now all)
+
+-- nothing was received, nor written
+record Unreceived (received : ReceiveArguments) (opened : ℕ) (before now : Told) (last : Option (Ended Entry)) (came : Came) : Type 0 where
+  none : last ≡ None
+  unheard : UnheardLinks received.links before.live now.live
+  unwritten : (name : List ℕ) → (now.page name ≡ before.page name) ⊎ IsUnwritten (now.page name)
+  cause : (IsNoSetup (before.page received.setup) came × (opened ≤ 1)) ⊎ (came ≡ Failed faults.Open) ⊎ (came ≡ Failed faults.NoMemory)
+
+-- a history was received, and the output holds what is said of it
+record Received (Holds : List Entry → Page → Type 0) (output : Option (List ℕ)) (received : ReceiveArguments) (before now : Told) (last : Option (Ended Entry)) (came : Came) : Type 0 where
+  receives : Receives received before.live now.live last (file_told before received.setup) (files_told now (map opening_for (sinks_wanted 0 received.sinks))) came
+  end : Ended Entry
+  last_is : last ≡ Some end
+  holds : BehindHolds Holds output (entries end.history) now came
+
+-- a live run, whatever the files of its command are called
+pub record Lives (Holds : List Entry → Page → Type 0) (output : Option (List ℕ)) (received : ReceiveArguments) (before now : Told) (last : Option (Ended Entry)) (came : Came) : Type 0 where
+  named : AreFiles (with_behind (files_of_receive received) output)
+  opened : ℕ
+  opens : Opens (with_behind (files_of_receive received) output) opened before now
+  does : Unreceived received opened before now last came ⊎ ((opened ≡ length (with_behind (files_of_receive received) output)) × Received Holds output received before now last came)
+  counts : HasCausesBeside ((came ≡ Failed faults.Read) × AnyFailed (with_behind (files_of_receive received) output) now) before.faults now.faults (came ≡ Failed faults.Read) (came ≡ Failed faults.Write) (came ≡ Failed faults.Open)
+
+-- the setup stands before the other files
+behind_setup : (received : ReceiveArguments) (output : Option (List ℕ)) → with_behind (files_of_receive received) output ≡ OfSource received.setup ∷ with_behind (map opening_for (workers_wanted received)) output
+behind_setup received None = refl
+behind_setup received (Some output) = refl
 
 -- there was no setup
-pub performs_none : (arguments : ReceiveArguments) (before now : Told) (last : Option (Ended Entry)) (stop : Stop) → AreFiles (files_of_receive arguments) → OpensSome (OfSource arguments.setup ∷ []) before now → ((name : List ℕ) → now.page name ≡ before.page name) → now.live ≡ before.live
-    → IsNoSetup (before.page arguments.setup) (stop_came stop) → StopCauses {A = Parts} (Err stop) before.faults now.faults → last ≡ None → Performs (receive before.live now.live last) arguments before now (stop_came stop)
-performs_none arguments before now last stop named some pages live why causes none =
-    let it = opens_some (OfSource arguments.setup) (map opening_for (workers_wanted arguments)) before now some in
+pub lives_none : (Holds : List Entry → Page → Type 0) (output : Option (List ℕ)) (received : ReceiveArguments) (words : List (List ℕ)) (before now : Told) (last : Option (Ended Entry)) (stop : Stop) → IsReceive received words → IsApart output received.sinks
+    → OpensSome (OfSource received.setup ∷ []) before now → ((name : List ℕ) → now.page name ≡ before.page name) → now.live ≡ before.live → IsNoSetup (before.page received.setup) (stop_came stop) → StopCauses {A = State} (Err stop) before.faults now.faults → last ≡ None
+    → Lives Holds output received before now last (stop_came stop)
+lives_none Holds output received words before now last stop is apart some pages live why causes none =
+    let it = opens_some (OfSource received.setup) (with_behind (map opening_for (workers_wanted received)) output) before now some in
     record {
-      named = named;
+      named = are_files_behind (files_of_receive received) output received.sinks (is.setup.file, are_wanted 0 0 received.links received.sinks is.links_are.each is.sinks_are.each) apart;
       opened = it.0;
-      opens = it.2;
+      opens = subst (λ (files : List Opening). Opens files it.0 before now) (sym (behind_setup received output)) it.2;
       does = inl (record {
         none = none;
-        unheard = unheard_names arguments.links before.live now.live (λ name. inl (ap (λ (l : Live). l.left name) live));
-        unwritten = unwritten_sinks arguments before now (λ name. inl (pages name));
+        unheard = unheard_names received.links before.live now.live (λ name. inl (ap (λ (l : Live). l.left name) live));
+        unwritten = λ name. inl (pages name);
         cause = inl (why, it.1);
       });
       counts = counts_stopped stop before.faults now.faults causes;
     }
 
--- which counts a run raises
-counts_run : (arguments : ReceiveArguments) (cfg : Config) (read now : Told) (last : Option (Ended Entry)) (came : Came) → AreApart (map opening_for (workers_wanted arguments)) → RunsReceiver (workers_wanted arguments) cfg read now last came
-    → HasCausesBeside ((came ≡ Failed faults.Read) × AnyFailed (map opening_for (workers_wanted arguments)) now) read.faults now.faults (came ≡ Failed faults.Read) (came ≡ Failed faults.Write) (came ≡ Failed faults.Open)
-counts_run arguments cfg read now last came apart (inl unopened) =
-    let is : came ≡ Failed faults.NoMemory = unopened.came_is in
-    counts_came_none (map opening_for (workers_wanted arguments)) now read.faults now.faults came faults.NoMemory is (record {
-      reads = ap (λ (t : Told). t.faults.reads) unopened.same;
-      writes = ap (λ (t : Told). t.faults.writes) unopened.same;
-      openings = cause_none read.faults.openings now.faults.openings (ap (λ (t : Told). t.faults.openings) unopened.same) (λ e. absurd cc);
-    }) (inr refl)
-counts_run arguments cfg read now last came apart (inr (inl refused)) =
-    let it = refused.refused in
-    counts_came_none (map opening_for (workers_wanted arguments)) now read.faults now.faults came refused.fault refused.came_is
-    (counts_refused (workers_wanted arguments) cfg read now refused.fault it)
-    (refused_fault (workers_wanted arguments) read it.mid _ it.first it.workers (Err refused.fault) refused.fault it.opens refl)
-counts_run arguments cfg read now last came apart (inr (inr ran)) =
-    let wanted = workers_wanted arguments in
-    let it = ran.ran in
-    let opened : ran.opened.faults ≡ read.faults = counts_opened wanted cfg read ran.opened it.turn it.first it.workers it.opens in
-    let counts = counts_ran wanted cfg read ran.opened ran.opened now ran.end ran.stop apart it in
-    causes_then read.faults ran.opened.faults now.faults opened
-    (counts_came (map opening_for wanted) now ran.opened.faults now.faults (report_text (report_of (entries ran.end.history))) (list_any link_failed it.ran.done) (list_any sink_failed it.ran.done) (list_any has_spent it.ran.done) came
-    (ran.came_is ∙ ap (λ (stop : Option Came). came_by stop (report_text (report_of (entries ran.end.history)))) it.ran.stop_is) counts.closes counts.failed)
+-- the setup was read, and then the workers and the output were opened, or not all were
+module _ (Holds : List Entry → Page → Type 0) (output : Option (List ℕ)) (received : ReceiveArguments) (words : List (List ℕ)) (parts : Parts) {C : Type 0} (cfg : C) (before read now : Told) (last : Option (Ended Entry)) (came : Came)
+    (is : IsReceive received words) (apart : IsApart output received.sinks) (pages : (name : List ℕ) → read.page name ≡ before.page name) (live : read.live ≡ before.live) (found : IsSetupIn (before.page received.setup) parts) where
+  abbrev Files : List Opening
+  Files = map opening_for (workers_wanted received)
 
--- the setup was read, and then the workers were opened, did their work and were closed, or not all were opened
-module _ (arguments : ReceiveArguments) (words : List (List ℕ)) (parts : Parts) (before read now : Told) (last : Option (Ended Entry)) (came : Came) (is : IsReceive arguments words) (pages : (name : List ℕ) → read.page name ≡ before.page name) (live : read.live ≡ before.live) (found : IsSetupIn (file_told before arguments.setup).page parts) where
-  -- so many of the links and sinks were opened, and what came of it
-  opened_by : RunsReceiver (workers_wanted arguments) (config_of arguments parts) read now last came
-      → (n : ℕ) × Opens (map opening_for (workers_wanted arguments)) n read now × (receive before.live now.live last).Does arguments (suc n) (files_told before (files_of_receive arguments)) (files_told now (files_of_receive arguments)) came
-  opened_by (inl unopened) =
-      let same = unopened.same in (
-        0,
-        opens_none (map opening_for (workers_wanted arguments)) read now (ap (λ (t : Told). t.openings) same) (λ name. ap (λ (t : Told). t.page name) same) (λ name. ap (λ (t : Told). t.left name) same),
-        inl (stops_run arguments (config_of arguments parts) _ before read now last came (file_told before arguments.setup) pages live (inl unopened)),
-      )
-  opened_by (inr (inl refused)) =
-      let some = opens_refused_session (workers_wanted arguments) (config_of arguments parts) read now refused.fault refused.refused in
-      (some.0, some.2, inl (stops_run arguments (config_of arguments parts) _ before read now last came (file_told before arguments.setup) pages live (inr refused)))
-  opened_by (inr (inr ran)) =
-      let wanted = workers_wanted arguments in
-      let it = ran.ran in
-      let names : map opening_of it.ran.done ≡ map opening_for wanted = runs_openings it.workers it.ran.done it.ran.runs ∙ openings_are wanted read ran.opened _ it.first it.workers (Ok tt) refl it.opens in
-      let files : Opens (map opening_for wanted) (length (map opening_for wanted)) read ran.opened = opens_files wanted (config_of arguments parts) read ran.opened it.turn it.first it.workers it.opens in
-      let came_is : came ≡ came_by (stop_of it.ran.done) (report_text (report_of (entries ran.end.history))) = ran.came_is ∙ ap (λ (stop : Option Came). came_by stop (report_text (report_of (entries ran.end.history)))) it.ran.stop_is in (
-        length (map opening_for wanted),
-        closes_after (map opening_for wanted) (length (map opening_for wanted)) it.ran.done read ran.opened now it.first it.ran.later files
-            (λ name among. subst (λ (os : List Opening). IsAmong (OfSink name) os) (names ∙ sym (take_all (length (map opening_for wanted)) (map opening_for wanted) (omega arith))) among) it.ran.closes,
-        inr (
-          ap suc (length-map wanted opening_for),
-          subst (λ (l : Live). Receives arguments l now.live last (file_told before arguments.setup) (outs_told arguments now) came) live
-              (receives arguments words parts (file_told before arguments.setup) (config_of arguments parts) read ran.opened ran.opened now ran.end ran.stop (list_any sink_failed it.ran.done) last came is it ran.legal found ran.last_is (λ none. none) came_is),
-        ),
-      )
+  abbrev Whole : List Opening
+  Whole = with_behind Files output
 
-  pub performs_run : Opens (OfSource arguments.setup ∷ []) 1 before read → StopCauses {A = Parts} (Ok parts) before.faults read.faults
-      → RunsReceiver (workers_wanted arguments) (config_of arguments parts) read now last came → Performs (receive before.live now.live last) arguments before now came
-  performs_run opened causes runs =
-      let wanted = workers_wanted arguments in
-      let some = opened_by runs in
-      record {
-        named = are_files arguments words is;
-        opened = suc some.0;
-        opens = opens_then (OfSource arguments.setup) (map opening_for wanted) some.0 before read now opened some.1;
-        does = some.2;
-        counts = causes_then before.faults read.faults now.faults (causes_none before.faults read.faults causes (λ e. absurd cc) (λ e. absurd cc) (λ e. absurd cc))
-            (counts_run arguments (config_of arguments parts) read now last came (apart_wanted 0 0 arguments.links arguments.sinks is.sinks_are.distinct) runs);
+  -- so many of the files behind the setup were opened, and what came of it, and which counts rose
+  record Comes (n : ℕ) : Type 0 where
+    opens : Opens Whole n read now
+    does : Unreceived received (suc n) before now last came ⊎ ((n ≡ length Whole) × Received Holds output received before now last came)
+    counts : HasCausesBeside ((came ≡ Failed faults.Read) × AnyFailed Whole now) read.faults now.faults (came ≡ Failed faults.Read) (came ≡ Failed faults.Write) (came ≡ Failed faults.Open)
+
+  stops : (n : ℕ) → last ≡ None → ((name : List ℕ) → (now.live.left name ≡ read.live.left name) ⊎ LeavesAll (read.live.wire name) (now.live.left name)) → ((name : List ℕ) → (now.page name ≡ read.page name) ⊎ IsUnwritten (now.page name)) → (fault : Fault) → came ≡ Failed fault → (fault ≡ faults.Open) ⊎ (fault ≡ faults.NoMemory)
+      → Unreceived received (suc n) before now last came
+  stops n none unheard unwritten fault came_is why = record {
+    none = none;
+    unheard = unheard_names received.links before.live now.live (subst (λ (l : Live). (name : List ℕ) → (now.live.left name ≡ l.left name) ⊎ LeavesAll (l.wire name) (now.live.left name)) live unheard);
+    unwritten = λ name. elim (unwritten name) [
+      | inl same ↦ inl (same ∙ pages name)
+      | inr empty ↦ inr empty
+    ];
+    cause = elim why [
+      | inl open_fault ↦ inr (inl (came_is ∙ ap (λ (f : Fault). Failed f) open_fault))
+      | inr memory ↦ inr (inr (came_is ∙ ap (λ (f : Fault). Failed f) memory))
+    ];
+  }
+
+  came_unopened : Unopened read now last came → Comes 0
+  came_unopened unopened =
+      let same = unopened.same in record {
+        opens = opens_none Whole read now (ap (λ (t : Told). t.openings) same) (λ name. ap (λ (t : Told). t.page name) same) (λ name. ap (λ (t : Told). t.left name) same);
+        does = inl (stops 0 unopened.none (λ name. inl (ap (λ (t : Told). t.live.left name) same)) (λ name. inl (ap (λ (t : Told). t.page name) same)) faults.NoMemory unopened.came_is (inr refl));
+        counts = counts_came_none Whole now read.faults now.faults came faults.NoMemory unopened.came_is (record {
+          reads = ap (λ (t : Told). t.faults.reads) same;
+          writes = ap (λ (t : Told). t.faults.writes) same;
+          openings = cause_none read.faults.openings now.faults.openings (ap (λ (t : Told). t.faults.openings) same) (λ e. absurd cc);
+        }) (inr refl);
       }
+
+  came_refused_session : (fault : Fault) → RefusedSession (workers_wanted received) cfg read now fault → last ≡ None → came ≡ Failed fault → (n : ℕ) × Comes n
+  came_refused_session fault it none came_is =
+      let wanted = workers_wanted received in
+      let some = opens_refused_session wanted cfg read now fault it in
+      let why = refused_fault wanted read it.mid _ it.first it.workers (Err fault) fault it.opens refl in (
+        some.0,
+        record {
+          opens = front_opened Files output some.0 read now some.1 some.2;
+          does = inl (stops some.0 none
+              (unheard_links wanted read it.mid it.mid now _ it.first it.later it.workers (Err fault) it.opens refl it.closes)
+              (unwritten_pages wanted read it.mid it.mid now _ it.first it.later it.workers (Err fault) it.opens (λ name. refl) it.closes)
+              fault came_is why);
+          counts = counts_came_none Whole now read.faults now.faults came fault came_is (counts_refused wanted cfg read now fault it) why;
+        },
+      )
+
+  came_ran : Ran Holds output (config_of received parts) (workers_wanted received) cfg read now last came → Comes (length Whole)
+  came_ran it =
+      let wanted = workers_wanted received in
+      let t = it.runs in
+      let history : List Entry = entries t.end.history in
+      let text : List ℕ = report_text (report_of history) in
+      let session : RanSession wanted cfg read it.opened it.running t.closed t.end t.stop = record { turn = it.turn; first = it.first; workers = it.workers; opens = it.opens; ran = t.ran } in
+      let reads : Bool = list_any link_failed t.ran.done in
+      let wrote : Bool = list_any sink_failed t.ran.done in
+      let spent : Bool = list_any has_spent t.ran.done in
+      let opened : it.opened.faults ≡ read.faults = counts_opened wanted cfg read it.opened it.turn it.first it.workers it.opens in
+      let all = all_opened Files output read it.opened it.running (opens_files wanted cfg read it.opened it.turn it.first it.workers it.opens) it.behind in
+      let names : map opening_of t.ran.done ≡ Files = runs_openings it.workers t.ran.done t.ran.runs ∙ openings_are wanted read it.opened _ it.first it.workers (Ok tt) refl it.opens in
+      let counts = counts_ran wanted cfg read it.opened it.running t.closed t.end t.stop (apart_wanted 0 0 received.links received.sinks is.sinks_are.distinct) session in
+      let ends = ends_behind Holds output received.links received.sinks history t.closed now t.failed came apart t.ends (came_failed text reads wrote spent t.failed came t.came_is) in
+      let closed : HasCauses it.running.faults now.faults (reads ≡ true) ((wrote || t.failed) ≡ true) ⊥ =
+      causes_both it.running.faults t.closed.faults now.faults counts.closes ends.own (λ e. inl e) (λ e. elim e [ inl is ↦ is | inr never ↦ absurd never ]) (either wrote t.failed) (from_either wrote t.failed) (λ e. absurd e) (λ e. elim e [ inl never ↦ never | inr never ↦ never ]) in
+      let got : Receives received read.live t.closed.live last (file_told before received.setup) (drop (length received.links) (files_told t.closed Files)) came =
+      receives received words parts (file_told before received.setup) cfg read it.opened it.running t.closed t.end t.stop (wrote || t.failed) last came is session t.legal found t.last_is (λ none. (or_parts wrote t.failed none).0) t.came_is in
+      let outs : drop (length received.links) (files_told t.closed Files) ≡ files_told now (map opening_for (sinks_wanted 0 received.sinks)) = holding.outs_told received t.closed ∙ sym ends.sinks_same in
+      record {
+        opens = ends.opens read (closes_after Whole (length Whole) t.ran.done read it.running t.closed it.first t.ran.later all.0 (λ name among. among_all (OfSink name) Files output (subst (λ (os : List Opening). IsAmong (OfSink name) os) names among)) t.ran.closes);
+        does = inr (
+          refl,
+          record {
+            receives = subst (λ (l : Live). Receives received l now.live last (file_told before received.setup) (files_told now (map opening_for (sinks_wanted 0 received.sinks))) came) live
+                (subst (λ (l : Live). Receives received read.live l last (file_told before received.setup) (files_told now (map opening_for (sinks_wanted 0 received.sinks))) came) (sym ends.live)
+                (subst (λ (fs : List File). Receives received read.live t.closed.live last (file_told before received.setup) fs came) outs got));
+            end = t.end;
+            last_is = t.last_is;
+            holds = ends.holds;
+          },
+        );
+        counts = causes_then read.faults it.opened.faults now.faults opened (causes_then it.opened.faults it.running.faults now.faults all.1
+            (counts_came Whole now it.running.faults now.faults text reads (wrote || t.failed) spent came t.came_is closed
+            (λ some. elim (either wrote t.failed some) [
+              | inl sink ↦ ends.still_failed (counts.failed sink)
+              | inr own ↦ ends.own_failed own
+            ])));
+      }
+
+  came_refused_output : (fault : Fault) → RefusedOutput (workers_wanted received) cfg output read now fault → last ≡ None → came ≡ Failed fault → (n : ℕ) × Comes n
+  came_refused_output fault it none came_is =
+      let wanted = workers_wanted received in
+      let names : map opening_of it.workers ≡ Files = openings_are wanted read it.opened _ it.first it.workers (Ok tt) refl it.opens in
+      let opened : it.opened.faults ≡ read.faults = counts_opened wanted cfg read it.opened it.turn it.first it.workers it.opens in
+      let closed : now.faults ≡ it.tried.faults = counts_unrun wanted cfg read it.opened it.tried now it.turn it.first it.later it.workers it.opens it.closes in
+      let tried = refused_behind Files output read it.opened it.tried fault (opens_files wanted cfg read it.opened it.turn it.first it.workers it.opens) it.refuses in (
+        tried.number,
+        record {
+          opens = closes_after Whole tried.number it.workers read it.tried now it.first it.later tried.opens (λ name among. tried.among (OfSink name) (subst (λ (os : List Opening). IsAmong (OfSink name) os) names among)) it.closes;
+          does = inl (stops tried.number none
+              (unheard_links wanted read it.opened it.tried now _ it.first it.later it.workers (Ok tt) it.opens tried.live it.closes)
+              (unwritten_pages wanted read it.opened it.tried now _ it.first it.later it.workers (Ok tt) it.opens tried.pages it.closes)
+              fault came_is tried.why);
+          counts = causes_then read.faults it.opened.faults now.faults opened
+              (subst (λ f. HasCausesBeside ((came ≡ Failed faults.Read) × AnyFailed Whole now) it.opened.faults f (came ≡ Failed faults.Read) (came ≡ Failed faults.Write) (came ≡ Failed faults.Open)) (sym closed)
+              (counts_came_none Whole now it.opened.faults it.tried.faults came fault came_is tried.counts tried.why));
+        },
+      )
+
+  came_of : RunsStation Holds output (config_of received parts) (workers_wanted received) cfg read now last came → (n : ℕ) × Comes n
+  came_of (inl unopened) = (0, came_unopened unopened)
+  came_of (inr (inl it)) = elim it.refused [
+    | inl session ↦ came_refused_session it.fault session it.none it.came_is
+    | inr own ↦ came_refused_output it.fault own it.none it.came_is
+  ]
+  came_of (inr (inr ran)) = (length Whole, came_ran ran)
+
+  pub lives_run : (state : State) → Opens (OfSource received.setup ∷ []) 1 before read → StopCauses {A = State} (Ok state) before.faults read.faults → RunsStation Holds output (config_of received parts) (workers_wanted received) cfg read now last came → Lives Holds output received before now last came
+  lives_run state opened causes runs =
+      let it = came_of runs in
+      let whole = sym (behind_setup received output) in
+      record {
+        named = are_files_behind (files_of_receive received) output received.sinks (is.setup.file, are_wanted 0 0 received.links received.sinks is.links_are.each is.sinks_are.each) apart;
+        opened = suc it.0;
+        opens = subst (λ (fs : List Opening). Opens fs (suc it.0) before now) whole (opens_then (OfSource received.setup) Whole it.0 before read now opened it.1.opens);
+        does = elim it.1.does [
+          | inl none ↦ inl none
+          | inr all ↦ inr (ap suc all.0 ∙ ap length whole, all.1)
+        ];
+        counts = causes_then before.faults read.faults now.faults (causes_none before.faults read.faults causes (λ e. absurd cc) (λ e. absurd cc) (λ e. absurd cc))
+            (subst (λ (fs : List Opening). HasCausesBeside ((came ≡ Failed faults.Read) × AnyFailed fs now) read.faults now.faults (came ≡ Failed faults.Read) (came ≡ Failed faults.Write) (came ≡ Failed faults.Open)) whole it.1.counts);
+      }
+
+-- the same run, told the configuration of its receiver otherwise
+pub runs_as : {C : Type 0} (Holds : List Entry → Page → Type 0) (output : Option (List ℕ)) (config own : Config) (wanted : List Wanted) (cfg : C) (before now : Told) (last : Option (Ended Entry)) (came : Came)
+    → config ≡ own → RunsStation Holds output config wanted cfg before now last came → RunsStation Holds output own wanted cfg before now last came
+runs_as Holds output config own wanted cfg before now last came same runs = subst (λ (one : Config). RunsStation Holds output one wanted cfg before now last came) same runs
+
+-- ---- the commands
+
+-- a live run with no output is one of receive
+pub performs_receive : (Holds : List Entry → Page → Type 0) (arguments : ReceiveArguments) (before now : Told) (last : Option (Ended Entry)) (came : Came) → Lives Holds None arguments before now last came → Performs (receive before.live now.live last) arguments before now came
+performs_receive Holds arguments before now last came it = record {
+  named = it.named;
+  opened = it.opened;
+  opens = it.opens;
+  does = elim it.does [
+    | inl none ↦ inl (record {
+      none = none.none;
+      unheard = none.unheard;
+      unwritten = unwritten_behind (length arguments.links) (map opening_for (workers_wanted arguments)) before now none.unwritten;
+      cause = none.cause;
+    })
+    | inr (opened, all) ↦ inr (
+      opened ∙ ap suc (length-map (workers_wanted arguments) opening_for),
+      subst (λ (fs : List File). Receives arguments before.live now.live last (file_told before arguments.setup) fs came) (sym (holding.outs_told arguments now)) all.receives,
+    )
+  ];
+  counts = it.counts;
+}
+
+-- a live run with an output is one of a command with one output more
+pub performs_with : (form : WithOutput) (arguments : OutputArguments) (before now : Told) (last : Option (Ended Entry)) (came : Came) → Lives (form.Holds arguments) (Some arguments.output) arguments.receive before now last came → Performs (with_output form before.live now.live last) arguments before now came
+performs_with form arguments before now last came it =
+    let received : ReceiveArguments = arguments.receive in
+    let files : List Opening = map opening_for (workers_wanted received) in
+    let behind : List Opening = OfSink arguments.output ∷ [] in
+    let outs : drop (length received.links) (files_told now (files ++ behind)) ≡ files_told now (map opening_for (sinks_wanted 0 received.sinks) ++ behind) = outs_told 0 received.links (sinks_wanted 0 received.sinks) behind now in
+    let sinks : take (length received.sinks) (drop (length received.links) (files_told now (files ++ behind))) ≡ files_told now (map opening_for (sinks_wanted 0 received.sinks)) = ap (take (length received.sinks)) outs ∙ sinks_told 0 received.sinks behind now in
+    let own : drop (length received.sinks) (drop (length received.links) (files_told now (files ++ behind))) ≡ file_told now arguments.output ∷ [] = ap (drop (length received.sinks)) outs ∙ output_told 0 received.sinks behind now in
+    record {
+      named = it.named;
+      opened = it.opened;
+      opens = it.opens;
+      does = elim it.does [
+        | inl none ↦ inl (record {
+          none = none.none;
+          unheard = none.unheard;
+          unwritten = unwritten_behind (length received.links) (files ++ behind) before now none.unwritten;
+          cause = none.cause;
+        })
+        | inr (opened, all) ↦ inr (
+          opened ∙ ap suc (length-append files behind ∙ omega (arith, length-map (workers_wanted received) opening_for)),
+          subst (λ (fs : List File). Receives received before.live now.live last (file_told before received.setup) fs came) (sym sinks) all.receives,
+          subst (λ (fs : List File). OutputHolds (form.Holds arguments) last fs came) (sym own)
+              (subst (λ (l : Option (Ended Entry)). OutputHolds (form.Holds arguments) l (file_told now arguments.output ∷ []) came) (sym all.last_is) all.holds),
+        )
+      ];
+      counts = it.counts;
+    }

@@ -5,7 +5,7 @@ use Rattle.std.specs.Int.{w64}
 use Rattle.tesla_desk.specs.Outside.{Opening, OfSource}
 use Rattle.tesla_front.specs.Words.{IsName, ArePlaces}
 use Rattle.tesla_front.specs.declared.words.Places.{Places}
-use Rattle.tesla_names.specs.Names.{AreNames}
+use Rattle.tesla_front.specs.Names.{AreNames}
 use Rattle.tesla_session.specs.Wanted.{Wanted, opening_for, wanted_for}
 use Rattle.tesla_run_receive.specs.declared.arguments.Arguments.{Arguments}
 

@@ -1,4 +1,6 @@
 pub mod Arguments
+pub mod Output
+pub mod OutputArguments
 pub mod Receive
 pub mod Running
 pub mod Usage

@@ -17,7 +17,8 @@ use Rattle.tesla_front.specs.Setup.{IsSetupIn, IsNoSetup}
 use Rattle.tesla_front.specs.declared.fault.Fault.TheVariants as faults
 use Rattle.tesla_receiver.specs.History.{IsLegal, arrivals_in, given_in, has_end}
 use Rattle.tesla_receiver.specs.Packets.{released}
-use Rattle.tesla_receiver.specs.Report.{report_of, records_of}
+use Rattle.tesla_receiver.specs.Report.{report_of}
+use Rattle.tesla_replay.specs.Records.{records_of}
 use Rattle.tesla_receiver.specs.declared.history.Entry.{Entry}
 use Rattle.tesla_shared.specs.Whole.{arrivals_by, replies_by, is_of_workers}
 use Rattle.tesla_shared.specs.Workers.{bytes_of, reading_of, records, record_in}

@@ -1,6 +1,8 @@
--- What a run of the receiver's workers comes to, under a setup.
-use Rattle.std.specs.Prelude.{◌≡◌, ◌⊎◌, List, Option, Some, None}
-use Rattle.tesla_desk.specs.Outside.{Told}
+-- What a live run comes to under a setup: the workers of a station, and what a command has beside them.
+use Rattle.std.specs.Prelude.{◌≡◌, ◌⊎◌, ◌||◌, ℕ, Bool, true, false, List, [], ◌∷◌, ◌++◌, Option, Some, None, Ok}
+use Rattle.std.specs.List.{list_any}
+use Rattle.tesla_desk.specs.Faults.{HasCause}
+use Rattle.tesla_desk.specs.Outside.{Told, Opening, OfSink, Page, OpensSink, ClosesSink, MakesClock, page_of}
 use Rattle.tesla_fitting.specs.declared.config.Config.{Config}
 use Rattle.tesla_front.specs.Came.{Came, Failed}
 use Rattle.tesla_front.specs.declared.fault.Fault.{Fault}
@@ -9,10 +11,41 @@ use Rattle.tesla_receiver.specs.History.{IsLegal}
 use Rattle.tesla_receiver.specs.Report.{report_of}
 use Rattle.tesla_receiver.specs.declared.history.Entry.{Entry}
 use Rattle.tesla_run_replay.specs.ReportText.{report_text}
-use Rattle.tesla_session.specs.Session.{RanSession, RefusedSession, came_by}
-use Rattle.tesla_session.specs.Wanted.{Wanted}
-use Rattle.tesla_turn.specs.Held.{Ended}
+use Rattle.tesla_session.specs.Session.{ClosesWorkers, OpensAll, PassSeen, RefusedSession, RefusesWorker, RunsOpened, Seen, came_by, has_spent, link_failed, sink_failed, stop_by}
+use Rattle.tesla_session.specs.Wanted.{Wanted, WantedSink}
+use Rattle.tesla_turn.specs.Held.{Ended, TurnId}
 use Rattle.tesla_turn.specs.History.{entries}
+
+-- ---- one output more, or none
+
+-- these openings, and then that of the output
+abbrev pub with_behind : List Opening → Option (List ℕ) → List Opening
+with_behind files None = files
+with_behind files (Some output) = files ++ OfSink output ∷ []
+
+-- the output was opened, and then a clock more may have been made
+abbrev pub OpensBehind : Option (List ℕ) → Told → Told → Type 0
+OpensBehind None before now = now ≡ before
+OpensBehind (Some output) before now = (opened : Told) × OpensSink {A = Unit {0}} output (Ok tt) before opened × ((now ≡ opened) ⊎ MakesClock opened now)
+
+-- the opening of the output was refused
+abbrev pub RefusesBehind : Option (List ℕ) → Told → Told → Fault → Type 0
+RefusesBehind None before now fault = ⊥
+RefusesBehind (Some output) before now fault = RefusesWorker (WantedSink 0 output) before now fault
+
+-- the output was closed, told what its page holds of the history then, and whether it failed
+pub record EndsOutput (Holds : List Entry → Page → Type 0) (output : List ℕ) (history : List Entry) (before now : Told) (failed : Bool) : Type 0 where
+  pub written : Option (List ℕ)
+  pub faults : ℕ
+  pub holds : Holds history (page_of written faults)
+  pub cause : HasCause 0 faults (failed ≡ true)
+  pub closes : ClosesSink output written faults before now
+
+abbrev pub EndsBehind : (List Entry → Page → Type 0) → Option (List ℕ) → List Entry → Told → Told → Bool → Type 0
+EndsBehind Holds None history before now failed = (now ≡ before) × (failed ≡ false)
+EndsBehind Holds (Some output) history before now failed = EndsOutput Holds output history before now failed
+
+-- ---- a run
 
 -- there was no memory, and nothing was opened
 pub record Unopened (before now : Told) (last : Option (Ended Entry)) (came : Came) : Type 0 where
@@ -20,22 +53,50 @@ pub record Unopened (before now : Told) (last : Option (Ended Entry)) (came : Ca
   pub none : last ≡ None
   pub came_is : came ≡ Failed NoMemory
 
--- an opening was refused
-pub record Refused (wanted : List Wanted) (cfg : Config) (before now : Told) (last : Option (Ended Entry)) (came : Came) : Type 0 where
-  pub fault : Fault
-  pub refused : RefusedSession wanted cfg before now fault
-  pub none : last ≡ None
-  pub came_is : came ≡ Failed fault
+module _ {C : Type 0} where
+  -- the opening of the output was refused, and the workers were closed
+  pub record RefusedOutput (wanted : List Wanted) (cfg : C) (output : Option (List ℕ)) (before now : Told) (fault : Fault) : Type 0 where
+    pub turn : TurnId
+    pub first : PassSeen C
+    pub later : PassSeen C
+    pub workers : List (Seen C)
+    pub opened : Told
+    pub opens : OpensAll wanted cfg before opened turn first workers
+    pub tried : Told
+    pub refuses : RefusesBehind output opened tried fault
+    pub closes : ClosesWorkers workers tried now first later
 
--- all workers were opened, did their work and were closed: one legal history was made, and the report is its own
-pub record Ran (wanted : List Wanted) (cfg : Config) (before now : Told) (last : Option (Ended Entry)) (came : Came) : Type 0 where
-  pub opened : Told
-  pub end : Ended Entry
-  pub stop : Option Came
-  pub ran : RanSession wanted cfg before opened opened now end stop
-  pub last_is : last ≡ Some end
-  pub legal : IsLegal cfg (entries end.history)
-  pub came_is : came ≡ came_by stop (report_text (report_of (entries end.history)))
+  -- the opening of a link, of a sink or of the output was refused, and what was opened before was closed
+  pub record Refused (wanted : List Wanted) (cfg : C) (output : Option (List ℕ)) (before now : Told) (last : Option (Ended Entry)) (came : Came) : Type 0 where
+    pub fault : Fault
+    pub refused : RefusedSession wanted cfg before now fault ⊎ RefusedOutput wanted cfg output before now fault
+    pub none : last ≡ None
+    pub came_is : came ≡ Failed fault
 
-abbrev pub RunsReceiver : List Wanted → Config → Told → Told → Option (Ended Entry) → Came → Type 0
-RunsReceiver wanted cfg before now last came = Unopened before now last came ⊎ Refused wanted cfg before now last came ⊎ Ran wanted cfg before now last came
+  -- workers that are opened did their work and were closed, and then the output was: one legal history was made, and the report is its own
+  pub record RunsBegun (Holds : List Entry → Page → Type 0) (output : Option (List ℕ)) (config : Config) (first : PassSeen C) (workers : List (Seen C)) (running now : Told) (last : Option (Ended Entry)) (came : Came) : Type 0 where
+    pub closed : Told
+    pub end : Ended Entry
+    pub stop : Option Came
+    pub ran : RunsOpened first workers running closed end stop
+    pub failed : Bool
+    pub ends : EndsBehind Holds output (entries end.history) closed now failed
+    pub last_is : last ≡ Some end
+    pub legal : IsLegal config (entries end.history)
+    pub came_is : came ≡ came_by (stop_by (list_any link_failed ran.done) (list_any sink_failed ran.done || failed) (list_any has_spent ran.done)) (report_text (report_of (entries end.history)))
+
+  -- all was opened, and the workers did their work
+  pub record Ran (Holds : List Entry → Page → Type 0) (output : Option (List ℕ)) (config : Config) (wanted : List Wanted) (cfg : C) (before now : Told) (last : Option (Ended Entry)) (came : Came) : Type 0 where
+    pub turn : TurnId
+    pub first : PassSeen C
+    pub workers : List (Seen C)
+    pub opened : Told
+    pub opens : OpensAll wanted cfg before opened turn first workers
+    pub running : Told
+    pub behind : OpensBehind output opened running
+    pub runs : RunsBegun Holds output config first workers running now last came
+
+  -- what a run comes to, told what the output then holds of the history, the configuration of the receiver and that of the station
+  abbrev pub RunsStation : (List Entry → Page → Type 0) → Option (List ℕ) → Config → List Wanted → C → Told → Told → Option (Ended Entry) → Came → Type 0
+  RunsStation Holds output config wanted cfg before now last came =
+      Unopened before now last came ⊎ Refused wanted cfg output before now last came ⊎ Ran Holds output config wanted cfg before now last came

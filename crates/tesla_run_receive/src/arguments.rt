@@ -2,8 +2,7 @@
 
 ghost use Rattle.std.specs.Prelude.{◌≤◌};
 
-use tesla_front::Places;
-use tesla_names::Names;
+use tesla_front::{Names, Places};
 
 /// What the words `receive SETUP LAG CAPACITY LINKS SINKS` ask for.
 #[derive(Drop)]

@@ -1,12 +1,23 @@
-//! The command `receive`: the datagrams of live links are judged by one receiver, and what it releases is written to sinks.
+//! The command `receive`: the datagrams of live links are judged by one receiver, and what it releases is written to sinks. And
+//! what commands have in common that are `receive` over other stations, with one output more.
 #![tactic(auto)]
 
 mod arguments;
+mod ending;
+mod extra;
 mod forms;
+mod live;
+mod output_arguments;
+mod output_form;
+mod output_words;
 mod receive;
 mod words;
 
 pub use arguments::Arguments;
+pub use extra::{Extra, Idle};
 pub use forms::RECEIVE;
-pub use receive::{Received, new_receiver, run_receive};
-pub use words::{are_others, read_words};
+pub use live::{Came, run_station};
+pub use output_arguments::OutputWords;
+pub use output_form::{Form, Order};
+pub use output_words::output_words_in;
+pub use receive::{receiver_under, run_receive};

@@ -6,8 +6,7 @@ ghost use Rattle.tesla_session.specs.Session.{name_of};
 
 use crate::arguments::Arguments;
 use tesla_base::read_signed;
-use tesla_front::{is_name, places_in};
-use tesla_names::read_names;
+use tesla_front::{is_name, places_in, read_names};
 
 /// The name of the command.
 const NAME: &str = "receive";

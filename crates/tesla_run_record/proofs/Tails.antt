@@ -8,8 +8,8 @@ use Rattle.tesla_trace.specs.Trace.{entry_text, tail_head}
 use Rattle.tesla_run_record.specs.Record.{tail_of}
 
 -- the number of the first entry and the texts are those of the history
-pub tail_is : (state : RecordedState) (history : List Entry) (first : ℕ) → RecordedStands state history → first ≡ length history - length state.texts → tail_head first ++ flat_map (λ text. text) state.texts ≡ tail_of state.keep history
-tail_is state history first stands is =
+pub tail_is : {V : Type 0} (stands_for : V → List Entry → Type 0) (state : RecordedState V) (history : List Entry) (first : ℕ) → RecordedStands stands_for state history → first ≡ length history - length state.texts → tail_head first ++ flat_map (λ text. text) state.texts ≡ tail_of state.keep history
+tail_is stands_for state history first stands is =
     let kept = last_entries state.keep history in
     let size : length state.texts ≡ length history - (length history - state.keep) = ap length stands.last ∙ length-map kept entry_text ∙ length-drop (length history - state.keep) history in
     let number : first ≡ length history - state.keep = omega (arith, is, size) in

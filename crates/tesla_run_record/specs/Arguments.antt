@@ -1,7 +1,7 @@
 -- What the words of the command record ask for.
 use Rattle.std.specs.Prelude.{ℕ, List, codes}
-use Rattle.tesla_with_output.specs.Arguments.{OutputArguments, IsOutputForm}
-use Rattle.tesla_with_output.specs.declared.form.Order.TheVariants.{NumberFirst}
+use Rattle.tesla_run_receive.specs.OutputArguments.{OutputArguments, IsOutputForm}
+use Rattle.tesla_run_receive.specs.declared.output_form.Order.TheVariants.{NumberFirst}
 
 -- the words are the form 'record SETUP LAG CAPACITY LINKS SINKS KEEP TAIL': the number is KEEP, how many entries of the history are kept at most, and the output is TAIL, the file of these
 abbrev pub IsRecord : OutputArguments → List (List ℕ) → Type 0

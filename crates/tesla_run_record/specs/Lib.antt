@@ -1,4 +1,3 @@
 pub mod Arguments
 pub mod Record
-pub mod Running
 pub mod Usage

@@ -1,28 +1,30 @@
 -- What the command record does.
-use Rattle.std.specs.Prelude.{◌≡◌, ◌⊎◌, ℕ, ◌-◌, true, false, List, length, Option}
+use Rattle.std.specs.Prelude.{◌≡◌, ℕ, ◌-◌, true, false, List, [], length, Option, IfSome}
 use Rattle.tesla_desk.specs.Live.{Live}
 use Rattle.tesla_desk.specs.Outside.{Page, Untold, Absent, Holds}
-use Rattle.tesla_front.specs.Came.{Came, Failed}
 use Rattle.tesla_front.specs.Command.{Command}
 use Rattle.tesla_front.specs.Files.{IsPrefix}
-use Rattle.tesla_front.specs.declared.fault.Fault.TheVariants as faults
 use Rattle.tesla_receiver.specs.declared.history.Entry.{Entry}
 use Rattle.tesla_recorder.specs.Recorded.{last_entries}
 use Rattle.tesla_trace.specs.Trace.{tail_text}
 use Rattle.tesla_turn.specs.Held.{Ended}
-use Rattle.tesla_with_output.specs.Output.{WithOutput, with_output}
+use Rattle.tesla_run_receive.specs.Output.{WithOutput, with_output}
 use Rattle.tesla_run_record.specs.Arguments.{IsRecord}
 
 -- the spelling of the last entries of a history, at most so many: behind the number of the first of them
 abbrev pub tail_of : ℕ → List Entry → List ℕ
 tail_of keep history = tail_text (length history - keep) (last_entries keep history)
 
--- TAIL holds the last entries of the history. Where it failed it holds a prefix, and a link or an output is told to have failed
-abbrev pub HoldsTail : ℕ → List Entry → Page → Came → Type 0
-HoldsTail keep history Untold came = Unit {0}
-HoldsTail keep history Absent came = ⊥
-HoldsTail keep history (Holds bytes false) came = bytes ≡ tail_of keep history
-HoldsTail keep history (Holds bytes true) came = IsPrefix (tail_of keep history) bytes × ((came ≡ Failed faults.Read) ⊎ (came ≡ Failed faults.Write))
+-- TAIL holds the last entries of the history, and where it failed a prefix
+abbrev pub HoldsTail : ℕ → List Entry → Page → Type 0
+HoldsTail keep history Untold = Unit {0}
+HoldsTail keep history Absent = ⊥
+HoldsTail keep history (Holds bytes false) = bytes ≡ tail_of keep history
+HoldsTail keep history (Holds bytes true) = IsPrefix (tail_of keep history) bytes
+
+-- the sink is TAIL under this name and has nothing yet, and as many entries are kept for it as are asked for
+abbrev pub IsNewTail : ℕ → List ℕ → ℕ → Option (List ℕ) → ℕ → List ℕ → Type 0
+IsNewTail keep name kept written faults named = (kept ≡ keep) × IfSome written (λ bytes. bytes ≡ []) × (faults ≡ 0) × (named ≡ name)
 
 -- the form of receive with one output more: the output is TAIL
 abbrev pub form_of_record : WithOutput

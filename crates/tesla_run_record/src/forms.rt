@@ -1,7 +1,7 @@
 //! The form of the command, as it is told.
 
 use tesla_front::FormText;
-use tesla_with_output::{Form, Order};
+use tesla_run_receive::{Form, Order};
 
 /// The form of `record`.
 pub const RECORD: FormText = FormText {

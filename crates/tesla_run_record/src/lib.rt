@@ -6,4 +6,4 @@ mod record;
 mod tail;
 
 pub use forms::RECORD;
-pub use record::{RecordRun, run_record};
+pub use record::run_record;

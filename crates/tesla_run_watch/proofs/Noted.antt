@@ -1,16 +1,14 @@
 -- Lines that are written to STATUS, one after another.
-use Rattle.std.proofs.Common.{◌≡◌, ◌∙◌, inl, inr, ℕ, Bool, true, false, List, [], ◌∷◌, ◌++◌, flat_map, Option, Some, IfSome, append-nil, append_assoc, refl, sym, ap, subst, arith}
+use Rattle.std.proofs.Common.{◌≡◌, ◌∙◌, inl, inr, ℕ, Bool, true, false, List, [], ◌∷◌, ◌++◌, flat_map, Option, IfSome, append-nil, append_assoc, refl, sym, ap, subst, arith}
 use Rattle.std.proofs.lemmas.List.Concat.{flat_map-append}
-use Rattle.tesla_counters.specs.Counts.{CountersId, NoneFalls, no_counts}
+use Rattle.tesla_watched.specs.Counts.{NoneFalls, no_counts}
 use Rattle.tesla_desk.specs.Faults.{HasCause}
 use Rattle.tesla_desk.specs.Outside.{AppendsPrefix, with_bytes}
 use Rattle.tesla_desk.proofs.Counts.{cause_as, cause_both, cause_none}
 use Rattle.tesla_desk.proofs.Told.{appends_none, prefix_after, prefix_longer, prefix_none, with_more}
-use Rattle.tesla_fitting.specs.declared.config.Config.{Config}
 use Rattle.tesla_receiver.specs.Report.{report_of}
 use Rattle.tesla_receiver.specs.declared.history.Entry.{Entry}
 use Rattle.tesla_state.specs.declared.report.Report.{Report}
-use Rattle.tesla_watched.specs.declared.watched.WatchedConfig.{WatchedConfig}
 use Rattle.tesla_run_watch.specs.Lines.{AddsUp, Follow, NoneFall, StatusLine, line_text, no_report, report_at, status_line}
 use Rattle.tesla_run_watch.specs.Written.{EndsWith, Notes, Puts, WritesStatus, report_behind}
 
@@ -175,12 +173,3 @@ notes_none before faults = record {
   prefix = prefix_none before [];
   cause = cause_none faults faults refl (λ e. absurd cc);
 }
-
--- ---- configurations
-
--- the parts of a configuration
-pub config_is : (config : Config) (counters : CountersId) (cfg : WatchedConfig) → (let own : WatchedConfig = record { config = config; counters = counters } in Some own) ≡ Some cfg → config ≡ cfg.config
-config_is config counters cfg same = let one : (let own : WatchedConfig = record { config = config; counters = counters } in own) ≡ cfg = cc in ap (λ (c : WatchedConfig). c.config) one
-
-pub counters_are : (config : Config) (counters : CountersId) (cfg : WatchedConfig) → (let own : WatchedConfig = record { config = config; counters = counters } in Some own) ≡ Some cfg → counters ≡ cfg.counters
-counters_are config counters cfg same = let one : (let own : WatchedConfig = record { config = config; counters = counters } in own) ≡ cfg = cc in ap (λ (c : WatchedConfig). c.counters) one

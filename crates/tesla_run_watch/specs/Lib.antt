@@ -1,6 +1,5 @@
 pub mod Arguments
 pub mod Lines
-pub mod Running
 pub mod Usage
 pub mod Watch
 pub mod Written

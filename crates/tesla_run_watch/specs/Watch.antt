@@ -1,14 +1,12 @@
 -- What the command watch does.
-use Rattle.std.specs.Prelude.{◌≡◌, ◌⊎◌, ℕ, true, false, List, flat_map, Option}
+use Rattle.std.specs.Prelude.{◌≡◌, ℕ, true, false, List, flat_map, Option}
 use Rattle.tesla_desk.specs.Live.{Live}
 use Rattle.tesla_desk.specs.Outside.{Page, Untold, Absent, Holds}
-use Rattle.tesla_front.specs.Came.{Came, Failed}
 use Rattle.tesla_front.specs.Command.{Command}
 use Rattle.tesla_front.specs.Files.{IsPrefix}
-use Rattle.tesla_front.specs.declared.fault.Fault.TheVariants as faults
 use Rattle.tesla_receiver.specs.declared.history.Entry.{Entry}
 use Rattle.tesla_turn.specs.Held.{Ended}
-use Rattle.tesla_with_output.specs.Output.{WithOutput, with_output}
+use Rattle.tesla_run_receive.specs.Output.{WithOutput, with_output}
 use Rattle.tesla_run_watch.specs.Arguments.{IsWatch}
 use Rattle.tesla_run_watch.specs.Lines.{Follow, StatusLine, line_text, no_report}
 use Rattle.tesla_run_watch.specs.Written.{EndsWith}
@@ -27,12 +25,12 @@ pub record BreakOff (history : List Entry) (bytes : List ℕ) : Type 0 where
   pub ends : EndsWith lines history
   pub front : IsPrefix (flat_map line_text lines) bytes
 
--- STATUS holds lines, in which no number falls, and the last has the numbers of the whole history's report. Where it failed it holds a prefix of such lines, and a link or an output is told to have failed
-abbrev pub HoldsStatus : List Entry → Page → Came → Type 0
-HoldsStatus history Untold came = Unit {0}
-HoldsStatus history Absent came = ⊥
-HoldsStatus history (Holds bytes false) came = AreLines history bytes
-HoldsStatus history (Holds bytes true) came = BreakOff history bytes × ((came ≡ Failed faults.Read) ⊎ (came ≡ Failed faults.Write))
+-- STATUS holds lines, in which no number falls, and the last has the numbers of the whole history's report. Where it failed it holds a prefix of such lines
+abbrev pub HoldsStatus : List Entry → Page → Type 0
+HoldsStatus history Untold = Unit {0}
+HoldsStatus history Absent = ⊥
+HoldsStatus history (Holds bytes false) = AreLines history bytes
+HoldsStatus history (Holds bytes true) = BreakOff history bytes
 
 -- the form of receive with STATUS behind its sinks
 abbrev pub watched : WithOutput

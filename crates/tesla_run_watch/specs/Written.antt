@@ -5,6 +5,7 @@ use Rattle.tesla_desk.specs.Outside.{AppendsPrefix, with_bytes}
 use Rattle.tesla_receiver.specs.Report.{report_of}
 use Rattle.tesla_receiver.specs.declared.history.Entry.{Entry}
 use Rattle.tesla_state.specs.declared.report.Report.{Report}
+use Rattle.tesla_watched.specs.Counts.{CountersId}
 use Rattle.tesla_run_watch.specs.Lines.{Follow, NoneFall, StatusLine, line_text, no_report, report_at}
 
 -- the report behind these lines: that of the last of them, or else the first argument
@@ -44,3 +45,11 @@ pub record WritesStatus (history : List Entry) (before written : Option (List �
   pub all : failed ≡ false → written ≡ with_bytes before (flat_map line_text lines)
   pub prefix : AppendsPrefix before written (flat_map line_text lines)
   pub cause : HasCause 0 faults (failed ≡ true)
+
+-- the sink under this name was new, and has the lines that were noted until now of the counts that are these
+pub record IsMonitored (name : List ℕ) (counters : CountersId) (named : List ℕ) (own : CountersId) (counts : List ℕ) (written : Option (List ℕ)) (faults : ℕ) (failed : Bool) : Type 0 where
+  pub before : Option (List ℕ)
+  pub empty : IfSome before (λ bytes. bytes ≡ [])
+  pub noted : Notes counts before written 0 faults failed
+  pub name_is : named ≡ name
+  pub counters_are : own ≡ counters

@@ -9,4 +9,4 @@ mod status;
 mod watch;
 
 pub use forms::WATCH;
-pub use watch::{WatchRun, run_watch};
+pub use watch::run_watch;

@@ -1,15 +1,17 @@
 //! What writes the counts while the workers run.
 
-ghost use Rattle.std.specs.Prelude.{◌≡◌, ℕ, List, Option};
+ghost use Rattle.std.specs.Prelude.{◌≡◌, ◌≤◌, ℕ, List, Option};
 ghost use Rattle.tesla_run_watch.specs.Written.{Notes};
 
 use crate::due::Due;
 use crate::line::line_of;
 use crate::status::Status;
 use std::sync::Wait;
-use tesla_counters::Reader;
-use tesla_desk::{Clock, Sink};
+use tesla_desk::{Clock, Desk, Sink};
+use tesla_front::Fault;
+use tesla_run_receive::Extra;
 use tesla_session::{Beside, Ended};
+use tesla_watched::{Reader, Watched};
 
 /// The file of the counts, the clock that its lines go by, and who reads the counts.
 pub(crate) struct Monitor<S: Sink, C: Clock> {
@@ -58,5 +60,78 @@ impl<S: Sink, C: Clock> Beside for Monitor<S, C> {
 
     fn run<R: Wait>(&mut self, rt: &R, ended: &Ended) {
         self.watch(rt, ended);
+    }
+}
+
+/// What a monitor is made of when STATUS is opened.
+#[derive(Drop)]
+pub(crate) struct Monitoring<'a> {
+    /// The name of STATUS.
+    pub(crate) status: &'a str,
+    /// After how many seconds a line is due.
+    pub(crate) every: u32,
+    /// Who reads the counts.
+    pub(crate) reader: Reader,
+    ghost some: { 1 ≤ every },
+    ghost few: { every ≤ 3600 },
+}
+
+impl<D: Desk> Extra<D, Watched> for Monitoring<'_> {
+    ghost use Rattle.std.specs.Prelude.{◌≡◌, List, Some, not};
+    ghost use Rattle.std.proofs.Common.{◌∙◌};
+    ghost use Rattle.tesla_receiver.specs.Stands.{Stands};
+    ghost use Rattle.tesla_receiver.specs.declared.history.Entry.{Entry};
+    ghost use Rattle.tesla_watched.specs.Counts.{no_counts};
+    ghost use Rattle.tesla_watched.specs.Watched.{WatchedStands};
+    ghost use Rattle.tesla_run_receive.specs.Running.{EndsBehind};
+    ghost use Rattle.tesla_run_watch.specs.Watch.{HoldsStatus};
+    ghost use Rattle.tesla_run_watch.specs.Written.{IsMonitored};
+    ghost use Rattle.tesla_run_watch.specs.declared.monitor.Monitoring.{Monitoring};
+
+    type Begun = Monitor<D::Out, D::Time>;
+
+    ghost output = { λ it. Some it.status.now };
+
+    ghost holds = { λ _. HoldsStatus };
+
+    ghost fits = { λ it cfg. (it.reader.counters ≡ cfg.counters) × (it.reader.counts ≡ no_counts) };
+
+    ghost is_begun = { λ it cfg monitor. IsMonitored it.status.now cfg.counters (D.Out.name monitor.status.sink) monitor.reader.counters monitor.reader.counts (D.Out.written monitor.status.sink) (D.Out.faults monitor.status.sink) monitor.status.failed };
+
+    ghost still = { λ it cfg before now did begun. record { before = begun.before; empty = begun.empty; noted = did.0 begun.before 0 begun.noted; name_is = did.1 ∙ begun.name_is; counters_are = did.2 ∙ begun.counters_are } };
+
+    fn begin(self, desk: &mut D) -> Result<Monitor<D::Out, D::Time>, Fault> {
+        let sink = desk.open_sink(self.status)?;
+        let mut clock = desk.clock();
+        let due = Due::new(self.every, clock.now());
+        let status = Status {
+            sink,
+            failed: false,
+        };
+        Ok(Monitor {
+            status,
+            clock,
+            reader: self.reader,
+            due,
+        })
+    }
+
+    // The last line is written.
+    fn end(begun: Monitor<D::Out, D::Time>, station: Watched, desk: &mut D) -> bool
+        requires { (extra : Monitoring) × (h : List Entry) × IsMonitored extra.status.now station.counters (D.Out.name begun.status.sink) begun.reader.counters begun.reader.counts (D.Out.written begun.status.sink) (D.Out.faults begun.status.sink) begun.status.failed × WatchedStands Stands station h }
+        ensures { (extra : Monitoring) (h : List Entry) → IsMonitored extra.status.now station.counters (D.Out.name begun.status.sink) begun.reader.counters begun.reader.counts (D.Out.written begun.status.sink) (D.Out.faults begun.status.sink) begun.status.failed → WatchedStands Stands station h → EndsBehind HoldsStatus (Some extra.status.now) h (D.told desk.old) (D.told desk.new) (not result) }
+    {
+        let mut station = station;
+        let Monitor {
+            mut status,
+            mut clock,
+            reader,
+            due: _,
+        } = begun;
+        station.compare(reader);
+        status.put(&line_of(clock.now(), &station.counts()));
+        let Status { sink, failed } = status;
+        desk.close_sink(sink);
+        !failed
     }
 }

@@ -15,7 +15,7 @@ use Rattle.tesla_front.specs.Openings.{AnyFailed, IsAmong}
 use Rattle.tesla_front.specs.declared.fault.Fault.{Fault}
 use Rattle.tesla_front.specs.declared.fault.Fault.TheVariants as faults
 use Rattle.tesla_front.proofs.Told.{rose_some}
-use Rattle.tesla_names.specs.Names.{AreDistinct, IsNoneOf}
+use Rattle.tesla_front.specs.Names.{AreDistinct, IsNoneOf}
 use Rattle.tesla_receiver.specs.declared.history.Entry.{Entry}
 use Rattle.tesla_shared.specs.declared.draining.SinkEnd.{SinkEnd}
 use Rattle.tesla_shared.specs.declared.draining.SinkEnd.TheVariants as sink_ends

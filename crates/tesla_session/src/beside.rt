@@ -46,13 +46,3 @@ pub trait Beside {
     fn run<R: Wait>(&mut self, rt: &R, ended: &Ended)
         ensures { did self.old self.new };
 }
-
-/// Nothing beside the workers.
-#[derive(Drop)]
-pub(crate) struct Nothing;
-
-impl Beside for Nothing {
-    ghost did = { λ before after. Unit {0} };
-
-    fn run<R: Wait>(&mut self, _rt: &R, _ended: &Ended) {}
-}

@@ -9,7 +9,7 @@ ghost use Rattle.tesla_turn.specs.History.{entries};
 ghost use Rattle.tesla_session.specs.Wanted.{Wanted, wanted_for};
 ghost use Rattle.tesla_session.specs.Session.{AreOf, ClosesWorkers, HaveCalls, OpensAll, OpensWorkers, RefusedSession, RunWorkers, RunsOpened, calls_most, stop_of, workers_of};
 
-use crate::beside::{Beside, Nothing};
+use crate::beside::Beside;
 use crate::running::run_workers;
 use crate::session::{Links, Sinks, close_links, close_sinks, open_links, open_sinks};
 use crate::stop::stop_in;
@@ -18,8 +18,7 @@ use std::sync::Wait;
 use std::thread::Threads;
 use tesla_base::NoMemory;
 use tesla_desk::Desk;
-use tesla_front::{Fault, Stop};
-use tesla_names::Names;
+use tesla_front::{Fault, Names, Stop};
 use tesla_shared::Station;
 use tesla_turn::{Last, Pass, Turn};
 
@@ -179,23 +178,9 @@ pub fn close_all<D: Desk, V: Station>(desk: &mut D, session: Session<D, V>)
     let (_turn, _first) = close_workers(desk, session);
 }
 
-/// Runs the workers that are opened, closes them, and ends the turn. It waits for their links and for their turns.
-pub fn run_opened<R: Threads + Wait + Sync, D: Desk, V: Station + Send>(
-    rt: &R,
-    session: Session<D, V>,
-    desk: &mut D,
-) -> Ran<V>
-    requires { (wanted : List Wanted) × (cfg : V.Config) × (before : Told) × (now : Told) × OpensAll wanted cfg before now session.turn session.first (workers_of session.links.items session.sinks.items) }
-    ensures runs { RunsOpened session.first (workers_of session.links.items session.sinks.items) (D.told desk.old) (D.told desk.new) result.last (option_map stop_came result.stop) }
-    ensures stands { V.stands result.station (entries result.last.history) }
-    ensures config { session.first.config ≡ Some (V.config result.station) }
-{
-    run_opened_beside(rt, session, &mut Nothing, desk)
-}
-
-/// The same with something beside the workers, which runs in a thread of its own until they have ended, or behind them where no
-/// thread can be made.
-pub fn run_opened_beside<R: Threads + Wait + Sync, D: Desk, V: Station + Send, B: Beside + Send>(
+/// Runs the workers that are opened, closes them, and ends the turn. Something runs beside the workers, in a thread of its own
+/// until they have ended, or behind them where no thread can be made. It waits for their links and for their turns.
+pub fn run_opened<R: Threads + Wait + Sync, D: Desk, V: Station + Send, B: Beside + Send>(
     rt: &R,
     mut session: Session<D, V>,
     beside: &mut B,

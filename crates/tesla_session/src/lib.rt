@@ -9,6 +9,6 @@ mod stop;
 mod worker;
 
 pub use beside::{Beside, Ended};
-pub use engine::{Ran, Session, close_all, open_session, prepared, run_opened, run_opened_beside};
+pub use engine::{Ran, Session, close_all, open_session, prepared, run_opened};
 pub use session::{Links, Sinks};
 pub use worker::{LinkWorker, SinkWorker};

@@ -21,8 +21,8 @@ use Rattle.tesla_receiver.specs.declared.history.Entry.{Entry}
 use Rattle.tesla_receiver.specs.declared.history.Entry.TheVariants.{Arrived, Taken, Ended}
 use Rattle.tesla_receiver.specs.History.{IsLegal, IsLegalAfter, arrival_in, arrivals_in, ends, entry_of, event_of, given_in, has_end, reply_to, reply_with}
 use Rattle.tesla_receiver.specs.Packets.{released}
-use Rattle.tesla_receiver.specs.Report.{records_of, text_given}
-use Rattle.tesla_receiver.specs.Report as report
+use Rattle.tesla_replay.specs.Records.{records_of, text_given}
+use Rattle.tesla_replay.specs.Records as replaying
 use Rattle.tesla_receiver.proofs.Events.{given_rises}
 use Rattle.tesla_receiver.proofs.Legal.{given_fits}
 use Rattle.tesla_shared.specs.Workers.{goes_on, record_in, records, takes_of}
@@ -185,7 +185,7 @@ text_same (Given head payload) = refl
 text_same Empty = refl
 text_same Over = refl
 
-record_same : (r : ℕ) (e : Entry) → report.record_in r e ≡ records (reply_by r e)
+record_same : (r : ℕ) (e : Entry) → replaying.record_in r e ≡ records (reply_by r e)
 record_same r (Arrived a) = refl
 record_same r (Taken releaser reply) = of_own (releaser == r)
   where

@@ -9,7 +9,7 @@ use Rattle.tesla_receiver.specs.declared.history.Entry.{Entry}
 use Rattle.tesla_receiver.specs.declared.history.Entry.TheVariants.{Arrived, Taken, Ended}
 use Rattle.tesla_receiver.specs.History.{arrivals_in, given_in, ends, has_end}
 use Rattle.tesla_receiver.specs.Packets.{released}
-use Rattle.tesla_receiver.specs.Report.{records_of}
+use Rattle.tesla_replay.specs.Records.{records_of}
 use Rattle.tesla_shared.specs.Workers.{records, takes_of}
 
 -- the arrival of an entry, if it is of this ingest

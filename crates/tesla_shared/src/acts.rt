@@ -7,7 +7,7 @@ ghost use Rattle.tesla_receiver.specs.declared.history.Entry.TheVariants.{Arrive
 use crate::station::Station;
 use std::marker::Brand;
 use std::sync::ledger::{Blank, Ledger};
-use tesla_base::Steps;
+use tesla_base::{MOST_PAYLOAD, Steps};
 use tesla_desk::Clock;
 use tesla_receiver::{Take, Verdict};
 use tesla_turn::Act;
@@ -76,7 +76,7 @@ fn judge<V: Station, L: Ledger>(
 #[derive(Drop)]
 pub(crate) struct TakeNext {
     pub(crate) releaser: u8,
-    pub(crate) payload: [u8; 1200],
+    pub(crate) payload: [u8; MOST_PAYLOAD],
 }
 
 impl<V: Station> Act<V> for TakeNext {

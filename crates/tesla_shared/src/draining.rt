@@ -13,7 +13,7 @@ ghost use Rattle.tesla_shared.specs.Workers.{Drains};
 use crate::acts::TakeNext;
 use crate::station::Station;
 use std::sync::Wait;
-use tesla_base::Head;
+use tesla_base::{Head, MOST_PAYLOAD};
 use tesla_capture::Gatherer;
 use tesla_desk::{Gate, Sink};
 use tesla_receiver::Take;
@@ -52,7 +52,7 @@ pub fn drain<R: Wait, V: Station, S: Sink, G: Gate>(
 {
     let mut act = TakeNext {
         releaser: number,
-        payload: [0; 1200],
+        payload: [0; MOST_PAYLOAD],
     };
     let mut gatherer = Gatherer::new();
     for _ in rt.forever() {
@@ -100,7 +100,7 @@ fn write_whole<S: Sink>(
     sink: &mut S,
     gatherer: &mut Gatherer,
     head: &Head,
-    payload: &[u8; 1200],
+    payload: &[u8; MOST_PAYLOAD],
 ) -> bool
     requires empty { gathered gatherer.old ≡ [] }
     requires limit { head.now.length ≤ 1200 }

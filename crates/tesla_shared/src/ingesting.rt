@@ -11,6 +11,7 @@ ghost use Rattle.tesla_shared.specs.Workers.{HearsOne, HearsAll, Ingests};
 use crate::acts::{EndIngest, Hear};
 use crate::station::Station;
 use std::sync::Wait;
+use tesla_base::MOST_DATAGRAM;
 use tesla_desk::{Clock, Gate, Got, Link};
 use tesla_turn::{Pass, Turn};
 
@@ -74,7 +75,7 @@ fn hear_all<R: Wait, V: Station, K: Link, C: Clock, G: Gate>(
     ensures calls { OnlyCalls pass.old pass.new }
     ensures name { K.name link.new ≡ K.name link.old }
 {
-    let mut buffer = [0; 2048];
+    let mut buffer = [0; MOST_DATAGRAM];
     for _ in rt.forever() {
         if pass.left() == 1 {
             return LinkEnd::Spent;

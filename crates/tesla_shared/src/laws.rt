@@ -4,7 +4,7 @@ ghost use Rattle.std.specs.Prelude.{◌≡◌, ◌+◌, ◌<◌, ℕ, List, [], 
 ghost use Rattle.std.specs.List.{Contains, list_all, sum_by};
 ghost use Rattle.tesla_receiver.specs.History.{arrivals_in, ends, given_in, has_end};
 ghost use Rattle.tesla_receiver.specs.Packets.{released};
-ghost use Rattle.tesla_receiver.specs.Report.{records_of};
+ghost use Rattle.tesla_replay.specs.Records.{records_of};
 ghost use Rattle.tesla_receiver.specs.declared.history.Arrival.{Arrival};
 ghost use Rattle.tesla_state.specs.declared.replies.Reply.{Reply};
 ghost use Rattle.tesla_state.specs.declared.replies.Reply.TheVariants.{Over};
@@ -47,8 +47,8 @@ pub fn whole_history<V: Station>(station: &V, last: &Last<V>)
         (releaser : ℕ) → records_of releaser (entries last.now.history) ≡ records (slice_index_or sinks releaser []) }
     // Where each ingest has a link, and a take was answered Over, as many packets were given as are released of all arrivals.
     ensures complete { (links : List (List Arrival)) (sinks : List (List Reply)) → AreWorkers links sinks last.now.passes →
-        (V.receiver station.now).ingests ≡ length links → (releaser : ℕ) → Contains (slice_index_or sinks releaser []) Over →
-        given_in (entries last.now.history) ≡ length (released (V.receiver station.now) (arrivals_in (entries last.now.history))) }
+        (V.receiver (V.config station.now)).ingests ≡ length links → (releaser : ℕ) → Contains (slice_index_or sinks releaser []) Over →
+        given_in (entries last.now.history) ≡ length (released (V.receiver (V.config station.now)) (arrivals_in (entries last.now.history))) }
     // Each call stands once: the history is as long as the calls of all workers together.
     ensures size { (links : List (List Arrival)) (sinks : List (List Reply)) → AreWorkers links sinks last.now.passes →
         length last.now.history ≡ sum_by link_size links + sum_by length sinks }

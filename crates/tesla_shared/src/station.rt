@@ -3,20 +3,20 @@
 ghost use Rattle.std.specs.Prelude.{◌≡◌, ◌<◌, ◌≤◌, ◌^◌, ◌++◌, ◌∷◌, [], List, length};
 ghost use Rattle.tesla_fitting.specs.declared.config.Config.{Config};
 ghost use Rattle.tesla_receiver.specs.History.{IsLegal};
+ghost use Rattle.tesla_receiver.specs.Report.{report_of};
 ghost use Rattle.tesla_receiver.specs.declared.history.Entry.{Entry};
 ghost use Rattle.tesla_receiver.specs.declared.history.Entry.TheVariants.{Arrived, Taken, Ended};
 ghost use Rattle.tesla_state.specs.Replies.{reply_shown, KeepsBehind};
 
 use std::sync::ledger::Ledger;
-use tesla_base::Steps;
-use tesla_receiver::{Entry, Receiver, Take, Verdict};
-use tesla_turn::Chronicle;
+use tesla_base::{Chronicle, MOST_PAYLOAD, Steps};
+use tesla_receiver::{Entry, Receiver, Report, Take, Verdict};
 
 /// A receiver that threads share by turns. What stood for a history then stands for it with one entry more, which is
 /// the event with the answer that the call gives.
 pub trait Station: Chronicle<Entry = Entry> + Drop {
-    /// The configuration of its receiver.
-    ghost receiver: { Self → Config };
+    /// The configuration of its receiver, told its own.
+    ghost receiver: { Self.Config → Config };
 
     /// Judges a datagram of an ingest, of at most 2,048 bytes, with the reading of the receiver's clock in microseconds.
     fn arrive<L: Ledger>(
@@ -33,7 +33,7 @@ pub trait Station: Chronicle<Entry = Entry> + Drop {
 
     /// Gives the next released packet, whose payload is then at the front of the buffer, or says whether all
     /// ingests have ended.
-    fn take(&mut self, releaser: u8, into: &mut [u8; 1200]) -> Take
+    fn take(&mut self, releaser: u8, into: &mut [u8; MOST_PAYLOAD]) -> Take
         requires { (h : List Entry) × (length h < 2 ^ 63) × Self.stands self.old h }
         ensures stands { (h : List Entry) → length h < 2 ^ 63 → Self.stands self.old h → Self.stands self.new (h ++ Taken releaser (reply_shown result into.new) ∷ []) }
         ensures behind { KeepsBehind result into.old into.new }
@@ -50,12 +50,20 @@ pub trait Station: Chronicle<Entry = Entry> + Drop {
         ensures stands { (h : List Entry) → length h < 2 ^ 63 → Self.stands self.old h → Self.stands self.new (h ++ Ended ingest ∷ []) }
         ensures config { Self.config self.new ≡ Self.config self.old };
 
+    /// How many entries its history has.
+    fn calls(&self) -> u64
+        ensures { (h : List Entry) → Self.stands self.now h → result ≡ length h };
+
+    /// The counts of its history.
+    fn report(&self) -> Report
+        ensures { (h : List Entry) → Self.stands self.now h → result ≡ report_of h };
+
     /// Each history that it stands for is legal.
-    ghost legal: { (station : Self) (h : List Entry) → Self.stands station h → IsLegal (receiver station) h };
+    ghost legal: { (station : Self) (h : List Entry) → Self.stands station h → IsLegal (receiver (Self.config station)) h };
 }
 
 impl Station for Receiver {
-    ghost receiver = { λ station. station.config };
+    ghost receiver = { λ config. config };
 
     ghost legal = { λ station h stood. stood.legal };
 
@@ -69,7 +77,7 @@ impl Station for Receiver {
         Receiver::arrive(self, ingest, reading, bytes, steps)
     }
 
-    fn take(&mut self, releaser: u8, into: &mut [u8; 1200]) -> Take {
+    fn take(&mut self, releaser: u8, into: &mut [u8; MOST_PAYLOAD]) -> Take {
         Receiver::take(self, releaser, into)
     }
 
@@ -79,5 +87,13 @@ impl Station for Receiver {
 
     fn may_wait(&self) -> bool {
         0 < self.waiting()
+    }
+
+    fn calls(&self) -> u64 {
+        Receiver::calls(self)
+    }
+
+    fn report(&self) -> Report {
+        Receiver::report(self)
     }
 }

@@ -1,54 +1,54 @@
-//! The receiver, with its counts beside it.
+//! A station, with its counts beside it.
 
-ghost use Rattle.std.specs.Prelude.{◌≡◌, [], List, IfOk};
-ghost use Rattle.tesla_counters.specs.Counts.{NoneFalls, no_counts};
+ghost use Rattle.std.specs.Prelude.{◌≡◌, ◌++◌, ◌∷◌, [], List, IfOk};
 ghost use Rattle.tesla_receiver.specs.declared.history.Entry.{Entry};
 ghost use Rattle.tesla_receiver.specs.Report.{report_of};
-ghost use Rattle.tesla_receiver.specs.Stands.{Stands};
+ghost use Rattle.tesla_watched.specs.Counts.{NoneFalls, no_counts};
 ghost use Rattle.tesla_watched.specs.Watched.{WatchedStands, counts_in};
 
+use crate::counters::{COUNTS, Counters};
+use crate::reader::Reader;
+use crate::writer::Writer;
 use std::alloc::Global;
 use std::marker::Model;
 use std::sync::ledger::Ledger;
-use tesla_base::{NoMemory, Steps};
-use tesla_counters::{COUNTS, Counters, Reader, Writer};
+use tesla_base::{Chronicle, MOST_PAYLOAD, NoMemory, Steps};
 use tesla_receiver::{Config, Entry, Receiver, Report, Take, Verdict};
 use tesla_shared::Station;
-use tesla_turn::Chronicle;
 
-/// A receiver, and the counts of its history, which another thread may read at any time.
+/// A station, and the counts of its history, which another thread may read at any time.
 #[derive(Drop)]
-pub struct Watched {
-    receiver: Receiver,
+pub struct Watched<V = Receiver> {
+    station: V,
     counts: Writer,
 }
 
-/// What a receiver is set up with, and which counts are those of its history.
-pub struct WatchedConfig {
-    /// What the receiver is set up with.
-    pub config: Config,
+/// What a station is set up with, and which counts are those of its history.
+pub struct WatchedConfig<C = Config> {
+    /// What the station is set up with.
+    pub config: C,
     /// The counts that are read.
     pub counters: Counters,
 }
 
-impl Model for Watched {
+impl<V> Model for Watched<V> {
     ghost use Rattle.tesla_watched.specs.Watched.{WatchedState};
 
-    ghost Value = { WatchedState };
+    ghost Value = { WatchedState V };
 
-    ghost view = { λ w. record { receiver = w.receiver; counters = w.counts.counters; counts = w.counts.counts } };
+    ghost view = { λ w. record { station = w.station; counters = w.counts.counters; counts = w.counts.counts } };
 }
 
-impl Chronicle for Watched {
+impl<V: Station> Chronicle for Watched<V> {
     ghost use Rattle.tesla_watched.specs.Watched.{WatchedStands};
 
     type Entry = Entry;
 
-    type Config = WatchedConfig;
+    type Config = WatchedConfig<V::Config>;
 
-    ghost config = { λ watched. record { config = watched.receiver.config; counters = watched.counters } };
+    ghost config = { λ watched. record { config = V.config watched.station; counters = watched.counters } };
 
-    ghost stands = { WatchedStands };
+    ghost stands = { WatchedStands V.stands };
 }
 
 // The counts of a report but for its arrivals, in the order of its lines.
@@ -70,32 +70,25 @@ fn counts_of(report: &Report) -> [u64; COUNTS]
     ]
 }
 
-impl Watched {
-    /// Counts from now on what this receiver answers, which has had no event. The reader has the counts as they stand at any
+impl<V: Station> Watched<V> {
+    /// Counts from now on what this station answers, which has had no event. The reader has the counts as they stand at any
     /// time. `NoMemory`: there wasn't enough.
-    pub fn open(alloc: Global, receiver: Receiver) -> Result<(Watched, Reader), NoMemory>
-        requires { Stands receiver [] }
-        ensures stands { IfOk result (λ it. WatchedStands it.0 []) }
-        ensures receiver { IfOk result (λ it. it.0.receiver ≡ receiver) }
+    pub fn open(alloc: Global, station: V) -> Result<(Watched<V>, Reader), NoMemory>
+        requires { V.stands station [] }
+        ensures stands { IfOk result (λ it. WatchedStands V.stands it.0 []) }
+        ensures station { IfOk result (λ it. it.0.station ≡ station) }
         ensures counters { IfOk result (λ it. it.1.counters ≡ it.0.counters) }
         ensures zero { IfOk result (λ it. it.1.counts ≡ no_counts) }
     {
-        let (counts, reader) = tesla_counters::open(alloc)?;
-        Ok((Watched { receiver, counts }, reader))
-    }
-
-    /// The counts of the whole history.
-    pub fn report(&self) -> Report
-        ensures { (h : List Entry) → WatchedStands self.now h → result ≡ report_of h }
-    {
-        self.receiver.report()
+        let (counts, reader) = Counters::open(alloc)?;
+        Ok((Watched { station, counts }, reader))
     }
 
     /// The counts of the whole history but for its arrivals, in the order of the lines of a report.
     pub fn counts(&self) -> [u64; COUNTS]
-        ensures { (h : List Entry) → WatchedStands self.now h → result ≡ counts_in (report_of h) }
+        ensures { (h : List Entry) → WatchedStands V.stands self.now h → result ≡ counts_in (report_of h) }
     {
-        counts_of(&self.receiver.report())
+        counts_of(&self.station.report())
     }
 
     /// Takes the reader back. What it read last is not above the counts.
@@ -107,21 +100,21 @@ impl Watched {
         self.counts.compare(reader);
     }
 
-    // Sets the counts to those of the history that the receiver stands for now.
+    // Sets the counts behind an event, to those of the history that the station stands for now.
     fn count(&mut self)
-        requires { (h : List Entry) × Stands self.old.receiver h × NoneFalls self.old.counts (counts_in (report_of h)) }
-        ensures counts { (h : List Entry) → Stands self.old.receiver h → self.new.counts ≡ counts_in (report_of h) }
-        ensures same { (self.new.receiver ≡ self.old.receiver) × (self.new.counters ≡ self.old.counters) }
+        requires { (h : List Entry) × (entry : Entry) × V.stands self.old.station (h ++ entry ∷ []) × (self.old.counts ≡ counts_in (report_of h)) }
+        ensures stands { (h : List Entry) → V.stands self.old.station h → WatchedStands V.stands self.new h }
+        ensures same { (self.new.station ≡ self.old.station) × (self.new.counters ≡ self.old.counters) }
     {
-        let report = self.receiver.report();
-        self.counts.set(&counts_of(&report));
+        let counts = counts_of(&self.station.report());
+        self.counts.set(&counts);
     }
 }
 
-impl Station for Watched {
-    ghost receiver = { λ station. station.receiver.config };
+impl<V: Station> Station for Watched<V> {
+    ghost receiver = { λ config. V.receiver config.config };
 
-    ghost legal = { λ station h stood. stood.stood.legal };
+    ghost legal = { λ watched h stood. V.legal watched.station h stood.stood };
 
     fn arrive<L: Ledger>(
         &mut self,
@@ -130,22 +123,31 @@ impl Station for Watched {
         bytes: &[u8],
         steps: &mut Steps<L>,
     ) -> Verdict {
-        let verdict = self.receiver.arrive(ingest, reading, bytes, steps);
+        let verdict = self.station.arrive(ingest, reading, bytes, steps);
         self.count();
         verdict
     }
 
-    fn take(&mut self, releaser: u8, into: &mut [u8; 1200]) -> Take {
-        let reply = self.receiver.take(releaser, into);
+    fn take(&mut self, releaser: u8, into: &mut [u8; MOST_PAYLOAD]) -> Take {
+        let reply = self.station.take(releaser, into);
         self.count();
         reply
     }
 
     fn end(&mut self, ingest: u8) {
-        self.receiver.end(ingest);
+        self.station.end(ingest);
+        self.count();
     }
 
     fn may_wait(&self) -> bool {
-        0 < self.receiver.waiting()
+        self.station.may_wait()
+    }
+
+    fn calls(&self) -> u64 {
+        self.station.calls()
+    }
+
+    fn report(&self) -> Report {
+        self.station.report()
     }
 }

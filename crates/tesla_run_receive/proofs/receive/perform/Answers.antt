@@ -1,15 +1,21 @@
-use Rattle.std.proofs.Common.{refl}
-use Rattle.tesla_run_receive.specs.Arguments.{arguments_of}
-use Rattle.tesla_run_receive.proofs.Performed.{are_files, performs_none, performs_run}
+use Rattle.std.proofs.Common.{None, refl}
+use Rattle.tesla_run_receive.specs.Arguments.{arguments_of, workers_wanted}
+use Rattle.tesla_run_receive.proofs.Performed.{lives_none, lives_run, performs_receive, runs_as}
 use Rattle.tesla_run_receive.proofs.receive.perform.Goals as goal
 
 pub returns-in-Ok : goal.returns-in-Ok
 returns-in-Ok g c =
     let arguments = arguments_of c.args.arguments.now in
-    performs_run arguments c.requires.form.0 c.in-Ok.setup (g.D.Desk.told c.args.desk.now) (g.D.Desk.told c.setup_under.new.desk) (g.D.Desk.told c.receive_under.new.desk) c.receive_under.result.1 _
-    c.requires.form.1 c.in-Ok.ensures.pages c.in-Ok.ensures.live c.in-Ok.ensures.found c.in-Ok.ensures.opened c.in-Ok.ensures.causes c.receive_under.ensures
+    let (spelled, is) = c.requires.form in
+    let made = c.in-Ok.ensures in
+    let (setup, found, config) = made.found in
+    performs_receive _ arguments _ _ _ _
+    (lives_run _ None arguments spelled setup _ _ _ _ _ _ is tt made.pages made.live found c.in-Ok.receiver made.opened made.causes
+    (runs_as _ None _ _ (workers_wanted arguments) _ _ _ _ _ config c.run_station.ensures))
 
 pub returns-in-Err : goal.returns-in-Err
 returns-in-Err g c =
-    let arguments = arguments_of c.args.arguments.now in
-    performs_none arguments (g.D.Desk.told c.args.desk.now) (g.D.Desk.told c.setup_under.new.desk) _ c.in-Err.stop (are_files arguments c.requires.form.0 c.requires.form.1) c.in-Err.ensures.opens c.in-Err.ensures.pages c.in-Err.ensures.live c.in-Err.ensures.refused c.in-Err.ensures.causes refl
+    let (spelled, is) = c.requires.form in
+    let made = c.in-Err.ensures in
+    performs_receive (λ _ _. Unit {0}) (arguments_of c.args.arguments.now) _ _ _ _
+    (lives_none _ None _ spelled _ _ _ c.in-Err.stop is tt made.opens made.pages made.live made.refused made.causes refl)

@@ -13,4 +13,4 @@ returns-in-Some-clause-runs g c =
 pub returns-in-None-clause-runs : goal.returns-in-None-clause-runs
 returns-in-None-clause-runs g c =
     let old = g.D.Desk.told c.args.desk.now in
-    runs_usage (receive old.live old.live None) arguments_of (map string_bytes c.args.words.now) c.arguments_in.result old c.in-None.is c.arguments_in.ensures.only
+    rw c.without_history.ensures.outcome (rw c.without_history.ensures.last (runs_usage (receive old.live old.live None) arguments_of (map string_bytes c.args.words.now) c.arguments_in.result old c.in-None.is c.arguments_in.ensures.only))

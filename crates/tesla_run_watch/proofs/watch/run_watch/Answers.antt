@@ -1,6 +1,6 @@
 use Rattle.std.proofs.Common.{None, map, string_bytes}
 use Rattle.tesla_front.proofs.Commands.{runs_form, runs_usage}
-use Rattle.tesla_with_output.specs.Arguments.{arguments_of}
+use Rattle.tesla_run_receive.specs.OutputArguments.{arguments_of}
 use Rattle.tesla_run_watch.specs.Watch.{watching}
 use Rattle.tesla_run_watch.proofs.watch.run_watch.Goals as goal
 
@@ -8,9 +8,9 @@ pub returns-in-Some-clause-runs : goal.returns-in-Some-clause-runs
 returns-in-Some-clause-runs g c =
     let old = g.D.Desk.told c.args.desk.now in
     let new = g.D.Desk.told c.perform-came.new.desk in
-    rw c.outcome_of.ensures (runs_form (watching old.live new.live c.perform-came.result.1) arguments_of (map string_bytes c.args.words.now) c.arguments_in.result c.in-Some.arguments old new _ c.in-Some.is c.arguments_in.ensures.only c.in-Some.ensures.found c.perform-came.ensures)
+    rw c.outcome_of.ensures (runs_form (watching old.live new.live c.perform-came.result.1) arguments_of (map string_bytes c.args.words.now) c.output_words_in.result c.in-Some.arguments old new _ c.in-Some.is c.output_words_in.ensures.only c.in-Some.ensures.found c.perform-came.ensures)
 
 pub returns-in-None-clause-runs : goal.returns-in-None-clause-runs
 returns-in-None-clause-runs g c =
     let old = g.D.Desk.told c.args.desk.now in
-    runs_usage (watching old.live old.live None) arguments_of (map string_bytes c.args.words.now) c.arguments_in.result old c.in-None.is c.arguments_in.ensures.only
+    rw c.without_history.ensures.outcome (rw c.without_history.ensures.last (runs_usage (watching old.live old.live None) arguments_of (map string_bytes c.args.words.now) c.output_words_in.result old c.in-None.is c.output_words_in.ensures.only))

@@ -1,19 +1,22 @@
-use Rattle.std.proofs.Common.{◌∙◌, ℕ, List, sym, ap, subst}
-use Rattle.tesla_counters.specs.Counts.{NoneFalls}
+use Rattle.std.proofs.Common.{◌≡◌, [], ◌∷◌, ◌++◌, ◌∙◌, ℕ, List, sym, ap, subst}
 use Rattle.tesla_receiver.specs.Report.{report_of}
-use Rattle.tesla_receiver.specs.Stands.{Stands}
+use Rattle.tesla_watched.proofs.Counted.{counts_rise}
+use Rattle.tesla_watched.specs.Counts.{NoneFalls}
 use Rattle.tesla_watched.specs.Watched.{WatchedState, counts_in}
 use Rattle.tesla_watched.proofs.watched.Watched.count.Goals as goal
 
 pub set-requires : goal.set-requires
-set-requires c =
-    let (h, stood, falls) = c.requires in
+set-requires g c =
+    let (h, entry, stood, counted) = c.requires in
     let same = sym c.self.view_is in
-    let stands : Stands c.self.inside.receiver h = subst (λ (s : WatchedState). Stands s.receiver h) same stood in
-    subst (λ (counts : List ℕ). NoneFalls c.self.inside.counts.counts counts) (sym (c.counts_of.ensures ∙ ap counts_in (c.report-report.ensures h stands)))
-    (subst (λ (s : WatchedState). NoneFalls s.counts (counts_in (report_of h))) same falls)
+    let now = subst (λ (s : WatchedState _). g.V.Chronicle.stands s.station (h ++ entry ∷ [])) same stood in
+    let was : c.self.inside.counts.counts ≡ counts_in (report_of h) = ap (λ (s : WatchedState _). s.counts) c.self.view_is ∙ counted in
+    subst (λ (counts : List ℕ). NoneFalls counts c.counts_of-counts.result) (sym was)
+    (subst (λ (counts : List ℕ). NoneFalls (counts_in (report_of h)) counts) (sym (c.counts_of-counts.ensures ∙ ap counts_in (c.report.ensures _ now))) (counts_rise h entry))
 
-pub returns-clause-counts : goal.returns-clause-counts
-returns-clause-counts c h stood =
-    let stands : Stands c.self.inside.receiver h = subst (λ (s : WatchedState). Stands s.receiver h) (sym c.self.view_is) stood in
-    c.set.ensures.counts ∙ c.counts_of.ensures ∙ ap counts_in (c.report-report.ensures h stands)
+pub returns-clause-stands : goal.returns-clause-stands
+returns-clause-stands g c h stood =
+    let stands = subst (λ (s : WatchedState _). g.V.Chronicle.stands s.station h) (sym c.self.view_is) stood in record {
+      stood = stands;
+      counted = c.set.ensures.counts ∙ c.counts_of-counts.ensures ∙ ap counts_in (c.report.ensures h stands);
+    }

@@ -1,18 +1,11 @@
-use Rattle.std.proofs.Common.{[], ◌∷◌, ◌++◌, sym, subst}
-use Rattle.tesla_receiver.specs.declared.history.Entry.{Entry}
-use Rattle.tesla_receiver.specs.Stands.{Stands}
-use Rattle.tesla_watched.specs.Watched.{WatchedState, WatchedStands}
 use Rattle.tesla_watched.proofs.Counted.{counts_stand, stands_counted}
 use Rattle.tesla_watched.proofs.watched.WatchedStation.arrive.Goals as goal
 
 pub count-requires : goal.count-requires
 count-requires g c =
-    let (h, _, stood) = c.requires.stood in
-    let before : WatchedStands (record { receiver = c.self.inside.receiver; counters = c.self.inside.counts.counters; counts = c.self.inside.counts.counts }) h = subst (λ (s : WatchedState). WatchedStands s h) (sym c.self.view_is) stood in
-    counts_stand c.self.inside.receiver c.arrive-verdict.new.self c.self.inside.counts.counters c.self.inside.counts.counts h _ before (c.arrive-verdict.ensures.stands h before.stood)
+    let (h, few, stood) = c.requires.stood in
+    counts_stand g.V.Chronicle.stands _ _ _ _ _ h _ c.self.view_is stood (λ before. c.arrive-verdict.ensures.stands h few before)
 
 pub returns-clause-stands : goal.returns-clause-stands
-returns-clause-stands g c h _ stood =
-    let before : WatchedStands (record { receiver = c.self.inside.receiver; counters = c.self.inside.counts.counters; counts = c.self.inside.counts.counts }) h = subst (λ (s : WatchedState). WatchedStands s h) (sym c.self.view_is) stood in
-    let stands = subst (λ (entry : Entry). Stands c.arrive-verdict.new.self (h ++ entry ∷ [])) (sym (c.arrive-verdict.ensures.answer h before.stood)) (c.arrive-verdict.ensures.stands h before.stood) in
-    stands_counted c.count.new.self c.arrive-verdict.new.self _ stands c.count.ensures.same.0 (c.count.ensures.counts _ stands)
+returns-clause-stands g c h few stood =
+    stands_counted g.V.Chronicle.stands _ _ _ _ _ _ h _ c.self.view_is stood (λ before. c.arrive-verdict.ensures.stands h few before) c.count.ensures.stands

@@ -1,7 +1,0 @@
-use Rattle.std.proofs.Common.{◌≡◌, length}
-use Rattle.tesla_counters.specs.Counts.{NoneFalls}
-use Rattle.tesla_counters.specs.Steps.{IsReading}
-use Rattle.tesla_counters.proofs.reader.look.Given as goal
-
-abbrev pub invariant-loop-place : goal.invariant-loop-place
-invariant-loop-place l = record { seat : IsReading l.counters l.counts l.seat; rise : NoneFalls l.initial.counts l.counts; size : length l.counts ≡ 11 }

@@ -1,0 +1,35 @@
+//! What workers and one output more come to when they have ended.
+
+ghost use Rattle.std.specs.Prelude.{◌≡◌, ◌||◌, Bool, not};
+ghost use Rattle.std.specs.Option.{option_map};
+ghost use Rattle.tesla_front.specs.Came.{came_of, stop_came};
+ghost use Rattle.tesla_run_replay.specs.ReportText.{report_text};
+ghost use Rattle.tesla_session.specs.Session.{came_by, stop_by};
+
+use tesla_front::{Fault, Lines, Stop};
+use tesla_receiver::Report;
+use tesla_run_replay::report_lines;
+
+/// Why the run came to no end, where the output was written or failed: a link that failed comes first, and a failed write before
+/// calls that were spent.
+pub(crate) fn stop_with(stop: Option<Stop>, written: bool) -> Option<Stop>
+    ensures { (read write spent : Bool) → option_map stop_came stop ≡ stop_by read write spent → option_map stop_came result ≡ stop_by read (write || not written) spent }
+{
+    if written {
+        return stop;
+    }
+    match stop {
+        Some(Stop::Failed(Fault::Read)) => Some(Stop::Failed(Fault::Read)),
+        _ => Some(Stop::Failed(Fault::Write)),
+    }
+}
+
+/// What workers that ended so come to, told the counts.
+pub(crate) fn ended(stop: Option<Stop>, report: &Report) -> Result<Lines, Stop>
+    ensures { came_of result ≡ came_by (option_map stop_came stop) (report_text report.now) }
+{
+    match stop {
+        Some(stop) => Err(stop),
+        None => Ok(report_lines(report)),
+    }
+}

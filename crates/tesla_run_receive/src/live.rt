@@ -1,0 +1,120 @@
+//! A live run: the workers of a station from their openings to their closings, and what a command has beside them.
+
+ghost use Rattle.std.specs.Prelude.{◌≡◌, ◌≤◌, ◌+◌, [], List, Some, length, vec_capacity};
+ghost use Rattle.tesla_desk.specs.Outside.{Told};
+ghost use Rattle.tesla_front.specs.Came.{came_of};
+ghost use Rattle.tesla_receiver.specs.History.{IsLegal};
+ghost use Rattle.tesla_receiver.specs.Report.{report_of};
+ghost use Rattle.tesla_receiver.specs.declared.history.Entry.{Entry};
+ghost use Rattle.tesla_session.specs.Session.{OpensAll, calls_most, workers_of};
+ghost use Rattle.tesla_session.specs.Wanted.{Wanted};
+ghost use Rattle.tesla_turn.specs.Held.{first_pass};
+ghost use Rattle.tesla_run_receive.specs.Arguments.{AreFew, arguments_of, workers_wanted};
+ghost use Rattle.tesla_run_receive.specs.Running.{RunsBegun, RunsStation};
+
+use crate::arguments::Arguments;
+use crate::ending::{ended, stop_with};
+use crate::extra::Extra;
+use std::alloc::Global;
+use std::sync::Wait;
+use std::thread::Threads;
+use tesla_desk::Desk;
+use tesla_front::{Fault, Lines, Stop};
+use tesla_receiver::Report;
+use tesla_session::{Ran, Session, close_all, open_session, prepared, run_opened};
+use tesla_shared::Station;
+use tesla_turn::Last;
+
+/// What a live run comes to, with the whole history where there is one.
+pub type Came<V> = (Result<Lines, Stop>, Option<Last<V>>);
+
+/// Runs the workers that the words ask for over a station with no history. All memory is taken; then the links are opened in
+/// order, each with the next clock, the sinks, and what is beside the workers. It waits for the links.
+pub fn run_station<R: Threads + Wait + Sync, D: Desk, V: Station + Send, E: Extra<D, V>>(
+    rt: &R,
+    alloc: Global,
+    arguments: &Arguments<'_>,
+    station: V,
+    extra: E,
+    desk: &mut D,
+) -> Came<V>
+    requires few { AreFew (arguments_of arguments.now) }
+    requires stands { V.stands station [] }
+    requires fits { E.fits extra (V.config station) }
+    ensures { RunsStation (E.holds extra) (E.output extra) (V.receiver (V.config station)) (workers_wanted (arguments_of arguments.now)) (V.config station) (D.told desk.old) (D.told desk.new) result.1 (came_of result.0) }
+{
+    match prepared(alloc, station, &arguments.links, &arguments.sinks) {
+        Ok(session) => run_session(rt, arguments, session, extra, desk),
+        Err(_) => (Err(Stop::Failed(Fault::NoMemory)), None),
+    }
+}
+
+// Opens the links and the sinks, and where none was refused what is beside them.
+fn run_session<R: Threads + Wait + Sync, D: Desk, V: Station + Send, E: Extra<D, V>>(
+    rt: &R,
+    arguments: &Arguments<'_>,
+    session: Session<D, V>,
+    extra: E,
+    desk: &mut D,
+) -> Came<V>
+    requires few { AreFew (arguments_of arguments.now) }
+    requires links { (session.links.items ≡ []) × (length arguments.now.links ≤ vec_capacity session.links) }
+    requires sinks { (session.sinks.items ≡ []) × (length arguments.now.sinks ≤ vec_capacity session.sinks) }
+    requires first { (cfg : V.Config) × (session.first ≡ first_pass session.turn cfg (1 + length arguments.now.links + length arguments.now.sinks) calls_most) × E.fits extra cfg }
+    ensures { (cfg : V.Config) → session.first ≡ first_pass session.turn cfg (1 + length arguments.now.links + length arguments.now.sinks) calls_most → E.fits extra cfg →
+        RunsStation (E.holds extra) (E.output extra) (V.receiver cfg) (workers_wanted (arguments_of arguments.now)) cfg (D.told desk.old) (D.told desk.new) result.1 (came_of result.0) }
+{
+    match open_session(&arguments.links, &arguments.sinks, session, desk) {
+        Ok(session) => run_behind(rt, session, extra, desk),
+        Err(fault) => (Err(Stop::Failed(fault)), None),
+    }
+}
+
+// Opens what is beside the workers that are opened, and where that wasn't refused runs them. Else they are closed.
+fn run_behind<R: Threads + Wait + Sync, D: Desk, V: Station + Send, E: Extra<D, V>>(
+    rt: &R,
+    session: Session<D, V>,
+    extra: E,
+    desk: &mut D,
+) -> Came<V>
+    requires { (wanted : List Wanted) × (cfg : V.Config) × (before : Told) × OpensAll wanted cfg before (D.told desk.old) session.turn session.first (workers_of session.links.items session.sinks.items) × E.fits extra cfg }
+    ensures { (wanted : List Wanted) (cfg : V.Config) (before : Told) → OpensAll wanted cfg before (D.told desk.old) session.turn session.first (workers_of session.links.items session.sinks.items) → E.fits extra cfg →
+        RunsStation (E.holds extra) (E.output extra) (V.receiver cfg) wanted cfg before (D.told desk.new) result.1 (came_of result.0) }
+{
+    match extra.begin(desk) {
+        Ok(beside) => run_begun::<R, D, V, E>(rt, session, beside, desk),
+        Err(fault) => {
+            close_all(desk, session);
+            (Err(Stop::Failed(fault)), None)
+        }
+    }
+}
+
+// The counts of a station's history, which is legal.
+fn report_in<V: Station>(station: &V) -> Report
+    ensures report { (h : List Entry) → V.stands station.now h → result ≡ report_of h }
+    ensures legal { (h : List Entry) → V.stands station.now h → IsLegal (V.receiver (V.config station.now)) h }
+{
+    station.report()
+}
+
+// Runs the workers, closes them and ends the turn, and then ends what was beside them.
+fn run_begun<R: Threads + Wait + Sync, D: Desk, V: Station + Send, E: Extra<D, V>>(
+    rt: &R,
+    session: Session<D, V>,
+    mut beside: E::Begun,
+    desk: &mut D,
+) -> Came<V>
+    requires opened { (wanted : List Wanted) × (cfg : V.Config) × (before : Told) × (now : Told) × (extra : E) × OpensAll wanted cfg before now session.turn session.first (workers_of session.links.items session.sinks.items) × E.is_begun extra cfg beside }
+    ensures { (cfg : V.Config) (extra : E) → session.first.config ≡ Some cfg → E.is_begun extra cfg beside →
+        RunsBegun (E.holds extra) (E.output extra) (V.receiver cfg) session.first (workers_of session.links.items session.sinks.items) (D.told desk.old) (D.told desk.new) result.1 (came_of result.0) }
+{
+    let Ran {
+        stop,
+        station,
+        last,
+    } = run_opened(rt, session, &mut beside, desk);
+    let report = report_in(&station);
+    let written = E::end(beside, station, desk);
+    (ended(stop_with(stop, written), &report), Some(last))
+}

@@ -1,3 +1,0 @@
-pub mod Arguments
-pub mod Output
-pub mod Running
