@@ -1,17 +1,9 @@
--- Two meanings of which the one says what the other says.
+-- What is so of an input by one meaning is so by another that says the same.
 use Rattle.std.proofs.Common.{◌≡◌, ◌∙◌, ◌⊎◌, inl, inr, ◌<◌, ℕ, Option, List, subst}
 use Rattle.tesla_front.specs.Came.{Came, Done, Usage, Refused, Failed}
 use Rattle.tesla_front.specs.Files.{IsPrefix}
 use Rattle.tesla_front.specs.declared.fault.Fault.TheVariants as faults
-use Rattle.tesla_convert.specs.Meaning.{ConvertsBetween, EndsBetween, Meaning, StopsBetween}
-
--- what the first says of an input the second says too
-pub record SaysSame (first second : Meaning) : Type 0 where
-  pub comes : (bytes : List ℕ) → first.comes bytes ≡ second.comes bytes
-  pub makes : (bytes : List ℕ) → first.makes bytes ≡ second.makes bytes
-  pub so_far : (read : List ℕ) → first.so_far read ≡ second.so_far read
-  pub unrefused : (read : List ℕ) → first.IsUnrefused read → second.IsUnrefused read
-  pub may : first.MayWant → second.MayWant
+use Rattle.tesla_convert.specs.Meaning.{ConvertsBetween, EndsBetween, Meaning, SaysSame, StopsBetween}
 
 module _ (first second : Meaning) (same : SaysSame first second) (before left written : Option (List ℕ)) (failed : ℕ) where
   ends_same : (came : Came) → EndsBetween first before written came → EndsBetween second before written came

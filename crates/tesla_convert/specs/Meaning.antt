@@ -19,6 +19,14 @@ pub record Meaning : Type 1 where
   -- memory may be wanting once records were converted
   pub MayWant : Type 0
 
+-- what the first says of an input the second says too
+pub record SaysSame (first second : Meaning) : Type 0 where
+  pub comes : (bytes : List ℕ) → first.comes bytes ≡ second.comes bytes
+  pub makes : (bytes : List ℕ) → first.makes bytes ≡ second.makes bytes
+  pub so_far : (read : List ℕ) → first.so_far read ≡ second.so_far read
+  pub unrefused : (read : List ℕ) → first.IsUnrefused read → second.IsUnrefused read
+  pub may : first.MayWant → second.MayWant
+
 -- the fact holds of the bytes of a page, where they are told
 abbrev pub Where : Page → (List ℕ → Type 0) → Type 0
 Where page Fact = (bytes : List ℕ) (failed : _) → page ≡ Holds bytes failed → Fact bytes

@@ -12,6 +12,7 @@ ghost use Rattle.tesla_convert.specs.Steps.{AllTo, Converts, GoesUp, IsAt, Recor
 
 use crate::converter::{Converted, Converter, Halt, TakenRecord};
 use crate::settling::settle;
+use tesla_base::MOST_DATAGRAM;
 use tesla_capture::{Gatherer, RecordReader, RecordStep};
 use tesla_desk::{Sink, Source};
 
@@ -43,7 +44,7 @@ pub enum Stopped {
 pub struct Conversion<C> {
     converter: C,
     gatherer: Gatherer,
-    room: [u8; 2048],
+    room: [u8; MOST_DATAGRAM],
 }
 
 // The offset of the record that is read from a place on: that of the first is behind the head.
@@ -74,7 +75,7 @@ impl<C: Converter> Conversion<C> {
         Conversion {
             converter,
             gatherer: Gatherer::new(),
-            room: [0; 2048],
+            room: [0; MOST_DATAGRAM],
         }
     }
 

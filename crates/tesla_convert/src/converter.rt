@@ -11,6 +11,7 @@ ghost use Rattle.tesla_desk.specs.Outside.{AppendsPrefix};
 ghost use Rattle.tesla_convert.specs.Rule.{Rule};
 ghost use Rattle.tesla_convert.specs.Records.{Answers, IsWithin, record_of};
 
+use tesla_base::MOST_DATAGRAM;
 use tesla_capture::{Format, Gatherer, RecordKind, RecordReader, RecordStep};
 use tesla_desk::{Sink, Source};
 
@@ -77,7 +78,7 @@ pub trait Converter {
     fn next<S: Source>(
         reader: &mut RecordReader<Self::Input>,
         source: &mut S,
-        room: &mut [u8; 2048],
+        room: &mut [u8; MOST_DATAGRAM],
     ) -> RecordStep
         requires { reader.old.going ≡ true }
         ensures gives { (rest : List ℕ) → ahead reader.old (S.left source.old) ≡ Some rest → Gives grammar result reader.old.place rest reader.new.place (ahead reader.new (S.left source.new)) room.new }

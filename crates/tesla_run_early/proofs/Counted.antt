@@ -3,11 +3,11 @@ use Rattle.std.proofs.Common.{◌≡◌, ◌∙◌, ◌+◌, ◌≤◌, ◌<◌,
 use Rattle.tesla_fitting.specs.declared.config.Config.{Config}
 use Rattle.tesla_receiver.specs.declared.history.Entry.{Entry}
 use Rattle.tesla_receiver.specs.History.{Event, entry_of}
-use Rattle.tesla_receiver.specs.Played.{after_events}
+use Rattle.tesla_receiver.specs.Events.{after_events}
 use Rattle.tesla_receiver.proofs.EachAfter.{each_after_more}
 use Rattle.tesla_receiver.proofs.Events.{after_one}
 use Rattle.tesla_early.specs.Stands.{EarlyState, EarlyStands}
-use Rattle.tesla_early.specs.Texts.{early_arrivals, early_count, early_in}
+use Rattle.tesla_early.specs.Counted.{early_arrivals, early_count, early_in}
 use Rattle.tesla_run_early.specs.Playing.{StandsFor, promises}
 
 -- one entry more

@@ -1,5 +1,3 @@
 pub mod Counted
 pub mod Texts
-pub mod Histories
 pub mod Meanings
-pub mod Complete

@@ -5,7 +5,8 @@ use Rattle.tesla_receiver.specs.declared.history.Entry.{Entry}
 use Rattle.tesla_receiver.specs.declared.history.Entry.TheVariants.{Arrived}
 use Rattle.tesla_early.specs.Early.{Message, is_early, is_promised, learnt, may_be_early, message_of}
 use Rattle.tesla_early.specs.Learnt.{Learnt}
-use Rattle.tesla_early.specs.Texts.{early_in, early_record_in, message_text}
+use Rattle.tesla_early.specs.Counted.{early_in}
+use Rattle.tesla_run_early.specs.Records.{early_record_in, message_text}
 
 -- where a verdict makes no message early, none is written
 same_text : (most : ℕ) (promised : List Learnt) (may : Bool) (message : Option Message)

@@ -1,3 +1,4 @@
+pub mod Records
 pub mod Early
 pub mod Usage
 pub mod Playing

@@ -2,13 +2,12 @@
 use Rattle.std.specs.Prelude.{◌≡◌, ◌≤◌, ℕ, List, [], ◌++◌, codes}
 use Rattle.tesla_fitting.specs.declared.config.Config.{Config}
 use Rattle.tesla_front.specs.Lines.{count_line}
-use Rattle.tesla_receiver.specs.History.{entry_of}
-use Rattle.tesla_receiver.specs.Played.{after_events, waiting_in}
 use Rattle.tesla_receiver.specs.Report.{report_of}
 use Rattle.tesla_receiver.specs.declared.history.Entry.{Entry}
 use Rattle.tesla_early.specs.Stands.{EarlyState, EarlyStands}
-use Rattle.tesla_early.specs.Texts.{early_count, early_record_in}
-use Rattle.tesla_run_replay.specs.Playing.{EventRule}
+use Rattle.tesla_early.specs.Counted.{early_count}
+use Rattle.tesla_run_early.specs.Records.{early_record_in}
+use Rattle.tesla_run_replay.specs.Playing.{EventRule, receiver_by, rule_by}
 use Rattle.tesla_run_replay.specs.ReportText.{report_text}
 
 -- how many promises are kept at most
@@ -21,12 +20,7 @@ early_text history = report_text (report_of history) ++ count_line (codes "early
 
 -- what such a receiver of that configuration writes, the records of what its takes give and of its early arrivals, and tells
 abbrev pub early_rule : Config → EventRule
-early_rule cfg = record {
-  begins = [];
-  adds = λ events event. early_record_in promises 0 (after_events cfg [] events) (entry_of cfg (after_events cfg [] events) event);
-  waiting = λ events. waiting_in cfg (after_events cfg [] events);
-  tells = λ events. early_text (after_events cfg [] events);
-}
+early_rule cfg = rule_by (receiver_by cfg [] (early_record_in promises 0) early_text)
 
 -- a receiver with room for so many promises stands for a history in which so many arrivals were early
 pub record StandsFor (state : EarlyState) (accepted : ℕ) (history : List Entry) : Type 0 where

@@ -9,4 +9,3 @@ mod target;
 
 pub use forms::EARLY;
 pub use run::run_early;
-pub use target::EarlyTarget;

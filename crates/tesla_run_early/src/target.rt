@@ -10,19 +10,28 @@ ghost use Rattle.tesla_receiver.specs.History.{Arrives, Takes, entry_of, reply_t
 ghost use Rattle.tesla_receiver.specs.declared.history.Entry.{Entry};
 ghost use Rattle.tesla_early.specs.Early.{message_in};
 ghost use Rattle.tesla_early.specs.Stands.{EarlyStands};
-ghost use Rattle.tesla_early.specs.Texts.{early_in, early_record_in, given_text, message_text};
+ghost use Rattle.tesla_early.specs.Counted.{early_in};
+ghost use Rattle.tesla_run_early.specs.Records.{early_record_in, given_text, message_text};
+ghost use Rattle.tesla_run_early.specs.Playing.{promises};
+ghost use Rattle.tesla_run_replay.specs.Arguments.{arguments_of};
 ghost use Rattle.tesla_run_replay.specs.ReportText.{report_text};
+ghost use Rattle.tesla_run_replay.specs.Under.{config_of};
 
+use std::alloc::Global;
 use std::sync::ledger::Ledger;
-use tesla_base::Steps;
+use tesla_base::{MOST_PAYLOAD, NoMemory, Steps};
 use tesla_capture::Gatherer;
+use tesla_commit::Setup;
 use tesla_convert::Halt;
 use tesla_desk::Sink;
 use tesla_early::Early;
 use tesla_frame::{FrameView, read_frame};
 use tesla_front::{Lines, add_count};
 use tesla_receiver::{Report, Take};
-use tesla_run_replay::{PlayedEvent, Target, add_report};
+use tesla_run_replay::{Arguments, Capacity, Form, PlayedEvent, Target, add_report, open_receiver};
+
+/// How many promises are kept at most.
+const PROMISES: u32 = 4096;
 
 /// A receiver whose released packets and whose early arrivals are written, and whose report is told with the number of the
 /// early arrivals.
@@ -30,20 +39,18 @@ use tesla_run_replay::{PlayedEvent, Target, add_report};
 pub struct EarlyTarget {
     early: Early,
     accepted: u64,
-    payload: [u8; 1200],
+    payload: [u8; MOST_PAYLOAD],
 }
 
-impl EarlyTarget {
-    /// A target over this receiver, which has had no event.
-    pub fn new(early: Early) -> EarlyTarget
-        ensures early { result.early ≡ early }
-        ensures none { result.accepted ≡ 0 }
-    {
-        EarlyTarget {
-            early,
-            accepted: 0,
-            payload: [0; 1200],
-        }
+// A receiver with room for the promises, in which nothing has happened. All memory is taken here.
+fn open_early(alloc: Global, arguments: &Arguments<'_>, setup: Setup) -> Result<Early, NoMemory>
+    ensures config { IfOk result (λ e. e.receiver.config ≡ config_of (arguments_of arguments.now) setup) }
+    ensures most { IfOk result (λ e. e.promises.most ≡ promises) }
+    ensures stands { IfOk result (λ e. EarlyStands e []) }
+{
+    match open_receiver(alloc, arguments, setup) {
+        Ok(receiver) => Early::open(alloc, receiver, PROMISES),
+        Err(NoMemory) => Err(NoMemory),
     }
 }
 
@@ -105,7 +112,7 @@ fn arrive_once<L: Ledger, O: Sink>(
 // Takes once for releaser 0, and gathers the record of what was given behind the byte 0. It takes no memory.
 fn take_once<O: Sink>(
     early: &mut Early,
-    payload: &mut [u8; 1200],
+    payload: &mut [u8; MOST_PAYLOAD],
     gatherer: &mut Gatherer,
     out: &mut O,
 ) -> Result<(), Halt>
@@ -156,8 +163,11 @@ fn lines_of(report: &Report, accepted: u64) -> Lines
 
 impl Target for EarlyTarget {
     ghost use Rattle.std.specs.Prelude.{[], false};
-    ghost use Rattle.tesla_receiver.specs.Played.{after_events};
+    ghost use Rattle.tesla_receiver.specs.Events.{after_events};
+    ghost use Rattle.tesla_run_early.specs.Early.{played_early};
     ghost use Rattle.tesla_run_early.specs.Playing.{StandsFor, early_rule};
+
+    ghost command = { played_early };
 
     ghost rule = { λ t. early_rule t.early.receiver.config };
 
@@ -166,6 +176,28 @@ impl Target for EarlyTarget {
     ghost may_want = { false };
 
     ghost calls = { λ t. t.early.receiver.calls };
+
+    fn form() -> Form {
+        Form {
+            name: "early",
+            capacity: Capacity::Places,
+        }
+    }
+
+    fn open(
+        alloc: Global,
+        arguments: &Arguments<'_>,
+        setup: Setup,
+    ) -> Result<EarlyTarget, NoMemory> {
+        match open_early(alloc, arguments, setup) {
+            Ok(early) => Ok(EarlyTarget {
+                early,
+                accepted: 0,
+                payload: [0; MOST_PAYLOAD],
+            }),
+            Err(NoMemory) => Err(NoMemory),
+        }
+    }
 
     fn begin<O: Sink>(&mut self, gatherer: &mut Gatherer, out: &mut O) -> bool {
         let _ = &gatherer;

@@ -1,54 +1,67 @@
--- The histories of events, and the records that they release.
-use Rattle.std.proofs.Common.{◌≡◌, ◌∙◌, ℕ, suc, true, false, List, [], ◌∷◌, ◌++◌, replicate, refl, sym, ap, append_assoc, append-nil}
+-- What a capture comes to by the rule of a target whose events make a history is what it comes to by the history that it plays.
+use Rattle.std.proofs.Common.{◌≡◌, ◌∙◌, ℕ, suc, Bool, true, false, Option, Some, None, is_none, List, [], ◌∷◌, ◌++◌, replicate, refl, sym, ap, append_assoc, append-nil}
 use Rattle.tesla_capture.specs.Capture.{Record}
+use Rattle.tesla_capture.specs.Outline.{outline_of}
+use Rattle.tesla_capture.specs.declared.record.RecordKind.{RecordKind}
 use Rattle.tesla_fitting.specs.declared.config.Config.{Config}
+use Rattle.tesla_front.specs.Came.{Done}
 use Rattle.tesla_receiver.specs.declared.history.Entry.{Entry}
-use Rattle.tesla_receiver.specs.History.{Event, Takes, Ends, arrivals_in, entry_of}
-use Rattle.tesla_receiver.specs.Played.{after_events, waiting_in, played}
-use Rattle.tesla_receiver.specs.Report.{record_in, records_of, released_text}
-use Rattle.tesla_receiver.proofs.Events.{after_one, records_more}
-use Rattle.tesla_receiver.proofs.Playing.{played_all}
+use Rattle.tesla_receiver.specs.History.{Event, Takes, Ends, entry_of}
+use Rattle.tesla_receiver.specs.Events.{after_events, waiting_in}
+use Rattle.tesla_receiver.proofs.Events.{after_one}
+use Rattle.tesla_replay.specs.Played.{played}
 use Rattle.tesla_state.specs.Releases.{each_after}
-use Rattle.tesla_run_replay.specs.Playing.{rule_of, events_in, events_text, with_end}
+use Rattle.tesla_convert.specs.Meaning.{SaysSame}
+use Rattle.tesla_run_replay.specs.Playing.{HistoryRule, end_by_rule, events_in, events_text, meaning_by, meaning_of, receiver_by, rule_by, text_by_rule, with_end}
+use Rattle.tesla_run_replay.specs.Under.{end_told}
+
+-- told what the events make, a text of histories that grows by what is written with each entry, and the histories that records play
+module _ {E : Type 0} (by : HistoryRule E) (one : (events : List Event) (event : Event) → by.after (events ++ event ∷ []) ≡ by.after events ++ by.entry (by.after events) event ∷ [])
+    (text : List E → List ℕ) (none : text (by.after []) ≡ []) (grows : (h : List E) (e : E) → text (h ++ e ∷ []) ≡ text h ++ by.adds h e) where
+  -- it grows by what is written of more events
+  text_after : (before events : List Event) → text (by.after (before ++ events)) ≡ text (by.after before) ++ each_after (rule_by by).adds before events
+  text_after before [] = ap (λ (es : List Event). text (by.after es)) (append-nil before) ∙ sym (append-nil (text (by.after before)))
+  text_after before (event ∷ events) =
+      let h : List E = by.after before in
+      let piece : List ℕ = by.adds h (by.entry h event) in
+      ap (λ (es : List Event). text (by.after es)) (sym (append_assoc before (event ∷ []) events))
+      ∙ text_after (before ++ event ∷ []) events
+      ∙ ap (λ (r : List ℕ). r ++ each_after (rule_by by).adds (before ++ event ∷ []) events) (ap text (one before event) ∙ grows h (by.entry h event))
+      ∙ append_assoc (text h) piece (each_after (rule_by by).adds (before ++ event ∷ []) events)
+
+  -- what is written of events is the text of their history
+  text_is : (events : List Event) → events_text (rule_by by) events ≡ text (by.after events)
+  text_is events = ap (λ (t : List ℕ). t ++ events_text (rule_by by) events) (sym none) ∙ sym (text_after [] events)
+
+  module _ (plays : List Record → Bool → List E) (front : (records : List Record) → by.after (events_in records) ≡ plays records false) (whole : (records : List Record) → by.after (with_end (rule_by by) (events_in records)) ≡ plays records true) where
+    end_same : (fault : Option (ℕ × RecordKind)) (records : List Record) → end_by_rule (rule_by by) fault records ≡ end_told fault (by.tells (plays records (is_none fault)))
+    end_same None records = ap (λ (h : List E). Done (by.tells h)) (whole records)
+    end_same (Some fault) records = refl
+
+    text_same : (fault : Option (ℕ × RecordKind)) (records : List Record) → text_by_rule (rule_by by) fault records ≡ text (plays records (is_none fault))
+    text_same None records = text_is (with_end (rule_by by) (events_in records)) ∙ ap text (whole records)
+    text_same (Some fault) records = text_is (events_in records) ∙ ap text (front records)
+
+    -- what is said by the rule is said by the histories
+    pub says_histories : (may_want : Bool) (May : Type 0) → (may_want ≡ true → May) → SaysSame (meaning_by may_want (rule_by by)) (meaning_of plays by.tells (λ h. by.begins ++ text h) May)
+    says_histories may_want May may = record {
+      comes = λ bytes. end_same (outline_of bytes).fault (outline_of bytes).records;
+      makes = λ bytes. ap (λ (t : List ℕ). by.begins ++ t) (text_same (outline_of bytes).fault (outline_of bytes).records);
+      so_far = λ read. ap (λ (t : List ℕ). by.begins ++ t) (text_is (events_in (outline_of read).records) ∙ ap text (front (outline_of read).records));
+      unrefused = λ read none. none;
+      may = may;
+    }
+
+-- ---- a receiver
 
 -- events, one list after another
-pub after_both : (cfg : Config) (h : List Entry) (first second : List Event) → after_events cfg h (first ++ second) ≡ after_events cfg (after_events cfg h first) second
+after_both : (cfg : Config) (h : List Entry) (first second : List Event) → after_events cfg h (first ++ second) ≡ after_events cfg (after_events cfg h first) second
 after_both cfg h [] second = refl
 after_both cfg h (event ∷ first) second = after_both cfg (h ++ entry_of cfg h event ∷ []) first second
 
--- the events of records with the end make the history that is played to its end
-pub history_ended : (cfg : Config) (records : List Record) → after_events cfg [] (with_end (rule_of cfg) (events_in records)) ≡ played cfg records true
-history_ended cfg records =
-    after_both cfg [] (events_in records) (Ends 0 ∷ replicate (suc (waiting_in cfg (after_events cfg [] (events_in records)))) (Takes 0))
-
--- told a text of histories that grows by a piece with each entry
-module _ (cfg : Config) (text : List Entry → List ℕ) (piece : List Entry → Entry → List ℕ) (grows : (h : List Entry) (e : Entry) → text (h ++ e ∷ []) ≡ text h ++ piece h e) where
-  -- the piece of an event behind others
-  abbrev pub piece_of : List Event → Event → List ℕ
-  piece_of before event = piece (after_events cfg [] before) (entry_of cfg (after_events cfg [] before) event)
-
-  -- it grows by the pieces of more events
-  pub text_after : (before events : List Event) → text (after_events cfg [] (before ++ events)) ≡ text (after_events cfg [] before) ++ each_after piece_of before events
-  text_after before [] =
-      ap (λ (es : List Event). text (after_events cfg [] es)) (append-nil before) ∙ sym (append-nil (text (after_events cfg [] before)))
-  text_after before (event ∷ events) =
-      let h : List Entry = after_events cfg [] before in
-      let one : text (after_events cfg [] (before ++ event ∷ [])) ≡ text h ++ piece_of before event =
-      ap text (after_one cfg [] before event) ∙ grows h (entry_of cfg h event) in
-      ap (λ (es : List Event). text (after_events cfg [] es)) (sym (append_assoc before (event ∷ []) events))
-      ∙ text_after (before ++ event ∷ []) events
-      ∙ ap (λ (r : List ℕ). r ++ each_after piece_of (before ++ event ∷ []) events) one
-      ∙ append_assoc (text h) (piece_of before event) (each_after piece_of (before ++ event ∷ []) events)
-
--- what is written of events is the release records of their history
-records_are : (cfg : Config) (events : List Event) → events_text (rule_of cfg) events ≡ records_of 0 (after_events cfg [] events)
-records_are cfg events = sym (text_after cfg (records_of 0) (λ h e. record_in 0 e) (records_more 0) [] events)
-
--- what is written of records is the release records of the takes among them
-pub records_text : (cfg : Config) (records : List Record) → events_text (rule_of cfg) (events_in records) ≡ records_of 0 (played cfg records false)
-records_text cfg records = records_are cfg (events_in records)
-
--- what is written of records and the end is the release records of all that is released
-pub ended_text : (cfg : Config) (records : List Record) → events_text (rule_of cfg) (with_end (rule_of cfg) (events_in records)) ≡ released_text cfg (arrivals_in (played cfg records true))
-ended_text cfg records =
-    records_are cfg (with_end (rule_of cfg) (events_in records)) ∙ ap (records_of 0) (history_ended cfg records) ∙ played_all cfg records
+-- what is said by the rule of a receiver is said by the histories that records play to it
+pub says_received : (cfg : Config) (begins : List ℕ) (adds : List Entry → Entry → List ℕ) (tells text : List Entry → List ℕ) → text [] ≡ [] → ((h : List Entry) (e : Entry) → text (h ++ e ∷ []) ≡ text h ++ adds h e)
+    → SaysSame (meaning_by false (rule_by (receiver_by cfg begins adds tells))) (meaning_of (played cfg) tells (λ h. begins ++ text h) ⊥)
+says_received cfg begins adds tells text none grows =
+    says_histories (receiver_by cfg begins adds tells) (after_one cfg []) text none grows (played cfg) (λ records. refl)
+    (λ records. after_both cfg [] (events_in records) (Ends 0 ∷ replicate (suc (waiting_in cfg (after_events cfg [] (events_in records)))) (Takes 0))) false ⊥ (λ e. absurd cc)

@@ -5,4 +5,3 @@ pub mod Targets
 pub mod Meanings
 pub mod Ended
 pub mod Under
-pub mod Complete

@@ -5,7 +5,7 @@ use Rattle.tesla_capture.specs.Capture.{Record, capture, record_text}
 use Rattle.tesla_capture.specs.Outline.{outline_of}
 use Rattle.tesla_capture.specs.declared.record.RecordKind.{RecordKind}
 use Rattle.tesla_receiver.specs.History.{Event}
-use Rattle.tesla_receiver.specs.Played.{event_in}
+use Rattle.tesla_replay.specs.Played.{event_in}
 use Rattle.tesla_receiver.proofs.EachAfter.{each_after-append}
 use Rattle.tesla_state.specs.Releases.{each_after}
 use Rattle.tesla_convert.specs.Rule.{Behind, Made, Unread, behind_of, made, made_behind, made_of, made_so_far, with_text}

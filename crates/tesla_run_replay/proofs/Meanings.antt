@@ -1,41 +1,28 @@
 -- What a capture comes to by the rule of a receiver is what it comes to by the history that it plays.
-use Rattle.std.proofs.Common.{◌≡◌, false, ℕ, Option, Some, None, is_none, List, refl, ap, subst}
+use Rattle.std.proofs.Common.{◌≡◌, ◌∙◌, ℕ, Option, Some, None, is_none, false, List, [], refl, sym, subst}
 use Rattle.tesla_capture.specs.Capture.{Record}
 use Rattle.tesla_capture.specs.Outline.{outline_of}
 use Rattle.tesla_capture.specs.declared.record.RecordKind.{RecordKind}
 use Rattle.tesla_fitting.specs.declared.config.Config.{Config}
-use Rattle.tesla_front.specs.Came.{Came, Done}
-use Rattle.tesla_receiver.specs.Played.{played}
-use Rattle.tesla_receiver.specs.Report.{report_of}
-use Rattle.tesla_receiver.specs.declared.history.Entry.{Entry}
-use Rattle.tesla_convert.specs.Meaning.{ConvertsBetween}
-use Rattle.tesla_convert.proofs.Meanings.{SaysSame, between_same}
-use Rattle.tesla_run_replay.specs.Playing.{end_by_rule, meaning_by, rule_of, text_by_rule}
+use Rattle.tesla_replay.specs.Played.{played}
+use Rattle.tesla_replay.specs.Records.{record_in, records_of}
+use Rattle.tesla_replay.proofs.Playing.{played_all}
+use Rattle.tesla_replay.proofs.Records.{records_more}
+use Rattle.tesla_convert.specs.Meaning.{SaysSame}
+use Rattle.tesla_run_replay.specs.Playing.{meaning_by, report_told, rule_of}
 use Rattle.tesla_run_replay.specs.Replay.{meaning, text_by}
-use Rattle.tesla_run_replay.specs.Under.{end_told}
-use Rattle.tesla_run_replay.specs.ReportText.{report_text}
-use Rattle.tesla_run_replay.proofs.Histories.{ended_text, history_ended, records_text}
+use Rattle.tesla_run_replay.proofs.Histories.{says_received}
 
-end_is : (cfg : Config) (fault : Option (ℕ × RecordKind)) (records : List Record) → end_by_rule (rule_of cfg) fault records ≡ end_told fault (report_text (report_of (played cfg records (is_none fault))))
-end_is cfg None records = ap (λ (h : List Entry). Done (report_text (report_of h))) (history_ended cfg records)
-end_is cfg (Some fault) records = refl
+-- with the end of a capture, what its takes give is all that is released
+all_released : (cfg : Config) (fault : Option (ℕ × RecordKind)) (records : List Record) → records_of 0 (played cfg records (is_none fault)) ≡ text_by fault cfg (played cfg records (is_none fault))
+all_released cfg None records = played_all cfg records
+all_released cfg (Some fault) records = refl
 
-text_is : (cfg : Config) (fault : Option (ℕ × RecordKind)) (records : List Record) → text_by_rule (rule_of cfg) fault records ≡ text_by fault cfg (played cfg records (is_none fault))
-text_is cfg None records = ended_text cfg records
-text_is cfg (Some fault) records = records_text cfg records
+says_released : (cfg : Config) → SaysSame (meaning_by false (rule_of cfg)) (meaning cfg)
+says_released cfg =
+    let it = says_received cfg [] (λ h e. record_in 0 e) report_told (records_of 0) refl (records_more 0) in
+    record { comes = it.comes; makes = λ bytes. it.makes bytes ∙ all_released cfg (outline_of bytes).fault (outline_of bytes).records; so_far = it.so_far; unrefused = it.unrefused; may = it.may }
 
--- what is said by the rule of a receiver is said by its histories
-pub says_same : (cfg : Config) → SaysSame (meaning_by false (rule_of cfg)) (meaning cfg)
-says_same cfg = record {
-  comes = λ bytes. end_is cfg (outline_of bytes).fault (outline_of bytes).records;
-  makes = λ bytes. text_is cfg (outline_of bytes).fault (outline_of bytes).records;
-  so_far = λ read. records_text cfg (outline_of read).records;
-  unrefused = λ read none. none;
-  may = λ e. absurd cc;
-}
-
--- a capture was played to a receiver of such a configuration
-pub played_between : (cfg other : Config) (before left written : Option (List ℕ)) (failed : ℕ) (came : Came) → other ≡ cfg → ConvertsBetween (meaning_by false (rule_of other)) before left written failed came → ConvertsBetween (meaning cfg) before left written failed came
-played_between cfg other before left written failed came same between =
-    subst (λ (c : Config). ConvertsBetween (meaning c) before left written failed came) same
-    (between_same (meaning_by false (rule_of other)) (meaning other) (says_same other) before left written failed came between)
+-- what is said by the rule of a receiver of such a configuration is said by its histories
+pub says_same : (cfg other : Config) → other ≡ cfg → SaysSame (meaning_by false (rule_of other)) (meaning cfg)
+says_same cfg other same = subst (λ (c : Config). SaysSame (meaning_by false (rule_of c)) (meaning cfg)) (sym same) (says_released cfg)

@@ -5,7 +5,7 @@ use Rattle.tesla_receiver.specs.declared.history.Entry.{Entry}
 use Rattle.tesla_receiver.specs.History.{Event, entry_of}
 use Rattle.tesla_state.specs.State.{State}
 use Rattle.tesla_receiver.specs.Stands.{Stands}
-use Rattle.tesla_receiver.specs.Played.{after_events}
+use Rattle.tesla_receiver.specs.Events.{after_events}
 
 -- it stands for the history with one event more
 pub stands_on : (cfg other : Config) (es : List Event) (e event : Event) (state : State) → other ≡ cfg → event ≡ e → after_events cfg [] (es ++ e ∷ []) ≡ after_events cfg [] es ++ entry_of cfg (after_events cfg [] es) e ∷ [] → Stands state (after_events cfg [] es ++ entry_of cfg (after_events cfg [] es) e ∷ []) → Stands state (after_events other [] (es ++ event ∷ []))

@@ -1,9 +1,11 @@
 -- What a command did that plays a capture under a setup, told what became of its setup, and then of the capture and the output.
 use Rattle.std.proofs.Common.{◌≡◌, ◌∙◌, ◌⊎◌, inl, inr, ℕ, suc, Bool, Option, Some, None, Result, Ok, Err, List, [], ◌∷◌, refl, sym, ap, subst}
+use Rattle.tesla_capture.specs.Outline.{outline_of}
 use Rattle.tesla_capture.specs.declared.record.RecordKind.{RecordKind}
 use Rattle.tesla_commit.specs.Parsing.{judged}
 use Rattle.tesla_commit.specs.Parts.{Parts}
 use Rattle.tesla_commit.specs.declared.refusal.SetupKind.{SetupKind}
+use Rattle.tesla_fitting.specs.declared.config.Config.{Config}
 use Rattle.tesla_desk.specs.Outside.{Page, Untold, Absent, Holds, Told, OfSource, OfSink}
 use Rattle.tesla_desk.proofs.Counts.{causes_none, causes_then}
 use Rattle.tesla_front.specs.Came.{Came, Done, Usage, Refused, Failed, stop_came}
@@ -19,14 +21,14 @@ use Rattle.tesla_front.specs.declared.refusal.Stop.{Stop}
 use Rattle.tesla_front.proofs.Commands.{counts_stopped, memory_alone}
 use Rattle.tesla_front.proofs.Openings.{opens_some, opens_then}
 use Rattle.tesla_convert.specs.Files.{ClosesBoth, ConvertsFiles}
-use Rattle.tesla_convert.specs.Meaning.{Converts, IsUnread, Meaning}
+use Rattle.tesla_convert.specs.Meaning.{Converts, HoldsNothing, IsUnread, Meaning}
 use Rattle.tesla_convert.proofs.Unread.{unread_behind}
-use Rattle.tesla_run_replay.specs.Arguments.{AreNames, PlayedNames, files_of}
-use Rattle.tesla_run_replay.specs.Under.{DoesUnder, PlayedCommand, command_of, end_told}
+use Rattle.tesla_run_replay.specs.Arguments.{AreNames, PlayedArguments, files_of}
+use Rattle.tesla_run_replay.specs.Under.{DoesUnder, PlayedCommand, command_of, config_of, end_told}
 
 -- none of the files is the console
-pub are_files : (names : PlayedNames) → AreNames names.setup names.capture names.out → AreFiles (files_of names)
-are_files names are = (are.setup_is.file, (are.capture_is.file, (are.out_is.file, tt)))
+pub are_files : (arguments : PlayedArguments) → AreNames arguments.setup arguments.capture arguments.out → AreFiles (files_of arguments)
+are_files arguments are = (are.setup_is.file, (are.capture_is.file, (are.out_is.file, tt)))
 
 -- what was closed under names has these names
 pub closes_named : (input output input_name output_name : List ℕ) (left written : Option (List ℕ)) (taken given : ℕ) (before now : Told) → input_name ≡ input → output_name ≡ output → ClosesBoth input_name output_name left written taken given before now → ClosesBoth input output left written taken given before now
@@ -40,49 +42,32 @@ unread_unless opened input left never (inr may) = absurd (never may)
 
 -- ---- told a command and what its words ask for
 
-module _ (played : PlayedCommand) (arguments : played.Arguments) where
+module _ (played : PlayedCommand) (arguments : PlayedArguments) (named : AreNames arguments.setup arguments.capture arguments.out) where
   -- there was no setup
-  setup_none : (before now : Told) (stop : Stop) → AreFiles (files_of (played.names arguments)) → OpensSome (OfSource (played.names arguments).setup ∷ []) before now → IsNoSetup (before.page (played.names arguments).setup) (stop_came stop) → StopCauses {A = Parts} (Err stop) before.faults now.faults
-      → Performs (command_of played) arguments before now (stop_came stop)
-  setup_none before now stop named some why causes =
-      let names = played.names arguments in
-      let it = opens_some (OfSource names.setup) (OfSource names.capture ∷ OfSink names.out ∷ []) before now some in
-      record { named = named; opened = it.0; opens = it.2; does = inl (record { alone = it.1; why = why }); counts = counts_stopped stop before.faults now.faults causes }
+  pub setup_none : (before now : Told) (stop : Stop) → OpensSome (OfSource arguments.setup ∷ []) before now → IsNoSetup (before.page arguments.setup) (stop_came stop) → StopCauses {A = Parts} (Err stop) before.faults now.faults → Performs (command_of played) arguments before now (stop_came stop)
+  setup_none before now stop some why causes =
+      let it = opens_some (OfSource arguments.setup) (OfSource arguments.capture ∷ OfSink arguments.out ∷ []) before now some in
+      record { named = are_files arguments named; opened = it.0; opens = it.2; does = inl (record { alone = it.1; why = why }); counts = counts_stopped stop before.faults now.faults causes }
 
   -- the setup was read, and then the capture played
-  setup_read : (setup : Parts) (before mid now : Told) (came : Came) → AreFiles (files_of (played.names arguments)) → Opens (OfSource (played.names arguments).setup ∷ []) 1 before mid → ((name : List ℕ) → mid.page name ≡ before.page name) → IsSetupIn (before.page (played.names arguments).setup) setup → StopCauses {A = Parts} (Ok setup) before.faults mid.faults
-      → ConvertsFiles (played.meaning arguments setup) (played.names arguments).capture (played.names arguments).out mid now came → Performs (command_of played) arguments before now came
-  setup_read setup before mid now came named opened pages found causes converts =
-      let names = played.names arguments in
-      let meaning = played.meaning arguments setup in
+  pub setup_read : (setup : Parts) (before mid now : Told) (came : Came) → Opens (OfSource arguments.setup ∷ []) 1 before mid → ((name : List ℕ) → mid.page name ≡ before.page name) → IsSetupIn (before.page arguments.setup) setup → StopCauses {A = Parts} (Ok setup) before.faults mid.faults
+      → ConvertsFiles (played.meaning (config_of arguments setup)) arguments.capture arguments.out mid now came → Performs (command_of played) arguments before now came
+  setup_read setup before mid now came opened pages found causes converts =
+      let meaning = played.meaning (config_of arguments setup) in
       record {
-        named = named;
+        named = are_files arguments named;
         opened = suc converts.opened;
-        opens = opens_then (OfSource names.setup) (OfSource names.capture ∷ OfSink names.out ∷ []) converts.opened before mid now opened converts.opens;
+        opens = opens_then (OfSource arguments.setup) (OfSource arguments.capture ∷ OfSink arguments.out ∷ []) converts.opened before mid now opened converts.opens;
         does = inr (record {
           parts = setup;
           found = found;
-          converts = subst (λ (p : Page). Converts meaning p (now.left names.capture) (before.page names.out) (now.page names.out) came) (pages names.capture)
-              (subst (λ (p : Page). Converts meaning (mid.page names.capture) (now.left names.capture) p (now.page names.out) came) (pages names.out) converts.converts);
-          unread = λ never e. subst (λ (p : Page). IsUnread 1 (suc converts.opened) p (now.left names.capture)) (pages names.capture)
-              (unread_unless converts.opened (mid.page names.capture) (now.left names.capture) never (converts.unread e));
+          converts = subst (λ (p : Page). Converts meaning p (now.left arguments.capture) (before.page arguments.out) (now.page arguments.out) came) (pages arguments.capture)
+              (subst (λ (p : Page). Converts meaning (mid.page arguments.capture) (now.left arguments.capture) p (now.page arguments.out) came) (pages arguments.out) converts.converts);
+          unread = λ never e. subst (λ (p : Page). IsUnread 1 (suc converts.opened) p (now.left arguments.capture)) (pages arguments.capture)
+              (unread_unless converts.opened (mid.page arguments.capture) (now.left arguments.capture) never (converts.unread e));
         });
         counts = causes_then before.faults mid.faults now.faults (causes_none before.faults mid.faults causes (λ e. absurd cc) (λ e. absurd cc) (λ e. absurd cc)) converts.counts;
       }
-
-  -- the same by names that are its own
-  pub performs_none : (names : PlayedNames) (before now : Told) (stop : Stop) → names ≡ played.names arguments → AreFiles (files_of (played.names arguments)) → OpensSome (OfSource names.setup ∷ []) before now → IsNoSetup (before.page names.setup) (stop_came stop) → StopCauses {A = Parts} (Err stop) before.faults now.faults
-      → Performs (command_of played) arguments before now (stop_came stop)
-  performs_none names before now stop same named some why causes =
-      setup_none before now stop named (subst (λ (n : PlayedNames). OpensSome (OfSource n.setup ∷ []) before now) same some) (subst (λ (n : PlayedNames). IsNoSetup (before.page n.setup) (stop_came stop)) same why) causes
-
-  pub performs_files : (names : PlayedNames) (setup : Parts) (before mid now : Told) (came : Came) → names ≡ played.names arguments → AreFiles (files_of (played.names arguments)) → Opens (OfSource names.setup ∷ []) 1 before mid → ((name : List ℕ) → mid.page name ≡ before.page name) → IsSetupIn (before.page names.setup) setup → StopCauses {A = Parts} (Ok setup) before.faults mid.faults
-      → ConvertsFiles (played.meaning arguments setup) names.capture names.out mid now came → Performs (command_of played) arguments before now came
-  performs_files names setup before mid now came same named opened pages found causes converts =
-      setup_read setup before mid now came named
-      (subst (λ (n : PlayedNames). Opens (OfSource n.setup ∷ []) 1 before mid) same opened) pages
-      (subst (λ (n : PlayedNames). IsSetupIn (before.page n.setup) setup) same found) causes
-      (subst (λ (n : PlayedNames). ConvertsFiles (played.meaning arguments setup) n.capture n.out mid now came) same converts)
 
 -- ---- where nothing fails
 
@@ -105,7 +90,7 @@ one_setup Absent text failed setup other page found in_page = absurd cc
 one_setup (Holds held lost) text failed setup other page found in_page = let same : held ≡ text = cc in let both : Ok other ≡ Ok setup = sym in_page ∙ ap judged same ∙ found in cc
 
 -- a capture without a refused place comes to the lines that tell it
-pub whole_told : (fault : Option (ℕ × RecordKind)) (lines : List ℕ) → fault ≡ None → end_told fault lines ≡ Done lines
+whole_told : (fault : Option (ℕ × RecordKind)) (lines : List ℕ) → fault ≡ None → end_told fault lines ≡ Done lines
 whole_told None lines e = refl
 whole_told (Some fault) lines e = absurd cc
 
@@ -123,12 +108,20 @@ under_ends meaning opened setup capture out read taken written came text bytes l
     let same : plays.parts ≡ parts = one_setup setup.page text failed parts plays.parts page found plays.found in
     capture_ends (meaning plays.parts) capture.page out.page written.page taken.left came bytes lines other recorded (ap (λ (s : Parts). (meaning s).comes bytes) same ∙ whole) plays.converts
 
--- a run over a setup and a capture comes to the lines that the capture comes to, or to want of memory
-pub complete_under : (played : PlayedCommand) (arguments : played.Arguments) (old new : Told) (came : Came) (text bytes lines : List ℕ) (failed other : Bool) (setup : Parts) → Performs (command_of played) arguments old new came → old.page (played.names arguments).setup ≡ Holds text failed → judged text ≡ Ok setup
-    → old.page (played.names arguments).capture ≡ Holds bytes other → (played.meaning arguments setup).comes bytes ≡ Done lines → NothingFailed old.faults new.faults → (came ≡ Done lines) ⊎ (came ≡ Failed faults.NoMemory)
-complete_under played arguments old new came text bytes lines failed other setup performs page found recorded whole none =
-    let names = played.names arguments in
-    elim (under_ends (played.meaning arguments) performs.opened (file_told old names.setup) (file_told old names.capture) (file_told old names.out) (file_told new names.setup) (file_told new names.capture) (file_told new names.out) came text bytes lines failed other setup page found recorded whole performs.does) [
+-- a run over a setup and a capture without a refused place comes to the lines that tell it, or to want of memory
+pub complete_under : (played : PlayedCommand) (lines : Config → List ℕ → List ℕ) → ((cfg : Config) (bytes : List ℕ) → (played.meaning cfg).comes bytes ≡ end_told (outline_of bytes).fault (lines cfg bytes))
+    → (arguments : PlayedArguments) (old new : Told) (came : Came) (text bytes : List ℕ) (failed other : Bool) (setup : Parts) → Performs (command_of played) arguments old new came → old.page arguments.setup ≡ Holds text failed → judged text ≡ Ok setup → old.page arguments.capture ≡ Holds bytes other → (outline_of bytes).fault ≡ None → NothingFailed old.faults new.faults
+    → (came ≡ Done (lines (config_of arguments setup) bytes)) ⊎ (came ≡ Failed faults.NoMemory)
+complete_under played lines told arguments old new came text bytes failed other setup performs page found recorded whole none =
+    let cfg = config_of arguments setup in
+    let done = told cfg bytes ∙ whole_told (outline_of bytes).fault (lines cfg bytes) whole in
+    elim (under_ends (λ parts. played.meaning (config_of arguments parts)) performs.opened (file_told old arguments.setup) (file_told old arguments.capture) (file_told old arguments.out) (file_told new arguments.setup) (file_told new arguments.capture) (file_told new arguments.out) came text bytes (lines cfg bytes) failed other setup page found recorded done performs.does) [
       | inl done ↦ inl done
       | inr fault ↦ inr (memory_alone old.faults new.faults came fault.0 performs.counts none fault.1)
     ]
+
+-- memory is wanting before the capture is read or not at all, where it can't be later
+pub memory_first : (meaning : Meaning) → (meaning.MayWant → ⊥) → (capture before out : Page) (left : Option (List ℕ)) → Converts meaning capture left before out (Failed faults.NoMemory) → (out ≡ before) ⊎ HoldsNothing capture left out
+memory_first meaning never capture before out left (inl same) = inl same
+memory_first meaning never capture before out left (inr (inl nothing)) = inr nothing
+memory_first meaning never capture before out left (inr (inr wants)) = absurd (never wants.may)

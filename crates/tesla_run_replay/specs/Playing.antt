@@ -1,5 +1,5 @@
 -- The events that the records of a capture play, one after another, and what is written of each.
-use Rattle.std.specs.Prelude.{◌≡◌, ◌≤◌, ℕ, suc, Bool, true, Option, Some, None, List, [], ◌∷◌, ◌++◌, length, map, replicate}
+use Rattle.std.specs.Prelude.{◌≡◌, ◌≤◌, ℕ, suc, Bool, true, false, Option, Some, None, is_none, List, [], ◌∷◌, ◌++◌, length, map, replicate}
 use Rattle.tesla_capture.specs.Capture.{Record, capture}
 use Rattle.tesla_capture.specs.Outline.{outline_of}
 use Rattle.tesla_capture.specs.Taken.{HoldsNoRefusal}
@@ -7,8 +7,11 @@ use Rattle.tesla_capture.specs.declared.record.RecordKind.{RecordKind}
 use Rattle.tesla_fitting.specs.declared.config.Config.{Config}
 use Rattle.tesla_front.specs.Came.{Came}
 use Rattle.tesla_receiver.specs.History.{Event, Arrives, Takes, Ends, entry_of}
-use Rattle.tesla_receiver.specs.Played.{after_events, event_in, waiting_in}
-use Rattle.tesla_receiver.specs.Report.{record_in, report_of}
+use Rattle.tesla_replay.specs.Played.{event_in}
+use Rattle.tesla_receiver.specs.Events.{after_events, waiting_in}
+use Rattle.tesla_receiver.specs.Report.{report_of}
+use Rattle.tesla_receiver.specs.declared.history.Entry.{Entry}
+use Rattle.tesla_replay.specs.Records.{record_in}
 use Rattle.tesla_state.specs.Releases.{each_after}
 use Rattle.tesla_convert.specs.Meaning.{Meaning}
 use Rattle.tesla_convert.specs.Rule.{Rule}
@@ -84,11 +87,45 @@ meaning_by may_want rule = record {
   MayWant = may_want ≡ true;
 }
 
+-- what a target writes and tells whose events make a history
+pub record HistoryRule (E : Type 0) : Type 0 where
+  -- the history after events, and the entry of an event behind a history
+  pub after : List Event → List E
+  pub entry : List E → Event → E
+  -- what is written before all events, and of an entry behind a history
+  pub begins : List ℕ
+  pub adds : List E → E → List ℕ
+  -- how many packets wait, and the lines that tell a history
+  pub waiting : List E → ℕ
+  pub tells : List E → List ℕ
+
+abbrev pub rule_by : {E : Type 0} → HistoryRule E → EventRule
+rule_by by = record {
+  begins = by.begins;
+  adds = λ events event. by.adds (by.after events) (by.entry (by.after events) event);
+  waiting = λ events. by.waiting (by.after events);
+  tells = λ events. by.tells (by.after events);
+}
+
+-- a receiver of that configuration
+abbrev pub receiver_by : Config → List ℕ → (List Entry → Entry → List ℕ) → (List Entry → List ℕ) → HistoryRule Entry
+receiver_by cfg begins adds tells =
+    record { after = after_events cfg []; entry = entry_of cfg; begins = begins; adds = adds; waiting = waiting_in cfg; tells = tells }
+
+-- the lines of the report of a history
+abbrev pub report_told : List Entry → List ℕ
+report_told history = report_text (report_of history)
+
 -- what a receiver of that configuration writes, the records of what its takes give, and tells, its report
 abbrev pub rule_of : Config → EventRule
-rule_of cfg = record {
-  begins = [];
-  adds = λ events event. record_in 0 (entry_of cfg (after_events cfg [] events) event);
-  waiting = λ events. waiting_in cfg (after_events cfg [] events);
-  tells = λ events. report_text (report_of (after_events cfg [] events));
+rule_of cfg = rule_by (receiver_by cfg [] (λ history entry. record_in 0 entry) report_told)
+
+-- what a capture comes to, told which history its records play, with its end or without, and what is told and written of that, and whether memory may be wanting once records were played
+abbrev pub meaning_of : {H : Type 0} → (List Record → Bool → H) → (H → List ℕ) → (H → List ℕ) → Type 0 → Meaning
+meaning_of plays tells text May = record {
+  comes = λ bytes. end_told (outline_of bytes).fault (tells (plays (outline_of bytes).records (is_none (outline_of bytes).fault)));
+  makes = λ bytes. text (plays (outline_of bytes).records (is_none (outline_of bytes).fault));
+  so_far = λ read. text (plays (outline_of read).records false);
+  IsUnrefused = HoldsNoRefusal capture;
+  MayWant = May;
 }

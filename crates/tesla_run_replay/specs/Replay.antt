@@ -1,5 +1,5 @@
 -- What the command replay does.
-use Rattle.std.specs.Prelude.{ℕ, is_none, Option, Some, None, false, List}
+use Rattle.std.specs.Prelude.{ℕ, is_none, Option, Some, None, false, List, codes}
 use Rattle.tesla_capture.specs.Capture.{capture}
 use Rattle.tesla_capture.specs.Outline.{outline_of}
 use Rattle.tesla_capture.specs.Taken.{HoldsNoRefusal}
@@ -9,12 +9,13 @@ use Rattle.tesla_front.specs.Came.{Came}
 use Rattle.tesla_front.specs.Command.{Command}
 use Rattle.tesla_receiver.specs.declared.history.Entry.{Entry}
 use Rattle.tesla_receiver.specs.History.{arrivals_in}
-use Rattle.tesla_receiver.specs.Played.{played}
-use Rattle.tesla_receiver.specs.Report.{report_of, records_of, released_text}
+use Rattle.tesla_replay.specs.Played.{played}
+use Rattle.tesla_receiver.specs.Report.{report_of}
+use Rattle.tesla_replay.specs.Records.{records_of, released_text}
 use Rattle.tesla_convert.specs.Meaning.{Meaning}
-use Rattle.tesla_run_replay.specs.Arguments.{ReplayArguments, IsReplay, names_in}
+use Rattle.tesla_run_replay.specs.Arguments.{places_form}
 use Rattle.tesla_run_replay.specs.ReportText.{report_text}
-use Rattle.tesla_run_replay.specs.Under.{PlayedCommand, command_of, config_of, end_told}
+use Rattle.tesla_run_replay.specs.Under.{PlayedCommand, command_of, end_told}
 
 -- the one history that a file plays: that of the records before its first refused place, and where there is none the end and takes up to the first that is over
 abbrev pub history_of : Config → List ℕ → List Entry
@@ -40,9 +41,9 @@ text_so_far cfg read = records_of 0 (played cfg (outline_of read).records false)
 abbrev pub meaning : Config → Meaning
 meaning cfg = record { comes = end_of cfg; makes = out_text cfg; so_far = text_so_far cfg; IsUnrefused = HoldsNoRefusal capture; MayWant = ⊥ }
 
--- the command: its words, its files, and what a capture comes to under a setup
+-- the command: its words, and what a capture comes to under a setup
 abbrev pub replayed : PlayedCommand
-replayed = record { Arguments = ReplayArguments; IsForm = IsReplay; names = names_in; meaning = λ arguments setup. meaning (config_of arguments setup) }
+replayed = record { form = places_form (codes "replay"); meaning = meaning }
 
 abbrev pub replay : Command
 replay = command_of replayed

@@ -11,17 +11,12 @@ use Rattle.tesla_front.specs.Refusal.{refused_line}
 use Rattle.tesla_front.specs.Setup.{IsSetupIn}
 use Rattle.tesla_front.specs.declared.fault.Fault.TheVariants as faults
 use Rattle.tesla_convert.specs.Meaning.{Converts, IsUnread, Meaning, StopsAtSetup}
-use Rattle.tesla_run_replay.specs.Arguments.{PlayedArguments, PlayedNames, files_of}
+use Rattle.tesla_run_replay.specs.Arguments.{IsPlayed, PlayedArguments, PlayedForm, files_of}
 
--- such a command
+-- such a command: the form of its words, and what a capture comes to for a receiver of a configuration, and what is written
 pub record PlayedCommand : Type 1 where
-  -- what its words ask for, and which words ask for that
-  pub Arguments : Type 0
-  pub IsForm : Arguments → List (List ℕ) → Type 0
-  -- the names of its files
-  pub names : Arguments → PlayedNames
-  -- what a capture comes to under a setup, and what is written
-  pub meaning : Arguments → Parts → Meaning
+  pub form : PlayedForm
+  pub meaning : Config → Meaning
 
 -- the configuration of a receiver of such words, with one ingest
 abbrev pub config_of : PlayedArguments → Parts → Config
@@ -49,5 +44,9 @@ DoesUnder meaning opened before after came = ⊥
 
 -- the command: its words, its files and what it does
 abbrev pub command_of : PlayedCommand → Command
-command_of played =
-    record { Arguments = played.Arguments; IsForm = played.IsForm; files = λ arguments. files_of (played.names arguments); Does = λ arguments. DoesUnder (played.meaning arguments) }
+command_of played = record {
+  Arguments = PlayedArguments;
+  IsForm = IsPlayed played.form;
+  files = files_of;
+  Does = λ arguments. DoesUnder (λ setup. played.meaning (config_of arguments setup));
+}

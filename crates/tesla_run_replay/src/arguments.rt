@@ -4,6 +4,25 @@ ghost use Rattle.std.specs.Prelude.{◌≤◌};
 
 use tesla_front::Places;
 
+/// What the word CAPACITY of such a command may be.
+#[derive(Clone, Copy, Debug)]
+pub enum Capacity {
+    /// A decimal from 1 to 65,536, or two with a slash between them of which the second is from 1 to the first: how many
+    /// packets are held of all intervals, and of one.
+    Places,
+    /// A decimal from 1 to `most`, which is both.
+    Whole { most: u16 },
+}
+
+/// The form of such a command, `NAME SETUP LAG CAPACITY CAPTURE OUT`.
+#[derive(Clone, Copy, Debug)]
+pub struct Form {
+    /// Its name.
+    pub name: &'static str,
+    /// What CAPACITY may be.
+    pub capacity: Capacity,
+}
+
 /// The names of the files of such a command.
 #[derive(Clone, Copy, Debug)]
 pub struct Names<'a> {

@@ -7,14 +7,14 @@ ghost use Rattle.tesla_desk.specs.Faults.{HasCause};
 ghost use Rattle.tesla_desk.specs.Outside.{AppendsPrefix};
 ghost use Rattle.tesla_convert.specs.Records.{IsWithin, record_of};
 ghost use Rattle.tesla_receiver.specs.History.{Event, Takes};
-ghost use Rattle.tesla_receiver.specs.Played.{event_in};
+ghost use Rattle.tesla_replay.specs.Played.{event_in};
 ghost use Rattle.tesla_state.specs.Releases.{each_after};
 ghost use Rattle.tesla_run_replay.specs.Playing.{EventFits, EventRule, event_of, silent};
 
 use crate::target::{PlayedEvent, Target};
 use std::marker::Brand;
 use std::sync::ledger::Ledger;
-use tesla_base::Steps;
+use tesla_base::{MOST_DATAGRAM, Steps};
 use tesla_capture::{CaptureFormat, Gatherer, RecordKind, RecordReader, RecordStep};
 use tesla_convert::{Converted, Converter, Halt, TakenRecord};
 use tesla_desk::{Sink, Source};
@@ -119,7 +119,7 @@ impl<L: ReplayLedger, T: Target> Converter for ReplayConverter<L, T> {
     fn next<S: Source>(
         reader: &mut RecordReader<CaptureFormat>,
         source: &mut S,
-        room: &mut [u8; 2048],
+        room: &mut [u8; MOST_DATAGRAM],
     ) -> RecordStep {
         reader.next_record(source, room)
     }

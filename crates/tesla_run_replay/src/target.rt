@@ -5,15 +5,21 @@ ghost use Rattle.tesla_capture.specs.Gathering.{gathered, Gathers};
 ghost use Rattle.tesla_desk.specs.Faults.{HasCause};
 ghost use Rattle.tesla_desk.specs.Outside.{AppendsPrefix, with_bytes};
 ghost use Rattle.tesla_receiver.specs.History.{Event, Takes, entry_of, reply_to};
-ghost use Rattle.tesla_receiver.specs.Report.{text_given};
+ghost use Rattle.tesla_replay.specs.Records.{text_given};
 ghost use Rattle.tesla_receiver.specs.Stands.{Stands};
 ghost use Rattle.tesla_receiver.specs.declared.history.Entry.{Entry};
-ghost use Rattle.tesla_run_replay.specs.Playing.{EventFits, EventRule, event_of};
+ghost use Rattle.tesla_convert.specs.Meaning.{SaysSame};
+ghost use Rattle.tesla_run_replay.specs.Arguments.{IsCapacity, arguments_of, form_of};
+ghost use Rattle.tesla_run_replay.specs.Playing.{EventFits, EventRule, event_of, meaning_by};
+ghost use Rattle.tesla_run_replay.specs.Under.{PlayedCommand, config_of};
 
+use crate::arguments::{Arguments, Capacity, Form};
 use crate::report_lines;
+use std::alloc::Global;
 use std::sync::ledger::Ledger;
-use tesla_base::Steps;
+use tesla_base::{MOST_PAYLOAD, NoMemory, Steps};
 use tesla_capture::Gatherer;
+use tesla_commit::Setup;
 use tesla_convert::Halt;
 use tesla_desk::Sink;
 use tesla_front::Lines;
@@ -33,6 +39,9 @@ pub enum PlayedEvent<'a> {
 /// What the records of a capture are played to: a receiver, or what stands in its place. It writes what it has to tell of
 /// each event through a gatherer.
 pub trait Target {
+    /// The command that plays a capture to it.
+    ghost command: { PlayedCommand };
+
     /// What is written before all events and of each event after those before it, and after some events how many packets
     /// wait and which lines tell what was played.
     ghost rule: { Self → EventRule };
@@ -45,6 +54,18 @@ pub trait Target {
 
     /// How many events it has had at most.
     ghost calls: { Self → ℕ };
+
+    /// The form of the command.
+    fn form() -> Form
+        ensures { form_of result ≡ command.form };
+
+    /// A target that has had no event, for what the words of the command ask for, under a setup. All memory is taken here,
+    /// unless `may_want` is true.
+    fn open(alloc: Global, arguments: &Arguments<'_>, setup: Setup) -> Result<Self, NoMemory>
+        requires capacity { (word : List ℕ) × IsCapacity command.form.capacity word arguments.now.places }
+        ensures has { IfOk result (λ target. has target []) }
+        ensures calls { IfOk result (λ target. calls target ≡ 0) }
+        ensures means { IfOk result (λ target. SaysSame (meaning_by may_want (rule target)) (command.meaning (config_of (arguments_of arguments.now) setup))) };
 
     /// Puts what stands before all events behind what is gathered. It takes no memory, and counts for no event.
     ///
@@ -97,25 +118,33 @@ pub trait Target {
 #[derive(Drop)]
 pub struct ReceiverTarget {
     receiver: Receiver,
-    payload: [u8; 1200],
+    payload: [u8; MOST_PAYLOAD],
 }
 
-impl ReceiverTarget {
-    /// A target over this receiver.
-    pub fn new(receiver: Receiver) -> ReceiverTarget
-        ensures { result.receiver ≡ receiver }
-    {
-        ReceiverTarget {
-            receiver,
-            payload: [0; 1200],
-        }
-    }
+/// A receiver for what the words of a command ask for, in which nothing has happened. All its memory is taken here.
+pub fn open_receiver(
+    alloc: Global,
+    arguments: &Arguments<'_>,
+    setup: Setup,
+) -> Result<Receiver, NoMemory>
+    ensures config { IfOk result (λ receiver. receiver.config ≡ config_of (arguments_of arguments.now) setup) }
+    ensures stands { IfOk result (λ receiver. Stands receiver []) }
+{
+    let places = arguments.places;
+    Receiver::open(
+        alloc,
+        setup,
+        arguments.lag,
+        places.capacity,
+        places.quota,
+        1,
+    )
 }
 
 // Takes once for releaser 0, and gathers the record of what was given. It takes no memory.
 fn take_once<O: Sink>(
     receiver: &mut Receiver,
-    payload: &mut [u8; 1200],
+    payload: &mut [u8; MOST_PAYLOAD],
     gatherer: &mut Gatherer,
     out: &mut O,
 ) -> Result<(), Halt>
@@ -144,9 +173,12 @@ fn take_once<O: Sink>(
 
 impl Target for ReceiverTarget {
     ghost use Rattle.std.specs.Prelude.{[], false};
-    ghost use Rattle.tesla_receiver.specs.Played.{after_events};
+    ghost use Rattle.tesla_receiver.specs.Events.{after_events};
     ghost use Rattle.tesla_receiver.specs.Stands.{Stands};
     ghost use Rattle.tesla_run_replay.specs.Playing.{rule_of};
+    ghost use Rattle.tesla_run_replay.specs.Replay.{replayed};
+
+    ghost command = { replayed };
 
     ghost rule = { λ t. rule_of t.receiver.config };
 
@@ -155,6 +187,27 @@ impl Target for ReceiverTarget {
     ghost may_want = { false };
 
     ghost calls = { λ t. t.receiver.calls };
+
+    fn form() -> Form {
+        Form {
+            name: "replay",
+            capacity: Capacity::Places,
+        }
+    }
+
+    fn open(
+        alloc: Global,
+        arguments: &Arguments<'_>,
+        setup: Setup,
+    ) -> Result<ReceiverTarget, NoMemory> {
+        match open_receiver(alloc, arguments, setup) {
+            Ok(receiver) => Ok(ReceiverTarget {
+                receiver,
+                payload: [0; MOST_PAYLOAD],
+            }),
+            Err(NoMemory) => Err(NoMemory),
+        }
+    }
 
     fn begin<O: Sink>(&mut self, gatherer: &mut Gatherer, out: &mut O) -> bool {
         let _ = &gatherer;

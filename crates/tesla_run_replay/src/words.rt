@@ -1,14 +1,15 @@
 //! The words of a command that plays a capture under a setup.
 
-ghost use Rattle.std.specs.Prelude.{◌≡◌, ℕ, List, [], ◌∷◌, Some, None, IfSome, true, false, map, string_bytes, option_map};
-ghost use Rattle.tesla_run_replay.specs.Arguments.{PlayedArguments, AreNames, IsPlayed, arguments_of};
+ghost use Rattle.std.specs.Prelude.{◌≡◌, ◌≤◌, [], ◌∷◌, Some, IfSome, true, false, map, string_bytes, option_map};
+ghost use Rattle.tesla_front.specs.declared.words.Places.{Places};
+ghost use Rattle.tesla_run_replay.specs.Arguments.{PlayedArguments, AreNames, IsCapacity, IsPlayed, arguments_of, form_of};
 
-use crate::arguments::{Arguments, Names};
+use crate::arguments::{Arguments, Capacity, Form, Names};
 use tesla_base::read_signed;
-use tesla_front::{is_name, places_in};
+use tesla_front::{Places, is_name, number_in, places_in};
 
-/// Whether the names are names of files, and the output's is none of the inputs'.
-pub fn are_names(setup: &str, capture: &str, out: &str) -> bool
+// Whether the names are names of files, and the output's is none of the inputs'.
+fn are_names(setup: &str, capture: &str, out: &str) -> bool
     ensures yes { result ≡ true → AreNames setup.now capture.now out.now }
     ensures no { result ≡ false → AreNames setup.now capture.now out.now → ⊥ }
 {
@@ -27,21 +28,45 @@ pub fn are_names(setup: &str, capture: &str, out: &str) -> bool
     out != capture
 }
 
+// How many packets are held at most, as a word spells it. `None` exactly where it doesn't.
+fn capacity_in(capacity: Capacity, word: &[u8]) -> Option<Places>
+    ensures found { IfSome result (λ places. IsCapacity capacity word.now places) }
+    ensures only { (places : Places) → IsCapacity capacity word.now places → result ≡ Some places }
+    ensures some { IfSome result (λ places. 1 ≤ places.quota) }
+    ensures within { IfSome result (λ places. places.quota ≤ places.capacity) }
+    ensures most { IfSome result (λ places. places.capacity ≤ 65536) }
+{
+    match capacity {
+        Capacity::Places => match places_in(word) {
+            Some(places) => Some(places),
+            None => None,
+        },
+        Capacity::Whole { most } => match number_in(word, 1, u64::from(most)) {
+            Some(number) => Some(Places {
+                capacity: number as u32,
+                quota: number as u32,
+            }),
+            None => None,
+        },
+    }
+}
+
 // What the words after the name of the command ask for.
 fn read_words<'a>(
+    form: &Form,
     setup: &'a str,
     lag: &[u8],
     capacity: &[u8],
     capture: &'a str,
     out: &'a str,
 ) -> Option<Arguments<'a>>
-    ensures found { (name : List ℕ) → IfSome result (λ arguments. IsPlayed name (arguments_of arguments) (name ∷ setup.now ∷ lag.now ∷ capacity.now ∷ capture.now ∷ out.now ∷ [])) }
-    ensures only { (name : List ℕ) (arguments : PlayedArguments) → IsPlayed name arguments (name ∷ setup.now ∷ lag.now ∷ capacity.now ∷ capture.now ∷ out.now ∷ []) → option_map arguments_of result ≡ Some arguments }
+    ensures found { IfSome result (λ arguments. IsPlayed (form_of form.now) (arguments_of arguments) (form.now.name.now ∷ setup.now ∷ lag.now ∷ capacity.now ∷ capture.now ∷ out.now ∷ [])) }
+    ensures only { (arguments : PlayedArguments) → IsPlayed (form_of form.now) arguments (form.now.name.now ∷ setup.now ∷ lag.now ∷ capacity.now ∷ capture.now ∷ out.now ∷ []) → option_map arguments_of result ≡ Some arguments }
 {
     let Ok(lag) = read_signed(lag) else {
         return None;
     };
-    let Some(places) = places_in(capacity) else {
+    let Some(places) = capacity_in(form.capacity, capacity) else {
         return None;
     };
     if !are_names(setup, capture, out) {
@@ -55,23 +80,23 @@ fn read_words<'a>(
     Some(Arguments { names, lag, places })
 }
 
-/// What the words of a command of this name ask for. `None` exactly where they are not of the form
-/// `NAME SETUP LAG CAPACITY CAPTURE OUT`: each word is there, LAG is a signed decimal of 64 bits, CAPACITY is a
-/// decimal from 1 to 65,536 or two with a slash between them of which the second is from 1 to the first, no name is
-/// empty or the console's, and OUT is neither SETUP nor CAPTURE.
-pub fn arguments_in<'a>(name: &str, words: &'a [String]) -> Option<Arguments<'a>>
+/// What the words of a command of this form ask for. `None` exactly where they are not of the form
+/// `NAME SETUP LAG CAPACITY CAPTURE OUT`: each word is there, LAG is a signed decimal of 64 bits, CAPACITY is what it may
+/// be, no name is empty or the console's, and OUT is neither SETUP nor CAPTURE.
+pub fn arguments_in<'a>(form: &Form, words: &'a [String]) -> Option<Arguments<'a>>
     // What is found is spelled so.
-    ensures found { IfSome result (λ arguments. IsPlayed name.now (arguments_of arguments) (map string_bytes words.now)) }
+    ensures found { IfSome result (λ arguments. IsPlayed (form_of form.now) (arguments_of arguments) (map string_bytes words.now)) }
     // What is spelled so is found.
-    ensures only { (arguments : PlayedArguments) → IsPlayed name.now arguments (map string_bytes words.now) → option_map arguments_of result ≡ Some arguments }
+    ensures only { (arguments : PlayedArguments) → IsPlayed (form_of form.now) arguments (map string_bytes words.now) → option_map arguments_of result ≡ Some arguments }
 {
     let [command, setup, lag, capacity, capture, out] = words else {
         return None;
     };
-    if command.as_str() != name {
+    if command.as_str() != form.name {
         return None;
     }
     read_words(
+        form,
         setup.as_str(),
         lag.as_bytes(),
         capacity.as_bytes(),

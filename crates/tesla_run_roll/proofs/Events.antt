@@ -4,7 +4,7 @@ use Rattle.tesla_fitting.specs.declared.config.Config.{Config}
 use Rattle.tesla_receiver.specs.History.{Event}
 use Rattle.tesla_rollover.specs.Epochs.{roll_entry_of}
 use Rattle.tesla_rollover.specs.History.{RollEntry}
-use Rattle.tesla_rollover.specs.Played.{roll_after_events}
+use Rattle.tesla_rollover.specs.Events.{roll_after_events}
 use Rattle.tesla_rollover.specs.Stands.{RollState, RollStands}
 
 -- events, one list after another

@@ -1,40 +1,32 @@
 -- What a capture comes to by the rule of the epochs is what it comes to by the history that it plays.
-use Rattle.std.proofs.Common.{◌≡◌, true, ℕ, Option, Some, None, is_none, List, refl, ap, subst}
-use Rattle.tesla_capture.specs.Capture.{Record}
-use Rattle.tesla_capture.specs.Outline.{outline_of}
-use Rattle.tesla_capture.specs.declared.record.RecordKind.{RecordKind}
+use Rattle.std.proofs.Common.{◌≡◌, ◌∙◌, ℕ, suc, true, List, [], ◌∷◌, ◌++◌, replicate, refl, sym, ap, subst, append-nil}
+use Rattle.std.proofs.lemmas.List.Concat.{flat_map-append}
+use Rattle.tesla_commit.specs.Parts.{Parts}
 use Rattle.tesla_fitting.specs.declared.config.Config.{Config}
-use Rattle.tesla_front.specs.Came.{Came, Done}
-use Rattle.tesla_convert.specs.Meaning.{ConvertsBetween}
-use Rattle.tesla_convert.proofs.Meanings.{SaysSame, between_same}
+use Rattle.tesla_receiver.specs.History.{Takes, Ends}
+use Rattle.tesla_convert.specs.Meaning.{SaysSame}
+use Rattle.tesla_rollover.specs.Events.{roll_after_events, roll_waiting_in}
 use Rattle.tesla_rollover.specs.History.{RollEntry}
-use Rattle.tesla_rollover.specs.Played.{roll_played, roll_records_of}
-use Rattle.tesla_run_replay.specs.Playing.{end_by_rule, meaning_by, text_by_rule}
-use Rattle.tesla_run_replay.specs.Under.{end_told}
-use Rattle.tesla_run_roll.specs.Playing.{roll_rule, roll_text}
-use Rattle.tesla_run_roll.specs.Roll.{meaning}
-use Rattle.tesla_run_roll.proofs.Histories.{ended_text, history_ended, records_text}
+use Rattle.tesla_run_replay.specs.Arguments.{PlayedArguments}
+use Rattle.tesla_run_replay.specs.Playing.{events_in, meaning_by}
+use Rattle.tesla_run_replay.specs.Under.{config_of}
+use Rattle.tesla_run_replay.proofs.Histories.{says_histories}
+use Rattle.tesla_run_roll.specs.Played.{roll_played, roll_record_in, roll_records_of}
+use Rattle.tesla_run_roll.specs.Roll.{epochs_by, meaning, roll_rule}
+use Rattle.tesla_run_roll.proofs.Events.{after_both}
 
-end_is : (cfg : Config) (fault : Option (ℕ × RecordKind)) (records : List Record) → end_by_rule (roll_rule cfg) fault records ≡ end_told fault (roll_text (roll_played cfg records (is_none fault)))
-end_is cfg None records = ap (λ (h : List RollEntry). Done (roll_text h)) (history_ended cfg records)
-end_is cfg (Some fault) records = refl
+-- the records with one entry more
+records_more : (h : List RollEntry) (e : RollEntry) → roll_records_of 0 (h ++ e ∷ []) ≡ roll_records_of 0 h ++ roll_record_in 0 e
+records_more h e = flat_map-append (roll_record_in 0) h (e ∷ []) ∙ ap (λ r. roll_records_of 0 h ++ r) (append-nil (roll_record_in 0 e))
 
-text_is : (cfg : Config) (fault : Option (ℕ × RecordKind)) (records : List Record) → text_by_rule (roll_rule cfg) fault records ≡ roll_records_of 0 (roll_played cfg records (is_none fault))
-text_is cfg None records = ended_text cfg records
-text_is cfg (Some fault) records = records_text cfg records
+says_rolled : (cfg : Config) → SaysSame (meaning_by true (roll_rule cfg)) (meaning cfg)
+says_rolled cfg =
+    says_histories (epochs_by cfg) (λ events event. after_both cfg [] events (event ∷ [])) (roll_records_of 0) refl records_more (roll_played cfg) (λ records. refl)
+    (λ records. after_both cfg [] (events_in records) (Ends 0 ∷ replicate (suc (roll_waiting_in cfg (roll_after_events cfg [] (events_in records)))) (Takes 0))) true (Unit {0}) (λ e. tt)
 
--- what is said by the rule of the epochs is said by their histories
-says_same : (cfg : Config) → SaysSame (meaning_by true (roll_rule cfg)) (meaning cfg)
-says_same cfg = record {
-  comes = λ bytes. end_is cfg (outline_of bytes).fault (outline_of bytes).records;
-  makes = λ bytes. text_is cfg (outline_of bytes).fault (outline_of bytes).records;
-  so_far = λ read. records_text cfg (outline_of read).records;
-  unrefused = λ read none. none;
-  may = λ e. tt;
-}
-
--- a capture was played to epochs of such a configuration
-pub played_between : (cfg other : Config) (before left written : Option (List ℕ)) (failed : ℕ) (came : Came) → other ≡ cfg → ConvertsBetween (meaning_by true (roll_rule other)) before left written failed came → ConvertsBetween (meaning cfg) before left written failed came
-played_between cfg other before left written failed came same between =
-    subst (λ (c : Config). ConvertsBetween (meaning c) before left written failed came) same
-    (between_same (meaning_by true (roll_rule other)) (meaning other) (says_same other) before left written failed came between)
+-- what is said by the rule of epochs of which one interval may fill one is said by their histories
+pub says_same : (arguments : PlayedArguments) (setup : Parts) (other : Config) → arguments.places.quota ≡ arguments.places.capacity
+    → other ≡ record { setup = setup; lag = arguments.lag; capacity = arguments.places.capacity; quota = arguments.places.capacity; ingests = 1 } → SaysSame (meaning_by true (roll_rule other)) (meaning (config_of arguments setup))
+says_same arguments setup other whole same =
+    let config : ℕ → Config = λ quota. record { setup = setup; lag = arguments.lag; capacity = arguments.places.capacity; quota = quota; ingests = 1 } in
+    subst (λ (c : Config). SaysSame (meaning_by true (roll_rule c)) (meaning (config_of arguments setup))) (ap config whole ∙ sym same) (says_rolled (config_of arguments setup))

@@ -8,7 +8,7 @@ use Rattle.tesla_state.specs.declared.replies.Reply.{Reply}
 use Rattle.tesla_state.specs.declared.replies.Reply.TheVariants as replies
 use Rattle.tesla_rollover.specs.Epochs.{answers_in, next_of, payload_given, roll_entry_of}
 use Rattle.tesla_rollover.specs.History.{RollEntry, configs_in}
-use Rattle.tesla_rollover.specs.Played.{roll_record_in, roll_text_given}
+use Rattle.tesla_run_roll.specs.Played.{roll_record_in, roll_text_given}
 use Rattle.tesla_rollover.specs.Replies.{has_memory, reply_from, reply_in, reply_with, roll_shown}
 use Rattle.tesla_rollover.specs.declared.answers.Next.{Next}
 use Rattle.tesla_rollover.specs.declared.answers.RollTake.{RollTake}

@@ -1,4 +1,4 @@
+pub mod Played
 pub mod Roll
 pub mod Arguments
 pub mod Usage
-pub mod Playing

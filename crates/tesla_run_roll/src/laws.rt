@@ -10,8 +10,8 @@ ghost use Rattle.tesla_front.specs.Command.{Performs};
 ghost use Rattle.tesla_front.specs.Run.{NothingFailed};
 ghost use Rattle.tesla_front.specs.declared.fault.Fault.TheVariants as faults;
 ghost use Rattle.tesla_run_roll.specs.Arguments.{RollArguments};
-ghost use Rattle.tesla_run_roll.specs.Playing.{roll_text};
-ghost use Rattle.tesla_run_roll.specs.Roll.{config_of, history_of, roll};
+ghost use Rattle.tesla_run_replay.specs.Under.{config_of};
+ghost use Rattle.tesla_run_roll.specs.Roll.{history_of, roll, roll_text};
 ghost use Rattle.tesla_run_roll.specs.Usage.{usage};
 
 use crate::ROLL;

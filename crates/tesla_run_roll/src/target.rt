@@ -9,39 +9,27 @@ ghost use Rattle.tesla_front.specs.Lines.{count_line};
 ghost use Rattle.tesla_receiver.specs.History.{Event, Takes};
 ghost use Rattle.tesla_rollover.specs.Epochs.{roll_entry_of};
 ghost use Rattle.tesla_rollover.specs.History.{RollEntry};
-ghost use Rattle.tesla_rollover.specs.Played.{roll_record_in};
+ghost use Rattle.tesla_run_roll.specs.Played.{roll_record_in};
 ghost use Rattle.tesla_rollover.specs.Replies.{had_memory};
 ghost use Rattle.tesla_rollover.specs.Stands.{RollStands};
 
 use std::alloc::Global;
 use std::sync::ledger::Ledger;
-use tesla_base::{Head, Steps};
+use tesla_base::{Head, MOST_PAYLOAD, NoMemory, Steps};
 use tesla_capture::Gatherer;
+use tesla_commit::Setup;
 use tesla_convert::Halt;
 use tesla_desk::Sink;
 use tesla_front::{Lines, add_count};
 use tesla_rollover::{Next, RollTake, Rollover};
-use tesla_run_replay::{PlayedEvent, Target};
+use tesla_run_replay::{Arguments, Capacity, Form, PlayedEvent, Target};
 
 /// The epochs of a feed, whose released packets are written behind the numbers of their epochs, and which are counted.
 #[derive(Drop)]
 pub struct RolloverTarget {
     alloc: Global,
     rollover: Rollover,
-    payload: [u8; 1200],
-}
-
-impl RolloverTarget {
-    /// A target over these epochs. The memory of each further one is taken from this allocator.
-    pub fn new(alloc: Global, rollover: Rollover) -> RolloverTarget
-        ensures { result.rollover ≡ rollover }
-    {
-        RolloverTarget {
-            alloc,
-            rollover,
-            payload: [0; 1200],
-        }
-    }
+    payload: [u8; MOST_PAYLOAD],
 }
 
 // Gathers the record of a packet that was given, behind the number of its epoch. Where there was no memory for the epoch
@@ -80,7 +68,7 @@ fn put_given<O: Sink>(
 fn take_once<O: Sink>(
     alloc: Global,
     rollover: &mut Rollover,
-    payload: &mut [u8; 1200],
+    payload: &mut [u8; MOST_PAYLOAD],
     gatherer: &mut Gatherer,
     out: &mut O,
 ) -> Result<(), Halt>
@@ -118,9 +106,11 @@ fn count_lines(epochs: u64, given: u64) -> Lines
 
 impl Target for RolloverTarget {
     ghost use Rattle.std.specs.Prelude.{[], true};
-    ghost use Rattle.tesla_rollover.specs.Played.{roll_after_events};
+    ghost use Rattle.tesla_rollover.specs.Events.{roll_after_events};
     ghost use Rattle.tesla_rollover.specs.Stands.{RollStands};
-    ghost use Rattle.tesla_run_roll.specs.Playing.{roll_rule};
+    ghost use Rattle.tesla_run_roll.specs.Roll.{roll_rule, rolled};
+
+    ghost command = { rolled };
 
     ghost rule = { λ t. roll_rule t.rollover.config };
 
@@ -129,6 +119,28 @@ impl Target for RolloverTarget {
     ghost may_want = { true };
 
     ghost calls = { λ t. t.rollover.calls };
+
+    fn form() -> Form {
+        Form {
+            name: "roll",
+            capacity: Capacity::Whole { most: 4096 },
+        }
+    }
+
+    fn open(
+        alloc: Global,
+        arguments: &Arguments<'_>,
+        setup: Setup,
+    ) -> Result<RolloverTarget, NoMemory> {
+        match Rollover::open(alloc, setup, arguments.lag, arguments.places.capacity, 1) {
+            Ok(rollover) => Ok(RolloverTarget {
+                alloc,
+                rollover,
+                payload: [0; MOST_PAYLOAD],
+            }),
+            Err(NoMemory) => Err(NoMemory),
+        }
+    }
 
     fn begin<O: Sink>(&mut self, gatherer: &mut Gatherer, out: &mut O) -> bool {
         let _ = &gatherer;
@@ -167,7 +179,7 @@ impl Target for RolloverTarget {
         self.rollover.waiting()
     }
 
-    #[tactic(auto, unfolding(crate::specs::Playing::roll_text))]
+    #[tactic(auto, unfolding(crate::specs::Roll::roll_text))]
     fn lines(&self) -> Lines {
         count_lines(u64::from(self.rollover.epochs()), self.rollover.given())
     }

@@ -5,11 +5,11 @@ use Rattle.tesla_front.specs.Command.{Command}
 use Rattle.tesla_front.specs.Openings.{File}
 use Rattle.tesla_front.specs.declared.fault.Fault.TheVariants as faults
 use Rattle.tesla_receiver.specs.declared.history.Entry.{Entry}
-use Rattle.tesla_receiver.specs.Played.{played}
+use Rattle.tesla_replay.specs.Played.{played}
 use Rattle.tesla_receiver.specs.Report.{report_of}
 use Rattle.tesla_run_replay.specs.ReportText.{report_text}
-use Rattle.tesla_stress.specs.Base.{base_config, base_stream}
-use Rattle.tesla_stress.specs.Load.{load}
+use Rattle.tesla_run_stress.specs.Base.{base_config, base_stream}
+use Rattle.tesla_run_stress.specs.Load.{load}
 use Rattle.tesla_run_stress.specs.Arguments.{StressArguments, IsStress, files_of_stress}
 
 -- the one history that the load of the words plays, with its end

@@ -2,10 +2,18 @@
 #![tactic(auto)]
 
 mod arguments;
+mod base;
+mod choices;
 mod forms;
+mod frames;
 pub mod laws;
+pub mod load_laws;
+mod messages;
+mod play;
+mod player;
 mod run;
 mod words;
 
 pub use forms::STRESS;
+pub use play::play_load;
 pub use run::run_stress;

@@ -7,12 +7,12 @@ ghost use Rattle.tesla_run_stress.specs.Arguments.{arguments_of};
 ghost use Rattle.tesla_run_stress.specs.Stress.{IsReport, stress};
 
 use crate::arguments::Arguments;
+use crate::play_load;
 use crate::words::arguments_in;
 use std::alloc::Global;
 use tesla_desk::Desk;
 use tesla_front::{Fault, Lines, Outcome, Stop, outcome_of};
 use tesla_run_replay::report_lines;
-use tesla_stress::play_load;
 
 /// Runs the words as those of `stress`: makes the load of SEED and COUNT, and plays it to a receiver. Nothing is opened,
 /// read or written.

@@ -1,3 +1,2 @@
 pub mod Trace
 pub mod Usage
-pub mod Playing

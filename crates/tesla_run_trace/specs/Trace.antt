@@ -1,36 +1,29 @@
 -- What the command trace does.
-use Rattle.std.specs.Prelude.{ℕ, false, List, codes}
-use Rattle.tesla_capture.specs.Capture.{capture}
-use Rattle.tesla_capture.specs.Outline.{outline_of}
-use Rattle.tesla_capture.specs.Taken.{HoldsNoRefusal}
+use Rattle.std.specs.Prelude.{ℕ, List, codes}
 use Rattle.tesla_fitting.specs.declared.config.Config.{Config}
 use Rattle.tesla_front.specs.Command.{Command}
-use Rattle.tesla_receiver.specs.Played.{played}
+use Rattle.tesla_replay.specs.Played.{played}
 use Rattle.tesla_convert.specs.Meaning.{Meaning}
-use Rattle.tesla_trace.specs.Trace.{trace_text}
-use Rattle.tesla_run_replay.specs.Arguments.{IsPlayed, PlayedArguments, names_in}
-use Rattle.tesla_run_replay.specs.Replay.{end_of, history_of}
-use Rattle.tesla_run_replay.specs.Under.{PlayedCommand, command_of, config_of}
+use Rattle.tesla_trace.specs.Trace.{entry_text, trace_head, trace_text}
+use Rattle.tesla_run_replay.specs.Arguments.{IsPlayed, PlayedArguments, places_form}
+use Rattle.tesla_run_replay.specs.Playing.{EventRule, meaning_of, receiver_by, report_told, rule_by}
+use Rattle.tesla_run_replay.specs.Under.{PlayedCommand, command_of}
 
 -- the words are the form 'trace SETUP LAG CAPACITY CAPTURE TRACE'
 abbrev pub IsTraceForm : PlayedArguments → List (List ℕ) → Type 0
-IsTraceForm = IsPlayed (codes "trace")
+IsTraceForm = IsPlayed (places_form (codes "trace"))
 
--- what is written: the trace of the history that the file plays, of one ingest
-abbrev pub out_text : Config → List ℕ → List ℕ
-out_text cfg bytes = trace_text 1 (history_of cfg bytes)
-
--- what is written of the first bytes of a file, where a read fails behind them: the trace of the history of their whole records, without an end
-abbrev pub text_so_far : Config → List ℕ → List ℕ
-text_so_far cfg read = trace_text 1 (played cfg (outline_of read).records false)
-
--- all of that, with the report or the refused place as replay tells it, as functions of the capture's bytes: memory is wanting before the capture is read or not at all
+-- what a capture comes to, as functions of its bytes: the report or the refused place is told, as replay tells it, and the trace of the history that it plays is written, of one ingest; memory is wanting before the capture is read or not at all
 abbrev pub meaning : Config → Meaning
-meaning cfg = record { comes = end_of cfg; makes = out_text cfg; so_far = text_so_far cfg; IsUnrefused = HoldsNoRefusal capture; MayWant = ⊥ }
+meaning cfg = meaning_of (played cfg) report_told (trace_text 1) ⊥
 
--- the command: its words, its files, and what a capture comes to under a setup
+-- the command: its words, and what a capture comes to under a setup
 abbrev pub traced : PlayedCommand
-traced = record { Arguments = PlayedArguments; IsForm = IsTraceForm; names = names_in; meaning = λ arguments setup. meaning (config_of arguments setup) }
+traced = record { form = places_form (codes "trace"); meaning = meaning }
 
 abbrev pub trace : Command
 trace = command_of traced
+
+-- what is written of each event, the head of a trace of one ingest and the spelling of each entry, and told of all, the report
+abbrev pub trace_rule : Config → EventRule
+trace_rule cfg = rule_by (receiver_by cfg (trace_head 1) (λ history entry. entry_text entry) report_told)

@@ -8,4 +8,3 @@ mod target;
 
 pub use forms::TRACE;
 pub use run::run_trace;
-pub use target::TraceTarget;

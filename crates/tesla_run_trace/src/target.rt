@@ -9,14 +9,18 @@ ghost use Rattle.tesla_receiver.specs.Stands.{Stands};
 ghost use Rattle.tesla_receiver.specs.declared.history.Entry.{Entry};
 ghost use Rattle.tesla_trace.specs.Trace.{entry_text};
 
+use std::alloc::Global;
 use std::sync::ledger::Ledger;
-use tesla_base::Steps;
+use tesla_base::{MOST_PAYLOAD, NoMemory, Steps};
 use tesla_capture::Gatherer;
+use tesla_commit::Setup;
 use tesla_convert::Halt;
 use tesla_desk::Sink;
 use tesla_front::Lines;
 use tesla_receiver::{Receiver, laws};
-use tesla_run_replay::{PlayedEvent, Target, report_lines};
+use tesla_run_replay::{
+    Arguments, Capacity, Form, PlayedEvent, Target, open_receiver, report_lines,
+};
 use tesla_trace::{put_arrived, put_ended, put_taken, put_trace_head};
 
 /// How many ingests the receiver has.
@@ -26,19 +30,7 @@ const INGESTS: u8 = 1;
 #[derive(Drop)]
 pub struct TraceTarget {
     receiver: Receiver,
-    payload: [u8; 1200],
-}
-
-impl TraceTarget {
-    /// A target over this receiver, which has one ingest.
-    pub fn new(receiver: Receiver) -> TraceTarget
-        ensures { result.receiver ≡ receiver }
-    {
-        TraceTarget {
-            receiver,
-            payload: [0; 1200],
-        }
-    }
+    payload: [u8; MOST_PAYLOAD],
 }
 
 // Judges a datagram of ingest 0, and gathers the entry with its verdict.
@@ -73,7 +65,7 @@ fn arrive_once<L: Ledger, O: Sink>(
 // Takes once for releaser 0, and gathers the entry with its answer, also where nothing is given. It takes no memory.
 fn take_once<O: Sink>(
     receiver: &mut Receiver,
-    payload: &mut [u8; 1200],
+    payload: &mut [u8; MOST_PAYLOAD],
     gatherer: &mut Gatherer,
     out: &mut O,
 ) -> Result<(), Halt>
@@ -123,9 +115,11 @@ fn end_once<O: Sink>(
 
 impl Target for TraceTarget {
     ghost use Rattle.std.specs.Prelude.{[], false};
-    ghost use Rattle.tesla_receiver.specs.Played.{after_events};
+    ghost use Rattle.tesla_receiver.specs.Events.{after_events};
     ghost use Rattle.tesla_receiver.specs.Stands.{Stands};
-    ghost use Rattle.tesla_run_trace.specs.Playing.{trace_rule};
+    ghost use Rattle.tesla_run_trace.specs.Trace.{trace_rule, traced};
+
+    ghost command = { traced };
 
     ghost rule = { λ t. trace_rule t.receiver.config };
 
@@ -134,6 +128,27 @@ impl Target for TraceTarget {
     ghost may_want = { false };
 
     ghost calls = { λ t. t.receiver.calls };
+
+    fn form() -> Form {
+        Form {
+            name: "trace",
+            capacity: Capacity::Places,
+        }
+    }
+
+    fn open(
+        alloc: Global,
+        arguments: &Arguments<'_>,
+        setup: Setup,
+    ) -> Result<TraceTarget, NoMemory> {
+        match open_receiver(alloc, arguments, setup) {
+            Ok(receiver) => Ok(TraceTarget {
+                receiver,
+                payload: [0; MOST_PAYLOAD],
+            }),
+            Err(NoMemory) => Err(NoMemory),
+        }
+    }
 
     fn begin<O: Sink>(&mut self, gatherer: &mut Gatherer, out: &mut O) -> bool {
         put_trace_head(gatherer, out, INGESTS)

@@ -6,7 +6,7 @@ use Rattle.tesla_frame.specs.Shown.{shown}
 use Rattle.tesla_receiver.specs.History.{Arrives, entry_of}
 use Rattle.tesla_receiver.specs.declared.history.Arrival.{Arrival}
 use Rattle.tesla_early.specs.Early.{message_in}
-use Rattle.tesla_early.specs.Texts.{message_text}
+use Rattle.tesla_run_early.specs.Records.{message_text}
 use Rattle.tesla_run_early.proofs.Texts.{counts_one, message_written}
 use Rattle.tesla_run_early.proofs.target.arrive_once.Goals as goal
 

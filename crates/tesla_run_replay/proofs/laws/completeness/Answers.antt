@@ -1,5 +1,8 @@
-use Rattle.tesla_run_replay.proofs.Complete.{complete}
+use Rattle.std.proofs.Common.{refl}
+use Rattle.tesla_run_replay.specs.Playing.{report_told}
+use Rattle.tesla_run_replay.specs.Replay.{history_of, replayed}
+use Rattle.tesla_run_replay.proofs.Under.{complete_under}
 use Rattle.tesla_run_replay.proofs.laws.completeness.Goals as goal
 
 pub returns : goal.returns
-returns c = complete
+returns c = complete_under replayed (λ cfg bytes. report_told (history_of cfg bytes)) (λ cfg bytes. refl)

@@ -4,10 +4,23 @@ use Rattle.tesla_convert.specs.declared.converter.Halt.{Halt}
 use Rattle.tesla_convert.specs.declared.converter.Halt.TheVariants.{WriteFault}
 use Rattle.tesla_desk.proofs.Told.{prefix_longer}
 use Rattle.tesla_receiver.specs.History.{Arrives, entry_of}
-use Rattle.tesla_receiver.specs.Played.{after_events}
+use Rattle.tesla_receiver.specs.Events.{after_events}
 use Rattle.tesla_run_replay.specs.Playing.{event_of}
+use Rattle.tesla_run_early.specs.Playing.{early_rule}
 use Rattle.tesla_run_early.proofs.Counted.{counts_on, stands_on}
 use Rattle.tesla_run_early.proofs.target.EarlyTargetTarget.play.Goals as goal
+
+pub returns-in-Ok-clause-rule : goal.returns-in-Ok-clause-rule
+returns-in-Ok-clause-rule g c = ap early_rule c.arrive_once.ensures.config
+
+pub returns-in-Err-clause-rule : goal.returns-in-Err-clause-rule
+returns-in-Err-clause-rule g c = ap early_rule c.arrive_once.ensures.config
+
+pub returns-in-Take-clause-rule : goal.returns-in-Take-clause-rule
+returns-in-Take-clause-rule g c = ap early_rule c.take_once.ensures.config
+
+pub returns-in-End-clause-rule : goal.returns-in-End-clause-rule
+returns-in-End-clause-rule g c = ap early_rule c.end.ensures.config
 
 pub returns-in-Ok-clause-has : goal.returns-in-Ok-clause-has
 returns-in-Ok-clause-has g c es stands =

@@ -1,9 +1,18 @@
 use Rattle.std.proofs.Common.{[], ap}
 use Rattle.std.proofs.lemmas.Result.{IfOk-weaker}
 use Rattle.tesla_desk.proofs.Told.{prefix_longer}
-use Rattle.tesla_run_replay.specs.Playing.{event_of}
+use Rattle.tesla_run_replay.specs.Playing.{event_of, rule_of}
 use Rattle.tesla_run_replay.proofs.Targets.{stands_on}
 use Rattle.tesla_run_replay.proofs.target.ReceiverTargetTarget.play.Goals as goal
+
+pub returns-in-Arrival-clause-rule : goal.returns-in-Arrival-clause-rule
+returns-in-Arrival-clause-rule g c = ap rule_of c.arrive.ensures.config
+
+pub returns-in-Take-clause-rule : goal.returns-in-Take-clause-rule
+returns-in-Take-clause-rule g c = ap rule_of c.take_once.ensures.config
+
+pub returns-in-End-clause-rule : goal.returns-in-End-clause-rule
+returns-in-End-clause-rule g c = ap rule_of c.end.ensures.config
 
 pub returns-in-Arrival-clause-has : goal.returns-in-Arrival-clause-has
 returns-in-Arrival-clause-has g c es stands =

@@ -3,7 +3,17 @@ use Rattle.std.proofs.lemmas.Result.{IfOk-weaker}
 use Rattle.tesla_desk.proofs.Told.{prefix_longer}
 use Rattle.tesla_run_replay.specs.Playing.{event_of}
 use Rattle.tesla_run_replay.proofs.Targets.{stands_on}
+use Rattle.tesla_run_trace.specs.Trace.{trace_rule}
 use Rattle.tesla_run_trace.proofs.target.TraceTargetTarget.play.Goals as goal
+
+pub returns-in-Arrival-clause-rule : goal.returns-in-Arrival-clause-rule
+returns-in-Arrival-clause-rule g c = ap trace_rule c.arrive_once.ensures.config
+
+pub returns-in-Take-clause-rule : goal.returns-in-Take-clause-rule
+returns-in-Take-clause-rule g c = ap trace_rule c.take_once.ensures.config
+
+pub returns-in-End-clause-rule : goal.returns-in-End-clause-rule
+returns-in-End-clause-rule g c = ap trace_rule c.end_once.ensures.config
 
 pub returns-in-Arrival-clause-has : goal.returns-in-Arrival-clause-has
 returns-in-Arrival-clause-has g c =

@@ -1,8 +1,0 @@
-use Rattle.tesla_run_early.specs.Playing.{early_rule}
-use Rattle.tesla_run_early.proofs.run.play_early.Given as goal
-
-abbrev pub ghosts-play_target-L-Ledger : goal.ghosts-play_target-L-Ledger
-ghosts-play_target-L-Ledger g a = record { name = a.blank.name; parts = a.blank.parts }
-
-abbrev pub ghosts-play_target-L-ReplayLedger : goal.ghosts-play_target-L-ReplayLedger
-ghosts-play_target-L-ReplayLedger g a = record { rule = early_rule a.target.early.receiver.config }

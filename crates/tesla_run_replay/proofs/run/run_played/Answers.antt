@@ -1,0 +1,23 @@
+use Rattle.std.proofs.Common.{◌≡◌, List, ℕ, Some, option_map, map, string_bytes, sym, subst}
+use Rattle.tesla_front.proofs.Commands.{runs_form, runs_usage}
+use Rattle.tesla_run_replay.specs.Arguments.{IsPlayed, PlayedArguments, PlayedForm, arguments_of}
+use Rattle.tesla_run_replay.specs.Under.{command_of}
+use Rattle.tesla_run_replay.proofs.run.run_played.Goals as goal
+
+pub perform-requires-clause-form : goal.perform-requires-clause-form
+perform-requires-clause-form g c =
+    let words : List (List ℕ) = map string_bytes c.args.words.now in
+    λ _ _. (words, subst (λ (f : PlayedForm). IsPlayed f (arguments_of c.in-Some.arguments) words) c.form-form.ensures c.in-Some.ensures.found)
+
+pub returns-in-Some : goal.returns-in-Some
+returns-in-Some g c =
+    let words : List (List ℕ) = map string_bytes c.args.words.now in
+    let found = subst (λ (f : PlayedForm). IsPlayed f (arguments_of c.in-Some.arguments) words) c.form-form.ensures c.in-Some.ensures.found in
+    let only : (arguments : PlayedArguments) → IsPlayed g.T.Target.command.form arguments words → option_map arguments_of c.arguments_in.result ≡ Some arguments = λ arguments is. c.arguments_in.ensures.only arguments (subst (λ (f : PlayedForm). IsPlayed f arguments words) (sym c.form-form.ensures) is) in
+    rw c.outcome_of.ensures (runs_form (command_of g.T.Target.command) arguments_of words c.arguments_in.result c.in-Some.arguments _ _ _ c.in-Some.is only found c.perform.ensures)
+
+pub returns-in-None : goal.returns-in-None
+returns-in-None g c =
+    let words : List (List ℕ) = map string_bytes c.args.words.now in
+    let only : (arguments : PlayedArguments) → IsPlayed g.T.Target.command.form arguments words → option_map arguments_of c.arguments_in.result ≡ Some arguments = λ arguments is. c.arguments_in.ensures.only arguments (subst (λ (f : PlayedForm). IsPlayed f arguments words) (sym c.form-form.ensures) is) in
+    runs_usage (command_of g.T.Target.command) arguments_of words c.arguments_in.result _ c.in-None.is only

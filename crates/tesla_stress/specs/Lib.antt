@@ -1,3 +1,0 @@
-pub mod Base
-pub mod Load
-pub mod Steps
