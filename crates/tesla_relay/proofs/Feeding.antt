@@ -4,7 +4,7 @@ use Rattle.std.specs.Arc.{arc_value}
 use Rattle.std.specs.List.{AllByRecursion}
 use Rattle.std.proofs.lemmas.List.{length-append}
 use Rattle.std.proofs.lemmas.List.Concat.{flat_map-append}
-use Rattle.tesla_posts.specs.Counts.{counted}
+use Rattle.tesla_relay.specs.Counts.{counted}
 use Rattle.tesla_relay.specs.Feeding.{text_in, texts, Closed, Fed, IsDatagram, IsFeeding, Keeps}
 use Rattle.tesla_relay.specs.Line.{put_log}
 use Rattle.tesla_relay.specs.Relay.{kept_of, dropped_in, DropsBehind}

@@ -5,3 +5,13 @@ pub mod Queued
 pub mod Sending
 pub mod Settled
 pub mod Sized
+pub mod Clocks
+pub mod Closings
+pub mod Links
+pub mod Mails
+pub mod Openings
+mod Steps
+pub mod Stopped
+pub mod Pace
+pub mod Sends
+pub mod Taken

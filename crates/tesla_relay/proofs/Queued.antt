@@ -3,7 +3,7 @@ use Rattle.std.proofs.Common.{◌≡◌, ◌∙◌, ℕ, suc, ◌+◌, false, tr
 use Rattle.std.proofs.lemmas.List.{length-append}
 use Rattle.std.specs.Arc.{arc_value}
 use Rattle.crossbeam_queue.specs.Passes.{Pass, view}
-use Rattle.tesla_posts.specs.Posts.{PostSeen, with_datagrams}
+use Rattle.tesla_relay.specs.Posts.{PostSeen, with_datagrams}
 use Rattle.tesla_relay.specs.Feeding.{Fed, IsFeeding, IsServing, ServerSeen}
 use Rattle.tesla_relay.specs.Line.{popped_log, put_log}
 use Rattle.tesla_relay.specs.Lists.{AreFeeding, AreServing, Each, Ends, FeedsAll, ServesAll, Starts}

@@ -6,7 +6,7 @@ use Rattle.std.proofs.Math.Seq.{take-length}
 use Rattle.crossbeam_queue.specs.Passes.{Pass, view}
 use Rattle.tesla_desk.specs.Faults.{HasCause, Rose}
 use Rattle.tesla_desk.specs.Posts.{with_datagram}
-use Rattle.tesla_posts.specs.Posts.{PostSeen, with_datagrams}
+use Rattle.tesla_relay.specs.Posts.{PostSeen, with_datagrams}
 use Rattle.tesla_relay.specs.Feeding.{text_in, texts, IsServing, SendsNext, Served, ServerSeen, ServesOn}
 use Rattle.tesla_relay.specs.Line.{popped_log}
 use Rattle.tesla_relay.proofs.Feeding.{texts_more}

@@ -5,7 +5,7 @@ use Rattle.std.proofs.lemmas.List.{length-append}
 use Rattle.std.proofs.lemmas.List.Concat.{flat_map-append}
 use Rattle.crossbeam_queue.specs.Passes.{view}
 use Rattle.tesla_desk.specs.Faults.{HasCause}
-use Rattle.tesla_posts.specs.Posts.{PostSeen, with_datagrams}
+use Rattle.tesla_relay.specs.Posts.{PostSeen, with_datagrams}
 use Rattle.tesla_relay.specs.Feeding.{text_in, texts, IsDatagram, Keeps, Served, ServerSeen}
 use Rattle.tesla_relay.specs.Lists.{Ends}
 use Rattle.tesla_relay.specs.Relay.{DropsBehind, RelaysPost, kept_of}

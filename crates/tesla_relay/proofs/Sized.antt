@@ -1,6 +1,6 @@
 -- How many counts a relay gives.
 use Rattle.std.proofs.Common.{◌≡◌, ℕ, List, [], ◌∷◌, length, refl, arith}
-use Rattle.tesla_posts.specs.Posts.{PostSeen}
+use Rattle.tesla_relay.specs.Posts.{PostSeen}
 use Rattle.tesla_relay.specs.Relay.{RelaysPosts}
 use Rattle.tesla_relay.specs.declared.relayed.PostCount.{PostCount}
 

@@ -6,8 +6,8 @@ use Rattle.atomic_table.specs.Seated.{TableId}
 use Rattle.crossbeam_queue.specs.Passes.{Pass, view, IsPassOf, ruled_capacity}
 use Rattle.tesla_desk.specs.Faults.{HasCause}
 use Rattle.tesla_desk.specs.Posts.{with_datagram}
-use Rattle.tesla_posts.specs.Counts.{counted}
-use Rattle.tesla_posts.specs.Posts.{PostSeen, with_datagrams}
+use Rattle.tesla_relay.specs.Counts.{counted}
+use Rattle.tesla_relay.specs.Posts.{PostSeen, with_datagrams}
 use Rattle.tesla_relay.specs.Line.{put_log, popped_log}
 use Rattle.tesla_relay.specs.Relay.{kept_of, dropped_in, DropsBehind}
 use Rattle.tesla_relay.specs.declared.line.Log.{Log}

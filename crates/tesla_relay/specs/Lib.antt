@@ -3,3 +3,12 @@ pub mod Relay
 pub mod Feeding
 pub mod Lists
 pub mod Queues
+pub mod Clocks
+pub mod Closed
+pub mod Counts
+pub mod Links
+pub mod Opened
+pub mod Opening
+pub mod Posts
+pub mod Play
+pub mod Steps

@@ -5,7 +5,7 @@ use Rattle.crossbeam_queue.specs.Passes.{IsPassOf}
 use Rattle.tesla_desk.specs.Faults.{HasCause}
 use Rattle.tesla_desk.specs.Links.{after_letters, datagrams}
 use Rattle.tesla_desk.specs.declared.link.Letter.{Letter}
-use Rattle.tesla_posts.specs.Posts.{PostSeen}
+use Rattle.tesla_relay.specs.Posts.{PostSeen}
 use Rattle.tesla_relay.specs.Feeding.{Closed, Fed, IsDone, IsFeeding, IsSameFeed, IsServing, Served, ServerSeen, ServesOn}
 use Rattle.tesla_relay.specs.declared.feed.Feed.{Feed}
 use Rattle.tesla_relay.specs.declared.relayed.RelayEnd.{RelayEnd}

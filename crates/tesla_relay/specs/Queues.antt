@@ -2,7 +2,7 @@
 use Rattle.std.specs.Prelude.{◌≡◌, ℕ, true, List, [], ◌∷◌, ◌++◌}
 use Rattle.std.specs.Arc.{arc_value}
 use Rattle.crossbeam_queue.specs.Passes.{view, IsPassOf}
-use Rattle.tesla_posts.specs.Posts.{PostSeen}
+use Rattle.tesla_relay.specs.Posts.{PostSeen}
 use Rattle.tesla_relay.specs.Feeding.{Fed, IsFeeding, ServerSeen}
 use Rattle.tesla_relay.specs.Line.{popped_log}
 use Rattle.tesla_relay.specs.Lists.{Ends, Starts}

@@ -7,10 +7,10 @@ use crossbeam_queue::ArrayQueue;
 use std::alloc::Global;
 use std::sync::Wait;
 use std::thread;
-use tesla_base::NoMemory;
+use tesla_base::{MOST_DATAGRAM, NoMemory};
 
 /// The bytes of a datagram, which stands at their front.
-pub type Buffer = Box<[u8; 2048]>;
+pub type Buffer = Box<[u8; MOST_DATAGRAM]>;
 
 /// The buffers that hold no datagram now.
 pub type FreeBuffers = ArrayQueue<Buffer>;
@@ -22,7 +22,7 @@ pub fn new_buffers(alloc: Global, count: usize) -> Result<FreeBuffers, NoMemory>
     let mut free = ArrayQueue::new(alloc, count)?;
     for _ in 0..count {
         // There is a place for each.
-        let _ = free.push_mut(Box::new(alloc, [0; 2048])?);
+        let _ = free.push_mut(Box::new(alloc, [0; MOST_DATAGRAM])?);
     }
     Ok(free)
 }

@@ -12,12 +12,13 @@ use crate::buffers::{Buffer, FreeBuffers, give_buffer, take_buffer};
 use crate::line::{Item, Line, LinePass, datagram_in, length_of, put_in};
 use std::sync::{Arc, Wait};
 use std::thread;
+use tesla_base::MOST_DATAGRAM;
 
 /// How many datagrams are put into a queue at most, before it takes no more.
 const MOST_TAKEN: u64 = (1 << 62) - 2;
 
 // Copies a datagram of this size, and none of the bytes behind it.
-fn copy_datagram(size: u16, from: &[u8; 2048], to: &mut [u8; 2048])
+fn copy_datagram(size: u16, from: &[u8; MOST_DATAGRAM], to: &mut [u8; MOST_DATAGRAM])
     ensures { take size to.new ≡ take size from.now }
 {
     let datagram = datagram_in(size, from);
@@ -71,7 +72,7 @@ impl Feed {
     }
 
     // A copy of a datagram. It waits until there is a buffer for it.
-    fn copy_of<R: Wait>(&self, rt: &R, size: u16, bytes: &[u8; 2048]) -> Buffer
+    fn copy_of<R: Wait>(&self, rt: &R, size: u16, bytes: &[u8; MOST_DATAGRAM]) -> Buffer
         ensures { take size result.value ≡ take size bytes.now }
     {
         let mut buffer = take_buffer(rt, &self.free);
@@ -87,7 +88,7 @@ impl Feed {
     }
 
     // Puts a copy of a datagram in.
-    fn put_copy<R: Wait>(&mut self, rt: &R, size: u16, bytes: &[u8; 2048]) -> bool
+    fn put_copy<R: Wait>(&mut self, rt: &R, size: u16, bytes: &[u8; MOST_DATAGRAM]) -> bool
         requires { IsFeeding self.old }
         ensures put { result ≡ true → (item : Item) × (text_in item ≡ take size bytes.now ∷ []) × (view self.new.pass ≡ put_log ((view self.old.pass).put ++ item ∷ [])) }
         ensures full { result ≡ false → (self.old.capacity ≤ length (view self.old.pass).put) × (view self.new.pass ≡ view self.old.pass) }
@@ -109,7 +110,7 @@ impl Feed {
     }
 
     // Puts a datagram in where there is room.
-    fn put<R: Wait>(&mut self, rt: &R, size: u16, bytes: &[u8; 2048]) -> bool
+    fn put<R: Wait>(&mut self, rt: &R, size: u16, bytes: &[u8; MOST_DATAGRAM]) -> bool
         requires { IsFeeding self.old }
         ensures put { result ≡ true → (item : Item) × (text_in item ≡ take size bytes.now ∷ []) × (view self.new.pass ≡ put_log ((view self.old.pass).put ++ item ∷ [])) × (self.new.taken ≡ self.old.taken) × (self.old.taken ≤ 2 ^ 62 - 3) }
         ensures full { result ≡ false → (self.old.capacity ≤ length (view self.old.pass).put) × (view self.new.pass ≡ view self.old.pass) × (self.new.taken ≡ self.old.taken) }
@@ -120,7 +121,7 @@ impl Feed {
     }
 
     /// Puts a datagram in, which stands at the front of these bytes, or drops it where the queue holds as many as it may.
-    pub fn offer<R: Wait>(&mut self, rt: &R, length: u16, bytes: &[u8; 2048])
+    pub fn offer<R: Wait>(&mut self, rt: &R, length: u16, bytes: &[u8; MOST_DATAGRAM])
         requires { IsFeeding self.old }
         ensures { FeedsOn (take length bytes.now ∷ []) self.old self.new }
     {

@@ -10,10 +10,16 @@ use crate::relayed::RelayEnd;
 use crate::server::Serve;
 use std::sync::Wait;
 use std::thread::{Threads, for_each_mut};
+use tesla_base::MOST_DATAGRAM;
 use tesla_desk::{Gate, Got, Link};
 
 // Puts a datagram, which stands at the front of these bytes, into each queue that has room. All is done in this thread.
-fn offer_all<R: Threads + Wait + Sync>(rt: &R, feeds: &mut [Feed], length: u16, bytes: &[u8; 2048])
+fn offer_all<R: Threads + Wait + Sync>(
+    rt: &R,
+    feeds: &mut [Feed],
+    length: u16,
+    bytes: &[u8; MOST_DATAGRAM],
+)
     requires feeding { All IsFeeding feeds.old }
     ensures { Each (FeedsOn (take length bytes.now ∷ [])) feeds.old feeds.new }
 {
@@ -55,7 +61,7 @@ fn hand_on<R: Threads + Wait + Sync, G: Gate, W: Serve + Send>(
     feeds: &mut [Feed],
     here: &mut [W],
     length: usize,
-    bytes: &[u8; 2048],
+    bytes: &[u8; MOST_DATAGRAM],
 )
     requires few { length ≤ 2048 }
     requires feeding { AreFeeding feeds.old }
@@ -87,7 +93,7 @@ fn hear<R: Threads + Wait + Sync, K: Link, G: Gate, W: Serve + Send>(
     ensures cause { HasCause (K.faults link.old) (K.faults link.new) (result ≡ RelayEnd.Failed) }
     ensures name { K.name link.new ≡ K.name link.old }
 {
-    let mut buffer = [0; 2048];
+    let mut buffer = [0; MOST_DATAGRAM];
     for _ in rt.forever() {
         match link.next(&mut buffer) {
             Got::Datagram(length) => hand_on(rt, gate, feeds, here, length, &buffer),

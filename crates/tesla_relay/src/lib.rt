@@ -1,15 +1,19 @@
-//! The relay, which hands the datagrams of one link on to many posts.
+//! Datagrams handed on to many posts: those of a link as they come, or those of a capture at its times.
 #![tactic(auto)]
 
 mod buffers;
 mod feed;
 mod hearing;
 mod line;
+mod playing;
+mod posts;
 mod queues;
 mod relayed;
 mod relaying;
 mod server;
 mod serving;
 
+pub use playing::{PlayEnd, play};
+pub use posts::{close_posts, open_posts};
 pub use relayed::{PostCount, RelayEnd, Relayed};
 pub use relaying::relay;

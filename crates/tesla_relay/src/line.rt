@@ -11,7 +11,7 @@ use crossbeam_queue::{Pass, RuledArrayQueue};
 use std::alloc::Global;
 use std::collections::LinkedList;
 use std::sync::Wait;
-use tesla_base::NoMemory;
+use tesla_base::{MOST_DATAGRAM, NoMemory};
 
 /// What stands in a queue: a datagram, at the front of its bytes, or the news that none follows.
 #[derive(Drop)]
@@ -21,7 +21,7 @@ pub enum Item {
 }
 
 /// The datagram of this size at the front of these bytes.
-pub fn datagram_in(size: u16, bytes: &[u8; 2048]) -> &[u8]
+pub fn datagram_in(size: u16, bytes: &[u8; MOST_DATAGRAM]) -> &[u8]
     ensures datagram { result.now ≡ take size bytes.now }
     ensures few { length result.now ≤ 2048 }
 {

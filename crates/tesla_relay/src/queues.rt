@@ -1,7 +1,7 @@
 //! The queues before the posts, from their making to the counts.
 
 ghost use Rattle.std.specs.Prelude.{◌≡◌, ◌<◌, ◌≤◌, ◌+◌, [], ℕ, List, IfOk, length, map, vec_len, vec_capacity};
-ghost use Rattle.tesla_posts.specs.Posts.{PostSeen};
+ghost use Rattle.tesla_relay.specs.Posts.{PostSeen};
 ghost use Rattle.tesla_relay.specs.Lists.{Ends};
 ghost use Rattle.tesla_relay.specs.Queues.{Adds, AreNew, Ending, GivesBack, IsEnding, IsNew, Starting};
 ghost use Rattle.tesla_relay.specs.Relay.{RelaysPost, RelaysPosts};

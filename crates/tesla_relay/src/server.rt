@@ -4,7 +4,7 @@ ghost use Rattle.std.specs.Prelude.{◌≡◌, ◌≤◌, ◌++◌, ◌∷◌, [
 ghost use Rattle.std.specs.Arc.{arc_value};
 ghost use Rattle.crossbeam_queue.specs.Passes.{view, IsSamePass};
 ghost use Rattle.tesla_desk.specs.Faults.{HasCause};
-ghost use Rattle.tesla_posts.specs.Posts.{PostSeen};
+ghost use Rattle.tesla_relay.specs.Posts.{PostSeen};
 ghost use Rattle.tesla_relay.specs.Feeding.{IsServing, IsDone, IsSameServer, ServerSeen, ServesOn, SendsNext};
 ghost use Rattle.tesla_relay.specs.Lists.{ServesAll};
 ghost use Rattle.tesla_relay.specs.Line.{popped_log};

@@ -6,6 +6,7 @@ ghost use Rattle.tesla_run_capture.specs.Recording.{HearsAll, HearsOn, Records};
 
 use crate::recorder::Recorder;
 use std::sync::Wait;
+use tesla_base::MOST_DATAGRAM;
 use tesla_desk::{Clock, Got, Link, Sink};
 use tesla_front::Fault;
 
@@ -35,7 +36,7 @@ fn hear_all<R: Wait, K: Link, C: Clock, S: Sink>(
     ensures write { HasCause (S.faults sink.old) (S.faults sink.new) (result ≡ Hearing.SinkFailed) }
     ensures names { (K.name link.new ≡ K.name link.old) × (S.name sink.new ≡ S.name sink.old) }
 {
-    let mut buffer = [0; 2048];
+    let mut buffer = [0; MOST_DATAGRAM];
     for _ in rt.forever() {
         if recorder.is_full() {
             return Hearing::Over;

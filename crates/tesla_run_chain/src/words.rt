@@ -35,18 +35,26 @@ fn version_of(command: &str) -> Option<Version>
     None
 }
 
-// The intervals that three words spell.
-fn times_in(start: &[u8], interval: &[u8], last: &[u8]) -> Option<Schedule>
-    ensures found { IfSome result (AreTimes start.now interval.now last.now) }
-    ensures only { (times : Times) → AreTimes start.now interval.now last.now times → result ≡ Some times }
+// The words that spell the intervals of a stream.
+#[derive(Clone, Copy, Debug)]
+struct ScheduleWords<'a> {
+    start: &'a [u8],
+    interval: &'a [u8],
+    last: &'a [u8],
+}
+
+// The intervals that words spell.
+fn schedule_in(words: &ScheduleWords<'_>) -> Option<Schedule>
+    ensures found { IfSome result (AreTimes words.now.start.now words.now.interval.now words.now.last.now) }
+    ensures only { (times : Times) → AreTimes words.now.start.now words.now.interval.now words.now.last.now times → result ≡ Some times }
 {
-    let Some(start) = number_in(start, 0, u64::MAX) else {
+    let Some(start) = number_in(words.start, 0, u64::MAX) else {
         return None;
     };
-    let Some(interval) = number_in(interval, 0, u64::from(u32::MAX)) else {
+    let Some(interval) = number_in(words.interval, 0, u64::from(u32::MAX)) else {
         return None;
     };
-    let Some(last) = number_in(last, 0, u64::from(u32::MAX)) else {
+    let Some(last) = number_in(words.last, 0, u64::from(u32::MAX)) else {
         return None;
     };
     Schedule::new(start, interval as u32, last as u32)
@@ -134,18 +142,16 @@ fn arguments_from<'a>(
     out: &'a str,
     secret: &'a str,
     stream: &[u8],
-    start: &[u8],
-    interval: &[u8],
-    last: &[u8],
+    intervals: &ScheduleWords<'_>,
     chains: &[String],
 ) -> Option<Arguments<'a>>
-    ensures found { IfSome result (λ arguments. IsChain (arguments_of arguments) (command_of version ∷ out.now ∷ secret.now ∷ stream.now ∷ start.now ∷ interval.now ∷ last.now ∷ map string_bytes chains.now)) }
-    ensures only { (arguments : ChainArguments) → IsChain arguments (command_of version ∷ out.now ∷ secret.now ∷ stream.now ∷ start.now ∷ interval.now ∷ last.now ∷ map string_bytes chains.now) → option_map arguments_of result ≡ Some arguments }
+    ensures found { IfSome result (λ arguments. IsChain (arguments_of arguments) (command_of version ∷ out.now ∷ secret.now ∷ stream.now ∷ intervals.now.start.now ∷ intervals.now.interval.now ∷ intervals.now.last.now ∷ map string_bytes chains.now)) }
+    ensures only { (arguments : ChainArguments) → IsChain arguments (command_of version ∷ out.now ∷ secret.now ∷ stream.now ∷ intervals.now.start.now ∷ intervals.now.interval.now ∷ intervals.now.last.now ∷ map string_bytes chains.now) → option_map arguments_of result ≡ Some arguments }
 {
     let Some(stream) = stream_in(stream) else {
         return None;
     };
-    let Some(schedule) = times_in(start, interval, last) else {
+    let Some(schedule) = schedule_in(intervals) else {
         return None;
     };
     let Some((tag_length, delays)) = chains_in(version, chains) else {
@@ -198,9 +204,11 @@ pub fn arguments_in(words: &[String]) -> Option<Arguments<'_>>
         out.as_str(),
         secret.as_str(),
         stream.as_bytes(),
-        start.as_bytes(),
-        interval.as_bytes(),
-        last.as_bytes(),
+        &ScheduleWords {
+            start: start.as_bytes(),
+            interval: interval.as_bytes(),
+            last: last.as_bytes(),
+        },
         chains,
     )
 }

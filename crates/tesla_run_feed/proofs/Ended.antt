@@ -9,7 +9,7 @@ use Rattle.tesla_feed.specs.Feed.{has_failed}
 use Rattle.tesla_feed.specs.declared.counts.FeedCounts.{FeedCounts}
 use Rattle.tesla_front.specs.Came.{Failed}
 use Rattle.tesla_front.specs.declared.fault.Fault.TheVariants as faults
-use Rattle.tesla_posts.proofs.Links.{broken_left, ended_left}
+use Rattle.tesla_relay.proofs.Links.{broken_left, ended_left}
 use Rattle.tesla_run_feed.specs.Feeding.{EndsAs, HaveAllFailed, IsUnbroken}
 use Rattle.tesla_run_feed.specs.Lines.{came_by, lines_of}
 use Rattle.tesla_sender.specs.Made.{Stream}

@@ -12,29 +12,30 @@ use Rattle.tesla_desk.proofs.Told.{leaves_all}
 use Rattle.tesla_desk.proofs.Counts.{cause_none, causes_plain, causes_source, causes_then, counts_stay}
 use Rattle.tesla_feed.specs.Fed.{datagrams_of, has_ended, reading_of}
 use Rattle.tesla_feed.specs.Feed.{OpensAt, events_of, letter_of}
+use Rattle.tesla_feed.specs.declared.feeding.FeedEnd.{FeedEnd}
 use Rattle.tesla_front.specs.Came.{Came, Failed}
 use Rattle.tesla_front.specs.Fault.{unopened}
 use Rattle.tesla_front.specs.Openings.{AnyFailed, Opens}
 use Rattle.tesla_front.specs.declared.fault.Fault.{Fault}
 use Rattle.tesla_front.specs.declared.fault.Fault.TheVariants as faults
 use Rattle.tesla_front.proofs.Openings.{opens_first, opens_none, opens_then}
-use Rattle.tesla_names.specs.Names.{AreDistinct, IsNoneOf}
-use Rattle.tesla_posts.specs.Clocks.{ReadWhere}
-use Rattle.tesla_posts.specs.Closed.{AnyFaulty, ClosesTo, HasMails, IsUnsent}
-use Rattle.tesla_posts.specs.Links.{LeftWhere}
-use Rattle.tesla_posts.specs.Opened.{AreFresh, OpensTo, post_name}
-use Rattle.tesla_posts.specs.Opening.{ClosesPosts}
-use Rattle.tesla_posts.specs.Posts.{PostSeen}
-use Rattle.tesla_posts.proofs.Closings.{closes_to, fresh_counts, fresh_mails, mails_same}
-use Rattle.tesla_posts.proofs.Clocks.{clock_alone, clock_made, clock_opens, read_where}
-use Rattle.tesla_posts.proofs.Links.{left_where, link_tried}
-use Rattle.tesla_posts.proofs.Mails.{faulty_told, unsent_on}
-use Rattle.tesla_posts.proofs.Openings.{none_of_opened, opens_new, opens_still, refused_not_all}
-use Rattle.tesla_posts.proofs.Stopped.{came_cause, memory_counts, not_all_counts}
+use Rattle.tesla_front.specs.Names.{AreDistinct, IsNoneOf}
+use Rattle.tesla_relay.specs.Clocks.{ReadWhere}
+use Rattle.tesla_relay.specs.Closed.{AnyFaulty, ClosesTo, HasMails, IsUnsent}
+use Rattle.tesla_relay.specs.Links.{LeftWhere}
+use Rattle.tesla_relay.specs.Opened.{AreFresh, OpensTo, post_name}
+use Rattle.tesla_relay.specs.Opening.{ClosesPosts, OpensPosts}
+use Rattle.tesla_relay.specs.Posts.{PostSeen}
+use Rattle.tesla_relay.proofs.Closings.{closes_to, fresh_counts, fresh_mails, mails_same}
+use Rattle.tesla_relay.proofs.Clocks.{clock_alone, clock_made, clock_opens, read_where}
+use Rattle.tesla_relay.proofs.Links.{left_where, link_tried}
+use Rattle.tesla_relay.proofs.Mails.{faulty_told, unsent_on}
+use Rattle.tesla_relay.proofs.Openings.{none_of_opened, opens_new, opens_still, refused_not_all}
+use Rattle.tesla_relay.proofs.Stopped.{came_cause, memory_counts, not_all_counts}
 use Rattle.tesla_run_feed.specs.Arguments.{FeedArguments, IsFeedForm, live_files}
 use Rattle.tesla_run_feed.specs.Feeding.{EndsAs, FeedsLink, FindsOver, SendPosts, Stops, TouchesLive}
 use Rattle.tesla_run_feed.specs.Lines.{came_with, stream_over}
-use Rattle.tesla_run_feed.specs.Steps.{FeedsFiles, FeedsOpen, OpensAndFeeds, Refuses, RunsLinked, TriesToFeed}
+use Rattle.tesla_run_feed.specs.Steps.{FeedsFiles, FeedsPosts, RunsLinked, TriesToFeed}
 use Rattle.tesla_run_feed.proofs.Ended.{end_read, ends_by, failed_either, no_open, read_end, write_failed}
 use Rattle.tesla_run_feed.proofs.Mailed.{each_told, faulty_marked, marked_faulty, names_kept, sends_posts}
 use Rattle.tesla_sender.specs.Made.{Stream}
@@ -105,18 +106,27 @@ over_counts {hidden} before now same = causes_plain {hidden = hidden} before now
 
 -- ---- a link that was opened, and closed behind the clock and the posts
 
-module _ (stream : Stream) (arguments : FeedArguments) (left : Option (List Letter)) (before clocked now : Told) (link_opened : OpenedLink (before.live.wire arguments.link) left) (clock_live : clocked.live ≡ record before.live { made = clocked.live.made }) (clock_counted : clocked.live.made ≡ option_map raised before.live.made) (clock_counts : clocked.faults ≡ before.faults) (link_opens : Opens (OfLink arguments.link ∷ []) 1 before clocked) (posts : List PostSeen) (tried closed : Told) (later : Option (List Letter)) (missed : ℕ)
-    (closes : ClosesTo posts tried closed) (link_closed : ClosesLink arguments.link later missed closed now) where
+module _ (stream : Stream) (arguments : FeedArguments) (left : Option (List Letter)) (before linked clocked now : Told) (link_opened : OpenedLink (before.live.wire arguments.link) left) (link_live : linked.live ≡ before.live) (link_counts : linked.faults ≡ before.faults) (link_opens : Opens (OfLink arguments.link ∷ []) 1 before linked) (ticking : Option Ticking) (makes : MakesClock linked clocked)
+    (posts : List PostSeen) (tried closed : Told) (later : Option (List Letter)) (missed : ℕ) (posts_closed : ClosesPosts posts tried closed) (link_closed : ClosesLink arguments.link later missed closed now) where
+  closes : ClosesTo posts tried closed
+  closes = closes_to posts tried closed posts_closed
+
+  clock_counts : clocked.faults ≡ before.faults
+  clock_counts = ap (λ (t : Told). t.faults) makes.same ∙ link_counts
+
+  opens_at_first : (opening : ℕ) → OpensAt opening (clock_told linked.live.readings linked.live.made) ticking → OpensAt opening (clock_told before.live.readings before.live.made) ticking
+  opens_at_first opening opens = subst (λ (l : Live). OpensAt opening (clock_told l.readings l.made) ticking) link_live opens
+
   -- the link and so many posts were asked to be opened, and nothing else was
   all_opens : (n : ℕ) → Opens (map OfPost arguments.posts) n clocked tried → Opens (live_files arguments) (suc n) before now
   all_opens n opens =
-      opens_then (OfLink arguments.link) (map OfPost arguments.posts) n before clocked now link_opens
+      opens_then (OfLink arguments.link) (map OfPost arguments.posts) n before clocked now (clock_opens before linked clocked makes (OfLink arguments.link ∷ []) 1 link_opens)
       (opens_still (map OfPost arguments.posts) n clocked tried now opens (link_closed.asked ∙ closes.asked) (λ name. link_closed.pages name ∙ closes.pages name) (λ name. link_closed.lefts name ∙ closes.lefts name))
 
   -- what is told of links, posts and clocks is as before the posts were opened, and but for the clock as at first
   module _ (same : tried.live ≡ clocked.live) where
     at_first : tried.live ≡ record before.live { made = clocked.live.made }
-    at_first = same ∙ clock_live
+    at_first = same ∙ clock_alone before linked clocked makes link_live
 
     all_touches : ((name : List ℕ) → IsNoneOf name arguments.posts → IsNoneOf name (map post_name posts)) → TouchesLive arguments.link arguments.posts before.live now.live
     all_touches none_of = record {
@@ -127,7 +137,7 @@ module _ (stream : Stream) (arguments : FeedArguments) (left : Option (List Lett
     }
 
     all_made : now.live.made ≡ option_map raised before.live.made
-    all_made = link_closed.clocks.1 ∙ closes.clocks.1 ∙ ap (λ (l : Live). l.made) same ∙ clock_counted
+    all_made = link_closed.clocks.1 ∙ closes.clocks.1 ∙ ap (λ (l : Live). l.made) same ∙ clock_made before linked clocked makes link_live
 
   -- ---- nothing was taken from the link
 
@@ -142,7 +152,7 @@ module _ (stream : Stream) (arguments : FeedArguments) (left : Option (List Lett
 
   -- ---- the stream was over
 
-  module _ (ticking : Option Ticking) (opening : ℕ) (opens_at : OpensAt opening (clock_told before.live.readings before.live.made) ticking) (over : has_ended stream opening ≡ true) (none : posts ≡ []) (same : tried ≡ clocked) (unheard : (later ≡ left) × (missed ≡ 0)) where
+  module _ (opening : ℕ) (opens_at : OpensAt opening (clock_told before.live.readings before.live.made) ticking) (over : has_ended stream opening ≡ true) (none : posts ≡ []) (same : tried ≡ clocked) (unheard : (later ≡ left) × (missed ≡ 0)) where
     over_fresh : AreFresh posts
     over_fresh = subst AreFresh (sym none) tt
 
@@ -180,84 +190,83 @@ module _ (stream : Stream) (arguments : FeedArguments) (left : Option (List Lett
 
   -- ---- the opening of a post was refused
 
-  module _ (posts_closed : ClosesPosts posts tried closed) (came : Came) (refuses : Refuses arguments.posts left later 0 missed clocked tried posts came) where
-    refused_to : OpensTo arguments.posts posts clocked tried (Err refuses.fault)
-    refused_to = opens_new arguments.posts clocked tried posts (Err refuses.fault) refuses.opens
+  module _ (fault : Fault) (posts_open : OpensPosts arguments.posts clocked tried [] posts (Err fault)) (unheard : (later ≡ left) × (missed ≡ 0)) where
+    refused_to : OpensTo arguments.posts posts clocked tried (Err fault)
+    refused_to = opens_new arguments.posts clocked tried posts (Err fault) posts_open
 
     refused_unsent : (name : List ℕ) → (now.live.mail name ≡ before.live.mail name) ⊎ IsUnsent (now.live.mail name)
     refused_unsent name =
         unsent_on before.live now.live closed.live name (link_closed.mails name)
         (subst (λ (l : Live). (closed.live.mail name ≡ l.mail name) ⊎ IsUnsent (closed.live.mail name)) (at_first refused_to.live) (fresh_mails posts tried closed refused_to.fresh posts_closed name))
 
-    fed_refused : FeedsFiles stream arguments before now came
+    fed_refused : FeedsFiles stream arguments before now (Failed fault)
     fed_refused =
-        let fault = refuses.fault in
         let not_all = refused_to.refused fault refl in
-        let counts = causes_then before.faults clocked.faults tried.faults clock_counts (not_all_counts {hidden = (Failed fault ≡ Failed faults.Read) × AnyFailed (live_files arguments) now} fault clocked tried not_all) in
-        subst (λ (c : Came). FeedsFiles stream arguments before now c) (sym refuses.came_is) (record {
+        let hidden = (Failed fault ≡ Failed faults.Read) × AnyFailed (live_files arguments) now in
+        let counts = causes_then before.faults clocked.faults tried.faults clock_counts (not_all_counts {hidden = hidden} fault clocked tried not_all) in
+        record {
           opened = suc refused_to.opened;
           opens = all_opens refused_to.opened refused_to.opens;
-          touches = all_touches refused_to.live (λ name none. none_of_opened name arguments.posts posts clocked tried (Err refuses.fault) refused_to none);
+          touches = all_touches refused_to.live (λ name none. none_of_opened name arguments.posts posts clocked tried (Err fault) refused_to none);
           does = inl (record {
-            unheard = inr (all_unheard refuses.same);
+            unheard = inr (all_unheard unheard);
             unsent = refused_unsent;
             made = inr (all_made refused_to.live);
             cause = came_cause fault not_all.cause;
           });
-          counts = subst (λ (f : Faults). HasCausesBeside ((Failed fault ≡ Failed faults.Read) × AnyFailed (live_files arguments) now) before.faults f (Failed fault ≡ Failed faults.Read) (Failed fault ≡ Failed faults.Write) (Failed fault ≡ Failed faults.Open)) (sym (all_faults refuses.same refused_to.fresh)) counts;
-        })
+          counts = subst (λ (f : Faults). HasCausesBeside hidden before.faults f (Failed fault ≡ Failed faults.Read) (Failed fault ≡ Failed faults.Write) (Failed fault ≡ Failed faults.Open)) (sym (all_faults unheard refused_to.fresh)) counts;
+        }
 
   -- ---- all were opened
 
-  module _ (some : 1 ≤ length arguments.posts) (distinct : AreDistinct arguments.posts) (came : Came) (opening : ℕ) (ticking : Option Ticking) (opens_at : OpensAt opening (clock_told before.live.readings before.live.made) ticking) (lasts : has_ended stream opening ≡ false) (open_feeds : FeedsOpen stream opening ticking arguments.posts left later 0 missed clocked tried posts came) where
-    fed_to : OpensTo arguments.posts open_feeds.fresh clocked tried (Ok tt)
-    fed_to = opens_new arguments.posts clocked tried open_feeds.fresh (Ok tt) open_feeds.opens
+  module _ (some : 1 ≤ length arguments.posts) (distinct : AreDistinct arguments.posts) (opening : ℕ) (opens_at : OpensAt opening (clock_told before.live.readings before.live.made) ticking) (lasts : has_ended stream opening ≡ false) (fresh : List PostSeen) (posts_open : OpensPosts arguments.posts clocked tried [] fresh (Ok tt)) (end : FeedEnd) (fed : FeedsPosts stream opening end left later ticking fresh posts) (link_read : HasCause 0 missed (end.link_failed ≡ true)) where
+    fed_to : OpensTo arguments.posts fresh clocked tried (Ok tt)
+    fed_to = opens_new arguments.posts clocked tried fresh (Ok tt) posts_open
 
     fed_names : map post_name posts ≡ arguments.posts
     fed_names =
-        let feeds = open_feeds.fed.feeds in
-        names_kept (datagrams_of stream feeds.made.log) open_feeds.fresh posts feeds.failed feeds.posts_are ∙ (fed_to.whole refl).names_are
+        let feeds = fed.feeds in
+        names_kept (datagrams_of stream feeds.made.log) fresh posts feeds.failed feeds.posts_are ∙ (fed_to.whole refl).names_are
 
     fed_mails : HasMails posts now
     fed_mails = mails_same posts closed now link_closed.mails (closes.mails (subst AreDistinct (sym fed_names) distinct))
 
-    fed_posts : SendPosts (datagrams_of stream open_feeds.fed.feeds.made.log) arguments.posts now.live open_feeds.fed.feeds.failed
+    fed_posts : SendPosts (datagrams_of stream fed.feeds.made.log) arguments.posts now.live fed.feeds.failed
     fed_posts =
-        let feeds = open_feeds.fed.feeds in
+        let feeds = fed.feeds in
         subst (λ (ns : List (List ℕ)). SendPosts (datagrams_of stream feeds.made.log) ns now.live feeds.failed) fed_names
-        (sends_posts (datagrams_of stream feeds.made.log) open_feeds.fresh posts feeds.failed now fed_to.fresh fed_mails feeds.posts_are)
+        (sends_posts (datagrams_of stream feeds.made.log) fresh posts feeds.failed now fed_to.fresh fed_mails feeds.posts_are)
 
-    fed_clock : let feeds = open_feeds.fed.feeds in ReadWhere (opens_at.unread ++ opening ∷ feeds.early ++ feeds.begun ∷ map reading_of (events_of feeds.heard feeds.rests)) before.live.readings before.live.made
+    fed_clock : let feeds = fed.feeds in ReadWhere (opens_at.unread ++ opening ∷ feeds.early ++ feeds.begun ∷ map reading_of (events_of feeds.heard feeds.rests)) before.live.readings before.live.made
     fed_clock =
-        let feeds = open_feeds.fed.feeds in
+        let feeds = fed.feeds in
         let later : List ℕ = feeds.begun ∷ map reading_of (events_of feeds.heard feeds.rests) in
-        read_where (opens_at.unread ++ opening ∷ feeds.early ++ later) before.live.readings before.live.made open_feeds.fed.after
-        (gives_all opens_at.unread opening feeds.early later (clock_told before.live.readings before.live.made) ticking open_feeds.fed.after opens_at.gives feeds.gives)
+        read_where (opens_at.unread ++ opening ∷ feeds.early ++ later) before.live.readings before.live.made fed.after
+        (gives_all opens_at.unread opening feeds.early later (clock_told before.live.readings before.live.made) ticking fed.after opens_at.gives feeds.gives)
 
-    fed_link : LeftWhere (map letter_of open_feeds.fed.feeds.heard) (before.live.wire arguments.link) (now.live.left arguments.link)
+    fed_link : LeftWhere (map letter_of fed.feeds.heard) (before.live.wire arguments.link) (now.live.left arguments.link)
     fed_link =
-        let taken = map letter_of open_feeds.fed.feeds.heard in
+        let taken = map letter_of fed.feeds.heard in
         subst (λ (r : Option Remainder). LeftWhere taken (before.live.wire arguments.link) r) (sym link_closed.own)
-        (left_where taken (before.live.wire arguments.link) left later missed link_opened open_feeds.fed.feeds.left_is)
+        (left_where taken (before.live.wire arguments.link) left later missed link_opened fed.feeds.left_is)
 
-    fed_some : 1 ≤ length open_feeds.fed.feeds.failed
+    fed_some : 1 ≤ length fed.feeds.failed
     fed_some =
-        let feeds = open_feeds.fed.feeds in
+        let feeds = fed.feeds in
         let size : length feeds.failed ≡ length arguments.posts =
-        each_told (datagrams_of stream feeds.made.log) open_feeds.fresh posts feeds.failed feeds.posts_are
+        each_told (datagrams_of stream feeds.made.log) fresh posts feeds.failed feeds.posts_are
         ∙ sym (length-map posts post_name) ∙ ap (λ (ns : List (List ℕ)). length ns) fed_names in
         subst (λ (n : ℕ). 1 ≤ n) (sym size) some
 
-    fed_ends : EndsAs stream (now.live.left arguments.link) open_feeds.fed.feeds.made open_feeds.fed.feeds.failed (came_with open_feeds.end)
+    fed_ends : EndsAs stream (now.live.left arguments.link) fed.feeds.made fed.feeds.failed (came_with end)
     fed_ends =
-        let feeds = open_feeds.fed.feeds in
-        let end = open_feeds.end in
+        let feeds = fed.feeds in
         subst (λ (r : Option Remainder). EndsAs stream r feeds.made feeds.failed (came_with end)) (sym link_closed.own)
-        (ends_by stream end.link_failed end.post_failed end.counts feeds.made feeds.failed later missed open_feeds.read fed_some feeds.told feeds.ended feeds.counts feeds.some_failed)
+        (ends_by stream end.link_failed end.post_failed end.counts feeds.made feeds.failed later missed link_read fed_some feeds.told feeds.ended feeds.counts feeds.some_failed)
 
-    fed_feeds : FeedsLink arguments stream before.live now.live (came_with open_feeds.end)
+    fed_feeds : FeedsLink arguments stream before.live now.live (came_with end)
     fed_feeds =
-        let feeds = open_feeds.fed.feeds in
+        let feeds = fed.feeds in
         record {
           unread = opens_at.unread;
           opening = opening;
@@ -284,24 +293,21 @@ module _ (stream : Stream) (arguments : FeedArguments) (left : Option (List Lett
     fed_faults : tried.faults ≡ before.faults
     fed_faults = (fed_to.whole refl).counts ∙ clock_counts
 
-    fed_faulty : AnyFaulty posts → (came_with open_feeds.end ≡ Failed faults.Read) ⊎ (came_with open_feeds.end ≡ Failed faults.Write)
+    fed_faulty : AnyFaulty posts → (came_with end ≡ Failed faults.Read) ⊎ (came_with end ≡ Failed faults.Write)
     fed_faulty faulty =
-        let feeds = open_feeds.fed.feeds in
-        let end = open_feeds.end in
+        let feeds = fed.feeds in
         failed_either end.link_failed end.post_failed end.counts
-        (feeds.some_failed ∙ faulty_marked (datagrams_of stream feeds.made.log) open_feeds.fresh posts feeds.failed fed_to.fresh feeds.posts_are faulty)
+        (feeds.some_failed ∙ faulty_marked (datagrams_of stream feeds.made.log) fresh posts feeds.failed fed_to.fresh feeds.posts_are faulty)
 
-    fed_failed : came_with open_feeds.end ≡ Failed faults.Write → AnyFaulty posts
+    fed_failed : came_with end ≡ Failed faults.Write → AnyFaulty posts
     fed_failed e =
-        let feeds = open_feeds.fed.feeds in
-        let end = open_feeds.end in
-        marked_faulty (datagrams_of stream feeds.made.log) open_feeds.fresh posts feeds.failed fed_to.fresh feeds.posts_are (sym feeds.some_failed ∙ write_failed end.link_failed end.post_failed end.counts e)
+        let feeds = fed.feeds in
+        marked_faulty (datagrams_of stream feeds.made.log) fresh posts feeds.failed fed_to.fresh feeds.posts_are (sym feeds.some_failed ∙ write_failed end.link_failed end.post_failed end.counts e)
 
     -- the count of reads rose where the link failed, and that of writes where a post did
-    fed_causes : HasCausesBeside ((came_with open_feeds.end ≡ Failed faults.Read) × AnyFailed (live_files arguments) now) tried.faults now.faults (came_with open_feeds.end ≡ Failed faults.Read) (came_with open_feeds.end ≡ Failed faults.Write) (came_with open_feeds.end ≡ Failed faults.Open)
+    fed_causes : HasCausesBeside ((came_with end ≡ Failed faults.Read) × AnyFailed (live_files arguments) now) tried.faults now.faults (came_with end ≡ Failed faults.Read) (came_with end ≡ Failed faults.Write) (came_with end ≡ Failed faults.Open)
     fed_causes =
-        let end = open_feeds.end in
-        let source = causes_source {read = came_with end ≡ Failed faults.Read} {write = ⊥} {opening = ⊥} closed.faults now.faults missed link_closed.counts open_feeds.read
+        let source = causes_source {read = came_with end ≡ Failed faults.Read} {write = ⊥} {opening = ⊥} closed.faults now.faults missed link_closed.counts link_read
         (λ e. read_end end.link_failed end.post_failed end.counts e) (λ e. end_read end.link_failed end.post_failed end.counts e) (λ never. never) (λ never. never) in
         let writes : now.faults.writes ≡ closed.faults.writes = ap (λ (f : Faults). f.writes) link_closed.counts in
         let openings : now.faults.openings ≡ tried.faults.openings = ap (λ (f : Faults). f.openings) link_closed.counts ∙ closes.openings in
@@ -320,59 +326,37 @@ module _ (stream : Stream) (arguments : FeedArguments) (left : Option (List Lett
           openings = cause_none tried.faults.openings now.faults.openings openings (λ e. no_open end.link_failed end.post_failed end.counts e);
         }
 
-    fed_all : FeedsFiles stream arguments before now came
+    fed_all : FeedsFiles stream arguments before now (came_with end)
     fed_all =
-        subst (λ (c : Came). FeedsFiles stream arguments before now c) (sym open_feeds.came_is) (record {
+        record {
           opened = suc fed_to.opened;
           opens = all_opens fed_to.opened fed_to.opens;
           touches = all_touches fed_to.live (λ name none. subst (λ (ns : List (List ℕ)). IsNoneOf name ns) (sym fed_names) none);
           does = inr (inr (let all = (fed_to.whole refl).all in omega (arith, all), fed_feeds));
           counts = causes_then before.faults tried.faults now.faults fed_faults fed_causes;
-        })
+        }
 
-  -- ---- the posts were opened, or one was refused
-
-  fed_posts_tried : ClosesPosts posts tried closed → 1 ≤ length arguments.posts → AreDistinct arguments.posts → (came : Came) (opening : ℕ) (ticking : Option Ticking) → OpensAt opening (clock_told before.live.readings before.live.made) ticking → has_ended stream opening ≡ false → OpensAndFeeds stream opening ticking arguments.posts left later 0 missed clocked tried posts came → FeedsFiles stream arguments before now came
-  fed_posts_tried posts_closed some distinct came opening ticking opens_at lasts (inl refuses) = fed_refused posts_closed came refuses
-  fed_posts_tried posts_closed some distinct came opening ticking opens_at lasts (inr open_feeds) = fed_all some distinct came opening ticking opens_at lasts open_feeds
-
--- ---- the opening of the feed
-
-module _ (stream : Stream) (arguments : FeedArguments) (left : Option (List Letter)) (before linked clocked now : Told) (link_opened : OpenedLink (before.live.wire arguments.link) left) (link_live : linked.live ≡ before.live) (link_counts : linked.faults ≡ before.faults) (link_opens : Opens (OfLink arguments.link ∷ []) 1 before linked) (posts : List PostSeen) (tried closed : Told) (later : Option (List Letter)) (missed : ℕ)
-    (posts_closed : ClosesPosts posts tried closed) (link_closed : ClosesLink arguments.link later missed closed now) (ticking : Option Ticking) (makes : MakesClock linked clocked) where
-  opened_alone : clocked.live ≡ record before.live { made = clocked.live.made }
-  opened_alone = clock_alone before linked clocked makes link_live
-
-  opened_made : clocked.live.made ≡ option_map raised before.live.made
-  opened_made = clock_made before linked clocked makes link_live
-
-  opened_counts : clocked.faults ≡ before.faults
-  opened_counts = ap (λ (t : Told). t.faults) makes.same ∙ link_counts
-
-  opened_opens : Opens (OfLink arguments.link ∷ []) 1 before clocked
-  opened_opens = clock_opens before linked clocked makes (OfLink arguments.link ∷ []) 1 link_opens
-
-  opened_at : (opening : ℕ) → OpensAt opening (clock_told linked.live.readings linked.live.made) ticking → OpensAt opening (clock_told before.live.readings before.live.made) ticking
-  opened_at opening opens_at = subst (λ (l : Live). OpensAt opening (clock_told l.readings l.made) ticking) link_live opens_at
-
-  opened_over : (opening : ℕ) → OpensAt opening (clock_told linked.live.readings linked.live.made) ticking → has_ended stream opening ≡ true → posts ≡ [] → tried ≡ clocked → (later ≡ left) × (missed ≡ 0) → FeedsFiles stream arguments before now stream_over
-  opened_over opening opens_at over none same unheard =
-      fed_over stream arguments left before clocked now link_opened opened_alone opened_made opened_counts opened_opens posts tried closed later missed (closes_to posts tried closed posts_closed) link_closed ticking opening (opened_at opening opens_at) over none same unheard
-
-  opened_goes : 1 ≤ length arguments.posts → AreDistinct arguments.posts → (came : Came) (opening : ℕ) → OpensAt opening (clock_told linked.live.readings linked.live.made) ticking → has_ended stream opening ≡ false → OpensAndFeeds stream opening ticking arguments.posts left later 0 missed clocked tried posts came → FeedsFiles stream arguments before now came
-  opened_goes some distinct came opening opens_at lasts goes =
-      fed_posts_tried stream arguments left before clocked now link_opened opened_alone opened_made opened_counts opened_opens posts tried closed later missed (closes_to posts tried closed posts_closed) link_closed posts_closed some distinct came opening ticking (opened_at opening opens_at) lasts goes
+-- ---- what was tried, and closed
 
 fed_tried : (stream : Stream) (arguments : FeedArguments) (left : Option (List Letter)) (before linked now : Told) (link_opened : OpenedLink (before.live.wire arguments.link) left) (link_live : linked.live ≡ before.live) (link_counts : linked.faults ≡ before.faults) (link_opens : Opens (OfLink arguments.link ∷ []) 1 before linked) (posts : List PostSeen) (tried closed : Told) (later : Option (List Letter)) (missed : ℕ)
     (posts_closed : ClosesPosts posts tried closed) (link_closed : ClosesLink arguments.link later missed closed now) (some : 1 ≤ length arguments.posts) (distinct : AreDistinct arguments.posts) (came : Came) → TriesToFeed stream arguments.posts left later 0 missed linked tried posts came → FeedsFiles stream arguments before now came
-fed_tried stream arguments left before linked now link_opened link_live link_counts link_opens posts tried closed later missed posts_closed link_closed some distinct came (inl ends) =
+fed_tried stream arguments left before linked now link_opened link_live link_counts link_opens posts tried closed later missed posts_closed link_closed some distinct came (inl (inl ends, left_is, missed_is)) =
     let opens = ends.opens.opens in
+    let makes = ends.opens.makes in
+    let at = opens_at_first stream arguments left before linked tried now link_opened link_live link_counts link_opens ends.ticking makes posts tried closed later missed posts_closed link_closed opens.0 opens.1 in
     subst (λ (c : Came). FeedsFiles stream arguments before now c) (sym ends.came_is)
-    (opened_over stream arguments left before linked tried now link_opened link_live link_counts link_opens posts tried closed later missed posts_closed link_closed ends.ticking ends.opens.makes opens.0 opens.1 opens.2 ends.none refl ends.same)
-fed_tried stream arguments left before linked now link_opened link_live link_counts link_opens posts tried closed later missed posts_closed link_closed some distinct came (inr goes) =
-    let opens = goes.opens.opens in
-    opened_goes stream arguments left before linked goes.clocked now link_opened link_live link_counts link_opens posts tried closed later missed posts_closed link_closed goes.ticking goes.opens.makes some distinct came goes.feed.opening opens.0 opens.1
-    (subst (λ (s : Stream). OpensAndFeeds s goes.feed.opening goes.ticking arguments.posts left later 0 missed goes.clocked tried posts came) opens.2 goes.goes)
+    (fed_over stream arguments left before linked tried now link_opened link_live link_counts link_opens ends.ticking makes posts tried closed later missed posts_closed link_closed opens.0 at opens.2 ends.none refl (left_is, missed_is))
+fed_tried stream arguments left before linked now link_opened link_live link_counts link_opens posts tried closed later missed posts_closed link_closed some distinct came (inl (inr refuses, left_is, missed_is)) =
+    subst (λ (c : Came). FeedsFiles stream arguments before now c) (sym refuses.came_is)
+    (fed_refused stream arguments left before linked refuses.opens.clocked now link_opened link_live link_counts link_opens refuses.ticking refuses.opens.opens.makes posts tried closed later missed posts_closed link_closed refuses.fault refuses.opens.posts_open (left_is, missed_is))
+fed_tried stream arguments left before linked now link_opened link_live link_counts link_opens posts tried closed later missed posts_closed link_closed some distinct came (inr feeds) =
+    let opens = feeds.opens.opens.opens in
+    let makes = feeds.opens.opens.makes in
+    let opening = feeds.feed.opening in
+    let at = opens_at_first stream arguments left before linked feeds.opens.clocked now link_opened link_live link_counts link_opens feeds.ticking makes posts tried closed later missed posts_closed link_closed opening opens.0 in
+    subst (λ (c : Came). FeedsFiles stream arguments before now c) (sym feeds.came_is)
+    (fed_all stream arguments left before linked feeds.opens.clocked now link_opened link_live link_counts link_opens feeds.ticking makes posts tried closed later missed posts_closed link_closed some distinct opening at opens.1 feeds.fresh feeds.opens.posts_open feeds.end
+    (subst (λ (s : Stream). FeedsPosts s opening feeds.end left later feeds.ticking feeds.fresh posts) opens.2 feeds.fed) feeds.read)
 
 -- the link was opened, what follows was tried, and all was closed
 pub fed_linked : {A : Type 0} (stream : Stream) (arguments : FeedArguments) (words : List (List ℕ)) (it : A) (name : List ℕ) (names : List (List ℕ)) (left : Option (List Letter)) (before linked now : Told) (came : Came) → IsFeedForm arguments words → name ≡ arguments.link → names ≡ arguments.posts → OpenedLink (before.live.wire arguments.link) left → OpensLink {A = A} arguments.link (Ok it) before linked → RunsLinked stream names name left linked now came → FeedsFiles stream arguments before now came

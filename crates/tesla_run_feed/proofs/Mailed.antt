@@ -6,10 +6,10 @@ use Rattle.tesla_desk.specs.Live.{Mail, mail_of}
 use Rattle.tesla_desk.specs.Outside.{Told}
 use Rattle.tesla_feed.specs.Feed as fed
 use Rattle.tesla_feed.specs.Feed.{has_failed}
-use Rattle.tesla_posts.specs.Closed.{AnyFaulty, HasMails, HoldsSent}
-use Rattle.tesla_posts.specs.Opened.{AreFresh, post_name}
-use Rattle.tesla_posts.specs.Posts.{PostSeen}
-use Rattle.tesla_posts.proofs.Mails.{failed_is, holds_sent}
+use Rattle.tesla_relay.specs.Closed.{AnyFaulty, HasMails, HoldsSent}
+use Rattle.tesla_relay.specs.Opened.{AreFresh, post_name}
+use Rattle.tesla_relay.specs.Posts.{PostSeen}
+use Rattle.tesla_relay.proofs.Mails.{failed_is, holds_sent}
 use Rattle.tesla_run_feed.specs.Feeding.{SendPosts, SendsPost}
 
 -- ---- one post

@@ -2,7 +2,7 @@
 use Rattle.std.specs.Prelude.{◌≡◌, ℕ, List, [], ◌∷◌, codes, map}
 use Rattle.tesla_desk.specs.Outside.{Opening, OfLink, OfPost, OfSource}
 use Rattle.tesla_front.specs.Words.{IsName}
-use Rattle.tesla_names.specs.Names.{AreNames}
+use Rattle.tesla_front.specs.Names.{AreNames}
 use Rattle.tesla_run_feed.specs.declared.arguments.Arguments.{Arguments}
 
 -- the names of the files of the setup and of the seeds, and those of the link and of the posts

@@ -2,9 +2,6 @@
 use Rattle.std.specs.Prelude.{◌≡◌, ◌≢◌, ◌⊎◌, ℕ, ◌+◌, Bool, true, false, List, [], ◌∷◌, ◌++◌, length, map, take, Option, Some, None}
 use Rattle.std.specs.List.{AllByRecursion, list_all, list_any}
 use Rattle.std.specs.Option.{option_map}
-use Rattle.tesla_base.specs.declared.names.Key.{Key}
-use Rattle.tesla_commit.specs.Parts.{Parts}
-use Rattle.tesla_convert.specs.Meaning.{StopsAtSetup}
 use Rattle.tesla_desk.specs.Faults.{raised}
 use Rattle.tesla_desk.specs.Live.{Live, Remainder, LeavesAll, Mail}
 use Rattle.tesla_feed.specs.Fed.{Feeding, counts_of, datagrams_of, fed, first_interval, has_begun, has_ended, is_all_told, is_unread, reading_of}
@@ -12,16 +9,15 @@ use Rattle.tesla_feed.specs.Feed.{AreNeeded, Heard, came_of, events_of, has_fail
 use Rattle.tesla_front.specs.Came.{Came, Done, Failed}
 use Rattle.tesla_front.specs.Command.{Command}
 use Rattle.tesla_front.specs.Openings.{File}
-use Rattle.tesla_front.specs.Setup.{IsSetupIn}
 use Rattle.tesla_front.specs.declared.fault.Fault.TheVariants as faults
-use Rattle.tesla_names.specs.Names.{IsNoneOf}
-use Rattle.tesla_posts.specs.Clocks.{ReadWhere}
-use Rattle.tesla_posts.specs.Closed.{HoldsSent, IsUnsent}
-use Rattle.tesla_posts.specs.Counts.{IsSentCount}
-use Rattle.tesla_posts.specs.Links.{HasBroken, HasEnded, LeftWhere}
+use Rattle.tesla_front.specs.Names.{IsNoneOf}
+use Rattle.tesla_relay.specs.Clocks.{ReadWhere}
+use Rattle.tesla_relay.specs.Closed.{HoldsSent, IsUnsent}
+use Rattle.tesla_relay.specs.Counts.{IsSentCount}
+use Rattle.tesla_relay.specs.Links.{HasBroken, HasEnded, LeftWhere}
 use Rattle.tesla_run_feed.specs.Arguments.{FeedArguments, IsFeedForm, files_of_feed}
 use Rattle.tesla_run_feed.specs.Lines.{lines_of, stream_over}
-use Rattle.tesla_run_send.specs.Send.{AreSeeds, StopsAtSeeds, wrong_line}
+use Rattle.tesla_run_send.specs.Sender.{IsStreamIn, LacksSender}
 use Rattle.tesla_sender.specs.Made.{Stream}
 
 -- ---- nothing was fed
@@ -122,18 +118,11 @@ FeedsOrStops arguments stream opened before now came =
 
 -- ---- the command
 
--- with the seeds, which are right
-pub record FeedsWith (arguments : FeedArguments) (setup : Parts) (secret : File) (before now : Live) (opened : ℕ) (came : Came) : Type 0 where
-  pub seeds : List Key
-  pub are : AreSeeds setup secret.page seeds
-  pub right : wrong_line (record { setup = setup; seeds = seeds }) ≡ None
-  pub does : FeedsOrStops arguments (record { setup = setup; seeds = seeds }) opened before now came
-
--- a setup was found, and under it there were no seeds or no sender with them, or what follows was done
-pub record FeedsUnder (arguments : FeedArguments) (setup secret : File) (before now : Live) (opened : ℕ) (came : Came) : Type 0 where
-  pub parts : Parts
-  pub found : IsSetupIn setup.page parts
-  pub does : (StopsAtSeeds parts secret opened came × (now ≡ before)) ⊎ FeedsWith arguments parts secret before now opened came
+-- the link was fed by the sender of a setup and seeds, or nothing was
+pub record FeedsWith (arguments : FeedArguments) (setup secret : File) (before now : Live) (opened : ℕ) (came : Came) : Type 0 where
+  pub stream : Stream
+  pub is : IsStreamIn setup secret stream
+  pub does : FeedsOrStops arguments stream opened before now came
 
 -- what is told of links, posts and clocks is as before, but for what is left of this link, the mail of these posts and how many clocks were made
 pub record TouchesLive (link : List ℕ) (posts : List (List ℕ)) (before now : Live) : Type 0 where
@@ -142,11 +131,11 @@ pub record TouchesLive (link : List ℕ) (posts : List (List ℕ)) (before now :
   pub mails : (name : List ℕ) → IsNoneOf name posts → now.mail name ≡ before.mail name
   pub readings : now.readings ≡ before.readings
 
--- what the run does, told the files in the order of the words: there is no setup, or what follows was done under it
+-- what the run does, told the files in the order of the words: there is no sender, or what follows was done with it
 abbrev pub DoesFeed : Live → Live → FeedArguments → ℕ → List File → List File → Came → Type 0
 DoesFeed before now arguments opened (setup ∷ secret ∷ files) files_now came =
     TouchesLive arguments.link arguments.posts before now
-    × ((StopsAtSetup setup opened came × (now ≡ before)) ⊎ FeedsUnder arguments setup secret before now opened came)
+    × ((LacksSender setup secret opened came × (now ≡ before)) ⊎ FeedsWith arguments setup secret before now opened came)
 DoesFeed before now arguments opened files files_now came = ⊥
 
 -- the command, told what the desk has of links, posts and clocks before and afterwards: its words, its files and what it does

@@ -1,24 +1,22 @@
 -- What the inner steps of the command feed come to.
-use Rattle.std.specs.Prelude.{◌≡◌, ◌⊎◌, ℕ, suc, true, Option, Some, None, List, [], ◌∷◌, Ok, Err}
-use Rattle.tesla_commit.specs.Parts.{Parts}
+use Rattle.std.specs.Prelude.{◌≡◌, ◌⊎◌, ℕ, suc, true, Option, Some, None, List, [], Result, Ok, Err}
 use Rattle.tesla_desk.specs.Clocks.{Ticking}
 use Rattle.tesla_desk.specs.Faults.{Faults, HasCause, HasCausesBeside}
 use Rattle.tesla_desk.specs.Live.{clock_told}
-use Rattle.tesla_desk.specs.Outside.{ClosesLink, MakesClock, OfSource, Told}
+use Rattle.tesla_desk.specs.Outside.{ClosesLink, MakesClock, Told}
 use Rattle.tesla_desk.specs.declared.link.Letter.{Letter}
 use Rattle.tesla_feed.specs.Feed.{Feeds, OpensFeed}
 use Rattle.tesla_feed.specs.declared.feeding.FeedEnd.{FeedEnd}
 use Rattle.tesla_feed.specs.declared.opening.OpenFeed.{OpenFeed}
 use Rattle.tesla_front.specs.Came.{Came, Failed}
-use Rattle.tesla_front.specs.Openings.{AnyFailed, Opens, file_told}
+use Rattle.tesla_front.specs.Openings.{AnyFailed, Opens}
 use Rattle.tesla_front.specs.declared.fault.Fault.{Fault}
 use Rattle.tesla_front.specs.declared.fault.Fault.TheVariants as faults
-use Rattle.tesla_posts.specs.Opening.{ClosesPosts, OpensPosts}
-use Rattle.tesla_posts.specs.Posts.{PostSeen}
+use Rattle.tesla_relay.specs.Opening.{ClosesPosts, OpensPosts}
+use Rattle.tesla_relay.specs.Posts.{PostSeen}
 use Rattle.tesla_run_feed.specs.Arguments.{FeedArguments, live_files}
-use Rattle.tesla_run_feed.specs.Feeding.{FeedsOrStops, FeedsWith, TouchesLive}
+use Rattle.tesla_run_feed.specs.Feeding.{FeedsOrStops, TouchesLive}
 use Rattle.tesla_run_feed.specs.Lines.{came_with, stream_over}
-use Rattle.tesla_run_send.specs.Send.{IsNoSender, StopsAtSeeds, wrong_line}
 use Rattle.tesla_sender.specs.Made.{Stream}
 
 -- ---- the opening
@@ -28,6 +26,31 @@ pub record OpensByClock (stream : Stream) (feed : Option OpenFeed) (ticking : Op
   pub opens : OpensFeed stream feed (clock_told before.live.readings before.live.made) ticking
   pub makes : MakesClock before now
 
+-- a feed was opened so, and then a post under each of the names, until an opening was refused
+pub record OpensFeeding (stream : Stream) (names : List (List ℕ)) (feed : OpenFeed) (ticking : Option Ticking) (posts : List PostSeen) (result : Result (Unit {0}) Fault) (before now : Told) : Type 0 where
+  pub clocked : Told
+  pub opens : OpensByClock stream (Some feed) ticking before clocked
+  pub posts_open : OpensPosts names clocked now [] posts result
+
+-- the stream was over: no post was opened
+pub record StopsOver (stream : Stream) (posts : List PostSeen) (before now : Told) (came : Came) : Type 0 where
+  pub ticking : Option Ticking
+  pub opens : OpensByClock stream None ticking before now
+  pub none : posts ≡ []
+  pub came_is : came ≡ stream_over
+
+-- the opening of a post was refused
+pub record RefusesPost (stream : Stream) (names : List (List ℕ)) (posts : List PostSeen) (before now : Told) (came : Came) : Type 0 where
+  pub feed : OpenFeed
+  pub ticking : Option Ticking
+  pub fault : Fault
+  pub opens : OpensFeeding stream names feed ticking posts (Err fault) before now
+  pub came_is : came ≡ Failed fault
+
+-- not all was opened
+abbrev pub OpensNoFeeding : Stream → List (List ℕ) → List PostSeen → Told → Told → Came → Type 0
+OpensNoFeeding stream names posts before now came = StopsOver stream posts before now came ⊎ RefusesPost stream names posts before now came
+
 -- ---- the link and the posts
 
 -- an open link was fed to open posts, with a clock that told this before
@@ -35,47 +58,21 @@ pub record FeedsPosts (stream : Stream) (opening : ℕ) (end : FeedEnd) (left la
   pub after : Option Ticking
   pub feeds : Feeds stream opening end left later ticking after posts posts_now
 
--- the opening of a post was refused, and the link is as before
-pub record Refuses (names : List (List ℕ)) (left later : Option (List Letter)) (missed missed_now : ℕ) (before now : Told) (posts : List PostSeen) (came : Came) : Type 0 where
-  pub fault : Fault
-  pub opens : OpensPosts names before now [] posts (Err fault)
-  pub same : (later ≡ left) × (missed_now ≡ missed)
-  pub came_is : came ≡ Failed fault
-
--- the posts were opened, and the link was fed to them with a clock that told this
-pub record FeedsOpen (stream : Stream) (opening : ℕ) (ticking : Option Ticking) (names : List (List ℕ)) (left later : Option (List Letter)) (missed missed_now : ℕ) (before now : Told) (posts : List PostSeen) (came : Came) : Type 0 where
+-- all was opened, and the link was fed to the posts
+pub record FeedsOpen (stream : Stream) (names : List (List ℕ)) (left later : Option (List Letter)) (missed missed_now : ℕ) (before now : Told) (posts : List PostSeen) (came : Came) : Type 0 where
+  pub feed : OpenFeed
+  pub ticking : Option Ticking
   pub fresh : List PostSeen
-  pub opens : OpensPosts names before now [] fresh (Ok tt)
+  pub opens : OpensFeeding stream names feed ticking fresh (Ok tt) before now
   pub end : FeedEnd
-  pub fed : FeedsPosts stream opening end left later ticking fresh posts
+  pub fed : FeedsPosts feed.sender.stream feed.opening end left later ticking fresh posts
   pub read : HasCause missed missed_now (end.link_failed ≡ true)
   pub came_is : came ≡ came_with end
 
--- one of both
-abbrev pub OpensAndFeeds : Stream → ℕ → Option Ticking → List (List ℕ) → Option (List Letter) → Option (List Letter) → ℕ → ℕ → Told → Told → List PostSeen → Came → Type 0
-OpensAndFeeds stream opening ticking names left later missed missed_now before now posts came =
-    Refuses names left later missed missed_now before now posts came ⊎ FeedsOpen stream opening ticking names left later missed missed_now before now posts came
-
--- the stream was over: no post was opened, and the link is as before
-pub record StopsOver (stream : Stream) (left later : Option (List Letter)) (missed missed_now : ℕ) (before now : Told) (posts : List PostSeen) (came : Came) : Type 0 where
-  pub ticking : Option Ticking
-  pub opens : OpensByClock stream None ticking before now
-  pub none : posts ≡ []
-  pub same : (later ≡ left) × (missed_now ≡ missed)
-  pub came_is : came ≡ stream_over
-
--- a feed was opened with a clock, and then the posts were opened, or one was refused
-pub record GoesOn (stream : Stream) (names : List (List ℕ)) (left later : Option (List Letter)) (missed missed_now : ℕ) (before now : Told) (posts : List PostSeen) (came : Came) : Type 0 where
-  pub feed : OpenFeed
-  pub ticking : Option Ticking
-  pub clocked : Told
-  pub opens : OpensByClock stream (Some feed) ticking before clocked
-  pub goes : OpensAndFeeds feed.sender.stream feed.opening ticking names left later missed missed_now clocked now posts came
-
--- one of both
+-- that, or not all was opened, and the link is as before
 abbrev pub TriesToFeed : Stream → List (List ℕ) → Option (List Letter) → Option (List Letter) → ℕ → ℕ → Told → Told → List PostSeen → Came → Type 0
 TriesToFeed stream names left later missed missed_now before now posts came =
-    StopsOver stream left later missed missed_now before now posts came ⊎ GoesOn stream names left later missed missed_now before now posts came
+    (OpensNoFeeding stream names posts before now came × (later ≡ left) × (missed_now ≡ missed)) ⊎ FeedsOpen stream names left later missed missed_now before now posts came
 
 -- and then all was closed, the posts first
 pub record RunsLinked (stream : Stream) (names : List (List ℕ)) (link : List ℕ) (left : Option (List Letter)) (old new : Told) (came : Came) : Type 0 where
@@ -102,26 +99,4 @@ pub record FeedsFiles (stream : Stream) (arguments : FeedArguments) (old new : T
   pub opens : Opens (live_files arguments) opened old new
   pub touches : TouchesLive arguments.link arguments.posts old.live new.live
   pub does : FeedsOrStops arguments stream (suc (suc opened)) old.live new.live came
-  pub counts : Counts arguments old.faults new came
-
--- no sender of the stream was opened, and nothing else was done
-pub record LacksSender (stream : Stream) (opened : ℕ) (old new : Told) (came : Came) : Type 0 where
-  pub none : opened ≡ 0
-  pub why : IsNoSender stream came
-  pub same : new ≡ old
-
--- with seeds that were found no sender was opened; or they are right, and the link was fed to the posts
-pub record FeedsSeeded (stream : Stream) (arguments : FeedArguments) (old new : Told) (came : Came) : Type 0 where
-  pub opened : ℕ
-  pub opens : Opens (live_files arguments) opened old new
-  pub touches : TouchesLive arguments.link arguments.posts old.live new.live
-  pub does : LacksSender stream opened old new came ⊎ ((wrong_line stream ≡ None) × FeedsOrStops arguments stream (suc (suc opened)) old.live new.live came)
-  pub counts : Counts arguments old.faults new came
-
--- under a setup that was found and was opened before
-pub record FeedsSetup (arguments : FeedArguments) (setup : Parts) (old new : Told) (came : Came) : Type 0 where
-  pub opened : ℕ
-  pub opens : Opens (OfSource arguments.secret ∷ live_files arguments) opened old new
-  pub touches : TouchesLive arguments.link arguments.posts old.live new.live
-  pub does : (StopsAtSeeds setup (file_told old arguments.secret) (suc opened) came × (new.live ≡ old.live)) ⊎ FeedsWith arguments setup (file_told old arguments.secret) old.live new.live (suc opened) came
   pub counts : Counts arguments old.faults new came

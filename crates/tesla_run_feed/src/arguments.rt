@@ -1,6 +1,6 @@
 //! What the words of the command `feed` ask for.
 
-use tesla_names::Names;
+use tesla_front::Names;
 
 /// What the words `feed SETUP SECRET LINK POSTS` ask for.
 #[derive(Drop)]

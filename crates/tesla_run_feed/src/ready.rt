@@ -1,18 +1,22 @@
 //! A feed that was opened, and what it runs with.
 
-ghost use Rattle.std.specs.Prelude.{◌≡◌, ◌≤◌, [], IfSome, List, None, Option, Some, false, length, map, true};
-ghost use Rattle.tesla_desk.specs.Clocks.{Ticking};
+ghost use Rattle.std.specs.Prelude.{◌≡◌, ◌<◌, ◌≤◌, [], IfErr, IfOk, List, Ok, false, length, map, true, vec_capacity};
 ghost use Rattle.tesla_desk.specs.Faults.{HasCause};
-ghost use Rattle.tesla_posts.specs.Posts.{PostSeen};
+ghost use Rattle.tesla_front.specs.Came.{stop_came};
+ghost use Rattle.tesla_relay.specs.Opening.{name_of};
+ghost use Rattle.tesla_relay.specs.Posts.{PostSeen};
 ghost use Rattle.tesla_sender.specs.Stands.{Stands};
 ghost use Rattle.tesla_feed.specs.Fed.{has_ended};
-ghost use Rattle.tesla_run_feed.specs.Steps.{FeedsPosts, OpensByClock};
+ghost use Rattle.tesla_run_feed.specs.Steps.{FeedsPosts, OpensFeeding, OpensNoFeeding};
 
+use crate::lines::stream_over;
 use std::sync::Wait;
-use std::sync::ledger::Ledger;
+use std::sync::ledger::{Blank, Ledger};
 use tesla_base::Steps;
 use tesla_desk::{Clock, Desk, Gate, Link, Post};
 use tesla_feed::{FeedEnd, OpenFeed, feed, open_feed};
+use tesla_front::Stop;
+use tesla_relay::open_posts;
 use tesla_sender::Sender;
 
 /// A feed that was opened, with the clock and the gate that it goes on with.
@@ -23,49 +27,66 @@ pub struct ReadyFeed<C, G> {
     pub gate: G,
 }
 
-/// Opens a feed of the sender with the next clock and a gate. `None` where the stream is over by then.
-pub fn open_with_clock<R: Wait, D: Desk>(
+/// Opens a feed of the sender with the next clock and a gate, and then a post under each of the names. The posts that are
+/// there afterwards were opened, and the caller closes them.
+///
+/// `Refused` where the stream is over by that clock: no post was opened. `Failed` with `Open` or `NoMemory` where the
+/// opening of a post was refused.
+pub fn open_ready<R: Wait, D: Desk>(
     rt: &R,
     sender: Sender,
+    names: &[&str],
     desk: &mut D,
-) -> Option<ReadyFeed<D::Time, D::Pause>>
-    requires { Stands sender [] }
-    ensures ready { IfSome result (λ ready. OpensByClock sender.stream (Some ready.opened) (D.Time.told ready.clock) (D.told desk.old) (D.told desk.new)) }
-    ensures over { result ≡ None → (ticking : Option Ticking) × OpensByClock sender.stream None ticking (D.told desk.old) (D.told desk.new) }
+    posts: &mut Vec<D::Port>,
+) -> Result<ReadyFeed<D::Time, D::Pause>, Stop>
+    requires sender { Stands sender [] }
+    requires empty { posts.old.items ≡ [] }
+    requires room { length names.now ≤ vec_capacity posts.old }
+    ensures ready { let seen : List D.Port → List PostSeen = λ posts. map (λ post. record { name = D.Port.name post; sent = D.Port.sent post; faults = D.Port.faults post }) posts in
+        IfOk result (λ ready. OpensFeeding sender.stream (map name_of names.now) ready.opened (D.Time.told ready.clock) (seen posts.new.items) (Ok tt) (D.told desk.old) (D.told desk.new)) }
+    ensures lasts { IfOk result (λ ready. Stands ready.opened.sender [] × (has_ended ready.opened.sender.stream ready.opened.opening ≡ false)) }
+    ensures size { IfOk result (λ ready. length posts.new.items ≡ length names.now) }
+    ensures refused { let seen : List D.Port → List PostSeen = λ posts. map (λ post. record { name = D.Port.name post; sent = D.Port.sent post; faults = D.Port.faults post }) posts in
+        IfErr result (λ stop. OpensNoFeeding sender.stream (map name_of names.now) (seen posts.new.items) (D.told desk.old) (D.told desk.new) (stop_came stop)) }
 {
     let mut clock = desk.clock();
     let mut gate = desk.gate();
     let Some(opened) = open_feed(rt, sender, &mut clock, &mut gate) else {
-        return None;
+        return Err(stream_over());
     };
-    Some(ReadyFeed {
+    open_posts(desk, names, posts)?;
+    Ok(ReadyFeed {
         opened,
         clock,
         gate,
     })
 }
 
-/// Feeds an open link to open posts, with the clock and the gate of the feed.
+/// Feeds an open link to open posts, with the clock and the gate of the feed, and with a ledger for the evaluations of HMAC.
 pub fn feed_ready<L: Ledger, R: Wait, K: Link, C: Clock + Drop, P: Post, G: Gate + Drop>(
     rt: &R,
     ready: ReadyFeed<C, G>,
-    steps: &mut Steps<L>,
+    blank: Blank,
     link: &mut K,
     posts: &mut Vec<P>,
 ) -> FeedEnd
+    requires name { blank.name ≡ L.name }
+    requires parts { blank.parts ≡ L.parts }
+    requires some { 0 < L.parts }
     requires fresh { Stands ready.opened.sender [] }
     requires lasts { has_ended ready.opened.sender.stream ready.opened.opening ≡ false }
     requires few { length posts.old.items ≤ 32 }
     ensures feeds { let seen : List P → List PostSeen = λ posts. map (λ post. record { name = P.name post; sent = P.sent post; faults = P.faults post }) posts in
         FeedsPosts ready.opened.sender.stream ready.opened.opening result (K.left link.old) (K.left link.new) (C.told ready.clock) (seen posts.old.items) (seen posts.new.items) }
     ensures cause { HasCause (K.faults link.old) (K.faults link.new) (result.link_failed ≡ true) }
-    ensures name { K.name link.new ≡ K.name link.old }
+    ensures link { K.name link.new ≡ K.name link.old }
 {
     let ReadyFeed {
         opened,
         mut clock,
         mut gate,
     } = ready;
+    let mut steps = Steps::<L>::new(blank);
     feed(
         rt,
         opened,
@@ -73,6 +94,6 @@ pub fn feed_ready<L: Ledger, R: Wait, K: Link, C: Clock + Drop, P: Post, G: Gate
         &mut clock,
         posts.as_mut_slice(),
         &mut gate,
-        steps,
+        &mut steps,
     )
 }

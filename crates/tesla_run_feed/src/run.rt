@@ -1,30 +1,26 @@
 //! A run of the command `feed`.
 
-ghost use Rattle.std.specs.Prelude.{◌≡◌, ◌<◌, ◌≤◌, ℕ, [], List, false, length, map, string_bytes, vec_capacity};
-ghost use Rattle.tesla_feed.specs.Fed.{has_ended};
+ghost use Rattle.std.specs.Prelude.{◌≡◌, ◌≤◌, ℕ, [], List, length, map, string_bytes, vec_capacity};
 ghost use Rattle.tesla_front.specs.Came.{came_of, outcome_came};
 ghost use Rattle.tesla_front.specs.Command.{Performs, RunsAs};
-ghost use Rattle.tesla_posts.specs.Opening.{name_of};
+ghost use Rattle.tesla_relay.specs.Opening.{name_of};
 ghost use Rattle.tesla_sender.specs.Stands.{Stands};
 ghost use Rattle.tesla_run_feed.specs.Arguments.{IsFeedForm, arguments_of};
 ghost use Rattle.tesla_run_feed.specs.Feeding.{feed};
-ghost use Rattle.tesla_run_feed.specs.Steps.{FeedsFiles, FeedsSeeded, FeedsSetup, OpensAndFeeds, RunsLinked, TriesToFeed};
+ghost use Rattle.tesla_run_feed.specs.Steps.{FeedsFiles, RunsLinked, TriesToFeed};
 
 use crate::arguments::Arguments;
-use crate::lines::{lines_after, stream_over};
-use crate::ready::{ReadyFeed, feed_ready, open_with_clock};
+use crate::lines::lines_after;
+use crate::ready::{feed_ready, open_ready};
 use crate::words::arguments_in;
 use std::alloc::Global;
 use std::marker::Brand;
 use std::sync::Wait;
-use std::sync::ledger::{Blank, Ledger};
-use tesla_base::Steps;
-use tesla_commit::Setup;
+use std::sync::ledger::Blank;
 use tesla_desk::Desk;
-use tesla_front::{Fault, Lines, Outcome, Stop, outcome_of, seeds_under, setup_under};
-use tesla_posts::{close_posts, open_posts};
-use tesla_run_send::sender_of;
-use tesla_seeds::Seeds;
+use tesla_front::{Fault, Lines, Outcome, Stop, outcome_of};
+use tesla_relay::close_posts;
+use tesla_run_send::open_sender;
 use tesla_sender::Sender;
 
 /// Runs the words as those of `feed`: each datagram that leaves LINK is a message of the sender of SETUP with the seeds in
@@ -61,70 +57,15 @@ fn perform<R: Wait, D: Desk>(
     requires form { (spelled : List (List ℕ)) × IsFeedForm (arguments_of arguments.now) spelled }
     ensures { Performs (feed (D.told desk.old).live (D.told desk.new).live) (arguments_of arguments.now) (D.told desk.old) (D.told desk.new) (came_of result) }
 {
-    let setup = setup_under(alloc, arguments.setup, desk)?;
-    feed_under(rt, alloc, setup, arguments, desk)
+    let sender = open_sender(alloc, arguments.setup, arguments.secret, desk)?;
+    feed_files(rt, alloc, sender, arguments, desk)
 }
 
-// Reads the seeds under a setup, and feeds the link to the posts.
-fn feed_under<R: Wait, D: Desk>(
-    rt: &R,
-    alloc: Global,
-    setup: Setup,
-    arguments: &Arguments<'_>,
-    desk: &mut D,
-) -> Result<Lines, Stop>
-    requires form { (spelled : List (List ℕ)) × IsFeedForm (arguments_of arguments.now) spelled }
-    ensures { FeedsSetup (arguments_of arguments.now) setup (D.told desk.old) (D.told desk.new) (came_of result) }
-{
-    let seeds = seeds_under(alloc, arguments.secret, setup.count(), desk)?;
-    feed_seeded(rt, alloc, setup, &seeds, arguments, desk)
-}
-
-// Opens the sender of a setup and seeds, and feeds the link to the posts.
-fn feed_seeded<R: Wait, D: Desk>(
-    rt: &R,
-    alloc: Global,
-    setup: Setup,
-    seeds: &Seeds,
-    arguments: &Arguments<'_>,
-    desk: &mut D,
-) -> Result<Lines, Stop>
-    requires form { (spelled : List (List ℕ)) × IsFeedForm (arguments_of arguments.now) spelled }
-    requires count { length seeds.now ≡ length setup.rows }
-    ensures { FeedsSeeded (record { setup = setup; seeds = seeds.now }) (arguments_of arguments.now) (D.told desk.old) (D.told desk.new) (came_of result) }
-{
-    let blank = Blank::new(1);
-    feed_counted::<Brand, R, D>(rt, alloc, setup, seeds, arguments, blank, desk)
-}
-
-// Does so with a ledger for its evaluations of HMAC.
-fn feed_counted<L: Ledger, R: Wait, D: Desk>(
-    rt: &R,
-    alloc: Global,
-    setup: Setup,
-    seeds: &Seeds,
-    arguments: &Arguments<'_>,
-    blank: Blank,
-    desk: &mut D,
-) -> Result<Lines, Stop>
-    requires name { blank.name ≡ L.name }
-    requires parts { blank.parts ≡ L.parts }
-    requires some { 0 < L.parts }
-    requires form { (spelled : List (List ℕ)) × IsFeedForm (arguments_of arguments.now) spelled }
-    requires count { length seeds.now ≡ length setup.rows }
-    ensures feeds { FeedsSeeded (record { setup = setup; seeds = seeds.now }) (arguments_of arguments.now) (D.told desk.old) (D.told desk.new) (came_of result) }
-{
-    let mut steps = Steps::<L>::new(blank);
-    let sender = sender_of(alloc, setup, seeds, &mut steps)?;
-    feed_roomed(rt, alloc, sender, &mut steps, arguments, desk)
-}
-
-// Takes room for the posts, and feeds the link to them.
-fn feed_roomed<L: Ledger, R: Wait, D: Desk>(
+// Takes room for the posts, opens the link, and feeds it to the posts.
+fn feed_files<R: Wait, D: Desk>(
     rt: &R,
     alloc: Global,
     sender: Sender,
-    steps: &mut Steps<L>,
     arguments: &Arguments<'_>,
     desk: &mut D,
 ) -> Result<Lines, Stop>
@@ -132,68 +73,45 @@ fn feed_roomed<L: Ledger, R: Wait, D: Desk>(
     requires sender { Stands sender [] }
     ensures { FeedsFiles sender.stream (arguments_of arguments.now) (D.told desk.old) (D.told desk.new) (came_of result) }
 {
-    let Ok(mut posts) = Vec::with_capacity(alloc, arguments.posts.len()) else {
+    let Ok(posts) = Vec::with_capacity(alloc, arguments.posts.len()) else {
         return Err(Stop::Failed(Fault::NoMemory));
     };
-    let came = feed_named(rt, sender, steps, arguments, desk, &mut posts);
-    posts.destroy_empty();
-    came
-}
-
-// Opens the link, and feeds it to the posts.
-fn feed_named<L: Ledger, R: Wait, D: Desk>(
-    rt: &R,
-    sender: Sender,
-    steps: &mut Steps<L>,
-    arguments: &Arguments<'_>,
-    desk: &mut D,
-    posts: &mut Vec<D::Port>,
-) -> Result<Lines, Stop>
-    requires form { (spelled : List (List ℕ)) × IsFeedForm (arguments_of arguments.now) spelled }
-    requires sender { Stands sender [] }
-    requires empty { posts.old.items ≡ [] }
-    requires room { length arguments.now.posts ≤ vec_capacity posts.old }
-    ensures feeds { FeedsFiles sender.stream (arguments_of arguments.now) (D.told desk.old) (D.told desk.new) (came_of result) }
-    ensures none { posts.new.items ≡ [] }
-{
     match desk.open_link(arguments.link) {
-        Ok(link) => {
-            let names = arguments.posts.as_slice();
-            run_linked(rt, sender, steps, names, link, desk, posts)
+        Ok(link) => run_linked(rt, sender, arguments.posts.as_slice(), link, desk, posts),
+        Err(refusal) => {
+            posts.destroy_empty();
+            Err(Stop::Failed(Fault::from(refusal)))
         }
-        Err(refusal) => Err(Stop::Failed(Fault::from(refusal))),
     }
 }
 
 // Feeds an open link to the posts under these names, and closes all.
-fn run_linked<L: Ledger, R: Wait, D: Desk>(
+fn run_linked<R: Wait, D: Desk>(
     rt: &R,
     sender: Sender,
-    steps: &mut Steps<L>,
     names: &[&str],
     mut link: D::Wire,
     desk: &mut D,
-    posts: &mut Vec<D::Port>,
+    mut posts: Vec<D::Port>,
 ) -> Result<Lines, Stop>
     requires sender { Stands sender [] }
     requires few { length names.now ≤ 32 }
     requires fresh { D.Wire.faults link ≡ 0 }
-    requires empty { posts.old.items ≡ [] }
-    requires room { length names.now ≤ vec_capacity posts.old }
-    ensures runs { RunsLinked sender.stream (map name_of names.now) (D.Wire.name link) (D.Wire.left link) (D.told desk.old) (D.told desk.new) (came_of result) }
-    ensures none { posts.new.items ≡ [] }
+    requires empty { posts.items ≡ [] }
+    requires room { length names.now ≤ vec_capacity posts }
+    ensures { RunsLinked sender.stream (map name_of names.now) (D.Wire.name link) (D.Wire.left link) (D.told desk.old) (D.told desk.new) (came_of result) }
 {
-    let came = try_to_feed(rt, sender, steps, names, &mut link, desk, posts);
-    close_posts(desk, posts);
+    let came = try_to_feed(rt, sender, names, &mut link, desk, &mut posts);
+    close_posts(desk, &mut posts);
+    posts.destroy_empty();
     desk.close_link(link);
     came
 }
 
-// Opens a feed and then the posts, and feeds an open link to them. Where the stream is over no post is opened.
-fn try_to_feed<L: Ledger, R: Wait, D: Desk>(
+// Opens a feed and the posts, and feeds an open link to them.
+fn try_to_feed<R: Wait, D: Desk>(
     rt: &R,
     sender: Sender,
-    steps: &mut Steps<L>,
     names: &[&str],
     link: &mut D::Wire,
     desk: &mut D,
@@ -206,32 +124,12 @@ fn try_to_feed<L: Ledger, R: Wait, D: Desk>(
     ensures tries { TriesToFeed sender.stream (map name_of names.now) (D.Wire.left link.old) (D.Wire.left link.new) (D.Wire.faults link.old) (D.Wire.faults link.new) (D.told desk.old) (D.told desk.new) (map (λ post. record { name = D.Port.name post; sent = D.Port.sent post; faults = D.Port.faults post }) posts.new.items) (came_of result) }
     ensures name { D.Wire.name link.new ≡ D.Wire.name link.old }
 {
-    match open_with_clock(rt, sender, desk) {
-        Some(ready) => open_and_feed(rt, ready, steps, names, link, desk, posts),
-        None => Err(stream_over()),
-    }
-}
-
-// Opens the posts, and feeds an open link to them.
-fn open_and_feed<L: Ledger, R: Wait, D: Desk>(
-    rt: &R,
-    ready: ReadyFeed<D::Time, D::Pause>,
-    steps: &mut Steps<L>,
-    names: &[&str],
-    link: &mut D::Wire,
-    desk: &mut D,
-    posts: &mut Vec<D::Port>,
-) -> Result<Lines, Stop>
-    requires fresh { Stands ready.opened.sender [] }
-    requires lasts { has_ended ready.opened.sender.stream ready.opened.opening ≡ false }
-    requires few { length names.now ≤ 32 }
-    requires empty { posts.old.items ≡ [] }
-    requires room { length names.now ≤ vec_capacity posts.old }
-    ensures feeds { OpensAndFeeds ready.opened.sender.stream ready.opened.opening (D.Time.told ready.clock) (map name_of names.now) (D.Wire.left link.old) (D.Wire.left link.new) (D.Wire.faults link.old) (D.Wire.faults link.new) (D.told desk.old) (D.told desk.new) (map (λ post. record { name = D.Port.name post; sent = D.Port.sent post; faults = D.Port.faults post }) posts.new.items) (came_of result) }
-    ensures name { D.Wire.name link.new ≡ D.Wire.name link.old }
-{
-    match open_posts(desk, names, posts) {
-        Ok(()) => lines_after(feed_ready(rt, ready, steps, link, posts)),
-        Err(fault) => Err(Stop::Failed(fault)),
-    }
+    let ready = open_ready(rt, sender, names, desk, posts)?;
+    lines_after(feed_ready::<Brand, R, D::Wire, D::Time, D::Port, D::Pause>(
+        rt,
+        ready,
+        Blank::new(1),
+        link,
+        posts,
+    ))
 }

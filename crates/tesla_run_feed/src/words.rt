@@ -5,8 +5,7 @@ ghost use Rattle.tesla_front.specs.Words.{IsName};
 ghost use Rattle.tesla_run_feed.specs.Arguments.{FeedArguments, IsFeedForm, arguments_of};
 
 use crate::arguments::Arguments;
-use tesla_front::is_name;
-use tesla_names::read_names;
+use tesla_front::{is_name, read_names};
 
 /// The name of the command.
 const NAME: &str = "feed";

@@ -14,20 +14,20 @@ use Rattle.tesla_front.specs.Openings.{AnyFailed, AreFiles, Opens}
 use Rattle.tesla_front.specs.declared.fault.Fault.{Fault}
 use Rattle.tesla_front.specs.declared.fault.Fault.TheVariants as faults
 use Rattle.tesla_front.proofs.Openings.{not_first_read, opens_first, opens_none, opens_some, opens_then, source_tried}
-use Rattle.tesla_names.specs.Names.{AreDistinct, IsNoneOf}
-use Rattle.tesla_play.specs.Play.{FileTo, Played, bytes_of}
-use Rattle.tesla_play.specs.declared.playing.PlayEnd.{PlayEnd}
-use Rattle.tesla_play.specs.declared.playing.PlayEnd.TheVariants as ends
-use Rattle.tesla_posts.specs.Clocks.{ReadWhere}
-use Rattle.tesla_posts.specs.Closed.{AnyFaulty, ClosesTo, IsUnsent}
-use Rattle.tesla_posts.specs.Opened.{OpensTo, post_name}
-use Rattle.tesla_posts.specs.Opening.{ClosesPosts}
-use Rattle.tesla_posts.specs.Posts.{PostSeen}
-use Rattle.tesla_posts.proofs.Closings.{closes_to, fresh_counts, fresh_mails}
-use Rattle.tesla_posts.proofs.Clocks.{clock_alone, clock_made, clock_opens, live_alone, read_where}
-use Rattle.tesla_posts.proofs.Mails.{unsent_on}
-use Rattle.tesla_posts.proofs.Openings.{none_of_opened, opens_new, opens_still, post_files, refused_not_all}
-use Rattle.tesla_posts.proofs.Stopped.{came_cause, memory_counts, not_all_counts}
+use Rattle.tesla_front.specs.Names.{AreDistinct, IsNoneOf}
+use Rattle.tesla_relay.specs.Play.{FileTo, Played, bytes_of}
+use Rattle.tesla_relay.specs.declared.playing.PlayEnd.{PlayEnd}
+use Rattle.tesla_relay.specs.declared.playing.PlayEnd.TheVariants as ends
+use Rattle.tesla_relay.specs.Clocks.{ReadWhere}
+use Rattle.tesla_relay.specs.Closed.{AnyFaulty, ClosesTo, IsUnsent}
+use Rattle.tesla_relay.specs.Opened.{OpensTo, post_name}
+use Rattle.tesla_relay.specs.Opening.{ClosesPosts}
+use Rattle.tesla_relay.specs.Posts.{PostSeen}
+use Rattle.tesla_relay.proofs.Closings.{closes_to, fresh_counts, fresh_mails}
+use Rattle.tesla_relay.proofs.Clocks.{clock_alone, clock_made, clock_opens, live_alone, read_where}
+use Rattle.tesla_relay.proofs.Mails.{unsent_on}
+use Rattle.tesla_relay.proofs.Openings.{none_of_opened, opens_new, opens_still, post_files, refused_not_all}
+use Rattle.tesla_relay.proofs.Stopped.{came_cause, memory_counts, not_all_counts}
 use Rattle.tesla_run_play.specs.Arguments.{PlayArguments, IsPlayForm, files_of_play}
 use Rattle.tesla_run_play.specs.Playing.{PostsHold, TouchesPosts, came_with, play}
 use Rattle.tesla_run_play.specs.Steps.{OpensAndPlays, PlaysOpen, Refuses, RunsOpened}

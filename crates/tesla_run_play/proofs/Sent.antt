@@ -2,15 +2,15 @@
 use Rattle.std.proofs.Common.{◌≡◌, ◌∙◌, inl, inr, ℕ, nat_lt, true, false, Option, IfSome, List, [], ◌∷◌, ◌++◌, map, refl, sym, ap, subst, arith}
 use Rattle.tesla_desk.specs.Live.{Mail, mail_of}
 use Rattle.tesla_desk.specs.Outside.{Told}
-use Rattle.tesla_play.specs.Play as plays
-use Rattle.tesla_play.specs.Play.{PostsTo, having_sent}
-use Rattle.tesla_play.specs.declared.playing.PlayEnd.{PlayEnd}
-use Rattle.tesla_play.specs.declared.playing.PlayEnd.TheVariants.{Ended, Refused, ReadFault, PostFault}
-use Rattle.tesla_play.proofs.Sends.{sent_twice}
-use Rattle.tesla_posts.specs.Closed.{AnyFaulty, HasMails, HoldsSent}
-use Rattle.tesla_posts.specs.Opened.{AreFresh, post_name}
-use Rattle.tesla_posts.specs.Posts.{PostSeen, with_datagrams}
-use Rattle.tesla_posts.proofs.Mails.{holds_sent, rose_told, some_rose}
+use Rattle.tesla_relay.specs.Play as plays
+use Rattle.tesla_relay.specs.Play.{PostsTo, having_sent}
+use Rattle.tesla_relay.specs.declared.playing.PlayEnd.{PlayEnd}
+use Rattle.tesla_relay.specs.declared.playing.PlayEnd.TheVariants.{Ended, Refused, ReadFault, PostFault}
+use Rattle.tesla_relay.proofs.Sends.{sent_twice}
+use Rattle.tesla_relay.specs.Closed.{AnyFaulty, HasMails, HoldsSent}
+use Rattle.tesla_relay.specs.Opened.{AreFresh, post_name}
+use Rattle.tesla_relay.specs.Posts.{PostSeen, with_datagrams}
+use Rattle.tesla_relay.proofs.Mails.{holds_sent, rose_told, some_rose}
 use Rattle.tesla_run_play.specs.Playing.{BreaksAt, HaveSent, PostsHold}
 
 -- ---- names

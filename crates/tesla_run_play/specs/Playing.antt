@@ -12,12 +12,12 @@ use Rattle.tesla_front.specs.Lines.{count_line}
 use Rattle.tesla_front.specs.Openings.{File}
 use Rattle.tesla_front.specs.Refusal.{refused_line}
 use Rattle.tesla_front.specs.declared.fault.Fault.TheVariants as faults
-use Rattle.tesla_names.specs.Names.{IsNoneOf}
-use Rattle.tesla_play.specs.Play.{FileTo, IsPlayed, Paced, Played, TellsCount, bytes_of, reading_of}
-use Rattle.tesla_play.specs.declared.playing.PlayEnd.{PlayEnd}
-use Rattle.tesla_play.specs.declared.playing.PlayEnd.TheVariants as ends
-use Rattle.tesla_posts.specs.Clocks.{ReadWhere}
-use Rattle.tesla_posts.specs.Closed.{HoldsSent, IsUnsent}
+use Rattle.tesla_front.specs.Names.{IsNoneOf}
+use Rattle.tesla_relay.specs.Play.{FileTo, IsPlayed, Paced, Played, TellsCount, bytes_of, reading_of}
+use Rattle.tesla_relay.specs.declared.playing.PlayEnd.{PlayEnd}
+use Rattle.tesla_relay.specs.declared.playing.PlayEnd.TheVariants as ends
+use Rattle.tesla_relay.specs.Clocks.{ReadWhere}
+use Rattle.tesla_relay.specs.Closed.{HoldsSent, IsUnsent}
 use Rattle.tesla_run_play.specs.Arguments.{PlayArguments, IsPlayForm, files_of_play}
 
 -- the line that tells how many arrivals were played

@@ -6,11 +6,11 @@ use Rattle.tesla_desk.specs.Live.{clock_told}
 use Rattle.tesla_desk.specs.Outside.{ClosesSource, MakesClock, Told}
 use Rattle.tesla_front.specs.Came.{Came, Failed}
 use Rattle.tesla_front.specs.declared.fault.Fault.{Fault}
-use Rattle.tesla_play.specs.Play.{Plays}
-use Rattle.tesla_play.specs.declared.playing.PlayEnd.{PlayEnd}
-use Rattle.tesla_play.specs.declared.playing.PlayEnd.TheVariants.{ReadFault}
-use Rattle.tesla_posts.specs.Opening.{ClosesPosts, OpensPosts}
-use Rattle.tesla_posts.specs.Posts.{PostSeen}
+use Rattle.tesla_relay.specs.Play.{Plays}
+use Rattle.tesla_relay.specs.declared.playing.PlayEnd.{PlayEnd}
+use Rattle.tesla_relay.specs.declared.playing.PlayEnd.TheVariants.{ReadFault}
+use Rattle.tesla_relay.specs.Opening.{ClosesPosts, OpensPosts}
+use Rattle.tesla_relay.specs.Posts.{PostSeen}
 use Rattle.tesla_run_play.specs.Playing.{came_with}
 
 -- an open source was played to open posts, with a clock that was made for it

@@ -1,6 +1,6 @@
 //! What the words of the command `play` ask for.
 
-use tesla_names::Names;
+use tesla_front::Names;
 
 /// What the words `play CAPTURE POSTS` ask for.
 #[derive(Drop)]

@@ -4,8 +4,8 @@ ghost use Rattle.std.specs.Prelude.{◌≡◌, ◌≤◌, ℕ, [], List, length,
 ghost use Rattle.tesla_desk.specs.Faults.{HasCause};
 ghost use Rattle.tesla_front.specs.Came.{outcome_came};
 ghost use Rattle.tesla_front.specs.Command.{Performs, RunsAs};
-ghost use Rattle.tesla_posts.specs.Opening.{name_of};
-ghost use Rattle.tesla_posts.specs.Posts.{PostSeen};
+ghost use Rattle.tesla_relay.specs.Opening.{name_of};
+ghost use Rattle.tesla_relay.specs.Posts.{PostSeen};
 ghost use Rattle.tesla_run_play.specs.Arguments.{IsPlayForm, arguments_of};
 ghost use Rattle.tesla_run_play.specs.Playing.{came_with, play};
 ghost use Rattle.tesla_run_play.specs.Steps.{OpensAndPlays, PlaysMade, RunsOpened};
@@ -17,8 +17,7 @@ use std::sync::Wait;
 use tesla_base::Kind;
 use tesla_desk::Desk;
 use tesla_front::{Fault, Lines, Outcome, add_count, refused};
-use tesla_play::{PlayEnd, play};
-use tesla_posts::{close_posts, open_posts};
+use tesla_relay::{PlayEnd, close_posts, open_posts, play};
 
 /// Runs the words as those of `play`: the arrivals of CAPTURE are sent, each to all of POSTS in their order, once the next clock
 /// gives the arrival's reading. Takes are skipped. Room for the posts is taken first, then CAPTURE is opened, and then the posts.
@@ -36,7 +35,7 @@ pub fn run_play<R: Wait, D: Desk>(rt: &R, alloc: Global, words: &[String], desk:
     }
 }
 
-// Does what the words ask for, with room for the posts.
+// Does what the words ask for: takes room for the posts, opens the capture, and plays it.
 fn perform<R: Wait, D: Desk>(
     rt: &R,
     alloc: Global,
@@ -46,30 +45,15 @@ fn perform<R: Wait, D: Desk>(
     requires form { (spelled : List (List ℕ)) × IsPlayForm (arguments_of arguments.now) spelled }
     ensures { Performs (play (D.told desk.old).live (D.told desk.new).live) (arguments_of arguments.now) (D.told desk.old) (D.told desk.new) (outcome_came result) }
 {
-    let Ok(mut posts) = Vec::with_capacity(alloc, arguments.posts.len()) else {
+    let Ok(posts) = Vec::with_capacity(alloc, arguments.posts.len()) else {
         return Outcome::Failed(Fault::NoMemory);
     };
-    let outcome = play_named(rt, arguments, desk, &mut posts);
-    posts.destroy_empty();
-    outcome
-}
-
-// Opens the capture, and plays it.
-fn play_named<R: Wait, D: Desk>(
-    rt: &R,
-    arguments: &Arguments<'_>,
-    desk: &mut D,
-    posts: &mut Vec<D::Port>,
-) -> Outcome
-    requires form { (spelled : List (List ℕ)) × IsPlayForm (arguments_of arguments.now) spelled }
-    requires empty { posts.old.items ≡ [] }
-    requires room { length arguments.now.posts ≤ vec_capacity posts.old }
-    ensures performs { Performs (play (D.told desk.old).live (D.told desk.new).live) (arguments_of arguments.now) (D.told desk.old) (D.told desk.new) (outcome_came result) }
-    ensures none { posts.new.items ≡ [] }
-{
     match desk.open_source(arguments.capture) {
         Ok(source) => run_opened(rt, arguments.posts.as_slice(), source, desk, posts),
-        Err(refusal) => Outcome::Failed(Fault::from(refusal)),
+        Err(refusal) => {
+            posts.destroy_empty();
+            Outcome::Failed(Fault::from(refusal))
+        }
     }
 }
 
@@ -79,16 +63,16 @@ fn run_opened<R: Wait, D: Desk>(
     names: &[&str],
     mut source: D::In,
     desk: &mut D,
-    posts: &mut Vec<D::Port>,
+    mut posts: Vec<D::Port>,
 ) -> Outcome
     requires fresh { D.In.faults source ≡ 0 }
-    requires empty { posts.old.items ≡ [] }
-    requires room { length names.now ≤ vec_capacity posts.old }
-    ensures runs { RunsOpened (map name_of names.now) (D.In.name source) (D.In.left source) (D.told desk.old) (D.told desk.new) (outcome_came result) }
-    ensures none { posts.new.items ≡ [] }
+    requires empty { posts.items ≡ [] }
+    requires room { length names.now ≤ vec_capacity posts }
+    ensures { RunsOpened (map name_of names.now) (D.In.name source) (D.In.left source) (D.told desk.old) (D.told desk.new) (outcome_came result) }
 {
-    let outcome = open_and_play(rt, names, &mut source, desk, posts);
-    close_posts(desk, posts);
+    let outcome = open_and_play(rt, names, &mut source, desk, &mut posts);
+    close_posts(desk, &mut posts);
+    posts.destroy_empty();
     desk.close_source(source);
     outcome
 }

@@ -4,10 +4,10 @@ use Rattle.std.proofs.lemmas.Bool.Decides.{nat_tests}
 use Rattle.std.specs.List.{list_any}
 use Rattle.tesla_desk.specs.Live.{Mail, mail_of}
 use Rattle.tesla_desk.specs.Outside.{Told}
-use Rattle.tesla_posts.specs.Closed.{AnyFaulty, HasMails, HoldsSent}
-use Rattle.tesla_posts.specs.Opened.{AreFresh, post_name}
-use Rattle.tesla_posts.specs.Posts.{PostSeen}
-use Rattle.tesla_posts.proofs.Mails.{failed_is, holds_sent}
+use Rattle.tesla_relay.specs.Closed.{AnyFaulty, HasMails, HoldsSent}
+use Rattle.tesla_relay.specs.Opened.{AreFresh, post_name}
+use Rattle.tesla_relay.specs.Posts.{PostSeen}
+use Rattle.tesla_relay.proofs.Mails.{failed_is, holds_sent}
 use Rattle.tesla_relay.specs.Relay.{RelaysPost, RelaysPosts}
 use Rattle.tesla_relay.specs.declared.relayed.PostCount.{PostCount}
 use Rattle.tesla_run_relay.specs.Lines.{has_failed}

@@ -16,16 +16,16 @@ use Rattle.tesla_front.specs.Openings.{AnyFailed, AreFiles, Opens}
 use Rattle.tesla_front.specs.declared.fault.Fault.{Fault}
 use Rattle.tesla_front.specs.declared.fault.Fault.TheVariants as faults
 use Rattle.tesla_front.proofs.Openings.{opens_first, opens_none, opens_then}
-use Rattle.tesla_names.specs.Names.{AreDistinct, IsNoneOf}
-use Rattle.tesla_posts.specs.Closed.{AnyFaulty, ClosesTo, HasMails, IsUnsent}
-use Rattle.tesla_posts.specs.Links.{HasEnded, LeftWhere}
-use Rattle.tesla_posts.specs.Opened.{OpensTo, post_name}
-use Rattle.tesla_posts.specs.Posts.{PostSeen}
-use Rattle.tesla_posts.proofs.Closings.{closes_to, fresh_counts, fresh_mails, mails_same}
-use Rattle.tesla_posts.proofs.Links.{broken_left, ended_left, left_where, link_tried}
-use Rattle.tesla_posts.proofs.Mails.{faulty_told, unsent_on}
-use Rattle.tesla_posts.proofs.Openings.{none_of_opened, opens_still, opens_to, post_files, refused_not_all}
-use Rattle.tesla_posts.proofs.Stopped.{came_cause, memory_counts, not_all_counts}
+use Rattle.tesla_front.specs.Names.{AreDistinct, IsNoneOf}
+use Rattle.tesla_relay.specs.Closed.{AnyFaulty, ClosesTo, HasMails, IsUnsent}
+use Rattle.tesla_relay.specs.Links.{HasEnded, LeftWhere}
+use Rattle.tesla_relay.specs.Opened.{OpensTo, post_name}
+use Rattle.tesla_relay.specs.Posts.{PostSeen}
+use Rattle.tesla_relay.proofs.Closings.{closes_to, fresh_counts, fresh_mails, mails_same}
+use Rattle.tesla_relay.proofs.Links.{broken_left, ended_left, left_where, link_tried}
+use Rattle.tesla_relay.proofs.Mails.{faulty_told, unsent_on}
+use Rattle.tesla_relay.proofs.Openings.{none_of_opened, opens_still, opens_to, post_files, refused_not_all}
+use Rattle.tesla_relay.proofs.Stopped.{came_cause, memory_counts, not_all_counts}
 use Rattle.tesla_relay.specs.declared.relayed.PostCount.{PostCount}
 use Rattle.tesla_relay.specs.declared.relayed.RelayEnd.{RelayEnd}
 use Rattle.tesla_relay.specs.declared.relayed.RelayEnd.TheVariants as ends

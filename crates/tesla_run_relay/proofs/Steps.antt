@@ -6,9 +6,9 @@ use Rattle.tesla_desk.specs.Links.{datagrams}
 use Rattle.tesla_desk.specs.Outside.{Told}
 use Rattle.tesla_desk.specs.declared.link.Letter.{Letter}
 use Rattle.tesla_front.specs.Came.{Came}
-use Rattle.tesla_posts.specs.Opening.{OpensEach, OpensPosts}
-use Rattle.tesla_posts.specs.Posts.{PostSeen}
-use Rattle.tesla_posts.proofs.Openings.{opened_each, opened_size}
+use Rattle.tesla_relay.specs.Opening.{OpensEach, OpensPosts}
+use Rattle.tesla_relay.specs.Posts.{PostSeen}
+use Rattle.tesla_relay.proofs.Openings.{opened_each, opened_size}
 use Rattle.tesla_relay.proofs.Sized.{each_counted}
 use Rattle.tesla_relay.specs.Relay.{Relays}
 use Rattle.tesla_relay.specs.declared.relayed.PostCount.{PostCount}

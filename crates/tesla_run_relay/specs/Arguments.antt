@@ -2,7 +2,7 @@
 use Rattle.std.specs.Prelude.{◌≡◌, ℕ, List, [], ◌∷◌, codes, map}
 use Rattle.tesla_desk.specs.Outside.{Opening, OfLink, OfPost}
 use Rattle.tesla_front.specs.Words.{IsName, IsNumberWithin}
-use Rattle.tesla_names.specs.Names.{AreNames}
+use Rattle.tesla_front.specs.Names.{AreNames}
 use Rattle.tesla_run_relay.specs.declared.arguments.Arguments.{Arguments}
 
 -- how many datagrams a queue holds at most, and the names of the link and of the posts

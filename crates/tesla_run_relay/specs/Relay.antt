@@ -8,9 +8,9 @@ use Rattle.tesla_front.specs.Came.{Came, Done, Failed}
 use Rattle.tesla_front.specs.Command.{Command}
 use Rattle.tesla_front.specs.Openings.{File}
 use Rattle.tesla_front.specs.declared.fault.Fault.TheVariants as faults
-use Rattle.tesla_names.specs.Names.{IsNoneOf}
-use Rattle.tesla_posts.specs.Closed.{HoldsSent, IsUnsent}
-use Rattle.tesla_posts.specs.Links.{HasBroken, HasEnded, LeftWhere}
+use Rattle.tesla_front.specs.Names.{IsNoneOf}
+use Rattle.tesla_relay.specs.Closed.{HoldsSent, IsUnsent}
+use Rattle.tesla_relay.specs.Links.{HasBroken, HasEnded, LeftWhere}
 use Rattle.tesla_relay.specs.Relay.{RelaysTo}
 use Rattle.tesla_relay.specs.declared.relayed.PostCount.{PostCount}
 use Rattle.tesla_run_relay.specs.Arguments.{RelayArguments, IsRelayForm, files_of_relay}

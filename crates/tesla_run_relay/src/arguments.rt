@@ -2,7 +2,7 @@
 
 ghost use Rattle.std.specs.Prelude.{◌≤◌};
 
-use tesla_names::Names;
+use tesla_front::Names;
 
 /// What the words `relay CAPACITY LINK POSTS` ask for.
 #[derive(Drop)]

@@ -4,7 +4,7 @@ ghost use Rattle.std.specs.Prelude.{◌≡◌, ◌≤◌, [], ℕ, List, IfOk, M
 ghost use Rattle.tesla_desk.specs.Faults.{HasCause};
 ghost use Rattle.tesla_front.specs.Came.{outcome_came};
 ghost use Rattle.tesla_front.specs.Command.{Performs, RunsAs};
-ghost use Rattle.tesla_posts.specs.Posts.{PostSeen};
+ghost use Rattle.tesla_relay.specs.Posts.{PostSeen};
 ghost use Rattle.tesla_relay.specs.Relay.{Relays};
 ghost use Rattle.tesla_relay.specs.declared.relayed.RelayEnd.TheVariants as ends;
 ghost use Rattle.tesla_run_relay.specs.Arguments.{IsRelayForm, arguments_of};
@@ -21,8 +21,7 @@ use std::thread::Threads;
 use tesla_base::NoMemory;
 use tesla_desk::Desk;
 use tesla_front::{Fault, Outcome};
-use tesla_posts::{close_posts, open_posts};
-use tesla_relay::{Relayed, relay};
+use tesla_relay::{Relayed, close_posts, open_posts, relay};
 
 /// Runs the words as those of `relay`: hands each datagram that leaves LINK on to all POSTS, before each of which stands a
 /// queue of CAPACITY datagrams; one that finds it full is dropped for that post. All memory but that of the openings is asked
@@ -46,7 +45,7 @@ pub fn run_relay<R: Threads + Wait + Sync, D: Desk>(
     }
 }
 
-// Does what the words ask for.
+// Does what the words ask for: takes the room, opens the link, and relays it to the posts.
 fn perform<R: Threads + Wait + Sync, D: Desk>(
     rt: &R,
     alloc: Global,
@@ -56,9 +55,15 @@ fn perform<R: Threads + Wait + Sync, D: Desk>(
     requires form { (spelled : List (List ℕ)) × IsRelayForm (arguments_of arguments.now) spelled }
     ensures { Performs (relay (D.told desk.old).live (D.told desk.new).live) (arguments_of arguments.now) (D.told desk.old) (D.told desk.new) (outcome_came result) }
 {
-    match room_for(alloc, arguments.posts.len()) {
-        Ok(room) => run_in(rt, alloc, arguments, room, desk),
-        Err(_) => Outcome::Failed(Fault::NoMemory),
+    let Ok(room) = room_for(alloc, arguments.posts.len()) else {
+        return Outcome::Failed(Fault::NoMemory);
+    };
+    match desk.open_link(arguments.link) {
+        Ok(link) => run_linked(rt, alloc, arguments, room, link, desk),
+        Err(refusal) => {
+            give_back(room);
+            Outcome::Failed(Fault::from(refusal))
+        }
     }
 }
 
@@ -85,28 +90,6 @@ fn give_back<D: Desk>(room: Room<D>)
 {
     let Room { posts, gates: _ } = room;
     posts.destroy_empty();
-}
-
-// Opens the link, and relays it to the posts.
-fn run_in<R: Threads + Wait + Sync, D: Desk>(
-    rt: &R,
-    alloc: Global,
-    arguments: &Arguments<'_>,
-    room: Room<D>,
-    desk: &mut D,
-) -> Outcome
-    requires form { (spelled : List (List ℕ)) × IsRelayForm (arguments_of arguments.now) spelled }
-    requires posts { (room.posts.items ≡ []) × (length arguments.now.posts ≤ vec_capacity room.posts) }
-    requires gates { (room.gates.items ≡ []) × (length arguments.now.posts ≤ vec_capacity room.gates) }
-    ensures { Performs (relay (D.told desk.old).live (D.told desk.new).live) (arguments_of arguments.now) (D.told desk.old) (D.told desk.new) (outcome_came result) }
-{
-    match desk.open_link(arguments.link) {
-        Ok(link) => run_linked(rt, alloc, arguments, room, link, desk),
-        Err(refusal) => {
-            give_back(room);
-            Outcome::Failed(Fault::from(refusal))
-        }
-    }
 }
 
 // Opens the posts, relays an open link to them, and closes them and the link.

@@ -4,8 +4,7 @@ ghost use Rattle.std.specs.Prelude.{◌≡◌, [], ◌∷◌, codes, Some, IfSom
 ghost use Rattle.tesla_run_relay.specs.Arguments.{RelayArguments, IsRelayForm, arguments_of};
 
 use crate::arguments::Arguments;
-use tesla_front::{is_name, number_in};
-use tesla_names::read_names;
+use tesla_front::{is_name, number_in, read_names};
 
 /// The name of the command.
 const NAME: &str = "relay";

@@ -1,5 +1,5 @@
 -- A run of send comes to its end where its inputs are taken and nothing fails.
-use Rattle.std.proofs.Common.{◌≡◌, ◌∙◌, ◌⊎◌, inl, inr, ℕ, Bool, Option, Some, None, Result, Ok, Err, List, length, refl, sym, subst}
+use Rattle.std.proofs.Common.{◌≡◌, ◌∙◌, ◌⊎◌, inl, inr, ℕ, Bool, Option, Some, None, Result, Ok, Err, List, length, refl, sym, ap, subst}
 use Rattle.tesla_base.specs.declared.names.Key.{Key}
 use Rattle.tesla_commit.specs.Parts.{Parts}
 use Rattle.tesla_commit.specs.declared.refusal.SetupKind.{SetupKind}
@@ -18,7 +18,8 @@ use Rattle.tesla_convert.specs.Meaning.{Converts}
 use Rattle.tesla_sender.specs.Made.{Stream}
 use Rattle.tesla_run_send.specs.Arguments.{SendArguments}
 use Rattle.tesla_run_send.specs.Script.{Sent, sending}
-use Rattle.tesla_run_send.specs.Send.{HasNoSender, IsNoSender, SendsWith, StopsAtSeeds, comes_by, frames_line, meaning, send, wrong_line}
+use Rattle.tesla_run_send.specs.Send.{SendsWith, comes_by, frames_line, meaning, send}
+use Rattle.tesla_run_send.specs.Sender.{IsFoundIn, IsNoSender, LacksSender, wrong_line}
 use Rattle.tesla_run_send.specs.declared.script_kind.ScriptKind.{ScriptKind}
 use Rattle.tesla_front.proofs.Commands.{memory_alone}
 
@@ -71,37 +72,35 @@ sender_ends : (stream : Stream) (came : Came) → wrong_line stream ≡ None →
 sender_ends stream came right (inl wrong) = absurd (let no : ◌≡◌ {A = Option ℕ} None (Some wrong.0) = sym right ∙ wrong.1 in cc)
 sender_ends stream came right (inr memory) = (faults.NoMemory, memory)
 
--- why it stops at the seeds is a fault
-seeds_end : (setup : Parts) (page : Page) (secret : List ℕ) (failed : Bool) (seeds : List Key) (came : Came) → page ≡ Holds secret failed → IsSeedsText (length setup.rows) secret seeds → wrong_line (record { setup = setup; seeds = seeds }) ≡ None → IsNoSeeds (length setup.rows) page came ⊎ HasNoSender setup page came → (fault : Fault) × (came ≡ Failed fault)
-seeds_end setup page secret failed seeds came told found right (inl none) = refused_ends (IsNoSeedsText (length setup.rows)) page came secret failed told (λ status line why. seeds_never (length setup.rows) secret seeds status line found why) none
-seeds_end setup page secret failed seeds came told found right (inr unopened) =
-    let same : unopened.seeds ≡ seeds = one_seeds (length setup.rows) page secret failed seeds unopened.seeds told found unopened.are.found in
-    sender_ends (record { setup = setup; seeds = seeds }) came right (subst (λ (s : List Key). IsNoSender (record { setup = setup; seeds = s }) came) same unopened.why)
+module _ (text secret : List ℕ) (failed other : Bool) (setup : Parts) (seeds : List Key) (setup_file secret_file : File) (page : setup_file.page ≡ Holds text failed) (found : IsSetupText text setup) (told : secret_file.page ≡ Holds secret other) (are : IsSeedsText (length setup.rows) secret seeds) (right : wrong_line (record { setup = setup; seeds = seeds }) ≡ None) where
+  -- the stream that is found is that of the setup and the seeds
+  one_stream : (stream : Stream) → IsFoundIn setup_file.page secret_file.page stream → stream ≡ record { setup = setup; seeds = seeds }
+  one_stream stream is =
+      let same : stream.setup ≡ setup = one_setup setup_file.page text failed setup stream.setup page found is.setup_found in
+      let seeded : stream.seeds ≡ seeds = one_seeds (length setup.rows) secret_file.page secret other seeds stream.seeds told are (subst (λ (p : Parts). IsSeedsIn (length p.rows) secret_file.page stream.seeds) same is.seeds_found) in
+      ap (λ (p : Parts). let s : Stream = record { setup = p; seeds = stream.seeds } in s) same ∙ ap (λ (ks : List Key). let s : Stream = record { setup = setup; seeds = ks } in s) seeded
 
--- under the setup
-under_ends : (setup : Parts) (secret_file script out script_after out_after : File) (opened : ℕ) (came : Came) (secret bytes : List ℕ) (other last : Bool) (seeds : List Key) → secret_file.page ≡ Holds secret other → IsSeedsText (length setup.rows) secret seeds → wrong_line (record { setup = setup; seeds = seeds }) ≡ None → script.page ≡ Holds bytes last → (sending (record { setup = setup; seeds = seeds }) bytes).refused ≡ None
-    → StopsAtSeeds setup secret_file opened came ⊎ SendsWith setup secret_file script out script_after out_after opened came → Ends came (length (sending (record { setup = setup; seeds = seeds }) bytes).sent)
-under_ends setup secret_file script out script_after out_after opened came secret bytes other last seeds told found right page whole (inl stops) = inr (seeds_end setup secret_file.page secret other seeds came told found right stops.why)
-under_ends setup secret_file script out script_after out_after opened came secret bytes other last seeds told found right page whole (inr sends) =
-    let same : sends.seeds ≡ seeds = one_seeds (length setup.rows) secret_file.page secret other seeds sends.seeds told found sends.are.found in
-    script_ends (record { setup = setup; seeds = seeds }) script script_after out out_after came bytes last page whole
-    (subst (λ (s : List Key). Converts (meaning (record { setup = setup; seeds = s })) script.page script_after.left out.page out_after.page came) same sends.sends.converts)
+  -- why there is no sender is a fault
+  lacks_end : (opened : ℕ) (came : Came) → LacksSender setup_file secret_file opened came → (fault : Fault) × (came ≡ Failed fault)
+  lacks_end opened came (inl stops) = refused_ends IsNoSetupText setup_file.page came text failed page (λ status line why. setup_never text setup status line found why) stops.why
+  lacks_end opened came (inr (inl stops)) =
+      let same : stops.parts ≡ setup = one_setup setup_file.page text failed setup stops.parts page found stops.found in
+      refused_ends (IsNoSeedsText (length setup.rows)) secret_file.page came secret other told (λ status line why. seeds_never (length setup.rows) secret seeds status line are why)
+      (subst (λ (p : Parts). IsNoSeeds (length p.rows) secret_file.page came) same stops.why)
+  lacks_end opened came (inr (inr stops)) = sender_ends (record { setup = setup; seeds = seeds }) came right (subst (λ (s : Stream). IsNoSender s came) (one_stream stops.stream stops.found) stops.why)
 
-send_ends : (arguments : SendArguments) (old new : Told) (came : Came) (text secret bytes : List ℕ) (failed other last : Bool) (setup : Parts) (seeds : List Key) → old.page arguments.setup ≡ Holds text failed → IsSetupText text setup → old.page arguments.secret ≡ Holds secret other → IsSeedsText (length setup.rows) secret seeds → wrong_line (record { setup = setup; seeds = seeds }) ≡ None → old.page arguments.script ≡ Holds bytes last → (sending (record { setup = setup; seeds = seeds }) bytes).refused ≡ None
-    → Performs send arguments old new came → Ends came (length (sending (record { setup = setup; seeds = seeds }) bytes).sent)
-send_ends arguments old new came text secret bytes failed other last setup seeds page found told are right script whole performs = elim performs.does [
-  | inl stops ↦ inr (refused_ends IsNoSetupText (old.page arguments.setup) came text failed page (λ status line why. setup_never text setup status line found why) stops.why)
-  | inr under ↦
-      let same : under.parts ≡ setup = one_setup (old.page arguments.setup) text failed setup under.parts page found under.found in
-      under_ends setup (file_told old arguments.secret) (file_told old arguments.script) (file_told old arguments.out) (file_told new arguments.script) (file_told new arguments.out) performs.opened came secret bytes other last seeds told are right script whole
-      (subst (λ (s : Parts). StopsAtSeeds s (file_told old arguments.secret) performs.opened came ⊎ SendsWith s (file_told old arguments.secret) (file_told old arguments.script) (file_told old arguments.out) (file_told new arguments.script) (file_told new arguments.out) performs.opened came) same under.does)
-]
+  does_end : (script out script_after out_after : File) (opened : ℕ) (came : Came) (bytes : List ℕ) (last : Bool) → script.page ≡ Holds bytes last → (sending (record { setup = setup; seeds = seeds }) bytes).refused ≡ None
+      → LacksSender setup_file secret_file opened came ⊎ SendsWith setup_file secret_file script out script_after out_after opened came → Ends came (length (sending (record { setup = setup; seeds = seeds }) bytes).sent)
+  does_end script out script_after out_after opened came bytes last script_page whole (inl lacks) = inr (lacks_end opened came lacks)
+  does_end script out script_after out_after opened came bytes last script_page whole (inr sends) =
+      script_ends (record { setup = setup; seeds = seeds }) script script_after out out_after came bytes last script_page whole
+      (subst (λ (s : Stream). Converts (meaning s) script.page script_after.left out.page out_after.page came) (one_stream sends.stream sends.is.found) sends.sends.converts)
 
 -- a run of send comes to the number of frames, or to want of memory
 pub complete : (arguments : SendArguments) (old new : Told) (came : Came) (text secret bytes : List ℕ) (failed other last : Bool) (setup : Parts) (seeds : List Key) → Performs send arguments old new came → old.page arguments.setup ≡ Holds text failed → IsSetupText text setup → old.page arguments.secret ≡ Holds secret other → IsSeedsText (length setup.rows) secret seeds → wrong_line (record { setup = setup; seeds = seeds }) ≡ None → old.page arguments.script ≡ Holds bytes last → (sending (record { setup = setup; seeds = seeds }) bytes).refused ≡ None → NothingFailed old.faults new.faults
     → (came ≡ Done (frames_line (length (sending (record { setup = setup; seeds = seeds }) bytes).sent))) ⊎ (came ≡ Failed faults.NoMemory)
 complete arguments old new came text secret bytes failed other last setup seeds performs page found told are right script whole none =
-    elim (send_ends arguments old new came text secret bytes failed other last setup seeds page found told are right script whole performs) [
+    elim (does_end text secret failed other setup seeds (file_told old arguments.setup) (file_told old arguments.secret) page found told are right (file_told old arguments.script) (file_told old arguments.out) (file_told new arguments.script) (file_told new arguments.out) performs.opened came bytes last script whole performs.does) [
       | inl done ↦ inl done
       | inr fault ↦ inr (memory_alone old.faults new.faults came fault.0 performs.counts none fault.1)
     ]

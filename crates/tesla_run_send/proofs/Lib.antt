@@ -1,6 +1,6 @@
 mod Frames
 mod Scripts
 mod Meanings
-pub mod NoSender
+pub mod Sender
 mod Runs
 mod Complete

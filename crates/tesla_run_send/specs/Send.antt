@@ -1,25 +1,19 @@
 -- What the command send does.
-use Rattle.std.specs.Prelude.{◌≡◌, ◌⊎◌, ◌+◌, ◌≤◌, ℕ, Option, Some, None, List, [], ◌∷◌, length, codes}
-use Rattle.std.specs.Option.{option_map}
-use Rattle.tesla_base.specs.declared.names.Key.{Key}
+use Rattle.std.specs.Prelude.{◌≡◌, ◌⊎◌, ℕ, Option, Some, None, List, [], ◌∷◌, length, codes}
 use Rattle.tesla_capture.specs.Records.{outline_of}
 use Rattle.tesla_capture.specs.Script.{script}
 use Rattle.tesla_capture.specs.Taken.{HoldsNoRefusal}
-use Rattle.tesla_commit.specs.Parts.{Parts}
-use Rattle.tesla_convert.specs.Meaning.{Converts, IsUnread, Meaning, StopsAtSetup}
-use Rattle.tesla_desk.specs.Outside.{Page}
+use Rattle.tesla_convert.specs.Meaning.{Converts, IsUnread, Meaning}
 use Rattle.tesla_front.specs.Came.{Came, Done, Refused, Failed}
 use Rattle.tesla_front.specs.Command.{Command}
 use Rattle.tesla_front.specs.Lines.{count_line}
 use Rattle.tesla_front.specs.Openings.{File}
 use Rattle.tesla_front.specs.Refusal.{refused_line}
-use Rattle.tesla_front.specs.Seeds.{IsSeedsIn, IsNoSeeds}
-use Rattle.tesla_front.specs.Setup.{IsSetupIn}
 use Rattle.tesla_front.specs.declared.fault.Fault.TheVariants as faults
-use Rattle.tesla_sender.specs.Made.{Chain, Stream, chains_of}
-use Rattle.tesla_sender.specs.Opening.{first_wrong}
+use Rattle.tesla_sender.specs.Made.{Stream}
 use Rattle.tesla_run_send.specs.Arguments.{SendArguments, IsSend, files_of_send}
 use Rattle.tesla_run_send.specs.Script.{Sending, Sent, sending, sending_of, sent_text}
+use Rattle.tesla_run_send.specs.Sender.{IsStreamIn, LacksSender}
 use Rattle.tesla_run_send.specs.ScriptKind.{script_kind_name}
 use Rattle.tesla_run_send.specs.declared.script_kind.ScriptKind.{ScriptKind}
 
@@ -60,55 +54,18 @@ pub record SendsScript (stream : Stream) (script out script_after out_after : Fi
   -- and before the first byte of the script is read
   pub unread : came ≡ Failed faults.NoMemory → IsUnread 2 opened script.page script_after.left
 
--- ---- the seeds
-
--- the line of the first seed that doesn't give the key of the setup: that of chain 0 is the second line
-abbrev pub wrong_line : Stream → Option ℕ
-wrong_line stream = option_map (λ (chain : Chain). chain.number + 2) (first_wrong (chains_of stream))
-
--- what a wrong seed in this line comes to
-abbrev pub seed_refused : ℕ → Came
-seed_refused line = Refused 3 (refused_line (codes "seeds") line (codes "WrongSeed"))
-
--- why no sender of the stream is opened: a seed is wrong, or there was no memory
-abbrev pub IsNoSender : Stream → Came → Type 0
-IsNoSender stream came = ((line : ℕ) × (wrong_line stream ≡ Some line) × (came ≡ seed_refused line)) ⊎ (came ≡ Failed faults.NoMemory)
-
--- the seeds of a setup, as they are found
-pub record AreSeeds (setup : Parts) (secret : Page) (seeds : List Key) : Type 0 where
-  pub count : length seeds ≡ length setup.rows
-  pub found : IsSeedsIn (length setup.rows) secret seeds
-
--- with the seeds that are found no sender is opened
-pub record HasNoSender (setup : Parts) (secret : Page) (came : Came) : Type 0 where
-  pub seeds : List Key
-  pub are : AreSeeds setup secret seeds
-  pub why : IsNoSender (record { setup = setup; seeds = seeds }) came
-
 -- ---- the command
 
--- under the setup there are no seeds, or no sender is opened with them, and no file behind them was asked for
-pub record StopsAtSeeds (setup : Parts) (secret : File) (opened : ℕ) (came : Came) : Type 0 where
-  pub few : opened ≤ 2
-  pub why : IsNoSeeds (length setup.rows) secret.page came ⊎ HasNoSender setup secret.page came
-
--- with the seeds, which are right, the script was sent
-pub record SendsWith (setup : Parts) (secret script out script_after out_after : File) (opened : ℕ) (came : Came) : Type 0 where
-  pub seeds : List Key
-  pub are : AreSeeds setup secret.page seeds
-  pub right : wrong_line (record { setup = setup; seeds = seeds }) ≡ None
-  pub sends : SendsScript (record { setup = setup; seeds = seeds }) script out script_after out_after opened came
-
--- a setup was found, and what follows was done under it
-pub record SendsUnder (setup secret script out script_after out_after : File) (opened : ℕ) (came : Came) : Type 0 where
-  pub parts : Parts
-  pub found : IsSetupIn setup.page parts
-  pub does : StopsAtSeeds parts secret opened came ⊎ SendsWith parts secret script out script_after out_after opened came
+-- the script was sent by the sender of a setup and seeds
+pub record SendsWith (setup secret script out script_after out_after : File) (opened : ℕ) (came : Came) : Type 0 where
+  pub stream : Stream
+  pub is : IsStreamIn setup secret stream
+  pub sends : SendsScript stream script out script_after out_after opened came
 
 -- a run of the command, of which so many files were asked to be opened, with what is told of SETUP, SECRET, SCRIPT and CAPTURE before and after it, and what it came to
 abbrev pub DoesSend : SendArguments → ℕ → List File → List File → Came → Type 0
 DoesSend arguments opened (setup ∷ secret ∷ script ∷ out ∷ []) (setup_after ∷ secret_after ∷ script_after ∷ out_after ∷ []) came =
-    StopsAtSetup setup opened came ⊎ SendsUnder setup secret script out script_after out_after opened came
+    LacksSender setup secret opened came ⊎ SendsWith setup secret script out script_after out_after opened came
 DoesSend arguments opened before after came = ⊥
 
 -- the command

@@ -1,8 +1,7 @@
 -- What the inner steps of the command send come to.
-use Rattle.std.specs.Prelude.{◌≡◌, ◌⊎◌, ◌+◌, ℕ, suc, Option, None, Result, Ok, Err, List, [], ◌∷◌, ◌++◌}
+use Rattle.std.specs.Prelude.{◌≡◌, ◌+◌, ℕ, suc, Option, Result, Ok, Err, List, [], ◌∷◌, ◌++◌}
 use Rattle.tesla_capture.specs.Gathering.{Gathers}
 use Rattle.tesla_capture.specs.Script.{Record}
-use Rattle.tesla_commit.specs.Parts.{Parts}
 use Rattle.tesla_convert.specs.declared.conversion.Ending.{Ending}
 use Rattle.tesla_convert.specs.declared.conversion.Ending.TheVariants.{End, Refused}
 use Rattle.tesla_convert.specs.declared.conversion.Stopped.{Stopped}
@@ -18,10 +17,9 @@ use Rattle.tesla_front.specs.Openings.{AnyFailed, Opens, file_told}
 use Rattle.tesla_front.specs.declared.fault.Fault.TheVariants as faults
 use Rattle.tesla_sender.specs.Made.{Call, Stream}
 use Rattle.tesla_sender.specs.Stands.{State, Stands}
-use Rattle.tesla_run_send.specs.Arguments.{SendArguments}
 use Rattle.tesla_run_send.specs.Rule.{frame_records}
 use Rattle.tesla_run_send.specs.Script.{Answer, Makes, MakesNone, Refuses, call_of, reading_of}
-use Rattle.tesla_run_send.specs.Send.{SendsScript, SendsWith, StopsAtSeeds, IsNoSender, frames_line, script_line, wrong_line}
+use Rattle.tesla_run_send.specs.Send.{SendsScript, frames_line, script_line}
 use Rattle.tesla_run_send.specs.declared.script_kind.ScriptKind.{ScriptKind}
 
 -- ---- one record
@@ -71,17 +69,3 @@ pub record SendsFiles (stream : Stream) (name out : List ℕ) (old new : Told) (
   pub opens : Opens (OfSource name ∷ OfSink out ∷ []) opened old new
   pub sends : SendsScript stream (file_told old name) (file_told old out) (file_told new name) (file_told new out) (suc (suc opened)) came
   pub counts : Counts out new old.faults came
-
--- with seeds that were found no sender was opened, and no file was asked for; or they are right, and the script was sent
-pub record SendsSeeded (stream : Stream) (name out : List ℕ) (old new : Told) (came : Came) : Type 0 where
-  pub opened : ℕ
-  pub opens : Opens (OfSource name ∷ OfSink out ∷ []) opened old new
-  pub does : ((opened ≡ 0) × IsNoSender stream came) ⊎ ((wrong_line stream ≡ None) × SendsScript stream (file_told old name) (file_told old out) (file_told new name) (file_told new out) (suc (suc opened)) came)
-  pub counts : Counts out new old.faults came
-
--- under a setup that was found and was opened before
-pub record SendsSetup (arguments : SendArguments) (setup : Parts) (old new : Told) (came : Came) : Type 0 where
-  pub opened : ℕ
-  pub opens : Opens (OfSource arguments.secret ∷ OfSource arguments.script ∷ OfSink arguments.out ∷ []) opened old new
-  pub does : StopsAtSeeds setup (file_told old arguments.secret) (suc opened) came ⊎ SendsWith setup (file_told old arguments.secret) (file_told old arguments.script) (file_told old arguments.out) (file_told new arguments.script) (file_told new arguments.out) (suc opened) came
-  pub counts : Counts arguments.out new old.faults came

@@ -15,7 +15,7 @@ ghost use Rattle.tesla_run_send.specs.Steps.{CarriesOut, PutsFrame};
 use crate::ScriptKind;
 use std::marker::Brand;
 use std::sync::ledger::Ledger;
-use tesla_base::Steps;
+use tesla_base::{MOST_DATAGRAM, Steps};
 use tesla_capture::{Gatherer, RecordKind, RecordReader, RecordStep, ScriptFormat};
 use tesla_convert::{Converted, Converter, Halt, TakenRecord};
 use tesla_desk::{Sink, Source};
@@ -37,7 +37,7 @@ impl SendLedger for Brand {
 pub struct SendConverter<L: SendLedger> {
     sender: Sender,
     steps: Steps<L>,
-    frame: [u8; 2048],
+    frame: [u8; MOST_DATAGRAM],
     frames: u64,
 }
 
@@ -77,7 +77,7 @@ impl<L: SendLedger> SendConverter<L> {
         SendConverter {
             sender,
             steps,
-            frame: [0; 2048],
+            frame: [0; MOST_DATAGRAM],
             frames: 0,
         }
     }
@@ -189,7 +189,7 @@ impl<L: SendLedger> Converter for SendConverter<L> {
     fn next<S: Source>(
         reader: &mut RecordReader<ScriptFormat>,
         source: &mut S,
-        room: &mut [u8; 2048],
+        room: &mut [u8; MOST_DATAGRAM],
     ) -> RecordStep {
         reader.next_record(source, room)
     }

@@ -12,7 +12,8 @@ ghost use Rattle.tesla_front.specs.Setup.{IsSetupText};
 ghost use Rattle.tesla_front.specs.declared.fault.Fault.TheVariants as faults;
 ghost use Rattle.tesla_run_send.specs.Arguments.{SendArguments};
 ghost use Rattle.tesla_run_send.specs.Script.{sending};
-ghost use Rattle.tesla_run_send.specs.Send.{frames_line, send, wrong_line};
+ghost use Rattle.tesla_run_send.specs.Send.{frames_line, send};
+ghost use Rattle.tesla_run_send.specs.Sender.{wrong_line};
 ghost use Rattle.tesla_run_send.specs.Usage.{usage};
 
 use crate::SEND;

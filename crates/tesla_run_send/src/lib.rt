@@ -5,11 +5,13 @@ mod arguments;
 mod converter;
 mod forms;
 pub mod laws;
+mod opening;
 mod run;
 mod script_kind;
 mod words;
 
 pub use converter::message_kind;
 pub use forms::SEND;
-pub use run::{run_send, sender_of};
+pub use opening::open_sender;
+pub use run::run_send;
 pub use script_kind::ScriptKind;

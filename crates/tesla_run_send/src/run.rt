@@ -1,6 +1,6 @@
 //! A run of `send`.
 
-ghost use Rattle.std.specs.Prelude.{◌≡◌, ◌<◌, [], ◌∷◌, None, length, map, string_bytes, IfErr, IfOk, IfSome, Err};
+ghost use Rattle.std.specs.Prelude.{◌≡◌, ◌<◌, [], map, string_bytes, IfSome};
 ghost use Rattle.tesla_convert.specs.Meaning.{ConvertsBetween};
 ghost use Rattle.tesla_desk.specs.Faults.{HasCause, HasCauseBeside};
 ghost use Rattle.tesla_front.specs.Came.{Failed, Refused, came_of, outcome_came, stop_came};
@@ -8,25 +8,22 @@ ghost use Rattle.tesla_front.specs.Command.{Performs, RunsAs};
 ghost use Rattle.tesla_front.specs.Openings.{AreFiles};
 ghost use Rattle.tesla_sender.specs.Stands.{Stands};
 ghost use Rattle.tesla_run_send.specs.Arguments.{arguments_of, files_of_send};
-ghost use Rattle.tesla_run_send.specs.Send.{IsNoSender, frames_line, meaning, script_line, send, wrong_line};
-ghost use Rattle.tesla_run_send.specs.Steps.{SendsFiles, SendsSeeded, SendsSetup, came_with};
+ghost use Rattle.tesla_run_send.specs.Send.{frames_line, meaning, script_line, send};
+ghost use Rattle.tesla_run_send.specs.Steps.{SendsFiles, came_with};
 
 use crate::ScriptKind;
 use crate::arguments::Arguments;
 use crate::converter::{SendConverter, SendLedger};
+use crate::opening::open_sender;
 use crate::words::arguments_in;
 use std::alloc::Global;
 use std::marker::Brand;
-use std::sync::ledger::{Blank, Ledger};
+use std::sync::ledger::Blank;
 use tesla_base::{Kind, Steps};
-use tesla_commit::Setup;
 use tesla_convert::{Conversion, Ending, Stopped, close_files, open_files};
 use tesla_desk::{Desk, Sink, Source};
-use tesla_front::{
-    Fault, Lines, Outcome, Stop, add_count, outcome_of, refused, seeds_under, setup_under,
-};
-use tesla_seeds::Seeds;
-use tesla_sender::{Sender, SenderRefusal};
+use tesla_front::{Fault, Lines, Outcome, Stop, add_count, outcome_of, refused};
+use tesla_sender::Sender;
 
 /// Runs the words as those of `send`: reads the setup under SETUP and the seeds under SECRET, and sends SCRIPT, each
 /// record before the first that is refused, by the file or by the sender. The capture of the frames is written to
@@ -53,95 +50,25 @@ fn perform<D: Desk>(alloc: Global, arguments: &Arguments<'_>, desk: &mut D) -> R
     requires files { AreFiles (files_of_send (arguments_of arguments.now)) }
     ensures { Performs send (arguments_of arguments.now) (D.told desk.old) (D.told desk.new) (came_of result) }
 {
-    let setup = setup_under(alloc, arguments.setup, desk)?;
-    send_under(alloc, setup, arguments, desk)
-}
-
-// Reads the seeds under a setup, and sends the script.
-fn send_under<D: Desk>(
-    alloc: Global,
-    setup: Setup,
-    arguments: &Arguments<'_>,
-    desk: &mut D,
-) -> Result<Lines, Stop>
-    ensures { SendsSetup (arguments_of arguments.now) setup (D.told desk.old) (D.told desk.new) (came_of result) }
-{
-    let seeds = seeds_under(alloc, arguments.secret, setup.count(), desk)?;
-    send_seeded(alloc, setup, &seeds, arguments, desk)
-}
-
-// Opens the sender of a setup and seeds, and sends the script.
-fn send_seeded<D: Desk>(
-    alloc: Global,
-    setup: Setup,
-    seeds: &Seeds,
-    arguments: &Arguments<'_>,
-    desk: &mut D,
-) -> Result<Lines, Stop>
-    requires { length seeds.now ≡ length setup.rows }
-    ensures { SendsSeeded (record { setup = setup; seeds = seeds.now }) arguments.now.script.now arguments.now.out.now (D.told desk.old) (D.told desk.new) (came_of result) }
-{
-    let blank = Blank::new(1);
-    send_counted::<Brand, D>(alloc, setup, seeds, arguments, blank, desk)
-}
-
-// Does so with a ledger for its evaluations of HMAC.
-fn send_counted<L: SendLedger, D: Desk>(
-    alloc: Global,
-    setup: Setup,
-    seeds: &Seeds,
-    arguments: &Arguments<'_>,
-    blank: Blank,
-    desk: &mut D,
-) -> Result<Lines, Stop>
-    requires name { blank.name ≡ L.name }
-    requires parts { blank.parts ≡ L.parts }
-    requires some { 0 < L.parts }
-    requires stream { L.stream ≡ record { setup = setup; seeds = seeds.now } }
-    requires count { length seeds.now ≡ length setup.rows }
-    ensures sends { SendsSeeded (record { setup = setup; seeds = seeds.now }) arguments.now.script.now arguments.now.out.now (D.told desk.old) (D.told desk.new) (came_of result) }
-{
-    let mut steps = Steps::<L>::new(blank);
-    let sender = sender_of(alloc, setup, seeds, &mut steps)?;
-    send_files(sender, steps, arguments, desk)
-}
-
-/// The sender of a setup and of the seeds of its chains, as many as these. All its memory is taken here.
-///
-/// `Refused` with the line of the first seed that doesn't give the key of the setup, and `Failed` with `NoMemory`.
-pub fn sender_of<L: Ledger>(
-    alloc: Global,
-    setup: Setup,
-    seeds: &Seeds,
-    steps: &mut Steps<L>,
-) -> Result<Sender, Stop>
-    requires { length seeds.now ≡ length setup.rows }
-    ensures stands { IfOk result (λ sender. Stands sender []) }
-    ensures stream { IfOk result (λ sender. sender.stream ≡ record { setup = setup; seeds = seeds.now }) }
-    ensures right { IfOk result (λ sender. wrong_line (record { setup = setup; seeds = seeds.now }) ≡ None) }
-    ensures refused { IfErr result (λ stop. IsNoSender (record { setup = setup; seeds = seeds.now }) (stop_came stop)) }
-{
-    match Sender::open(alloc, setup, seeds, steps) {
-        Ok(sender) => Ok(sender),
-        Err(SenderRefusal::WrongSeed { chain, made: _ }) => {
-            let line = u64::from(chain.0) + 2;
-            Err(Stop::Refused(refused(3, "seeds", line, "WrongSeed")))
-        }
-        Err(SenderRefusal::NoMemory) => Err(Stop::Failed(Fault::NoMemory)),
-    }
+    let sender = open_sender(alloc, arguments.setup, arguments.secret, desk)?;
+    send_files::<Brand, D>(sender, Blank::new(1), arguments, desk)
 }
 
 // Opens the script and the output, and sends the script.
 fn send_files<L: SendLedger, D: Desk>(
     sender: Sender,
-    steps: Steps<L>,
+    blank: Blank,
     arguments: &Arguments<'_>,
     desk: &mut D,
 ) -> Result<Lines, Stop>
+    requires name { blank.name ≡ L.name }
+    requires parts { blank.parts ≡ L.parts }
+    requires some { 0 < L.parts }
     requires stands { Stands sender [] }
     requires stream { sender.stream ≡ L.stream }
     ensures { SendsFiles sender.stream arguments.now.script.now arguments.now.out.now (D.told desk.old) (D.told desk.new) (came_of result) }
 {
+    let steps = Steps::<L>::new(blank);
     match open_files(arguments.script, arguments.out, desk) {
         Ok((mut source, mut out)) => {
             let came = send_between(sender, steps, &mut source, &mut out);

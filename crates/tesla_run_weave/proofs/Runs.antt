@@ -23,7 +23,7 @@ use Rattle.tesla_front.specs.declared.refusal.Stop.{Stop}
 use Rattle.tesla_front.specs.declared.refusal.Stop.TheVariants as stops
 use Rattle.tesla_front.proofs.Commands.{counts_stopped}
 use Rattle.tesla_front.proofs.Openings.{opens_first, opens_none, opens_some, opens_then, pages_tried}
-use Rattle.tesla_promise.specs.Woven.{woven}
+use Rattle.tesla_early.specs.Woven.{woven}
 use Rattle.tesla_run_weave.specs.Arguments.{IsWeave, WeaveArguments, files_of_weave}
 use Rattle.tesla_run_weave.specs.Plan.{Planned, filled, slot_of, with_payloads}
 use Rattle.tesla_run_weave.specs.Rule.{bodies_of, names_of}

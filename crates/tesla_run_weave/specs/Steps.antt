@@ -15,7 +15,7 @@ use Rattle.tesla_front.specs.Files.{HoldsWhere}
 use Rattle.tesla_front.specs.Openings.{AnyFailed, Opens, file_told}
 use Rattle.tesla_front.specs.declared.fault.Fault.TheVariants as faults
 use Rattle.tesla_front.specs.declared.refusal.Stop.{Stop}
-use Rattle.tesla_promise.specs.Woven.{woven}
+use Rattle.tesla_early.specs.Woven.{woven}
 use Rattle.tesla_sender.specs.Made.{Call}
 use Rattle.tesla_sender.specs.Names.{NamesAfter, Naming}
 use Rattle.tesla_run_weave.specs.Arguments.{WeaveArguments}

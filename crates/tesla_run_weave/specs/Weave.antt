@@ -15,7 +15,7 @@ use Rattle.tesla_front.specs.Openings.{File}
 use Rattle.tesla_front.specs.Refusal.{refused_line}
 use Rattle.tesla_front.specs.Setup.{IsSetupIn}
 use Rattle.tesla_front.specs.declared.fault.Fault.TheVariants as faults
-use Rattle.tesla_promise.specs.Woven.{woven}
+use Rattle.tesla_early.specs.Woven.{woven}
 use Rattle.tesla_run_weave.specs.Arguments.{WeaveArguments, IsWeave, files_of_weave}
 use Rattle.tesla_run_weave.specs.Plan.{with_payloads}
 use Rattle.tesla_run_weave.specs.Rule.{bodies_of, names_of, rule_of}

@@ -17,11 +17,11 @@ use crate::WeaveKind;
 use crate::plan::Plan;
 use std::alloc::Global;
 use std::marker::{Brand, PhantomData};
-use tesla_base::Name;
+use tesla_base::{MOST_DATAGRAM, Name};
 use tesla_capture::{Gatherer, RecordKind, RecordReader, RecordStep, ScriptFormat};
 use tesla_convert::{Converted, Converter, Halt, TakenRecord};
 use tesla_desk::{Sink, Source};
-use tesla_promise::MOST_BODY;
+use tesla_early::MOST_BODY;
 use tesla_run_send::{ScriptKind, message_kind};
 use tesla_sender::{DiscloseRefusal, Namer};
 
@@ -190,7 +190,7 @@ impl<U: Under> Converter for Collector<U> {
     fn next<S: Source>(
         reader: &mut RecordReader<ScriptFormat>,
         source: &mut S,
-        room: &mut [u8; 2048],
+        room: &mut [u8; MOST_DATAGRAM],
     ) -> RecordStep {
         reader.next_record(source, room)
     }

@@ -11,7 +11,7 @@ ghost use Rattle.tesla_front.specs.Fault.{Causes};
 ghost use Rattle.tesla_front.specs.Files.{WritesFile};
 ghost use Rattle.tesla_front.specs.Refusal.{StopCauses};
 ghost use Rattle.tesla_front.specs.declared.fault.Fault.TheVariants as faults;
-ghost use Rattle.tesla_promise.specs.Woven.{woven};
+ghost use Rattle.tesla_early.specs.Woven.{woven};
 ghost use Rattle.tesla_run_weave.specs.Plan.{filled};
 ghost use Rattle.tesla_run_weave.specs.Steps.{OpensOut, payloads_behind, plan_text, slot_text};
 ghost use Rattle.tesla_run_weave.specs.Weave.{WritesWoven, messages_line};
@@ -21,8 +21,8 @@ use std::alloc::Global;
 use tesla_base::{Name, NoMemory, Text};
 use tesla_capture::Gatherer;
 use tesla_desk::{Desk, Sink};
+use tesla_early::weave;
 use tesla_front::{Fault, Lines, Stop, add_count};
-use tesla_promise::weave;
 
 // Puts a record: a message with the payload at this place, where there is one, or a disclosure. It gives the place of the
 // next payload. `None`: a write failed.

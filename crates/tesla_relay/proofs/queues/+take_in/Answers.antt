@@ -1,6 +1,6 @@
 use Rattle.std.proofs.Common.{rules, ◌≡◌, ◌∙◌, List, [], ◌∷◌, ◌++◌, map, ap, sym, subst}
 use Rattle.std.proofs.lemmas.List.{map-append}
-use Rattle.tesla_posts.specs.Posts.{PostSeen}
+use Rattle.tesla_relay.specs.Posts.{PostSeen}
 use Rattle.tesla_relay.specs.Feeding.{ServerSeen}
 use Rattle.tesla_relay.specs.Lists.{Starts}
 use Rattle.tesla_relay.specs.Queues.{Adds, AreNew, Starting}

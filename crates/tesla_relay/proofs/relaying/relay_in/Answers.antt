@@ -1,7 +1,7 @@
 use Rattle.std.proofs.Common.{rules, ◌≡◌, ◌∙◌, List, map, ap, sym, subst, subst₂, length, arith}
 use Rattle.std.proofs.lemmas.List.{length-map, map-id}
 use Rattle.tesla_desk.specs.Links.{datagrams}
-use Rattle.tesla_posts.specs.Posts.{PostSeen}
+use Rattle.tesla_relay.specs.Posts.{PostSeen}
 use Rattle.tesla_relay.specs.Feeding.{ServerSeen}
 use Rattle.tesla_relay.specs.Lists.{AreFeeding, AreServing, Each, FeedsAll, ServesAll}
 use Rattle.tesla_relay.specs.Queues.{Ending, Starting}

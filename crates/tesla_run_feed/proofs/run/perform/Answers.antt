@@ -1,13 +1,13 @@
 use Rattle.std.proofs.lemmas.Result.{err_from_is_err_and}
 use Rattle.tesla_run_feed.specs.Arguments.{arguments_of}
-use Rattle.tesla_run_feed.proofs.Performed.{performs_under, performs_unset}
+use Rattle.tesla_run_feed.proofs.Performed.{performs_fed, performs_unfed}
 use Rattle.tesla_run_feed.proofs.run.perform.Goals as goal
 
-pub returns-in_err-setup : goal.returns-in_err-setup
-returns-in_err-setup g c =
+pub returns-in_err-sender : goal.returns-in_err-sender
+returns-in_err-sender g c =
     let p = err_from_is_err_and c.from_residual.result c.from_residual.ensures.1 in
-    rw (p.1, p.2) (performs_unset (arguments_of c.args.arguments.now) c.requires.form.0 (g.D.Desk.told c.args.desk.now) _ c.in_err-setup.field-0.0 c.requires.form.1 c.setup_under.ensures.opens c.setup_under.ensures.live c.in_err-setup.ensures.refused c.in_err-setup.ensures.causes)
+    rw (p.1, p.2) (performs_unfed (arguments_of c.args.arguments.now) c.requires.form.0 (g.D.Desk.told c.args.desk.now) _ _ c.requires.form.1 c.in_err-sender.ensures.refused)
 
 pub returns : goal.returns
 returns g c =
-    performs_under (arguments_of c.args.arguments.now) c.requires.form.0 c.in_ok-setup.setup (g.D.Desk.told c.args.desk.now) _ _ _ c.requires.form.1 c.in_ok-setup.ensures.opened c.in_ok-setup.ensures.pages c.in_ok-setup.ensures.live c.in_ok-setup.ensures.causes c.in_ok-setup.ensures.found c.feed_under.ensures
+    performs_fed (arguments_of c.args.arguments.now) c.requires.form.0 c.in_ok-sender.sender.stream (g.D.Desk.told c.args.desk.now) _ _ _ c.requires.form.1 c.in_ok-sender.ensures.opened c.feed_files.ensures

@@ -1,7 +1,7 @@
 use Rattle.std.proofs.Common.{ap, map}
 use Rattle.tesla_front.specs.Came.{outcome_came}
-use Rattle.tesla_posts.specs.Opening.{name_of}
-use Rattle.tesla_posts.specs.Posts.{PostSeen}
+use Rattle.tesla_relay.specs.Opening.{name_of}
+use Rattle.tesla_relay.specs.Posts.{PostSeen}
 use Rattle.tesla_run_relay.proofs.Steps.{counted_size, opened_fits, opened_some, runs_relay}
 use Rattle.tesla_run_relay.proofs.run.run_posts.Goals as goal
 

@@ -1,13 +1,13 @@
 use Rattle.std.proofs.lemmas.Result.{err_from_is_err_and}
 use Rattle.tesla_run_send.specs.Arguments.{arguments_of}
-use Rattle.tesla_run_send.proofs.Runs.{performs_under, performs_unset}
+use Rattle.tesla_run_send.proofs.Runs.{performs_sent, performs_unsent}
 use Rattle.tesla_run_send.proofs.run.perform.Goals as goal
 
-pub returns-in_err-setup : goal.returns-in_err-setup
-returns-in_err-setup g c =
+pub returns-in_err-sender : goal.returns-in_err-sender
+returns-in_err-sender g c =
     let p = err_from_is_err_and c.from_residual.result c.from_residual.ensures.1 in
-    rw (p.1, p.2) (performs_unset (arguments_of c.args.arguments.now) (g.D.Desk.told c.args.desk.now) _ c.in_err-setup.field-0.0 c.requires.files c.setup_under.ensures.opens c.in_err-setup.ensures.refused c.in_err-setup.ensures.causes)
+    rw (p.1, p.2) (performs_unsent (arguments_of c.args.arguments.now) (g.D.Desk.told c.args.desk.now) _ _ c.requires.files c.in_err-sender.ensures.refused)
 
 pub returns : goal.returns
 returns g c =
-    performs_under (arguments_of c.args.arguments.now) c.in_ok-setup.setup (g.D.Desk.told c.args.desk.now) _ _ _ c.requires.files c.in_ok-setup.ensures.opened c.in_ok-setup.ensures.pages c.in_ok-setup.ensures.causes c.in_ok-setup.ensures.found c.send_under.ensures
+    performs_sent (arguments_of c.args.arguments.now) c.in_ok-sender.sender.stream (g.D.Desk.told c.args.desk.now) _ _ _ c.requires.files c.in_ok-sender.ensures.opened c.send_files.ensures

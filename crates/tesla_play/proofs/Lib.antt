@@ -1,3 +1,0 @@
-pub mod Pace
-pub mod Sends
-pub mod Taken

@@ -1,5 +1,0 @@
-use Rattle.std.proofs.Common.{length}
-use Rattle.tesla_play.proofs.playing.+hand.Given as goal
-
-abbrev pub decreases-hand : goal.decreases-hand
-decreases-hand g l = length l.posts.now

@@ -1,5 +1,0 @@
-use Rattle.std.proofs.Common.{vec_len}
-use Rattle.tesla_posts.proofs.posts.+close_posts.Given as goal
-
-abbrev pub decreases-close_posts : goal.decreases-close_posts
-decreases-close_posts g l = vec_len l.posts.now

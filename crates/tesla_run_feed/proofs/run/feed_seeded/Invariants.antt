@@ -1,4 +1,0 @@
-use Rattle.tesla_run_feed.proofs.run.feed_seeded.Given as goal
-
-abbrev pub ghosts-feed_counted : goal.ghosts-feed_counted
-ghosts-feed_counted g a = record { name = a.blank.name; parts = a.blank.parts }
