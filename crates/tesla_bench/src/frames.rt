@@ -2,6 +2,7 @@
 
 ghost use Rattle.std.specs.Prelude.{◌≡◌, ◌+◌, ◌*◌, ◌==◌, if◌then◌else◌, min};
 
+use tesla_base::MOST_DATAGRAM;
 use tesla_frame::{FrameView, read_frame};
 
 /// How many bytes a frame has before its payload.
@@ -10,7 +11,7 @@ const HEAD: usize = 22;
 /// A datagram that is a data frame.
 #[derive(Drop)]
 pub struct Datagram {
-    bytes: [u8; 2048],
+    bytes: [u8; MOST_DATAGRAM],
     length: usize,
 }
 

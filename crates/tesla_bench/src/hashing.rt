@@ -5,7 +5,7 @@ ghost use Rattle.tesla_prf.specs.Keys.{walk};
 
 use sha2::{Digest, Sha256};
 use std::sync::ledger::Ledger;
-use tesla_base::{Key, Steps};
+use tesla_base::{KEY_BYTES, Key, Steps};
 use tesla_prf::walk_back;
 
 /// How many blocks are hashed as one text.
@@ -39,7 +39,7 @@ pub fn digest_often(bytes: u64, times: u64) -> u64 {
 }
 
 /// The key from which is walked.
-const FIRST: Key = Key([0x11; 32]);
+const FIRST: Key = Key([0x11; KEY_BYTES]);
 
 /// Walks back from a key so many times, at most 2^32 - 1: one evaluation of HMAC each. It gives the last byte of the key
 /// that is reached.

@@ -2,17 +2,22 @@
 //!
 //! `frames VERSION BYTES CHAINS TIMES` reads a data frame so many times. `compressions COUNT` hashes so many blocks,
 //! `digests BYTES TIMES` makes the digest of a payload so many times, and `evaluations COUNT` evaluates HMAC so many times. `walk LAST KEYS` opens a traversal of a chain of that many keys, and
-//! asks it for the first of them. Each prints a number that depends on the work.
+//! asks it for the first of them. Each prints a number that depends on the work. `turns` prints for 1, 2, 4 and 8 threads how
+//! many turns a second they take, and how often a second a lock of std lets them in.
 #![tactic(auto)]
 
 ghost use Rattle.std.specs.Prelude.{◌≡◌, ◌<◌};
 
 mod frames;
 mod hashing;
+mod lock;
+mod measuring;
+mod turns;
 mod walking;
 
 use frames::{Datagram, read_often};
 use hashing::{compress_often, digest_often, evaluate_often};
+use measuring::measure_turns;
 use std::alloc::{AllocError, Global};
 use std::marker::Brand;
 use std::rt::Env;
@@ -68,8 +73,19 @@ fn worked(alloc: Global, words: &[String]) -> Option<u64> {
     counted::<Brand>(alloc, words, blank)
 }
 
+// Whether the words ask how long turns take.
+fn asks_for_turns(words: &[String]) -> bool {
+    match words {
+        [what] => what.as_str() == "turns",
+        _ => false,
+    }
+}
+
 fn main(rt: HostRuntime) -> io::Result<()> {
     let words = words(&rt)?;
+    if asks_for_turns(words.as_slice()) {
+        return measure_turns(&rt);
+    }
     if let Some(told) = worked(rt.alloc(), words.as_slice()) {
         println!(rt; "{told}")?;
     }

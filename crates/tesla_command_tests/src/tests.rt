@@ -3,7 +3,6 @@
 
 mod counting;
 mod feeds;
-mod files;
 mod flags;
 mod live;
 mod loads;
@@ -24,12 +23,11 @@ use std::process::ExitCode;
 use std::sync::Wait;
 use std::test::Fail;
 use std::thread::Threads;
-use tesla_cli_live::{is_live, run_live};
-use tesla_cli_recorded::{is_recorded, run_recorded};
-use tesla_desk::{Desk, MemoryDesk};
+use tesla_cli_live::{is_live, is_live_tool, is_recorded, run_live, run_live_tools, run_recorded};
+use tesla_desk::Desk;
+use tesla_memory_desk::MemoryDesk;
 use tesla_program::run_program;
 use tesla_test_desk::{Row, set_pieces, told_of, words_of};
-use tesla_tools::run_tools;
 
 /// More bytes than any page has.
 const WHOLE: usize = 100_000;
@@ -52,6 +50,16 @@ fn status_of_recorded<R: Threads + Wait + Sync, D: Desk>(
     desk: &mut D,
 ) -> u8 {
     run_recorded(rt, alloc, words, desk).status
+}
+
+// The status of words of a live tool.
+fn status_of_tools<R: Threads + Wait + Sync, D: Desk>(
+    rt: &R,
+    alloc: Global,
+    words: &[String],
+    desk: &mut D,
+) -> u8 {
+    run_live_tools(rt, alloc, words, desk).status
 }
 
 // The status of all other words.
@@ -78,8 +86,8 @@ fn status_of<R: Threads + Wait + Sync, D: Desk>(
     if is_recorded(words.as_slice()) {
         return status_of_recorded(rt, alloc, words.as_slice(), desk);
     }
-    if feeds::is_one(words.as_slice()) {
-        return feeds::status_of(rt, alloc, words.as_slice(), desk);
+    if is_live_tool(words.as_slice()) {
+        return status_of_tools(rt, alloc, words.as_slice(), desk);
     }
     status_of_program(alloc, Ok(words), desk)
 }
@@ -117,11 +125,9 @@ fn wrong_in<R: Threads + Wait + Sync>(
     most: usize,
 ) -> Result<String, Fail> {
     let mut wrong = String::new(alloc);
-    for text in table.split("\n* ") {
-        if !text.is_empty() {
-            let row = Row::of(text)?;
-            wrong.push_str(wrong_in_row(rt, alloc, row, most)?.as_str())?;
-        }
+    for text in table.split("\n* ").skip(1) {
+        let row = Row::of(text)?;
+        wrong.push_str(wrong_in_row(rt, alloc, row, most)?.as_str())?;
     }
     Ok(wrong)
 }
@@ -138,6 +144,14 @@ fn commands_that_fail(rt: HostRuntime) -> Result<(), Fail> {
         texts::PROGRAM,
         live::RUNS,
     ] {
+        assert_eq!(rt; wrong_in(&rt, rt.alloc(), table, WHOLE)?.as_str(), "");
+    }
+    Ok(())
+}
+
+#[test]
+fn live_tools(rt: HostRuntime) -> Result<(), Fail> {
+    for table in [feeds::FEEDS, feeds::REFUSALS, feeds::CAPTURES] {
         assert_eq!(rt; wrong_in(&rt, rt.alloc(), table, WHOLE)?.as_str(), "");
     }
     Ok(())
@@ -162,6 +176,12 @@ fn each_outside_call_fails_once(rt: HostRuntime) -> Result<(), Fail> {
     Ok(())
 }
 
+#[test]
+fn each_outside_call_of_live_commands_fails_once(rt: HostRuntime) -> Result<(), Fail> {
+    assert_eq!(rt; wrong_counts(&rt, rt.alloc(), counting::LIVE)?.as_str(), "");
+    Ok(())
+}
+
 // Whether a run with two links and two sinks comes to one of the outcomes that it may have.
 fn is_one_of_two_and_two<R: Threads + Wait + Sync>(rt: &R, alloc: Global) -> Result<bool, Fail> {
     let mut desk = new_desk(alloc)?;
@@ -178,38 +198,5 @@ fn is_one_of_two_and_two<R: Threads + Wait + Sync>(rt: &R, alloc: Global) -> Res
 #[test]
 fn two_links_and_two_sinks(rt: HostRuntime) -> Result<(), Fail> {
     assert!(rt; is_one_of_two_and_two(&rt, rt.alloc())?);
-    Ok(())
-}
-
-// What a call tells of words that are in no form of its own.
-fn told_of_tools(alloc: Global, line: &str) -> Result<String, Fail> {
-    let mut desk = new_desk(alloc)?;
-    let words = words_of(alloc, line)?;
-    let status = run_tools(alloc, words.as_slice(), &mut desk);
-    told_of(alloc, status, &desk)
-}
-
-// The same of the live commands.
-fn told_of_live<R: Threads + Wait + Sync>(
-    rt: &R,
-    alloc: Global,
-    line: &str,
-) -> Result<String, Fail> {
-    let mut desk = new_desk(alloc)?;
-    let words = words_of(alloc, line)?;
-    let status = status_of_live(rt, alloc, words.as_slice(), &mut desk);
-    told_of(alloc, status, &desk)
-}
-
-#[test]
-fn words_of_no_form(rt: HostRuntime) -> Result<(), Fail> {
-    for line in ["", "send setup secret script capture"] {
-        let told = told_of_tools(rt.alloc(), line)?;
-        assert_eq!(rt; told.as_str(), times::USAGE, "{line}");
-    }
-    for line in live::NO_FORMS {
-        let told = told_of_live(&rt, rt.alloc(), line)?;
-        assert_eq!(rt; told.as_str(), live::USAGE, "{line}");
-    }
     Ok(())
 }

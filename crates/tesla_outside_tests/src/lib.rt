@@ -1,4 +1,4 @@
-//! Tests of the outside: the desk in memory, and the running system.
+//! Tests of the running system: its clocks, its gates and the waits of its links.
 #![tactic(auto)]
 
 #[cfg(test)]

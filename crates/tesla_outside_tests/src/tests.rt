@@ -1,4 +1,5 @@
-//! A module for each desk.
+//! A module for each part of the running system that a script can't try.
 
-mod memory;
-mod system;
+mod clocks;
+mod gates;
+mod waits;

@@ -3,8 +3,6 @@
 ghost use Rattle.std.specs.Prelude.{[], IfOk};
 ghost use Rattle.tesla_receiver.specs.Stands.{Stands};
 
-mod counts;
-mod recorded;
 mod rising;
 mod turns;
 mod workers;
@@ -12,8 +10,8 @@ mod workers;
 use std::alloc::Global;
 use std::test::Fail;
 use tesla_commit::read_setup;
-use tesla_examples::SETUP;
 use tesla_receiver::Receiver;
+use tesla_test_desk::SETUP;
 
 // A receiver of the examples with room for 16 packets, whose lag is 30,000 microseconds.
 fn receiver_of(alloc: Global, ingests: u8) -> Result<Receiver, Fail>
@@ -25,6 +23,3 @@ fn receiver_of(alloc: Global, ingests: u8) -> Result<Receiver, Fail>
     let setup = read_setup(alloc, SETUP.as_bytes())?;
     Ok(Receiver::open(alloc, setup, 30_000, 16, 16, ingests)?)
 }
-
-// Whether it may go to another thread.
-fn is_sent<T: Send>() {}

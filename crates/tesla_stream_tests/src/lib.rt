@@ -1,4 +1,4 @@
-//! Tests of senders, of receivers and of both together, against frames and answers from outside.
+//! Tests of what sends and receives a stream, and of the functions below it, against values from outside.
 #![tactic(auto)]
 
 #[cfg(test)]

@@ -1,9 +1,10 @@
 //! What a desk holds behind a run.
 
-use crate::spelled::{bytes_of, digits_of};
+use crate::spelled::digits_of;
 use std::alloc::Global;
 use std::test::Fail;
-use tesla_desk::{CONSOLE, MemoryDesk};
+use tesla_desk::CONSOLE;
+use tesla_memory_desk::MemoryDesk;
 
 /// How many datagrams of a post are looked at, at most.
 const MOST_SENT: usize = 100;
@@ -14,11 +15,16 @@ pub fn told_of(alloc: Global, status: u8, desk: &MemoryDesk) -> Result<String, F
     Ok(format!(in alloc; "{status} {console}")?)
 }
 
-// What a post sent, in hexadecimal, with a full stop behind each datagram.
-fn sent_by(alloc: Global, desk: &MemoryDesk, post: &str) -> Result<String, Fail> {
-    let mut sent = String::new(alloc);
+/// What an output holds, as `page` with its digits, or else what a post sent, as `sent` with a full stop behind the digits of each
+/// datagram.
+pub fn held_by(alloc: Global, desk: &MemoryDesk, name: &str) -> Result<String, Fail> {
+    if let Some(bytes) = desk.page(name) {
+        let digits = hex::encode(alloc, bytes)?;
+        return Ok(format!(in alloc; "page {digits}")?);
+    }
+    let mut sent = String::from_str(alloc, "sent ")?;
     for number in 0..MOST_SENT {
-        let Some(datagram) = desk.posted(post, number) else {
+        let Some(datagram) = desk.posted(name, number) else {
             break;
         };
         sent.push_str(hex::encode(alloc, datagram)?.as_str())?;
@@ -27,79 +33,51 @@ fn sent_by(alloc: Global, desk: &MemoryDesk, post: &str) -> Result<String, Fail>
     Ok(sent)
 }
 
-/// What an output holds, in hexadecimal, or else what a post sent, with a full stop behind each datagram.
-pub fn held_by(alloc: Global, desk: &MemoryDesk, name: &str) -> Result<String, Fail> {
-    match desk.page(name) {
-        Some(bytes) => Ok(hex::encode(alloc, bytes)?),
-        None => sent_by(alloc, desk, name),
-    }
-}
-
-// The bytes of the page that a word names, or else those that it spells.
-fn page_or_bytes(alloc: Global, desk: &MemoryDesk, word: &str) -> Result<Vec<u8>, Fail> {
+// The digits of the page that a word names, or else of the bytes that it spells.
+fn page_or_digits(alloc: Global, desk: &MemoryDesk, word: &str) -> Result<String, Fail> {
     match desk.page(word) {
-        Some(bytes) => Ok(Vec::from_slice(alloc, bytes)?),
-        None => bytes_of(alloc, word),
+        Some(bytes) => Ok(hex::encode(alloc, bytes)?),
+        None => digits_of(alloc, word),
     }
 }
 
-// Whether a page is there and holds what the word says.
-fn holds(alloc: Global, desk: &MemoryDesk, page: &str, word: &str) -> Result<bool, Fail> {
-    let wanted = page_or_bytes(alloc, desk, word)?;
-    Ok(desk.page(page) == Some(wanted.as_slice()))
+// What is held where a post sent the datagrams of these words.
+fn sent_of(alloc: Global, desk: &MemoryDesk, words: &str) -> Result<String, Fail> {
+    let mut sent = String::from_str(alloc, "sent ")?;
+    for word in words.split(' ') {
+        sent.push_str(page_or_digits(alloc, desk, word)?.as_str())?;
+        sent.push_str(".")?;
+    }
+    Ok(sent)
 }
 
-// Whether a page holds so many first bytes of what the second word says, or all where it has fewer.
-fn holds_front(alloc: Global, desk: &MemoryDesk, page: &str, words: &str) -> Result<bool, Fail> {
+// What is held where a page has so many first bytes of what a word says, or all where that has fewer.
+fn front_of(alloc: Global, desk: &MemoryDesk, words: &str) -> Result<String, Fail> {
     let (most, word) = words.split_once(' ').ok_or("a number of bytes")?;
     let most: usize = most.parse()?;
-    let whole = page_or_bytes(alloc, desk, word)?;
-    let front = &whole.as_slice()[..whole.len().min(most)];
-    Ok(desk.page(page) == Some(front))
+    let digits = page_or_digits(alloc, desk, word)?;
+    let digits = digits.as_str();
+    let front = digits.get(..most.saturating_mul(2)).unwrap_or(digits);
+    Ok(format!(in alloc; "page {front}")?)
 }
 
-// Whether a post sent the datagrams of these words.
-fn has_sent(alloc: Global, desk: &MemoryDesk, post: &str, words: &str) -> Result<bool, Fail> {
-    let mut wanted = String::new(alloc);
-    for word in words.split(' ') {
-        wanted.push_str(digits_of(alloc, word)?.as_str())?;
-        wanted.push_str(".")?;
-    }
-    Ok(sent_by(alloc, desk, post)?.as_str() == wanted.as_str())
-}
-
-// Whether what a line says is so of a name.
-fn is_so_of(
+/// What is held, as in `held_by`, where a line of this kind says these words: `holds` says which word a page holds, or the page of
+/// which name; `front` has a number and so many first bytes of that; `sent` which datagrams a post sent; and `lacks` and `silent`
+/// that there is no page, and that a post sent none.
+pub fn wanted_of(
     alloc: Global,
     desk: &MemoryDesk,
     kind: &str,
-    name: &str,
     words: &str,
-) -> Result<bool, Fail> {
+) -> Result<String, Fail> {
     match kind {
-        "holds" => holds(alloc, desk, name, words),
-        "front" => holds_front(alloc, desk, name, words),
-        "lacks" => Ok(desk.page(name).is_none()),
-        "sent" => has_sent(alloc, desk, name, words),
-        "silent" => Ok(desk.posted(name, 0).is_none()),
+        "holds" => {
+            let digits = page_or_digits(alloc, desk, words)?;
+            Ok(format!(in alloc; "page {digits}")?)
+        }
+        "front" => front_of(alloc, desk, words),
+        "sent" => sent_of(alloc, desk, words),
+        "lacks" | "silent" => Ok(String::from_str(alloc, "sent ")?),
         _ => Err("another kind".into()),
     }
-}
-
-/// Whether what a line says is so of each of these names, which have a comma between two: `holds` says which word a page
-/// holds, or the page of which name; `front NAMES COUNT WORD` so many first bytes of that; `lacks` that there is no page;
-/// `sent` which datagrams a post sent; and `silent` that it sent none.
-pub fn is_so(
-    alloc: Global,
-    desk: &MemoryDesk,
-    kind: &str,
-    names: &str,
-    words: &str,
-) -> Result<bool, Fail> {
-    for name in names.split(',') {
-        if !is_so_of(alloc, desk, kind, name, words)? {
-            return Ok(false);
-        }
-    }
-    Ok(true)
 }

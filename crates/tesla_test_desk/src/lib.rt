@@ -1,5 +1,5 @@
-//! What tests of commands over a desk in memory share: rows of plain text that set a desk, name a run, and say what it has to
-//! come to.
+//! What tests share: the setups and frames of a stream, and rows of plain text that set a desk in memory, name a run, and say what
+//! it has to come to.
 #![tactic(auto)]
 
 mod checks;
@@ -10,6 +10,10 @@ mod settings;
 mod spelled;
 
 pub use checks::{held_by, told_of};
-pub use links::{put_clock, put_link};
+pub use frames::{
+    SEEDS, SETUP, SETUP_OF_ONE_CHAIN, SETUP_WITH_TAGS_OF_10_BYTES, SETUP_WITH_TAGS_OF_32_BYTES,
+    frame,
+};
 pub use rows::Row;
-pub use settings::{add_to_page, set_pieces, words_of};
+pub use settings::{set_pieces, words_of};
+pub use spelled::bytes_of;

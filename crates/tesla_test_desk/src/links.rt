@@ -8,7 +8,8 @@ use crate::spelled::bytes_of;
 use std::alloc::Global;
 use std::test::Fail;
 use tesla_base::Text;
-use tesla_desk::{Letter, MemoryDesk};
+use tesla_desk::Letter;
+use tesla_memory_desk::MemoryDesk;
 
 // Whether a letter has at most 2,048 bytes.
 fn does_fit(letter: &Letter) -> bool
@@ -35,30 +36,32 @@ fn put_letters(desk: &mut MemoryDesk, link: &str, letters: &[Letter]) -> Result<
     Ok(desk.put_letters(link, letters)?)
 }
 
-// Adds the letter of a word.
-fn add_letter(alloc: Global, letters: &mut Vec<Letter>, word: &str) -> Result<(), Fail> {
+// The letter of a word.
+fn letter_of(alloc: Global, word: &str) -> Result<Letter, Fail> {
     if word == "." {
-        return Ok(letters.push(Letter::Quiet)?);
+        return Ok(Letter::Quiet);
     }
     let bytes = Text::new(alloc, bytes_of(alloc, word)?.as_slice())?;
-    Ok(letters.push(Letter::Datagram { bytes })?)
+    Ok(Letter::Datagram { bytes })
 }
 
-/// Puts what a link brings, with a space between two: `.` for a quiet, and else the word of a datagram.
-pub fn put_link(alloc: Global, desk: &mut MemoryDesk, link: &str, words: &str) -> Result<(), Fail> {
+/// Puts what each of these links brings, with a space between two: `.` for a quiet, and else the word of a datagram.
+pub fn put_links(
+    alloc: Global,
+    desk: &mut MemoryDesk,
+    links: &str,
+    words: &str,
+) -> Result<(), Fail> {
     let mut letters = Vec::new(alloc);
     if !words.is_empty() {
         for word in words.split(' ') {
-            add_letter(alloc, &mut letters, word)?;
+            letters.push(letter_of(alloc, word)?)?;
         }
     }
-    put_letters(desk, link, letters.as_slice())
-}
-
-// Adds the reading that a word spells.
-fn add_reading(readings: &mut Vec<u64>, word: &str) -> Result<(), Fail> {
-    let reading: u64 = word.parse()?;
-    Ok(readings.push(reading)?)
+    for link in links.split(',') {
+        put_letters(desk, link, letters.as_slice())?;
+    }
+    Ok(())
 }
 
 /// Puts what the clock with this number reads, with a space between two readings.
@@ -70,7 +73,7 @@ pub fn put_clock(
 ) -> Result<(), Fail> {
     let mut readings = Vec::new(alloc);
     for word in words.split(' ') {
-        add_reading(&mut readings, word)?;
+        readings.push(word.parse()?)?;
     }
     Ok(desk.put_readings(clock, readings.as_slice())?)
 }

@@ -1,11 +1,11 @@
 //! Rows of plain text: what is set of a desk, a run, and what it has to come to.
 
-use crate::checks::{is_so, told_of};
-use crate::links::{put_clock, put_link};
+use crate::checks::{held_by, told_of, wanted_of};
+use crate::links::{put_clock, put_links};
 use crate::settings::{add_to_page, set};
 use std::alloc::Global;
 use std::test::Fail;
-use tesla_desk::MemoryDesk;
+use tesla_memory_desk::MemoryDesk;
 
 /// A row: a line `NAME $ WORDS`, and a line behind it for each thing that is set, and for each that has to be so then.
 ///
@@ -25,14 +25,6 @@ fn kind_of(line: &str) -> (&str, &str) {
     line.split_once(' ').unwrap_or((line, ""))
 }
 
-// Puts what these links bring.
-fn put_links(alloc: Global, desk: &mut MemoryDesk, names: &str, words: &str) -> Result<(), Fail> {
-    for name in names.split(',') {
-        put_link(alloc, desk, name, words)?;
-    }
-    Ok(())
-}
-
 // Sets what a line says.
 fn set_line(alloc: Global, desk: &mut MemoryDesk, line: &str) -> Result<(), Fail> {
     let (kind, rest) = kind_of(line);
@@ -46,37 +38,31 @@ fn set_line(alloc: Global, desk: &mut MemoryDesk, line: &str) -> Result<(), Fail
     }
 }
 
-// Whether a line has nothing to say behind a run, or is that of the console.
-fn is_said(kind: &str) -> bool {
-    matches!(kind, "" | "#" | "page" | "link" | "clock" | "set" | "told")
+// Whether each of these names, which have a comma between two, holds this.
+fn all_hold(alloc: Global, desk: &MemoryDesk, names: &str, wanted: &str) -> Result<bool, Fail> {
+    for name in names.split(',') {
+        if held_by(alloc, desk, name)?.as_str() != wanted {
+            return Ok(false);
+        }
+    }
+    Ok(true)
 }
 
-// Whether what a line says is so.
-fn is_line_so(alloc: Global, desk: &MemoryDesk, line: &str) -> Result<bool, Fail> {
+// Whether what a line says is so, where this was told.
+fn is_so(alloc: Global, desk: &MemoryDesk, told: &str, line: &str) -> Result<bool, Fail> {
     let (kind, rest) = kind_of(line);
     let (names, words) = kind_of(rest);
-    if is_said(kind) {
-        return Ok(true);
-    }
-    is_so(alloc, desk, kind, names, words)
-}
-
-// Whether a line says what `out` holds.
-fn is_of_out(line: &str) -> bool {
-    line.starts_with("holds out") || line.starts_with("front out")
-}
-
-// A text in which `\n` stands for the end of a line, and `|` at the end for nothing.
-fn text_of(alloc: Global, spelled: &str) -> Result<String, Fail> {
-    let mut text = String::new(alloc);
-    let spelled = spelled.strip_suffix('|').unwrap_or(spelled);
-    for (number, line) in spelled.split("\\n").enumerate() {
-        if 0 < number {
-            text.push_str("\n")?;
+    match kind {
+        "" | "#" | "page" | "link" | "clock" | "set" => Ok(true),
+        "told" => {
+            let text = rest.strip_suffix('|').unwrap_or(rest);
+            Ok(text.replace(alloc, "\\n", "\n")?.as_str() == told)
         }
-        text.push_str(line)?;
+        _ => {
+            let wanted = wanted_of(alloc, desk, kind, words)?;
+            all_hold(alloc, desk, names, wanted.as_str())
+        }
     }
-    Ok(text)
 }
 
 impl<'a> Row<'a> {
@@ -95,49 +81,25 @@ impl<'a> Row<'a> {
         Ok(())
     }
 
-    // The line of what is told.
-    fn told(&self) -> Result<&'a str, Fail> {
-        for line in self.lines.split('\n') {
-            if let Some(told) = line.strip_prefix("told ") {
-                return Ok(told);
-            }
-        }
-        Err("a row that tells nothing".into())
-    }
-
     // Whether `out` is as before, or a line says what it holds.
     fn is_out_told(&self, desk: &MemoryDesk) -> bool {
-        for line in self.lines.split('\n') {
-            if is_of_out(line) {
-                return true;
-            }
-        }
-        desk.page("out") == desk.page("before")
+        self.lines.contains("holds out")
+            || self.lines.contains("front out")
+            || desk.page("out") == desk.page("before")
     }
 
-    // Adds what else than this line a run came to.
-    fn add_wrong(&self, wrong: &mut String, line: &str) -> Result<(), Fail> {
-        wrong.push_str(self.name)?;
-        wrong.push_str(": ")?;
-        wrong.push_str(line)?;
-        Ok(wrong.push_str("\n")?)
-    }
-
-    /// What isn't as the row says behind a run with this status: what is told else, and the lines that aren't so. Empty where
-    /// all is.
+    /// What isn't as the row says behind a run with this status: the lines that aren't so, and what is told. Empty where all is.
     pub fn wrong(&self, alloc: Global, status: u8, desk: &MemoryDesk) -> Result<String, Fail> {
-        let mut wrong = String::new(alloc);
         let told = told_of(alloc, status, desk)?;
-        if told.as_str() != text_of(alloc, self.told()?)?.as_str() {
-            self.add_wrong(&mut wrong, told.as_str())?;
-        }
+        let name = self.name;
+        let mut wrong = String::new(alloc);
         for line in self.lines.split('\n') {
-            if !is_line_so(alloc, desk, line)? {
-                self.add_wrong(&mut wrong, line)?;
+            if !is_so(alloc, desk, told.as_str(), line)? {
+                wrong.push_str(format!(in alloc; "{name}: {line}, and {told}\n")?.as_str())?;
             }
         }
-        if !self.is_out_told(desk) {
-            self.add_wrong(&mut wrong, "another page out")?;
+        if !self.lines.contains("told ") || !self.is_out_told(desk) {
+            wrong.push_str(name)?;
         }
         Ok(wrong)
     }

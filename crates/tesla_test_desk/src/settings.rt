@@ -3,7 +3,7 @@
 use crate::spelled::bytes_of;
 use std::alloc::Global;
 use std::test::Fail;
-use tesla_desk::MemoryDesk;
+use tesla_memory_desk::MemoryDesk;
 
 /// The words of a line, which has a space between two.
 pub fn words_of(alloc: Global, line: &str) -> Result<Vec<String>, Fail> {

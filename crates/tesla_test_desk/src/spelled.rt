@@ -4,22 +4,13 @@ use crate::frames::frame;
 use std::alloc::Global;
 use std::test::Fail;
 
-// Adds digits so many times.
-fn add_times(all: &mut String, digits: &str, count: &str) -> Result<(), Fail> {
-    let count: u32 = count.parse()?;
-    for _ in 0..count {
-        all.push_str(digits)?;
-    }
-    Ok(())
-}
-
 // Adds the digits of a part of a word.
 fn add_part(alloc: Global, all: &mut String, part: &str) -> Result<(), Fail> {
     if let Some(text) = part.strip_prefix('\'') {
         return Ok(all.push_str(hex::encode(alloc, text.as_bytes())?.as_str())?);
     }
     match part.split_once('*') {
-        Some((digits, count)) => add_times(all, digits, count),
+        Some((digits, count)) => Ok(all.push_str(digits.repeat(alloc, count.parse()?)?.as_str())?),
         None => Ok(all.push_str(frame(part).unwrap_or(part))?),
     }
 }

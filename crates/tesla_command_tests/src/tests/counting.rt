@@ -6,7 +6,8 @@ use std::alloc::Global;
 use std::sync::Wait;
 use std::test::Fail;
 use std::thread::Threads;
-use tesla_desk::{CONSOLE, MemoryDesk};
+use tesla_desk::CONSOLE;
+use tesla_memory_desk::MemoryDesk;
 use tesla_test_desk::held_by;
 
 /// An ordinary run of each command: its words, and how often it asks for an opening, reads or hears under a name, writes or sends
@@ -34,6 +35,12 @@ send setup secret script out: open 5, read setup 23, read secret 17, read script
 lag ask reply key 10000: open 4, read ask 3, read reply 7, read key 8, print - 1
 ask 5000000 out: open 2, write out 2, print - 2
 reply ask key 5020000 out: open 4, read ask 3, read key 8, write out 6, print - 2
+# 105 bytes of the report.
+stress 1 10: open 1, print - 11
+";
+
+/// The same of the commands that wait.
+pub const LIVE: &str = "
 # A quiet stands before each of the two datagrams.
 receive setup 30000 16 both out: open 4, read setup 23, read both 5, write out 2, print - 11
 # The head of TAIL has 13 bytes, and the last entry three.
@@ -41,8 +48,12 @@ record setup 30000 16 both out 1 tail: open 5, read setup 23, read both 5, write
 # Two lines of 24 bytes.
 relay 4 both p,q: open 4, read both 5, write p 2, write q 2, print - 5
 play taken p,q: open 4, read taken 19, write p 2, write q 2, print - 1
-# 105 bytes of the report.
-stress 1 10: open 1, print - 11
+# The last line has between 112 and 120 bytes.
+watch setup 30000 16 both out status 3600: open 5, read setup 23, read both 5, write out 2, print status 12, print - 11
+# The head of 5 bytes, and what is gathered at the second quiet, 71 bytes, and at the end, 103.
+capture both out: open 3, read both 5, write out 20, print - 2
+# Keys at the quiet, the frame, and keys in the intervals 7, 9 and 10. The lines have 77 bytes.
+feed setup secret hi p,q: open 6, read setup 23, read secret 17, read hi 3, write p 5, write q 5, print - 8
 ";
 
 /// How many bytes a call moves at most.
@@ -51,8 +62,11 @@ const PIECE: usize = 10;
 /// How many calls under one name are made to fail, at most.
 const MOST: u64 = 100;
 
-/// What an output holds before a run, in hexadecimal.
-const BEFORE: &str = "6265666f7265";
+/// What an output holds before a run, as in `held_by`.
+const BEFORE: &str = "page 6265666f7265";
+
+/// What an empty output holds, and a post that sent nothing.
+const NOTHING: [&str; 2] = ["page ", "sent "];
 
 /// A run in which no call fails: its words, its calls, the desk behind it, and what was told.
 #[derive(Drop)]
@@ -85,16 +99,6 @@ fn desk_for(alloc: Global, calls: &str) -> Result<MemoryDesk, Fail> {
         desk.set_piece(calls_of(part).1, PIECE)?;
     }
     Ok(desk)
-}
-
-// Lets a call fail.
-fn fail(desk: &mut MemoryDesk, call: Call<'_>) -> Result<(), Fail> {
-    if call.name.is_empty() {
-        desk.fail_open(call.number)?;
-    } else {
-        desk.fail_call(call.name, call.number)?;
-    }
-    Ok(())
 }
 
 // What has to be told where the console's call with this number fails: behind what was written before, that a write failed.
@@ -131,7 +135,7 @@ fn holds_front(
 ) -> Result<bool, Fail> {
     let held = held_by(alloc, desk, name)?;
     if held.as_str() == BEFORE || call.name.is_empty() {
-        return Ok(held.as_str() == BEFORE || held.is_empty());
+        return Ok(held.as_str() == BEFORE || NOTHING.contains(&held.as_str()));
     }
     let whole = held_by(alloc, &ordinary.desk, name)?;
     Ok(whole.as_str().starts_with(held.as_str()))
@@ -161,7 +165,11 @@ fn told_failing<R: Threads + Wait + Sync>(
     call: Call<'_>,
 ) -> Result<String, Fail> {
     let mut desk = desk_for(alloc, ordinary.calls)?;
-    fail(&mut desk, call)?;
+    if call.name.is_empty() {
+        desk.fail_open(call.number)?;
+    } else {
+        desk.fail_call(call.name, call.number)?;
+    }
     let mut told = told_by(rt, alloc, ordinary.words, &mut desk)?;
     if told.as_str() != ordinary.told.as_str() && !hold_fronts(alloc, &desk, ordinary, call)? {
         told.push_str(" with another output")?;

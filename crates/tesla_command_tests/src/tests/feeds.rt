@@ -1,22 +1,9 @@
-//! Runs of the live tools, `feed`, `capture` and `watch`: what posts send, at which readings of the clock. Frames were made by
-//! another program.
-
-use super::counting::wrong_counts;
-use super::pages::new_desk;
-use super::{WHOLE, wrong_in};
-use std::alloc::Global;
-use std::sync::Wait;
-use std::test::Fail;
-use std::thread::Threads;
-use tesla_desk::{Desk, MemoryDesk};
-use tesla_live::{Anchor, Times, sender_reading};
-use tesla_live_tools::{is_live_tool, run_live_tools};
-use tesla_test_desk::{Row, told_of, words_of};
+//! Runs of `feed`, `capture` and `watch`: what posts send, at which readings of the clock. Frames were made by another program.
 
 /// What each of two posts sends, at which readings of the clock: at the opening, until the next interval has begun, at each item of the
 /// link, and at each rest behind it. Interval 0 begins at 1000000, and each is 100000 long. The last interval ends at 1900000, and the
 /// greatest delay is 5.
-const FEEDS: &str = r"
+pub const FEEDS: &str = r"
 * two messages and a pause $ feed setup secret in one,two
 link in 'hi . . . . . 'yo
 clock 0 1050000 1080000 1099999 1100000 1150000 1190000 1250000 1350000 1360000 1450000 1470000 1480000 1500000 1600000 1700000 1900000 2400000
@@ -139,10 +126,17 @@ set fails 1 in,fails 1 two
 told 4 read fault\n
 sent one DATA_1_0_HI KEYS_0_1 KEYS_0_4_AND_1_1
 sent two DATA_1_0_HI
+* a date that is set ahead behind the opening, where another clock goes on by 10 milliseconds from reading to reading $ feed setup secret in one
+# What a sender then reads is told by `tesla_outside_tests`. All keys are told in their intervals by it.
+link in 'a
+clock 0 1250000 1260000 1270000 1280000 1290000 1300000 1310000 1320000 1330000 1340000 1350000 1360000 1370000 1380000 1390000 1400000 1410000 1420000 1430000 1440000 1450000 1460000 1470000 1480000 1490000 1500000 1510000 1520000 1530000 1540000 1550000 1560000 1570000 1580000 1590000 1600000 1610000 1620000 1630000 1640000 1650000 1660000 1670000 1680000 1690000 1700000 1710000 1720000 1730000 1740000 1750000 1760000 1770000 1780000 1790000 1800000 1810000 1820000 1830000 1840000
+told 0 messages 1\ndisclosures 5\ntoolong 0\nearly 0\nover 0\nbackward 0\nfull 0\nunread 0\n
+sent one DATA_3_0_A KEYS_0_2 KEYS_0_3 KEYS_0_4_AND_1_1 KEYS_0_5_AND_1_2 KEYS_0_6_AND_1_3
+silent two
 ";
 
 /// Runs that feed nothing.
-const REFUSALS: &str = r"
+pub const REFUSALS: &str = r"
 * SETUP is missing $ feed none secret in one,two
 told 7 open fault\n
 silent one,two
@@ -172,7 +166,7 @@ silent one,two
 ";
 
 /// A quiet stands before each datagram. The opening of LINK is 1, and that of CAPTURE 2.
-const CAPTURES: &str = r"
+pub const CAPTURES: &str = r"
 * capture: nothing fails $ capture few out
 # The head; each arrival with its reading, its length and its bytes; and the take behind it.
 clock 0 1 258 18446744073709551615
@@ -205,184 +199,10 @@ clock 0 1 258 18446744073709551615
 set fails 2 out
 told 5 write fault\n
 holds out 54434150010100000000000000010002616202
-";
-
-/// What comes of a message in interval 3 by the steady clock: all keys are told in their intervals by it.
-const STEADY: &str = r"a step ahead $ feed setup secret in one
-link in 'a
-told 0 messages 1\ndisclosures 5\ntoolong 0\nearly 0\nover 0\nbackward 0\nfull 0\nunread 0\n
-sent one DATA_3_0_A KEYS_0_2 KEYS_0_3 KEYS_0_4_AND_1_1 KEYS_0_5_AND_1_2 KEYS_0_6_AND_1_3
-silent two
-";
-
-/// An ordinary run of each of these commands, as in `counting`.
-const COMMANDS: &str = "
-# The last line has between 112 and 120 bytes.
-watch setup 30000 16 both out status 3600: open 5, read setup 23, read both 5, write out 2, print status 12, print - 11
-# The head of 5 bytes, and what is gathered at the second quiet, 71 bytes, and at the end, 103.
-capture both out: open 3, read both 5, write out 20, print - 2
-# Keys at the quiet, the frame, and keys in the intervals 7, 9 and 10. The lines have 77 bytes.
-feed setup secret hi p,q: open 6, read setup 23, read secret 17, read hi 3, write p 5, write q 5, print - 8
-";
-
-/// What is told of words that are no form of a live tool.
-const USAGE: &str = "\
-1 usage: capture LINK CAPTURE
-usage: feed SETUP SECRET LINK POSTS
-usage: watch SETUP LAG CAPACITY LINKS SINKS STATUS EVERY
-";
-
-/// Words that are no form.
-const NO_FORMS: &[&str] = &[
-    "feed",
-    "feed setup secret in",
-    "feed setup secret in one two",
-    "feed setup secret in one,one",
-    "feed setup secret in one,",
-    "feed setup secret in one,-",
-    "feed setup secret - one",
-    "feed setup - in one",
-    "feed - secret in one",
-    "feed setup secret  one",
-    "feeds setup secret in one",
-    "feed setup secret in two,a,b,c,d,e,f,g,h,i,j,k,l,m,n,o,p,q,r,s,t,u,v,w,x,y,z,A,B,C,D,E,one",
-    "capture in",
-    "capture in out more",
-    "captures in out",
-    "capture - out",
-    "capture in -",
-    "capture  out",
-    "",
-];
-
-/// Whether the words are those of a live tool.
-pub fn is_one(words: &[String]) -> bool {
-    is_live_tool(words)
-}
-
-/// The status of words of a live tool.
-pub fn status_of<R: Threads + Wait + Sync, D: Desk>(
-    rt: &R,
-    alloc: Global,
-    words: &[String],
-    desk: &mut D,
-) -> u8 {
-    run_live_tools(rt, alloc, words, desk).status
-}
-
-#[test]
-fn runs_of_live_tools(rt: HostRuntime) -> Result<(), Fail> {
-    for table in [FEEDS, REFUSALS, CAPTURES] {
-        assert_eq!(rt; wrong_in(&rt, rt.alloc(), table, WHOLE)?.as_str(), "");
-    }
-    Ok(())
-}
-
-#[test]
-fn each_outside_call_of_live_tools_fails_once(rt: HostRuntime) -> Result<(), Fail> {
-    assert_eq!(rt; wrong_counts(&rt, rt.alloc(), COMMANDS)?.as_str(), "");
-    Ok(())
-}
-
-// What a sender reads, whose system's clock is set to this behind its opening, while the one that can't be set goes on by
-// 10 milliseconds from reading to reading.
-fn set_ahead(alloc: Global, ahead: u64) -> Result<Vec<u64>, Fail> {
-    let anchor = Anchor {
-        since_1970: 1_250_000,
-        since_boot: 0,
-    };
-    let mut readings = Vec::new(alloc);
-    for number in 0..60u64 {
-        let now = Times {
-            since_1970: Some(if number == 0 { 1_250_000 } else { ahead }),
-            since_boot: Some(10_000 * number),
-        };
-        readings.push(sender_reading(&anchor, now))?;
-    }
-    Ok(readings)
-}
-
-// What is wrong of a run whose clock is set ahead.
-fn wrong_ahead<R: Threads + Wait + Sync>(
-    rt: &R,
-    alloc: Global,
-    ahead: u64,
-) -> Result<String, Fail> {
-    let row = Row::of(STEADY)?;
-    let mut desk = new_desk(alloc)?;
-    row.set_up(alloc, &mut desk)?;
-    desk.put_readings(0, set_ahead(alloc, ahead)?.as_slice())?;
-    let words = words_of(alloc, row.words)?;
-    let status = status_of(rt, alloc, words.as_slice(), &mut desk);
-    row.wrong(alloc, status, &desk)
-}
-
-#[test]
-fn clocks_that_are_set_ahead(rt: HostRuntime) -> Result<(), Fail> {
-    for ahead in [u64::MAX, 9_000_000] {
-        assert_eq!(rt;
-            wrong_ahead(&rt, rt.alloc(), ahead)?.as_str(),
-            "",
-            "{ahead}"
-        );
-    }
-    Ok(())
-}
-
-// What is told of words that are in no form.
-fn told_by<R: Threads + Wait + Sync>(rt: &R, alloc: Global, line: &str) -> Result<String, Fail> {
-    let mut desk = new_desk(alloc)?;
-    let words = words_of(alloc, line)?;
-    let status = status_of(rt, alloc, words.as_slice(), &mut desk);
-    told_of(alloc, status, &desk)
-}
-
-#[test]
-fn words_of_no_form(rt: HostRuntime) -> Result<(), Fail> {
-    for line in NO_FORMS {
-        assert_eq!(rt; told_by(&rt, rt.alloc(), line)?.as_str(), USAGE, "{line}");
-    }
-    Ok(())
-}
-
-#[test]
-fn words_of_a_live_tool(rt: HostRuntime) -> Result<(), Fail> {
-    for (line, wanted) in [
-        ("feed", true),
-        ("feed setup secret in one", true),
-        ("capture in", true),
-        ("watch setup", true),
-        ("feeds setup", false),
-        ("setup feed", false),
-        ("", false),
-    ] {
-        let words = words_of(rt.alloc(), line)?;
-        assert_eq!(rt; is_live_tool(words.as_slice()), wanted, "{line}");
-    }
-    assert!(rt; !is_live_tool(&[]));
-    Ok(())
-}
-
-/// A run of `watch`, whose datagram is no frame, where the clock of STATUS reads 1.7 seconds.
-const WATCH: &str = r"last line of watch $ watch setup 30000 16 in out status 3600
+* watch: the last line of STATUS $ watch setup 30000 16 in out status 3600
+# The datagram is no frame, and the clock of STATUS reads 1.7 seconds.
 clock 1 1700000
 told 0 arrivals 1\nmalformed 1\nforeign 0\nmisfit 0\nfuture 0\nbadkey 0\nlate 0\nrepeat 0\nfull 0\nkept 0\nkeys 0\ngiven 0\n
 holds out
+holds status 'time=1700000 arrivals=1 malformed=1 foreign=0 misfit=0 future=0 badkey=0 late=0 repeat=0 full=0 kept=0 keys=0 given=0+0a
 ";
-
-/// What it writes to STATUS.
-const STATUS: &str =
-    "time=1700000 arrivals=1 malformed=1 foreign=0 misfit=0 future=0 badkey=0 late=0 repeat=0 full=0 kept=0 keys=0 given=0\n";
-
-#[test]
-fn last_line_of_watch(rt: HostRuntime) -> Result<(), Fail> {
-    let row = Row::of(WATCH)?;
-    let mut desk = new_desk(rt.alloc())?;
-    row.set_up(rt.alloc(), &mut desk)?;
-    let words = words_of(rt.alloc(), row.words)?;
-    let done = run_live_tools(&rt, rt.alloc(), words.as_slice(), &mut desk);
-    assert!(rt; done.last.is_some());
-    assert!(rt; desk.page("status") == Some(STATUS.as_bytes()));
-    assert_eq!(rt; row.wrong(rt.alloc(), done.status, &desk)?.as_str(), "");
-    Ok(())
-}

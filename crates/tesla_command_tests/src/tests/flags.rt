@@ -1,7 +1,7 @@
 //! That all workers of a run are at work at the same time, which no contract says.
 
 ghost use Rattle.std.specs.Prelude.{◌≡◌};
-ghost use Rattle.tesla_desk.specs.Memory.{told_by};
+ghost use Rattle.tesla_memory_desk.specs.Memory.{told_by};
 
 use super::pages::new_desk;
 use std::alloc::Global;
@@ -11,7 +11,8 @@ use std::sync::atomic::Ordering::SeqCst;
 use std::test::*;
 use std::thread::{Threads, yield_now};
 use tesla_cli_live::run_live;
-use tesla_desk::{Desk, Gate, Heap, Letters, MemoryDesk, OpenRefusal, Outbox, Pages, Readings};
+use tesla_desk::{Desk, Gate, OpenRefusal};
+use tesla_memory_desk::{Heap, Letters, MemoryDesk, Outbox, Pages, Readings};
 use tesla_test_desk::words_of;
 
 /// How many workers there are.

@@ -64,16 +64,16 @@ set fails 1 p
 told 5 write fault\n
 sent p 61
 sent q 61 6263 64
-* play waits for its time: nothing fails $ play one p
+* play waits for its time: nothing fails $ play hi-taken p
 clock 0 1000000 1149999 1150000
 told 0 played 1\n
 sent p DATA_1_0_HI
-* play waits for its time: the first read of CAPTURE $ play one p
+* play waits for its time: the first read of CAPTURE $ play hi-taken p
 clock 0 1000000 1149999 1150000
-set fails 0 one
+set fails 0 hi-taken
 told 4 read fault\n
 silent p
-* play waits for its time: the first send $ play one p
+* play waits for its time: the first send $ play hi-taken p
 clock 0 1000000 1149999 1150000
 set fails 0 p
 told 5 write fault\n
@@ -84,7 +84,6 @@ told 0 arrivals 0\nmalformed 0\nforeign 0\nmisfit 0\nfuture 0\nbadkey 0\nlate 0\
 holds s0,s1,s2,s3,s4,s5,s6,s7,s8,s9,s10,s11,s12,s13,s14,s15,s16,s17,s18,s19,s20,s21,s22,s23,s24,s25,s26,s27,s28,s29,s30,s31
 ";
 
-/// What a run with two links and two sinks may come to. Where the arrival of "hi" comes first it is released, to either sink;
 /// else chain 0's key is known before, and nothing is.
 pub const TWO_AND_TWO: &str = r"
 * nothing is released $ receive setup 30000 16 hi,yo out,other
@@ -99,21 +98,3 @@ told 0 arrivals 2\nmalformed 0\nforeign 0\nmisfit 0\nfuture 0\nbadkey 0\nlate 0\
 holds out
 holds other released
 ";
-
-/// What is told of words that are no form of a live command.
-pub const USAGE: &str =
-    "1 usage: receive SETUP LAG CAPACITY LINKS SINKS\nusage: relay CAPACITY LINK POSTS\nusage: play CAPTURE POSTS\n";
-
-/// Words that are no form.
-pub const NO_FORMS: &[&str] = &[
-    "receive",
-    "receive setup 30000 16 both",
-    "receive setup 30000 16 both out out",
-    "receive setup 30000 0 both out",
-    "receive setup +1 16 both out",
-    "receive setup 30000 16 both,both out",
-    "receive setup 30000 16 both, out",
-    "receive setup 30000 16 both setup",
-    "receive setup 30000 16 both out,-",
-    "replay setup 30000 16 both out",
-];

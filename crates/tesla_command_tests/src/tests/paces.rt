@@ -129,27 +129,22 @@ impl Post for PacedPost<'_> {
     }
 }
 
-// Nothing was heard or sent yet.
-fn new_pace() -> Pace {
-    Pace {
+// What a relay to one post comes to, where the link and the post are held so.
+fn relayed<R: Threads + Wait + Sync>(
+    rt: &R,
+    alloc: Global,
+    capacity: u32,
+    link_hold: Hold,
+    post_hold: Hold,
+) -> Result<(PostCount, u64, u64), Fail>
+    requires { (1 ≤ capacity) × (capacity ≤ 4096) }
+{
+    let pace = &Pace {
         heard: AtomicU64::new(0),
         sent: AtomicU64::new(0),
         bytes: AtomicU64::new(0),
         missed: AtomicU64::new(0),
-    }
-}
-
-// What a relay to one post comes to, where the link and the post are held so.
-fn count_of<R: Threads + Wait + Sync>(
-    rt: &R,
-    alloc: Global,
-    pace: &Pace,
-    capacity: u32,
-    link_hold: Hold,
-    post_hold: Hold,
-) -> Result<PostCount, Fail>
-    requires { (1 ≤ capacity) × (capacity ≤ 4096) }
-{
+    };
     let mut posts = Vec::new(alloc);
     posts.push(PacedPost { pace })?;
     let mut gates = Vec::new(alloc);
@@ -167,25 +162,22 @@ fn count_of<R: Threads + Wait + Sync>(
     let relayed = relay(
         rt, alloc, &mut link, &mut gate, &mut posts, &mut gates, capacity,
     )?;
-    Ok(relayed.post(0))
+    let (bytes, missed) = (pace.bytes.load(SeqCst), pace.missed.load(SeqCst));
+    Ok((relayed.post(0), bytes, missed))
 }
 
+// A slow post drops what its queue has no room for, and a fast one nothing.
 #[test]
-fn slow_post_drops(rt: HostRuntime) -> Result<(), Fail> {
-    let pace = new_pace();
-    let count = count_of(&rt, rt.alloc(), &pace, 2, Hold::Nothing, Hold::AllHeard)?;
-    assert_eq!(rt; pace.missed.load(SeqCst), 0);
-    assert_eq!(rt; (count.sent, count.dropped), (2, 3));
-    assert_eq!(rt; pace.bytes.load(SeqCst), 0x0102);
-    Ok(())
-}
-
-#[test]
-fn fast_post_drops_nothing(rt: HostRuntime) -> Result<(), Fail> {
-    let pace = new_pace();
-    let count = count_of(&rt, rt.alloc(), &pace, 1, Hold::AllSent, Hold::Nothing)?;
-    assert_eq!(rt; pace.missed.load(SeqCst), 0);
-    assert_eq!(rt; (count.sent, count.dropped), (5, 0));
-    assert_eq!(rt; pace.bytes.load(SeqCst), 0x01_0203_0405);
+fn posts_of_two_paces(rt: HostRuntime) -> Result<(), Fail> {
+    let (count, bytes, missed) = relayed(&rt, rt.alloc(), 2, Hold::Nothing, Hold::AllHeard)?;
+    assert_eq!(rt;
+        (count.sent, count.dropped, bytes, missed),
+        (2, 3, 0x0102, 0)
+    );
+    let (count, bytes, missed) = relayed(&rt, rt.alloc(), 1, Hold::AllSent, Hold::Nothing)?;
+    assert_eq!(rt;
+        (count.sent, count.dropped, bytes, missed),
+        (5, 0, 0x01_0203_0405, 0)
+    );
     Ok(())
 }

@@ -52,6 +52,16 @@ holds out released
 set piece 178 cut,fails 1 cut,room 10 out
 told 4 read fault\n
 front out 10 released
+* read behind a head that is wrong already, which isn't made $ replay setup 30000 16 head out
+page head 544342
+set piece 3 head,fails 1 head
+told 3 refused capture 0 BadHead\n
+holds out
+* read within a head $ replay setup 30000 16 head out
+page head 544341
+set piece 3 head,fails 1 head
+told 4 read fault\n
+holds out
 * read behind a refused place, which isn't made $ replay setup 30000 16 wrong out
 set piece 179 wrong,fails 1 wrong
 told 3 refused capture 178 BadKind\n

@@ -33,9 +33,3 @@ told 1 |
 set room 10 -
 told 1 usage: ask|
 ";
-
-/// What is told of words that are no form of a tool.
-pub const USAGE: &str = "1 usage: ask READING ASK-OUT
-usage: reply ASK KEY READING REPLY-OUT
-usage: show TRACE
-";

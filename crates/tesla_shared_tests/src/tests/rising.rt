@@ -14,7 +14,7 @@ use std::test::*;
 use std::thread::{Threads, join};
 use tesla_base::Steps;
 use tesla_desk::{Clock, Got, Link, OpenGate};
-use tesla_receiver::{Config, Entry, Receiver, Take, Verdict};
+use tesla_receiver::{Config, Entry, Receiver, Report, Take, Verdict};
 use tesla_shared::*;
 use tesla_turn::{Chronicle, Pass, Turn};
 
@@ -41,7 +41,7 @@ impl Chronicle for Rising {
 }
 
 impl Station for Rising {
-    ghost receiver = { λ rising. rising.receiver.config };
+    ghost receiver = { λ config. config };
 
     ghost legal = { λ rising h stood. stood.legal };
 
@@ -64,6 +64,14 @@ impl Station for Rising {
 
     fn end(&mut self, ingest: u8) {
         <Receiver as Station>::end(&mut self.receiver, ingest);
+    }
+
+    fn calls(&self) -> u64 {
+        <Receiver as Station>::calls(&self.receiver)
+    }
+
+    fn report(&self) -> Report {
+        <Receiver as Station>::report(&self.receiver)
     }
 }
 

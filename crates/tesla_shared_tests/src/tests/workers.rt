@@ -1,19 +1,18 @@
 //! Workers over what a desk in memory has, with the frames of the worked examples.
 
-ghost use Rattle.std.specs.Prelude.{◌≡◌, ◌<◌, ◌≤◌, ◌^◌, true, IfOk};
-ghost use Rattle.std.specs.List.{list_all};
-ghost use Rattle.tesla_desk.specs.Links.{fits};
+ghost use Rattle.std.specs.Prelude.{◌≡◌, ◌<◌, ◌≤◌, ◌^◌, IfOk};
 ghost use Rattle.tesla_turn.specs.Held.{OnlyCalls, left_of};
 
 use super::receiver_of;
 use std::alloc::Global;
 use std::sync::Wait;
 use std::test::*;
-use std::thread::{Threads, join, yield_now};
-use tesla_desk::{Desk, Gate, Heap, Letter, Letters, MemoryDesk, Readings, Text};
-use tesla_examples::*;
+use std::thread::yield_now;
+use tesla_desk::{Desk, Gate};
+use tesla_memory_desk::{Heap, Letters, MemoryDesk, Readings};
 use tesla_receiver::Receiver;
 use tesla_shared::*;
+use tesla_test_desk::Row;
 use tesla_turn::{Pass, Turn};
 
 // Tells what it is called for, as a letter each: `b` before a turn and `a` after it, `r` for released, `q` for quiet,
@@ -25,13 +24,6 @@ struct Told {
 }
 
 impl Told {
-    fn new() -> Told {
-        Told {
-            letters: [0; 32],
-            count: 0,
-        }
-    }
-
     fn enter(&mut self, letter: u8) {
         if let Some(place) = self.letters.get_mut(self.count) {
             *place = letter;
@@ -39,8 +31,8 @@ impl Told {
         self.count = self.count.saturating_add(1);
     }
 
-    fn reads(&self, want: &str) -> bool {
-        self.count == want.len() && self.letters.starts_with(want.as_bytes())
+    fn text(&self) -> &str {
+        std::str::from_utf8(&self.letters[..self.count.min(32)]).unwrap_or("")
     }
 }
 
@@ -67,149 +59,38 @@ impl Gate for Told {
     }
 }
 
-// Five packets, and the key that proves them all.
-const FRAMES: [&str; 6] = [
-    BARE_3_0_G, BARE_2_0_G, BARE_5_0_G, BARE_4_0_G, BARE_6_0_G, KEYS_0_6,
-];
+/// What the link brings, five packets and the key that proves them all, and when: after each frame it is quiet. Each record is one
+/// write, so the second write is that of the second record.
+const PAGES: &str = r"pages $ -
+link link BARE_3_0_G . BARE_2_0_G . BARE_5_0_G . BARE_4_0_G . BARE_6_0_G . KEYS_0_6 .
+clock 0 1350000 1360000 1550000 1560000 1650000 1850000
+page records 000000000000000000000003000000000167000000000000000100000002000000000167000000000000000200000005000000000167
+page records 000000000000000300000004000000000167000000000000000400000006000000000167
+";
 
-// When they come.
-const COMES: [u64; 6] = [
-    1_350_000, 1_360_000, 1_550_000, 1_560_000, 1_650_000, 1_850_000,
-];
-
-// The records of the five packets: position, interval, number, chain, length and payload.
-const RECORDS: [&str; 5] = [
-    "000000000000000000000003000000000167",
-    "000000000000000100000002000000000167",
-    "000000000000000200000005000000000167",
-    "000000000000000300000004000000000167",
-    "000000000000000400000006000000000167",
-];
-
-// A run of one worker after the other.
-struct Row {
-    name: &'static str,
-    // The name and the number of the call that fails.
-    fails: Option<(&'static str, u64)>,
-    // The calls of each pass.
-    calls: u8,
-    link: LinkEnd,
-    sink: SinkEnd,
-    // What the gate of the link is told.
-    heard: &'static str,
-    // What the gate of the sink is told.
-    drained: &'static str,
-    // How many events the receiver has, which is the length of its history.
-    events: u64,
-    records: usize,
-}
-
-// After each frame the link is quiet. Each record is one write, so the second write is that of the second record.
-const ROWS: &[Row] = &[
-    Row {
-        name: "a link and then a sink",
-        fails: None,
-        calls: 20,
-        link: LinkEnd::Ended,
-        sink: SinkEnd::Over,
-        heard: "baqbaqbaqbaqbaqbraqbra",
-        drained: "babababababa",
-        events: 6 + 1 + 6,
-        records: 5,
-    },
-    Row {
-        name: "a sink that fails",
-        fails: Some(("out", 1)),
-        calls: 20,
-        link: LinkEnd::Ended,
-        sink: SinkEnd::Failed,
-        heard: "baqbaqbaqbaqbaqbraqbra",
-        drained: "baba",
-        events: 6 + 1 + 2,
-        records: 1,
-    },
-    // What came before is released, and the ingest has ended.
-    Row {
-        name: "a link that fails",
-        fails: Some(("link", 11)),
-        calls: 20,
-        link: LinkEnd::Failed,
-        sink: SinkEnd::Over,
-        heard: "baqbaqbaqbaqbaqbrabra",
-        drained: "babababababa",
-        events: 6 + 1 + 6,
-        records: 5,
-    },
-    // Five arrivals and the end, without the key.
-    Row {
-        name: "passes of six calls",
-        fails: None,
-        calls: 6,
-        link: LinkEnd::Spent,
-        sink: SinkEnd::Over,
-        heard: "baqbaqbaqbaqbabra",
-        drained: "ba",
-        events: 5 + 1 + 1,
-        records: 0,
-    },
-    Row {
-        name: "passes of seven calls",
-        fails: None,
-        calls: 7,
-        link: LinkEnd::Spent,
-        sink: SinkEnd::Over,
-        heard: "baqbaqbaqbaqbaqbrabra",
-        drained: "babababababa",
-        events: 6 + 1 + 6,
-        records: 5,
-    },
-];
-
-// A desk with the frames, a quiet after each, for links, and with their readings for the first clock.
-fn desk_of(alloc: Global, fails: Option<(&str, u64)>) -> Result<MemoryDesk, Fail> {
-    let mut desk = MemoryDesk::new(alloc, 100)?;
-    let mut letters = Vec::new(alloc);
-    for digits in FRAMES {
-        add_letters(alloc, &mut letters, digits)?;
-    }
-    desk.put_letters("link", letters.as_slice())?;
-    desk.put_readings(0, &COMES)?;
-    if let Some((name, call)) = fails {
-        desk.fail_call(name, call)?;
-    }
-    Ok(desk)
-}
-
-// The letter of a frame.
-fn datagram_of(alloc: Global, digits: &str) -> Result<Letter, Fail>
-    ensures { IfOk result (λ letter. fits letter ≡ true) }
-{
-    let frame = hex::decode(alloc, digits.as_bytes())?;
-    if 2048 < frame.len() {
-        return Err("too long".into());
-    }
-    let bytes = Text::new(alloc, frame.as_slice())?;
-    Ok(Letter::Datagram { bytes })
-}
-
-// Adds a letter that fits.
-fn add(letters: &mut Vec<Letter>, letter: Letter) -> Result<(), Fail>
-    requires all { list_all fits letters.old.items ≡ true }
-    requires it { fits letter ≡ true }
-    ensures { list_all fits letters.new.items ≡ true }
-{
-    Ok(letters.push(letter)?)
-}
-
-// Adds a datagram, and a quiet.
-fn add_letters(alloc: Global, letters: &mut Vec<Letter>, digits: &str) -> Result<(), Fail>
-    requires { list_all fits letters.old.items ≡ true }
-    ensures { list_all fits letters.new.items ≡ true }
-{
-    let datagram = datagram_of(alloc, digits)?;
-    add(letters, datagram)?;
-    add(letters, Letter::Quiet)
-}
+/// A row names a run of the worker of the link, and of that of the sink behind it, and the calls that each pass has. It says what
+/// became of each worker with what its gate was told, and how many events the receiver had, which is the length of its history.
+const ROWS: &str = r"
+* a link and then a sink $ 20 Ended baqbaqbaqbaqbaqbraqbra Over babababababa 13
+told 0 |
+holds out records
+* a sink that fails $ 20 Ended baqbaqbaqbaqbaqbraqbra Failed baba 9
+set fails 1 out
+told 0 |
+front out 18 records
+* a link that fails $ 20 Failed baqbaqbaqbaqbaqbrabra Over babababababa 13
+# What came before is released, and the ingest has ended.
+set fails 11 link
+told 0 |
+holds out records
+* passes of six calls $ 6 Spent baqbaqbaqbaqbabra Over ba 7
+# Five arrivals and the end, without the key.
+told 0 |
+holds out
+* passes of seven calls $ 7 Spent baqbaqbaqbaqbaqbrabra Over babababababa 13
+told 0 |
+holds out records
+";
 
 // The link and the sink of a desk.
 fn outside(desk: &mut MemoryDesk) -> Result<(Letters, Heap), Fail> {
@@ -220,16 +101,6 @@ fn outside(desk: &mut MemoryDesk) -> Result<(Letters, Heap), Fail> {
         return Err("no sink".into());
     };
     Ok((link, out))
-}
-
-// Whether the sink has so many of the records.
-fn holds(alloc: Global, desk: &MemoryDesk, count: usize) -> Result<bool, Fail> {
-    let mut bytes = Vec::new(alloc);
-    for digits in RECORDS.iter().take(count) {
-        let record = hex::decode(alloc, digits.as_bytes())?;
-        bytes.extend_from_slice(record.as_slice())?;
-    }
-    Ok(desk.page("out").ok_or("no page")? == bytes.as_slice())
 }
 
 // A turn over a receiver with room for 16 packets and one ingest, and passes of so many calls: the first, one for a link
@@ -294,7 +165,10 @@ fn hears<R: Wait>(
     requires { (pass.turn ≡ turn.now) × (0 < left_of pass) }
     ensures { OnlyCalls pass result.2 }
 {
-    let mut gate = Told::new();
+    let mut gate = Told {
+        letters: [0; 32],
+        count: 0,
+    };
     let end = ingest(rt, 0, link, &mut clock, &mut gate, turn, &mut pass);
     (end, gate, pass)
 }
@@ -309,29 +183,21 @@ fn drains<R: Wait>(
     requires { pass.turn ≡ turn.now }
     ensures { OnlyCalls pass result.2 }
 {
-    let mut gate = Told::new();
+    let mut gate = Told {
+        letters: [0; 32],
+        count: 0,
+    };
     let end = drain(rt, 0, out, &mut gate, turn, &mut pass);
     (end, gate, pass)
 }
 
-// What became of both workers, how many takes were made, and how many events there were.
-#[derive(Drop)]
-struct Ran {
-    link: LinkEnd,
-    heard: Told,
-    sink: SinkEnd,
-    drained: Told,
-    takes: u64,
-    events: u64,
-}
-
-// Runs the worker of the link, and then the worker of the sink.
+// Runs the worker of the link, and then the worker of the sink, with so many calls each. Tells what became of them.
 fn one_after_the_other<R: Wait>(
     rt: &R,
     alloc: Global,
     desk: &mut MemoryDesk,
     calls: u8,
-) -> Result<Ran, Fail> {
+) -> Result<String, Fail> {
     if calls == 0 {
         return Err("no calls".into());
     }
@@ -343,124 +209,56 @@ fn one_after_the_other<R: Wait>(
         link: hearing,
         sink: draining,
     } = begun;
-    let (link_end, heard, hearing) = hears(rt, &turn, hearing, &mut link, desk.clock());
-    let (sink_end, drained, draining) = drains(rt, &turn, draining, &mut out);
+    let (heard, hear_gate, hearing) = hears(rt, &turn, hearing, &mut link, desk.clock());
+    let (drained, drain_gate, draining) = drains(rt, &turn, draining, &mut out);
     desk.close_link(link);
     desk.close_sink(out);
-    Ok(Ran {
-        link: link_end,
-        heard,
-        sink: sink_end,
-        drained,
-        takes: u64::from(calls).saturating_sub(draining.left()),
-        events: closed(rt, turn, first, hearing, draining),
-    })
+    let events = closed(rt, turn, first, hearing, draining);
+    let (hear_calls, drain_calls) = (hear_gate.text(), drain_gate.text());
+    Ok(format!(in alloc; "{calls} {heard:?} {hear_calls} {drained:?} {drain_calls} {events}")?)
 }
 
-// Whether a run came to what its row says.
-fn is_met(ran: &Ran, row: &Row) -> bool {
-    ran.link == row.link
-        && ran.sink == row.sink
-        && ran.events == row.events
-        && ran.heard.reads(row.heard)
-        && ran.drained.reads(row.drained)
-}
-
-// Whether a run comes to what its row says, and the sink holds as many records as it says.
-fn meets<R: Wait>(rt: &R, alloc: Global, row: &Row) -> Result<bool, Fail> {
-    let mut desk = desk_of(alloc, row.fails)?;
-    let ran = one_after_the_other(rt, alloc, &mut desk, row.calls)?;
-    Ok(is_met(&ran, row) && holds(alloc, &desk, row.records)?)
+// What isn't as a row says. Empty where all is.
+fn wrong_in<R: Wait>(rt: &R, alloc: Global, row: Row<'_>) -> Result<String, Fail> {
+    let mut desk = MemoryDesk::new(alloc, 100)?;
+    Row::of(PAGES)?.set_up(alloc, &mut desk)?;
+    row.set_up(alloc, &mut desk)?;
+    let (calls, _) = row.words.split_once(' ').unwrap_or((row.words, ""));
+    let came = one_after_the_other(rt, alloc, &mut desk, calls.parse()?)?;
+    if came.as_str() != row.words {
+        return Ok(came);
+    }
+    row.wrong(alloc, 0, &desk)
 }
 
 #[test]
-fn one_worker_after_the_other(rt: HostRuntime) -> Result<(), Fail> {
-    for row in ROWS {
-        assert!(rt; meets(&rt, rt.alloc(), row)?, "{}", row.name);
+fn workers_one_after_the_other(rt: HostRuntime) -> Result<(), Fail> {
+    for text in ROWS.split("\n* ").skip(1) {
+        let wrong = wrong_in(&rt, rt.alloc(), Row::of(text)?)?;
+        assert_eq!(rt; wrong.as_str(), "", "{text}");
     }
     Ok(())
 }
 
-// Runs both workers at once.
-fn side_by_side<R: Threads + Wait + Sync>(
-    rt: &R,
-    alloc: Global,
-    desk: &mut MemoryDesk,
-) -> Result<Ran, Fail> {
-    let calls = 1 << 40;
-    let begun = opened(alloc, calls)?;
-    let (mut link, mut out) = outside(desk)?;
-    let clock = desk.clock();
-    let Begun {
-        turn,
-        first,
-        link: hearing,
-        sink: draining,
-    } = begun;
-    let ((link_end, heard, hearing), (sink_end, drained, draining)) = join(
-        rt,
-        || -> (LinkEnd, Told, Pass<Receiver>)
-            requires { (hearing.turn ≡ turn) × (0 < left_of hearing) }
-            ensures { OnlyCalls hearing result.2 }
-        { hears(rt, &turn, hearing, &mut link, clock) },
-        || -> (SinkEnd, Told, Pass<Receiver>)
-            requires { draining.turn ≡ turn }
-            ensures { OnlyCalls draining result.2 }
-        { drains(rt, &turn, draining, &mut out) },
-    );
-    desk.close_link(link);
-    desk.close_sink(out);
-    Ok(Ran {
-        link: link_end,
-        heard,
-        sink: sink_end,
-        drained,
-        takes: calls.saturating_sub(draining.left()),
-        events: closed(rt, turn, first, hearing, draining),
-    })
-}
-
-// How often the sink's worker finds nothing differs from run to run.
+// Where no ingest has ended, a sink's worker rests after each take, until no call is left.
 #[test]
-fn a_link_and_a_sink_in_two_threads(rt: HostRuntime) -> Result<(), Fail> {
-    let mut desk = desk_of(rt.alloc(), None)?;
-    let ran = side_by_side(&rt, rt.alloc(), &mut desk)?;
-    assert_eq!(rt; (ran.link, ran.sink), (LinkEnd::Ended, SinkEnd::Over));
-    assert!(rt; ran.heard.reads("baqbaqbaqbaqbaqbraqbra"));
-    assert!(rt; 6 <= ran.takes);
-    assert_eq!(rt; ran.events, ran.takes.saturating_add(7));
-    assert!(rt; holds(rt.alloc(), &desk, 5)?);
-    Ok(())
-}
-
-// Runs the worker of a sink alone, with three calls.
-fn drains_alone<R: Wait>(
-    rt: &R,
-    alloc: Global,
-    desk: &mut MemoryDesk,
-) -> Result<(SinkEnd, Told), Fail> {
-    let begun = opened(alloc, 3)?;
-    let (letters, mut out) = outside(desk)?;
+fn a_sink_with_nothing_to_write(rt: HostRuntime) -> Result<(), Fail> {
+    let mut desk = MemoryDesk::new(rt.alloc(), 100)?;
+    desk.put_letters("link", &[])?;
+    let begun = opened(rt.alloc(), 3)?;
+    let (letters, mut out) = outside(&mut desk)?;
     let Begun {
         turn,
         first,
         link,
         sink,
     } = begun;
-    let (end, gate, sink) = drains(rt, &turn, sink, &mut out);
+    let (end, gate, sink) = drains(&rt, &turn, sink, &mut out);
     desk.close_link(letters);
     desk.close_sink(out);
-    closed(rt, turn, first, link, sink);
-    Ok((end, gate))
-}
-
-// Where no ingest has ended, a sink's worker rests after each take, until no call is left.
-#[test]
-fn a_sink_with_nothing_to_write(rt: HostRuntime) -> Result<(), Fail> {
-    let mut desk = desk_of(rt.alloc(), None)?;
-    let (end, gate) = drains_alone(&rt, rt.alloc(), &mut desk)?;
+    closed(&rt, turn, first, link, sink);
     assert_eq!(rt; end, SinkEnd::Spent);
-    assert!(rt; gate.reads("baebaebae"));
-    assert!(rt; holds(rt.alloc(), &desk, 0)?);
+    assert_eq!(rt; gate.text(), "baebaebae");
+    assert!(rt; desk.page("out") == Some(b"".as_slice()));
     Ok(())
 }

@@ -1,4 +1,4 @@
-//! The worked examples, called on a receiver.
+//! The worked examples, called on a receiver, and what some calls of it may take.
 
 ghost use Rattle.std.specs.Prelude.{◌≡◌, ◌<◌, ◌≤◌, ℕ, pos, false, List, [], ◌∷◌, length, map, Some, None};
 ghost use Rattle.tesla_base.specs.declared.names.Key.{Key};
@@ -15,156 +15,128 @@ ghost use Rattle.tesla_walks.specs.Holding.{Holding};
 ghost use Rattle.tesla_state.specs.State.{State};
 ghost use Rattle.tesla_state.specs.Steps.{bound_at};
 
-mod examples;
+mod rows;
 
-use examples::{BOTH, FAR_BAD_KEY, MOST_INTERVALS, Opening, Rows, Step};
+use super::given_of;
+use rows::ROWS;
 use std::alloc::Global;
 use std::marker::Brand;
 use std::sync::ledger::{Blank, Ledger};
 use std::test::*;
-use tesla_base::{Head, Steps};
+use tesla_base::Steps;
 use tesla_commit::read_setup;
 use tesla_receiver::*;
+use tesla_test_desk::{SETUP, SETUP_WITH_TAGS_OF_10_BYTES, SETUP_WITH_TAGS_OF_32_BYTES, bytes_of};
 
-fn take(receiver: &mut Receiver, into: &mut [u8; 1200]) -> Take
+// The verdict on a frame.
+fn arrives<L: Ledger>(
+    alloc: Global,
+    receiver: &mut Receiver,
+    reading: u64,
+    word: &str,
+    steps: &mut Steps<L>,
+) -> Result<String, Fail>
     requires { receiver.old.calls < 10000 }
 {
-    receiver.take(0, into)
+    let frame = bytes_of(alloc, word)?;
+    let verdict = receiver.arrive(0, reading, frame.as_slice(), steps);
+    Ok(format!(in alloc; "{verdict:?}")?)
 }
 
-fn takes(receiver: &mut Receiver, want: Take, payload: &str) -> bool
+// What a take answers.
+fn takes(alloc: Global, receiver: &mut Receiver) -> Result<String, Fail>
     requires { receiver.old.calls < 10000 }
 {
     let mut into = [0; 1200];
-    take(receiver, &mut into) == want && into.starts_with(payload.as_bytes())
-}
-
-// Whether the packets are kept that have the frame's bytes but for their numbers, which go from 0.
-fn are_kept<L: Ledger>(
-    receiver: &mut Receiver,
-    reading: u64,
-    frame: &mut [u8],
-    count: u16,
-    steps: &mut Steps<L>,
-) -> bool {
-    for number in 0..count {
-        if frame.len() < 20 || 10_000 <= receiver.calls() {
-            return false;
-        }
-        frame[18..20].copy_from_slice(&number.to_be_bytes());
-        if receiver.arrive(0, reading, frame, steps) != BOTH {
-            return false;
-        }
+    match receiver.take(0, &mut into) {
+        Take::Given(head) => given_of(alloc, &head, &into),
+        take => Ok(format!(in alloc; "{take:?}")?),
     }
-    true
 }
 
-// Whether the receiver's answer to the event is the one that is expected.
-fn is_met<L: Ledger>(
+// What a call answers.
+fn answer<L: Ledger>(
     alloc: Global,
     receiver: &mut Receiver,
-    step: &Step,
+    call: &str,
     steps: &mut Steps<L>,
-) -> Result<bool, Fail>
+) -> Result<String, Fail>
     requires { receiver.old.calls < 10000 }
 {
-    match step {
-        Step::Comes(reading, digits, want) => {
-            let frame = hex::decode(alloc, digits.as_bytes())?;
-            let verdict = receiver.arrive(0, *reading, frame.as_slice(), steps);
-            Ok(verdict == *want)
+    let (first, rest) = call.split_once(' ').unwrap_or((call, ""));
+    match first {
+        "take" => takes(alloc, receiver),
+        "end" => {
+            receiver.end(rest.parse()?);
+            Ok(String::from_str(alloc, "Ended")?)
         }
-        Step::Floods(reading, digits, count) => {
-            let mut frame = hex::decode(alloc, digits.as_bytes())?;
-            Ok(are_kept(receiver, *reading, frame.as_mut_slice(), *count, steps))
-        }
-        Step::Gives(position, interval, number, chain, payload) => {
-            let head = Head {
-                position: *position,
-                interval: *interval,
-                number: *number,
-                chain: *chain,
-                length: payload.len().min(1200) as u16,
-            };
-            Ok(takes(receiver, Take::Given(head), payload))
-        }
-        Step::Empty => Ok(takes(receiver, Take::Empty, "")),
-        Step::Ends(ingest) => {
-            receiver.end(*ingest);
-            Ok(true)
-        }
-        Step::Over => Ok(takes(receiver, Take::Over, "")),
-        Step::Tells(want) => Ok(receiver.report() == *want),
+        _ => arrives(alloc, receiver, first.parse()?, rest, steps),
     }
 }
 
-// A receiver whose lag is 30,000 microseconds.
-fn opened(alloc: Global, opening: Opening) -> Result<Receiver, Fail> {
-    let setup = read_setup(alloc, opening.setup.as_bytes())?;
-    let (capacity, quota, ingests) = (opening.capacity, opening.quota, opening.ingests);
+// A receiver of a setup, a capacity, a quota and a number of ingests, whose lag is 30,000 microseconds.
+fn opened(alloc: Global, words: &str) -> Result<Receiver, Fail> {
+    let mut words = words.split(' ');
+    let setup = match words.next() {
+        Some("TAGS_OF_10") => SETUP_WITH_TAGS_OF_10_BYTES,
+        Some("TAGS_OF_32") => SETUP_WITH_TAGS_OF_32_BYTES,
+        _ => SETUP,
+    };
+    let capacity = words.next().unwrap_or("").parse()?;
+    let quota = words.next().unwrap_or("").parse()?;
+    let ingests = words.next().unwrap_or("").parse()?;
     if capacity == 0 || 65_536 < capacity || quota == 0 || capacity < quota || ingests == 0 {
         return Err("not within the limits".into());
     }
+    let setup = read_setup(alloc, setup.as_bytes())?;
     Ok(Receiver::open(alloc, setup, 30_000, capacity, quota, ingests)?)
 }
 
-// The place of the first event whose answer isn't the expected one, or after which not as many packets are
-// held as expected.
-fn first_unmet<L: Ledger>(
+// The first line that isn't so, with what came instead. Empty where all are.
+fn wrong_in<L: Ledger>(
     alloc: Global,
-    blank: Blank,
-    opening: Opening,
-    rows: Rows,
-) -> Result<Option<usize>, Fail>
+    receiver: &mut Receiver,
+    lines: &str,
+    steps: &mut Steps<L>,
+) -> Result<String, Fail> {
+    for line in lines.trim_end().split('\n') {
+        let (call, wanted) = line.split_once(" = ").ok_or("a call and its answer")?;
+        if 10_000 <= receiver.calls() {
+            return Err("too many calls".into());
+        }
+        let came = answer(alloc, receiver, call, steps)?;
+        let came = format!(in alloc; "{came}, {}", receiver.held())?;
+        if came.as_str() != wanted {
+            return Ok(format!(in alloc; "{line}, and {came}")?);
+        }
+    }
+    Ok(String::new(alloc))
+}
+
+// The same of a row.
+fn wrong_of<L: Ledger>(alloc: Global, blank: Blank, row: &str) -> Result<String, Fail>
     requires name { blank.name ≡ L.name }
     requires parts { blank.parts ≡ L.parts }
     requires some { 0 < L.parts }
 {
+    let (head, lines) = row.split_once('\n').ok_or("a row of one line")?;
+    let (_, words) = head.split_once(" $ ").ok_or("a row without words")?;
     let mut steps = Steps::<L>::new(blank);
-    let mut receiver = opened(alloc, opening)?;
-    for (place, (step, held)) in rows.iter().enumerate() {
-        if 10_000 <= receiver.calls() || !is_met(alloc, &mut receiver, step, &mut steps)? {
-            return Ok(Some(place));
-        }
-        if receiver.held() != *held {
-            return Ok(Some(place));
-        }
-    }
-    Ok(None)
+    let mut receiver = opened(alloc, words)?;
+    wrong_in(alloc, &mut receiver, lines, &mut steps)
 }
 
-// Refuses the first of these examples of which something else is answered than expected, by its name.
-fn all_are_met(
-    alloc: Global,
-    examples: &'static [(&'static str, Opening, Rows)],
-) -> Result<(), Fail> {
-    for (name, opening, rows) in examples {
-        let unmet = first_unmet::<Brand>(alloc, Blank::new(1), *opening, rows)?;
-        if unmet.is_some() {
-            return Err((*name).into());
-        }
-    }
-    Ok(())
+// The same with a count of its own.
+fn wrong_in_row(alloc: Global, row: &str) -> Result<String, Fail> {
+    wrong_of::<Brand>(alloc, Blank::new(1), row)
 }
 
 #[test]
 fn worked_examples(rt: HostRuntime) -> Result<(), Fail> {
-    all_are_met(rt.alloc(), examples::releases())?;
-    all_are_met(rt.alloc(), examples::keys())?;
-    all_are_met(rt.alloc(), examples::repeats())?;
-    all_are_met(rt.alloc(), examples::verdicts())
-}
-
-#[test]
-fn floods(rt: HostRuntime) -> Result<(), Fail> {
-    all_are_met(rt.alloc(), examples::of_floods())
-}
-
-// A key is refused after a walk of a million intervals.
-#[test]
-fn far_bad_key(rt: HostRuntime) -> Result<(), Fail> {
-    let unmet = first_unmet::<Brand>(rt.alloc(), Blank::new(1), MOST_INTERVALS, FAR_BAD_KEY)?;
-    assert_eq!(rt; unmet, None);
+    for row in ROWS.split("\n* ").skip(1) {
+        let wrong = wrong_in_row(rt.alloc(), row)?;
+        assert_eq!(rt; wrong.as_str(), "", "{row}");
+    }
     Ok(())
 }
 

@@ -1,222 +1,160 @@
-//! The examples, called on the epochs of a feed.
+//! A feed of streams of which each hands over to the next: which epoch answers, and what the payload of a packet that is given comes
+//! to. Another program made the frames; the answers were worked out by hand.
 
-ghost use Rattle.std.specs.Prelude.{◌≡◌, ◌<◌, ◌≤◌};
+ghost use Rattle.std.specs.Prelude.{◌≡◌, ◌<◌};
 
-mod examples;
-
-use super::{FRAME_ROOM, first_head, make_frame, middle_of};
-use examples::*;
 use std::alloc::Global;
 use std::marker::Brand;
 use std::sync::ledger::{Blank, Ledger};
 use std::test::*;
 use tesla_base::Steps;
 use tesla_commit::read_setup;
-use tesla_examples::SETUP;
-use tesla_fitting::Verdict;
 use tesla_rollover::*;
+use tesla_test_desk::{SETUP_OF_ONE_CHAIN, bytes_of};
 
-const DIGITS: &[u8; 16] = b"0123456789abcdef";
+/// A row has a name and the number of ingests. A line of it has a call and its answer: of a frame at a reading the epoch with its
+/// verdict; and of a take the epoch, the position, the interval and the number, what the payload comes to, and how many epochs
+/// there are then.
+const ROWS: &str = "
+* two ingests of which one ends before the second epoch is opened $ 2
+1150000 ROLL_A7_1_TO_A8 = 0 Kept { chains: 1 }
+take = Empty, 1
+2150000 ROLL_A8_1_N = 0 Foreign { stream: StreamId(168) }
+1350000 ROLL_KEY_A7_1 = 0 Keys
+2150000 ROLL_A8_1_N = 0 Foreign { stream: StreamId(168) }
+end 1 = Ended
+take = 0 0 1/0 Opened, 2
+2150000 ROLL_A8_1_N = 1 Kept { chains: 1 }
+2150000 54534c41 = 0 Malformed
+2350000 ROLL_KEY_A8_1 = 1 Keys
+1450000 ROLL_A7_4_M = 0 Kept { chains: 1 }
+1650000 ROLL_KEY_A7_4 = 0 Keys
+take = 0 1 4/0 Plain, 2
+take = 1 0 1/0 Plain, 2
+take = Empty, 2
+end 1 = Ended
+take = Empty, 2
+end 0 = Ended
+take = Over, 2
+* payloads that open nothing, and one that does $ 1
+1150000 ROLL_A7_1_TNXT = 0 Kept { chains: 1 }
+1350000 ROLL_KEY_A7_1 = 0 Keys
+take = 0 0 1/0 Plain, 1
+1250000 ROLL_A7_2_VERSION_2 = 0 Kept { chains: 1 }
+1450000 ROLL_KEY_A7_2 = 0 Keys
+take = 0 1 2/0 Plain, 1
+1350000 ROLL_A7_3_NOTHING = 0 Kept { chains: 1 }
+1550000 ROLL_KEY_A7_3 = 0 Keys
+take = 0 2 3/0 BadSetup { line: 1, kind: BadLine }, 1
+1450000 ROLL_A7_4_NO_CHAIN = 0 Kept { chains: 1 }
+1650000 ROLL_KEY_A7_4 = 0 Keys
+take = 0 3 4/0 BadSetup { line: 6, kind: NoChain }, 1
+1550000 ROLL_A7_5_TO_A7 = 0 Kept { chains: 1 }
+1750000 ROLL_KEY_A7_5 = 0 Keys
+take = 0 4 5/0 UsedStream(StreamId(167)), 1
+1650000 ROLL_A7_6_TO_A8 = 0 Kept { chains: 1 }
+1850000 ROLL_KEY_A7_6 = 0 Keys
+take = 0 5 6/0 Opened, 2
+1750000 ROLL_A7_7_TO_A9 = 0 Kept { chains: 1 }
+1950000 ROLL_KEY_A7_7 = 0 Keys
+take = 0 6 7/0 Old { newest: 1 }, 2
+";
 
-/// The handover to the stream of this number: that of the example, but for the number and the start of stream a7.
-fn handover_to(alloc: Global, stream: u8) -> Result<Vec<u8>, Fail> {
-    let mut payload = Vec::from_slice(alloc, HANDOVER.as_bytes())?;
-    if payload.len() != 224 {
-        return Err("the handover of the example has 224 bytes".into());
-    }
-    payload[34] = DIGITS[usize::from(stream / 16)];
-    payload[35] = DIGITS[usize::from(stream % 16)];
-    if stream == 0xa7 {
-        payload[43] = b'1';
-    }
-    Ok(payload)
-}
-
-fn bytes_of(alloc: Global, payload: Payload) -> Result<Vec<u8>, Fail> {
-    match payload {
-        Payload::Text(text) => Ok(Vec::from_slice(alloc, text.as_bytes())?),
-        Payload::To(stream) => handover_to(alloc, stream),
-    }
-}
-
-/// The answer to what a sender of a stream makes first in an interval: a message with this payload, or a disclosure.
-fn comes<L: Ledger>(
+// The epoch that answers a frame, and its verdict.
+fn arrives<L: Ledger>(
     alloc: Global,
     rollover: &mut Rollover,
-    stream: u8,
-    interval: u32,
-    payload: Option<Payload>,
+    reading: u64,
+    word: &str,
     steps: &mut Steps<L>,
-) -> Result<RollVerdict, Fail>
+) -> Result<String, Fail>
     requires { rollover.old.calls < 10000 }
 {
-    let reading = middle_of(stream, interval);
-    let handover = handover_to(alloc, stream)?;
-    let setup = handover_text(handover.as_slice()).ok_or("it's a handover")?;
-    let mut into = [0; FRAME_ROOM];
-    let length = match payload {
-        Some(payload) => {
-            let payload = bytes_of(alloc, payload)?;
-            make_frame(
-                alloc,
-                setup,
-                reading,
-                Some(payload.as_slice()),
-                &mut into,
-                steps,
-            )?
+    let frame = bytes_of(alloc, word)?;
+    let RollVerdict { epoch, verdict } = rollover.arrive(0, reading, frame.as_slice(), steps);
+    Ok(format!(in alloc; "{epoch} {verdict:?}")?)
+}
+
+// What a take answers.
+fn takes(alloc: Global, rollover: &mut Rollover) -> Result<String, Fail>
+    requires { rollover.old.calls < 10000 }
+{
+    let take = rollover.take(alloc, 0, &mut [0; 1200]);
+    let epochs = rollover.epochs();
+    match take {
+        RollTake::Given { epoch, head, next } => {
+            let (position, interval, number) = (head.position, head.interval, head.number);
+            Ok(format!(in alloc; "{epoch} {position} {interval}/{number} {next:?}, {epochs}")?)
         }
-        None => make_frame(alloc, setup, reading, None, &mut into, steps)?,
-    };
-    Ok(rollover.arrive(0, reading, &into[..length], steps))
+        take => Ok(format!(in alloc; "{take:?}, {epochs}")?),
+    }
 }
 
-fn takes(alloc: Global, rollover: &mut Rollover, want: RollTake, payload: &[u8]) -> bool
-    requires { rollover.old.calls < 10000 }
-{
-    let mut into = [0; 1200];
-    rollover.take(alloc, 0, &mut into) == want && into.starts_with(payload)
-}
-
-/// Whether the answer to the call is the one that is expected.
-fn is_met<L: Ledger>(
+// What a call answers.
+fn answer<L: Ledger>(
     alloc: Global,
     rollover: &mut Rollover,
-    step: &Step,
+    call: &str,
     steps: &mut Steps<L>,
-) -> Result<bool, Fail>
+) -> Result<String, Fail>
     requires { rollover.old.calls < 10000 }
 {
-    match step {
-        Step::Comes(stream, interval, payload, epoch, verdict) => {
-            let (epoch, verdict) = (*epoch, *verdict);
-            let came = comes(alloc, rollover, *stream, *interval, Some(*payload), steps)?;
-            Ok(came == RollVerdict { epoch, verdict })
+    let (first, rest) = call.split_once(' ').unwrap_or((call, ""));
+    match first {
+        "take" => takes(alloc, rollover),
+        "end" => {
+            rollover.end(rest.parse()?);
+            Ok(String::from_str(alloc, "Ended")?)
         }
-        Step::Keys(stream, interval, epoch) => {
-            let (epoch, verdict) = (*epoch, Verdict::Keys);
-            let came = comes(alloc, rollover, *stream, *interval, None, steps)?;
-            Ok(came == RollVerdict { epoch, verdict })
-        }
-        Step::Bytes(bytes, epoch, verdict) => {
-            let (epoch, verdict) = (*epoch, *verdict);
-            let came = rollover.arrive(0, 2_150_000, bytes.as_bytes(), steps);
-            Ok(came == RollVerdict { epoch, verdict })
-        }
-        Step::Gives(epoch, position, interval, payload, next, epochs) => {
-            let payload = bytes_of(alloc, *payload)?;
-            let head = first_head(*position, *interval, payload.as_slice());
-            let (epoch, next) = (*epoch, *next);
-            let want = RollTake::Given { epoch, head, next };
-            Ok(takes(alloc, rollover, want, payload.as_slice()) && rollover.epochs() == *epochs)
-        }
-        Step::Empty => Ok(takes(alloc, rollover, RollTake::Empty, b"")),
-        Step::Over => Ok(takes(alloc, rollover, RollTake::Over, b"")),
-        Step::Ends(ingest) => {
-            rollover.end(*ingest);
-            Ok(true)
-        }
+        _ => arrives(alloc, rollover, first.parse()?, rest, steps),
     }
 }
 
-/// The place of the first step whose answer isn't the expected one.
-fn first_unmet_of<L: Ledger>(
+// The first line that isn't so, with what came instead. Empty where all are.
+fn wrong_in<L: Ledger>(
     alloc: Global,
     rollover: &mut Rollover,
-    rows: &[Step],
+    lines: &str,
     steps: &mut Steps<L>,
-) -> Result<Option<usize>, Fail> {
-    for (place, step) in rows.iter().enumerate() {
-        if 10_000 <= rollover.calls() || !is_met(alloc, rollover, step, steps)? {
-            return Ok(Some(place));
+) -> Result<String, Fail> {
+    for line in lines.trim_end().split('\n') {
+        let (call, wanted) = line.split_once(" = ").ok_or("a call and its answer")?;
+        if 10_000 <= rollover.calls() {
+            return Err("too many calls".into());
+        }
+        let came = answer(alloc, rollover, call, steps)?;
+        if came.as_str() != wanted {
+            return Ok(format!(in alloc; "{line}, and {came}")?);
         }
     }
-    Ok(None)
+    Ok(String::new(alloc))
 }
 
-/// The epochs of stream a7, with a lag of 30,000 microseconds.
-fn opened(alloc: Global, ingests: u8) -> Result<Rollover, Fail> {
-    if ingests == 0 {
-        return Err("not within the limits".into());
-    }
-    let setup = read_setup(alloc, SETUP.as_bytes())?;
-    Ok(Rollover::open(alloc, setup, 30_000, 16, ingests)?)
-}
-
-/// The place of the first step whose answer isn't the expected one, of epochs that are opened for it.
-fn first_unmet<L: Ledger>(
-    alloc: Global,
-    blank: Blank,
-    ingests: u8,
-    rows: &[Step],
-) -> Result<Option<usize>, Fail>
+// The same of a row.
+fn wrong_of<L: Ledger>(alloc: Global, blank: Blank, row: &str) -> Result<String, Fail>
     requires name { blank.name ≡ L.name }
     requires parts { blank.parts ≡ L.parts }
     requires some { 0 < L.parts }
 {
+    let (head, lines) = row.split_once('\n').ok_or("a row of one line")?;
+    let (_, ingests) = head.split_once(" $ ").ok_or("a row without ingests")?;
+    let ingests: u8 = ingests.parse()?;
     let mut steps = Steps::<L>::new(blank);
-    let mut rollover = opened(alloc, ingests)?;
-    first_unmet_of(alloc, &mut rollover, rows, &mut steps)
+    let setup = read_setup(alloc, SETUP_OF_ONE_CHAIN.as_bytes())?;
+    let mut rollover = Rollover::open(alloc, setup, 30_000, 16, ingests.max(1))?;
+    wrong_in(alloc, &mut rollover, lines, &mut steps)
+}
+
+// The same with a count of its own.
+fn wrong_in_row(alloc: Global, row: &str) -> Result<String, Fail> {
+    wrong_of::<Brand>(alloc, Blank::new(1), row)
 }
 
 #[test]
-fn runs(rt: HostRuntime) -> Result<(), Fail> {
-    for (name, ingests, rows) in RUNS {
-        let unmet = first_unmet::<Brand>(rt.alloc(), Blank::new(1), *ingests, rows)?;
-        assert_eq!(rt; unmet, None, "{name}");
-    }
-    Ok(())
-}
-
-/// Whether the packet of an epoch is kept, released and given, and comes to this. The epoch of number n has stream a7 + n,
-/// and its packets are the first ones of its intervals.
-fn is_given<L: Ledger>(
-    alloc: Global,
-    rollover: &mut Rollover,
-    packet: Packet,
-    steps: &mut Steps<L>,
-) -> Result<bool, Fail> {
-    let (epoch, interval, payload, next, epochs) = packet;
-    if 15 < epoch || interval == 0 || 8 < interval {
-        return Err("no such packet".into());
-    }
-    let stream = 0xa7 + epoch;
-    let position = u64::from(interval) - 1;
-    let rows = [
-        Step::Comes(stream, interval, payload, epoch, BOTH),
-        Step::Keys(stream, interval + 2, epoch),
-        Step::Gives(epoch, position, interval, payload, next, epochs),
-    ];
-    Ok(first_unmet_of(alloc, rollover, &rows, steps)?.is_none())
-}
-
-/// The place of the first of these packets that comes to something else, or after which another number of packets was
-/// given.
-fn first_other<L: Ledger>(
-    alloc: Global,
-    blank: Blank,
-    packets: &[Packet],
-) -> Result<Option<usize>, Fail>
-    requires name { blank.name ≡ L.name }
-    requires parts { blank.parts ≡ L.parts }
-    requires some { 0 < L.parts }
-{
-    let mut steps = Steps::<L>::new(blank);
-    let mut rollover = opened(alloc, 1)?;
-    for (place, packet) in packets.iter().enumerate() {
-        let is_given = is_given(alloc, &mut rollover, *packet, &mut steps)?;
-        if !is_given || rollover.given() != place as u64 + 1 {
-            return Ok(Some(place));
-        }
-    }
-    Ok(None)
-}
-
-#[test]
-fn packets(rt: HostRuntime) -> Result<(), Fail> {
-    for packets in [PACKETS, PACKETS_OF_SIXTEEN] {
-        let other = first_other::<Brand>(rt.alloc(), Blank::new(1), packets)?;
-        assert_eq!(rt; other, None);
+fn epochs(rt: HostRuntime) -> Result<(), Fail> {
+    for row in ROWS.split("\n* ").skip(1) {
+        let wrong = wrong_in_row(rt.alloc(), row)?;
+        assert_eq!(rt; wrong.as_str(), "", "{row}");
     }
     Ok(())
 }

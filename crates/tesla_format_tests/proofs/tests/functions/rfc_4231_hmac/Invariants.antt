@@ -1,4 +1,0 @@
-use Rattle.tesla_format_tests.proofs.tests.functions.rfc_4231_hmac.Given as goal
-
-abbrev pub ghosts-hmac_of : goal.ghosts-hmac_of
-ghosts-hmac_of g a = record { name = a.blank.name; parts = a.blank.parts }

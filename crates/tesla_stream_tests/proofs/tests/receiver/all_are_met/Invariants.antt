@@ -1,4 +1,0 @@
-use Rattle.tesla_stream_tests.proofs.tests.receiver.all_are_met.Given as goal
-
-abbrev pub ghosts-first_unmet : goal.ghosts-first_unmet
-ghosts-first_unmet a = record { name = a.blank.name; parts = a.blank.parts }

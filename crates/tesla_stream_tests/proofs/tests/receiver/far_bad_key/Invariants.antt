@@ -1,4 +1,0 @@
-use Rattle.tesla_stream_tests.proofs.tests.receiver.far_bad_key.Given as goal
-
-abbrev pub ghosts-first_unmet : goal.ghosts-first_unmet
-ghosts-first_unmet a a' = record { name = a'.blank.name; parts = a'.blank.parts }

@@ -1,0 +1,60 @@
+//! What is written by calls that no command makes, and the laws of captures at their formats.
+
+use std::test::*;
+use tesla_base::Head;
+use tesla_capture::{
+    CaptureFormat, ScriptFormat, laws, write_arrival, write_head, write_record, write_take,
+};
+use tesla_desk::{Desk, Sink};
+use tesla_memory_desk::MemoryDesk;
+use tesla_state::Take;
+use tesla_trace::{EntryBuffer, write_entry};
+
+const HEAD: Head = Head {
+    position: 0,
+    interval: 1,
+    number: 0,
+    chain: 0,
+    length: 2,
+};
+
+// The head of a capture, an arrival at 5, a take, a release record, and a take that gave that packet.
+const WRITTEN: &[u8] = b"\
+TCAP\x01\x01\0\0\0\0\0\0\0\x05\0\x02hi\x02\
+\0\0\0\0\0\0\0\0\0\0\0\x01\0\0\0\0\x02hi\
+\x02\x03\x02\0\0\0\0\0\0\0\0\0\0\0\x01\0\0\0\0\x02hi";
+
+// Writes these.
+fn writes<S: Sink>(sink: &mut S) -> bool {
+    let mut payload = [0; 1200];
+    payload[..2].copy_from_slice(b"hi");
+    let mut entry = EntryBuffer::new();
+    entry.set_take(3, Take::Given(HEAD), &payload);
+    write_head(sink)
+        && write_arrival(sink, 5, b"hi")
+        && write_take(sink)
+        && write_record(sink, &HEAD, b"hi")
+        && write_entry(sink, &entry)
+}
+
+#[test]
+fn written_files(rt: HostRuntime) -> Result<(), Fail> {
+    let mut desk = MemoryDesk::new(rt.alloc(), 100)?;
+    let Ok(mut sink) = desk.open_sink("out") else {
+        return Err("no sink".into());
+    };
+    let is_written = writes(&mut sink);
+    desk.close_sink(sink);
+    assert!(rt; is_written && desk.page("out") == Some(WRITTEN));
+    Ok(())
+}
+
+#[test]
+fn laws_are_called(_rt: HostRuntime) {
+    laws::captures();
+    laws::scripts();
+    laws::file_outlines::<CaptureFormat>();
+    laws::file_outlines::<ScriptFormat>();
+    laws::taken::<CaptureFormat>();
+    laws::taken::<ScriptFormat>();
+}
