@@ -131,30 +131,36 @@ fn wrong_in<L: Ledger>(
 }
 
 // The same of a row.
-fn wrong_of<L: Ledger>(alloc: Global, blank: Blank, row: &str) -> Result<String, Fail>
+fn wrong_of<L: Ledger>(alloc: Global, row: &str, steps: &mut Steps<L>) -> Result<String, Fail> {
+    let (head, lines) = row.split_once('\n').ok_or("a row of one line")?;
+    let (_, ingests) = head.split_once(" $ ").ok_or("a row without ingests")?;
+    let ingests: u8 = ingests.parse()?;
+    let setup = read_setup(alloc, SETUP_OF_ONE_CHAIN.as_bytes())?;
+    let mut rollover = Rollover::open(alloc, setup, 30_000, 16, ingests.max(1))?;
+    wrong_in(alloc, &mut rollover, lines, steps)
+}
+
+// The same of the first row of which something isn't so.
+fn wrong_rows<L: Ledger>(alloc: Global, blank: Blank) -> Result<String, Fail>
     requires name { blank.name ≡ L.name }
     requires parts { blank.parts ≡ L.parts }
     requires some { 0 < L.parts }
 {
-    let (head, lines) = row.split_once('\n').ok_or("a row of one line")?;
-    let (_, ingests) = head.split_once(" $ ").ok_or("a row without ingests")?;
-    let ingests: u8 = ingests.parse()?;
     let mut steps = Steps::<L>::new(blank);
-    let setup = read_setup(alloc, SETUP_OF_ONE_CHAIN.as_bytes())?;
-    let mut rollover = Rollover::open(alloc, setup, 30_000, 16, ingests.max(1))?;
-    wrong_in(alloc, &mut rollover, lines, &mut steps)
-}
-
-// The same with a count of its own.
-fn wrong_in_row(alloc: Global, row: &str) -> Result<String, Fail> {
-    wrong_of::<Brand>(alloc, Blank::new(1), row)
+    for row in ROWS.split("\n* ").skip(1) {
+        let wrong = wrong_of(alloc, row, &mut steps)?;
+        if !wrong.is_empty() {
+            return Ok(wrong);
+        }
+    }
+    Ok(String::new(alloc))
 }
 
 #[test]
 fn epochs(rt: HostRuntime) -> Result<(), Fail> {
-    for row in ROWS.split("\n* ").skip(1) {
-        let wrong = wrong_in_row(rt.alloc(), row)?;
-        assert_eq!(rt; wrong.as_str(), "", "{row}");
-    }
+    assert_eq!(rt;
+        wrong_rows::<Brand>(rt.alloc(), Blank::new(1))?.as_str(),
+        ""
+    );
     Ok(())
 }
