@@ -2,3 +2,4 @@ pub mod Places
 pub mod Stored
 pub mod Written
 pub mod Resting
+pub mod Shown

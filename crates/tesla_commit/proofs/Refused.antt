@@ -47,47 +47,24 @@ within_refused least most n out =
 
 pub title_refused : (kind : SetupKind) (line : List ℕ) → WhyTitle kind line → title_in line ≡ Err kind
 title_refused BadLine line why = refused_by (title_in line) BadLine (λ version ok. why version (title_found line version ok)) (λ k e. (title_err (bytes_eq line (codes "tesla 1")) (bytes_eq line (codes "tesla 2")) k e).2)
-title_refused BadNumber line why = absurd why
-title_refused BadHex line why = absurd why
-title_refused NoChain line why = absurd why
-title_refused TooManyChains line why = absurd why
-title_refused DelaysNotRising line why = absurd why
-title_refused IndexPastLast line why = absurd why
-title_refused LimitPassed line why = absurd why
-title_refused TooLong line why = absurd why
+title_refused _ line why = absurd why
 
 pub stream_refused : (kind : SetupKind) (line : List ℕ) → WhyStream kind line → stream_in line ≡ Err kind
 stream_refused BadLine line why = rw (value_refused (codes "stream") (words line) why) refl
 stream_refused BadHex line why = rw (value_taken (codes "stream") why.0 (words line) why.1, hex_refused 8 why.0 why.2) refl
-stream_refused BadNumber line why = absurd why
-stream_refused NoChain line why = absurd why
-stream_refused TooManyChains line why = absurd why
-stream_refused DelaysNotRising line why = absurd why
-stream_refused IndexPastLast line why = absurd why
-stream_refused LimitPassed line why = absurd why
-stream_refused TooLong line why = absurd why
+stream_refused _ line why = absurd why
 
 pub limited_refused : (name : List ℕ) (least most : ℕ) (kind : SetupKind) (line : List ℕ) → WhyNumber name least most kind line → limited_in name least most line ≡ Err kind
 limited_refused name least most BadLine line why = rw (value_refused name (words line) why) refl
 limited_refused name least most BadNumber line why = rw (value_taken name why.0 (words line) why.1, number_refused why.0 why.2) refl
 limited_refused name least most LimitPassed line why = rw (value_taken name (decimal why.0) (words line) why.2, number_again why.0 why.1) (within_refused least most why.0 why.3)
-limited_refused name least most BadHex line why = absurd why
-limited_refused name least most NoChain line why = absurd why
-limited_refused name least most TooManyChains line why = absurd why
-limited_refused name least most DelaysNotRising line why = absurd why
-limited_refused name least most IndexPastLast line why = absurd why
-limited_refused name least most TooLong line why = absurd why
+limited_refused name least most _ line why = absurd why
 
 pub start_refused : (kind : SetupKind) (line : List ℕ) → WhyNumber (codes "start") 0 (2 ^ 64 - 1) kind line → start_in line ≡ Err kind
 start_refused BadLine line why = rw (value_refused (codes "start") (words line) why) refl
 start_refused BadNumber line why = rw (value_taken (codes "start") why.0 (words line) why.1) (number_refused why.0 why.2)
 start_refused LimitPassed line why = let fits = why.1 in absurd (not_outside 0 (2 ^ 64 - 1) why.0 why.3 (omega arith) (omega arith))
-start_refused BadHex line why = absurd why
-start_refused NoChain line why = absurd why
-start_refused TooManyChains line why = absurd why
-start_refused DelaysNotRising line why = absurd why
-start_refused IndexPastLast line why = absurd why
-start_refused TooLong line why = absurd why
+start_refused _ line why = absurd why
 
 -- ---- the line of a chain
 

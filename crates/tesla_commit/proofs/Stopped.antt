@@ -16,7 +16,7 @@ use Rattle.tesla_commit.specs.SetupText.{HasKey}
 use Rattle.tesla_commit.specs.SetupRefused.{title, StopsHere, WhyTitle, WhyStream, WhyNumber, WhyChain, tag_lines, head_lines, IsHead, why_head, chain_text, last_delay, StopsAtChain, StopsInChains, IsRefused}
 use Rattle.tesla_commit.specs.declared.chain_row.ChainRow.{ChainRow}
 use Rattle.tesla_commit.specs.declared.refusal.SetupKind.{SetupKind}
-use Rattle.tesla_commit.specs.declared.refusal.SetupKind.TheVariants.{BadLine, BadNumber, BadHex, NoChain, TooManyChains, DelaysNotRising, IndexPastLast, LimitPassed, TooLong}
+use Rattle.tesla_commit.specs.declared.refusal.SetupKind.TheVariants.{NoChain, TooManyChains, TooLong}
 use Rattle.tesla_commit.proofs.RowLaws.{not_line, same_line, first_bounds, RiseFrom, rise_again}
 use Rattle.tesla_commit.proofs.Spelling.{solid_from_test, title_again, stream_again, start_again, limited_again, row_line_again}
 use Rattle.tesla_commit.proofs.Refusals.{after_times, after_opening, whole, stream_line}
@@ -166,25 +166,13 @@ chain_none version last number before rest six none =
 chain_stopped : (version : Version) (last number count before : ℕ) (kind : SetupKind) (rest : List (List ℕ)) → number ≡ first_line version + count → StopsAtChain (most_chains version) count last before kind rest → chains_judged version last number before rest ≡ Err (number, kind)
 chain_stopped version last number count before NoChain rest place h = chain_none version last number before rest (let c = h.0 in omega arith) h.1
 chain_stopped version last number count before TooManyChains rest place h = chain_over version last number before rest (let c = h.0 in omega arith) h.1 h.2
-chain_stopped version last number count before BadLine rest place h = chain_here version last number before BadLine rest (let c = h.0 in omega arith) h.1 h.2
-chain_stopped version last number count before BadNumber rest place h = chain_here version last number before BadNumber rest (let c = h.0 in omega arith) h.1 h.2
-chain_stopped version last number count before BadHex rest place h = chain_here version last number before BadHex rest (let c = h.0 in omega arith) h.1 h.2
-chain_stopped version last number count before DelaysNotRising rest place h = chain_here version last number before DelaysNotRising rest (let c = h.0 in omega arith) h.1 h.2
-chain_stopped version last number count before IndexPastLast rest place h = chain_here version last number before IndexPastLast rest (let c = h.0 in omega arith) h.1 h.2
-chain_stopped version last number count before LimitPassed rest place h = chain_here version last number before LimitPassed rest (let c = h.0 in omega arith) h.1 h.2
-chain_stopped version last number count before TooLong rest place h = chain_here version last number before TooLong rest (let c = h.0 in omega arith) h.1 h.2
+chain_stopped version last number count before kind rest place h = chain_here version last number before kind rest (let c = h.0 in omega arith) h.1 h.2
 
 -- a text stops behind no more chains than there may be, and never behind its end
 chain_bounds : (most count last before : ℕ) (kind : SetupKind) (rest : List (List ℕ)) → StopsAtChain most count last before kind rest → (count ≤ most) × (0 < length rest)
 chain_bounds most count last before NoChain rest h = (let c = h.0 in omega arith, let n : length rest ≡ 1 = ap (length {A = List ℕ}) h.1 in omega arith)
 chain_bounds most count last before TooManyChains rest h = (let c = h.0 in omega arith, h.1)
-chain_bounds most count last before BadLine rest h = (let c = h.0 in omega arith, stops_some (WhyChain last before) BadLine rest h.2)
-chain_bounds most count last before BadNumber rest h = (let c = h.0 in omega arith, stops_some (WhyChain last before) BadNumber rest h.2)
-chain_bounds most count last before BadHex rest h = (let c = h.0 in omega arith, stops_some (WhyChain last before) BadHex rest h.2)
-chain_bounds most count last before DelaysNotRising rest h = (let c = h.0 in omega arith, stops_some (WhyChain last before) DelaysNotRising rest h.2)
-chain_bounds most count last before IndexPastLast rest h = (let c = h.0 in omega arith, stops_some (WhyChain last before) IndexPastLast rest h.2)
-chain_bounds most count last before LimitPassed rest h = (let c = h.0 in omega arith, stops_some (WhyChain last before) LimitPassed rest h.2)
-chain_bounds most count last before TooLong rest h = (let c = h.0 in omega arith, stops_some (WhyChain last before) TooLong rest h.2)
+chain_bounds most count last before kind rest h = (let c = h.0 in omega arith, stops_some (WhyChain last before) kind rest h.2)
 
 -- the refusal of a later line is that of all lines
 one_refused : (version : Version) (last number before : ℕ) (text : List ℕ) (row : ChainRow) (parts : List (List ℕ)) (e : ℕ × SetupKind) → number ≢ end_line version → 0 < length parts → chain_in last before text ≡ Ok row → chains_judged version last (number + 1) row.delay parts ≡ Err e → chains_judged version last number before (text ∷ parts) ≡ Err e

@@ -15,7 +15,7 @@ use Rattle.tesla_sender.specs.declared.refusal.SendRefusal.{SendRefusal}
 use Rattle.tesla_sender.specs.declared.refusal.SendRefusal.TheVariants as unsent
 use Rattle.tesla_sender.proofs.Logs.{named, spells_answered}
 use Rattle.tesla_desk.specs.declared.link.Letter.TheVariants as letters
-use Rattle.tesla_feed.specs.Fed.{Came, Feeding, after_event, after_judged, after_none, datagram_of, has_begun, is_all_told, is_due, is_unread, last_message, latest_from, message_interval, name_from, tells_more, told_by, with_call, with_refusal, with_unread}
+use Rattle.tesla_feed.specs.Fed.{counts_of, Came, Feeding, after_event, after_judged, after_none, datagram_of, has_begun, is_all_told, is_due, is_unread, last_message, latest_from, message_interval, name_from, tells_more, told_by, with_call, with_refusal, with_unread}
 use Rattle.tesla_feed.specs.Steps.{Makes, StandsFor, after_item, after_refusal, after_unread, is_due_after, is_told_after, one_more}
 use Rattle.tesla_feed.specs.declared.counts.FeedCounts.{FeedCounts}
 use Rattle.tesla_feed.specs.declared.feeder.Feeder.{Feeder}
@@ -280,9 +280,10 @@ due_accepted stream before reading later some =
 
 -- ---- what each call makes
 
--- a reading that was noted changes nothing
-pub noted_stands : (stream : Stream) (first : ℕ) (feeder : Feeder) (made : Feeding) (reading : ℕ) → StandsFor stream first feeder made → StandsFor stream first (record feeder { reading = reading }) made
-noted_stands stream first feeder made reading stands = record {
+-- what is ready, read and counted changes nothing else
+kept_stands : (stream : Stream) (first : ℕ) (feeder : Feeder) (made : Feeding) (left : ℕ) (frame : List ℕ) (reading : ℕ) (counts : FeedCounts) (refused : List SendRefusal) (unread : ℕ) → StandsFor stream first feeder made
+    → counts ≡ counts_of (record made { refused = refused; unread = unread }) → StandsFor stream first (record feeder { sender = record feeder.sender { left = left }; frame = frame; reading = reading; counts = counts }) (record made { refused = refused; unread = unread })
+kept_stands stream first feeder made left frame reading counts refused unread stands counted = record {
   stream_is = stands.stream_is;
   first_is = stands.first_is;
   from = stands.from;
@@ -291,38 +292,23 @@ noted_stands stream first feeder made reading stands = record {
   latest = stands.latest;
   told = stands.told;
   message = stands.message;
-  counts = stands.counts;
+  counts = counted;
 }
+
+-- a reading that was noted changes nothing
+pub noted_stands : (stream : Stream) (first : ℕ) (feeder : Feeder) (made : Feeding) (reading : ℕ) → StandsFor stream first feeder made → StandsFor stream first (record feeder { reading = reading }) made
+noted_stands stream first feeder made reading stands = kept_stands stream first feeder made feeder.sender.left feeder.frame reading feeder.counts made.refused made.unread stands stands.counts
 
 -- nor do the keys that are made ahead
 pub next_stands : (stream : Stream) (first : ℕ) (feeder : Feeder) (sender : State) (made : Feeding) → sender ≡ record { stream = feeder.sender.stream; latest = feeder.sender.latest; used = feeder.sender.used; left = sender.left; reserved = feeder.sender.reserved } → StandsFor stream first feeder made → StandsFor stream first (record feeder { sender = sender }) made
 next_stands stream first feeder sender made same stands =
     let P : State → Type 0 = λ s. StandsFor stream first (record feeder { sender = s }) made in
-    subst P (sym same) (record {
-      stream_is = stands.stream_is;
-      first_is = stands.first_is;
-      from = stands.from;
-      used = stands.used;
-      none_later = stands.none_later;
-      latest = stands.latest;
-      told = stands.told;
-      message = stands.message;
-      counts = stands.counts;
-    })
+    subst P (sym same) (kept_stands stream first feeder made sender.left feeder.frame feeder.reading feeder.counts made.refused made.unread stands stands.counts)
 
 -- a message that is refused is counted
 pub refused_stands : (stream : Stream) (first : ℕ) (feeder : Feeder) (made : Feeding) (refusal : SendRefusal) (frame : List ℕ) (counts : FeedCounts) → counts ≡ after_refusal feeder.counts refusal → StandsFor stream first feeder made → StandsFor stream first (record feeder { frame = frame; counts = counts }) (with_refusal made refusal)
-refused_stands stream first feeder made refusal frame counts after stands = record {
-  stream_is = stands.stream_is;
-  first_is = stands.first_is;
-  from = stands.from;
-  used = stands.used;
-  none_later = stands.none_later;
-  latest = stands.latest;
-  told = stands.told;
-  message = stands.message;
-  counts = after ∙ ap (λ (c : FeedCounts). after_refusal c refusal) stands.counts ∙ sym (refused_counts made refusal);
-}
+refused_stands stream first feeder made refusal frame counts after stands =
+    kept_stands stream first feeder made feeder.sender.left frame feeder.reading counts (with_refusal made refusal).refused made.unread stands (after ∙ ap (λ (c : FeedCounts). after_refusal c refusal) stands.counts ∙ sym (refused_counts made refusal))
 
 abbrev disclosed_where : Feeding → ℕ → Bool → Feeding
 disclosed_where made reading due = if due then with_call made (Disclose reading) else made
@@ -441,16 +427,6 @@ makes_unread stream first feeder now made reading (Some bytes) unread same stand
     let it : Feeder = record feeder { counts = after_unread feeder.counts (Some bytes) } in
     subst (λ (f : Feeder). P f (after_item stream first made reading (Some bytes))) (sym same)
     (subst (P it) (sym (unread_made stream first made reading bytes unread)) (record {
-      stands = record {
-        stream_is = stands.stream_is;
-        first_is = stands.first_is;
-        from = stands.from;
-        used = stands.used;
-        none_later = stands.none_later;
-        latest = stands.latest;
-        told = stands.told;
-        message = stands.message;
-        counts = ap (λ (c : FeedCounts). let it : FeedCounts = record c { unread = one_more c.unread } in it) stands.counts ∙ sym (unread_counts made);
-      };
+      stands = kept_stands stream first feeder made feeder.sender.left feeder.frame feeder.reading it.counts made.refused (with_unread made).unread stands (ap (λ (c : FeedCounts). let it : FeedCounts = record c { unread = one_more c.unread } in it) stands.counts ∙ sym (unread_counts made));
       adds = refl;
     }))

@@ -12,8 +12,9 @@ use Rattle.std.proofs.Math.Bool.{or-false}
 use Rattle.std.proofs.lemmas.Option.{none-some, slice_get-get_or}
 use Rattle.tesla_base.specs.Members.{is_in, without}
 use Rattle.tesla_links.specs.Lists.{Lists, list_of, moved}
-use Rattle.tesla_links.specs.Slots.{has_key, is_vacant}
+use Rattle.tesla_links.specs.Slots.{Slots, has_key, is_vacant}
 use Rattle.tesla_links.specs.Tables.{IsKeyed, bucket_of, chain_of, slots_of}
+use Rattle.tesla_links.specs.declared.key_table.KeyTable.TheInside.{Inside}
 use Rattle.tesla_links.proofs.Linked.{range_more}
 use Rattle.tesla_base.proofs.Members.{apart_from, in_cases, in_got, in_here, in_rest, range_has, range_in, somewhere, without_other, without_same}
 
@@ -296,3 +297,19 @@ opened capacity chains keys some most e size =
           absurd (false≢true (ap (is_in p) (sym none) ∙ i)))
           (cases_eq j capacity);
     }
+
+-- ---- as a caller sees the slots
+
+module _ (f : Inside) (seen : Slots) {room : ℕ} (view : ◌≡◌ {A = Slots} (record { slots = slots_of f.capacity f.chains f.keys.items; reserved = room }) seen)
+    (kept : IsKeyed f.capacity f.chains f.keys.items (slots_of f.capacity f.chains f.keys.items)) (p : ℕ) (below : p < length seen.slots) where
+  keyed_seen : IsKeyed f.capacity f.chains f.keys.items seen.slots
+  keyed_seen = at_view f.capacity f.chains f.keys.items seen.slots (ap (λ (v : Slots). v.slots) view) kept
+
+  pub somewhere_seen : list_any (is_in p) f.chains.lists ≡ true
+  somewhere_seen = place_somewhere f.capacity f.chains f.keys.items seen.slots p keyed_seen (omega (arith, keyed_seen.slotted))
+
+  pub slot_seen : (slot : Option ℕ) (chains' : Lists) (keys' : List ℕ) → chains'.places ≡ f.chains.places → chains'.lists ≡ moved p (chain_of f.capacity slot) f.chains.lists
+      → length keys' ≡ length f.keys.items → (p < length f.keys.items → (k : ℕ) → slot ≡ Some k → get_or keys' p 0 ≡ k) → ((q : ℕ) → (q ≡ p → ⊥) → get_or keys' q 0 ≡ get_or f.keys.items q 0)
+      → IsKeyed f.capacity chains' keys' (set seen.slots p slot)
+  slot_seen slot chains' keys' places lists size key others =
+      slot_set f.capacity f.chains f.keys.items seen.slots p slot chains' keys' keyed_seen (omega (arith, keyed_seen.slotted)) places lists size (key (omega (arith, keyed_seen))) others

@@ -1,4 +1,5 @@
 pub mod Rings
+pub mod Shown
 pub mod Linked
 pub mod Keyed
 pub mod Grouped

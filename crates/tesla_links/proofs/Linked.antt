@@ -1,15 +1,17 @@
 -- All lists in their rings, after a number was appended to one, and after one was removed.
-use Rattle.std.proofs.Common.{◌≡◌, ℕ, ◌+◌, ◌-◌, ◌^◌, ◌<◌, ◌≤◌, true, false, List, [], ◌∷◌, ◌++◌, length, get_or, map, replicate, refl, sym, ap, subst, ◌∙◌, arith, ⊎_elim}
+use Rattle.std.proofs.Common.{◌≡◌, ℕ, ◌+◌, ◌-◌, ◌^◌, ◌<◌, ◌≤◌, true, false, List, [], ◌∷◌, ◌++◌, length, get_or, map, replicate, Some, None, refl, sym, ap, subst, ◌∙◌, arith, ⊎_elim}
+use Rattle.std.specs.Prelude.{slice_get}
 use Rattle.std.specs.List.{list_any, range_with_len}
 use Rattle.std.proofs.Math.ListN.{set}
 use Rattle.std.proofs.lemmas.Bool.{cases_Bool, cases_eq, false≢true}
-use Rattle.std.proofs.lemmas.List.{get_or-map, get_or-replicate, get_or-set_other, get_or-set_same, length-append, length-map, length-replicate, length-set, map-id}
+use Rattle.std.proofs.lemmas.List.{get_or-map, get_or-replicate, get_or-set_other, get_or-set_same, get_or_read, length-append, length-map, length-replicate, length-set, map-id}
 use Rattle.std.proofs.lemmas.List.FromFn.{get_or-range_with_len, length-range_with_len, map-range_with_len_more}
-use Rattle.tesla_base.specs.Members.{Distinct, is_in, without}
-use Rattle.tesla_links.specs.Lists.{Lists}
+use Rattle.tesla_base.specs.Members.{Distinct, is_in, next_in, without}
+use Rattle.tesla_links.specs.Lists.{Lists, list_of}
+use Rattle.tesla_links.specs.declared.links.Links.TheInside.{Inside}
 use Rattle.tesla_links.specs.Rings.{Chain, IsLinked, IsRing, Owned, lists_of}
 use Rattle.tesla_base.proofs.Members.{apart, apart_from, differs, distinct_push, distinct_short, distinct_split, in_cases, in_front, in_here, in_no_list, in_rest, in_there, list_with, split_at, without_none, without_split}
-use Rattle.tesla_links.proofs.Rings.{chain_append, chain_cut, chain_kept, chain_split, first_in, last_in, lists_of_is}
+use Rattle.tesla_links.proofs.Rings.{chain_append, chain_cut, chain_kept, chain_split, first_in, first_none, first_some, last_in, lists_of_is, next_none, next_some}
 
 -- ---- owners
 
@@ -358,11 +360,78 @@ opened places n after before owners counts small few ea eb eo ec =
 
 -- ---- the view
 
--- the lists that the fields have are those that a caller sees
-pub at_view : (places : ℕ) (after before owners counts : List ℕ) (seen : Lists) {room : ℕ} → ◌≡◌ {A = Lists} (record { places = places; lists = lists_of places after counts; reserved = room }) seen → IsLinked places after before owners counts (lists_of places after counts)
-    → IsLinked places after before owners counts seen.lists × (places ≡ seen.places)
-at_view places after before owners counts seen e h =
-    (subst (λ (v : Lists). IsLinked places after before owners counts v.lists) e h, ap (λ (v : Lists). v.places) e)
+-- lists stand in the rings that the fields have
+abbrev pub Linked : Inside → List (List ℕ) → Type 0
+Linked f lists = IsLinked f.places f.after.items f.before.items f.owners.items f.counts.items lists
+
+-- what the fields say to a caller
+abbrev pub Shows : Inside → Lists → ℕ → Type 0
+Shows f seen room = ◌≡◌ {A = Lists} (record { places = f.places; lists = lists_of f.places f.after.items f.counts.items; reserved = room }) seen
+
+-- the lists that a caller sees stand in their rings
+pub record IsSeen (f : Inside) (seen : Lists) : Type 0 where
+  pub linked : Linked f seen.lists
+  pub places : f.places ≡ seen.places
+
+pub at_view : (f : Inside) (seen : Lists) (room : ℕ) → Shows f seen room → Linked f (lists_of f.places f.after.items f.counts.items) → IsSeen f seen
+at_view f seen room e h = record { linked = subst (λ (v : Lists). Linked f v.lists) e h; places = ap (λ (v : Lists). v.places) e }
+
+-- and a number stands in one of them
+pub record IsStanding (f : Inside) (seen : Lists) (p : ℕ) : Type 0 where
+  pub rings : IsSeen f seen
+  pub linked_at : Placed f.places f.after.items f.before.items f.owners.items f.counts.items seen.lists p
+
+pub standing : (f : Inside) (seen : Lists) (p room : ℕ) → Shows f seen room → Linked f (lists_of f.places f.after.items f.counts.items) → list_any (is_in p) seen.lists ≡ true → IsStanding f seen p
+standing f seen p room e h somewhere =
+    let rings = at_view f seen room e h in
+    record { rings = rings; linked_at = placed f.places f.after.items f.before.items f.owners.items f.counts.items seen.lists p rings.linked somewhere }
+
+-- the nodes beside a number that stands in a list, and its list, as they are read
+pub record AreRead (f : Inside) (seen : Lists) (p a b k : ℕ) : Type 0 where
+  pub stands : IsStanding f seen p
+  pub after : a ≡ get_or f.after.items p 0
+  pub before : b ≡ get_or f.before.items p 0
+  pub list : k ≡ get_or f.owners.items p 0
+
+pub list_counted : (f : Inside) (seen : Lists) (p a b k n : ℕ) → AreRead f seen p a b k → n ≡ get_or f.counts.items k n → n ≡ get_or f.counts.items k 0
+list_counted f seen p a b k n r e = get_or_read f.counts.items k n (omega arith) e 0
+
+-- what is left where it is removed
+pub left_without : (f : Inside) (seen : Lists) (p a b k n : ℕ) → AreRead f seen p a b k → n ≡ get_or f.counts.items k n
+    → IsLinked f.places (set f.after.items b a) (set f.before.items a b) f.owners.items (set f.counts.items k (n - 1)) (map (without p) seen.lists)
+left_without f seen p a b k n r e =
+    remove_keeps f.places f.after.items f.before.items f.owners.items f.counts.items seen.lists p a b k n r.after r.before r.list (list_counted f seen p a b k n r e) r.stands.rings.linked r.stands.linked_at
+
+-- what there is where a number is appended to a list, with the last node and the count as they are read
+pub longer_by : (f : Inside) (seen : Lists) (k p l n : ℕ) → IsSeen f seen → k < length seen.lists → p < seen.places → list_any (is_in p) seen.lists ≡ false → l ≡ get_or f.before.items (f.places + k) l → n ≡ get_or f.counts.items k n
+    → IsLinked f.places (set (set f.after.items l p) p (f.places + k)) (set (set f.before.items p l) (f.places + k) p) (set f.owners.items p k) (set f.counts.items k (n + 1)) (set seen.lists k (get_or seen.lists k [] ++ p ∷ []))
+longer_by f seen k p l n s below within none el en =
+    append_keeps f.places f.after.items f.before.items f.owners.items f.counts.items seen.lists k p l n (get_or_read f.before.items (f.places + k) l (omega arith) el 0) (get_or_read f.counts.items k n (omega arith) en 0) s.linked below (omega arith) none
+
+-- the first number of a list, as the node behind its head is read
+pub first_read : (f : Inside) (seen : Lists) (k n : ℕ) → IsSeen f seen → k < length seen.lists → n ≡ get_or f.after.items (f.places + k) n
+    → (n ≡ f.places + k → None ≡ slice_get (list_of seen k) 0) × ((n ≡ f.places + k → ⊥) → Some n ≡ slice_get (list_of seen k) 0)
+first_read f seen k n s below e =
+    let head = f.places + k in
+    let xs = list_of seen k in
+    let ring = s.linked.each k below in
+    let read = get_or_read f.after.items head n (omega arith) e 0 in (
+      λ is. sym (first_none f.after.items f.before.items head xs head ring.chain (head_apart f.places f.owners.items k xs k ring.owned) (sym read ∙ is)),
+      λ ne. sym (first_some f.after.items f.before.items head xs head ring.chain (λ e. ne (read ∙ e)) ∙ ap Some (sym read)),
+    )
+
+-- and the number behind another one in its list
+pub next_read : (f : Inside) (seen : Lists) (k p n : ℕ) → IsSeen f seen → k < length seen.lists → is_in p (list_of seen k) ≡ true → n ≡ get_or f.after.items p n
+    → (n ≡ f.places + k → None ≡ next_in p (list_of seen k)) × ((n ≡ f.places + k → ⊥) → Some n ≡ next_in p (list_of seen k))
+next_read f seen k p n s below member e =
+    let head = f.places + k in
+    let xs = list_of seen k in
+    let ring = s.linked.each k below in
+    let own = owned_in f.places f.owners.items k xs p ring.owned member in
+    let read = get_or_read f.after.items p n (omega arith) e 0 in (
+      λ is. sym (next_none f.after.items f.before.items head xs head p ring.chain ring.distinct member (head_apart f.places f.owners.items k xs k ring.owned) (sym read ∙ is)),
+      λ ne. sym (next_some f.after.items f.before.items head xs head p ring.chain ring.distinct member (λ e. ne (read ∙ e)) ∙ ap Some (sym read)),
+    )
 
 -- the same lists, with the same room
 pub same_shown : (places room : ℕ) (lists lists' : List (List ℕ)) → lists ≡ lists' → ◌≡◌ {A = Lists} (record { places = places; lists = lists; reserved = room }) (record { places = places; lists = lists'; reserved = room })

@@ -63,17 +63,17 @@ empty_comes number state states reply answered others (history ∷ histories) st
     ap not_over (others histories stand.1)
     ∙ ap (λ (own : Reply). asked_from number (up_to_given (own ∷ replies_of states histories))) (answered history stand.0)
 
-pub empty_asked : (releaser : ℕ) (old new : State) (states others : List State)
-    → IsAnswered old replies.Empty → IsTaken releaser old new → AreAsked releaser states others → AreAsked releaser (old ∷ states) (new ∷ others)
-empty_asked releaser old new states others answered taken asked [] stand = absurd stand
-empty_asked releaser old new states others answered taken asked (history ∷ histories) stand =
-    subst (λ (reply : Reply). StandAll (new ∷ others) (with_takes releaser (up_to_given (reply ∷ replies_of states histories)) (history ∷ histories))) (answered history stand.0)
-    (taken_stands releaser old new replies.Empty history answered taken stand.0, asked histories stand.1)
+-- the first gave nothing, and the others are asked
+asked_on : (reply : Reply) → ((more : List Reply) → up_to_given (reply ∷ more) ≡ reply ∷ up_to_given more) → (releaser : ℕ) (old new : State) (states others : List State)
+    → IsAnswered old reply → IsTaken releaser old new → AreAsked releaser states others → AreAsked releaser (old ∷ states) (new ∷ others)
+asked_on reply goes_on releaser old new states others answered taken asked [] stand = absurd stand
+asked_on reply goes_on releaser old new states others answered taken asked (history ∷ histories) stand =
+    let Stands : List Reply → Type 0 = λ rs. StandAll (new ∷ others) (with_takes releaser rs (history ∷ histories)) in
+    subst (λ (own : Reply). Stands (up_to_given (own ∷ replies_of states histories))) (answered history stand.0)
+    (subst Stands (sym (goes_on (replies_of states histories))) (taken_stands releaser old new reply history answered taken stand.0, asked histories stand.1))
 
--- the first is over, and the others are asked
-pub over_asked : (releaser : ℕ) (old new : State) (states others : List State)
-    → IsAnswered old replies.Over → IsTaken releaser old new → AreAsked releaser states others → AreAsked releaser (old ∷ states) (new ∷ others)
-over_asked releaser old new states others answered taken asked [] stand = absurd stand
-over_asked releaser old new states others answered taken asked (history ∷ histories) stand =
-    subst (λ (reply : Reply). StandAll (new ∷ others) (with_takes releaser (up_to_given (reply ∷ replies_of states histories)) (history ∷ histories))) (answered history stand.0)
-    (taken_stands releaser old new replies.Over history answered taken stand.0, asked histories stand.1)
+pub empty_asked : (releaser : ℕ) (old new : State) (states others : List State) → IsAnswered old replies.Empty → IsTaken releaser old new → AreAsked releaser states others → AreAsked releaser (old ∷ states) (new ∷ others)
+empty_asked = asked_on replies.Empty (λ more. refl)
+
+pub over_asked : (releaser : ℕ) (old new : State) (states others : List State) → IsAnswered old replies.Over → IsTaken releaser old new → AreAsked releaser states others → AreAsked releaser (old ∷ states) (new ∷ others)
+over_asked = asked_on replies.Over (λ more. refl)

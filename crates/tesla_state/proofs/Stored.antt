@@ -186,16 +186,20 @@ live_kept p held (w ∷ ws) none h =
     (any_filtered (waits_at w.place.0) (λ x. not (stands_at p x)) (λ x e. and_left (stands_at w.place.0 x) (waits x) (other_place p w.place.0 first x e)) held ∙ parts.0)
     (live_kept p held ws rest parts.1)
 
-pub without_stored : (capacity room p : ℕ) (held : List Placed) (waiting : List Waiting) → IsStored capacity room held waiting → list_any (rests_at p) held ≡ true → IsStored capacity room (without p held) waiting
-without_stored capacity room p held waiting s h = record {
+-- a packet goes that no entry waits for
+pub gone_stored : (capacity room p : ℕ) (held : List Placed) (waiting : List Waiting) → IsStored capacity room held waiting → is_in p (map place_in waiting) ≡ false → IsStored capacity room (without p held) waiting
+gone_stored capacity room p held waiting s none = record {
   few = s.few;
   fits = (let fewer = shorter p held in let fits = s.fits in omega arith);
   same = s.same;
   distinct = distinct_kept (λ x. not (stands_at p x)) held s.distinct;
   sound = all_filtered is_sound (λ x. not (stands_at p x)) held s.sound;
   once = s.once;
-  live = live_kept p held waiting (rests_apart p held waiting s.distinct h s.live) s.live;
+  live = live_kept p held waiting none s.live;
 }
+
+pub without_stored : (capacity room p : ℕ) (held : List Placed) (waiting : List Waiting) → IsStored capacity room held waiting → list_any (rests_at p) held ≡ true → IsStored capacity room (without p held) waiting
+without_stored capacity room p held waiting s h = gone_stored capacity room p held waiting s (rests_apart p held waiting s.distinct h s.live)
 
 all_marked : (f g : Placed → Bool) (m : Placed → Placed) → ((x : Placed) → g x ≡ true → f (m x) ≡ true) → (held : List Placed) → list_all g held ≡ true → list_all f (map m held) ≡ true
 all_marked f g m gives held h = all_mapped f (λ x. f (m x)) m (λ x. refl) held ∙ list_all_weaker g (λ x. f (m x)) held gives h

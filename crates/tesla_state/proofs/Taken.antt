@@ -9,13 +9,12 @@ use Rattle.tesla_buffer.specs.Held as buffer
 use Rattle.tesla_buffer.specs.declared.item.Fate.{Fate}
 use Rattle.tesla_buffer.specs.declared.item.Fate.TheVariants.{Gone, Taken}
 use Rattle.tesla_base.specs.Members.{is_in, Distinct}
-use Rattle.tesla_base.proofs.Filtered.{all_filtered}
 use Rattle.tesla_base.proofs.Members.{head_other}
 use Rattle.tesla_release.specs.declared.queue.Waiting.{Waiting}
 use Rattle.tesla_state.specs.Stored.{Placed, placed_in, place_of, place_in, order_of, stands_at, release_by, release_in, waits, waits_at, is_sound, with_taken, without, IsStored, IsStore, IsItemOf}
 use Rattle.tesla_state.proofs.Marked.{any_weaker, any_mapped, map_mapped}
 use Rattle.tesla_state.proofs.ReleasedPackets.{only_at}
-use Rattle.tesla_state.proofs.Stored.{any_shown, distinct_kept, shorter, without_shown, live_kept, length-marked, releases_kept, releases_marked}
+use Rattle.tesla_state.proofs.Stored.{any_shown, gone_stored, length-marked, releases_kept, releases_marked, without_shown}
 use Rattle.tesla_state.proofs.Sweeping.{none_without}
 
 pub first_waiting : (ws : List Waiting) (w : Waiting) → Some w ≡ slice_get ws 0 → ws ≡ w ∷ drop 1 ws
@@ -65,17 +64,6 @@ tail_stored capacity room held w ws s = record {
 
 pub first_live : (capacity room : ℕ) (held : List Placed) (w : Waiting) (ws : List Waiting) → IsStored capacity room held (w ∷ ws) → list_any (waits_at w.place.0) held ≡ true
 first_live capacity room held w ws s = (and_parts (list_any (waits_at w.place.0) held) (list_all (λ entry. list_any (waits_at entry.place.0) held) ws) s.live).0
-
-gone_stored : (capacity room p : ℕ) (held : List Placed) (ws : List Waiting) → IsStored capacity room held ws → is_in p (map place_in ws) ≡ false → IsStored capacity room (without p held) ws
-gone_stored capacity room p held ws s none = record {
-  few = s.few;
-  fits = (let fewer = shorter p held in let fits = s.fits in omega arith);
-  same = s.same;
-  distinct = distinct_kept (λ x. not (stands_at p x)) held s.distinct;
-  sound = all_filtered is_sound (λ x. not (stands_at p x)) held s.sound;
-  once = s.once;
-  live = live_kept p held ws none s.live;
-}
 
 -- what was released stays so
 sound_marked : (p : ℕ) (held : List Placed) → list_all (λ x. not (stands_at p x) || waits x) held ≡ true → list_all is_sound held ≡ true → list_all is_sound (map (with_taken p) held) ≡ true

@@ -1,5 +1,5 @@
 -- A take, by the state of a receiver.
-use Rattle.std.proofs.Common.{◌≡◌, ℕ, ◌+◌, ◌-◌, ◌^◌, ◌<◌, ◌≤◌, Bool, true, false, cond, ◌&&◌, ◌||◌, List, [], ◌∷◌, ◌++◌, map, flat_map, take, Some, ◌⊎◌, inl, inr, refl, sym, ap, subst, ◌∙◌, arith, ◌==◌}
+use Rattle.std.proofs.Common.{◌≡◌, ℕ, ◌+◌, ◌-◌, ◌^◌, ◌<◌, ◌≤◌, Bool, true, false, cond, ◌&&◌, ◌||◌, List, [], ◌∷◌, ◌++◌, map, flat_map, take, Some, ◌⊎◌, inl, inr, refl, sym, ap, subst, ◌∙◌, arith, ◌==◌, rules}
 use Rattle.std.specs.Prelude.{not, find, option_map, min, All}
 use Rattle.std.specs.List.{list_all}
 use Rattle.std.proofs.lemmas.Bool.{and_parts, and_from}
@@ -104,20 +104,7 @@ needed_taken cfg tips order held h =
     (λ x k. needed_one cfg tips (x.holding.order == order) (list_all (is_passed tips x.holding.name.interval) (chains cfg)) x refl k) held h
 
 later_counts : (calls : ℕ) (r : Report) → CountsWithin calls r → CountsWithin (calls + 1) (record r { given = r.given + 1 })
-later_counts calls r w = record {
-  arrivals = omega (arith, w.arrivals);
-  malformed = omega (arith, w.malformed);
-  foreign = omega (arith, w.foreign);
-  misfit = omega (arith, w.misfit);
-  future = omega (arith, w.future);
-  badkey = omega (arith, w.badkey);
-  late = omega (arith, w.late);
-  repeat = omega (arith, w.repeat);
-  full = omega (arith, w.full);
-  kept = omega (arith, w.kept);
-  keys = omega (arith, w.keys);
-  given = omega (arith, w.given);
-}
+later_counts calls r w = search rules
 
 pub kept_taken : (cfg : Config) (tips : List Tip) (old new : Stored) (walks_room batch_room : ℕ) (counts : Report) (calls : ℕ) (head : Head) (before after : List ℕ) → IsKept cfg tips old walks_room batch_room counts calls → calls + 1 < 2 ^ 64 → new.capacity ≡ old.capacity → new.chains ≡ old.chains → IsGiven cfg tips counts.given old new head before after → IsKept cfg tips new walks_room batch_room (record counts { given = counts.given + 1 }) (calls + 1)
 kept_taken cfg tips old new walks_room batch_room counts calls head before after k fits capacity chains g =

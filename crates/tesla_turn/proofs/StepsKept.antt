@@ -33,19 +33,25 @@ module _ {V C E : Type 0} (config_of : V → C) (stands : V → List E → Type 
   seats_stay K vs me w mine others j d e = ⊎_elim (λ (t : (j ≡ me) × (w ≡ d)). subst (λ (x : ℕ × View C E). K x.0 x.1) (λ i. (sym t.0 i, t.1 i)) mine)
       (λ (t : (j ≢ me) × (get_elem? vs j ≡ some d)). others j d t.0 t.1) (at_set vs me j w d e)
 
-  -- the same pass, at another phase or among other tickets
-  rephased : (drawn drawn' : ℕ) (log : List (Call E)) (owner owner' : ℕ → ℕ) (joined : List (Option (List E))) (j : ℕ) (v : View C E) → Live config calls drawn log owner joined j v
-      → InPhase drawn' log owner' j v.seen v.phase → Live config calls drawn' log owner' joined j v
-  rephased drawn drawn' log owner owner' joined j v l phase = record {
+  -- the same pass, where its tickets, its room, its phase, what it has seen and which passes it knows to be joined change
+  moved : (drawn drawn' : ℕ) (log : List (Call E)) (owner owner' : ℕ → ℕ) (joined joined' : List (Option (List E))) (j : ℕ) (v : View C E) (tickets room : ℕ) (seen : List (Call E)) (known : List (Option (List E))) (phase : Phase)
+      → Live config calls drawn log owner joined j v → BeginsWith log seen → calls_of joined' j ≡ None → (j ≡ 0 → known ≡ joined') → InPhase drawn' log owner' j seen phase
+      → Live config calls drawn' log owner' joined' j (record v { tickets = tickets; room = room; seen = seen; joined = known; phase = phase })
+  moved drawn drawn' log owner owner' joined joined' j v tickets room seen known phase l begins apart first at = record {
     configured = l.configured;
     number = l.number;
     calls_is = l.calls_is;
-    seen = l.seen;
+    seen = begins;
     made = l.made;
-    apart = l.apart;
-    first = l.first;
-    phase = phase;
+    apart = apart;
+    first = first;
+    phase = at;
   }
+
+  -- at another phase or among other tickets
+  rephased : (drawn drawn' : ℕ) (log : List (Call E)) (owner owner' : ℕ → ℕ) (joined : List (Option (List E))) (j : ℕ) (v : View C E) → Live config calls drawn log owner joined j v
+      → InPhase drawn' log owner' j v.seen v.phase → Live config calls drawn' log owner' joined j v
+  rephased drawn drawn' log owner owner' joined j v l phase = moved drawn drawn' log owner owner' joined joined j v v.tickets v.room v.seen v.joined v.phase l l.seen l.apart l.first phase
 
   -- a step that leaves the history as it is
   same_log : (s : St) (r : Rule s) (id : ℕ) (w : View C E) (words' : List ℕ) (homes' : List (maybe.Option (Option V))) (drawn' : ℕ) (owner' : ℕ → ℕ)
@@ -102,16 +108,7 @@ module _ {V C E : Type 0} (config_of : V → C) (stands : V → List E → Type 
         same_log s r id w (set s.words 0 ((n + 1) % 2 ^ 64)) s.homes (r.drawn + 1) (put r.owner r.drawn id)
             (ap (λ ws. set ws 0 ((get_or ws 0 0 + 1) % 2 ^ 64)) r.words ∙ ap (λ (k : ℕ). k ∷ length r.log ∷ []) small) (omega arith) (omega arith) r.one_slot
             (still_slot s r.log id v w (set s.words 0 ((n + 1) % 2 ^ 64)) at (λ e. cc) r.slot)
-            (λ c' is'. let l = r.each id v at c' is' in record {
-              configured = l.configured;
-              number = l.number;
-              calls_is = l.calls_is;
-              seen = l.seen;
-              made = l.made;
-              apart = l.apart;
-              first = l.first;
-              phase = (omega arith, omega arith, ap (put r.owner r.drawn id) n_is ∙ put_here r.owner r.drawn id);
-            })
+            (λ c' is'. let l = r.each id v at c' is' in moved r.drawn (r.drawn + 1) r.log r.owner (put r.owner r.drawn id) r.joined r.joined id v (v.tickets - 1) v.room v.seen v.joined (Waits n) l l.seen l.apart l.first (omega arith, omega arith, ap (put r.owner r.drawn id) n_is ∙ put_here r.owner r.drawn id))
             (λ j d other phase. drawn_more r.drawn r.log r.owner id j d.seen d.phase phase),
         refl,
       )
@@ -167,16 +164,7 @@ module _ {V C E : Type 0} (config_of : V → C) (stands : V → List E → Type 
         ap (λ (hs : List (maybe.Option (Option V))). get_elem? hs 0) home.1,
         same_log s r id w words' homes' r.drawn r.owner (set-get_or s.words 1 0 ∙ r.words) r.passed (omega arith) (length-set s.homes 0 none ∙ r.one_slot)
             (inr (id, w, c, here, is, ap (λ (k : ℕ). Acts k) first))
-            (λ c' is'. let l = r.each id v at c' is' in record {
-              configured = l.configured;
-              number = l.number;
-              calls_is = l.calls_is;
-              seen = begins_self r.log;
-              made = l.made;
-              apart = l.apart;
-              first = l.first;
-              phase = (first, ticket.1, ticket.2, refl);
-            })
+            (λ c' is'. let l = r.each id v at c' is' in moved r.drawn r.drawn r.log r.owner r.owner r.joined r.joined id v v.tickets v.room r.log v.joined (Acts t) l (begins_self r.log) l.apart l.first (first, ticket.1, ticket.2, refl))
             (λ j d other phase. phase),
         (λ t' waits'. let e = same_ticket v.phase t t' waits waits' in let again : get_or s.words 1 0 ≡ t' = hit ∙ e in (
           omega arith,
@@ -302,27 +290,9 @@ module _ {V C E : Type 0} (config_of : V → C) (stands : V → List E → Type 
       let first : v.joined ≡ r.joined = l.first own_seat in let next : length v.joined ≡ length vs = ap length first ∙ (r.numbers ∙ sym size) in let all_sizes = length-append vs (new ∷ []) in let joined_size = length-append r.joined (None ∷ []) in let numbers = r.numbers in
       let unread : (k : ℕ) → calls_of joined' k ≡ calls_of r.joined k = λ k. read_grown r.joined None k in
       let beyond : (k : ℕ) → length s.views ≤ k → calls_of r.joined k ≡ None = λ k h. get_or-eq_default r.joined None (let most : length r.joined ≤ k = omega arith in most) in
-      let longer_list : (j : ℕ) (d : View C E) → Live config calls r.drawn r.log r.owner r.joined j d → (j ≡ 0 → d.joined ≡ joined') → Live config calls r.drawn r.log r.owner joined' j d = λ j d k first'. record {
-        configured = k.configured;
-        number = k.number;
-        calls_is = k.calls_is;
-        seen = k.seen;
-        made = k.made;
-        apart = unread j ∙ k.apart;
-        first = first';
-        phase = k.phase;
-      } in
+      let longer_list : (j : ℕ) (d : View C E) → Live config calls r.drawn r.log r.owner r.joined j d → (j ≡ 0 → d.joined ≡ joined') → Live config calls r.drawn r.log r.owner joined' j d = λ j d k first'. moved r.drawn r.drawn r.log r.owner r.owner r.joined joined' j d d.tickets d.room d.seen d.joined d.phase k k.seen (unread j ∙ k.apart) first' k.phase in
       let before : (j : ℕ) (d : View C E) → get_elem? vs j ≡ some d → LiveOf r.drawn r.log r.owner joined' j d = seats_stay (LiveOf r.drawn r.log r.owner joined') s.views id left
-      (λ c' is'. record {
-        configured = l.configured;
-        number = l.number;
-        calls_is = l.calls_is;
-        seen = l.seen;
-        made = l.made;
-        apart = unread id ∙ l.apart;
-        first = λ _. ap (λ (js : List (Option (List E))). js ++ None ∷ []) first;
-        phase = l.phase;
-      })
+      (λ c' is'. moved r.drawn r.drawn r.log r.owner r.owner r.joined joined' id v left.tickets left.room v.seen left.joined v.phase l l.seen (unread id ∙ l.apart) (λ _. ap (λ (js : List (Option (List E))). js ++ None ∷ []) first) l.phase)
       (λ j d other there c' is'. longer_list j d (r.each j d there c' is') (λ z. absurd (other (z ∙ sym own_seat)))) in record {
         drawn = r.drawn;
         log = r.log;
@@ -364,27 +334,9 @@ module _ {V C E : Type 0} (config_of : V → C) (stands : V → List E → Type 
       let unread : (j : ℕ) → j ≢ other → calls_of joined' j ≡ calls_of r.joined j = λ j ne. get_or-set_other r.joined other j (Some w.made) None ne in
       let tickets = tickets_set s.views id v both at in let tickets' = tickets_set vs other w spent_view there in let bound = r.bound in let size = length-set s.views id both in let size' = length-set vs other spent_view in let joined_size = length-set r.joined other (Some w.made) in
       let numbers = r.numbers in let below = there_below s.views other w was in
-      let mine : LiveOf r.drawn r.log r.owner joined' id both = λ d is''. record {
-        configured = l.configured;
-        number = l.number;
-        calls_is = l.calls_is;
-        seen = longer_either (BeginsWith r.log) v.seen w.seen l.seen k.seen;
-        made = l.made;
-        apart = unread id (λ e. apart (sym e)) ∙ l.apart;
-        first = λ _. now;
-        phase = subst (InPhase r.drawn r.log r.owner id both.seen) (sym idle) tt;
-      } in
+      let mine : LiveOf r.drawn r.log r.owner joined' id both = λ d is''. moved r.drawn r.drawn r.log r.owner r.owner r.joined joined' id v v.tickets v.room both.seen both.joined v.phase l (longer_either (BeginsWith r.log) v.seen w.seen l.seen k.seen) (unread id (λ e. apart (sym e)) ∙ l.apart) (λ _. now) (subst (InPhase r.drawn r.log r.owner id both.seen) (sym idle) tt) in
       let others : (j : ℕ) (d : View C E) → j ≢ other → get_elem? vs j ≡ some d → LiveOf r.drawn r.log r.owner joined' j d = λ j d ne at'. seats_stay (λ i x. i ≢ other → LiveOf r.drawn r.log r.owner joined' i x) s.views id both (λ _. mine)
-      (λ i x ne' at'' ne'' z is''. let m = r.each i x at'' z is'' in record {
-        configured = m.configured;
-        number = m.number;
-        calls_is = m.calls_is;
-        seen = m.seen;
-        made = m.made;
-        apart = unread i ne'' ∙ m.apart;
-        first = λ e. absurd (ne' (e ∙ sym own_seat));
-        phase = m.phase;
-      }) j d at' ne in record {
+      (λ i x ne' at'' ne'' z is''. let m = r.each i x at'' z is'' in moved r.drawn r.drawn r.log r.owner r.owner r.joined joined' i x x.tickets x.room x.seen x.joined x.phase m m.seen (unread i ne'' ∙ m.apart) (λ e. absurd (ne' (e ∙ sym own_seat))) m.phase) j d at' ne in record {
         drawn = r.drawn;
         log = r.log;
         owner = r.owner;

@@ -1,6 +1,7 @@
 use Rattle.std.proofs.Common.{◌≡◌, ◌∷◌, ◌+◌, ◌-◌, ◌*◌, ◌^◌, ◌<◌, ◌≤◌, ℕ, inl, inr, length, refl, sym, ◌∙◌, ap, subst, arith}
 use Rattle.std.proofs.lemmas.Bool.{cases_lt}
 use Rattle.std.proofs.lemmas.Nat.{pow_pos}
+use Rattle.tesla_base.specs.declared.names.Key.{Key}
 use Rattle.tesla_prf.specs.Keys.{next_of, walk}
 use Rattle.tesla_prf.proofs.Walks.{walk_more}
 use Rattle.tesla_chain.specs.Levels.{Stand}
@@ -9,6 +10,8 @@ use Rattle.tesla_chain.proofs.Leaving.{below}
 use Rattle.tesla_chain.proofs.Levels.{at, doubled, near, same_span}
 use Rattle.tesla_chain.proofs.Savings.{each_far, each_filled, each_near, each_over, whole_way}
 use Rattle.tesla_chain.proofs.Skipped.{crossed, far_of, mark_of, skipped_far, skipped_near, starts, turned_full}
+use Rattle.tesla_chain.proofs.skipping.+skip.Given as given
+use Rattle.tesla_chain.proofs.skipping.+skip.Goals.{After-set_out}
 use Rattle.tesla_chain.proofs.skipping.+skip.Goals as goal
 
 -- the levels are filled from the mark
@@ -105,8 +108,9 @@ returns-then-left-span-clause-stand g t c = λ seed base free more wider inside 
     crossed seed base c.args.ahead c.args.left more c.span-span.result level lower c.set_out.new.levels (c.set_out.auto.levels ∙ c.walk_down.auto.levels) spans above (omega (arith, c.if-span-left.false)) inside
     (turned_full seed base c.args.ahead c.args.left free more c.span-span.result c.args.high level lower c.walk_down.new.levels c.set_out.new.levels c.walk_down.auto.levels spans above c.if-left-span.true within top stand c.walk_down.ensures.marks c.set_out.ensures))
 
-pub returns-clause-key : goal.returns-clause-key
-returns-clause-key g t c = λ seed base free top.
+-- the next key comes to be below the marks of all the levels below
+turned_below : (g : given.Over) (t : ℕ) (c : After-set_out g t) (seed : Key) (base free more : ℕ) → c.args.high ≡ walk seed base → Stand seed base c.args.ahead free c.args.levels.now → Stand seed base (c.span-span.result - 1) more c.set_out.new.levels
+turned_below g t c seed base free more top =
     let parts : c.args.levels.now ≡ c.in-Some.level.now ∷ c.in-Some.lower.now = c.in-Some.ensures.cases.0 in
     let level = c.in-Some.level.now in
     let lower = c.in-Some.lower.now in
@@ -115,22 +119,15 @@ returns-clause-key g t c = λ seed base free top.
     let within : c.args.ahead < 2 ^ length (level ∷ lower) = rw parts at c.requires.within in
     let last : (c.span-span.result - 1) + 1 ≡ c.span-span.result = omega (arith, spans, pow_pos (length lower)) in
     rw parts (λ stand.
-    c.skip-2.ensures.key seed base 0 top
-    (turned_full seed base c.args.ahead (c.span-span.result - 1) free 0 c.span-span.result c.args.high level lower c.walk_down.new.levels c.set_out.new.levels c.walk_down.auto.levels spans above last within top stand c.walk_down.ensures.marks c.set_out.ensures))
+    turned_full seed base c.args.ahead (c.span-span.result - 1) free more c.span-span.result c.args.high level lower c.walk_down.new.levels c.set_out.new.levels c.walk_down.auto.levels spans above last within top stand c.walk_down.ensures.marks c.set_out.ensures)
+
+pub returns-clause-key : goal.returns-clause-key
+returns-clause-key g t c = λ seed base free top stand. c.skip-2.ensures.key seed base 0 top (turned_below g t (goal.at.returns-clause-key g t c).After-set_out seed base free 0 top stand)
 
 pub returns-clause-stand : goal.returns-clause-stand
-returns-clause-stand g t c = λ seed base free more wider inside top.
-    let parts : c.args.levels.now ≡ c.in-Some.level.now ∷ c.in-Some.lower.now = c.in-Some.ensures.cases.0 in
-    let level = c.in-Some.level.now in
-    let lower = c.in-Some.lower.now in
-    let spans = c.span-span.ensures in
-    let above : c.span-span.result ≤ c.args.ahead = omega (arith, c.if-ahead-span.false) in
-    let within : c.args.ahead < 2 ^ length (level ∷ lower) = rw parts at c.requires.within in
-    let last : (c.span-span.result - 1) + 1 ≡ c.span-span.result = omega (arith, spans, pow_pos (length lower)) in
-    rw parts (λ stand.
-    crossed seed base c.args.ahead c.args.left more c.span-span.result level lower c.skip-2.new.levels (c.skip-2.auto.levels ∙ c.set_out.auto.levels ∙ c.walk_down.auto.levels) spans above (omega (arith, c.if-span-left.false)) inside
-    (c.skip-2.ensures.stand seed base 0 more (omega arith) (omega arith) top
-    (turned_full seed base c.args.ahead (c.span-span.result - 1) free 0 c.span-span.result c.args.high level lower c.walk_down.new.levels c.set_out.new.levels c.walk_down.auto.levels spans above last within top stand c.walk_down.ensures.marks c.set_out.ensures)))
+returns-clause-stand g t c = λ seed base free more wider inside top stand.
+    crossed seed base c.args.ahead c.args.left more c.span-span.result c.in-Some.level.now c.in-Some.lower.now c.skip-2.new.levels (c.skip-2.auto.levels ∙ c.set_out.auto.levels ∙ c.walk_down.auto.levels) c.span-span.ensures (omega (arith, c.if-ahead-span.false)) (omega (arith, c.if-span-left.false)) inside
+    (c.skip-2.ensures.stand seed base 0 more (omega arith) (omega arith) top (turned_below g t (goal.at.returns-clause-stand g t c).After-set_out seed base free 0 top stand))
 
 pub returns-clause-each : goal.returns-clause-each
 returns-clause-each g t c = λ digits extra few fits own both.

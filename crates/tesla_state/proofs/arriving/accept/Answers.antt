@@ -18,6 +18,8 @@ use Rattle.tesla_walks.specs.Proved.{RiseBy}
 use Rattle.tesla_state.specs.Gathering.{order_of}
 use Rattle.tesla_state.proofs.Arrived.{keys_are, length_back, taken_back}
 use Rattle.tesla_state.proofs.StaysKept.{keys_rise, keys_before, keys_needed, rise_own, before_own, before_later, needed_more}
+use Rattle.tesla_state.proofs.arriving.accept.Given as given
+use Rattle.tesla_state.proofs.arriving.accept.Goals.{After-take_keys}
 use Rattle.tesla_state.proofs.arriving.accept.Goals as goal
 
 pub take_keys-requires : goal.take_keys-requires
@@ -116,21 +118,22 @@ pub returns-in-Disclosure-clause-tips : goal.returns-in-Disclosure-clause-tips
 returns-in-Disclosure-clause-tips g c =
     length_back c.take_keys.new.tips c.deref_mut.ensures.value c.deref_mut.ensures.len c.take_keys.auto.tips
 
-pub returns-in-Disclosure-clause-cost : goal.returns-in-Disclosure-clause-cost
-returns-in-Disclosure-clause-cost g c =
-    let a = c.args.tables.now in
-    subst (λ (ws : List Walking). c.take_keys.new.steps ≤ c.args.steps.now + left a.tips.items ws + 2 * pairs a.config a.tips.items (rows_of ws) (map holding_at a.store.held)) c.deref_mut-2.ensures.value
-    (subst (λ (ts : List Tip). c.take_keys.new.steps ≤ c.args.steps.now + left ts c.deref_mut-2.result.now + 2 * pairs a.config ts (rows_of c.deref_mut-2.result.now) (map holding_at a.store.held)) c.deref_mut.ensures.value c.take_keys.ensures.cost)
-
 pub returns-in-Data-clause-tips : goal.returns-in-Data-clause-tips
 returns-in-Data-clause-tips g c =
     length_back c.take_keys.new.tips c.deref_mut.ensures.value c.deref_mut.ensures.len c.take_keys.auto.tips
 
-pub returns-in-Data-clause-cost : goal.returns-in-Data-clause-cost
-returns-in-Data-clause-cost g c =
+-- the keys cost what they may over the tables
+taking_cost : (g : given.Over) (c : After-take_keys g) → c.take_keys.new.steps ≤ c.args.steps.now + left c.args.tables.now.tips.items c.args.tables.now.walks.items + 2 * pairs c.args.tables.now.config c.args.tables.now.tips.items (rows_of c.args.tables.now.walks.items) (map holding_at c.args.tables.now.store.held)
+taking_cost g c =
     let a = c.args.tables.now in
     subst (λ (ws : List Walking). c.take_keys.new.steps ≤ c.args.steps.now + left a.tips.items ws + 2 * pairs a.config a.tips.items (rows_of ws) (map holding_at a.store.held)) c.deref_mut-2.ensures.value
     (subst (λ (ts : List Tip). c.take_keys.new.steps ≤ c.args.steps.now + left ts c.deref_mut-2.result.now + 2 * pairs a.config ts (rows_of c.deref_mut-2.result.now) (map holding_at a.store.held)) c.deref_mut.ensures.value c.take_keys.ensures.cost)
+
+pub returns-in-Disclosure-clause-cost : goal.returns-in-Disclosure-clause-cost
+returns-in-Disclosure-clause-cost g c = taking_cost g (goal.at.returns-in-Disclosure-clause-cost g c).After-take_keys
+
+pub returns-in-Data-clause-cost : goal.returns-in-Data-clause-cost
+returns-in-Data-clause-cost g c = taking_cost g (goal.at.returns-in-Data-clause-cost g c).After-take_keys
 
 pub keep-requires-clause-tips : goal.keep-requires-clause-tips
 keep-requires-clause-tips g c =

@@ -1,25 +1,21 @@
-use Rattle.std.proofs.Common.{◌∙◌, sym, ap}
-use Rattle.tesla_buffer.proofs.Stored.{live_seen, next_seen}
-use Rattle.tesla_buffer.proofs.Places.{next_live, entry_is, to_place}
+use Rattle.std.proofs.Common.{◌≡◌, ◌∙◌, sym, ap}
+use Rattle.tesla_buffer.specs.Held.{next_place}
+use Rattle.tesla_buffer.proofs.Places.{next_live, to_place}
+use Rattle.tesla_buffer.proofs.Shown.{held_at_place, next_at}
+use Rattle.tesla_buffer.proofs.buffer.Buffer.next_of.Goals.{After-next}
 use Rattle.tesla_buffer.proofs.buffer.Buffer.next_of.Goals as goal
 
+found : (c : After-next) → to_place c.next.result ≡ next_place c.args.place.0 c.args.self.now.held
+found c = next_at c.self.inside c.args.self.now _ c.self.view_is c.self.invariant _ _ c.next.ensures
+
 pub next-requires : goal.next-requires
-next-requires c =
-    let i = c.self.inside in
-    entry_is c.args.place.0 i.index.entries ∙ live_seen i.capacity i.slots.items i.index c.args.self.now c.self.view_is c.args.place.0 c.requires
+next-requires c = (held_at_place c.self.inside c.args.self.now _ c.self.view_is c.self.invariant c.args.place.0 c.requires).entry
 
 pub returns-in_default-clause-place : goal.returns-in_default-clause-place
-returns-in_default-clause-place c =
-    let i = c.self.inside in
-    ap to_place (sym c.in_default.is) ∙ next_seen i.capacity i.slots.items i.index c.args.self.now c.self.view_is c.self.invariant.0.keyed c.args.place.0 c.next.result c.next.ensures
+returns-in_default-clause-place c = ap to_place (sym c.in_default.is) ∙ found (goal.at.returns-in_default-clause-place c).After-next
 
 pub returns-clause-place : goal.returns-clause-place
-returns-clause-place c =
-    let i = c.self.inside in
-    ap to_place (sym c.in-Some.is) ∙ next_seen i.capacity i.slots.items i.index c.args.self.now c.self.view_is c.self.invariant.0.keyed c.args.place.0 c.next.result c.next.ensures
+returns-clause-place c = ap to_place (sym c.in-Some.is) ∙ found (goal.at.returns-clause-place c).After-next
 
 pub returns-clause-live : goal.returns-clause-live
-returns-clause-live c =
-    let i = c.self.inside in
-    next_live c.args.place.0 c.args.self.now.held (record { 0 = c.in-Some.next })
-    (ap to_place (sym c.in-Some.is) ∙ next_seen i.capacity i.slots.items i.index c.args.self.now c.self.view_is c.self.invariant.0.keyed c.args.place.0 c.next.result c.next.ensures)
+returns-clause-live c = next_live c.args.place.0 c.args.self.now.held (record { 0 = c.in-Some.next }) (returns-clause-place c)

@@ -1,4 +1,4 @@
-use Rattle.std.proofs.Common.{◌≡◌, ℕ, ◌+◌, true, List, [], ◌∷◌, ◌++◌, length, take, sym, ap, subst, ◌∙◌, arith}
+use Rattle.std.proofs.Common.{◌≡◌, ℕ, ◌+◌, true, List, [], ◌∷◌, ◌++◌, length, take, drop, sym, ap, subst, ◌∙◌, arith}
 use Rattle.std.specs.List.{AllByRecursion}
 use Rattle.std.proofs.lemmas.List.{length-map}
 use Rattle.tesla_base.proofs.Lists.{cons_from_length}
@@ -7,13 +7,13 @@ use Rattle.tesla_receiver.specs.History.{Takes}
 use Rattle.tesla_rollover.specs.Epochs.{roll_entry_of}
 use Rattle.tesla_rollover.specs.History.{RollEntry}
 use Rattle.tesla_rollover.specs.Kept as kept
-use Rattle.tesla_rollover.specs.Kept.{AskedReply, HandsOver, HasIngests, IsCalled, IsRollKept, asked_from, asked_shown, configs_of, receiver_of, receivers_of}
+use Rattle.tesla_rollover.specs.Kept.{AskedReply, HandsOver, HasIngests, IsCalled, IsRollKept, asked_shown, configs_of, receiver_of, receivers_of}
 use Rattle.tesla_rollover.specs.Replies.{had_memory}
 use Rattle.tesla_rollover.specs.Stands.{RollState, RollStands}
 use Rattle.tesla_rollover.specs.declared.epoch.Epoch.{Epoch}
 use Rattle.tesla_rollover.proofs.Called.{epochs_back, same_ingests}
-use Rattle.tesla_rollover.proofs.Taken.{TakesGiven, asks, empty_answer, empty_stands, given_answer, given_stands, kept_asked, kept_handed, over_answer, over_stands}
-use Rattle.tesla_rollover.proofs.rollover.Rollover.take.Goals.{After-hand_over-next}
+use Rattle.tesla_rollover.proofs.Taken.{Asks, TakesGiven, asks, empty_answer, empty_stands, given_answer, given_stands, kept_asked, kept_handed, over_answer, over_stands}
+use Rattle.tesla_rollover.proofs.rollover.Rollover.take.Goals.{After-ask, After-hand_over-next}
 use Rattle.tesla_rollover.proofs.rollover.Rollover.take.Goals as goal
 
 pub ask-requires-clause-calls : goal.ask-requires-clause-calls
@@ -43,21 +43,20 @@ invariant_of-self c =
     (kept_handed i.config first.0 c.in-Given.epoch (take c.from.result c.ask.new.into) c.ask.new.epochs c.hand_over-next.new.epochs.items c.hand_over-next.result i.epochs.cap (i.given + 1) (i.calls + 1) before
     (subst (λ (es : List Epoch). HandsOver i.config first.0 c.in-Given.epoch (take c.from.result c.ask.new.into) es c.hand_over-next.new.epochs.items c.hand_over-next.result) back (c.hand_over-next.ensures.hands first.0 first.1 (ap receivers_of back ∙ first.2))))
 
-pub invariant_of-self-in-Empty : goal.invariant_of-self-in-Empty
-invariant_of-self-in-Empty c =
+-- what was asked is kept, where nothing was given
+asked_kept : (c : After-ask) → IsRollKept c.self.inside.config (take c.self.inside.epochs.len (c.ask.new.epochs ++ drop (length c.ask.new.epochs) c.self.inside.epochs.items)) c.self.inside.epochs.cap c.self.inside.given (c.self.inside.calls + 1)
+asked_kept c =
     let i = c.self.inside in
     let calls : i.calls ≡ c.args.self.now.calls = ap (λ (s : RollState). s.calls) c.self.view_is in
     let below = c.requires in
     subst (λ (es : List Epoch). IsRollKept i.config es i.epochs.cap i.given (i.calls + 1)) (sym (epochs_back i.epochs.len c.as_mut_slice.result.now c.ask.new.epochs i.epochs.items c.as_mut_slice.ensures.len c.ask.ensures.configs))
     (kept_asked i.config i.epochs.items c.as_mut_slice.result.now c.ask.new.epochs i.epochs.cap i.given i.calls i.given c.self.invariant (omega (arith, calls, below)) (omega arith) c.as_mut_slice.ensures.value c.ask.ensures.configs c.ask.ensures.calls)
 
+pub invariant_of-self-in-Empty : goal.invariant_of-self-in-Empty
+invariant_of-self-in-Empty c = asked_kept (goal.at.invariant_of-self-in-Empty c).After-ask
+
 pub invariant_of-self-in-Over : goal.invariant_of-self-in-Over
-invariant_of-self-in-Over c =
-    let i = c.self.inside in
-    let calls : i.calls ≡ c.args.self.now.calls = ap (λ (s : RollState). s.calls) c.self.view_is in
-    let below = c.requires in
-    subst (λ (es : List Epoch). IsRollKept i.config es i.epochs.cap i.given (i.calls + 1)) (sym (epochs_back i.epochs.len c.as_mut_slice.result.now c.ask.new.epochs i.epochs.items c.as_mut_slice.ensures.len c.ask.ensures.configs))
-    (kept_asked i.config i.epochs.items c.as_mut_slice.result.now c.ask.new.epochs i.epochs.cap i.given i.calls i.given c.self.invariant (omega (arith, calls, below)) (omega arith) c.as_mut_slice.ensures.value c.ask.ensures.configs c.ask.ensures.calls)
+invariant_of-self-in-Over c = asked_kept (goal.at.invariant_of-self-in-Over c).After-ask
 
 -- ---- a packet was given
 
@@ -87,34 +86,36 @@ returns-in-Given-clause-stands c h st =
 
 -- ---- none was
 
+asked : (c : After-ask) (h : List RollEntry) (reply : AskedReply) → RollStands c.args.self.now h → asked_shown c.ask.result c.ask.new.into ≡ reply → Asks c.args.self.now h c.args.releaser reply c.ask.new.epochs
+asked c h reply st is =
+    asks c.args.self.now h c.args.releaser (asked_shown c.ask.result c.ask.new.into) reply c.self.inside.epochs.items c.as_mut_slice.result.now c.ask.new.epochs st (ap (λ (s : RollState). s.receivers) c.self.view_is) c.as_mut_slice.ensures.value is c.ask.ensures.answer c.ask.ensures.stand c.ask.ensures.configs
+
+-- the state that the fields show
+asked_stands : (c : After-ask) (h : List RollEntry)
+    → RollStands (record { config = c.args.self.now.config; receivers = receivers_of c.ask.new.epochs; given = c.args.self.now.given; calls = c.args.self.now.calls + 1 }) (h ++ roll_entry_of c.args.self.now.config h true (Takes c.args.releaser) ∷ [])
+    → RollStands (record { config = c.self.inside.config; receivers = receivers_of (take c.self.inside.epochs.len (c.ask.new.epochs ++ drop (length c.ask.new.epochs) c.self.inside.epochs.items)); given = c.self.inside.given; calls = c.self.inside.calls + 1 })
+    (h ++ roll_entry_of c.args.self.now.config h true (Takes c.args.releaser) ∷ [])
+asked_stands c h st =
+    let i = c.self.inside in
+    let log = h ++ roll_entry_of c.args.self.now.config h true (Takes c.args.releaser) ∷ [] in
+    subst (λ (es : List Epoch). RollStands (record { config = i.config; receivers = receivers_of es; given = i.given; calls = i.calls + 1 }) log)
+    (sym (epochs_back i.epochs.len c.as_mut_slice.result.now c.ask.new.epochs i.epochs.items c.as_mut_slice.ensures.len c.ask.ensures.configs))
+    (subst (λ (s : RollState). RollStands (record { config = s.config; receivers = receivers_of c.ask.new.epochs; given = s.given; calls = s.calls + 1 }) log) (sym c.self.view_is) st)
+
 pub returns-in-Empty-clause-answer : goal.returns-in-Empty-clause-answer
 returns-in-Empty-clause-answer c h st =
-    empty_answer c.args.self.now h c.args.releaser c.ask.new.epochs st
-    (asks c.args.self.now h c.args.releaser (asked_shown c.ask.result c.ask.new.into) kept.IsEmpty c.self.inside.epochs.items c.as_mut_slice.result.now c.ask.new.epochs st (ap (λ (s : RollState). s.receivers) c.self.view_is) c.as_mut_slice.ensures.value
-    (ap (λ a. asked_shown a c.ask.new.into) c.in-Empty.is) c.ask.ensures.answer c.ask.ensures.stand c.ask.ensures.configs)
+    empty_answer c.args.self.now h c.args.releaser c.ask.new.epochs st (asked (goal.at.returns-in-Empty-clause-answer c).After-ask h kept.IsEmpty st (ap (λ a. asked_shown a c.ask.new.into) c.in-Empty.is))
 
 pub returns-in-Empty-clause-stands : goal.returns-in-Empty-clause-stands
 returns-in-Empty-clause-stands c h st =
-    let i = c.self.inside in
-    subst (λ (es : List Epoch). RollStands (record { config = i.config; receivers = receivers_of es; given = i.given; calls = i.calls + 1 }) (h ++ roll_entry_of c.args.self.now.config h true (Takes c.args.releaser) ∷ []))
-    (sym (epochs_back i.epochs.len c.as_mut_slice.result.now c.ask.new.epochs i.epochs.items c.as_mut_slice.ensures.len c.ask.ensures.configs))
-    (subst (λ (s : RollState). RollStands (record { config = s.config; receivers = receivers_of c.ask.new.epochs; given = s.given; calls = s.calls + 1 }) (h ++ roll_entry_of c.args.self.now.config h true (Takes c.args.releaser) ∷ [])) (sym c.self.view_is)
-    (empty_stands c.args.self.now h c.args.releaser c.ask.new.epochs st
-    (asks c.args.self.now h c.args.releaser (asked_shown c.ask.result c.ask.new.into) kept.IsEmpty i.epochs.items c.as_mut_slice.result.now c.ask.new.epochs st (ap (λ (s : RollState). s.receivers) c.self.view_is) c.as_mut_slice.ensures.value
-    (ap (λ a. asked_shown a c.ask.new.into) c.in-Empty.is) c.ask.ensures.answer c.ask.ensures.stand c.ask.ensures.configs)))
+    let at = (goal.at.returns-in-Empty-clause-stands c).After-ask in
+    asked_stands at h (empty_stands c.args.self.now h c.args.releaser c.ask.new.epochs st (asked at h kept.IsEmpty st (ap (λ a. asked_shown a c.ask.new.into) c.in-Empty.is)))
 
 pub returns-in-Over-clause-answer : goal.returns-in-Over-clause-answer
 returns-in-Over-clause-answer c h st =
-    over_answer c.args.self.now h c.args.releaser c.ask.new.epochs st
-    (asks c.args.self.now h c.args.releaser (asked_shown c.ask.result c.ask.new.into) kept.IsOver c.self.inside.epochs.items c.as_mut_slice.result.now c.ask.new.epochs st (ap (λ (s : RollState). s.receivers) c.self.view_is) c.as_mut_slice.ensures.value
-    (ap (λ a. asked_shown a c.ask.new.into) c.in-Over.is) c.ask.ensures.answer c.ask.ensures.stand c.ask.ensures.configs)
+    over_answer c.args.self.now h c.args.releaser c.ask.new.epochs st (asked (goal.at.returns-in-Over-clause-answer c).After-ask h kept.IsOver st (ap (λ a. asked_shown a c.ask.new.into) c.in-Over.is))
 
 pub returns-in-Over-clause-stands : goal.returns-in-Over-clause-stands
 returns-in-Over-clause-stands c h st =
-    let i = c.self.inside in
-    subst (λ (es : List Epoch). RollStands (record { config = i.config; receivers = receivers_of es; given = i.given; calls = i.calls + 1 }) (h ++ roll_entry_of c.args.self.now.config h true (Takes c.args.releaser) ∷ []))
-    (sym (epochs_back i.epochs.len c.as_mut_slice.result.now c.ask.new.epochs i.epochs.items c.as_mut_slice.ensures.len c.ask.ensures.configs))
-    (subst (λ (s : RollState). RollStands (record { config = s.config; receivers = receivers_of c.ask.new.epochs; given = s.given; calls = s.calls + 1 }) (h ++ roll_entry_of c.args.self.now.config h true (Takes c.args.releaser) ∷ [])) (sym c.self.view_is)
-    (over_stands c.args.self.now h c.args.releaser c.ask.new.epochs st
-    (asks c.args.self.now h c.args.releaser (asked_shown c.ask.result c.ask.new.into) kept.IsOver i.epochs.items c.as_mut_slice.result.now c.ask.new.epochs st (ap (λ (s : RollState). s.receivers) c.self.view_is) c.as_mut_slice.ensures.value
-    (ap (λ a. asked_shown a c.ask.new.into) c.in-Over.is) c.ask.ensures.answer c.ask.ensures.stand c.ask.ensures.configs)))
+    let at = (goal.at.returns-in-Over-clause-stands c).After-ask in
+    asked_stands at h (over_stands c.args.self.now h c.args.releaser c.ask.new.epochs st (asked at h kept.IsOver st (ap (λ a. asked_shown a c.ask.new.into) c.in-Over.is)))

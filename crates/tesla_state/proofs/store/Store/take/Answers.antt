@@ -1,7 +1,7 @@
-use Rattle.std.proofs.Common.{Bool, ◌==◌, ◌≡◌, ℕ, ◌+◌, ◌-◌, ◌^◌, ◌≤◌, sym, ap, subst, ◌∙◌, map, List, ◌∷◌, drop, length, take, flat_map}
+use Rattle.std.proofs.Common.{Bool, true, ◌==◌, ◌≡◌, ℕ, ◌+◌, ◌-◌, ◌^◌, ◌≤◌, sym, ap, subst, ◌∙◌, map, List, ◌∷◌, drop, length, take, flat_map}
 use Rattle.std.specs.Prelude.{find, option_map, Some, min}
 use Rattle.std.specs.List.{list_all}
-use Rattle.tesla_buffer.specs.Held.{Held, is_at, settled}
+use Rattle.tesla_buffer.specs.Held.{Held, is_at, is_live, settled}
 use Rattle.tesla_buffer.specs.declared.item.Fate.{Fate}
 use Rattle.tesla_base.specs.Members.{Distinct}
 use Rattle.tesla_release.specs.Released.{given_after}
@@ -13,30 +13,34 @@ use Rattle.tesla_state.specs.Steps.{is_passed}
 use Rattle.tesla_state.specs.Stored.{Stored, Placed, placed_in, release_in, release_by, stands_at, order_of, after_take, IsStore, IsItemOf}
 use Rattle.tesla_state.proofs.Stored.{found_shown, found_passes}
 use Rattle.tesla_state.proofs.Taken.{live_place, first_waiting, taken_store, fate_if, settled_taken, settled_shown, releases_taken, taken_by_order, found_by_order}
+use Rattle.tesla_state.proofs.store.Store.take.Goals.{In-Some}
 use Rattle.tesla_state.proofs.store.Store.take.Goals as goal
 
 abbrev head_made : ℕ → ℕ → ℕ → ℕ → ℕ → Head
 head_made position interval number chain length = record { position = position; interval = interval; number = number; chain = chain; length = length }
 
-pub item-item-requires : goal.item-item-requires
-item-item-requires c =
+-- the packet that is first in the queue, in front of the others
+queued : (c : In-Some) → IsStore c.self.inside.buffer.capacity c.self.inside.queue.capacity c.self.inside.chains c.self.inside.buffer.held (c.in-Some.waiting ∷ drop 1 c.self.inside.queue.waiting)
+queued c =
     let queue : c.self.inside.queue.waiting ≡ c.in-Some.waiting ∷ drop 1 c.self.inside.queue.waiting = first_waiting c.self.inside.queue.waiting c.in-Some.waiting (sym c.in-Some.is ∙ c.pop.ensures.value) in
-    live_place c.self.inside.buffer.capacity c.self.inside.queue.capacity c.self.inside.chains c.self.inside.buffer.held c.in-Some.waiting (drop 1 c.self.inside.queue.waiting)
-    (subst (λ (ws : List Waiting). IsStore c.self.inside.buffer.capacity c.self.inside.queue.capacity c.self.inside.chains c.self.inside.buffer.held ws) queue c.self.invariant)
+    subst (λ (ws : List Waiting). IsStore c.self.inside.buffer.capacity c.self.inside.queue.capacity c.self.inside.chains c.self.inside.buffer.held ws) queue c.self.invariant
+
+-- and it is held
+there : (c : In-Some) → is_live c.in-Some.waiting.place.0 c.self.inside.buffer.held ≡ true
+there c = live_place c.self.inside.buffer.capacity c.self.inside.queue.capacity c.self.inside.chains c.self.inside.buffer.held c.in-Some.waiting (drop 1 c.self.inside.queue.waiting) (queued c)
+
+pub item-item-requires : goal.item-item-requires
+item-item-requires c = there (goal.at.item-item-requires c).In-Some
 
 pub give-head-requires : goal.give-head-requires
 give-head-requires c =
     (found_passes (IsItemOf c.self.inside.chains) (is_at c.in-Some.waiting.place.0) c.self.inside.buffer.held (record { place = c.in-Some.waiting.place.0; item = c.item-item.result.now }) c.self.invariant.items c.item-item.ensures.item).payload
 
 pub settle-requires : goal.settle-requires
-settle-requires c =
-    let queue : c.self.inside.queue.waiting ≡ c.in-Some.waiting ∷ drop 1 c.self.inside.queue.waiting = first_waiting c.self.inside.queue.waiting c.in-Some.waiting (sym c.in-Some.is ∙ c.pop.ensures.value) in
-    live_place c.self.inside.buffer.capacity c.self.inside.queue.capacity c.self.inside.chains c.self.inside.buffer.held c.in-Some.waiting (drop 1 c.self.inside.queue.waiting)
-    (subst (λ (ws : List Waiting). IsStore c.self.inside.buffer.capacity c.self.inside.queue.capacity c.self.inside.chains c.self.inside.buffer.held ws) queue c.self.invariant)
+settle-requires c = there (goal.at.settle-requires c).In-Some
 
 pub invariant_of-self-2 : goal.invariant_of-self-2
 invariant_of-self-2 c =
-    let queue : c.self.inside.queue.waiting ≡ c.in-Some.waiting ∷ drop 1 c.self.inside.queue.waiting = first_waiting c.self.inside.queue.waiting c.in-Some.waiting (sym c.in-Some.is ∙ c.pop.ensures.value) in
     let b : Bool = list_all (is_passed c.args.tips.now c.item-item.result.now.name.interval) (chains c.args.config.now) in
     let held : c.settle.new.self.held ≡ settled c.in-Some.waiting.place.0 (fate_if b) c.self.inside.buffer.held = c.settle.ensures.held ∙ ap (λ (f : Fate). settled c.in-Some.waiting.place.0 f c.self.inside.buffer.held) c.fate_of-fate.ensures in
     subst (λ (n : ℕ). IsStore n c.pop.new.self.capacity c.self.inside.chains c.settle.new.self.held c.pop.new.self.waiting) (sym c.settle.ensures.capacity)
@@ -44,7 +48,7 @@ invariant_of-self-2 c =
     (subst (λ (ws : List Waiting). IsStore c.self.inside.buffer.capacity c.self.inside.queue.capacity c.self.inside.chains c.settle.new.self.held ws) (sym c.pop.ensures.waiting)
     (subst (λ (h : List Held). IsStore c.self.inside.buffer.capacity c.self.inside.queue.capacity c.self.inside.chains h (drop 1 c.self.inside.queue.waiting)) (sym held)
     (taken_store c.self.inside.buffer.capacity c.self.inside.queue.capacity c.self.inside.chains b c.self.inside.buffer.held c.in-Some.waiting (drop 1 c.self.inside.queue.waiting)
-    (subst (λ (ws : List Waiting). IsStore c.self.inside.buffer.capacity c.self.inside.queue.capacity c.self.inside.chains c.self.inside.buffer.held ws) queue c.self.invariant)))))
+    (queued (goal.at.invariant_of-self-2 c).In-Some)))))
 
 pub returns-clause-given : goal.returns-clause-given
 returns-clause-given c =
