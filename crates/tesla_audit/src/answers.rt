@@ -14,7 +14,7 @@ use tesla_front::Lines;
 use tesla_state::Take;
 
 /// Adds a name of at most 8 bytes, and a number. These are at most 28 bytes, for which there must be room.
-fn add_number(lines: &mut Lines, name: &str, number: u64)
+pub fn add_number(lines: &mut Lines, name: &str, number: u64)
     requires short { length name.now ≤ 8 }
     requires room { array_string_len lines.old + 28 ≤ 2048 }
     ensures text { lines.new.bytes ≡ lines.old.bytes ++ (name.now ++ decimal number) }

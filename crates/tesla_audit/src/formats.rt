@@ -2,10 +2,17 @@
 
 ghost use Rattle.tesla_trace.specs.Entries.{IsEntry, entry_in};
 ghost use Rattle.tesla_trace.specs.Grammar.{tail, trace};
+ghost use Rattle.tesla_trace.specs.declared.entry.EntryBuffer.{EntryBuffer};
 ghost use Rattle.tesla_trace.proofs.TraceIs.{tail_is, trace_is};
 
 use tesla_records::{Format, HeadJudged, Judged};
 use tesla_trace::{EntryBuffer, EntryFault, judge_entry, judge_head, judge_tail_head, put_entry};
+
+/// A format of files of entries: that of traces or that of tails.
+pub trait EntryFormat: Format<Kind = EntryFault, Room = EntryBuffer, Taken = ()> {
+    /// What is put into a place is an entry.
+    ghost holds: { (taken : Unit {0}) (before after : EntryBuffer) → Self.fits taken before after → IsEntry after };
+}
 
 /// The format of traces: a head tells how many ingests the receiver has, and then entries follow.
 #[derive(Drop)]
@@ -49,6 +56,10 @@ impl Format for TraceFormat {
     }
 }
 
+impl EntryFormat for TraceFormat {
+    ghost holds = { λ taken before after fits. fits };
+}
+
 /// The format of tails: a head tells how many entries stand before the first one, and then entries follow.
 #[derive(Drop)]
 pub struct TailFormat;
@@ -89,4 +100,8 @@ impl Format for TailFormat {
     fn put(bytes: &[u8], room: &mut EntryBuffer) {
         put_entry(bytes, room);
     }
+}
+
+impl EntryFormat for TailFormat {
+    ghost holds = { λ taken before after fits. fits };
 }

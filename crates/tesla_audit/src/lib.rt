@@ -5,13 +5,11 @@ mod answers;
 mod auditor;
 mod formats;
 pub mod laws;
+mod reader;
 mod step;
-mod tail_reader;
-mod trace_reader;
 
-pub use answers::{add_answer, add_reply, add_verdict};
+pub use answers::{add_answer, add_number, add_reply, add_verdict};
 pub use auditor::{Answer, Auditor};
-pub use formats::{TailFormat, TraceFormat};
+pub use formats::{EntryFormat, TailFormat, TraceFormat};
+pub use reader::{EntryReader, TailReader, TraceReader};
 pub use step::TraceStep;
-pub use tail_reader::TailReader;
-pub use trace_reader::TraceReader;

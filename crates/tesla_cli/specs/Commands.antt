@@ -3,7 +3,7 @@ use Rattle.std.specs.Prelude.{◌≡◌, ℕ, Bool, true, false, List, [], ◌�
 use Rattle.std.specs.Str.{bytes_eq}
 use Rattle.tesla_desk.specs.Outside.{Told}
 use Rattle.tesla_front.specs.Came.{Came}
-use Rattle.tesla_front.specs.Command.{Command, no_command}
+use Rattle.tesla_front.specs.Command.{Command, Performs, RunsAs, no_command}
 use Rattle.tesla_front.specs.Printing.{RunsPrinting}
 use Rattle.tesla_front.specs.Run.{Runs}
 use Rattle.tesla_front.specs.Table.{command_in, is_named, where_named}
@@ -33,6 +33,10 @@ use Rattle.tesla_run_trace.specs.Trace.{trace}
 use Rattle.tesla_run_trace.specs.Usage as traces
 use Rattle.tesla_run_weave.specs.Weave.{weave}
 use Rattle.tesla_run_weave.specs.Usage as weaves
+
+-- words that are a form of a command are run as that command, told the command of any words
+abbrev pub NamesForms : (List (List ℕ) → Command) → Command → Type 0
+NamesForms named command = (arguments : command.Arguments) (words : List (List ℕ)) (old new : Told) (came : Came) → command.IsForm arguments words → RunsAs (named words) words old new came → Performs command arguments old new came
 
 -- ---- the streams
 

@@ -1,6 +1,6 @@
 //! The desk of the running system.
 
-ghost use Rattle.std.specs.Prelude.{◌≡◌, None};
+ghost use Rattle.std.specs.Prelude.{◌≡◌, None, Err, IfOk};
 ghost use Rattle.tesla_desk.specs.Faults.{HasCause, no_faults, raised_where_failed};
 ghost use Rattle.tesla_desk.specs.Live.{untold};
 ghost use Rattle.tesla_desk.specs.Outside.{Untold};
@@ -8,6 +8,7 @@ ghost use Rattle.tesla_desk.specs.Outside.{Untold};
 use crate::clock::anchor_of;
 use crate::files::OpenedFiles;
 use crate::gate::{Gates, LiveGate};
+use crate::object::OpenObject;
 use crate::sink::Target;
 use crate::{Anchor, Command, FileSink, FileSource, MachineClock, UdpLink, UdpPost, link, post};
 use std::io;
@@ -81,10 +82,8 @@ where
 
     fn open_source(&mut self, name: &str) -> Result<FileSource<R::File>, OpenRefusal> {
         let source_name = Text::new(self.rt.alloc(), name.as_bytes())?;
-        match self.opened.open(self.rt, name) {
-            Ok(file) => Ok(FileSource::new(source_name, file)),
-            Err(error) => Err(refusal_of(&mut self.openings, error)),
-        }
+        let opened = self.opened.open(self.rt, name);
+        object_of(&mut self.openings, source_name, opened)
     }
 
     fn open_sink(&mut self, name: &str) -> Result<FileSink<'a, R>, OpenRefusal> {
@@ -101,23 +100,17 @@ where
     fn open_link(&mut self, name: &str) -> Result<UdpLink, OpenRefusal> {
         let _began = begin(&mut self.anchor, self.rt, self.command);
         let link_name = Text::new(self.rt.alloc(), name.as_bytes())?;
-        match link::bind(self.rt, name) {
-            Ok(bound) => Ok(UdpLink::new(link_name, bound)),
-            Err(error) => Err(refusal_of(&mut self.openings, error)),
-        }
+        object_of(&mut self.openings, link_name, link::bind(self.rt, name))
     }
 
     fn open_post(&mut self, name: &str) -> Result<UdpPost, OpenRefusal> {
         let _began = begin(&mut self.anchor, self.rt, self.command);
         let post_name = Text::new(self.rt.alloc(), name.as_bytes())?;
-        match post::direct(self.rt, name) {
-            Ok(directed) => Ok(UdpPost::new(post_name, directed)),
-            Err(error) => Err(refusal_of(&mut self.openings, error)),
-        }
+        object_of(&mut self.openings, post_name, post::direct(self.rt, name))
     }
 
     fn close_source(&mut self, it: FileSource<R::File>) {
-        count_failed(&mut self.reads, it.into_faults());
+        count_failed(&mut self.reads, it.faults);
     }
 
     fn close_sink(&mut self, it: FileSink<'a, R>) {
@@ -125,11 +118,11 @@ where
     }
 
     fn close_link(&mut self, it: UdpLink) {
-        count_failed(&mut self.reads, it.into_faults());
+        count_failed(&mut self.reads, it.faults);
     }
 
     fn close_post(&mut self, it: UdpPost) {
-        count_failed(&mut self.writes, it.into_faults());
+        count_failed(&mut self.writes, it.faults);
     }
 
     fn clock(&mut self) -> MachineClock<'a, R> {
@@ -148,6 +141,22 @@ fn count_failed(count: &mut u64, faults: u64)
 {
     if 0 < faults {
         *count = count.saturating_add(1);
+    }
+}
+
+// The object that was opened under a name, or what its error means.
+fn object_of<T>(
+    openings: &mut u64,
+    name: Text,
+    opened: io::Result<T>,
+) -> Result<OpenObject<T>, OpenRefusal>
+    ensures named { IfOk result (λ it. it.name ≡ name) }
+    ensures fresh { IfOk result (λ it. it.faults ≡ 0) }
+    ensures cause { HasCause openings.old openings.new (result ≡ Err OpenRefusal.Failed) }
+{
+    match opened {
+        Ok(it) => Ok(OpenObject::new(name, it)),
+        Err(error) => Err(refusal_of(openings, error)),
     }
 }
 

@@ -8,6 +8,7 @@ mod files;
 mod gate;
 mod link;
 mod notices;
+mod object;
 mod post;
 mod quiets;
 mod rule;

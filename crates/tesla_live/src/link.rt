@@ -4,6 +4,7 @@ ghost use Rattle.std.specs.Prelude.{◌≡◌, ◌⊎◌, ◌+◌, ◌-◌, ◌^
 ghost use Rattle.tesla_desk.specs.Faults.{HasCause};
 ghost use Rattle.tesla_desk.specs.Links.{Gets};
 
+use crate::object::OpenObject;
 use crate::quiets::Quiets;
 use crate::socket::{Missed, TimedSocket};
 use libc::net as c;
@@ -11,17 +12,17 @@ use std::io;
 use std::io::ErrorKind;
 use std::net::{Net, UdpSocket};
 use std::os::fd::AsRawFd;
-use tesla_base::{MOST_DATAGRAM, Text, read_decimal};
+use tesla_base::{MOST_DATAGRAM, read_decimal};
 use tesla_desk::{Got, Link};
 
 /// For how many bytes of datagrams that wait the system is asked.
 const BUFFER: i32 = 4 << 20;
 
-/// A socket that is bound to an address, and how many quiets in a row end its link.
+/// A socket that is bound to an address, and for how long it was quiet.
 #[derive(Drop)]
-pub(crate) struct Bound {
+pub struct Bound {
     socket: TimedSocket,
-    limit: u64,
+    quiets: Quiets,
 }
 
 /// Binds the address in a link's name, `ADDRESS:PORT/QUIETS`. A name of another form is an error.
@@ -34,8 +35,10 @@ pub(crate) fn bind<R: Net>(rt: &R, name: &str) -> io::Result<Bound> {
     };
     let socket = UdpSocket::bind(rt, address)?;
     ask_for_buffer(&socket);
-    let socket = TimedSocket::new(socket)?;
-    Ok(Bound { socket, limit })
+    Ok(Bound {
+        socket: TimedSocket::new(socket)?,
+        quiets: Quiets::new(limit),
+    })
 }
 
 // Asks for the buffer. A socket whose system gives less, or refuses, brings datagrams all the same.
@@ -47,56 +50,24 @@ fn ask_for_buffer(socket: &UdpSocket) {
 
 /// A UDP socket that brings datagrams until it was quiet for as many tenths of a second in a row as its name says. What
 /// comes isn't told.
-pub struct UdpLink {
-    name: Text,
-    socket: TimedSocket,
-    quiets: Quiets,
-    faults: u64,
-}
+pub type UdpLink = OpenObject<Bound>;
 
-impl UdpLink {
-    /// A link under this name, which has not failed yet.
-    pub(crate) fn new(name: Text, bound: Bound) -> UdpLink
-        ensures name { result.name ≡ name }
-        ensures faults { result.faults ≡ 0 }
-    {
-        let Bound { socket, limit } = bound;
-        UdpLink {
-            name,
-            socket,
-            quiets: Quiets::new(limit),
-            faults: 0,
-        }
-    }
-
-    /// How often its calls failed. The socket is closed.
-    pub(crate) fn into_faults(self) -> u64
-        ensures { result ≡ self.faults }
-    {
-        let UdpLink {
-            name: _,
-            socket: _,
-            quiets: _,
-            faults,
-        } = self;
-        faults
-    }
-
+impl OpenObject<Bound> {
     // What a call answers that brought no datagram, by the kind of its error. A receive that was interrupted, as of a
     // program that was stopped and goes on, is quiet too, and isn't counted towards the end.
     fn miss(&mut self, missed: Missed) -> Got
         ensures cause { HasCause self.old.faults self.new.faults (result ≡ Got.Failed) }
         ensures name { self.new.name ≡ self.old.name }
         ensures step { (into : List ℕ) → Gets None None into result }
-        ensures interrupted { missed.kind ≡ ErrorKind.Interrupted → (result ≡ Got.Quiet) × (self.new.quiets ≡ self.old.quiets) }
+        ensures interrupted { missed.kind ≡ ErrorKind.Interrupted → (result ≡ Got.Quiet) × (self.new.it.quiets ≡ self.old.it.quiets) }
         ensures quiet { result ≡ Got.Quiet → (missed.kind ≡ ErrorKind.Interrupted) ⊎ (missed.kind ≡ ErrorKind.WouldBlock) ⊎ (missed.kind ≡ ErrorKind.TimedOut) }
-        ensures counted { (missed.kind ≡ ErrorKind.WouldBlock) ⊎ (missed.kind ≡ ErrorKind.TimedOut) → self.new.quiets ≡ record { limit = self.old.quiets.limit; waited = min (self.old.quiets.waited + missed.waited) (2 ^ 64 - 1) } }
+        ensures counted { (missed.kind ≡ ErrorKind.WouldBlock) ⊎ (missed.kind ≡ ErrorKind.TimedOut) → self.new.it.quiets ≡ record { limit = self.old.it.quiets.limit; waited = min (self.old.it.quiets.waited + missed.waited) (2 ^ 64 - 1) } }
     {
         match missed.kind {
             ErrorKind::Interrupted => Got::Quiet,
             ErrorKind::WouldBlock | ErrorKind::TimedOut => {
-                self.quiets.add(missed.waited);
-                if self.quiets.are_over() {
+                self.it.quiets.add(missed.waited);
+                if self.it.quiets.are_over() {
                     Got::End
                 } else {
                     Got::Quiet
@@ -110,7 +81,7 @@ impl UdpLink {
     }
 }
 
-impl Link for UdpLink {
+impl Link for OpenObject<Bound> {
     ghost left = { λ _. None };
 
     ghost faults = { λ it. it.faults };
@@ -120,12 +91,12 @@ impl Link for UdpLink {
     /// Asks the system once, unless the link has ended, and a second time only where the link was told a wait and no
     /// datagram is there. Of a longer datagram the bytes behind the first 2,048 are lost.
     fn next(&mut self, into: &mut [u8; MOST_DATAGRAM]) -> Got {
-        if self.quiets.are_over() {
+        if self.it.quiets.are_over() {
             return Got::End;
         }
-        match self.socket.receive(into) {
+        match self.it.socket.receive(into) {
             Ok(length) => {
-                self.quiets.clear();
+                self.it.quiets.clear();
                 Got::Datagram(length)
             }
             Err(missed) => self.miss(missed),
@@ -135,6 +106,6 @@ impl Link for UdpLink {
     /// The calls of `next` wait so long from now on, until another wait is told: at least a microsecond, and at most 100
     /// milliseconds.
     fn wait_at_most(&mut self, microseconds: u64) {
-        self.socket.wait_at_most(microseconds);
+        self.it.socket.wait_at_most(microseconds);
     }
 }

@@ -1,16 +1,16 @@
 //! A post over a UDP socket.
 
-ghost use Rattle.std.specs.Prelude.{◌≡◌, None};
+ghost use Rattle.std.specs.Prelude.{None};
 
+use crate::object::OpenObject;
 use std::io;
 use std::io::ErrorKind;
 use std::net::{Ipv4Addr, Ipv6Addr, Net, SocketAddr, ToSocketAddrs, UdpSocket};
-use tesla_base::Text;
 use tesla_desk::{Post, PostStep};
 
 /// A socket, and the address that it sends to.
 #[derive(Drop)]
-pub(crate) struct Directed {
+pub struct Directed {
     socket: UdpSocket,
     to: SocketAddr,
 }
@@ -37,43 +37,9 @@ fn bind_for<R: Net>(rt: &R, to: SocketAddr) -> io::Result<UdpSocket> {
 }
 
 /// A UDP socket that sends each datagram to one address. What was sent isn't told.
-pub struct UdpPost {
-    name: Text,
-    socket: UdpSocket,
-    to: SocketAddr,
-    faults: u64,
-}
+pub type UdpPost = OpenObject<Directed>;
 
-impl UdpPost {
-    /// A post under this name, which has not failed yet.
-    pub(crate) fn new(name: Text, directed: Directed) -> UdpPost
-        ensures name { result.name ≡ name }
-        ensures faults { result.faults ≡ 0 }
-    {
-        let Directed { socket, to } = directed;
-        UdpPost {
-            name,
-            socket,
-            to,
-            faults: 0,
-        }
-    }
-
-    /// How often its calls failed. The socket is closed.
-    pub(crate) fn into_faults(self) -> u64
-        ensures { result ≡ self.faults }
-    {
-        let UdpPost {
-            name: _,
-            socket: _,
-            to: _,
-            faults,
-        } = self;
-        faults
-    }
-}
-
-impl Post for UdpPost {
+impl Post for OpenObject<Directed> {
     ghost sent = { λ _. None };
 
     ghost faults = { λ it. it.faults };
@@ -82,7 +48,7 @@ impl Post for UdpPost {
 
     /// Asks the system once. Any error is a fault, an interrupted call too, and so is a datagram that was cut.
     fn send(&mut self, datagram: &[u8]) -> PostStep {
-        match self.socket.send_to(datagram, self.to) {
+        match self.it.socket.send_to(datagram, self.it.to) {
             Ok(count) if count == datagram.len() => PostStep::Sent,
             Ok(_) | Err(_) => {
                 self.faults = self.faults.saturating_add(1);

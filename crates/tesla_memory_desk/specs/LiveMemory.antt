@@ -43,17 +43,17 @@ remainder_in rests name = option_map remainder_stored (newest rests name)
 
 -- the letters that are left of a link
 abbrev pub letters_left : Letters → List Letter
-letters_left link = letters_stored link.rest.value
+letters_left link = letters_stored link.kept.entry.value
 
 abbrev pub link_faults_of : Letters → ℕ
-link_faults_of link = link.faults
+link_faults_of link = link.kept.faults
 
 abbrev pub link_name_of : Letters → List ℕ
-link_name_of link = link.rest.name
+link_name_of link = link.kept.entry.name
 
 -- the calls of a link, by number
 abbrev pub link_calls_of : Letters → CallNumbers
-link_calls_of link = link.calls
+link_calls_of link = link.kept.calls
 
 -- what the next letter is answered by
 abbrev pub answer_of : List Letter → Got
@@ -96,17 +96,17 @@ datagrams_in _ = []
 
 -- the datagrams that a post sent
 abbrev pub sent_by : Outbox → List (List ℕ)
-sent_by post = datagrams_stored post.mail.value
+sent_by post = datagrams_stored post.kept.entry.value
 
 abbrev pub post_faults_of : Outbox → ℕ
-post_faults_of post = post.faults
+post_faults_of post = post.kept.faults
 
 abbrev pub post_name_of : Outbox → List ℕ
-post_name_of post = post.mail.name
+post_name_of post = post.kept.entry.name
 
 -- the calls of a post, by number
 abbrev pub post_calls_of : Outbox → CallNumbers
-post_calls_of post = post.calls
+post_calls_of post = post.kept.calls
 
 -- how many bytes a post still takes
 abbrev pub post_room_of : Outbox → ℕ

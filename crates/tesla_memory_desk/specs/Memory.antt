@@ -26,23 +26,23 @@ use Rattle.tesla_memory_desk.specs.declared.memory.MemoryDesk.{MemoryDesk}
 
 -- the bytes that weren't read yet
 abbrev pub unread : Pages → List ℕ
-unread pages = left_stored pages.rest.value
+unread pages = left_stored pages.kept.entry.value
 
 -- the name that a source was opened under
 abbrev pub source_name_of : Pages → List ℕ
-source_name_of pages = pages.rest.name
+source_name_of pages = pages.kept.entry.name
 
 -- what is kept of a source when it is closed
 abbrev pub stored_of : Pages → Named StoredRest
-stored_of pages = pages.rest
+stored_of pages = pages.kept.entry
 
 -- how often a read of a source in memory failed
 abbrev pub read_faults_of : Pages → ℕ
-read_faults_of pages = pages.faults
+read_faults_of pages = pages.kept.faults
 
 -- the reads of a source, by number
 abbrev pub read_calls_of : Pages → CallNumbers
-read_calls_of pages = pages.calls
+read_calls_of pages = pages.kept.calls
 
 -- the greatest piece that a read moves, where one was set
 abbrev pub read_piece_of : Pages → Option ℕ
@@ -58,19 +58,19 @@ read_answer size pages = if next_fails (read_calls_of pages) then ReadFailed els
 
 -- the name that a sink was opened under
 abbrev pub name_of : Heap → List ℕ
-name_of heap = heap.page.name
+name_of heap = heap.kept.entry.name
 
 -- the bytes that were written
 abbrev pub bytes_of : Heap → List ℕ
-bytes_of heap = heap.page.value.bytes.items
+bytes_of heap = heap.kept.entry.value.bytes.items
 
 -- how often a write failed, or took nothing of a piece that was not empty
 abbrev pub write_faults_of : Heap → ℕ
-write_faults_of heap = heap.faults
+write_faults_of heap = heap.kept.faults
 
 -- the writes of a sink, by number
 abbrev pub write_calls_of : Heap → CallNumbers
-write_calls_of heap = heap.calls
+write_calls_of heap = heap.kept.calls
 
 -- the greatest piece that a write takes, where one was set
 abbrev pub write_piece_of : Heap → Option ℕ
@@ -225,24 +225,18 @@ pub record NewSource (desk : MemoryDesk) (name : List ℕ) (it : Pages) : Type 0
   pub calls : read_calls_of it ≡ new_calls (failing_for (settings_of desk) name)
   pub piece : read_piece_of it ≡ piece_for (settings_of desk) name
 
--- a new sink has what was set for the name
-pub record NewSink (desk : MemoryDesk) (name : List ℕ) (it : Heap) : Type 0 where
+-- an empty sink under this name, with this room, this greatest piece, if there is one, and these calls
+pub record MadeSink (name : List ℕ) (room : ℕ) (piece : Option ℕ) (calls : CallNumbers) (it : Heap) : Type 0 where
   pub named : name_of it ≡ name
   pub empty : bytes_of it ≡ []
   pub faults : write_faults_of it ≡ 0
-  pub room : room_of it ≡ room_for (settings_of desk) name
-  pub calls : write_calls_of it ≡ new_calls (failing_for (settings_of desk) name)
-  pub piece : write_piece_of it ≡ piece_for (settings_of desk) name
+  pub room_is : room_of it ≡ room
+  pub calls_are : write_calls_of it ≡ calls
+  pub piece_is : write_piece_of it ≡ piece
 
--- a source is made exactly where it is not refused
-abbrev pub MakesSource : MemoryDesk → List ℕ → Option Pages → Type 0
-MakesSource desk name None = refuses_source desk name ≡ true
-MakesSource desk name (Some it) = (refuses_source desk name ≡ false) × NewSource desk name it
-
--- a sink is made exactly where its opening does not fail by its number
-abbrev pub MakesSink : MemoryDesk → List ℕ → Option Heap → Type 0
-MakesSink desk name None = next_fails (opening_calls_of desk) ≡ true
-MakesSink desk name (Some it) = (next_fails (opening_calls_of desk) ≡ false) × NewSink desk name it
+-- a new sink has what was set for the name
+abbrev pub NewSink : MemoryDesk → List ℕ → Heap → Type 0
+NewSink desk name = MadeSink name (room_for (settings_of desk) name) (piece_for (settings_of desk) name) (new_calls (failing_for (settings_of desk) name))
 
 -- whether the next opening is refused if it is one of a link under the name: it fails by its number, or there is nothing for it
 abbrev pub refuses_link : MemoryDesk → List ℕ → Bool
@@ -255,24 +249,18 @@ pub record NewLink (desk : MemoryDesk) (name : List ℕ) (it : Letters) : Type 0
   pub faults : link_faults_of it ≡ 0
   pub calls : link_calls_of it ≡ new_calls (failing_for (settings_of desk) name)
 
--- a link is made exactly where it is not refused
-abbrev pub MakesLink : MemoryDesk → List ℕ → Option Letters → Type 0
-MakesLink desk name None = refuses_link desk name ≡ true
-MakesLink desk name (Some it) = (refuses_link desk name ≡ false) × NewLink desk name it
-
 -- the same after the closing of a link
 abbrev pub after_closed_link : Named StoredRemainder → Faults → Rest → Rest
 after_closed_link remainder counts before = record before { remainders = remainder ∷ before.remainders; counts = counts }
 
--- a new post has what was set for the name
-pub record NewPost (desk : MemoryDesk) (name : List ℕ) (it : Outbox) : Type 0 where
+-- a post under this name that has sent nothing, with this room and these calls
+pub record MadePost (name : List ℕ) (room : ℕ) (calls : CallNumbers) (it : Outbox) : Type 0 where
   pub named : post_name_of it ≡ name
   pub empty : sent_by it ≡ []
   pub faults : post_faults_of it ≡ 0
-  pub room : post_room_of it ≡ room_for (settings_of desk) name
-  pub calls : post_calls_of it ≡ new_calls (failing_for (settings_of desk) name)
+  pub room_is : post_room_of it ≡ room
+  pub calls_are : post_calls_of it ≡ calls
 
--- a post is made exactly where its opening does not fail by its number
-abbrev pub MakesPost : MemoryDesk → List ℕ → Option Outbox → Type 0
-MakesPost desk name None = next_fails (opening_calls_of desk) ≡ true
-MakesPost desk name (Some it) = (next_fails (opening_calls_of desk) ≡ false) × NewPost desk name it
+-- a new post has what was set for the name
+abbrev pub NewPost : MemoryDesk → List ℕ → Outbox → Type 0
+NewPost desk name = MadePost name (room_for (settings_of desk) name) (new_calls (failing_for (settings_of desk) name))

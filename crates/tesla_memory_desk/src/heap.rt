@@ -1,31 +1,29 @@
 //! A sink in memory.
 
-ghost use Rattle.std.specs.Prelude.{◌≡◌, ◌≤◌, ◌+◌, ◌-◌, nat_lt, length, vec_len, vec_capacity, [], Some, IfOk};
+ghost use Rattle.std.specs.Prelude.{◌≡◌, ◌≤◌, ◌+◌, ◌-◌, nat_lt, length, vec_len, vec_capacity, Some, IfOk};
 ghost use Rattle.tesla_desk.specs.Faults.{HasCause};
 ghost use Rattle.tesla_desk.specs.Outside.{Writes, Stalls};
 
 use crate::calls::Calls;
-use crate::entries::{Entries, Named};
+use crate::entries::Named;
+use crate::kept::Kept;
 use crate::settings::within_piece;
 use crate::stored::{StoredPage, StoredPages};
 use std::alloc::Global;
-use tesla_base::{NoMemory, Text};
+use tesla_base::NoMemory;
 use tesla_desk::{Sink, WriteStep};
 
 /// Bytes written in memory, with a room that is taken at the opening. A write fails exactly where its
 /// number is listed; one that finds no room takes nothing. Either counts as a fault.
 pub struct Heap {
-    page: Named<StoredPage>,
+    kept: Kept<StoredPage>,
     room: usize,
     piece: Option<usize>,
-    calls: Calls,
-    faults: u64,
-    spare: Box<StoredPages>,
-    ghost fits: { vec_len page.value.bytes + room ≤ vec_capacity page.value.bytes },
+    ghost fits: { vec_len kept.entry.value.bytes + room ≤ vec_capacity kept.entry.value.bytes },
 }
 
 impl Heap {
-    ghost use Rattle.tesla_memory_desk.specs.Memory.{name_of, bytes_of, write_faults_of, write_calls_of, write_piece_of, room_of};
+    ghost use Rattle.tesla_memory_desk.specs.Memory.{MadeSink, name_of, bytes_of, write_faults_of};
 
     /// An empty sink under this name, which takes `room` bytes and has not failed yet.
     pub(crate) fn new(
@@ -35,29 +33,14 @@ impl Heap {
         piece: Option<usize>,
         calls: Calls,
     ) -> Result<Heap, NoMemory>
-        ensures name { IfOk result (λ it. name_of it ≡ name.now) }
-        ensures empty { IfOk result (λ it. bytes_of it ≡ []) }
-        ensures faults { IfOk result (λ it. write_faults_of it ≡ 0) }
-        ensures room { IfOk result (λ it. room_of it ≡ room) }
-        ensures calls { IfOk result (λ it. write_calls_of it ≡ calls) }
-        ensures piece { IfOk result (λ it. write_piece_of it ≡ piece) }
+        ensures { IfOk result (MadeSink name.now room piece calls) }
     {
-        let spare = Entries::spare(alloc)?;
-        let page = Named {
-            name: Text::new(alloc, name.as_bytes())?,
-            value: StoredPage {
-                bytes: Vec::with_capacity(alloc, room)?,
-                failed: false,
-            },
+        let page = StoredPage {
+            bytes: Vec::with_capacity(alloc, room)?,
+            failed: false,
         };
-        Ok(Heap {
-            page,
-            room,
-            piece,
-            calls,
-            faults: 0,
-            spare,
-        })
+        let kept = Kept::new(alloc, name, page, calls)?;
+        Ok(Heap { kept, room, piece })
     }
 
     /// The bytes as a page, and the box that puts it before the others.
@@ -67,15 +50,13 @@ impl Heap {
         ensures failed { result.0.value.failed ≡ nat_lt 0 (write_faults_of self) }
     {
         let Heap {
-            mut page,
+            kept,
             room: _,
             piece: _,
-            calls: _,
-            faults,
-            spare,
         } = self;
-        page.value.failed = 0 < faults;
-        (page, spare)
+        let mut entry = kept.entry;
+        entry.value.failed = 0 < kept.faults;
+        (entry, kept.spare)
     }
 }
 
@@ -101,18 +82,20 @@ impl Sink for Heap {
         ensures piece { write_piece_of self.new ≡ write_piece_of self.old }
         ensures room { room_of self.new ≡ room_of self.old - taken result }
     {
-        let fails = self.calls.next_fails();
-        self.calls.count();
-        if fails {
-            self.faults = self.faults.saturating_add(1);
+        if self.kept.fails() {
             return WriteStep::Failed;
         }
         let count = within_piece(self.piece, piece.len()).min(self.room);
         if count == 0 && !piece.is_empty() {
-            self.faults = self.faults.saturating_add(1);
+            self.kept.faults = self.kept.faults.saturating_add(1);
         }
         self.room -= count;
-        let _ = self.page.value.bytes.extend_from_slice(&piece[..count]);
+        let _ = self
+            .kept
+            .entry
+            .value
+            .bytes
+            .extend_from_slice(&piece[..count]);
         WriteStep::Took(count)
     }
 }

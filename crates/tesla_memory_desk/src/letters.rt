@@ -5,20 +5,18 @@ ghost use Rattle.tesla_desk.specs.Faults.{HasCause, raised};
 ghost use Rattle.tesla_desk.specs.Links.{Gets};
 
 use crate::calls::Calls;
-use crate::entries::{Entries, Named};
+use crate::entries::Named;
+use crate::kept::Kept;
 use crate::stored_letters::{StoredLetters, StoredRemainder, StoredRemainders};
 use std::alloc::Global;
-use tesla_base::{MOST_DATAGRAM, NoMemory, Text};
+use tesla_base::{MOST_DATAGRAM, NoMemory};
 use tesla_desk::{Got, Letter, Link};
 
 /// The letters that a desk had when the link was opened. A call fails exactly where its number is listed.
 #[derive(Drop)]
 pub struct Letters {
-    rest: Named<StoredRemainder>,
-    calls: Calls,
-    faults: u64,
-    spare: Box<StoredRemainders>,
-    ghost within: { rest.value.at ≤ length rest.value.letters.items.items },
+    kept: Kept<StoredRemainder>,
+    ghost within: { kept.entry.value.at ≤ length kept.entry.value.letters.items.items },
 }
 
 impl Letters {
@@ -37,21 +35,13 @@ impl Letters {
         ensures faults { IfOk result (λ it. link_faults_of it ≡ 0) }
         ensures calls { IfOk result (λ it. link_calls_of it ≡ calls) }
     {
-        let spare = Entries::spare(alloc)?;
-        let rest = Named {
-            name: Text::new(alloc, name.as_bytes())?,
-            value: StoredRemainder {
-                letters: StoredLetters::copy(alloc, &letters.items)?,
-                at: 0,
-                failed: false,
-            },
+        let rest = StoredRemainder {
+            letters: StoredLetters::copy(alloc, &letters.items)?,
+            at: 0,
+            failed: false,
         };
-        Ok(Letters {
-            rest,
-            calls,
-            faults: 0,
-            spare,
-        })
+        let kept = Kept::new(alloc, name, rest, calls)?;
+        Ok(Letters { kept })
     }
 
     /// What is left, with whether a call failed, and the box that puts it before others.
@@ -60,14 +50,10 @@ impl Letters {
         ensures rest { Some (remainder_stored result.0.value) ≡ remainder_of (Some (letters_left self)) (link_faults_of self) }
         ensures failed { result.0.value.failed ≡ nat_lt 0 (link_faults_of self) }
     {
-        let Letters {
-            mut rest,
-            calls: _,
-            faults,
-            spare,
-        } = self;
-        rest.value.failed = 0 < faults;
-        (rest, spare)
+        let Letters { kept } = self;
+        let mut entry = kept.entry;
+        entry.value.failed = 0 < kept.faults;
+        (entry, kept.spare)
     }
 }
 
@@ -90,23 +76,20 @@ impl Link for Letters {
         ensures counted { link_faults_of self.new ≡ (if next_fails (link_calls_of self.old) then raised (link_faults_of self.old) else link_faults_of self.old) }
         ensures calls { link_calls_of self.new ≡ after_call (link_calls_of self.old) }
     {
-        let fails = self.calls.next_fails();
-        self.calls.count();
-        if fails {
-            self.faults = self.faults.saturating_add(1);
+        if self.kept.fails() {
             return Got::Failed;
         }
-        let at = self.rest.value.at;
-        let Some(letter) = self.rest.value.letters.items.get(at) else {
+        let at = self.kept.entry.value.at;
+        let Some(letter) = self.kept.entry.value.letters.items.get(at) else {
             return Got::End;
         };
         let Letter::Datagram { bytes } = letter else {
-            self.rest.value.at += 1;
+            self.kept.entry.value.at += 1;
             return Got::Quiet;
         };
         let bytes = bytes.bytes();
         into[..bytes.len()].copy_from_slice(bytes);
-        self.rest.value.at += 1;
+        self.kept.entry.value.at += 1;
         Got::Datagram(bytes.len())
     }
 }

@@ -5,6 +5,7 @@ mod calls;
 mod clock_lists;
 mod entries;
 mod heap;
+mod kept;
 mod letters;
 mod memory;
 mod outbox;

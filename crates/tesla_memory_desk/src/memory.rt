@@ -3,19 +3,19 @@
 ghost use Rattle.std.specs.Prelude.{◌≡◌, ◌≢◌, ◌<◌, ◌≤◌, ◌-◌, ◌^◌, ◌∷◌, true, false, List, ℕ, [], Some, IfOk, OnOk, OnErr, is_ok, if◌then◌else◌};
 ghost use Rattle.std.specs.List.{list_all, slice_get};
 ghost use Rattle.std.specs.Option.{option_map};
-ghost use Rattle.tesla_memory_desk.specs.Calls.{next_fails, with_failing};
+ghost use Rattle.tesla_memory_desk.specs.Calls.{new_calls, next_fails, with_failing};
 ghost use Rattle.tesla_desk.specs.Faults.{after_source, after_sink};
 ghost use Rattle.tesla_desk.specs.Links.{fits};
 ghost use Rattle.tesla_desk.specs.Live.{OpenedLink, HoldsWire, clock_told};
 ghost use Rattle.tesla_memory_desk.specs.LiveMemory.{readings_in, with_readings, after_made, letters_left, link_faults_of, link_name_of, remainder_stored, clock_told_of, datagrams_in, sent_by, post_faults_of, post_name_of};
-ghost use Rattle.tesla_memory_desk.specs.Memory.{bytes_in, unread, source_name_of, stored_of, read_faults_of, name_of, bytes_of, write_faults_of, page_under, counts_of, live_of, told_by, settings_of, opening_calls_of, rest_of, new_rest, with_clocks, with_settings, with_opening_calls, after_closed, after_counted, after_failed, after_asked, Refuses, refuses_source, NewSource, NewSink, MakesSource, MakesSink, after_closed_link, refuses_link, NewLink, MakesLink, NewPost, MakesPost};
+ghost use Rattle.tesla_memory_desk.specs.Memory.{bytes_in, unread, source_name_of, stored_of, read_faults_of, name_of, bytes_of, write_faults_of, page_under, counts_of, live_of, told_by, settings_of, opening_calls_of, rest_of, new_rest, with_clocks, with_settings, with_opening_calls, after_closed, after_asked, Refuses, refuses_source, NewSource, NewSink, after_closed_link, refuses_link, NewLink, NewPost};
 ghost use Rattle.tesla_desk.specs.Outside.{Untold, Absent, Holds, Opened, OfSource, OfSink, OfLink, OfPost, OpensSource, OpensSink, OpensLink, OpensPost, ClosesSource, ClosesSink, ClosesLink, ClosesPost, MakesClock};
 ghost use Rattle.tesla_memory_desk.specs.Settings.{with_room, with_piece, with_failing_call, room_for, piece_for, failing_for};
 ghost use Rattle.tesla_memory_desk.specs.Stored.{opening_of};
 
 use crate::calls::Calls;
 use crate::clock_lists::ClockLists;
-use crate::entries::{Entries, Named, newest_under};
+use crate::entries::{Entries, Named, newest_under, put_under};
 use crate::settings::Settings;
 use crate::stored::{AskedOpening, StoredPage, StoredPages, StoredRests};
 use crate::stored_letters::{StoredLetters, StoredRemainders};
@@ -73,16 +73,11 @@ impl MemoryDesk {
         ensures err { OnErr result ((n : List ℕ) → page_under self.new n ≡ page_under self.old n) }
         ensures rest { rest_of self.new ≡ rest_of self.old }
     {
-        let spare = Entries::spare(self.alloc)?;
-        let page = Named {
-            name: Text::new(self.alloc, name.as_bytes())?,
-            value: StoredPage {
-                bytes: Vec::from_slice(self.alloc, bytes)?,
-                failed: false,
-            },
+        let page = StoredPage {
+            bytes: Vec::from_slice(self.alloc, bytes)?,
+            failed: false,
         };
-        self.pages.put(page, spare);
-        Ok(())
+        put_under(&mut self.pages, self.alloc, name, page)
     }
 
     /// The bytes under the name; `None` exactly where there is no such page.
@@ -116,13 +111,8 @@ impl MemoryDesk {
         ensures pages { (n : List ℕ) → page_under self.new n ≡ page_under self.old n }
         ensures rest { rest_of self.new ≡ record (rest_of self.old) { wires = (rest_of self.new).wires } }
     {
-        let spare = Entries::spare(self.alloc)?;
-        let wire = Named {
-            name: Text::new(self.alloc, name.as_bytes())?,
-            value: StoredLetters::copy(self.alloc, letters)?,
-        };
-        self.wires.put(wire, spare);
-        Ok(())
+        let letters = StoredLetters::copy(self.alloc, letters)?;
+        put_under(&mut self.wires, self.alloc, name, letters)
     }
 
     /// Puts a copy of these readings there for the clock with this number, counted from 0, in the place of what was
@@ -178,77 +168,89 @@ impl MemoryDesk {
         self.settings.fail_call(self.alloc, name, call)
     }
 
-    // A source of the page, unless the next opening is refused.
-    fn source_of(&self, name: &str) -> Result<Option<Pages>, NoMemory>
-        ensures { IfOk result (λ made. MakesSource self.now name.now made) }
+    // The calls of an object that is opened under the name, unless the next opening fails by its number.
+    fn calls_under(&self, name: &str) -> Result<Calls, OpenRefusal>
+        ensures exact { Refuses (next_fails (opening_calls_of self.now)) result }
+        ensures calls { IfOk result (λ calls. calls ≡ new_calls (failing_for (settings_of self.now) name.now)) }
     {
         if self.calls.next_fails() {
-            return Ok(None);
+            return Err(OpenRefusal::Failed);
         }
+        Ok(self.settings.calls(self.alloc, name)?)
+    }
+
+    // A source of the page, unless the next opening is refused.
+    fn source_of(&self, name: &str) -> Result<Pages, OpenRefusal>
+        ensures exact { Refuses (refuses_source self.now name.now) result }
+        ensures set { IfOk result (λ it. NewSource self.now name.now it) }
+    {
         let Some(stored) = newest_under(&self.pages, name.as_bytes()) else {
-            return Ok(None);
+            return Err(OpenRefusal::Failed);
         };
-        let calls = self.settings.calls(self.alloc, name)?;
+        let calls = self.calls_under(name)?;
         let piece = self.settings.piece(name);
         let bytes = stored.bytes.as_slice();
-        Ok(Some(Pages::new(self.alloc, name, bytes, piece, calls)?))
+        Ok(Pages::new(self.alloc, name, bytes, piece, calls)?)
     }
 
     // A sink under the name, unless the next opening fails.
-    fn sink_of(&self, name: &str) -> Result<Option<Heap>, NoMemory>
-        ensures { IfOk result (λ made. MakesSink self.now name.now made) }
+    fn sink_of(&self, name: &str) -> Result<Heap, OpenRefusal>
+        ensures exact { Refuses (next_fails (opening_calls_of self.now)) result }
+        ensures set { IfOk result (λ it. NewSink self.now name.now it) }
     {
-        if self.calls.next_fails() {
-            return Ok(None);
-        }
-        let calls = self.settings.calls(self.alloc, name)?;
+        let calls = self.calls_under(name)?;
         let (room, piece) = (self.settings.room(name), self.settings.piece(name));
-        Ok(Some(Heap::new(self.alloc, name, room, piece, calls)?))
+        Ok(Heap::new(self.alloc, name, room, piece, calls)?)
     }
 
     // A link of the letters that are there, unless the next opening is refused.
-    fn link_of(&self, name: &str) -> Result<Option<Letters>, NoMemory>
-        ensures { IfOk result (λ made. MakesLink self.now name.now made) }
+    fn link_of(&self, name: &str) -> Result<Letters, OpenRefusal>
+        ensures exact { Refuses (refuses_link self.now name.now) result }
+        ensures set { IfOk result (λ it. NewLink self.now name.now it) }
     {
-        if self.calls.next_fails() {
-            return Ok(None);
-        }
         let Some(letters) = newest_under(&self.wires, name.as_bytes()) else {
-            return Ok(None);
+            return Err(OpenRefusal::Failed);
         };
-        let calls = self.settings.calls(self.alloc, name)?;
-        Ok(Some(Letters::new(self.alloc, name, letters, calls)?))
+        let calls = self.calls_under(name)?;
+        Ok(Letters::new(self.alloc, name, letters, calls)?)
     }
 
     // A post under the name, unless the next opening fails.
-    fn post_of(&self, name: &str) -> Result<Option<Outbox>, NoMemory>
-        ensures { IfOk result (λ made. MakesPost self.now name.now made) }
+    fn post_of(&self, name: &str) -> Result<Outbox, OpenRefusal>
+        ensures exact { Refuses (next_fails (opening_calls_of self.now)) result }
+        ensures set { IfOk result (λ it. NewPost self.now name.now it) }
     {
-        if self.calls.next_fails() {
-            return Ok(None);
-        }
-        let calls = self.settings.calls(self.alloc, name)?;
+        let calls = self.calls_under(name)?;
         let room = self.settings.room(name);
-        Ok(Some(Outbox::new(self.alloc, name, room, calls)?))
+        Ok(Outbox::new(self.alloc, name, room, calls)?)
     }
 
-    // Enters an opening and counts it. The box was made before, so that this takes no memory.
-    fn enter(&mut self, asked: AskedOpening, spare: Box<Entries<AskedOpening>>)
+    // Enters an opening that came to this and counts it, also as failed. The box was made before, so that this takes no
+    // memory.
+    fn enter<T>(
+        &mut self,
+        asked: AskedOpening,
+        spare: Box<Entries<AskedOpening>>,
+        made: Result<T, OpenRefusal>,
+    ) -> Result<T, OpenRefusal>
+        ensures made { result ≡ made }
         ensures pages { (n : List ℕ) → page_under self.new n ≡ page_under self.old n }
-        ensures rest { rest_of self.new ≡ after_counted (opening_of asked) (rest_of self.old) }
+        ensures rest { rest_of self.new ≡ after_asked (opening_of asked) result (rest_of self.old) }
     {
-        self.asked.put(asked, spare);
-        self.calls.count();
-    }
-
-    // Counts a failed opening.
-    fn refuse(&mut self) -> OpenRefusal
-        ensures failed { result ≡ OpenRefusal.Failed }
-        ensures pages { (n : List ℕ) → page_under self.new n ≡ page_under self.old n }
-        ensures rest { rest_of self.new ≡ after_failed (rest_of self.old) }
-    {
-        self.openings = self.openings.saturating_add(1);
-        OpenRefusal::Failed
+        match made {
+            Ok(it) => {
+                self.asked.put(asked, spare);
+                self.calls.count();
+                Ok(it)
+            }
+            Err(OpenRefusal::Failed) => {
+                self.asked.put(asked, spare);
+                self.calls.count();
+                self.openings = self.openings.saturating_add(1);
+                Err(OpenRefusal::Failed)
+            }
+            Err(OpenRefusal::NoMemory) => Err(OpenRefusal::NoMemory),
+        }
     }
 }
 
@@ -279,12 +281,8 @@ impl Desk for MemoryDesk {
     {
         let spare = Entries::spare(self.alloc)?;
         let asked = AskedOpening::Source(Text::new(self.alloc, name.as_bytes())?);
-        let made = self.source_of(name)?;
-        self.enter(asked, spare);
-        match made {
-            Some(it) => Ok(it),
-            None => Err(self.refuse()),
-        }
+        let made = self.source_of(name);
+        self.enter(asked, spare, made)
     }
 
     /// `Failed` exactly where the number of the opening is listed.
@@ -300,12 +298,8 @@ impl Desk for MemoryDesk {
     {
         let spare = Entries::spare(self.alloc)?;
         let asked = AskedOpening::Sink(Text::new(self.alloc, name.as_bytes())?);
-        let made = self.sink_of(name)?;
-        self.enter(asked, spare);
-        match made {
-            Some(it) => Ok(it),
-            None => Err(self.refuse()),
-        }
+        let made = self.sink_of(name);
+        self.enter(asked, spare, made)
     }
 
     fn close_source(&mut self, it: Pages)
@@ -342,12 +336,8 @@ impl Desk for MemoryDesk {
     {
         let spare = Entries::spare(self.alloc)?;
         let asked = AskedOpening::Link(Text::new(self.alloc, name.as_bytes())?);
-        let made = self.link_of(name)?;
-        self.enter(asked, spare);
-        match made {
-            Some(it) => Ok(it),
-            None => Err(self.refuse()),
-        }
+        let made = self.link_of(name);
+        self.enter(asked, spare, made)
     }
 
     fn close_link(&mut self, it: Letters)
@@ -374,12 +364,8 @@ impl Desk for MemoryDesk {
     {
         let spare = Entries::spare(self.alloc)?;
         let asked = AskedOpening::Post(Text::new(self.alloc, name.as_bytes())?);
-        let made = self.post_of(name)?;
-        self.enter(asked, spare);
-        match made {
-            Some(it) => Ok(it),
-            None => Err(self.refuse()),
-        }
+        let made = self.post_of(name);
+        self.enter(asked, spare, made)
     }
 
     fn close_post(&mut self, it: Outbox)

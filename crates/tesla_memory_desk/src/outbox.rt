@@ -1,32 +1,31 @@
 //! A post in memory.
 
-ghost use Rattle.std.specs.Prelude.{◌≡◌, ◌≤◌, ◌+◌, nat_lt, length, vec_len, vec_capacity, [], Some, IfOk};
+ghost use Rattle.std.specs.Prelude.{◌≡◌, ◌≤◌, ◌+◌, nat_lt, length, vec_len, vec_capacity, Some, IfOk};
 ghost use Rattle.tesla_desk.specs.Faults.{HasCause};
 ghost use Rattle.tesla_desk.specs.Posts.{Posts};
 
 use crate::calls::Calls;
-use crate::entries::{Entries, Named};
+use crate::entries::Named;
+use crate::kept::Kept;
 use crate::stored_mail::{StoredMail, StoredMails};
 use std::alloc::Global;
-use tesla_base::{NoMemory, Text};
+use tesla_base::NoMemory;
 use tesla_desk::{Post, PostStep};
 
 /// Datagrams sent in memory, with a room in bytes that is taken at the opening. A datagram takes as much of it as it
 /// has bytes, and one byte where it has none. A call fails exactly where its number is listed or the room
 /// that is left is less than that.
 pub struct Outbox {
-    mail: Named<StoredMail>,
+    kept: Kept<StoredMail>,
     room: usize,
-    calls: Calls,
-    faults: u64,
-    spare: Box<StoredMails>,
-    ghost fits: { vec_len mail.value.bytes + room ≤ vec_capacity mail.value.bytes },
-    ghost counts: { vec_len mail.value.lengths + room ≤ vec_capacity mail.value.lengths },
+    ghost fits: { vec_len kept.entry.value.bytes + room ≤ vec_capacity kept.entry.value.bytes },
+    ghost counts: { vec_len kept.entry.value.lengths + room ≤ vec_capacity kept.entry.value.lengths },
 }
 
 impl Outbox {
     ghost use Rattle.tesla_desk.specs.Live.{mail_of};
-    ghost use Rattle.tesla_memory_desk.specs.LiveMemory.{mail_stored, sent_by, post_name_of, post_faults_of, post_calls_of, post_room_of};
+    ghost use Rattle.tesla_memory_desk.specs.LiveMemory.{mail_stored, sent_by, post_name_of, post_faults_of};
+    ghost use Rattle.tesla_memory_desk.specs.Memory.{MadePost};
 
     /// A post under this name that has sent nothing, takes `room` bytes and has not failed yet.
     pub(crate) fn new(
@@ -35,28 +34,15 @@ impl Outbox {
         room: usize,
         calls: Calls,
     ) -> Result<Outbox, NoMemory>
-        ensures name { IfOk result (λ it. post_name_of it ≡ name.now) }
-        ensures empty { IfOk result (λ it. sent_by it ≡ []) }
-        ensures faults { IfOk result (λ it. post_faults_of it ≡ 0) }
-        ensures room { IfOk result (λ it. post_room_of it ≡ room) }
-        ensures calls { IfOk result (λ it. post_calls_of it ≡ calls) }
+        ensures { IfOk result (MadePost name.now room calls) }
     {
-        let spare = Entries::spare(alloc)?;
-        let mail = Named {
-            name: Text::new(alloc, name.as_bytes())?,
-            value: StoredMail {
-                bytes: Vec::with_capacity(alloc, room)?,
-                lengths: Vec::with_capacity(alloc, room)?,
-                failed: false,
-            },
+        let mail = StoredMail {
+            bytes: Vec::with_capacity(alloc, room)?,
+            lengths: Vec::with_capacity(alloc, room)?,
+            failed: false,
         };
-        Ok(Outbox {
-            mail,
-            room,
-            calls,
-            faults: 0,
-            spare,
-        })
+        let kept = Kept::new(alloc, name, mail, calls)?;
+        Ok(Outbox { kept, room })
     }
 
     /// What was sent, with whether a call failed, and the box that puts it before others.
@@ -65,15 +51,10 @@ impl Outbox {
         ensures mail { mail_stored (Some result.0.value) ≡ mail_of (Some (sent_by self)) (post_faults_of self) }
         ensures failed { result.0.value.failed ≡ nat_lt 0 (post_faults_of self) }
     {
-        let Outbox {
-            mut mail,
-            room: _,
-            calls: _,
-            faults,
-            spare,
-        } = self;
-        mail.value.failed = 0 < faults;
-        (mail, spare)
+        let Outbox { kept, room: _ } = self;
+        let mut entry = kept.entry;
+        entry.value.failed = 0 < kept.faults;
+        (entry, kept.spare)
     }
 }
 
@@ -98,15 +79,16 @@ impl Post for Outbox {
         ensures calls { post_calls_of self.new ≡ after_call (post_calls_of self.old) }
         ensures room { post_room_of self.new ≡ post_room_after (length datagram.now) result (post_room_of self.old) }
     {
-        let fails = self.calls.next_fails();
-        self.calls.count();
+        if self.kept.fails() {
+            return PostStep::Failed;
+        }
         let takes = datagram.len().max(1);
-        if fails || self.room < takes {
-            self.faults = self.faults.saturating_add(1);
+        if self.room < takes {
+            self.kept.faults = self.kept.faults.saturating_add(1);
             return PostStep::Failed;
         }
         self.room -= takes;
-        self.mail.value.add(datagram);
+        self.kept.entry.value.add(datagram);
         PostStep::Sent
     }
 }

@@ -6,19 +6,17 @@ ghost use Rattle.tesla_desk.specs.Faults.{HasCause, raised};
 ghost use Rattle.tesla_desk.specs.Outside.{Reads};
 
 use crate::calls::Calls;
-use crate::entries::{Entries, Named};
+use crate::entries::Named;
+use crate::kept::Kept;
 use crate::stored::{StoredRest, StoredRests};
 use std::alloc::Global;
-use tesla_base::{NoMemory, Text};
+use tesla_base::NoMemory;
 use tesla_desk::{ReadStep, Source};
 
 /// The bytes that a page held when it was opened. A read fails exactly where its number is listed.
 pub struct Pages {
-    rest: Named<StoredRest>,
+    kept: Kept<StoredRest>,
     piece: Option<usize>,
-    calls: Calls,
-    faults: u64,
-    spare: Box<StoredRests>,
     ghost moves: { ForSome piece (λ most. 1 ≤ most) },
 }
 
@@ -40,21 +38,9 @@ impl Pages {
         ensures calls { IfOk result (λ it. read_calls_of it ≡ calls) }
         ensures piece { IfOk result (λ it. read_piece_of it ≡ piece) }
     {
-        let spare = Entries::spare(alloc)?;
-        let rest = Named {
-            name: Text::new(alloc, name.as_bytes())?,
-            value: StoredRest {
-                bytes: Vec::from_slice(alloc, bytes)?,
-                at: 0,
-            },
-        };
-        Ok(Pages {
-            rest,
-            piece,
-            calls,
-            faults: 0,
-            spare,
-        })
+        let bytes = Vec::from_slice(alloc, bytes)?;
+        let kept = Kept::new(alloc, name, StoredRest { bytes, at: 0 }, calls)?;
+        Ok(Pages { kept, piece })
     }
 
     /// What is left, the box that puts it before others, and how often its reads failed.
@@ -62,14 +48,8 @@ impl Pages {
         ensures rest { result.0 ≡ stored_of self }
         ensures faults { result.2 ≡ read_faults_of self }
     {
-        let Pages {
-            rest,
-            piece: _,
-            calls: _,
-            faults,
-            spare,
-        } = self;
-        (rest, spare, faults)
+        let Pages { kept, piece: _ } = self;
+        (kept.entry, kept.spare, kept.faults)
     }
 }
 
@@ -95,12 +75,9 @@ impl Source for Pages {
         ensures calls { read_calls_of self.new ≡ after_call (read_calls_of self.old) }
         ensures piece { read_piece_of self.new ≡ read_piece_of self.old }
     {
-        let fails = self.calls.next_fails();
-        self.calls.count();
-        if fails {
-            self.faults = self.faults.saturating_add(1);
+        if self.kept.fails() {
             return ReadStep::Failed;
         }
-        self.rest.value.read(self.piece, into)
+        self.kept.entry.value.read(self.piece, into)
     }
 }

@@ -11,7 +11,7 @@ ghost use Rattle.tesla_desk.specs.Outside.{Holds, Opened, OpensLink, OpensPost, 
 ghost use Rattle.tesla_memory_desk.specs.Sure.{nothing_put, sure_clocks_of, sure_faults_of, sure_left_of, sure_letters_left, sure_link_name_of, sure_live_of, sure_page_under, sure_post_name_of, sure_sent_of, sure_sink_name_of, sure_source_name_of, sure_told_by, sure_written_of, with_pages, with_told_readings, with_wires};
 
 use crate::clock_lists::ClockLists;
-use crate::entries::{Entries, Named, newest_under};
+use crate::entries::{Entries, Named, newest_under, put_under};
 use crate::stored::{AskedOpening, StoredPage};
 use crate::stored_letters::{StoredLetters, StoredRemainders};
 use crate::sure_parts::{SurePages, SureRests};
@@ -59,15 +59,11 @@ impl SureDesk {
         ensures err { OnErr result (sure_told_by self.new ≡ sure_told_by self.old) }
         ensures rest { sure_told_by self.new ≡ with_pages (sure_told_by self.new).page (sure_told_by self.old) }
     {
-        let spare = Entries::spare(self.alloc)?;
-        let name = Text::new(self.alloc, name.as_bytes())?;
-        let stored = StoredPage {
+        let page = StoredPage {
             bytes: Vec::from_slice(self.alloc, bytes)?,
             failed: false,
         };
-        let value = Some(stored);
-        self.pages.put(Named { name, value }, spare);
-        Ok(())
+        put_under(&mut self.pages, self.alloc, name, Some(page))
     }
 
     /// Puts a copy of these letters there for links under the name, in the place of what was there.
@@ -78,13 +74,8 @@ impl SureDesk {
         ensures err { OnErr result (sure_told_by self.new ≡ sure_told_by self.old) }
         ensures rest { sure_told_by self.new ≡ with_wires (sure_told_by self.new).live.wire (sure_told_by self.old) }
     {
-        let spare = Entries::spare(self.alloc)?;
-        let wire = Named {
-            name: Text::new(self.alloc, name.as_bytes())?,
-            value: StoredLetters::copy(self.alloc, letters)?,
-        };
-        self.wires.put(wire, spare);
-        Ok(())
+        let letters = StoredLetters::copy(self.alloc, letters)?;
+        put_under(&mut self.wires, self.alloc, name, letters)
     }
 
     /// Puts a copy of these readings there for the clock with this number, counted from 0, in the place of what was there.

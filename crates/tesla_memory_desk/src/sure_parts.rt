@@ -148,8 +148,8 @@ impl Sink for SureSink {
 #[derive(Drop)]
 pub struct SureLink {
     letters: Letters,
-    ghost none_fails: { letters.calls.failing ≡ [] },
-    ghost none_failed: { letters.faults ≡ 0 },
+    ghost none_fails: { letters.kept.calls.failing ≡ [] },
+    ghost none_failed: { letters.kept.faults ≡ 0 },
 }
 
 impl SureLink {

@@ -97,24 +97,6 @@ fn run_apart<R: Threads + Wait + Sync, K: Link, G: Gate, W: Serve + Send>(
     join_mut(rt, &mut serve, &mut hear).1
 }
 
-// Hears the link and serves the queues, one after another.
-fn run_here<R: Threads + Wait + Sync, K: Link, G: Gate, W: Serve + Send>(
-    rt: &R,
-    link: &mut K,
-    gate: &mut G,
-    feeds: &mut [Feed],
-    servers: &mut [W],
-) -> RelayEnd
-    requires feeding { AreFeeding feeds.old }
-    requires serving { AreServing (map W.seen servers.old) }
-    ensures hears { HearsLink result (K.left link.old) (K.left link.new) (K.faults link.old) (K.faults link.new) (K.name link.old) (K.name link.new) feeds.old feeds.new }
-    ensures serves { Each ServesAll (map W.seen servers.old) (map W.seen servers.new) }
-{
-    let end = hear_all(rt, link, gate, feeds, servers);
-    serve_all(rt, servers, 1);
-    end
-}
-
 /// Hears the link to its end and serves all queues to theirs: each in a thread of its own, or, where so many threads
 /// can't be made, here behind each datagram.
 pub fn run_all<R: Threads + Wait + Sync, K: Link, G: Gate, W: Serve + Send>(
@@ -133,6 +115,8 @@ pub fn run_all<R: Threads + Wait + Sync, K: Link, G: Gate, W: Serve + Send>(
     if can_make(rt, servers.len()) {
         run_apart(rt, link, gate, feeds, servers)
     } else {
-        run_here(rt, link, gate, feeds, servers)
+        let end = hear_all(rt, link, gate, feeds, servers);
+        serve_all(rt, servers, 1);
+        end
     }
 }

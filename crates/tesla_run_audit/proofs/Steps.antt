@@ -1,5 +1,5 @@
 -- One entry is judged, and the next one is read.
-use Rattle.std.proofs.Common.{◌≡◌, ◌∙◌, inl, ℕ, zero, suc, ◌+◌, ◌<◌, ◌≤◌, true, false, Option, Some, None, Err, List, [], ◌∷◌, ◌++◌, length, length-append, refl, sym, ap, subst, arith}
+use Rattle.std.proofs.Common.{◌≡◌, ◌∙◌, inl, ℕ, zero, suc, ◌+◌, ◌<◌, ◌≤◌, true, false, Option, Some, None, Err, List, [], ◌∷◌, ◌++◌, length, length-append, refl, sym, ap, subst, subst₂, option_map, arith}
 use Rattle.std.specs.Prelude.{unwrap_or}
 use Rattle.tesla_desk.specs.Faults.{HasCause}
 use Rattle.tesla_desk.specs.Outside.{after_bytes}
@@ -33,6 +33,18 @@ use Rattle.tesla_audit.proofs.Answered.{answer_is}
 use Rattle.tesla_run_audit.specs.Audit.{AuditsBytes, HasEntry, IsAuditCame, audit_of, refuted_line, refuted_text}
 use Rattle.tesla_run_audit.specs.Judging.{IsAt, IsBehind, stop_at}
 use Rattle.tesla_run_audit.proofs.Audited.{has_entry, start_stops, stops, wrong_is}
+
+-- ---- what the head tells
+
+same_head : (head : Option ℕ) → option_map (λ (n : ℕ). n) head ≡ head
+same_head None = refl
+same_head (Some n) = refl
+
+pub moves_head : (place now : ℕ) (before after : Option ℕ) → MovesHead trace place (option_map (λ (n : ℕ). n) before) now (option_map (λ (n : ℕ). n) after) → MovesHead trace place before now after
+moves_head place now before after moves = subst₂ (λ (a b : Option ℕ). MovesHead trace place a now b) (same_head before) (same_head after) moves
+
+pub reads_head : (place now : ℕ) (rest : List ℕ) (after : Option ℕ) → ReadsHead trace place rest now (option_map (λ (n : ℕ). n) after) → ReadsHead trace place rest now after
+reads_head place now rest after reads = subst (λ (a : Option ℕ). ReadsHead trace place rest now a) (same_head after) reads
 
 -- ---- steps
 

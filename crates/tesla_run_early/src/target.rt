@@ -1,17 +1,14 @@
 //! A receiver that accepts promised messages on arrival, as that to which the records of a capture are played.
 
-ghost use Rattle.std.specs.Prelude.{◌≡◌, ◌+◌, ◌^◌, ◌<◌, ◌++◌, ◌∷◌, [], List, length, true, false, Err, IfOk, cond, codes, option_copied, option_map};
+ghost use Rattle.std.specs.Prelude.{◌≡◌, ◌+◌, ◌^◌, ◌<◌, ◌++◌, [], length, true, false, Err, IfOk, cond, codes, option_copied, option_map};
 ghost use Rattle.tesla_capture.specs.Gathering.{gathered, Gathers};
 ghost use Rattle.tesla_desk.specs.Faults.{HasCause};
 ghost use Rattle.tesla_desk.specs.Outside.{AppendsPrefix};
 ghost use Rattle.tesla_frame.specs.Shown.{shown};
 ghost use Rattle.tesla_front.specs.Lines.{count_line};
-ghost use Rattle.tesla_receiver.specs.History.{Arrives, Takes, entry_of, reply_to};
-ghost use Rattle.tesla_receiver.specs.declared.history.Entry.{Entry};
 ghost use Rattle.tesla_early.specs.Early.{message_in};
 ghost use Rattle.tesla_early.specs.Stands.{EarlyStands};
-ghost use Rattle.tesla_early.specs.Counted.{early_in};
-ghost use Rattle.tesla_run_early.specs.Records.{early_record_in, given_text, message_text};
+ghost use Rattle.tesla_run_early.specs.Records.{message_text};
 ghost use Rattle.tesla_run_early.specs.Playing.{promises};
 ghost use Rattle.tesla_run_replay.specs.Arguments.{arguments_of};
 ghost use Rattle.tesla_run_replay.specs.ReportText.{report_text};
@@ -28,7 +25,9 @@ use tesla_early::Early;
 use tesla_frame::{FrameView, read_frame};
 use tesla_front::{Lines, add_count};
 use tesla_receiver::{Report, Take};
-use tesla_run_replay::{Arguments, Capacity, Form, PlayedEvent, Target, add_report, open_receiver};
+use tesla_run_replay::{
+    Arguments, Capacity, Form, PlayedEvent, Target, add_report, open_receiver, put_or_fault,
+};
 
 /// How many promises are kept at most.
 const PROMISES: u32 = 4096;
@@ -75,68 +74,6 @@ fn put_message<O: Sink>(
         }
         // Only a message is early.
         _ => true,
-    }
-}
-
-// Judges a datagram of ingest 0, and gathers the record of its message where it is early. Gives whether it is.
-fn arrive_once<L: Ledger, O: Sink>(
-    early: &mut Early,
-    reading: u64,
-    datagram: &[u8],
-    steps: &mut Steps<L>,
-    gatherer: &mut Gatherer,
-    out: &mut O,
-) -> Result<bool, Halt>
-    requires { early.old.receiver.calls < 2 ^ 56 }
-    ensures config { early.new.receiver.config ≡ early.old.receiver.config }
-    ensures calls { early.new.receiver.calls ≡ early.old.receiver.calls + 1 }
-    ensures most { early.new.promises.most ≡ early.old.promises.most }
-    ensures stands { (h : List Entry) → EarlyStands early.old h → EarlyStands early.new (h ++ entry_of early.old.receiver.config h (Arrives 0 reading datagram.now) ∷ []) }
-    ensures counted { IfOk result (λ counts. (h : List Entry) → EarlyStands early.old h → length (early_in early.old.promises.most h (entry_of early.old.receiver.config h (Arrives 0 reading datagram.now))) ≡ cond counts 1 0) }
-    ensures writes { IfOk result (λ _. (h : List Entry) → EarlyStands early.old h →
-        Gathers (O.written out.old) (O.written out.new) (gathered gatherer.new) (gathered gatherer.old ++ early_record_in early.old.promises.most 0 h (entry_of early.old.receiver.config h (Arrives 0 reading datagram.now)))) }
-    ensures prefix { result ≡ Err Halt.WriteFault → AppendsPrefix (O.written out.old) (O.written out.new) (gathered gatherer.old) }
-    ensures enough { result ≡ Err Halt.NoMemory → ⊥ }
-    ensures cause { HasCause (O.faults out.old) (O.faults out.new) (result ≡ Err Halt.WriteFault) }
-    ensures name { O.name out.new ≡ O.name out.old }
-{
-    let frame = read_frame(datagram);
-    let answer = early.arrive_read(0, reading, datagram, frame.as_ref(), steps);
-    if put_message(gatherer, out, answer.early, frame.as_ref()) {
-        Ok(answer.early)
-    } else {
-        Err(Halt::WriteFault)
-    }
-}
-
-// Takes once for releaser 0, and gathers the record of what was given behind the byte 0. It takes no memory.
-fn take_once<O: Sink>(
-    early: &mut Early,
-    payload: &mut [u8; MOST_PAYLOAD],
-    gatherer: &mut Gatherer,
-    out: &mut O,
-) -> Result<(), Halt>
-    requires { early.old.receiver.calls < 2 ^ 56 }
-    ensures config { early.new.receiver.config ≡ early.old.receiver.config }
-    ensures calls { early.new.receiver.calls ≡ early.old.receiver.calls + 1 }
-    ensures most { early.new.promises.most ≡ early.old.promises.most }
-    ensures stands { (h : List Entry) → EarlyStands early.old h → EarlyStands early.new (h ++ entry_of early.old.receiver.config h (Takes 0) ∷ []) }
-    ensures writes { IfOk result (λ _. (h : List Entry) → EarlyStands early.old h →
-        Gathers (O.written out.old) (O.written out.new) (gathered gatherer.new) (gathered gatherer.old ++ given_text (reply_to early.old.receiver.config h))) }
-    ensures prefix { result ≡ Err Halt.WriteFault → AppendsPrefix (O.written out.old) (O.written out.new) (gathered gatherer.old) }
-    ensures enough { result ≡ Err Halt.NoMemory → ⊥ }
-    ensures cause { HasCause (O.faults out.old) (O.faults out.new) (result ≡ Err Halt.WriteFault) }
-    ensures name { O.name out.new ≡ O.name out.old }
-{
-    match early.take(0, payload) {
-        Take::Given(head) => {
-            if gatherer.put_marked(out, 0, &head, &payload[..head.length as usize]) {
-                Ok(())
-            } else {
-                Err(Halt::WriteFault)
-            }
-        }
-        Take::Empty | Take::Over => Ok(()),
     }
 }
 
@@ -214,15 +151,19 @@ impl Target for EarlyTarget {
     ) -> Result<(), Halt> {
         match event {
             PlayedEvent::Arrival { reading, datagram } => {
-                match arrive_once(&mut self.early, reading, datagram, steps, gatherer, out) {
-                    Ok(early) => {
-                        self.accepted = counted(self.accepted, early);
-                        Ok(())
-                    }
-                    Err(halt) => Err(halt),
-                }
+                let frame = read_frame(datagram);
+                let frame = frame.as_ref();
+                let answer = self.early.arrive_read(0, reading, datagram, frame, steps);
+                self.accepted = counted(self.accepted, answer.early);
+                put_or_fault(put_message(gatherer, out, answer.early, frame))
             }
-            PlayedEvent::Take => take_once(&mut self.early, &mut self.payload, gatherer, out),
+            PlayedEvent::Take => match self.early.take(0, &mut self.payload) {
+                Take::Given(head) => {
+                    let given = &self.payload[..head.length as usize];
+                    put_or_fault(gatherer.put_marked(out, 0, &head, given))
+                }
+                Take::Empty | Take::Over => Ok(()),
+            },
             PlayedEvent::End => {
                 self.early.end(0);
                 Ok(())

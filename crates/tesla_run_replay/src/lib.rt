@@ -18,4 +18,4 @@ pub use forms::REPLAY;
 pub use replay::run_replay;
 pub use report::{add_report, report_lines};
 pub use run::run_played;
-pub use target::{PlayedEvent, Target, open_receiver};
+pub use target::{PlayedEvent, Target, open_receiver, put_or_fault};

@@ -4,10 +4,8 @@ ghost use Rattle.std.specs.Prelude.{◌≡◌, ◌+◌, ◌^◌, ◌<◌, ◌≤
 ghost use Rattle.tesla_capture.specs.Gathering.{gathered, Gathers};
 ghost use Rattle.tesla_desk.specs.Faults.{HasCause};
 ghost use Rattle.tesla_desk.specs.Outside.{AppendsPrefix, with_bytes};
-ghost use Rattle.tesla_receiver.specs.History.{Event, Takes, entry_of, reply_to};
-ghost use Rattle.tesla_replay.specs.Records.{text_given};
+ghost use Rattle.tesla_receiver.specs.History.{Event};
 ghost use Rattle.tesla_receiver.specs.Stands.{Stands};
-ghost use Rattle.tesla_receiver.specs.declared.history.Entry.{Entry};
 ghost use Rattle.tesla_convert.specs.Meaning.{SaysSame};
 ghost use Rattle.tesla_run_replay.specs.Arguments.{IsCapacity, arguments_of, form_of};
 ghost use Rattle.tesla_run_replay.specs.Playing.{EventFits, EventRule, event_of, meaning_by};
@@ -141,34 +139,13 @@ pub fn open_receiver(
     )
 }
 
-// Takes once for releaser 0, and gathers the record of what was given. It takes no memory.
-fn take_once<O: Sink>(
-    receiver: &mut Receiver,
-    payload: &mut [u8; MOST_PAYLOAD],
-    gatherer: &mut Gatherer,
-    out: &mut O,
-) -> Result<(), Halt>
-    requires { receiver.old.calls + 1 < 2 ^ 64 }
-    ensures config { receiver.new.config ≡ receiver.old.config }
-    ensures calls { receiver.new.calls ≡ receiver.old.calls + 1 }
-    ensures stands { (h : List Entry) → Stands receiver.old h → Stands receiver.new (h ++ entry_of receiver.old.config h (Takes 0) ∷ []) }
-    ensures writes { IfOk result (λ _. (h : List Entry) → Stands receiver.old h →
-        Gathers (O.written out.old) (O.written out.new) (gathered gatherer.new) (gathered gatherer.old ++ text_given (reply_to receiver.old.config h))) }
-    ensures prefix { result ≡ Err Halt.WriteFault → AppendsPrefix (O.written out.old) (O.written out.new) (gathered gatherer.old) }
+/// What comes of gathering: `WriteFault` exactly where it failed.
+pub fn put_or_fault(put: bool) -> Result<(), Halt>
+    ensures put { IfOk result (λ _. put ≡ true) }
+    ensures fault { result ≡ Err Halt.WriteFault → put ≡ false }
     ensures enough { result ≡ Err Halt.NoMemory → ⊥ }
-    ensures cause { HasCause (O.faults out.old) (O.faults out.new) (result ≡ Err Halt.WriteFault) }
-    ensures name { O.name out.new ≡ O.name out.old }
 {
-    match receiver.take(0, payload) {
-        Take::Given(head) => {
-            if gatherer.put(out, &head, &payload[..head.length as usize]) {
-                Ok(())
-            } else {
-                Err(Halt::WriteFault)
-            }
-        }
-        Take::Empty | Take::Over => Ok(()),
-    }
+    if put { Ok(()) } else { Err(Halt::WriteFault) }
 }
 
 impl Target for ReceiverTarget {
@@ -229,7 +206,13 @@ impl Target for ReceiverTarget {
                 let _ = self.receiver.arrive(0, reading, datagram, steps);
                 Ok(())
             }
-            PlayedEvent::Take => take_once(&mut self.receiver, &mut self.payload, gatherer, out),
+            PlayedEvent::Take => match self.receiver.take(0, &mut self.payload) {
+                Take::Given(head) => {
+                    let given = &self.payload[..head.length as usize];
+                    put_or_fault(gatherer.put(out, &head, given))
+                }
+                Take::Empty | Take::Over => Ok(()),
+            },
             PlayedEvent::End => {
                 self.receiver.end(0);
                 Ok(())

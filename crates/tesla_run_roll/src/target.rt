@@ -1,15 +1,11 @@
 //! The epochs of a feed, as that to which the records of a capture are played.
 
-ghost use Rattle.std.specs.Prelude.{◌≡◌, ◌+◌, ◌^◌, ◌<◌, ◌≤◌, ◌++◌, ◌∷◌, [], List, ℕ, length, true, Err, IfOk, codes};
+ghost use Rattle.std.specs.Prelude.{◌≡◌, ◌+◌, ◌<◌, ◌≤◌, ◌++◌, [], length, true, Err, IfOk, codes};
 ghost use Rattle.tesla_capture.specs.Gathering.{gathered, Gathers};
 ghost use Rattle.tesla_capture.specs.Release.{marked_text};
 ghost use Rattle.tesla_desk.specs.Faults.{HasCause};
 ghost use Rattle.tesla_desk.specs.Outside.{AppendsPrefix, with_bytes};
 ghost use Rattle.tesla_front.specs.Lines.{count_line};
-ghost use Rattle.tesla_receiver.specs.History.{Event, Takes};
-ghost use Rattle.tesla_rollover.specs.Epochs.{roll_entry_of};
-ghost use Rattle.tesla_rollover.specs.History.{RollEntry};
-ghost use Rattle.tesla_run_roll.specs.Played.{roll_record_in};
 ghost use Rattle.tesla_rollover.specs.Replies.{had_memory};
 ghost use Rattle.tesla_rollover.specs.Stands.{RollStands};
 
@@ -61,36 +57,6 @@ fn put_given<O: Sink>(
         Err(Halt::NoMemory)
     } else {
         Err(Halt::WriteFault)
-    }
-}
-
-// Takes once for releaser 0, and gathers the record of what was given.
-fn take_once<O: Sink>(
-    alloc: Global,
-    rollover: &mut Rollover,
-    payload: &mut [u8; MOST_PAYLOAD],
-    gatherer: &mut Gatherer,
-    out: &mut O,
-) -> Result<(), Halt>
-    requires { rollover.old.calls < 2 ^ 56 }
-    ensures config { rollover.new.config ≡ rollover.old.config }
-    ensures calls { rollover.new.calls ≡ rollover.old.calls + 1 }
-    ensures stands { IfOk result (λ _. (h : List RollEntry) → RollStands rollover.old h → RollStands rollover.new (h ++ roll_entry_of rollover.old.config h true (Takes 0) ∷ [])) }
-    ensures writes { IfOk result (λ _. (h : List RollEntry) → RollStands rollover.old h →
-        Gathers (O.written out.old) (O.written out.new) (gathered gatherer.new) (gathered gatherer.old ++ roll_record_in 0 (roll_entry_of rollover.old.config h true (Takes 0)))) }
-    ensures halts { result ≡ Err Halt.WriteFault → (h : List RollEntry) → RollStands rollover.old h →
-        AppendsPrefix (O.written out.old) (O.written out.new) (gathered gatherer.old ++ roll_record_in 0 (roll_entry_of rollover.old.config h true (Takes 0))) }
-    ensures wants { result ≡ Err Halt.NoMemory → (gathered gatherer.new ≡ []) × ((h : List RollEntry) → RollStands rollover.old h →
-        O.written out.new ≡ with_bytes (O.written out.old) (gathered gatherer.old ++ roll_record_in 0 (roll_entry_of rollover.old.config h true (Takes 0)))) }
-    ensures cause { HasCause (O.faults out.old) (O.faults out.new) (result ≡ Err Halt.WriteFault) }
-    ensures name { O.name out.new ≡ O.name out.old }
-{
-    match rollover.take(alloc, 0, payload) {
-        RollTake::Given { epoch, head, next } => {
-            let given = &payload[..head.length as usize];
-            put_given(gatherer, out, epoch, &head, given, next)
-        }
-        RollTake::Empty | RollTake::Over => Ok(()),
     }
 }
 
@@ -161,13 +127,13 @@ impl Target for RolloverTarget {
                 let _ = self.rollover.arrive(0, reading, datagram, steps);
                 Ok(())
             }
-            PlayedEvent::Take => take_once(
-                self.alloc,
-                &mut self.rollover,
-                &mut self.payload,
-                gatherer,
-                out,
-            ),
+            PlayedEvent::Take => match self.rollover.take(self.alloc, 0, &mut self.payload) {
+                RollTake::Given { epoch, head, next } => {
+                    let given = &self.payload[..head.length as usize];
+                    put_given(gatherer, out, epoch, &head, given, next)
+                }
+                RollTake::Empty | RollTake::Over => Ok(()),
+            },
             PlayedEvent::End => {
                 self.rollover.end(0);
                 Ok(())

@@ -1,13 +1,13 @@
 //! The lines of entries.
 
-ghost use Rattle.std.specs.Prelude.{◌≡◌, ◌+◌, ◌<◌, ◌≤◌, ◌++◌, decimal, length};
+ghost use Rattle.std.specs.Prelude.{◌≡◌, ◌+◌, ◌<◌, ◌≤◌, ◌++◌};
 ghost use Rattle.arrayvec.specs.ArrayString.{array_string_len};
 ghost use Rattle.tesla_frame.specs.Reading.{frame_of};
 ghost use Rattle.tesla_trace.specs.Entries.{IsEntry, entry_in};
 ghost use Rattle.tesla_run_show.specs.Lines.{entry_line, entry_words, frame_words, name_words};
 
 use itoa::Buffer;
-use tesla_audit::{add_reply, add_verdict};
+use tesla_audit::{add_number, add_reply, add_verdict};
 use tesla_base::Name;
 use tesla_frame::{FrameView, read_frame};
 use tesla_front::Lines;
@@ -35,18 +35,6 @@ fn add_frame(line: &mut Lines, bytes: &[u8])
         Some(FrameView::Data(view)) => add_name(line, view.name()),
         _ => line.push_str("-"),
     }
-}
-
-// Adds a word of at most 8 bytes, and a number. These are at most 28 bytes.
-fn add_number(line: &mut Lines, word: &str, number: u64)
-    requires short { length word.now ≤ 8 }
-    requires room { array_string_len line.old + 28 ≤ 2048 }
-    ensures text { line.new.bytes ≡ line.old.bytes ++ (word.now ++ decimal number) }
-    ensures few { array_string_len line.new ≤ array_string_len line.old + 28 }
-{
-    let mut digits = Buffer::new();
-    line.push_str(word);
-    line.push_str(digits.format(number));
 }
 
 // Adds what is told of an entry.

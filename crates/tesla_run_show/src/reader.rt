@@ -132,7 +132,7 @@ impl EntryReader for TailReader {
     ghost kinds = { kind_again };
 
     fn first(&self) -> u64 {
-        match TailReader::first(self) {
+        match TailReader::head(self) {
             Some(first) => first,
             None => 0,
         }

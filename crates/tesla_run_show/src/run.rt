@@ -30,7 +30,7 @@ fn list_file<S: Source, O: Sink>(source: &mut S, gatherer: &mut Gatherer, consol
     let mut trace = TraceReader::new();
     let listed = list_entries(&mut trace, source, gatherer, console);
     if is_headless(listed) {
-        let mut tail = TailReader::of_trace(trace);
+        let mut tail: TailReader = trace.as_format();
         list_entries(&mut tail, source, gatherer, console)
     } else {
         listed

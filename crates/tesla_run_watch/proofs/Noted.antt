@@ -53,21 +53,8 @@ falls_at before now falls = record {
   given = falls 10;
 }
 
-falls_not : (report : Report) → NoneFall report report
-falls_not report = record {
-  arrivals = omega arith;
-  malformed = omega arith;
-  foreign = omega arith;
-  misfit = omega arith;
-  future = omega arith;
-  badkey = omega arith;
-  late = omega arith;
-  repeat = omega arith;
-  full = omega arith;
-  kept = omega arith;
-  keys = omega arith;
-  given = omega arith;
-}
+falls_not : (counts : List ℕ) → NoneFall (report_at counts) (report_at counts)
+falls_not counts = falls_at counts counts (λ place. omega arith)
 
 -- ---- one line more
 
@@ -130,7 +117,7 @@ notes_more earlier counts time before old new first faults count true is noted f
 notes_more earlier counts time before old new first faults count false is noted falls puts = record {
   lines = lines_more earlier counts time before old first faults false noted;
   follow = follows earlier counts time before old first faults false noted falls;
-  within = subst (λ (report : Report). NoneFall report (report_at counts)) (sym (behind_more no_report noted.lines (line_at time counts))) (falls_not (report_at counts));
+  within = subst (λ (report : Report). NoneFall report (report_at counts)) (sym (behind_more no_report noted.lines (line_at time counts))) (falls_not counts);
   all = λ no. written_more earlier counts time before old new first faults count noted (puts.all no).1;
   prefix = prefix_more earlier counts time before old new first faults count noted (puts.prefix refl);
   cause = caused earlier counts time before old new first faults count noted is (puts.cause refl);
@@ -168,7 +155,7 @@ pub notes_none : (before : Option (List ℕ)) (faults : ℕ) → Notes no_counts
 notes_none before faults = record {
   lines = [];
   follow = tt;
-  within = falls_not no_report;
+  within = falls_not [];
   all = λ none. appends_none before;
   prefix = prefix_none before [];
   cause = cause_none faults faults refl (λ e. absurd cc);

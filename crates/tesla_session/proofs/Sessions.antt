@@ -6,7 +6,7 @@ use Rattle.tesla_desk.specs.Outside.{Told}
 use Rattle.tesla_front.specs.declared.fault.Fault.{Fault}
 use Rattle.tesla_turn.specs.Held.{TurnId, first_pass, left_of, next_pass}
 use Rattle.tesla_session.specs.Wanted.{Wanted, WantedLink, WantedSink, links_wanted, sinks_wanted, wanted_for}
-use Rattle.tesla_session.specs.Session.{PassSeen, LinkSeen, SinkSeen, Seen, SeenLink, SeenSink, pass_of, AreOf, HaveCalls, OpensWorker, OpensWorkers, RunWorkers, ClosesWorkers, OpensLinks, OpensSinks, OpensAll, RefusedSession, calls_most, workers_of}
+use Rattle.tesla_session.specs.Session.{PassSeen, LinkSeen, SinkSeen, Seen, SeenLink, SeenSink, pass_of, AreOf, HaveCalls, OpensWorker, OpensWorkers, RunWorkers, ClosesWorkers, OpensMore, OpensAll, RefusedSession, calls_most, workers_of}
 
 wants_links : (number : ℕ) (names : List (List ℕ)) → length (links_wanted number names) ≡ length names
 wants_links number [] = refl
@@ -169,13 +169,13 @@ module _ {C : Type 0} where
       omega (arith, one, opens_room others mid now middle later ws opened)
 
   -- the links were opened, and there is room for the sinks
-  pub room_left : (names : List (List ℕ)) (before now : Told) (first later : PassSeen C) (old new : List (LinkSeen C)) (sinks : ℕ) → OpensLinks 0 names before now first later old new (Ok tt) → length names + sinks ≤ first.room → sinks ≤ later.room
+  pub room_left : (names : List (List ℕ)) (before now : Told) (first later : PassSeen C) (old new : List (LinkSeen C)) (sinks : ℕ) → OpensMore SeenLink WantedLink 0 names before now first later old new (Ok tt) → length names + sinks ≤ first.room → sinks ≤ later.room
   room_left names before now first later old new sinks (workers, are, opens) room =
       omega (arith, room, wants_links 0 names, opens_room (links_wanted 0 names) before now first later (map SeenLink workers) opens)
 
   -- the links were opened, and then of the sinks what came of it
   pub opens_links_sinks : (links sinks : List (List ℕ)) (before mid now : Told) (first middle later : PassSeen C) (olds news : List (LinkSeen C)) (old new : List (SinkSeen C)) (result : Result (Unit {0}) Fault) → olds ≡ [] → old ≡ []
-      → OpensLinks 0 links before mid first middle olds news (Ok tt) → OpensSinks 0 sinks mid now middle later old new result → OpensWorkers (links_wanted 0 links ++ sinks_wanted 0 sinks) before now first later (workers_of news new) result
+      → OpensMore SeenLink WantedLink 0 links before mid first middle olds news (Ok tt) → OpensMore SeenSink WantedSink 0 sinks mid now middle later old new result → OpensWorkers (links_wanted 0 links ++ sinks_wanted 0 sinks) before now first later (workers_of news new) result
   opens_links_sinks links sinks before mid now first middle later olds news old new result none nothing (workers, are, opens) (others, are_others, opened) =
       let first_are : news ≡ workers = are ∙ ap (λ (ws : List (LinkSeen C)). ws ++ workers) none in
       let last_are : new ≡ others = are_others ∙ ap (λ (ws : List (SinkSeen C)). ws ++ others) nothing in
@@ -185,7 +185,7 @@ module _ {C : Type 0} where
 
   -- a link wasn't opened
   pub opens_no_more : (links sinks : List (List ℕ)) (before now : Told) (first later : PassSeen C) (olds news : List (LinkSeen C)) (old : List (SinkSeen C)) (fault : Fault) → olds ≡ [] → old ≡ []
-      → OpensLinks 0 links before now first later olds news (Err fault) → OpensWorkers (links_wanted 0 links ++ sinks_wanted 0 sinks) before now first later (workers_of news old) (Err fault)
+      → OpensMore SeenLink WantedLink 0 links before now first later olds news (Err fault) → OpensWorkers (links_wanted 0 links ++ sinks_wanted 0 sinks) before now first later (workers_of news old) (Err fault)
   opens_no_more links sinks before now first later olds news old fault none nothing (workers, are, opens) =
       let first_are : news ≡ workers = are ∙ ap (λ (ws : List (LinkSeen C)). ws ++ workers) none in
       subst (λ (ws : List (LinkSeen C)). OpensWorkers (links_wanted 0 links ++ sinks_wanted 0 sinks) before now first later (workers_of ws old) (Err fault)) (sym first_are)

@@ -20,7 +20,7 @@ use Rattle.tesla_shared.specs.declared.ingesting.LinkEnd.{LinkEnd}
 use Rattle.tesla_shared.specs.declared.ingesting.LinkEnd.TheVariants as link_ends
 use Rattle.tesla_turn.specs.Held.{Held, Ended, TurnId, OnlyCalls, first_pass, next_pass, left_of}
 use Rattle.tesla_turn.specs.History.{HasCalls, longer}
-use Rattle.tesla_session.specs.Wanted.{Wanted, WantedLink, WantedSink, links_wanted, sinks_wanted}
+use Rattle.tesla_session.specs.Wanted.{Wanted, WantedLink, WantedSink, wanted_from}
 
 -- a pass of a turn over a station with a configuration of this type
 abbrev pub PassSeen : Type 0 → Type 0
@@ -163,15 +163,10 @@ module _ {C : Type 0} where
       ⊎ ((worker : Seen C) × (rest : List (Seen C)) × (mid : Told) × (middle : PassSeen C) × (workers ≡ worker ∷ rest)
       × OpensWorker wanted before mid first middle worker × OpensWorkers others mid now middle later rest result)
 
-  -- the workers of these links were opened, numbered from the first argument on, and put behind the others
-  abbrev pub OpensLinks : ℕ → List (List ℕ) → Told → Told → PassSeen C → PassSeen C → List (LinkSeen C) → List (LinkSeen C) → Result (Unit {0}) Fault → Type 0
-  OpensLinks ingest names before now first later old new result =
-      (workers : List (LinkSeen C)) × (new ≡ old ++ workers) × OpensWorkers (links_wanted ingest names) before now first later (map SeenLink workers) result
-
-  -- the same of sinks
-  abbrev pub OpensSinks : ℕ → List (List ℕ) → Told → Told → PassSeen C → PassSeen C → List (SinkSeen C) → List (SinkSeen C) → Result (Unit {0}) Fault → Type 0
-  OpensSinks releaser names before now first later old new result =
-      (workers : List (SinkSeen C)) × (new ≡ old ++ workers) × OpensWorkers (sinks_wanted releaser names) before now first later (map SeenSink workers) result
+  -- the workers that are wanted so under these names were opened, numbered from the number on, and put behind the others
+  abbrev pub OpensMore : {X : Type 0} → (X → Seen C) → (ℕ → List ℕ → Wanted) → ℕ → List (List ℕ) → Told → Told → PassSeen C → PassSeen C → List X → List X → Result (Unit {0}) Fault → Type 0
+  OpensMore {X} seen wanted number names before now first later old new result =
+      (workers : List X) × (new ≡ old ++ workers) × OpensWorkers (wanted_from wanted number names) before now first later (map seen workers) result
 
   -- ---- running
 

@@ -7,15 +7,17 @@ pub data Wanted : Type 0 where
   WantedLink : (ingest : ℕ) (name : List ℕ) → Wanted
   WantedSink : (releaser : ℕ) (name : List ℕ) → Wanted
 
--- a worker for each link, numbered from the first argument on
-abbrev pub links_wanted : ℕ → List (List ℕ) → List Wanted
-links_wanted number [] = []
-links_wanted number (name ∷ names) = WantedLink number name ∷ links_wanted (suc number) names
+-- a worker for each name, numbered from the second argument on
+abbrev pub wanted_from : (ℕ → List ℕ → Wanted) → ℕ → List (List ℕ) → List Wanted
+wanted_from wanted number [] = []
+wanted_from wanted number (name ∷ names) = wanted number name ∷ wanted_from wanted (suc number) names
 
--- a worker for each sink, numbered from the first argument on
+-- a worker for each link, and one for each sink
+abbrev pub links_wanted : ℕ → List (List ℕ) → List Wanted
+links_wanted = wanted_from WantedLink
+
 abbrev pub sinks_wanted : ℕ → List (List ℕ) → List Wanted
-sinks_wanted number [] = []
-sinks_wanted number (name ∷ names) = WantedSink number name ∷ sinks_wanted (suc number) names
+sinks_wanted = wanted_from WantedSink
 
 -- the workers for links and sinks under these names: of the links, and then of the sinks
 abbrev pub wanted_for : List (List ℕ) → List (List ℕ) → List Wanted

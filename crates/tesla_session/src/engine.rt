@@ -11,7 +11,7 @@ ghost use Rattle.tesla_session.specs.Session.{AreOf, ClosesWorkers, HaveCalls, O
 
 use crate::beside::Beside;
 use crate::running::run_workers;
-use crate::session::{Links, Sinks, close_links, close_sinks, open_links, open_sinks};
+use crate::session::{Links, Sinks, close_each, open_each};
 use crate::stop::stop_in;
 use std::alloc::Global;
 use std::sync::Wait;
@@ -95,8 +95,8 @@ fn open_all<D: Desk, V: Station>(
         links: hearing,
         sinks: writing,
     } = session;
-    match open_links(desk, links.as_slice(), 0, turn, first, hearing) {
-        Ok(()) => open_sinks(desk, sinks.as_slice(), 0, turn, first, writing),
+    match open_each(desk, links.as_slice(), 0, turn, first, hearing) {
+        Ok(()) => open_each(desk, sinks.as_slice(), 0, turn, first, writing),
         Err(fault) => Err(fault),
     }
 }
@@ -163,9 +163,9 @@ fn close_workers<D: Desk, V: Station>(desk: &mut D, session: Session<D, V>) -> (
         mut links,
         mut sinks,
     } = session;
-    close_sinks(desk, &turn, &mut first, &mut sinks);
+    close_each(desk, &turn, &mut first, &mut sinks);
     sinks.destroy_empty();
-    close_links(desk, &turn, &mut first, &mut links);
+    close_each(desk, &turn, &mut first, &mut links);
     links.destroy_empty();
     (turn, first)
 }

@@ -20,53 +20,25 @@ both_named : (version : Version) (rest words : List (List ℕ)) (old new : Told)
 both_named One rest words old new came spelled runs = as_spelled command_of words _ old new came spelled runs
 both_named Two rest words old new came spelled runs = as_spelled command_of words _ old new came spelled runs
 
-pub returns-clause-replays : goal.returns-clause-replays
-returns-clause-replays c arguments words old new came is runs =
-    (as_spelled command_of words _ old new came is.spelled runs).form arguments is
+pub returns-clause-commands : goal.returns-clause-commands
+returns-clause-commands c = (
+  λ arguments words old new came is runs. (as_spelled command_of words _ old new came is.spelled runs).form arguments is,
+  λ arguments words old new came is runs. (both_named arguments.version _ words old new came is.spelled runs).form arguments is,
+  λ arguments words old new came is runs. (as_spelled command_of words _ old new came is.spelled runs).form arguments is,
+  λ arguments words old new came is runs. (as_spelled command_of words _ old new came is.spelled runs).form arguments is,
+  λ arguments words old new came is runs. (as_spelled command_of words _ old new came is.spelled runs).form arguments is,
+  λ arguments words old new came is runs. (as_spelled command_of words _ old new came is.spelled runs).form arguments is,
+  λ arguments words old new came is runs. (as_spelled command_of words _ old new came is.spelled runs).form arguments is,
+  λ arguments words old new came is runs. (as_spelled command_of words _ old new came is.spelled runs).form arguments is,
+  λ arguments words old new came is runs. (as_spelled command_of words _ old new came is.spelled runs).form arguments is,
+  λ arguments words old new came is runs. (as_spelled command_of words _ old new came is.spelled runs).form arguments is,
+)
 
-pub returns-clause-chains : goal.returns-clause-chains
-returns-clause-chains c arguments words old new came is runs =
-    (both_named arguments.version _ words old new came is.spelled runs).form arguments is
-
-pub returns-clause-sends : goal.returns-clause-sends
-returns-clause-sends c arguments words old new came is runs =
-    (as_spelled command_of words _ old new came is.spelled runs).form arguments is
-
-pub returns-clause-lags : goal.returns-clause-lags
-returns-clause-lags c arguments words old new came is runs =
-    (as_spelled command_of words _ old new came is.spelled runs).form arguments is
-
-pub returns-clause-stresses : goal.returns-clause-stresses
-returns-clause-stresses c arguments words old new came is runs =
-    (as_spelled command_of words _ old new came is.spelled runs).form arguments is
-
-pub returns-clause-rolls : goal.returns-clause-rolls
-returns-clause-rolls c arguments words old new came is runs =
-    (as_spelled command_of words _ old new came is.spelled runs).form arguments is
-
-pub returns-clause-weaves : goal.returns-clause-weaves
-returns-clause-weaves c arguments words old new came is runs =
-    (as_spelled command_of words _ old new came is.spelled runs).form arguments is
-
-pub returns-clause-earlies : goal.returns-clause-earlies
-returns-clause-earlies c arguments words old new came is runs =
-    (as_spelled command_of words _ old new came is.spelled runs).form arguments is
-
-pub returns-clause-traces : goal.returns-clause-traces
-returns-clause-traces c arguments words old new came is runs =
-    (as_spelled command_of words _ old new came is.spelled runs).form arguments is
-
-pub returns-clause-audits : goal.returns-clause-audits
-returns-clause-audits c arguments words old new came is runs =
-    (as_spelled command_of words _ old new came is.spelled runs).form arguments is
-
-pub returns-clause-asks : goal.returns-clause-asks
-returns-clause-asks c arguments words old new came is runs =
-    (as_spelled tool_of words _ old new came is.spelled runs).form arguments is
-
-pub returns-clause-replies : goal.returns-clause-replies
-returns-clause-replies c arguments words old new came is runs =
-    (as_spelled tool_of words _ old new came is.spelled runs).form arguments is
+pub returns-clause-tools : goal.returns-clause-tools
+returns-clause-tools c = (
+  λ arguments words old new came is runs. (as_spelled tool_of words _ old new came is.spelled runs).form arguments is,
+  λ arguments words old new came is runs. (as_spelled tool_of words _ old new came is.spelled runs).form arguments is,
+)
 
 shown : (arguments : ShowArguments) (words : List (List ℕ)) (old new : Told) (came : Came) → IsShowForm arguments words
     → RunsPrinting show tool_usage words old new came → HasNoConsole old new came ⊎ IsPrintedAs show arguments tool_usage old new came

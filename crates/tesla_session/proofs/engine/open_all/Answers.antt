@@ -5,32 +5,32 @@ use Rattle.tesla_session.specs.Session.{OpensWorkers, SeenLink, name_of, workers
 use Rattle.tesla_session.proofs.Sessions.{opens_links_sinks, opens_no_more, opens_same, room_left}
 use Rattle.tesla_session.proofs.engine.open_all.Goals as goal
 
-pub open_sinks-requires-clause-own : goal.open_sinks-requires-clause-own
-open_sinks-requires-clause-own g c κs within =
+pub open_each-requires-in-Ok-clause-own : goal.open_each-requires-in-Ok-clause-own
+open_each-requires-in-Ok-clause-own g c κs within =
     let opened = c.in-Ok.ensures in
-    (opens_same (links_wanted 0 (map name_of c.as_slice.result.now)) (g.D.Desk.told c.args.desk.now) (g.D.Desk.told c.open_links.new.desk) c.args.session.now.first c.open_links.new.first (map SeenLink opened.0) (Ok tt) opened.2).turn ∙ c.requires.own
+    (opens_same (links_wanted 0 (map name_of c.as_slice.result.now)) (g.D.Desk.told c.args.desk.now) (g.D.Desk.told c.open_each.new.desk) c.args.session.now.first c.open_each.new.first (map SeenLink opened.0) (Ok tt) opened.2).turn ∙ c.requires.own
 
-pub open_sinks-requires-clause-room : goal.open_sinks-requires-clause-room
-open_sinks-requires-clause-room g c κs within =
+pub open_each-requires-in-Ok-clause-room : goal.open_each-requires-in-Ok-clause-room
+open_each-requires-in-Ok-clause-room g c κs within =
     let links : length (map name_of c.as_slice.result.now) ≡ length c.args.links.now = ap length c.as_slice.ensures in
     let sinks : length (map name_of c.as_slice-in-Ok.result.now) ≡ length c.args.sinks.now = ap length c.as_slice-in-Ok.ensures in
-    omega (arith, length-map c.as_slice-in-Ok.result.now name_of, sinks, room_left (map name_of c.as_slice.result.now) (g.D.Desk.told c.args.desk.now) (g.D.Desk.told c.open_links.new.desk) c.args.session.now.first c.open_links.new.first c.args.session.now.links.items c.open_links.new.workers.items (length c.args.sinks.now) c.in-Ok.ensures (omega (arith, links, c.requires.room)))
+    omega (arith, length-map c.as_slice-in-Ok.result.now name_of, sinks, room_left (map name_of c.as_slice.result.now) (g.D.Desk.told c.args.desk.now) (g.D.Desk.told c.open_each.new.desk) c.args.session.now.first c.open_each.new.first c.args.session.now.links.items c.open_each.new.workers.items (length c.args.sinks.now) c.in-Ok.ensures (omega (arith, links, c.requires.room)))
 
 pub returns-in-Ok-clause-opens : goal.returns-in-Ok-clause-opens
 returns-in-Ok-clause-opens g c =
     let old = g.D.Desk.told c.args.desk.now in
-    let new = g.D.Desk.told c.open_sinks.new.desk in
+    let new = g.D.Desk.told c.open_each-in-Ok.new.desk in
     let session = c.args.session.now in
-    let workers = workers_of c.open_links.new.workers.items c.open_sinks.new.workers.items in
-    subst (λ (links : List (List ℕ)). OpensWorkers (links_wanted 0 links ++ sinks_wanted 0 c.args.sinks.now) old new session.first c.open_sinks.new.first workers c.open_sinks.result) c.as_slice.ensures
-    (subst (λ (sinks : List (List ℕ)). OpensWorkers (links_wanted 0 (map name_of c.as_slice.result.now) ++ sinks_wanted 0 sinks) old new session.first c.open_sinks.new.first workers c.open_sinks.result) c.as_slice-in-Ok.ensures
-    (opens_links_sinks (map name_of c.as_slice.result.now) (map name_of c.as_slice-in-Ok.result.now) old (g.D.Desk.told c.open_links.new.desk) new session.first c.open_links.new.first c.open_sinks.new.first session.links.items c.open_links.new.workers.items session.sinks.items c.open_sinks.new.workers.items c.open_sinks.result c.requires.links.0 c.requires.sinks.0 c.in-Ok.ensures c.open_sinks.ensures))
+    let workers = workers_of c.open_each.new.workers.items c.open_each-in-Ok.new.workers.items in
+    subst (λ (links : List (List ℕ)). OpensWorkers (links_wanted 0 links ++ sinks_wanted 0 c.args.sinks.now) old new session.first c.open_each-in-Ok.new.first workers c.open_each-in-Ok.result) c.as_slice.ensures
+    (subst (λ (sinks : List (List ℕ)). OpensWorkers (links_wanted 0 (map name_of c.as_slice.result.now) ++ sinks_wanted 0 sinks) old new session.first c.open_each-in-Ok.new.first workers c.open_each-in-Ok.result) c.as_slice-in-Ok.ensures
+    (opens_links_sinks (map name_of c.as_slice.result.now) (map name_of c.as_slice-in-Ok.result.now) old (g.D.Desk.told c.open_each.new.desk) new session.first c.open_each.new.first c.open_each-in-Ok.new.first session.links.items c.open_each.new.workers.items session.sinks.items c.open_each-in-Ok.new.workers.items c.open_each-in-Ok.result c.requires.links.0 c.requires.sinks.0 c.in-Ok.ensures c.open_each-in-Ok.ensures))
 
 pub returns-in-Err-clause-opens : goal.returns-in-Err-clause-opens
 returns-in-Err-clause-opens g c =
     let old = g.D.Desk.told c.args.desk.now in
-    let new = g.D.Desk.told c.open_links.new.desk in
+    let new = g.D.Desk.told c.open_each.new.desk in
     let session = c.args.session.now in
-    let workers = workers_of c.open_links.new.workers.items session.sinks.items in
-    subst (λ (links : List (List ℕ)). OpensWorkers (links_wanted 0 links ++ sinks_wanted 0 c.args.sinks.now) old new session.first c.open_links.new.first workers (Err c.in-Err.fault)) c.as_slice.ensures
-    (opens_no_more (map name_of c.as_slice.result.now) c.args.sinks.now old new session.first c.open_links.new.first session.links.items c.open_links.new.workers.items session.sinks.items c.in-Err.fault c.requires.links.0 c.requires.sinks.0 c.in-Err.ensures)
+    let workers = workers_of c.open_each.new.workers.items session.sinks.items in
+    subst (λ (links : List (List ℕ)). OpensWorkers (links_wanted 0 links ++ sinks_wanted 0 c.args.sinks.now) old new session.first c.open_each.new.first workers (Err c.in-Err.fault)) c.as_slice.ensures
+    (opens_no_more (map name_of c.as_slice.result.now) c.args.sinks.now old new session.first c.open_each.new.first session.links.items c.open_each.new.workers.items session.sinks.items c.in-Err.fault c.requires.links.0 c.requires.sinks.0 c.in-Err.ensures)
