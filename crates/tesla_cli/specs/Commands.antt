@@ -10,29 +10,29 @@ use Rattle.tesla_front.specs.Table.{command_in, is_named, where_named}
 use Rattle.tesla_front.specs.Usage.{usage_line}
 use Rattle.tesla_run_ask.specs.Asking.{ask}
 use Rattle.tesla_run_ask.specs.Replying.{reply}
-use Rattle.tesla_run_ask.specs.Usage as asks
+use Rattle.tesla_run_ask.specs.Arguments as asks
 use Rattle.tesla_run_audit.specs.Audit.{audit}
-use Rattle.tesla_run_audit.specs.Usage as audits
+use Rattle.tesla_run_audit.specs.Arguments as audits
 use Rattle.tesla_run_chain.specs.Chain.{chain}
 use Rattle.tesla_run_chain.specs.Usage as chains
 use Rattle.tesla_run_early.specs.Early.{early}
 use Rattle.tesla_run_early.specs.Usage as earlies
 use Rattle.tesla_run_lag.specs.Lag.{lag}
-use Rattle.tesla_run_lag.specs.Usage as lags
+use Rattle.tesla_run_lag.specs.Arguments as lags
 use Rattle.tesla_run_replay.specs.Replay.{replay}
 use Rattle.tesla_run_replay.specs.Usage as replays
 use Rattle.tesla_run_roll.specs.Roll.{roll}
 use Rattle.tesla_run_roll.specs.Usage as rolls
 use Rattle.tesla_run_send.specs.Send.{send}
-use Rattle.tesla_run_send.specs.Usage as sends
+use Rattle.tesla_run_send.specs.Arguments as sends
 use Rattle.tesla_run_show.specs.Show.{show}
-use Rattle.tesla_run_show.specs.Usage as shows
+use Rattle.tesla_run_show.specs.Arguments as shows
 use Rattle.tesla_run_stress.specs.Stress.{stress}
-use Rattle.tesla_run_stress.specs.Usage as stresses
+use Rattle.tesla_run_stress.specs.Arguments as stresses
 use Rattle.tesla_run_trace.specs.Trace.{trace}
 use Rattle.tesla_run_trace.specs.Usage as traces
 use Rattle.tesla_run_weave.specs.Weave.{weave}
-use Rattle.tesla_run_weave.specs.Usage as weaves
+use Rattle.tesla_run_weave.specs.Arguments as weaves
 
 -- words that are a form of a command are run as that command, told the command of any words
 abbrev pub NamesForms : (List (List ℕ) → Command) → Command → Type 0

@@ -9,17 +9,17 @@ use Rattle.tesla_front.specs.Table.{IsFirst, RunsLeaving, RunsTable, command_in,
 use Rattle.tesla_front.specs.Usage.{usage_line}
 use Rattle.tesla_receiver.specs.declared.history.Entry.{Entry}
 use Rattle.tesla_run_capture.specs.Capture.{capture}
-use Rattle.tesla_run_capture.specs.Usage as capturing
+use Rattle.tesla_run_capture.specs.Arguments as capturing
 use Rattle.tesla_run_feed.specs.Feeding.{feed}
-use Rattle.tesla_run_feed.specs.Usage as feeding
+use Rattle.tesla_run_feed.specs.Arguments as feeding
 use Rattle.tesla_run_play.specs.Playing.{play}
-use Rattle.tesla_run_play.specs.Usage as playing
+use Rattle.tesla_run_play.specs.Arguments as playing
 use Rattle.tesla_run_receive.specs.Receive.{receive}
 use Rattle.tesla_run_receive.specs.Usage as receiving
 use Rattle.tesla_run_record.specs.Record.{recording}
 use Rattle.tesla_run_record.specs.Usage as records
 use Rattle.tesla_run_relay.specs.Relay.{relay}
-use Rattle.tesla_run_relay.specs.Usage as relaying
+use Rattle.tesla_run_relay.specs.Arguments as relaying
 use Rattle.tesla_run_watch.specs.Usage as watches
 use Rattle.tesla_run_watch.specs.Watch.{watching}
 use Rattle.tesla_turn.specs.Held.{Ended}

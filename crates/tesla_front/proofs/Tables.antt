@@ -8,6 +8,7 @@ use Rattle.tesla_desk.specs.Live.{Live}
 use Rattle.tesla_desk.specs.Outside.{Told}
 use Rattle.tesla_front.specs.Came.{Came, outcome_came, status_of}
 use Rattle.tesla_front.specs.Command.{Command, IsNoForm, RunsAs}
+use Rattle.tesla_front.specs.Forms.{HasFirst, WordIs}
 use Rattle.tesla_front.specs.Parts.{texts_of}
 use Rattle.tesla_front.specs.Run.{HasStatusCauses, Runs}
 use Rattle.tesla_front.specs.Table.{IsFirst, RunsConsole, RunsLeaving, RunsTable, is_named}
@@ -35,6 +36,10 @@ pub first_is : {A : Type 0} (f : A → List ℕ) (name : List ℕ) (xs : List A)
     → first ≡ get_or xs 0 first → word ≡ f first → test ≡ bytes_eq word name → test ≡ true → IsFirst name (map f xs)
 first_is f name [] first word test some is same tests passed = absurd (omega arith)
 first_is f name (x ∷ xs) first word test some is same tests passed = sym (same ∙ ap f is) ∙ (bytes_eq-Decides word name).0 (sym tests ∙ passed)
+
+-- words of a form begin with its name
+pub begins_with_name : {Others : List (List ℕ) → Type 0} (name : List ℕ) (words : List (List ℕ)) (is : HasFirst (WordIs name) Others words) → words ≡ name ∷ is.others
+begins_with_name name words is = is.are ∙ ap (λ (word : List ℕ). word ∷ is.others) is.first
 
 -- words that are spelled so were run as the command of such words
 pub as_spelled : (command : List (List ℕ) → Command) (words spelled : List (List ℕ)) (old new : Told) (came : Came) → words ≡ spelled

@@ -8,6 +8,7 @@ pub mod Usage
 pub mod Words
 pub mod Openings
 pub mod Files
+pub mod Forms
 pub mod Fault
 pub mod Refusal
 pub mod Lines

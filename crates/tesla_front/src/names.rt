@@ -3,10 +3,11 @@
 ghost use Rattle.std.specs.Prelude.{◌≡◌, ◌<◌, ◌≤◌, ◌++◌, ◌∷◌, [], ℕ, List, Some, IfSome, true, false, map, length, option_map};
 ghost use Rattle.std.specs.List.{slice_split};
 ghost use Rattle.tesla_front.specs.Words.{IsName};
+ghost use Rattle.tesla_front.specs.Forms.{NamesAre};
 ghost use Rattle.tesla_front.specs.Names.{AreNames, IsNoneOf, is_comma};
 ghost use Rattle.tesla_front.specs.Parts.{Follows, Follow, texts_of};
 
-use crate::is_name;
+use crate::{Word, is_name};
 use arrayvec::ArrayVec;
 use std::marker::Model;
 
@@ -44,8 +45,8 @@ impl<'a> Names<'a> {
     }
 }
 
-// Whether a name is one of those before.
-fn is_among(name: &str, before: &[&str]) -> bool
+/// Whether a name is one of those before.
+pub fn is_among(name: &str, before: &[&str]) -> bool
     ensures old { result ≡ true → IsNoneOf name.now (texts_of before.now) → ⊥ }
     ensures new { result ≡ false → IsNoneOf name.now (texts_of before.now) }
 {
@@ -102,4 +103,12 @@ pub fn read_names(word: &str) -> Option<Names<'_>>
         return None;
     };
     Some(Names { list })
+}
+
+impl<'a> Word<'a> for Names<'a> {
+    ghost spells = { NamesAre };
+
+    fn read(word: &'a str) -> Option<Names<'a>> {
+        read_names(word)
+    }
 }

@@ -1,15 +1,18 @@
 //! The words that several commands share.
 
 ghost use Rattle.std.specs.Prelude.{◌≡◌, ℕ, Some, None, IfSome, true, false, position};
-ghost use Rattle.std.specs.Prelude.{◌<◌, ◌^◌};
+ghost use Rattle.std.specs.Prelude.{◌<◌, ◌≤◌, ◌^◌};
 ghost use Rattle.std.specs.Int.{w64, to_be_bytes};
 ghost use Rattle.hex.specs.Hex.{encode_lower};
 ghost use Rattle.tesla_base.specs.declared.names.StreamId.{StreamId};
 ghost use Rattle.tesla_front.specs.Words.{IsName, ArePlaces, IsNumberWithin, is_slash};
+ghost use Rattle.tesla_front.specs.Forms.{LagIs, NameIs, NumberIs, PlacesAre};
 ghost use Rattle.tesla_front.specs.declared.words.Places.{Places};
 
+use crate::Word;
 use hex::{decode_to_slice, encode_to_slice};
-use tesla_base::{StreamId, read_decimal};
+use std::marker::Model;
+use tesla_base::{StreamId, read_decimal, read_signed};
 use tesla_desk::CONSOLE;
 
 /// The greatest capacity.
@@ -127,5 +130,126 @@ pub fn places_in(word: &[u8]) -> Option<Places>
             }),
             None => None,
         },
+    }
+}
+
+/// A name: it is not empty, and not the console's.
+#[derive(Drop)]
+pub struct Name<'a> {
+    text: &'a str,
+}
+
+impl<'a> Model for Name<'a> {
+    ghost use Rattle.std.specs.Prelude.{ℕ, List};
+
+    ghost Value = { List ℕ };
+
+    ghost view = { λ name. name.text.now };
+}
+
+impl<'a> Name<'a> {
+    /// The name.
+    pub fn as_str(&self) -> &'a str
+        ensures { result.now ≡ self.now }
+    {
+        self.text
+    }
+}
+
+impl<'a> Word<'a> for Name<'a> {
+    ghost spells = { NameIs };
+
+    fn read(word: &'a str) -> Option<Name<'a>> {
+        if !is_name(word) {
+            return None;
+        }
+        Some(Name { text: word })
+    }
+}
+
+impl<'a> Word<'a> for u64 {
+    ghost spells = { NumberIs 0 18446744073709551615 };
+
+    fn read(word: &'a str) -> Option<u64> {
+        number_in(word.as_bytes(), 0, u64::MAX)
+    }
+}
+
+impl<'a> Word<'a> for u32 {
+    ghost spells = { NumberIs 0 4294967295 };
+
+    fn read(word: &'a str) -> Option<u32> {
+        match number_in(word.as_bytes(), 0, u64::from(u32::MAX)) {
+            Some(number) => Some(number as u32),
+            None => None,
+        }
+    }
+}
+
+impl<'a> Word<'a> for u16 {
+    ghost spells = { NumberIs 0 65535 };
+
+    fn read(word: &'a str) -> Option<u16> {
+        match number_in(word.as_bytes(), 0, u64::from(u16::MAX)) {
+            Some(number) => Some(number as u16),
+            None => None,
+        }
+    }
+}
+
+/// A number from 1 to `MOST`.
+#[derive(Drop)]
+pub struct Count<const MOST: u32> {
+    number: u32,
+}
+
+impl<const MOST: u32> Model for Count<MOST> {
+    ghost use Rattle.std.specs.Prelude.{ℕ, ◌≤◌};
+
+    ghost Value = { ℕ };
+
+    ghost view = { λ it. it.number };
+
+    ghost invariant = { λ it. (1 ≤ it.number) × (it.number ≤ MOST) };
+}
+
+impl<const MOST: u32> Count<MOST> {
+    /// The number.
+    pub fn get(&self) -> u32
+        ensures number { result ≡ self.now }
+        ensures some { 1 ≤ result }
+        ensures most { result ≤ MOST }
+    {
+        self.number
+    }
+}
+
+impl<'a, const MOST: u32> Word<'a> for Count<MOST> {
+    ghost spells = { NumberIs 1 MOST };
+
+    fn read(word: &'a str) -> Option<Count<MOST>> {
+        match count_in(word.as_bytes(), MOST) {
+            Some(number) => Some(Count { number }),
+            None => None,
+        }
+    }
+}
+
+impl<'a> Word<'a> for i64 {
+    ghost spells = { LagIs };
+
+    fn read(word: &'a str) -> Option<i64> {
+        match read_signed(word.as_bytes()) {
+            Ok(lag) => Some(lag),
+            Err(_) => None,
+        }
+    }
+}
+
+impl<'a> Word<'a> for Places {
+    ghost spells = { PlacesAre };
+
+    fn read(word: &'a str) -> Option<Places> {
+        places_in(word.as_bytes())
     }
 }

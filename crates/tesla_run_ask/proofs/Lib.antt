@@ -1,3 +1,2 @@
-pub mod WordLists
 pub mod Texts
 pub mod Runs

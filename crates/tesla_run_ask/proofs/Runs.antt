@@ -40,7 +40,7 @@ still x old new causes = causes_none old new causes (λ e. absurd cc) (λ e. abs
 
 -- none of the files is the console
 pub ask_files : (arguments : AskArguments) (words : List (List ℕ)) → IsAskForm arguments words → AreFiles (files_of_ask arguments)
-ask_files arguments words is = (is.out.file, tt)
+ask_files arguments words is = (is.rest.rest.first.0.file, tt)
 
 -- an ask was written
 pub performs_ask : (arguments : AskArguments) (message : List ℕ) (before now : Told) (result : Result ArrayString Stop) → AreFiles (files_of_ask arguments) → IsAsk message arguments.reading → OpensSome (OfSink arguments.out ∷ []) before now → WritesMessage message (asked_line arguments.reading) (before.page arguments.out) (now.page arguments.out) (came_of result) → StopCauses result before.faults now.faults → Performs ask arguments before now (came_of result)
@@ -56,7 +56,7 @@ performs_ask arguments message before now result named is opens writes causes = 
 
 -- none of the files is the console
 pub reply_files : (arguments : ReplyArguments) (words : List (List ℕ)) → IsReplyForm arguments words → AreFiles (files_of_reply arguments)
-reply_files arguments words is = (is.names.ask_is.file, (is.names.key_is.file, (is.names.out_is.file, tt)))
+reply_files arguments words is = (is.spelled.rest.first.0.file, (is.spelled.rest.rest.first.0.file, (is.spelled.rest.rest.rest.rest.first.0.file, tt)))
 
 counts_failed : {hidden A : Type 0} (fault : Fault) (old new : Faults) → Causes {A = A} (Err fault) old new → HasCausesBeside hidden old new (Failed fault ≡ Failed faults.Read) (Failed fault ≡ Failed faults.Write) (Failed fault ≡ Failed faults.Open)
 counts_failed {hidden} {A} fault old new causes = counts_stopped {hidden = hidden} {A = A} (stops.Failed fault) old new (stopped_causes {A = A} {B = A} fault old new causes)

@@ -1,14 +1,14 @@
 -- What the words of the commands ask and reply ask for.
-use Rattle.std.specs.Prelude.{◌≡◌, ◌≢◌, ◌<◌, ◌^◌, ℕ, List, [], ◌∷◌, codes, decimal}
+use Rattle.std.specs.Prelude.{ℕ, List, [], ◌∷◌, codes}
 use Rattle.tesla_desk.specs.Outside.{Opening, OfSource, OfSink}
-use Rattle.tesla_front.specs.Words.{IsName}
+use Rattle.tesla_front.specs.Forms.{AreSpelled, NameIs, NumberIs, WordIs}
+use Rattle.tesla_front.specs.Names.{IsNoneOf}
 use Rattle.tesla_run_ask.specs.declared.arguments.AskWords.{AskWords}
 use Rattle.tesla_run_ask.specs.declared.arguments.ReplyWords.{ReplyWords}
 
--- the word spells this reading, in microseconds
-pub record IsReading (word : List ℕ) (reading : ℕ) : Type 0 where
-  pub spelled : word ≡ decimal reading
-  pub fits : reading < 2 ^ 64
+-- the words of each form, in the order in which they are told
+abbrev pub usages : List (List ℕ)
+usages = codes "ask READING ASK-OUT" ∷ codes "reply ASK KEY READING REPLY-OUT" ∷ []
 
 -- ---- ask
 
@@ -22,11 +22,8 @@ abbrev pub ask_arguments : AskWords → AskArguments
 ask_arguments words = record { reading = words.reading; out = words.out.now }
 
 -- the words are the form 'ask READING ASK-OUT'
-pub record IsAskForm (arguments : AskArguments) (words : List (List ℕ)) : Type 0 where
-  pub word : List ℕ
-  pub spelled : words ≡ codes "ask" ∷ word ∷ arguments.out ∷ []
-  pub reading : IsReading word arguments.reading
-  pub out : IsName arguments.out
+abbrev pub IsAskForm : AskArguments → List (List ℕ) → Type 0
+IsAskForm it = AreSpelled (WordIs (codes "ask") ∷ NumberIs 0 18446744073709551615 it.reading ∷ NameIs it.out ∷ [])
 
 -- the file of the command
 abbrev pub files_of_ask : AskArguments → List Opening
@@ -45,20 +42,11 @@ pub record ReplyArguments : Type 0 where
 abbrev pub reply_arguments : ReplyWords → ReplyArguments
 reply_arguments words = record { ask = words.ask.now; key = words.key.now; reading = words.reading; out = words.out.now }
 
--- the names are names of files, and the output is none of the inputs
-pub record AreNames (ask key out : List ℕ) : Type 0 where
-  pub ask_is : IsName ask
-  pub key_is : IsName key
-  pub out_is : IsName out
-  pub not_ask : out ≢ ask
-  pub not_key : out ≢ key
-
 -- the words are the form 'reply ASK KEY READING REPLY-OUT'
-pub record IsReplyForm (arguments : ReplyArguments) (words : List (List ℕ)) : Type 0 where
-  pub word : List ℕ
-  pub spelled : words ≡ codes "reply" ∷ arguments.ask ∷ arguments.key ∷ word ∷ arguments.out ∷ []
-  pub reading : IsReading word arguments.reading
-  pub names : AreNames arguments.ask arguments.key arguments.out
+pub record IsReplyForm (it : ReplyArguments) (words : List (List ℕ)) : Type 0 where
+  pub spelled : AreSpelled (WordIs (codes "reply") ∷ NameIs it.ask ∷ NameIs it.key ∷ NumberIs 0 18446744073709551615 it.reading ∷ NameIs it.out ∷ []) words
+  -- the output is none of the inputs
+  pub apart : IsNoneOf it.out (it.ask ∷ it.key ∷ [])
 
 -- the files of the command, in the order in which they are opened
 abbrev pub files_of_reply : ReplyArguments → List Opening

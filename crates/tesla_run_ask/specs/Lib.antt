@@ -3,4 +3,3 @@ pub mod Writing
 pub mod Asking
 pub mod Replying
 pub mod Steps
-pub mod Usage

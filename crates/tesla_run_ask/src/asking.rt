@@ -8,7 +8,7 @@ ghost use Rattle.tesla_run_ask.specs.Arguments.{ask_arguments, files_of_ask};
 ghost use Rattle.tesla_run_ask.specs.Asking.{ask};
 
 use crate::arguments::AskWords;
-use crate::words::ask_in;
+use crate::form::ask_in;
 use crate::writing::write_message;
 use tesla_desk::Desk;
 use tesla_front::{Lines, Outcome, Stop, outcome_of};

@@ -12,7 +12,7 @@ ghost use Rattle.tesla_sync.specs.KeyText.{IsKeyText};
 ghost use Rattle.tesla_run_ask.specs.Arguments.{AskArguments, ReplyArguments};
 ghost use Rattle.tesla_run_ask.specs.Asking.{ask, asked_line};
 ghost use Rattle.tesla_run_ask.specs.Replying.{reply, replied_line};
-ghost use Rattle.tesla_run_ask.specs.Usage.{usages};
+ghost use Rattle.tesla_run_ask.specs.Arguments.{usages};
 
 use crate::{ASK, REPLY};
 use tesla_front::FormText;

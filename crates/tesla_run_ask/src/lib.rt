@@ -3,12 +3,11 @@
 
 mod arguments;
 mod asking;
-mod forms;
+mod form;
 pub mod laws;
 mod replying;
-mod words;
 mod writing;
 
 pub use asking::run_ask;
-pub use forms::{ASK, REPLY};
+pub use form::{ASK, REPLY};
 pub use replying::run_reply;

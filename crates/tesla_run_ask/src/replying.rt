@@ -12,7 +12,7 @@ ghost use Rattle.tesla_run_ask.specs.Replying.{reply};
 ghost use Rattle.tesla_run_ask.specs.Steps.{Answers, Judges};
 
 use crate::arguments::ReplyWords;
-use crate::words::reply_in;
+use crate::form::reply_in;
 use crate::writing::write_message;
 use std::alloc::Global;
 use std::marker::Brand;

@@ -19,13 +19,13 @@ use Rattle.tesla_front.specs.declared.fault.Fault.TheVariants as faults
 use Rattle.tesla_front.specs.declared.refusal.Stop.{Stop}
 use Rattle.tesla_front.proofs.Commands.{counts_stopped}
 use Rattle.tesla_front.proofs.Openings.{opens_first, opens_none, opens_some, opens_then, source_closed}
-use Rattle.tesla_run_audit.specs.Arguments.{AreNames, AuditArguments, config_of, files_of_audit}
+use Rattle.tesla_run_audit.specs.Arguments.{AuditArguments, IsAudit, config_of, files_of_audit}
 use Rattle.tesla_run_audit.specs.Audit.{AuditsBetween, AuditsBytes, IsAuditCame, IsAudited, IsUnopened, audit}
 use Rattle.tesla_run_audit.specs.Files.{AuditsFile}
 
 -- neither file is the console
-pub are_files : (arguments : AuditArguments) → AreNames arguments.setup arguments.trace → AreFiles (files_of_audit arguments)
-are_files arguments are = (are.setup_is.file, (are.trace_is.file, tt))
+pub are_files : (arguments : AuditArguments) (words : List (List ℕ)) → IsAudit arguments words → AreFiles (files_of_audit arguments)
+are_files arguments words is = (is.rest.first.0.file, (is.rest.rest.rest.rest.first.0.file, tt))
 
 -- ---- the trace
 

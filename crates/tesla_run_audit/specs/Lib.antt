@@ -2,4 +2,3 @@ pub mod Arguments
 pub mod Audit
 pub mod Files
 pub mod Judging
-pub mod Usage

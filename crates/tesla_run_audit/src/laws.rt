@@ -18,7 +18,7 @@ ghost use Rattle.tesla_audit.specs.Outline.{trace_outline};
 ghost use Rattle.tesla_audit.specs.Wrong.{IsFirstWrong};
 ghost use Rattle.tesla_run_audit.specs.Arguments.{AuditArguments, config_of};
 ghost use Rattle.tesla_run_audit.specs.Audit.{audit, audit_of, refuted_line};
-ghost use Rattle.tesla_run_audit.specs.Usage.{usage};
+ghost use Rattle.tesla_run_audit.specs.Arguments.{usage};
 
 use crate::AUDIT;
 use tesla_front::FormText;

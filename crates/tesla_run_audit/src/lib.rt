@@ -2,12 +2,11 @@
 #![tactic(auto)]
 
 mod arguments;
-mod forms;
+mod form;
 mod judging;
 pub mod laws;
 mod lines;
 mod run;
-mod words;
 
-pub use forms::AUDIT;
+pub use form::AUDIT;
 pub use run::run_audit;

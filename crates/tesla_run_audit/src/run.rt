@@ -11,8 +11,8 @@ ghost use Rattle.tesla_run_audit.specs.Audit.{AuditsBetween, audit};
 ghost use Rattle.tesla_run_audit.specs.Files.{AuditsFile};
 
 use crate::arguments::Arguments;
+use crate::form::arguments_in;
 use crate::judging::audit_trace;
-use crate::words::arguments_in;
 use std::alloc::Global;
 use tesla_commit::Setup;
 use tesla_desk::Desk;

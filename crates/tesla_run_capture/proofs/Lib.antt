@@ -1,4 +1,3 @@
-pub mod ThreeWords
 pub mod Given
 pub mod Kept
 pub mod Filed

@@ -26,7 +26,7 @@ use Rattle.tesla_run_capture.proofs.Paged.{captures, failed_page}
 
 -- none of the files is the console
 pub are_files : (arguments : CaptureArguments) (words : List (List ℕ)) → IsCaptureForm arguments words → AreFiles (files_of_capture arguments)
-are_files arguments words is = (is.link_is.file, (is.out_is.file, tt))
+are_files arguments words is = (is.rest.first.0.file, (is.rest.rest.first.0.file, tt))
 
 -- ---- what is told of links and clocks
 

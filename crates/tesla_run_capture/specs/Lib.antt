@@ -3,4 +3,3 @@ pub mod Heard
 pub mod Recording
 pub mod Capture
 pub mod Steps
-pub mod Usage

@@ -10,9 +10,8 @@ ghost use Rattle.tesla_run_capture.specs.Capture.{capture};
 ghost use Rattle.tesla_run_capture.specs.Recording.{RecordsFile};
 ghost use Rattle.tesla_run_capture.specs.Steps.{MakesSome, RunsOpened, came_with};
 
-use crate::arguments::Arguments;
+use crate::form::{Arguments, arguments_in};
 use crate::recording::record_link;
-use crate::words::arguments_in;
 use std::sync::Wait;
 use tesla_capture::write_head;
 use tesla_desk::Desk;

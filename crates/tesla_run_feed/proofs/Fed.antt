@@ -364,4 +364,4 @@ fed_linked {A} stream arguments words it name names left before linked now came 
     let tries = subst (λ (ns : List (List ℕ)). TriesToFeed stream ns left runs.later 0 runs.missed linked runs.tried runs.posts came) posts_are runs.tries in
     let link_closed = subst (λ (n : List ℕ). ClosesLink n runs.later runs.missed runs.closed now) own runs.link_closed in
     let first = opens_first (OfLink arguments.link) [] before linked opens.asked (λ n none. opens.pages n) (λ n none. opens.lefts n) in
-    fed_tried stream arguments left before linked now opened opens.live (counts_stay before.faults linked.faults opens.counts (λ e. absurd cc)) first runs.posts runs.tried runs.closed runs.later runs.missed runs.posts_closed link_closed is.posts_are.some is.posts_are.distinct came tries
+    fed_tried stream arguments left before linked now opened opens.live (counts_stay before.faults linked.faults opens.counts (λ e. absurd cc)) first runs.posts runs.tried runs.closed runs.later runs.missed runs.posts_closed link_closed is.spelled.rest.rest.rest.rest.first.some is.spelled.rest.rest.rest.rest.first.distinct came tries

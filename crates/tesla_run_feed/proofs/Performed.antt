@@ -17,7 +17,7 @@ use Rattle.tesla_sender.specs.Made.{Stream}
 
 -- none of the files is the console
 are_files : (arguments : FeedArguments) (words : List (List ℕ)) → IsFeedForm arguments words → AreFiles (files_of_feed arguments)
-are_files arguments words is = (is.setup_is.file, (is.secret_is.file, (is.link_is.file, post_files arguments.posts is.posts_are.each)))
+are_files arguments words is = (is.spelled.rest.first.0.file, (is.spelled.rest.rest.first.0.file, (is.spelled.rest.rest.rest.first.0.file, post_files arguments.posts is.spelled.rest.rest.rest.rest.first.each)))
 
 -- there was no sender
 pub performs_unfed : (arguments : FeedArguments) (words : List (List ℕ)) (before now : Told) (came : Came) → IsFeedForm arguments words → OpensNoSender arguments.setup arguments.secret came before now → Performs (feed before.live now.live) arguments before now came

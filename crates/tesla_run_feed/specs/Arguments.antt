@@ -1,9 +1,12 @@
 -- What the words of the command feed ask for.
-use Rattle.std.specs.Prelude.{◌≡◌, ℕ, List, [], ◌∷◌, codes, map}
+use Rattle.std.specs.Prelude.{ℕ, List, [], ◌∷◌, codes, map}
 use Rattle.tesla_desk.specs.Outside.{Opening, OfLink, OfPost, OfSource}
-use Rattle.tesla_front.specs.Words.{IsName}
-use Rattle.tesla_front.specs.Names.{AreNames}
-use Rattle.tesla_run_feed.specs.declared.arguments.Arguments.{Arguments}
+use Rattle.tesla_front.specs.Forms.{AreSpelled, NameIs, NamesAre, WordIs}
+use Rattle.tesla_run_feed.specs.declared.form.Arguments.{Arguments}
+
+-- the words of each form, in the order in which they are told
+abbrev pub usages : List (List ℕ)
+usages = codes "feed SETUP SECRET LINK POSTS" ∷ []
 
 -- the names of the files of the setup and of the seeds, and those of the link and of the posts
 pub record FeedArguments : Type 0 where
@@ -17,13 +20,8 @@ abbrev pub arguments_of : Arguments → FeedArguments
 arguments_of words = record { setup = words.setup.now; secret = words.secret.now; link = words.link.now; posts = words.posts }
 
 -- the words are the form 'feed SETUP SECRET LINK POSTS'; the link may be named as a file or a post, since they are opened apart
-pub record IsFeedForm (arguments : FeedArguments) (words : List (List ℕ)) : Type 0 where
-  pub posts : List ℕ
-  pub spelled : words ≡ codes "feed" ∷ arguments.setup ∷ arguments.secret ∷ arguments.link ∷ posts ∷ []
-  pub setup_is : IsName arguments.setup
-  pub secret_is : IsName arguments.secret
-  pub link_is : IsName arguments.link
-  pub posts_are : AreNames posts arguments.posts
+pub record IsFeedForm (it : FeedArguments) (words : List (List ℕ)) : Type 0 where
+  pub spelled : AreSpelled (WordIs (codes "feed") ∷ NameIs it.setup ∷ NameIs it.secret ∷ NameIs it.link ∷ NamesAre it.posts ∷ []) words
 
 -- the link and the posts, in the order in which they are opened
 abbrev pub live_files : FeedArguments → List Opening

@@ -2,4 +2,3 @@ pub mod Arguments
 pub mod Lines
 pub mod Feeding
 pub mod Steps
-pub mod Usage

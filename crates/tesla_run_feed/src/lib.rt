@@ -1,12 +1,10 @@
 //! The command `feed`: the live datagrams of a link are sent as the messages of a stream, with keys on time.
 #![tactic(auto)]
 
-mod arguments;
-mod forms;
+mod form;
 mod lines;
 mod ready;
 mod run;
-mod words;
 
-pub use forms::FEED;
+pub use form::FEED;
 pub use run::run_feed;

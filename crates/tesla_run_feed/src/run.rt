@@ -9,10 +9,9 @@ ghost use Rattle.tesla_run_feed.specs.Arguments.{IsFeedForm, arguments_of};
 ghost use Rattle.tesla_run_feed.specs.Feeding.{feed};
 ghost use Rattle.tesla_run_feed.specs.Steps.{FeedsFiles, RunsLinked, TriesToFeed};
 
-use crate::arguments::Arguments;
+use crate::form::{Arguments, arguments_in};
 use crate::lines::lines_after;
 use crate::ready::{feed_ready, open_ready};
-use crate::words::arguments_in;
 use std::alloc::Global;
 use std::marker::Brand;
 use std::sync::Wait;

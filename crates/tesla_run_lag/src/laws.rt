@@ -8,7 +8,7 @@ ghost use Rattle.tesla_front.specs.Run.{NothingFailed};
 ghost use Rattle.tesla_front.specs.declared.fault.Fault.TheVariants as faults;
 ghost use Rattle.tesla_run_lag.specs.Arguments.{LagArguments};
 ghost use Rattle.tesla_run_lag.specs.Lag.{lag, lag_came};
-ghost use Rattle.tesla_run_lag.specs.Usage.{usage};
+ghost use Rattle.tesla_run_lag.specs.Arguments.{usage};
 
 use crate::LAG;
 use tesla_front::FormText;

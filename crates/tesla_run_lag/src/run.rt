@@ -7,10 +7,9 @@ ghost use Rattle.tesla_front.specs.Openings.{AreFiles};
 ghost use Rattle.tesla_run_lag.specs.Arguments.{arguments_of, files_of_lag};
 ghost use Rattle.tesla_run_lag.specs.Lag.{lag};
 
-use crate::arguments::Arguments;
+use crate::form::{Arguments, arguments_in};
 use crate::judging::judge;
 use crate::texts::read_texts;
-use crate::words::arguments_in;
 use std::alloc::Global;
 use tesla_desk::Desk;
 use tesla_front::{Lines, Outcome, Stop, outcome_of};

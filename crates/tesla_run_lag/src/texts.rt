@@ -7,7 +7,7 @@ ghost use Rattle.tesla_front.specs.Files.{ReadsFile};
 ghost use Rattle.tesla_front.specs.Openings.{Opens, OpensSome};
 ghost use Rattle.tesla_run_lag.specs.Arguments.{arguments_of, files_of_lag};
 
-use crate::arguments::Arguments;
+use crate::form::Arguments;
 use std::alloc::Global;
 use tesla_desk::Desk;
 use tesla_front::{Fault, read_file};

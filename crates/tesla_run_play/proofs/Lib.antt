@@ -1,3 +1,2 @@
-pub mod ThreeWords
 pub mod Sent
 pub mod Performed

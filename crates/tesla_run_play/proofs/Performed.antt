@@ -37,7 +37,7 @@ use Rattle.tesla_run_play.proofs.Sent.{end_faulty, faulty_end, names_stay, posts
 
 -- none of the files is the console
 are_files : (arguments : PlayArguments) (words : List (List ℕ)) → IsPlayForm arguments words → AreFiles (files_of_play arguments)
-are_files arguments words is = (is.capture_is.file, post_files arguments.posts is.posts_are.each)
+are_files arguments words is = (is.spelled.rest.first.0.file, post_files arguments.posts is.spelled.rest.rest.first.each)
 
 -- ---- what is told of links, posts and clocks
 
@@ -207,7 +207,7 @@ module _ (arguments : PlayArguments) (words : List (List ℕ)) (left : Option (L
     played_posts : PostsHold open_plays.end (map bytes_of open_plays.made.plays.played) arguments.posts now.live
     played_posts =
         let sent = map bytes_of open_plays.made.plays.played in
-        let distinct : AreDistinct (map post_name posts) = subst AreDistinct (sym played_names) is.posts_are.distinct in
+        let distinct : AreDistinct (map post_name posts) = subst AreDistinct (sym played_names) is.spelled.rest.rest.first.distinct in
         let held = posts_hold open_plays.end sent open_plays.fresh posts closed played_to.fresh open_plays.made.plays.posts_are (closes.mails distinct) in
         subst (λ (l : Live). PostsHold open_plays.end sent arguments.posts l) (sym source_closed.live)
         (subst (λ (names : List (List ℕ)). PostsHold open_plays.end sent names closed.live) (played_to.whole refl).names_are held)

@@ -1,9 +1,12 @@
 -- What the words of the command play ask for.
-use Rattle.std.specs.Prelude.{◌≡◌, ℕ, List, [], ◌∷◌, codes, map}
+use Rattle.std.specs.Prelude.{ℕ, List, [], ◌∷◌, codes, map}
 use Rattle.tesla_desk.specs.Outside.{Opening, OfPost, OfSource}
-use Rattle.tesla_front.specs.Words.{IsName}
-use Rattle.tesla_front.specs.Names.{AreNames}
-use Rattle.tesla_run_play.specs.declared.arguments.Arguments.{Arguments}
+use Rattle.tesla_front.specs.Forms.{AreSpelled, NameIs, NamesAre, WordIs}
+use Rattle.tesla_run_play.specs.declared.form.Arguments.{Arguments}
+
+-- the words of each form, in the order in which they are told
+abbrev pub usages : List (List ℕ)
+usages = codes "play CAPTURE POSTS" ∷ []
 
 -- the names of the file of the capture and of the posts
 pub record PlayArguments : Type 0 where
@@ -15,11 +18,8 @@ abbrev pub arguments_of : Arguments → PlayArguments
 arguments_of words = record { capture = words.capture.now; posts = words.posts }
 
 -- the words are the form 'play CAPTURE POSTS'; the capture may be named as a post, since what a post sends is under no file
-pub record IsPlayForm (arguments : PlayArguments) (words : List (List ℕ)) : Type 0 where
-  pub posts : List ℕ
-  pub spelled : words ≡ codes "play" ∷ arguments.capture ∷ posts ∷ []
-  pub capture_is : IsName arguments.capture
-  pub posts_are : AreNames posts arguments.posts
+pub record IsPlayForm (it : PlayArguments) (words : List (List ℕ)) : Type 0 where
+  pub spelled : AreSpelled (WordIs (codes "play") ∷ NameIs it.capture ∷ NamesAre it.posts ∷ []) words
 
 -- what is opened, in order: the capture, and then the posts
 abbrev pub files_of_play : PlayArguments → List Opening

@@ -1,4 +1,3 @@
 pub mod Arguments
 pub mod Playing
 pub mod Steps
-pub mod Usage

@@ -10,8 +10,7 @@ ghost use Rattle.tesla_run_play.specs.Arguments.{IsPlayForm, arguments_of};
 ghost use Rattle.tesla_run_play.specs.Playing.{came_with, play};
 ghost use Rattle.tesla_run_play.specs.Steps.{OpensAndPlays, PlaysMade, RunsOpened};
 
-use crate::arguments::Arguments;
-use crate::words::arguments_in;
+use crate::form::{Arguments, arguments_in};
 use std::alloc::Global;
 use std::sync::Wait;
 use tesla_base::Kind;

@@ -1,5 +1,4 @@
 mod Counted
-mod FourWords
 mod Mailed
 mod Performed
 mod Steps

@@ -39,7 +39,7 @@ use Rattle.tesla_run_relay.proofs.Mailed.{counted_faulty, faulty_counted, names_
 
 -- none of the files is the console
 pub are_files : (arguments : RelayArguments) (words : List (List ℕ)) → IsRelayForm arguments words → AreFiles (files_of_relay arguments)
-are_files arguments words is = (is.link_is.file, post_files arguments.posts is.posts_are.each)
+are_files arguments words is = (is.spelled.rest.rest.first.0.file, post_files arguments.posts is.spelled.rest.rest.rest.first.each)
 
 link_opened : {A : Type 0} (link : List ℕ) (it : A) (before now : Told) → OpensLink {A = A} link (Ok it) before now → Opens (OfLink link ∷ []) 1 before now
 link_opened link it before now opens = opens_first (OfLink link) [] before now opens.asked (λ name none. opens.pages name) (λ name none. opens.lefts name)
@@ -224,7 +224,7 @@ performs_relayed : {A : Type 0} (arguments : RelayArguments) (words : List (List
 performs_relayed {A} arguments words it left later missed before linked mid closed now posts came form letters opens runs closes close =
     let to = opens_to arguments.posts linked mid runs.opened (Ok tt) runs.opens in
     let named : map post_name posts ≡ arguments.posts = names_kept arguments.capacity (datagrams runs.relays.taken) runs.opened posts runs.counts runs.relays.posts ∙ (to.whole refl).names_are in
-    let mails : HasMails posts now = mails_same posts closed now close.mails (closes.mails (subst AreDistinct (sym named) form.posts_are.distinct)) in
+    let mails : HasMails posts now = mails_same posts closed now close.mails (closes.mails (subst AreDistinct (sym named) form.spelled.rest.rest.rest.first.distinct)) in
     let sent : SendPosts arguments.capacity (datagrams runs.relays.taken) arguments.posts now.live runs.counts =
     subst (λ (ns : List (List ℕ)). SendPosts arguments.capacity (datagrams runs.relays.taken) ns now.live runs.counts) named (sends_posts arguments.capacity (datagrams runs.relays.taken) runs.opened posts runs.counts now to.fresh mails runs.relays.posts) in
     let first : linked.faults ≡ before.faults = counts_stay before.faults linked.faults opens.counts (λ e. absurd cc) in

@@ -2,11 +2,10 @@
 #![tactic(auto)]
 
 mod arguments;
-mod forms;
+mod form;
 mod gates;
 mod lines;
 mod run;
-mod words;
 
-pub use forms::RELAY;
+pub use form::RELAY;
 pub use run::run_relay;

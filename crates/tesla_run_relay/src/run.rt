@@ -12,9 +12,9 @@ ghost use Rattle.tesla_run_relay.specs.Relay.{relay};
 ghost use Rattle.tesla_run_relay.specs.Steps.{RunsLinked, RunsPosts};
 
 use crate::arguments::Arguments;
+use crate::form::arguments_in;
 use crate::gates::make_gates;
 use crate::lines::outcome_of;
-use crate::words::arguments_in;
 use std::alloc::Global;
 use std::sync::Wait;
 use std::thread::Threads;

@@ -21,7 +21,7 @@ use Rattle.tesla_run_send.proofs.Sender.{opens_behind, opens_no_more}
 
 -- none of the files is the console
 pub are_files : (arguments : SendArguments) (words : List (List ℕ)) → IsSend arguments words → AreFiles (files_of_send arguments)
-are_files arguments words is = (is.names.setup_is.file, (is.names.secret_is.file, (is.names.script_is.file, (is.names.out_is.file, tt))))
+are_files arguments words is = (is.spelled.rest.first.0.file, (is.spelled.rest.rest.first.0.file, (is.spelled.rest.rest.rest.first.0.file, (is.spelled.rest.rest.rest.rest.first.0.file, tt))))
 
 -- ---- the script
 

@@ -1,8 +1,13 @@
 -- What the words of the command send ask for.
-use Rattle.std.specs.Prelude.{◌≡◌, ◌≢◌, ℕ, List, [], ◌∷◌, codes}
+use Rattle.std.specs.Prelude.{ℕ, List, [], ◌∷◌, codes}
 use Rattle.tesla_desk.specs.Outside.{Opening, OfSource, OfSink}
-use Rattle.tesla_front.specs.Words.{IsName}
-use Rattle.tesla_run_send.specs.declared.arguments.Arguments.{Arguments}
+use Rattle.tesla_front.specs.Forms.{AreSpelled, NameIs, WordIs}
+use Rattle.tesla_front.specs.Names.{IsNoneOf}
+use Rattle.tesla_run_send.specs.declared.form.Arguments.{Arguments}
+
+-- the words of the form
+abbrev pub usage : List ℕ
+usage = codes "send SETUP SECRET SCRIPT CAPTURE"
 
 -- the names of the files
 pub record SendArguments : Type 0 where
@@ -15,20 +20,11 @@ pub record SendArguments : Type 0 where
 abbrev pub arguments_of : Arguments → SendArguments
 arguments_of words = record { setup = words.setup.now; secret = words.secret.now; script = words.script.now; out = words.out.now }
 
--- the names are names of files, and the output is none of the inputs
-pub record AreNames (setup secret script out : List ℕ) : Type 0 where
-  pub setup_is : IsName setup
-  pub secret_is : IsName secret
-  pub script_is : IsName script
-  pub out_is : IsName out
-  pub not_setup : out ≢ setup
-  pub not_secret : out ≢ secret
-  pub not_script : out ≢ script
-
 -- the words are the form 'send SETUP SECRET SCRIPT CAPTURE'
-pub record IsSend (arguments : SendArguments) (words : List (List ℕ)) : Type 0 where
-  pub spelled : words ≡ codes "send" ∷ arguments.setup ∷ arguments.secret ∷ arguments.script ∷ arguments.out ∷ []
-  pub names : AreNames arguments.setup arguments.secret arguments.script arguments.out
+pub record IsSend (it : SendArguments) (words : List (List ℕ)) : Type 0 where
+  pub spelled : AreSpelled (WordIs (codes "send") ∷ NameIs it.setup ∷ NameIs it.secret ∷ NameIs it.script ∷ NameIs it.out ∷ []) words
+  -- the output is none of the inputs
+  pub apart : IsNoneOf it.out (it.setup ∷ it.secret ∷ it.script ∷ [])
 
 -- the files of the command, in the order in which they are opened
 abbrev pub files_of_send : SendArguments → List Opening

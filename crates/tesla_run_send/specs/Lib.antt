@@ -5,4 +5,3 @@ pub mod Sender
 pub mod Send
 pub mod Rule
 pub mod Steps
-pub mod Usage

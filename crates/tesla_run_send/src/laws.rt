@@ -14,7 +14,7 @@ ghost use Rattle.tesla_run_send.specs.Arguments.{SendArguments};
 ghost use Rattle.tesla_run_send.specs.Script.{sending};
 ghost use Rattle.tesla_run_send.specs.Send.{frames_line, send};
 ghost use Rattle.tesla_run_send.specs.Sender.{wrong_line};
-ghost use Rattle.tesla_run_send.specs.Usage.{usage};
+ghost use Rattle.tesla_run_send.specs.Arguments.{usage};
 
 use crate::SEND;
 use tesla_front::FormText;

@@ -1,17 +1,15 @@
 //! The command `send`: the records of a script become the frames of a stream, in a capture.
 #![tactic(auto)]
 
-mod arguments;
 mod converter;
-mod forms;
+mod form;
 pub mod laws;
 mod opening;
 mod run;
 mod script_kind;
-mod words;
 
 pub use converter::message_kind;
-pub use forms::SEND;
+pub use form::SEND;
 pub use opening::open_sender;
 pub use run::run_send;
 pub use script_kind::ScriptKind;

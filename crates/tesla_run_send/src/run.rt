@@ -12,10 +12,9 @@ ghost use Rattle.tesla_run_send.specs.Send.{frames_line, meaning, script_line, s
 ghost use Rattle.tesla_run_send.specs.Steps.{SendsFiles, came_with};
 
 use crate::ScriptKind;
-use crate::arguments::Arguments;
 use crate::converter::{SendConverter, SendLedger};
+use crate::form::{Arguments, arguments_in};
 use crate::opening::open_sender;
-use crate::words::arguments_in;
 use std::alloc::Global;
 use std::marker::Brand;
 use std::sync::ledger::Blank;

@@ -1,4 +1,3 @@
-mod TwoWords
 mod Listed
 mod Heads
 mod Shown

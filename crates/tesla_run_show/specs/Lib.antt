@@ -1,5 +1,4 @@
 pub mod Arguments
-pub mod Usage
 pub mod Lines
 pub mod Kinds
 pub mod Numbered

@@ -1,7 +1,7 @@
 //! Laws about the command, as contracts of functions that do nothing else.
 
 ghost use Rattle.std.specs.Prelude.{◌≡◌};
-ghost use Rattle.tesla_run_show.specs.Usage.{usage};
+ghost use Rattle.tesla_run_show.specs.Arguments.{usage};
 
 use crate::SHOW;
 use tesla_front::FormText;

@@ -1,15 +1,13 @@
 //! The command `show`: the entries of a trace, or of the tail of one, are printed as lines while they are read.
 #![tactic(auto)]
 
-mod arguments;
-mod forms;
+mod form;
 pub mod laws;
 mod lines;
 mod listing;
 mod reader;
 mod run;
 mod settling;
-mod words;
 
-pub use forms::SHOW;
+pub use form::SHOW;
 pub use run::run_show;

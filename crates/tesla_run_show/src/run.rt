@@ -9,10 +9,9 @@ ghost use Rattle.tesla_run_show.specs.Arguments.{arguments_of, files_of_show};
 ghost use Rattle.tesla_run_show.specs.Show.{show};
 ghost use Rattle.tesla_run_show.specs.Steps.{PrintsEntries, ShowsTo};
 
-use crate::arguments::Arguments;
+use crate::form::{Arguments, arguments_in};
 use crate::listing::{Listed, is_headless, list_entries};
 use crate::settling::settle;
-use crate::words::arguments_in;
 use tesla_audit::{TailReader, TraceReader};
 use tesla_capture::Gatherer;
 use tesla_desk::{Desk, Sink, Source};

@@ -9,7 +9,7 @@ ghost use Rattle.tesla_receiver.specs.Report.{report_of};
 ghost use Rattle.tesla_run_replay.specs.ReportText.{report_text};
 ghost use Rattle.tesla_run_stress.specs.Arguments.{StressArguments};
 ghost use Rattle.tesla_run_stress.specs.Stress.{history_of, stress};
-ghost use Rattle.tesla_run_stress.specs.Usage.{usage};
+ghost use Rattle.tesla_run_stress.specs.Arguments.{usage};
 
 use crate::STRESS;
 use tesla_front::FormText;

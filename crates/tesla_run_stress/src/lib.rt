@@ -4,7 +4,7 @@
 mod arguments;
 mod base;
 mod choices;
-mod forms;
+mod form;
 mod frames;
 pub mod laws;
 pub mod load_laws;
@@ -12,8 +12,7 @@ mod messages;
 mod play;
 mod player;
 mod run;
-mod words;
 
-pub use forms::STRESS;
+pub use form::STRESS;
 pub use play::play_load;
 pub use run::run_stress;

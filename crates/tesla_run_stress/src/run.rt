@@ -7,8 +7,8 @@ ghost use Rattle.tesla_run_stress.specs.Arguments.{arguments_of};
 ghost use Rattle.tesla_run_stress.specs.Stress.{IsReport, stress};
 
 use crate::arguments::Arguments;
+use crate::form::arguments_in;
 use crate::play_load;
-use crate::words::arguments_in;
 use std::alloc::Global;
 use tesla_desk::Desk;
 use tesla_front::{Fault, Lines, Outcome, Stop, outcome_of};

@@ -32,7 +32,7 @@ use Rattle.tesla_run_weave.specs.Weave.{IsNoScript, IsWoven, StopsAtScript, Weav
 
 -- none of the files is the console
 pub are_files : (arguments : WeaveArguments) (words : List (List ℕ)) → IsWeave arguments words → AreFiles (files_of_weave arguments)
-are_files arguments words is = (is.names.setup_is.file, (is.names.script_is.file, (is.names.out_is.file, tt)))
+are_files arguments words is = (is.spelled.rest.first.0.file, (is.spelled.rest.rest.first.0.file, (is.spelled.rest.rest.rest.first.0.file, tt)))
 
 -- ---- reading the script
 

@@ -1,8 +1,13 @@
 -- What the words of the command weave ask for.
-use Rattle.std.specs.Prelude.{◌≡◌, ◌≢◌, ℕ, List, [], ◌∷◌, codes}
+use Rattle.std.specs.Prelude.{ℕ, List, [], ◌∷◌, codes}
 use Rattle.tesla_desk.specs.Outside.{Opening, OfSource, OfSink}
-use Rattle.tesla_front.specs.Words.{IsName, IsNumberWithin}
-use Rattle.tesla_run_weave.specs.declared.arguments.Arguments.{Arguments}
+use Rattle.tesla_front.specs.Forms.{AreSpelled, NameIs, NumberIs, WordIs}
+use Rattle.tesla_front.specs.Names.{IsNoneOf}
+use Rattle.tesla_run_weave.specs.declared.form.Arguments.{Arguments}
+
+-- the words of the form
+abbrev pub usage : List ℕ
+usage = codes "weave SETUP SCRIPT SCRIPT-OUT GAP"
 
 -- the names of the files, and how many messages behind it the one is that a message promises
 pub record WeaveArguments : Type 0 where
@@ -15,20 +20,11 @@ pub record WeaveArguments : Type 0 where
 abbrev pub arguments_of : Arguments → WeaveArguments
 arguments_of words = record { setup = words.setup.now; script = words.script.now; out = words.out.now; gap = words.gap }
 
--- the names are names of files, and the output is none of the inputs
-pub record AreNames (setup script out : List ℕ) : Type 0 where
-  pub setup_is : IsName setup
-  pub script_is : IsName script
-  pub out_is : IsName out
-  pub not_setup : out ≢ setup
-  pub not_script : out ≢ script
-
 -- the words are the form 'weave SETUP SCRIPT SCRIPT-OUT GAP'
-pub record IsWeave (arguments : WeaveArguments) (words : List (List ℕ)) : Type 0 where
-  pub word : List ℕ
-  pub spelled : words ≡ codes "weave" ∷ arguments.setup ∷ arguments.script ∷ arguments.out ∷ word ∷ []
-  pub gap : IsNumberWithin 1 1000000 word arguments.gap
-  pub names : AreNames arguments.setup arguments.script arguments.out
+pub record IsWeave (it : WeaveArguments) (words : List (List ℕ)) : Type 0 where
+  pub spelled : AreSpelled (WordIs (codes "weave") ∷ NameIs it.setup ∷ NameIs it.script ∷ NameIs it.out ∷ NumberIs 1 1000000 it.gap ∷ []) words
+  -- the output is none of the inputs
+  pub apart : IsNoneOf it.out (it.setup ∷ it.script ∷ [])
 
 -- the files of the command, in the order in which they are opened
 abbrev pub files_of_weave : WeaveArguments → List Opening

@@ -4,4 +4,3 @@ pub mod Rule
 pub mod Plan
 pub mod Weave
 pub mod Steps
-pub mod Usage

@@ -9,7 +9,7 @@ ghost use Rattle.tesla_front.specs.Run.{NothingFailed};
 ghost use Rattle.tesla_front.specs.Setup.{IsSetupText};
 ghost use Rattle.tesla_front.specs.declared.fault.Fault.TheVariants as faults;
 ghost use Rattle.tesla_run_weave.specs.Arguments.{WeaveArguments};
-ghost use Rattle.tesla_run_weave.specs.Usage.{usage};
+ghost use Rattle.tesla_run_weave.specs.Arguments.{usage};
 ghost use Rattle.tesla_run_weave.specs.Weave.{messages_line, weave, weaving};
 
 use crate::WEAVE;

@@ -1,18 +1,16 @@
 //! The command `weave`: a script whose messages promise one another is made of a script.
 #![tactic(auto)]
 
-mod arguments;
 mod collector;
-mod forms;
+mod form;
 pub mod laws;
 mod nowhere;
 mod plan;
 mod reading;
 mod run;
 mod weave_kind;
-mod words;
 mod writing;
 
-pub use forms::WEAVE;
+pub use form::WEAVE;
 pub use run::run_weave;
 pub use weave_kind::WeaveKind;

@@ -8,9 +8,8 @@ ghost use Rattle.tesla_run_weave.specs.Arguments.{arguments_of, files_of_weave};
 ghost use Rattle.tesla_run_weave.specs.Steps.{WeavesFiles};
 ghost use Rattle.tesla_run_weave.specs.Weave.{weave};
 
-use crate::arguments::Arguments;
+use crate::form::{Arguments, arguments_in};
 use crate::reading::read_script;
-use crate::words::arguments_in;
 use crate::writing::write_woven;
 use std::alloc::Global;
 use tesla_commit::Setup;

@@ -1,4 +1,4 @@
-use Rattle.std.proofs.Common.{◌≡◌, ◌⊎◌, inl, inr, ℕ, List, ◌∷◌, subst, sym}
+use Rattle.std.proofs.Common.{◌≡◌, ◌⊎◌, inl, inr, ℕ, List, ◌∷◌, codes, refl, subst, sym}
 use Rattle.tesla_base.specs.declared.version.Version.{Version}
 use Rattle.tesla_base.specs.declared.version.Version.TheVariants.{One, Two}
 use Rattle.tesla_desk.specs.Outside.{Told}
@@ -6,12 +6,12 @@ use Rattle.tesla_front.specs.Came.{Came}
 use Rattle.tesla_front.specs.Command.{RunsAs}
 use Rattle.tesla_front.specs.Printing.{IsPrintedAs, RunsPrinting}
 use Rattle.tesla_front.specs.Run.{HasNoConsole}
-use Rattle.tesla_front.proofs.Tables.{as_spelled}
+use Rattle.tesla_front.proofs.Tables.{as_spelled, begins_with_name}
 use Rattle.tesla_run_chain.specs.Arguments as chains
 use Rattle.tesla_run_chain.specs.Chain.{chain}
 use Rattle.tesla_run_show.specs.Arguments.{IsShowForm, ShowArguments}
 use Rattle.tesla_run_show.specs.Show.{show}
-use Rattle.tesla_cli.specs.Commands.{RunsTool, command_of, tool_of, tool_usage}
+use Rattle.tesla_cli.specs.Commands.{IsTool, RunsTool, command_of, tool_of, tool_usage}
 use Rattle.tesla_cli.proofs.laws.forms_are_named.Goals as goal
 
 -- both words of a chain name it
@@ -24,20 +24,20 @@ pub returns-clause-commands : goal.returns-clause-commands
 returns-clause-commands c = (
   λ arguments words old new came is runs. (as_spelled command_of words _ old new came is.spelled runs).form arguments is,
   λ arguments words old new came is runs. (both_named arguments.version _ words old new came is.spelled runs).form arguments is,
+  λ arguments words old new came is runs. (as_spelled command_of words _ old new came (begins_with_name (codes "send") words is.spelled) runs).form arguments is,
+  λ arguments words old new came is runs. (as_spelled command_of words _ old new came (begins_with_name (codes "lag") words is) runs).form arguments is,
+  λ arguments words old new came is runs. (as_spelled command_of words _ old new came (begins_with_name (codes "stress") words is) runs).form arguments is,
+  λ arguments words old new came is runs. (as_spelled command_of words _ old new came is.spelled runs).form arguments is,
+  λ arguments words old new came is runs. (as_spelled command_of words _ old new came (begins_with_name (codes "weave") words is.spelled) runs).form arguments is,
   λ arguments words old new came is runs. (as_spelled command_of words _ old new came is.spelled runs).form arguments is,
   λ arguments words old new came is runs. (as_spelled command_of words _ old new came is.spelled runs).form arguments is,
-  λ arguments words old new came is runs. (as_spelled command_of words _ old new came is.spelled runs).form arguments is,
-  λ arguments words old new came is runs. (as_spelled command_of words _ old new came is.spelled runs).form arguments is,
-  λ arguments words old new came is runs. (as_spelled command_of words _ old new came is.spelled runs).form arguments is,
-  λ arguments words old new came is runs. (as_spelled command_of words _ old new came is.spelled runs).form arguments is,
-  λ arguments words old new came is runs. (as_spelled command_of words _ old new came is.spelled runs).form arguments is,
-  λ arguments words old new came is runs. (as_spelled command_of words _ old new came is.spelled runs).form arguments is,
+  λ arguments words old new came is runs. (as_spelled command_of words _ old new came (begins_with_name (codes "audit") words is) runs).form arguments is,
 )
 
 pub returns-clause-tools : goal.returns-clause-tools
 returns-clause-tools c = (
-  λ arguments words old new came is runs. (as_spelled tool_of words _ old new came is.spelled runs).form arguments is,
-  λ arguments words old new came is runs. (as_spelled tool_of words _ old new came is.spelled runs).form arguments is,
+  λ arguments words old new came is runs. (as_spelled tool_of words _ old new came (begins_with_name (codes "ask") words is) runs).form arguments is,
+  λ arguments words old new came is runs. (as_spelled tool_of words _ old new came (begins_with_name (codes "reply") words is.spelled) runs).form arguments is,
 )
 
 shown : (arguments : ShowArguments) (words : List (List ℕ)) (old new : Told) (came : Came) → IsShowForm arguments words
@@ -48,5 +48,14 @@ shown arguments words old new came is (inr ran) = inr (ran.form arguments is)
 pub returns-clause-shows : goal.returns-clause-shows
 returns-clause-shows c arguments words old new came is runs =
     let there : RunsPrinting show tool_usage words old new came =
-    subst (λ (all : List (List ℕ)). RunsTool all old new came → RunsPrinting show tool_usage all old new came) (sym is.spelled) (λ it. it) runs in
+    subst (λ (all : List (List ℕ)). RunsTool all old new came → RunsPrinting show tool_usage all old new came) (sym (begins_with_name (codes "show") words is)) (λ it. it) runs in
     shown arguments words old new came is there
+
+pub returns-clause-ask_is : goal.returns-clause-ask_is
+returns-clause-ask_is c arguments words is = subst IsTool (sym (begins_with_name (codes "ask") words is)) refl
+
+pub returns-clause-reply_is : goal.returns-clause-reply_is
+returns-clause-reply_is c arguments words is = subst IsTool (sym (begins_with_name (codes "reply") words is.spelled)) refl
+
+pub returns-clause-show_is : goal.returns-clause-show_is
+returns-clause-show_is c arguments words is = subst IsTool (sym (begins_with_name (codes "show") words is)) refl

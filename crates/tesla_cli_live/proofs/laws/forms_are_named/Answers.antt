@@ -1,5 +1,6 @@
-use Rattle.tesla_front.proofs.Tables.{as_spelled}
-use Rattle.tesla_cli_live.specs.Commands.{live_of, live_tool_of}
+use Rattle.std.proofs.Common.{codes, refl, subst, sym}
+use Rattle.tesla_front.proofs.Tables.{as_spelled, begins_with_name}
+use Rattle.tesla_cli_live.specs.Commands.{IsLive, IsLiveTool, live_of, live_tool_of}
 use Rattle.tesla_cli_live.proofs.laws.forms_are_named.Goals as goal
 
 pub returns-clause-receives : goal.returns-clause-receives
@@ -8,20 +9,32 @@ returns-clause-receives c arguments words before now last old new came is runs =
 
 pub returns-clause-relays : goal.returns-clause-relays
 returns-clause-relays c arguments words before now last old new came is runs =
-    (as_spelled (live_of before now last) words _ old new came is.spelled runs).form arguments is
+    (as_spelled (live_of before now last) words _ old new came (begins_with_name (codes "relay") words is.spelled) runs).form arguments is
 
 pub returns-clause-plays : goal.returns-clause-plays
 returns-clause-plays c arguments words before now last old new came is runs =
-    (as_spelled (live_of before now last) words _ old new came is.spelled runs).form arguments is
+    (as_spelled (live_of before now last) words _ old new came (begins_with_name (codes "play") words is.spelled) runs).form arguments is
 
 pub returns-clause-captures : goal.returns-clause-captures
 returns-clause-captures c arguments words before now last old new came is runs =
-    (as_spelled (live_tool_of before now last) words _ old new came is.spelled runs).form arguments is
+    (as_spelled (live_tool_of before now last) words _ old new came (begins_with_name (codes "capture") words is) runs).form arguments is
 
 pub returns-clause-feeds : goal.returns-clause-feeds
 returns-clause-feeds c arguments words before now last old new came is runs =
-    (as_spelled (live_tool_of before now last) words _ old new came is.spelled runs).form arguments is
+    (as_spelled (live_tool_of before now last) words _ old new came (begins_with_name (codes "feed") words is.spelled) runs).form arguments is
 
 pub returns-clause-watches : goal.returns-clause-watches
 returns-clause-watches c arguments words before now last old new came is runs =
     (as_spelled (live_tool_of before now last) words _ old new came is.spelled runs).form arguments is
+
+pub returns-clause-relay_is : goal.returns-clause-relay_is
+returns-clause-relay_is c arguments words is = subst IsLive (sym (begins_with_name (codes "relay") words is.spelled)) refl
+
+pub returns-clause-play_is : goal.returns-clause-play_is
+returns-clause-play_is c arguments words is = subst IsLive (sym (begins_with_name (codes "play") words is.spelled)) refl
+
+pub returns-clause-capture_is : goal.returns-clause-capture_is
+returns-clause-capture_is c arguments words is = subst IsLiveTool (sym (begins_with_name (codes "capture") words is)) refl
+
+pub returns-clause-feed_is : goal.returns-clause-feed_is
+returns-clause-feed_is c arguments words is = subst IsLiveTool (sym (begins_with_name (codes "feed") words is.spelled)) refl

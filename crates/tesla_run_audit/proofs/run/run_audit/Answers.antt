@@ -6,7 +6,7 @@ use Rattle.tesla_run_audit.proofs.Files.{are_files}
 use Rattle.tesla_run_audit.proofs.run.run_audit.Goals as goal
 
 pub perform-requires-clause-files : goal.perform-requires-clause-files
-perform-requires-clause-files g c = λ _ _. are_files (arguments_of c.in-Some.arguments) c.in-Some.ensures.found.names
+perform-requires-clause-files g c = λ _ _. are_files (arguments_of c.in-Some.arguments) (map string_bytes c.args.words.now) c.in-Some.ensures.found
 
 pub returns-in-Some : goal.returns-in-Some
 returns-in-Some g c =

@@ -1,5 +1,5 @@
 use Rattle.std.proofs.Common.{map, string_bytes}
-use Rattle.tesla_front.proofs.Commands.{runs_form}
+use Rattle.tesla_front.proofs.Commands.{runs_form, runs_usage}
 use Rattle.tesla_run_capture.specs.Arguments.{arguments_of}
 use Rattle.tesla_run_capture.specs.Capture.{capture}
 use Rattle.tesla_run_capture.proofs.run.run_capture.Goals as goal
@@ -9,3 +9,8 @@ returns-in-Some g c =
     let old = g.D.Desk.told c.args.desk.now in
     let new = g.D.Desk.told c.perform.new.desk in
     runs_form (capture old.live new.live) arguments_of (map string_bytes c.args.words.now) c.arguments_in.result c.in-Some.arguments old new _ c.in-Some.is c.arguments_in.ensures.only c.in-Some.ensures.found c.perform.ensures
+
+pub returns-in-None : goal.returns-in-None
+returns-in-None g c =
+    let told = g.D.Desk.told c.args.desk.now in
+    runs_usage (capture told.live told.live) arguments_of (map string_bytes c.args.words.now) c.arguments_in.result told c.in-None.is c.arguments_in.ensures.only

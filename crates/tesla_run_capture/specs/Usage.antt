@@ -1,6 +1,0 @@
--- The form of capture, as the usage line tells it.
-use Rattle.std.specs.Prelude.{ℕ, List, [], ◌∷◌, codes}
-
--- the words of each form, in the order in which they are told
-abbrev pub usages : List (List ℕ)
-usages = codes "capture LINK CAPTURE" ∷ []

@@ -1,6 +1,0 @@
--- The form of send, as the usage line tells it.
-use Rattle.std.specs.Prelude.{ℕ, List, codes}
-
--- the words of the form
-abbrev pub usage : List ℕ
-usage = codes "send SETUP SECRET SCRIPT CAPTURE"
