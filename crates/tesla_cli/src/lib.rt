@@ -3,7 +3,6 @@
 #![tactic(auto)]
 
 mod here;
-pub mod laws;
 mod tools;
 
 pub use here::{FORMS, run_here};

@@ -2,7 +2,6 @@
 //! of any words.
 #![tactic(auto)]
 
-pub mod laws;
 pub mod live;
 pub mod live_tools;
 pub mod recorded;

@@ -1,6 +1,6 @@
 //! The laws over feeds and worlds, as contracts of functions that do nothing.
 
-ghost use Rattle.tesla_feed_laws.specs.Laws.{FeedsAreSecure, FeedsTellOnTime};
+ghost use Rattle.tesla_laws.specs.Laws.{FeedsAreSecure, FeedsTellOnTime};
 
 /// Over any world that a feed's log makes, the security condition holds (RFC 4082, section 3.5).
 pub fn secure()

@@ -12,7 +12,7 @@ use Rattle.tesla_run_chain.specs.Chain.{chain}
 use Rattle.tesla_run_show.specs.Arguments.{IsShowForm, ShowArguments}
 use Rattle.tesla_run_show.specs.Show.{show}
 use Rattle.tesla_cli.specs.Commands.{IsTool, RunsTool, command_of, tool_of, tool_usage}
-use Rattle.tesla_cli.proofs.laws.forms_are_named.Goals as goal
+use Rattle.tesla_laws.proofs.commands.forms_are_named.Goals as goal
 
 -- both words of a chain name it
 both_named : (version : Version) (rest words : List (List ℕ)) (old new : Told) (came : Came) → words ≡ chains.command_of version ∷ rest

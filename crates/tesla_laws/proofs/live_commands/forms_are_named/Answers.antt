@@ -1,7 +1,7 @@
 use Rattle.std.proofs.Common.{codes, refl, subst, sym}
 use Rattle.tesla_front.proofs.Tables.{as_spelled, begins_with_name}
 use Rattle.tesla_cli_live.specs.Commands.{IsLive, IsLiveTool, live_of, live_tool_of}
-use Rattle.tesla_cli_live.proofs.laws.forms_are_named.Goals as goal
+use Rattle.tesla_laws.proofs.live_commands.forms_are_named.Goals as goal
 
 pub returns-clause-receives : goal.returns-clause-receives
 returns-clause-receives c arguments words before now last old new came is runs =

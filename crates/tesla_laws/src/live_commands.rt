@@ -25,10 +25,10 @@ ghost use Rattle.tesla_run_watch.specs.Arguments.{IsWatch};
 ghost use Rattle.tesla_run_watch.specs.Watch.{watching};
 ghost use Rattle.tesla_run_receive.specs.OutputArguments.{OutputArguments};
 
-use crate::{Done, LiveToolsDone, RecordedDone, run_live, run_live_tools, run_recorded};
 use std::alloc::Global;
 use std::sync::Wait;
 use std::thread::Threads;
+use tesla_cli_live::{Done, LiveToolsDone, RecordedDone, run_live, run_live_tools, run_recorded};
 use tesla_memory_desk::SureDesk;
 
 /// Words that are a form of some command are run as that command, and are for its table: the first word of each form

@@ -6,7 +6,7 @@ use Rattle.tesla_sender.specs.Made.{Call, Message, Disclose, Stream, reading_of}
 use Rattle.tesla_world.proofs.Sending.{made_due}
 use Rattle.tesla_feed.specs.Fed.{Event, fed, first_interval, is_unread}
 use Rattle.tesla_feed.specs.Fed as feeds
-use Rattle.tesla_feed_laws.specs.Laws.{FeedsTellOnTime, Timed, event_of}
+use Rattle.tesla_laws.specs.Laws.{FeedsTellOnTime, Timed, event_of}
 use Rattle.tesla_feed.proofs.Kept.{log_read}
 use Rattle.tesla_feed.proofs.Logs.{KeptByCalls, each_more, fed_keeps, intervals_rise, none_within}
 

@@ -24,8 +24,8 @@ ghost use Rattle.tesla_run_stress.specs.Stress.{stress};
 ghost use Rattle.tesla_run_trace.specs.Trace.{trace};
 ghost use Rattle.tesla_run_weave.specs.Weave.{weave};
 
-use crate::{run_here, run_tools};
 use std::alloc::Global;
+use tesla_cli::{run_here, run_tools};
 use tesla_memory_desk::SureDesk;
 
 /// Words that are a form of some command are run as that command, and those of a tool as that tool, and are for its
