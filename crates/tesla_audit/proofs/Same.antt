@@ -100,9 +100,9 @@ arrival_same a b e =
 pub same_is : (a b : Entry) → same_entry a b ≡ true → a ≡ b
 unfolding same_entry
 same_is (Arrived a) (Arrived b) e = arrival_same a b e
-same_is (Taken releaser reply) (Taken other told) e =
-    let both = and_parts (eqb releaser other) (bytes_eq (reply_numbers reply) (reply_numbers told)) e in
-    ap (λ (n : ℕ). Taken n reply) (eqb-true releaser other both.0) ∙ ap (Taken other) (reply_same reply told both.1)
+same_is (Taken releaser reply) (Taken other returned) e =
+    let both = and_parts (eqb releaser other) (bytes_eq (reply_numbers reply) (reply_numbers returned)) e in
+    ap (λ (n : ℕ). Taken n reply) (eqb-true releaser other both.0) ∙ ap (Taken other) (reply_same reply returned both.1)
 same_is (Ended ingest) (Ended other) e = ap Ended (eqb-true ingest other e)
 same_is (Arrived a) (Taken releaser reply) e = absurd cc
 same_is (Arrived a) (Ended ingest) e = absurd cc

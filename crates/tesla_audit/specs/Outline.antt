@@ -16,14 +16,14 @@ pub record TraceOutline : Type 0 where
   pub fault : Option (ℕ × TraceKind)
 
 -- a refused place with its cause
-abbrev pub fault_told : Option (ℕ × Refusal EntryFault) → Option (ℕ × TraceKind)
-fault_told None = None
-fault_told (Some fault) = Some (fault.0, kind_of fault.1)
+abbrev pub fault_shown : Option (ℕ × Refusal EntryFault) → Option (ℕ × TraceKind)
+fault_shown None = None
+fault_shown (Some fault) = Some (fault.0, kind_of fault.1)
 
 -- an outline of the grammar of traces
-abbrev pub outline_told : Outline ℕ Entry EntryFault → TraceOutline
-outline_told outline = record { ingests = outline.head; entries = outline.records; fault = fault_told outline.fault }
+abbrev pub outline_shown : Outline ℕ Entry EntryFault → TraceOutline
+outline_shown outline = record { ingests = outline.head; entries = outline.records; fault = fault_shown outline.fault }
 
 -- the outline of a trace
 abbrev pub trace_outline : List ℕ → TraceOutline
-trace_outline bytes = outline_told (outline_of trace bytes)
+trace_outline bytes = outline_shown (outline_of trace bytes)

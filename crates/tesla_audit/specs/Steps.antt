@@ -37,12 +37,12 @@ refusal_of kinds.BadCode = refusals.BadRecord faults.BadCode
 abbrev pub records_step : TraceStep → RecordsStep EntryFault (Unit {0})
 records_step Gave = steps.Record tt
 records_step End = steps.End
-records_step (Refused place kind) = steps.Refused place (refusal_of kind)
+records_step (Refused offset kind) = steps.Refused offset (refusal_of kind)
 records_step ReadFault = steps.ReadFault
 
 -- the entry that was given is the one that the place holds
 abbrev pub given_in : EntryBuffer → Unit {0} → Entry
-given_in place given = entry_in place
+given_in offset given = entry_in offset
 
 -- a step gave no entry
 abbrev pub GivesNone : TraceStep → Type 0

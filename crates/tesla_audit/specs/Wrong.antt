@@ -37,7 +37,7 @@ reply_numbers Over = 1 ∷ []
 -- the two entries are the same
 unfoldable pub same_entry : Entry → Entry → Bool
 same_entry (Arrived a) (Arrived b) = a.ingest == b.ingest && a.reading == b.reading && bytes_eq a.bytes b.bytes && bytes_eq (verdict_numbers a.verdict) (verdict_numbers b.verdict)
-same_entry (Taken releaser reply) (Taken other told) = releaser == other && bytes_eq (reply_numbers reply) (reply_numbers told)
+same_entry (Taken releaser reply) (Taken other returned) = releaser == other && bytes_eq (reply_numbers reply) (reply_numbers returned)
 same_entry (Ended ingest) (Ended other) = ingest == other
 same_entry _ _ = false
 
@@ -55,7 +55,7 @@ first_wrong_after cfg before (entry ∷ entries) =
 abbrev pub first_wrong : Config → List Entry → Option (ℕ × Entry)
 first_wrong cfg history = first_wrong_after cfg [] history
 
--- behind a legal front stands an entry that isn't the right one
+-- behind a legal prefix stands an entry that isn't the right one
 pub record IsFirstWrong (cfg : Config) (history : List Entry) (n : ℕ) (right : Entry) : Type 0 where
   pub before : List Entry
   pub entry : Entry

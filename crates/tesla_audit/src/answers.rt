@@ -3,7 +3,7 @@
 ghost use Rattle.std.specs.Prelude.{◌≡◌, ◌+◌, ◌≤◌, ◌++◌, List, ℕ, length, decimal};
 ghost use Rattle.arrayvec.specs.ArrayString.{array_string_len};
 ghost use Rattle.tesla_state.specs.Replies.{reply_shown};
-ghost use Rattle.tesla_audit.specs.Answers.{answer_told, head_told, reply_told, verdict_told};
+ghost use Rattle.tesla_audit.specs.Answers.{answer_line, given_words, reply_words, verdict_words};
 ghost use Rattle.tesla_audit.specs.Checks.{answer_text};
 
 use crate::auditor::Answer;
@@ -29,7 +29,7 @@ pub fn add_number(lines: &mut Lines, name: &str, number: u64)
 /// are at most 28 bytes, for which there must be room.
 pub fn add_verdict(lines: &mut Lines, verdict: Verdict)
     requires room { array_string_len lines.old + 28 ≤ 2048 }
-    ensures text { lines.new.bytes ≡ lines.old.bytes ++ verdict_told verdict }
+    ensures text { lines.new.bytes ≡ lines.old.bytes ++ verdict_words verdict }
     ensures few { array_string_len lines.new ≤ array_string_len lines.old + 28 }
 {
     match verdict {
@@ -50,7 +50,7 @@ pub fn add_verdict(lines: &mut Lines, verdict: Verdict)
 /// Adds a packet that was given. These are at most 53 bytes.
 fn add_head(lines: &mut Lines, head: &Head)
     requires room { array_string_len lines.old + 140 ≤ 2048 }
-    ensures text { lines.new.bytes ≡ lines.old.bytes ++ head_told head.now }
+    ensures text { lines.new.bytes ≡ lines.old.bytes ++ given_words head.now }
     ensures few { array_string_len lines.new ≤ array_string_len lines.old + 140 }
 {
     add_number(lines, "Given ", head.position);
@@ -64,7 +64,7 @@ fn add_head(lines: &mut Lines, head: &Head)
 /// whatever its payload is. For these there must be room of 140 bytes.
 pub fn add_reply(lines: &mut Lines, reply: Take)
     requires room { array_string_len lines.old + 140 ≤ 2048 }
-    ensures text { (payload : List ℕ) → lines.new.bytes ≡ lines.old.bytes ++ reply_told (reply_shown reply payload) }
+    ensures text { (payload : List ℕ) → lines.new.bytes ≡ lines.old.bytes ++ reply_words (reply_shown reply payload) }
     ensures few { array_string_len lines.new ≤ array_string_len lines.old + 140 }
 {
     match reply {

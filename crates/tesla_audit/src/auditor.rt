@@ -115,17 +115,17 @@ impl Auditor {
     fn check_take(
         &mut self,
         releaser: u8,
-        told: Take,
+        returned: Take,
         payload: &[u8; MOST_DATAGRAM],
     ) -> Result<(), Answer>
         requires calls { self.old.calls + 1 < 2 ^ 64 }
-        ensures checks { (h : List Entry) → Stands self.old h → Checks self.old.config h (Taken releaser (reply_shown told payload.now)) result }
+        ensures checks { (h : List Entry) → Stands self.old h → Checks self.old.config h (Taken releaser (reply_shown returned payload.now)) result }
         ensures stands { (h : List Entry) → Stands self.old h → Stands self.new (h ++ entry_of self.old.config h (Takes releaser) ∷ []) }
         ensures config { self.new.config ≡ self.old.config }
         ensures calls { self.new.calls ≡ self.old.calls + 1 }
     {
         let right = self.receiver.take(releaser, &mut self.payload);
-        if right == told && is_same_payload(right, &self.payload, payload) {
+        if right == returned && is_same_payload(right, &self.payload, payload) {
             Ok(())
         } else {
             Err(Answer::Take(right))
@@ -134,15 +134,15 @@ impl Auditor {
 }
 
 /// Whether both have the payload of the packet that this answer gives, if it gives one.
-fn is_same_payload(reply: Take, right: &[u8; MOST_PAYLOAD], told: &[u8; MOST_DATAGRAM]) -> bool
+fn is_same_payload(reply: Take, right: &[u8; MOST_PAYLOAD], returned: &[u8; MOST_DATAGRAM]) -> bool
     requires { IsShort reply }
-    ensures same { result ≡ true → reply_shown reply right.now ≡ reply_shown reply told.now }
-    ensures other { result ≡ false → reply_shown reply right.now ≢ reply_shown reply told.now }
+    ensures same { result ≡ true → reply_shown reply right.now ≡ reply_shown reply returned.now }
+    ensures other { result ≡ false → reply_shown reply right.now ≢ reply_shown reply returned.now }
 {
     match reply {
         Take::Given(head) => {
             let length = usize::from(head.length);
-            right[..length] == told[..length]
+            right[..length] == returned[..length]
         }
         Take::Empty | Take::Over => true,
     }

@@ -1,7 +1,7 @@
 //! Laws about traces and the first wrong entry of a history, as contracts of functions that do nothing.
 
 ghost use Rattle.std.specs.Prelude.{◌≡◌, ◌↔◌, List, ℕ, Some, None, true};
-ghost use Rattle.tesla_base.specs.Front.{AreBytes};
+ghost use Rattle.tesla_base.specs.Prefix.{AreBytes};
 ghost use Rattle.tesla_fitting.specs.declared.config.Config.{Config};
 ghost use Rattle.tesla_receiver.specs.declared.history.Entry.{Entry};
 ghost use Rattle.tesla_receiver.specs.History.{IsLegal};
@@ -21,7 +21,7 @@ pub fn sameness()
     ensures { (a b : Entry) → (same_entry a b ≡ true) ↔ (a ≡ b) }
 {}
 
-/// A history is legal exactly where no entry is wrong; else the first wrong one stands behind a legal front, and the right
+/// A history is legal exactly where no entry is wrong; else the first wrong one stands behind a legal prefix, and the right
 /// entry is the one answer to its event.
 pub fn wrong_entries()
     ensures legal { (cfg : Config) (history : List Entry) → (first_wrong cfg history ≡ None) ↔ IsLegal cfg history }

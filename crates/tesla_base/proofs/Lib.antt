@@ -1,6 +1,6 @@
 pub mod Numbers
 pub mod Spellings
-pub mod Fronts
+pub mod Prefixes
 pub mod Lists
 pub mod Tags
 pub mod Members

@@ -58,7 +58,7 @@ drop_part xs from until n inside =
 -- the part from one place to another, with what was put behind it
 pub part_put_behind : {A : Type 0} (xs ys : List A) (from until k n : ℕ) → from ≤ until → until ≤ length xs → n ≤ length ys → take (until + n - from) (drop from (put_mid until k xs ys)) ≡ take (until - from) (drop from xs) ++ take n ys
 part_put_behind xs ys from until k n ordered within fits =
-    let front = length-take-le until xs within in
+    let prefix = length-take-le until xs within in
     let held = drop from (take until xs) in
     let size : length held ≡ until - from = omega (arith, length-drop from (take until xs)) in
     let sum : until + n - from ≡ (until - from) + n = omega arith in

@@ -47,7 +47,7 @@ pub apart_joined : (place : ℕ) (xs ys : List ℕ) → is_in place xs ≡ false
 apart_joined place xs ys h k = list_any-append (λ x. eqb x place) xs ys ∙ or_from (is_in place xs) (is_in place ys) h k
 
 -- a list is split where a number stands
-pub split_at : (place : ℕ) (xs : List ℕ) → is_in place xs ≡ true → (front : List ℕ) × (rest : List ℕ) × (xs ≡ front ++ place ∷ rest)
+pub split_at : (place : ℕ) (xs : List ℕ) → is_in place xs ≡ true → (prefix : List ℕ) × (rest : List ℕ) × (xs ≡ prefix ++ place ∷ rest)
 split_at place [] h = absurd (false≢true h)
 split_at place (x ∷ xs) h =
     ⊎_elim (λ (e : x ≡ place). ([], xs, ap (λ n. n ∷ xs) e))
@@ -65,13 +65,13 @@ without_none place (x ∷ xs) h =
 -- ---- distinct numbers
 
 -- a number between two lists is in neither, and they are distinct without it
-pub distinct_split : (place : ℕ) (front rest : List ℕ) → Distinct (front ++ place ∷ rest) → (is_in place front ≡ false) × (is_in place rest ≡ false) × Distinct (front ++ rest)
+pub distinct_split : (place : ℕ) (prefix rest : List ℕ) → Distinct (prefix ++ place ∷ rest) → (is_in place prefix ≡ false) × (is_in place rest ≡ false) × Distinct (prefix ++ rest)
 distinct_split place [] rest d = (refl, d.0, d.1)
-distinct_split place (x ∷ front) rest d =
-    let more = distinct_split place front rest d.1 in
-    let both = apart_both x front (place ∷ rest) d.0 in
+distinct_split place (x ∷ prefix) rest d =
+    let more = distinct_split place prefix rest d.1 in
+    let both = apart_both x prefix (place ∷ rest) d.0 in
     let here = apart place x rest both.1 in
-    (apart_from x place front (λ e. here.0 (sym e)) more.0, more.1, (apart_joined x front rest both.0 here.1, more.2))
+    (apart_from x place prefix (λ e. here.0 (sym e)) more.0, more.1, (apart_joined x prefix rest both.0 here.1, more.2))
 
 -- one number more that isn't among them
 pub distinct_push : (xs : List ℕ) (place : ℕ) → Distinct xs → is_in place xs ≡ false → Distinct (xs ++ place ∷ [])
@@ -81,15 +81,15 @@ distinct_push (x ∷ xs) place d h =
     (apart_joined x xs (place ∷ []) d.0 (apart_from place x [] (λ e. parts.0 (sym e)) refl), distinct_push xs place d.1 parts.1)
 
 -- a list without one of its distinct numbers
-pub without_split : (place : ℕ) (front rest : List ℕ) → Distinct (front ++ place ∷ rest) → without place (front ++ place ∷ rest) ≡ front ++ rest
+pub without_split : (place : ℕ) (prefix rest : List ℕ) → Distinct (prefix ++ place ∷ rest) → without place (prefix ++ place ∷ rest) ≡ prefix ++ rest
 without_split place [] rest d =
     cond-false (not (eqb place place)) (place ∷ without place rest) (without place rest) (not_from_true (eqb place place) (eq-eqb place place refl))
     ∙ without_none place rest d.0
-without_split place (x ∷ front) rest d =
-    let both = apart_both x front (place ∷ rest) d.0 in
+without_split place (x ∷ prefix) rest d =
+    let both = apart_both x prefix (place ∷ rest) d.0 in
     let here = apart place x rest both.1 in
-    cond-true (not (eqb x place)) (x ∷ without place (front ++ place ∷ rest)) (without place (front ++ place ∷ rest)) (not_from_false (eqb x place) (ne_eqb x place (λ e. here.0 (sym e))))
-    ∙ ap (λ ys. x ∷ ys) (without_split place front rest d.1)
+    cond-true (not (eqb x place)) (x ∷ without place (prefix ++ place ∷ rest)) (without place (prefix ++ place ∷ rest)) (not_from_false (eqb x place) (ne_eqb x place (λ e. here.0 (sym e))))
+    ∙ ap (λ ys. x ∷ ys) (without_split place prefix rest d.1)
 
 -- ---- lists of lists
 
@@ -108,8 +108,8 @@ in_no_list place (xs ∷ lists) zero h = (or_parts (is_in place xs) (list_any (i
 in_no_list place (xs ∷ lists) (suc k) h = in_no_list place lists k (or_parts (is_in place xs) (list_any (is_in place) lists) h).1
 
 -- what is in one of two lists is in both joined
-pub in_front : (place : ℕ) (xs ys : List ℕ) → is_in place xs ≡ true → is_in place (xs ++ ys) ≡ true
-in_front place xs ys h = list_any-append (λ x. eqb x place) xs ys ∙ or_left (is_in place xs) (is_in place ys) h
+pub in_prefix : (place : ℕ) (xs ys : List ℕ) → is_in place xs ≡ true → is_in place (xs ++ ys) ≡ true
+in_prefix place xs ys h = list_any-append (λ x. eqb x place) xs ys ∙ or_left (is_in place xs) (is_in place ys) h
 
 pub in_rest : (place : ℕ) (xs ys : List ℕ) → is_in place ys ≡ true → is_in place (xs ++ ys) ≡ true
 in_rest place xs ys h = list_any-append (λ x. eqb x place) xs ys ∙ or_right (is_in place xs) (is_in place ys) h
@@ -119,11 +119,11 @@ pub in_joined : (place : ℕ) (xs ys : List ℕ) → is_in place (xs ++ ys) ≡ 
 in_joined place xs ys h = or_cases (is_in place xs) (is_in place ys) (sym (list_any-append (λ x. eqb x place) xs ys) ∙ h)
 
 -- what is in a list without one of its distinct numbers is in the list, and isn't that number
-in_split : (place : ℕ) (front : List ℕ) (p : ℕ) (rest : List ℕ) → Distinct (front ++ p ∷ rest) → is_in place (front ++ rest) ≡ true → (is_in place (front ++ p ∷ rest) ≡ true) × (p ≡ place → ⊥)
-in_split place front p rest d i =
-    let parts = distinct_split p front rest d in (
-      ⊎_elim (λ (a : is_in place front ≡ true). in_front place front (p ∷ rest) a) (λ (b : is_in place rest ≡ true). in_rest place front (p ∷ rest) (in_there p place rest b)) (in_joined place front rest i),
-      differs place p (front ++ rest) i (apart_joined p front rest parts.0 parts.1),
+in_split : (place : ℕ) (prefix : List ℕ) (p : ℕ) (rest : List ℕ) → Distinct (prefix ++ p ∷ rest) → is_in place (prefix ++ rest) ≡ true → (is_in place (prefix ++ p ∷ rest) ≡ true) × (p ≡ place → ⊥)
+in_split place prefix p rest d i =
+    let parts = distinct_split p prefix rest d in (
+      ⊎_elim (λ (a : is_in place prefix ≡ true). in_prefix place prefix (p ∷ rest) a) (λ (b : is_in place rest ≡ true). in_rest place prefix (p ∷ rest) (in_there p place rest b)) (in_joined place prefix rest i),
+      differs place p (prefix ++ rest) i (apart_joined p prefix rest parts.0 parts.1),
     )
 
 -- there are at most n distinct numbers below n

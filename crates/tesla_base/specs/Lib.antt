@@ -1,6 +1,6 @@
 pub mod Field
 pub mod Number
-pub mod Front
+pub mod Prefix
 pub mod Version
 pub mod Tag
 pub mod Members

@@ -86,8 +86,8 @@ fn main(rt: HostRuntime) -> io::Result<()> {
     if asks_for_turns(words.as_slice()) {
         return measure_turns(&rt);
     }
-    if let Some(told) = worked(rt.alloc(), words.as_slice()) {
-        println!(rt; "{told}")?;
+    if let Some(reported) = worked(rt.alloc(), words.as_slice()) {
+        println!(rt; "{reported}")?;
     }
     Ok(())
 }

@@ -1,4 +1,4 @@
-pub mod Places
+pub mod HeldSlots
 pub mod Stored
 pub mod Written
 pub mod Resting

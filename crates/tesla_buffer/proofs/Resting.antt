@@ -10,15 +10,15 @@ use Rattle.tesla_buffer.proofs.Stored.{Chosen}
 
 -- where one slot has a new item, and the others are as before
 module _ (capacity : ℕ) (slots now : List Item) (resting : List Bool) (p : ℕ) (it : Item) (inside : p < capacity) (here : item_at now p ≡ it) (others : (q : ℕ) → (q ≡ p → ⊥) → q < length now → (q < length slots) × (item_at now q ≡ item_at slots q)) where
-  told_at : (b : Bool) → b ≡ is_resting it → IsBeside capacity slots resting → (q : ℕ) → q < length now → get_or (set resting p b) q true ≡ is_resting (item_at now q)
-  told_at b same r q within =
+  resting_at : (b : Bool) → b ≡ is_resting it → IsBeside capacity slots resting → (q : ℕ) → q < length now → get_or (set resting p b) q true ≡ is_resting (item_at now q)
+  resting_at b same r q within =
       ⊎_elim
       (λ (s : q ≡ p). ap (λ n. get_or (set resting p b) n true) s ∙ get_or-set_same resting p b true (omega (arith, inside, r.long)) ∙ same ∙ ap is_resting (sym here) ∙ ap (λ n. is_resting (item_at now n)) (sym s))
-      (λ (ne : q ≡ p → ⊥). let there = others q ne within in get_or-set_other resting p q b true ne ∙ r.told q there.0 ∙ ap is_resting (sym there.1))
+      (λ (ne : q ≡ p → ⊥). let there = others q ne within in get_or-set_other resting p q b true ne ∙ r.tells q there.0 ∙ ap is_resting (sym there.1))
       (cases_eq q p)
 
   pub beside_set : (b : Bool) → b ≡ is_resting it → IsBeside capacity slots resting → IsBeside capacity now (set resting p b)
-  beside_set b same r = record { long = length-set resting p b ∙ r.long; told = told_at b same r }
+  beside_set b same r = record { long = length-set resting p b ∙ r.long; tells = resting_at b same r }
 
 -- an item that was taken rests
 pub taken_rests : (item : Item) → item.taken ≡ true → true ≡ is_resting item
@@ -41,8 +41,8 @@ chosen_others slots slots' free free' p empty c q ne within =
     (λ (a : (free ≡ free' ++ p ∷ []) × (slots' ≡ slots)). (omega (arith, within, ap length a.1), ap (λ xs. item_at xs q) a.1))
     (λ (b : (free ≡ []) × (free' ≡ []) × (p ≡ length slots) × (slots' ≡ slots ++ empty ∷ [])).
     let other : q ≡ length slots → ⊥ = λ e. ne (e ∙ sym b.2) in
-    let front : q < length slots = omega (arith, within, ap length b.3, length-append slots (empty ∷ []), other) in
-    (front, ap (λ xs. item_at xs q) b.3 ∙ get_or_append_left slots (empty ∷ []) no_item q front))
+    let prefix : q < length slots = omega (arith, within, ap length b.3, length-append slots (empty ∷ []), other) in
+    (prefix, ap (λ xs. item_at xs q) b.3 ∙ get_or_append_left slots (empty ∷ []) no_item q prefix))
     c
 
 -- an item in a chosen slot

@@ -9,30 +9,30 @@ use Rattle.std.proofs.lemmas.List.Folds.{list_any-append, list_any_at}
 use Rattle.std.proofs.Math.Bool.{or-false}
 use Rattle.std.proofs.lemmas.Option.{cond_some, get_or_from_slice_get}
 use Rattle.tesla_base.specs.declared.names.Name.{Name}
-use Rattle.tesla_buffer.specs.Held.{Held, Holding, first_place, is_at, is_live, is_of, is_released_as, is_unreleased_of, next_place, next_unreleased}
-use Rattle.tesla_buffer.specs.Stored.{IsStored, IsNumbered, Keyed, held_at, item_at, key_of_name, no_item, places_of, released_key}
+use Rattle.tesla_buffer.specs.Held.{Held, Holding, first_slot, is_at, is_live, is_of, is_released_as, is_unreleased_of, next_slot, next_unreleased}
+use Rattle.tesla_buffer.specs.Stored.{IsStored, IsNumbered, Keyed, held_at, item_at, key_of_name, no_item, entry_slots, released_key}
 use Rattle.tesla_buffer.specs.declared.item.Item.{Item}
 use Rattle.tesla_links.specs.Entries.{Entries, Entry}
-use Rattle.tesla_links.specs.Entries.{first_place as first_entry, is_at as entry_at, is_under, is_unmarked_under, marked_at, next_place as next_entry, next_unmarked}
+use Rattle.tesla_links.specs.Entries.{first_slot as first_entry, is_at as entry_at, is_under, is_unmarked_under, marked_at, next_slot as next_entry, next_unmarked}
 use Rattle.tesla_base.specs.Members.{Distinct, is_in, without}
 use Rattle.tesla_links.specs.Slots.{has_key}
 use Rattle.tesla_base.proofs.Filtered.{distinct_filter, filter-map, in_filter}
 use Rattle.tesla_links.proofs.Keyed.{replicate_same}
-use Rattle.tesla_base.proofs.Members.{apart_from, differs, distinct_push, distinct_split, in_cases, in_front, in_here, in_joined, in_rest, without_other, without_same}
-use Rattle.tesla_buffer.proofs.Places.{any_held, first_is, next_is, of_interval, of_unreleased, to_place, unreleased_next_is, held_on, held_there, keyed_filter, keyed_marked, keyed_on, keyed_push, length-without, live_is, places_without}
+use Rattle.tesla_base.proofs.Members.{apart_from, differs, distinct_push, distinct_split, in_cases, in_prefix, in_here, in_joined, in_rest, without_other, without_same}
+use Rattle.tesla_buffer.proofs.HeldSlots.{any_held, first_is, next_is, of_interval, of_unreleased, to_slot, unreleased_next_is, held_on, held_there, keyed_filter, keyed_marked, keyed_on, keyed_push, length-without, live_is, slots_without}
 
--- ---- a place for a packet
+-- ---- a slot for a packet
 
 -- a place at which no packet is held, among slots of which the others are as before, and the free places without it
 pub record IsVacant (capacity : ℕ) (slots slots' : List Item) (free' : List ℕ) (es : List Entry) (p : ℕ) : Type 0 where
-  pub absent : is_in p (places_of es) ≡ false
+  pub absent : is_in p (entry_slots es) ≡ false
   pub inside : p < length slots'
   pub most : length slots' ≤ capacity
   pub counted : length es + 1 + length free' ≡ length slots'
   pub distinct_free : Distinct free'
-  pub free : (q : ℕ) → is_in q free' ≡ true → (q < length slots') × (is_in q (places_of es) ≡ false) × (q ≡ p → ⊥)
+  pub free : (q : ℕ) → is_in q free' ≡ true → (q < length slots') × (is_in q (entry_slots es) ≡ false) × (q ≡ p → ⊥)
   pub longer : length slots ≤ length slots'
-  pub same : (q : ℕ) → is_in q (places_of es) ≡ true → item_at slots' q ≡ item_at slots q
+  pub same : (q : ℕ) → is_in q (entry_slots es) ≡ true → item_at slots' q ≡ item_at slots q
   pub small : (q : ℕ) → IsNumbered (item_at slots' q)
 
 -- what is told of the slot that isn't in use
@@ -49,7 +49,7 @@ module _ (capacity : ℕ) (slots slots' : List Item) (free free' : List ℕ) (in
   reused ef es =
       let distinct : Distinct (free' ++ p ∷ []) = subst (λ xs. Distinct xs) ef h.distinct_free in
       let parts = distinct_split p free' [] distinct in
-      let was : (q : ℕ) → is_in q (free' ++ p ∷ []) ≡ true → (q < length slots) × (is_in q (places_of index.entries) ≡ false) = λ q i. h.vacant q (ap (is_in q) ef ∙ i) in
+      let was : (q : ℕ) → is_in q (free' ++ p ∷ []) ≡ true → (q < length slots) × (is_in q (entry_slots index.entries) ≡ false) = λ q i. h.vacant q (ap (is_in q) ef ∙ i) in
       let own = was p (in_rest p free' (p ∷ []) (in_here p [])) in
       record {
         absent = own.1;
@@ -58,7 +58,7 @@ module _ (capacity : ℕ) (slots slots' : List Item) (free free' : List ℕ) (in
         counted = omega (arith, h.counted, ap length es, ap length ef, length-append free' (p ∷ []));
         distinct_free = subst (λ xs. Distinct xs) (append-nil free') parts.2;
         free = λ q i.
-            let w = was q (in_front q free' (p ∷ []) i) in
+            let w = was q (in_prefix q free' (p ∷ []) i) in
             (omega (arith, w.0, ap length es), w.1, λ e. differs q p free' i parts.0 (sym e));
         longer = omega (arith, ap length es);
         same = λ q i. ap (λ ss. item_at ss q) es;
@@ -83,7 +83,7 @@ module _ (capacity : ℕ) (slots slots' : List Item) (free free' : List ℕ) (in
       let long : length slots' ≡ length slots + 1 = ap length es ∙ length-append slots (empty ∷ []) in
       let full : length index.entries ≡ length slots = omega (arith, h.counted, ap length ef) in
       record {
-        absent = false_from_ne_true (is_in p (places_of index.entries)) (λ i. let below = h.live p i in omega (arith, below, ep));
+        absent = false_from_ne_true (is_in p (entry_slots index.entries)) (λ i. let below = h.live p i in omega (arith, below, ep));
         inside = omega (arith, ep, long);
         most = omega (arith, long, full, room);
         counted = omega (arith, long, full, ap length ef');
@@ -106,37 +106,37 @@ module _ (capacity : ℕ) (slots slots' slots'' : List Item) (free free' : List 
     (h : IsStored capacity slots free index released) (v : IsVacant capacity slots slots' free' index.entries p)
     (size : length slots'' ≡ length slots') (here : item_at slots'' p ≡ it) (others : (q : ℕ) → (q ≡ p → ⊥) → item_at slots'' q ≡ item_at slots' q)
     (entries : index'.entries ≡ index.entries ++ record { key = it.name.interval; place = p; marked = it.released } ∷ []) where
-  came : places_of index'.entries ≡ places_of index.entries ++ p ∷ []
-  came = ap places_of entries ∙ map-append (λ (e : Entry). e.place) index.entries (record { key = it.name.interval; place = p; marked = it.released } ∷ [])
+  appended : entry_slots index'.entries ≡ entry_slots index.entries ++ p ∷ []
+  appended = ap entry_slots entries ∙ map-append (λ (e : Entry). e.place) index.entries (record { key = it.name.interval; place = p; marked = it.released } ∷ [])
 
-  came_cases : (q : ℕ) → is_in q (places_of index'.entries) ≡ true → (is_in q (places_of index.entries) ≡ true) ⊎ (q ≡ p)
-  came_cases q i =
-      ⊎_elim (λ (a : is_in q (places_of index.entries) ≡ true). inl a)
+  appended_cases : (q : ℕ) → is_in q (entry_slots index'.entries) ≡ true → (is_in q (entry_slots index.entries) ≡ true) ⊎ (q ≡ p)
+  appended_cases q i =
+      ⊎_elim (λ (a : is_in q (entry_slots index.entries) ≡ true). inl a)
       (λ (b : is_in q (p ∷ []) ≡ true). ⊎_elim (λ (s : p ≡ q). inr (sym s)) (λ (n : is_in q [] ≡ true). absurd (false≢true n)) (in_cases p q [] b))
-      (in_joined q (places_of index.entries) (p ∷ []) (ap (is_in q) (sym came) ∙ i))
+      (in_joined q (entry_slots index.entries) (p ∷ []) (ap (is_in q) (sym appended) ∙ i))
 
-  came_other : (q : ℕ) → (q ≡ p → ⊥) → is_in q (places_of index'.entries) ≡ is_in q (places_of index.entries)
-  came_other q ne =
-      ap (is_in q) came ∙ list_any-append (λ x. eqb x q) (places_of index.entries) (p ∷ [])
-      ∙ ap (λ b. is_in q (places_of index.entries) || b) (apart_from p q [] (λ s. ne (sym s)) refl) ∙ or-false (is_in q (places_of index.entries))
+  appended_other : (q : ℕ) → (q ≡ p → ⊥) → is_in q (entry_slots index'.entries) ≡ is_in q (entry_slots index.entries)
+  appended_other q ne =
+      ap (is_in q) appended ∙ list_any-append (λ x. eqb x q) (entry_slots index.entries) (p ∷ [])
+      ∙ ap (λ b. is_in q (entry_slots index.entries) || b) (apart_from p q [] (λ s. ne (sym s)) refl) ∙ or-false (is_in q (entry_slots index.entries))
 
-  came_here : is_in p (places_of index'.entries) ≡ true
-  came_here = ap (is_in p) came ∙ in_rest p (places_of index.entries) (p ∷ []) (in_here p [])
+  appended_here : is_in p (entry_slots index'.entries) ≡ true
+  appended_here = ap (is_in p) appended ∙ in_rest p (entry_slots index.entries) (p ∷ []) (in_here p [])
 
   -- the packets that were held are as they were
-  held_same : (q : ℕ) → is_in q (places_of index.entries) ≡ true → item_at slots'' q ≡ item_at slots q
-  held_same q i = others q (λ e. differs q p (places_of index.entries) i v.absent (sym e)) ∙ v.same q i
+  held_same : (q : ℕ) → is_in q (entry_slots index.entries) ≡ true → item_at slots'' q ≡ item_at slots q
+  held_same q i = others q (λ e. differs q p (entry_slots index.entries) i v.absent (sym e)) ∙ v.same q i
 
-  -- a place where no packet is held has no name
+  -- a slot where no packet is held has no name
   nameless : (q : ℕ) → (q ≡ p → ⊥) → released_key slots'' index'.entries q ≡ released_key slots index.entries q
   nameless q ne =
-      ap (λ b. cond (b && (item_at slots'' q).released) (Some (key_of_name (item_at slots'' q).name)) None) (came_other q ne)
+      ap (λ b. cond (b && (item_at slots'' q).released) (Some (key_of_name (item_at slots'' q).name)) None) (appended_other q ne)
       ∙ ⊎_elim
-      (λ (i : is_in q (places_of index.entries) ≡ true). ap (λ (x : Item). cond (is_in q (places_of index.entries) && x.released) (Some (key_of_name x.name)) None) (held_same q i))
-      (λ (n : is_in q (places_of index.entries) ≡ false).
-      cond-false (is_in q (places_of index.entries) && (item_at slots'' q).released) (Some (key_of_name (item_at slots'' q).name)) None (and_left (is_in q (places_of index.entries)) (item_at slots'' q).released n)
-      ∙ sym (cond-false (is_in q (places_of index.entries) && (item_at slots q).released) (Some (key_of_name (item_at slots q).name)) None (and_left (is_in q (places_of index.entries)) (item_at slots q).released n)))
-      (cases_Bool (is_in q (places_of index.entries)))
+      (λ (i : is_in q (entry_slots index.entries) ≡ true). ap (λ (x : Item). cond (is_in q (entry_slots index.entries) && x.released) (Some (key_of_name x.name)) None) (held_same q i))
+      (λ (n : is_in q (entry_slots index.entries) ≡ false).
+      cond-false (is_in q (entry_slots index.entries) && (item_at slots'' q).released) (Some (key_of_name (item_at slots'' q).name)) None (and_left (is_in q (entry_slots index.entries)) (item_at slots'' q).released n)
+      ∙ sym (cond-false (is_in q (entry_slots index.entries) && (item_at slots q).released) (Some (key_of_name (item_at slots q).name)) None (and_left (is_in q (entry_slots index.entries)) (item_at slots q).released n)))
+      (cases_Bool (is_in q (entry_slots index.entries)))
 
   pub stored_put : index'.capacity ≡ index.capacity → IsNumbered it → length released' ≡ length released
       → get_or released' p None ≡ cond it.released (Some (key_of_name it.name)) None → ((q : ℕ) → (q ≡ p → ⊥) → get_or released' q None ≡ get_or released q None)
@@ -152,11 +152,11 @@ module _ (capacity : ℕ) (slots slots' slots'' : List Item) (free free' : List 
         slots_within = omega (arith, size, v.most);
         counted = omega (arith, ap length entries, added, v.counted, size);
         live = λ q i.
-            ⊎_elim (λ (a : is_in q (places_of index.entries) ≡ true). omega (arith, h.live q a, v.longer, size))
+            ⊎_elim (λ (a : is_in q (entry_slots index.entries) ≡ true). omega (arith, h.live q a, v.longer, size))
             (λ (s : q ≡ p). subst Below (sym s) (omega (arith, v.inside, size)))
-            (came_cases q i);
-        vacant = λ q i. let f = v.free q i in (omega (arith, f.0, size), came_other q f.2 ∙ f.1);
-        distinct = subst (λ xs. Distinct xs) (sym came) (distinct_push (places_of index.entries) p h.distinct v.absent);
+            (appended_cases q i);
+        vacant = λ q i. let f = v.free q i in (omega (arith, f.0, size), appended_other q f.2 ∙ f.1);
+        distinct = subst (λ xs. Distinct xs) (sym appended) (distinct_push (entry_slots index.entries) p h.distinct v.absent);
         distinct_free = v.distinct_free;
         keyed = subst (λ xs. Keyed slots'' xs) (sym entries)
             (keyed_push slots'' index.entries (record { key = it.name.interval; place = p; marked = it.released })
@@ -170,7 +170,7 @@ module _ (capacity : ℕ) (slots slots' slots'' : List Item) (free free' : List 
         named = λ q.
             ⊎_elim
             (λ (s : q ≡ p). subst Named (sym s)
-            (named ∙ sym (ap (λ b. cond (b && (item_at slots'' p).released) (Some (key_of_name (item_at slots'' p).name)) None) came_here
+            (named ∙ sym (ap (λ b. cond (b && (item_at slots'' p).released) (Some (key_of_name (item_at slots'' p).name)) None) appended_here
             ∙ ap (λ (x : Item). cond x.released (Some (key_of_name x.name)) None) here)))
             (λ (ne : q ≡ p → ⊥). unnamed q ne ∙ h.named q ∙ sym (nameless q ne))
             (cases_eq q p);
@@ -185,7 +185,7 @@ module _ (capacity : ℕ) (slots slots' slots'' : List Item) (free free' : List 
 -- ---- a packet is marked
 
 module _ (capacity : ℕ) (slots slots' : List Item) (free : List ℕ) (index index' : Entries) (released released' : List (Option ℕ)) (p : ℕ) (it : Item)
-    (h : IsStored capacity slots free index released) (live : is_in p (places_of index.entries) ≡ true)
+    (h : IsStored capacity slots free index released) (live : is_in p (entry_slots index.entries) ≡ true)
     (size : length slots' ≡ length slots) (here : item_at slots' p ≡ it) (others : (q : ℕ) → (q ≡ p → ⊥) → item_at slots' q ≡ item_at slots q)
     (name : it.name ≡ (item_at slots p).name) where
   -- all keep their intervals
@@ -209,27 +209,27 @@ module _ (capacity : ℕ) (slots slots' : List Item) (free : List ℕ) (index in
       subst (λ xs. Keyed slots' xs) (sym entries)
       (keyed_marked slots slots' p index.entries interval_kept (ap (λ (x : Item). x.released) here ∙ e) (λ q ne. ap (λ (x : Item). x.released) (others q ne)) h.keyed)
 
-  pub stored_marked : places_of index'.entries ≡ places_of index.entries → index'.capacity ≡ index.capacity → Keyed slots' index'.entries
+  pub stored_marked : entry_slots index'.entries ≡ entry_slots index.entries → index'.capacity ≡ index.capacity → Keyed slots' index'.entries
       → IsNumbered it → length released' ≡ length released → get_or released' p None ≡ cond it.released (Some (key_of_name it.name)) None → ((q : ℕ) → (q ≡ p → ⊥) → get_or released' q None ≡ get_or released q None)
       → IsStored capacity slots' free index' released'
-  stored_marked places room keyed small names named unnamed =
+  stored_marked slots_are room keyed small names named unnamed =
       let Named : ℕ → Type 0 = λ q. get_or released' q None ≡ released_key slots' index.entries q in
       let named_before : (q : ℕ) → get_or released' q None ≡ released_key slots' index.entries q = λ q.
       ⊎_elim
       (λ (s : q ≡ p). subst Named (sym s)
       (named ∙ sym (ap (λ b. cond (b && (item_at slots' p).released) (Some (key_of_name (item_at slots' p).name)) None) live
       ∙ ap (λ (x : Item). cond x.released (Some (key_of_name x.name)) None) here)))
-      (λ (ne : q ≡ p → ⊥). unnamed q ne ∙ h.named q ∙ ap (λ (x : Item). cond (is_in q (places_of index.entries) && x.released) (Some (key_of_name x.name)) None) (sym (others q ne)))
+      (λ (ne : q ≡ p → ⊥). unnamed q ne ∙ h.named q ∙ ap (λ (x : Item). cond (is_in q (entry_slots index.entries) && x.released) (Some (key_of_name x.name)) None) (sym (others q ne)))
       (cases_eq q p) in
       record {
         some = h.some;
         most = h.most;
         room = room ∙ h.room;
         slots_within = omega (arith, size, h.slots_within);
-        counted = omega (arith, h.counted, size, length-map index'.entries (λ (e : Entry). e.place), length-map index.entries (λ (e : Entry). e.place), ap length places);
-        live = λ q i. omega (arith, h.live q (ap (is_in q) (sym places) ∙ i), size);
-        vacant = λ q i. let f = h.vacant q i in (omega (arith, f.0, size), ap (is_in q) places ∙ f.1);
-        distinct = subst (λ xs. Distinct xs) (sym places) h.distinct;
+        counted = omega (arith, h.counted, size, length-map index'.entries (λ (e : Entry). e.place), length-map index.entries (λ (e : Entry). e.place), ap length slots_are);
+        live = λ q i. omega (arith, h.live q (ap (is_in q) (sym slots_are) ∙ i), size);
+        vacant = λ q i. let f = h.vacant q i in (omega (arith, f.0, size), ap (is_in q) slots_are ∙ f.1);
+        distinct = subst (λ xs. Distinct xs) (sym slots_are) h.distinct;
         distinct_free = h.distinct_free;
         keyed = keyed;
         small = λ q.
@@ -237,11 +237,11 @@ module _ (capacity : ℕ) (slots slots' : List Item) (free : List ℕ) (index in
             (λ (ne : q ≡ p → ⊥). subst IsNumbered (sym (others q ne)) (h.small q))
             (cases_eq q p);
         names = names ∙ h.names;
-        named = λ q. named_before q ∙ ap (λ ps. cond (is_in q ps && (item_at slots' q).released) (Some (key_of_name (item_at slots' q).name)) None) (sym places);
+        named = λ q. named_before q ∙ ap (λ ps. cond (is_in q ps && (item_at slots' q).released) (Some (key_of_name (item_at slots' q).name)) None) (sym slots_are);
       }
 
 -- what the table of names says of a packet that is held
-pub named_live : (capacity : ℕ) (slots : List Item) (free : List ℕ) (index : Entries) (released : List (Option ℕ)) (p : ℕ) → IsStored capacity slots free index released → is_in p (places_of index.entries) ≡ true
+pub named_live : (capacity : ℕ) (slots : List Item) (free : List ℕ) (index : Entries) (released : List (Option ℕ)) (p : ℕ) → IsStored capacity slots free index released → is_in p (entry_slots index.entries) ≡ true
     → get_or released p None ≡ cond (item_at slots p).released (Some (key_of_name (item_at slots p).name)) None
 named_live capacity slots free index released p h live =
     h.named p ∙ ap (λ b. cond (b && (item_at slots p).released) (Some (key_of_name (item_at slots p).name)) None) live
@@ -249,23 +249,23 @@ named_live capacity slots free index released p h live =
 -- ---- a packet goes
 
 module _ (capacity : ℕ) (slots : List Item) (free free' : List ℕ) (index index' : Entries) (released released' : List (Option ℕ)) (p : ℕ)
-    (h : IsStored capacity slots free index released) (live : is_in p (places_of index.entries) ≡ true)
+    (h : IsStored capacity slots free index released) (live : is_in p (entry_slots index.entries) ≡ true)
     (entries : index'.entries ≡ filter (λ e. not (entry_at p e)) index.entries) where
-  gone : places_of index'.entries ≡ without p (places_of index.entries)
-  gone = ap places_of entries ∙ places_without p index.entries
+  gone : entry_slots index'.entries ≡ without p (entry_slots index.entries)
+  gone = ap entry_slots entries ∙ slots_without p index.entries
 
-  gone_other : (q : ℕ) → (q ≡ p → ⊥) → is_in q (places_of index'.entries) ≡ is_in q (places_of index.entries)
-  gone_other q ne = ap (is_in q) gone ∙ without_other p q (places_of index.entries) ne
+  gone_other : (q : ℕ) → (q ≡ p → ⊥) → is_in q (entry_slots index'.entries) ≡ is_in q (entry_slots index.entries)
+  gone_other q ne = ap (is_in q) gone ∙ without_other p q (entry_slots index.entries) ne
 
-  gone_here : is_in p (places_of index'.entries) ≡ false
-  gone_here = ap (is_in p) gone ∙ without_same p (places_of index.entries)
+  gone_here : is_in p (entry_slots index'.entries) ≡ false
+  gone_here = ap (is_in p) gone ∙ without_same p (entry_slots index.entries)
 
   pub stored_gone : index'.capacity ≡ index.capacity → free' ≡ free ++ p ∷ [] → released' ≡ set released p None → IsStored capacity slots free' index' released'
   stored_gone room ef er =
       let fewer : length index'.entries + 1 ≡ length index.entries =
-      omega (arith, length-map index'.entries (λ (e : Entry). e.place), length-map index.entries (λ (e : Entry). e.place), ap length gone, length-without p (places_of index.entries) h.distinct live) in
+      omega (arith, length-map index'.entries (λ (e : Entry). e.place), length-map index.entries (λ (e : Entry). e.place), ap length gone, length-without p (entry_slots index.entries) h.distinct live) in
       let busy : is_in p free ≡ false = false_from_ne_true (is_in p free) (λ i. true≢false (sym live ∙ (h.vacant p i).1)) in
-      let Free : ℕ → Type 0 = λ q. (q < length slots) × (is_in q (places_of index'.entries) ≡ false) in
+      let Free : ℕ → Type 0 = λ q. (q < length slots) × (is_in q (entry_slots index'.entries) ≡ false) in
       let Named : ℕ → Type 0 = λ q. get_or released' q None ≡ released_key slots index'.entries q in
       record {
         some = h.some;
@@ -273,7 +273,7 @@ module _ (capacity : ℕ) (slots : List Item) (free free' : List ℕ) (index ind
         room = room ∙ h.room;
         slots_within = h.slots_within;
         counted = omega (arith, h.counted, fewer, ap length ef, length-append free (p ∷ []));
-        live = λ q i. h.live q ((in_filter (λ x. not (eqb x p)) q (places_of index.entries) (ap (is_in q) (sym gone) ∙ i)).0);
+        live = λ q i. h.live q ((in_filter (λ x. not (eqb x p)) q (entry_slots index.entries) (ap (is_in q) (sym gone) ∙ i)).0);
         vacant = λ q i.
             ⊎_elim
             (λ (s : q ≡ p). subst Free (sym s) (h.live p live, gone_here))
@@ -285,7 +285,7 @@ module _ (capacity : ℕ) (slots : List Item) (free free' : List ℕ) (index ind
             let f = h.vacant q was in
             (f.0, gone_other q ne ∙ f.1))
             (cases_eq q p);
-        distinct = subst (λ xs. Distinct xs) (sym gone) (distinct_filter (λ x. not (eqb x p)) (places_of index.entries) h.distinct);
+        distinct = subst (λ xs. Distinct xs) (sym gone) (distinct_filter (λ x. not (eqb x p)) (entry_slots index.entries) h.distinct);
         distinct_free = subst (λ xs. Distinct xs) (sym ef) (distinct_push free p h.distinct_free busy);
         keyed = subst (λ xs. Keyed slots xs) (sym entries) (keyed_filter slots (λ e. not (entry_at p e)) index.entries h.keyed);
         small = h.small;
@@ -294,7 +294,7 @@ module _ (capacity : ℕ) (slots : List Item) (free free' : List ℕ) (index ind
             ⊎_elim
             (λ (s : q ≡ p). subst Named (sym s)
             (ap (λ rs. get_or rs p None) er ∙ get_or-set_same released p None None (omega (arith, h.names, h.slots_within, h.live p live))
-            ∙ sym (cond-false (is_in p (places_of index'.entries) && (item_at slots p).released) (Some (key_of_name (item_at slots p).name)) None (and_left (is_in p (places_of index'.entries)) (item_at slots p).released gone_here))))
+            ∙ sym (cond-false (is_in p (entry_slots index'.entries) && (item_at slots p).released) (Some (key_of_name (item_at slots p).name)) None (and_left (is_in p (entry_slots index'.entries)) (item_at slots p).released gone_here))))
             (λ (ne : q ≡ p → ⊥).
             ap (λ rs. get_or rs q None) er ∙ get_or-set_other released p q None None ne ∙ h.named q
             ∙ ap (λ b. cond (b && (item_at slots q).released) (Some (key_of_name (item_at slots q).name)) None) (sym (gone_other q ne)))
@@ -314,10 +314,10 @@ module _ (capacity : ℕ) (slots : List Item) (free : List ℕ) (index : Entries
   pub found_named : (p : ℕ) → slice_get released p ≡ Some (Some (key_of_name name)) → list_any (λ x. is_at p x && is_released_as name x) (map (held_at slots) index.entries) ≡ true
   found_named p e =
       let item = item_at slots p in
-      let test = is_in p (places_of index.entries) && item.released in
+      let test = is_in p (entry_slots index.entries) && item.released in
       let key : released_key slots index.entries p ≡ Some (key_of_name name) = sym (h.named p) ∙ get_or_from_slice_get released p (Some (key_of_name name)) None e in
       let passed = cond_some test (key_of_name item.name) (key_of_name name) key in
-      let both = and_parts (is_in p (places_of index.entries)) item.released passed.0 in
+      let both = and_parts (is_in p (entry_slots index.entries)) item.released passed.0 in
       let same = same_name item.name name (h.small p both.1) small passed.1 in
       held_there slots (is_released_as name) p index.entries both.0
       (and_from item.released (eqb item.name.interval name.interval && eqb item.name.number name.number) both.1
@@ -342,7 +342,7 @@ pub stored_open : (capacity : ℕ) (slots : List Item) (free : List ℕ) (index 
     → slots ≡ [] → free ≡ [] → ◌≡◌ {A = Entries} index (record { capacity = capacity; entries = []; reserved = index.reserved }) → released ≡ replicate capacity None → IsStored capacity slots free index released
 stored_open capacity slots free index released some most es ef ei er =
     let entries : index.entries ≡ [] = ap (λ (v : Entries). v.entries) ei in
-    let none : places_of index.entries ≡ [] = ap places_of entries in
+    let none : entry_slots index.entries ≡ [] = ap entry_slots entries in
     record {
       some = some;
       most = most;
@@ -357,7 +357,7 @@ stored_open capacity slots free index released some most es ef ei er =
       small = λ p. subst (λ ss. IsNumbered (item_at ss p)) (sym es) (λ e. absurd (false≢true e));
       names = ap length er ∙ length-replicate capacity None;
       named = λ p. ap (λ rs. get_or rs p None) er ∙ replicate_same capacity p None
-          ∙ sym (cond-false (is_in p (places_of index.entries) && (item_at slots p).released) (Some (key_of_name (item_at slots p).name)) None (and_left (is_in p (places_of index.entries)) (item_at slots p).released (ap (is_in p) none)));
+          ∙ sym (cond-false (is_in p (entry_slots index.entries) && (item_at slots p).released) (Some (key_of_name (item_at slots p).name)) None (and_left (is_in p (entry_slots index.entries)) (item_at slots p).released (ap (is_in p) none)));
     }
 
 -- ---- what a caller sees
@@ -372,7 +372,7 @@ module _ (capacity : ℕ) (slots : List Item) (index : Entries) (seen : Holding)
   pub seen_length : length seen.held ≡ length index.entries
   seen_length = ap length (sym seen_held) ∙ length-map index.entries (held_at slots)
 
-  pub seen_live : (p : ℕ) → is_live p seen.held ≡ is_in p (places_of index.entries)
+  pub seen_live : (p : ℕ) → is_live p seen.held ≡ is_in p (entry_slots index.entries)
   seen_live p = ap (is_live p) (sym seen_held) ∙ live_is slots p index.entries
 
   -- where there is room as a caller sees it, the slot that was chosen is one for a packet
@@ -380,30 +380,30 @@ module _ (capacity : ℕ) (slots : List Item) (index : Entries) (seen : Holding)
   vacant_seen slots' free free' released p empty h room c none =
       chosen capacity slots slots' free free' index released p empty h c none (omega (arith, room, seen_capacity, seen_length))
 
-  -- the place that a caller names
-  pub live_seen : (p : ℕ) → is_live p seen.held ≡ true → is_in p (places_of index.entries) ≡ true
+  -- the slot that a caller names
+  pub live_seen : (p : ℕ) → is_live p seen.held ≡ true → is_in p (entry_slots index.entries) ≡ true
   live_seen p live = sym (seen_live p) ∙ live
 
   -- what the index finds, as a caller sees it
   module _ (keyed : Keyed slots index.entries) where
-    pub first_seen : (i k : ℕ) (o : Option ℕ) → k ≡ i → o ≡ first_entry (filter (is_under k) index.entries) → to_place o ≡ first_place (filter (is_of i) seen.held)
-    first_seen i k o key told =
-        ap to_place (told ∙ ap (λ n. first_entry (filter (is_under n) index.entries)) key) ∙ sym (first_is slots (filter (is_under i) index.entries))
-        ∙ ap first_place (sym (of_interval slots i index.entries keyed)) ∙ ap (λ hs. first_place (filter (is_of i) hs)) seen_held
+    pub first_seen : (i k : ℕ) (o : Option ℕ) → k ≡ i → o ≡ first_entry (filter (is_under k) index.entries) → to_slot o ≡ first_slot (filter (is_of i) seen.held)
+    first_seen i k o key tells =
+        ap to_slot (tells ∙ ap (λ n. first_entry (filter (is_under n) index.entries)) key) ∙ sym (first_is slots (filter (is_under i) index.entries))
+        ∙ ap first_slot (sym (of_interval slots i index.entries keyed)) ∙ ap (λ hs. first_slot (filter (is_of i) hs)) seen_held
 
-    pub first_unreleased_seen : (i k : ℕ) (o : Option ℕ) → k ≡ i → o ≡ first_entry (filter (is_unmarked_under k) index.entries) → to_place o ≡ first_place (filter (is_unreleased_of i) seen.held)
-    first_unreleased_seen i k o key told =
-        ap to_place (told ∙ ap (λ n. first_entry (filter (is_unmarked_under n) index.entries)) key) ∙ sym (first_is slots (filter (is_unmarked_under i) index.entries))
-        ∙ ap first_place (sym (of_unreleased slots i index.entries keyed)) ∙ ap (λ hs. first_place (filter (is_unreleased_of i) hs)) seen_held
+    pub first_unreleased_seen : (i k : ℕ) (o : Option ℕ) → k ≡ i → o ≡ first_entry (filter (is_unmarked_under k) index.entries) → to_slot o ≡ first_slot (filter (is_unreleased_of i) seen.held)
+    first_unreleased_seen i k o key tells =
+        ap to_slot (tells ∙ ap (λ n. first_entry (filter (is_unmarked_under n) index.entries)) key) ∙ sym (first_is slots (filter (is_unmarked_under i) index.entries))
+        ∙ ap first_slot (sym (of_unreleased slots i index.entries keyed)) ∙ ap (λ hs. first_slot (filter (is_unreleased_of i) hs)) seen_held
 
-    pub next_seen : (p : ℕ) (o : Option ℕ) → o ≡ next_entry p index.entries → to_place o ≡ next_place p seen.held
-    next_seen p o told = ap to_place told ∙ sym (next_is slots p index.entries keyed) ∙ ap (next_place p) seen_held
+    pub next_seen : (p : ℕ) (o : Option ℕ) → o ≡ next_entry p index.entries → to_slot o ≡ next_slot p seen.held
+    next_seen p o tells = ap to_slot tells ∙ sym (next_is slots p index.entries keyed) ∙ ap (next_slot p) seen_held
 
-    pub next_unreleased_seen : (p : ℕ) (o : Option ℕ) → o ≡ next_unmarked p index.entries → to_place o ≡ next_unreleased p seen.held
-    next_unreleased_seen p o told = ap to_place told ∙ sym (unreleased_next_is slots p index.entries keyed) ∙ ap (next_unreleased p) seen_held
+    pub next_unreleased_seen : (p : ℕ) (o : Option ℕ) → o ≡ next_unmarked p index.entries → to_slot o ≡ next_unreleased p seen.held
+    next_unreleased_seen p o tells = ap to_slot tells ∙ sym (unreleased_next_is slots p index.entries keyed) ∙ ap (next_unreleased p) seen_held
 
--- a place at which no packet is held has no name
-pub unnamed_vacant : (capacity : ℕ) (slots : List Item) (free : List ℕ) (index : Entries) (released : List (Option ℕ)) (p : ℕ) → IsStored capacity slots free index released → is_in p (places_of index.entries) ≡ false
+-- a slot at which no packet is held has no name
+pub unnamed_vacant : (capacity : ℕ) (slots : List Item) (free : List ℕ) (index : Entries) (released : List (Option ℕ)) (p : ℕ) → IsStored capacity slots free index released → is_in p (entry_slots index.entries) ≡ false
     → get_or released p None ≡ None
 unnamed_vacant capacity slots free index released p h none =
-    h.named p ∙ cond-false (is_in p (places_of index.entries) && (item_at slots p).released) (Some (key_of_name (item_at slots p).name)) None (and_left (is_in p (places_of index.entries)) (item_at slots p).released none)
+    h.named p ∙ cond-false (is_in p (entry_slots index.entries) && (item_at slots p).released) (Some (key_of_name (item_at slots p).name)) None (and_left (is_in p (entry_slots index.entries)) (item_at slots p).released none)

@@ -10,7 +10,7 @@ use Rattle.tesla_buffer.specs.declared.item.Fate.{Fate}
 use Rattle.tesla_buffer.specs.declared.item.Fate.TheVariants.{Released, Taken, Gone}
 use Rattle.tesla_buffer.specs.declared.item.Item.{Item}
 
--- a packet and its place
+-- a packet and its slot
 pub record Held : Type 0 where
   pub place : ℕ
   pub item : Item
@@ -22,21 +22,21 @@ pub record Holding : Type 0 where
   pub held : List Held
   pub reserved : ℕ
 
--- whether a packet is at a place
+-- whether a packet is at a slot
 abbrev pub is_at : ℕ → Held → Bool
-is_at place h = h.place == place
+is_at slot h = h.place == slot
 
--- whether a packet is at a place of those held
+-- whether a packet is at a slot of those held
 abbrev pub is_live : ℕ → List Held → Bool
-is_live place held = list_any (is_at place) held
+is_live slot held = list_any (is_at slot) held
 
 -- whether a packet is of an interval
 abbrev pub is_of : ℕ → Held → Bool
 is_of interval h = h.item.name.interval == interval
 
--- whether a packet is at a place and was not released
+-- whether a packet is at a slot and was not released
 abbrev pub is_unreleased_at : ℕ → Held → Bool
-is_unreleased_at place h = is_at place h && not h.item.released
+is_unreleased_at slot h = is_at slot h && not h.item.released
 
 -- whether a packet is of an interval and was not released
 abbrev pub is_unreleased_of : ℕ → Held → Bool
@@ -46,30 +46,30 @@ is_unreleased_of interval h = is_of interval h && not h.item.released
 abbrev pub is_released_as : Name → Held → Bool
 is_released_as name h = h.item.released && ((h.item.name.interval == name.interval) && (h.item.name.number == name.number))
 
--- the place of the first packet
-abbrev pub first_place : List Held → Option Place
-first_place [] = None
-first_place (h ∷ hs) = Some (record { 0 = h.place })
+-- the slot of the first packet
+abbrev pub first_slot : List Held → Option Place
+first_slot [] = None
+first_slot (h ∷ hs) = Some (record { 0 = h.place })
 
--- the place of the next packet of the same interval behind the one at a place
-abbrev pub next_place : ℕ → List Held → Option Place
-next_place place [] = None
-next_place place (h ∷ hs) = cond (is_at place h) (first_place (filter (is_of h.item.name.interval) hs)) (next_place place hs)
+-- the slot of the next packet of the same interval behind the one at a slot
+abbrev pub next_slot : ℕ → List Held → Option Place
+next_slot slot [] = None
+next_slot slot (h ∷ hs) = cond (is_at slot h) (first_slot (filter (is_of h.item.name.interval) hs)) (next_slot slot hs)
 
--- the place of the next packet of the same interval behind the one at a place, among those that were not released
+-- the slot of the next packet of the same interval behind the one at a slot, among those that were not released
 abbrev pub next_unreleased : ℕ → List Held → Option Place
-next_unreleased place [] = None
-next_unreleased place (h ∷ hs) = cond (is_at place h) (first_place (filter (is_unreleased_of h.item.name.interval) hs)) (next_unreleased place hs)
+next_unreleased slot [] = None
+next_unreleased slot (h ∷ hs) = cond (is_at slot h) (first_slot (filter (is_unreleased_of h.item.name.interval) hs)) (next_unreleased slot hs)
 
--- the packet at a place is changed
+-- the packet at a slot is changed
 abbrev pub changed : ℕ → (Item → Item) → List Held → List Held
-changed place change held = map (λ h. cond (is_at place h) (record { place = h.place; item = change h.item }) h) held
+changed slot change held = map (λ h. cond (is_at slot h) (record { place = h.place; item = change h.item }) h) held
 
--- the packets after what became of the one at a place
+-- the packets after what became of the one at a slot
 abbrev pub settled : ℕ → Fate → List Held → List Held
-settled place Released held = changed place (λ item. record item { released = true }) held
-settled place Taken held = changed place (λ item. record item { taken = true }) held
-settled place Gone held = filter (λ h. not (is_at place h)) held
+settled slot Released held = changed slot (λ item. record item { released = true }) held
+settled slot Taken held = changed slot (λ item. record item { taken = true }) held
+settled slot Gone held = filter (λ h. not (is_at slot h)) held
 
 -- whether a packet doesn't wait to be taken: it was not released, or it was taken
 abbrev pub is_resting : Item → Bool

@@ -3,7 +3,7 @@
 ghost use Rattle.std.specs.Prelude.{◌≡◌, ◌<◌, ◌≤◌, [], ◌∷◌, ◌++◌, ◌&&◌, false, true, not, length, map, option_map, IfOk, IfSome, MatchOption, Some};
 ghost use Rattle.std.specs.List.{filter, find, list_any};
 ghost use Rattle.tesla_base.specs.Members.{Distinct, is_in};
-ghost use Rattle.tesla_buffer.specs.Held.{Held, IsMadeOf, changed, first_place, is_at, is_live, is_of, is_released_as, is_resting, is_unreleased_at, is_unreleased_of, next_place, next_unreleased, settled};
+ghost use Rattle.tesla_buffer.specs.Held.{Held, IsMadeOf, changed, first_slot, is_at, is_live, is_of, is_released_as, is_resting, is_unreleased_at, is_unreleased_of, next_slot, next_unreleased, settled};
 
 use crate::parts::{key_of_name, rests, vacant_slot, write_parts};
 use crate::{Fate, Item};
@@ -147,7 +147,7 @@ impl Buffer {
 
     /// The place of the first packet of an interval; `None` exactly where none is held.
     pub fn first_of(&self, interval: u32) -> Option<Place>
-        ensures place { result ≡ first_place (filter (is_of interval) self.now.held) }
+        ensures place { result ≡ first_slot (filter (is_of interval) self.now.held) }
         ensures live { IfSome result (λ p. is_live p.0 self.now.held ≡ true) }
     {
         let Some(place) = self.index.first(u64::from(interval)) else {
@@ -160,7 +160,7 @@ impl Buffer {
     /// last.
     pub fn next_of(&self, place: Place) -> Option<Place>
         requires { is_live place.0 self.now.held ≡ true }
-        ensures place { result ≡ next_place place.0 self.now.held }
+        ensures place { result ≡ next_slot place.0 self.now.held }
         ensures live { IfSome result (λ p. is_live p.0 self.now.held ≡ true) }
     {
         let Some(next) = self.index.next(place.0) else {
@@ -178,7 +178,7 @@ impl Buffer {
 
     /// The place of the first packet of an interval that was not released; `None` exactly where none is held.
     pub fn first_unreleased(&self, interval: u32) -> Option<Place>
-        ensures place { result ≡ first_place (filter (is_unreleased_of interval) self.now.held) }
+        ensures place { result ≡ first_slot (filter (is_unreleased_of interval) self.now.held) }
         ensures live { IfSome result (λ p. is_live p.0 self.now.held ≡ true) }
         ensures unreleased { IfSome result (λ p. list_any (is_unreleased_at p.0) self.now.held ≡ true) }
     {

@@ -3,7 +3,7 @@ use Rattle.std.proofs.Common.{◌≡◌, ◌∙◌, ℕ, List, [], Some, refl, a
 use Rattle.tesla_records.specs.Records.{Next}
 use Rattle.tesla_records.proofs.OutlineStep as files
 use Rattle.tesla_capture.specs.Formats.{IsGrammar}
-use Rattle.tesla_capture.specs.Front.{file_of}
+use Rattle.tesla_capture.specs.Parsing.{file_of}
 use Rattle.tesla_capture.specs.Grammar.{Grammar}
 use Rattle.tesla_capture.specs.Records.{AtEnd, Outline, Recorded, Refuses, kind_of, next_at, outline_as, outline_at, outline_by, refusal_of}
 use Rattle.tesla_capture.specs.declared.record.RecordFault.{RecordFault}
@@ -20,13 +20,13 @@ kind_again TooLong = refl
 kind_again TooLarge = refl
 
 module _ (G : Grammar) (is : IsGrammar G) where
-  pub one_step : (place : ℕ) (rest : List ℕ) (next : Next G.Record RecordFault) → next_at G place rest ≡ next → outline_at G place rest ≡ outline_by (outline_at G) next
+  pub one_step : (offset : ℕ) (rest : List ℕ) (next : Next G.Record RecordFault) → next_at G offset rest ≡ next → outline_at G offset rest ≡ outline_by (outline_at G) next
   unfolding outline_at
-  one_step place rest AtEnd e = ap outline_as (files.one_step (file_of G) (is_file G is) place rest AtEnd e)
-  one_step place rest (Recorded first now after) e = ap outline_as (files.one_step (file_of G) (is_file G is) place rest (Recorded first now after) e)
-  one_step place rest (Refuses at refusal) e = ap outline_as (files.one_step (file_of G) (is_file G is) place rest (Refuses at refusal) e)
+  one_step offset rest AtEnd e = ap outline_as (files.one_step (file_of G) (is_file G is) offset rest AtEnd e)
+  one_step offset rest (Recorded first now after) e = ap outline_as (files.one_step (file_of G) (is_file G is) offset rest (Recorded first now after) e)
+  one_step offset rest (Refuses at refusal) e = ap outline_as (files.one_step (file_of G) (is_file G is) offset rest (Refuses at refusal) e)
 
   -- a refused place ends the records
-  pub one_refused : (place : ℕ) (rest : List ℕ) (at : ℕ) (kind : RecordKind) → next_at G place rest ≡ Refuses at (refusal_of kind) → outline_at G place rest ≡ record { records = []; fault = Some (at, kind) }
-  one_refused place rest at kind e =
-      one_step place rest (Refuses at (refusal_of kind)) e ∙ ap (λ (k : RecordKind). let o : Outline G.Record = record { records = []; fault = Some (at, k) } in o) (kind_again kind)
+  pub one_refused : (offset : ℕ) (rest : List ℕ) (at : ℕ) (kind : RecordKind) → next_at G offset rest ≡ Refuses at (refusal_of kind) → outline_at G offset rest ≡ record { records = []; fault = Some (at, kind) }
+  one_refused offset rest at kind e =
+      one_step offset rest (Refuses at (refusal_of kind)) e ∙ ap (λ (k : RecordKind). let o : Outline G.Record = record { records = []; fault = Some (at, k) } in o) (kind_again kind)

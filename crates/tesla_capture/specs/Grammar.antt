@@ -1,7 +1,7 @@
 -- Grammars of captures and scripts: a head of five bytes, and then records to the end of the file. A record begins with a byte of its kind, 1 or 2.
 use Rattle.std.specs.Prelude.{◌≡◌, ℕ, ◌≤◌, Bool, List, ◌++◌, length}
 use Rattle.std.specs.List.{flat_map, AllByRecursion}
-pub use Rattle.tesla_base.specs.Front.{AreBytes}
+pub use Rattle.tesla_base.specs.Prefix.{AreBytes}
 pub use Rattle.tesla_records.specs.Grammar.{limit}
 
 -- what one format of such files has of its own

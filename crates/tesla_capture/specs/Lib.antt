@@ -2,9 +2,9 @@ pub mod Grammar
 pub mod Capture
 pub mod Script
 pub mod Formats
-pub mod Front
-pub mod HeadTold
-pub mod RecordTold
+pub mod Parsing
+pub mod HeadParsed
+pub mod RecordParsed
 pub mod FileOf
 pub mod Judged
 pub mod Records

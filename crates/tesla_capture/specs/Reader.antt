@@ -12,7 +12,7 @@ pub use Rattle.tesla_capture.specs.Steps.{pending, ahead}
 
 -- the next record of a capture was given; now is the place after it, and all that stands there is left
 abbrev pub GivesRecord : Record → ℕ → List ℕ → ℕ → Option (List ℕ) → Type 0
-GivesRecord given place rest now left = steps.GivesRecord capture given place rest now left
+GivesRecord given offset rest now left = steps.GivesRecord capture given offset rest now left
 
 -- a step of a capture's reader: arrivals are of kind 1, takes of kind 2
 abbrev pub step_of : Step → RecordStep

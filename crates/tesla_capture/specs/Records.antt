@@ -5,7 +5,7 @@ pub use Rattle.tesla_records.specs.Records.{AtEnd, Recorded, Refuses}
 use Rattle.tesla_records.specs.declared.refusal.Refusal.{Refusal}
 use Rattle.tesla_records.specs.declared.refusal.Refusal.TheVariants as refusals
 use Rattle.tesla_capture.specs.Grammar.{Grammar}
-use Rattle.tesla_capture.specs.Front.{file_of}
+use Rattle.tesla_capture.specs.Parsing.{file_of}
 use Rattle.tesla_capture.specs.declared.record.RecordFault.{RecordFault}
 use Rattle.tesla_capture.specs.declared.record.RecordFault.TheVariants as faults
 use Rattle.tesla_capture.specs.declared.record.RecordKind.{RecordKind}
@@ -29,12 +29,12 @@ refusal_of TooLarge = refusals.TooLarge
 
 -- what comes next in the rest of a file from a place on; at place 0 the head comes first
 abbrev pub next_at : (G : Grammar) → ℕ → List ℕ → files.Next G.Record RecordFault
-next_at G place rest = files.next_at (file_of G) place rest
+next_at G offset rest = files.next_at (file_of G) offset rest
 
 -- the place of the record that is read from a place on: that of the first is behind the head
-abbrev pub record_place : ℕ → ℕ
-record_place zero = 5
-record_place (suc place) = suc place
+abbrev pub record_offset : ℕ → ℕ
+record_offset zero = 5
+record_offset (suc offset) = suc offset
 
 -- the whole records of a file before the first place that is refused, and that place with the kind; there is none where the file is in its grammar
 pub record Outline (R : Type 0) : Type 0 where
@@ -52,8 +52,8 @@ with_records records outline = record { records = records ++ outline.records; fa
 -- the outline of what comes next, told that of what stands after a record
 abbrev pub outline_by : {R : Type 0} → (ℕ → List ℕ → Outline R) → files.Next R RecordFault → Outline R
 outline_by after AtEnd = record { records = []; fault = None }
-outline_by after (Recorded first place rest) = with_record first (after place rest)
-outline_by after (Refuses place refusal) = record { records = []; fault = Some (place, kind_of refusal) }
+outline_by after (Recorded first offset rest) = with_record first (after offset rest)
+outline_by after (Refuses offset refusal) = record { records = []; fault = Some (offset, kind_of refusal) }
 
 -- a refused place with its kind
 abbrev pub fault_of : Option (ℕ × Refusal RecordFault) → Option (ℕ × RecordKind)
@@ -66,7 +66,7 @@ outline_as outline = record { records = outline.records; fault = fault_of outlin
 
 -- the outline of the rest of a file from a place on
 unfoldable pub outline_at : (G : Grammar) → ℕ → List ℕ → Outline G.Record
-outline_at G place rest = outline_as (files.outline_at (file_of G) place rest)
+outline_at G offset rest = outline_as (files.outline_at (file_of G) offset rest)
 
 -- the outline of a file
 abbrev pub outline_of : (G : Grammar) → List ℕ → Outline G.Record

@@ -33,24 +33,24 @@ IsCut G bytes = IsCutCarrying G.longest bytes ⊎ IsCutBare G bytes
 
 -- why the rest of a file from the place of a record on is refused there
 abbrev pub IsWhy : Grammar → RecordKind → ℕ → List ℕ → Type 0
-IsWhy G BadHead place rest = ⊥
-IsWhy G BadKind place rest = (b : ℕ) × (more : List ℕ) × (rest ≡ b ∷ more) × (b ≢ 1) × (b ≢ 2) × (place < limit)
-IsWhy G TooLong place rest = (n : ℕ) × TellsLength rest n × (G.longest < n) × (place + 11 ≤ limit)
-IsWhy G Truncated place rest = (place + length rest < limit) × IsCut G rest
-IsWhy G TooLarge place rest = (limit ≤ place + length rest) × (0 < length rest) × ((place ≡ limit) ⊎ IsCut G (take (limit - place) rest))
+IsWhy G BadHead offset rest = ⊥
+IsWhy G BadKind offset rest = (b : ℕ) × (more : List ℕ) × (rest ≡ b ∷ more) × (b ≢ 1) × (b ≢ 2) × (offset < limit)
+IsWhy G TooLong offset rest = (n : ℕ) × TellsLength rest n × (G.longest < n) × (offset + 11 ≤ limit)
+IsWhy G Truncated offset rest = (offset + length rest < limit) × IsCut G rest
+IsWhy G TooLarge offset rest = (limit ≤ offset + length rest) × (0 < length rest) × ((offset ≡ limit) ⊎ IsCut G (take (limit - offset) rest))
 
 -- behind whole records comes the rest that is refused
-pub record StopsAfter (G : Grammar) (bytes : List ℕ) (records : List G.Record) (place : ℕ) (kind : RecordKind) : Type 0 where
+pub record StopsAfter (G : Grammar) (bytes : List ℕ) (records : List G.Record) (offset : ℕ) (kind : RecordKind) : Type 0 where
   pub limits : AllByRecursion G.IsRecord records
   pub rest : List ℕ
   pub spelled : bytes ≡ file_text G records ++ rest
-  pub place_is : place ≡ length (file_text G records)
-  pub why : IsWhy G kind place rest
+  pub offset_is : offset ≡ length (file_text G records)
+  pub why : IsWhy G kind offset rest
 
 -- the file is refused at that place, after these records
 abbrev pub IsRefused : (G : Grammar) → List ℕ → List G.Record → ℕ → RecordKind → Type 0
-IsRefused G bytes records place BadHead = (place ≡ 0) × (records ≡ []) × (take 5 bytes ≢ G.head)
-IsRefused G bytes records place BadKind = StopsAfter G bytes records place BadKind
-IsRefused G bytes records place TooLong = StopsAfter G bytes records place TooLong
-IsRefused G bytes records place Truncated = StopsAfter G bytes records place Truncated
-IsRefused G bytes records place TooLarge = StopsAfter G bytes records place TooLarge
+IsRefused G bytes records offset BadHead = (offset ≡ 0) × (records ≡ []) × (take 5 bytes ≢ G.head)
+IsRefused G bytes records offset BadKind = StopsAfter G bytes records offset BadKind
+IsRefused G bytes records offset TooLong = StopsAfter G bytes records offset TooLong
+IsRefused G bytes records offset Truncated = StopsAfter G bytes records offset Truncated
+IsRefused G bytes records offset TooLarge = StopsAfter G bytes records offset TooLarge

@@ -1,13 +1,13 @@
--- The records that were taken from the front of a file, and what of a file holds no refused place.
+-- The records that were taken from the start of a file, and what of a file holds no refused place.
 use Rattle.std.specs.Prelude.{◌≡◌, ℕ, List, ◌++◌, Option}
 use Rattle.tesla_records.specs.Taken as files
 use Rattle.tesla_capture.specs.Grammar.{Grammar}
-use Rattle.tesla_capture.specs.Front.{file_of}
+use Rattle.tesla_capture.specs.Parsing.{file_of}
 use Rattle.tesla_capture.specs.Records.{outline_of}
 
--- these records were taken from the front of the file, with the head where that was reached, and the rest of it stands at the place: whatever follows the front is read on from there
+-- these records were taken from the start of the file, with the head where that was reached, and the rest of it stands at the place: whatever follows the front is read on from there
 abbrev pub IsTaken : (G : Grammar) → List ℕ → List G.Record → ℕ → List ℕ → Type 0
-IsTaken G bytes records place rest = (head : Option (Unit {0})) × files.IsTaken (file_of G) bytes head records place rest
+IsTaken G bytes records offset rest = (head : Option (Unit {0})) × files.IsTaken (file_of G) bytes head records offset rest
 
 -- the bytes hold no refused place: they are a part of the head, or at most their last record isn't whole, so that a longer file may go on
 abbrev pub HoldsNoRefusal : Grammar → List ℕ → Type 0

@@ -200,22 +200,22 @@ impl Gatherer {
     pub fn put_parts<S: Sink>(
         &mut self,
         sink: &mut S,
-        front: &[u8],
+        header: &[u8],
         body: &[u8],
         back: &[u8],
     ) -> bool
-        requires { length front.now + length body.now + length back.now ≤ 8192 }
-        ensures all { result ≡ true → Gathers (S.written sink.old) (S.written sink.new) (gathered self.new) (gathered self.old ++ (front.now ++ body.now ++ back.now)) }
+        requires { length header.now + length body.now + length back.now ≤ 8192 }
+        ensures all { result ≡ true → Gathers (S.written sink.old) (S.written sink.new) (gathered self.new) (gathered self.old ++ (header.now ++ body.now ++ back.now)) }
         ensures prefix { result ≡ false → AppendsPrefix (S.written sink.old) (S.written sink.new) (gathered self.old) }
         ensures kept { result ≡ false → gathered self.new ≡ gathered self.old }
-        ensures waits { length (gathered self.old) + (length front.now + length body.now + length back.now) ≤ 8192 → sink.new ≡ sink.old }
+        ensures waits { length (gathered self.old) + (length header.now + length body.now + length back.now) ≤ 8192 → sink.new ≡ sink.old }
         ensures cause { HasCause (S.faults sink.old) (S.faults sink.new) (result ≡ false) }
         ensures name { S.name sink.new ≡ S.name sink.old }
     {
-        if !self.make_room(sink, front.len() + body.len() + back.len()) {
+        if !self.make_room(sink, header.len() + body.len() + back.len()) {
             return false;
         }
-        self.append_parts(front, body, back);
+        self.append_parts(header, body, back);
         true
     }
 
@@ -271,37 +271,37 @@ impl Gatherer {
 
     /// Puts one piece and then the other behind the bytes gathered, which are written before where there is no
     /// room for both.
-    fn put_both<S: Sink>(&mut self, sink: &mut S, front: &[u8], back: &[u8]) -> bool
-        requires { length front.now + length back.now ≤ 8192 }
-        ensures all { result ≡ true → Gathers (S.written sink.old) (S.written sink.new) (gathered self.new) (gathered self.old ++ (front.now ++ back.now)) }
+    fn put_both<S: Sink>(&mut self, sink: &mut S, header: &[u8], back: &[u8]) -> bool
+        requires { length header.now + length back.now ≤ 8192 }
+        ensures all { result ≡ true → Gathers (S.written sink.old) (S.written sink.new) (gathered self.new) (gathered self.old ++ (header.now ++ back.now)) }
         ensures prefix { result ≡ false → AppendsPrefix (S.written sink.old) (S.written sink.new) (gathered self.old) }
         ensures kept { result ≡ false → gathered self.new ≡ gathered self.old }
-        ensures waits { length (gathered self.old) + length front.now + length back.now ≤ 8192 → sink.new ≡ sink.old }
+        ensures waits { length (gathered self.old) + length header.now + length back.now ≤ 8192 → sink.new ≡ sink.old }
         ensures cause { HasCause (S.faults sink.old) (S.faults sink.new) (result ≡ false) }
         ensures name { S.name sink.new ≡ S.name sink.old }
     {
-        if !self.make_room(sink, front.len() + back.len()) {
+        if !self.make_room(sink, header.len() + back.len()) {
             return false;
         }
-        self.append_both(front, back);
+        self.append_both(header, back);
         true
     }
 
     /// Puts two pieces, for which there is room, behind the bytes gathered.
-    fn append_both(&mut self, front: &[u8], back: &[u8])
-        requires room { length (gathered self.old) + length front.now + length back.now ≤ 8192 }
-        ensures { gathered self.new ≡ gathered self.old ++ (front.now ++ back.now) }
+    fn append_both(&mut self, header: &[u8], back: &[u8])
+        requires room { length (gathered self.old) + length header.now + length back.now ≤ 8192 }
+        ensures { gathered self.new ≡ gathered self.old ++ (header.now ++ back.now) }
     {
-        self.append(front);
+        self.append(header);
         self.append(back);
     }
 
     /// Puts three pieces, for which there is room, behind the bytes gathered.
-    fn append_parts(&mut self, front: &[u8], body: &[u8], back: &[u8])
-        requires room { length (gathered self.old) + (length front.now + length body.now + length back.now) ≤ 8192 }
-        ensures { gathered self.new ≡ gathered self.old ++ (front.now ++ body.now ++ back.now) }
+    fn append_parts(&mut self, header: &[u8], body: &[u8], back: &[u8])
+        requires room { length (gathered self.old) + (length header.now + length body.now + length back.now) ≤ 8192 }
+        ensures { gathered self.new ≡ gathered self.old ++ (header.now ++ body.now ++ back.now) }
     {
-        self.append_both(front, body);
+        self.append_both(header, body);
         self.append(back);
     }
 

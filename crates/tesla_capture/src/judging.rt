@@ -2,8 +2,8 @@
 
 ghost use Rattle.std.specs.Prelude.{◌≡◌, ◌∷◌};
 ghost use Rattle.tesla_records.specs.Judged.{Judges, JudgesHead};
-ghost use Rattle.tesla_capture.specs.Front.{bare_size, file_of, record_front};
-ghost use Rattle.tesla_capture.specs.Judged.{front_found, OnCarrying};
+ghost use Rattle.tesla_capture.specs.Parsing.{bare_size, file_of, parse_record};
+ghost use Rattle.tesla_capture.specs.Judged.{parse_found, OnCarrying};
 
 use crate::format::Format;
 use crate::record::RecordFault;
@@ -11,7 +11,7 @@ use crate::sizes::{CARRYING_SIZE, HEAD_SIZE, TIMED_SIZE};
 use tesla_base::{take_u16, take_u64};
 use tesla_records::{HeadJudged, Judged};
 
-/// What was found of the record at the front of bytes.
+/// What was found of the record at the start of bytes.
 #[derive(Clone, Copy)]
 pub enum Found<'a> {
     /// Nothing yet: only more bytes tell.
@@ -25,9 +25,9 @@ pub enum Found<'a> {
 }
 
 /// A record of kind 1 behind its kind.
-#[tactic(auto, unfolding(crate::specs::Front::record_front))]
+#[tactic(auto, unfolding(crate::specs::Parsing::parse_record))]
 fn carrying_found<F: Format>(rest: &[u8]) -> Found<'_>
-    ensures found { front_found F.grammar result ≡ record_front F.grammar (1 ∷ rest.now) }
+    ensures found { parse_found F.grammar result ≡ parse_record F.grammar (1 ∷ rest.now) }
     ensures few { OnCarrying F.grammar result }
 {
     let Some((reading, rest)) = take_u64(rest) else {
@@ -48,9 +48,9 @@ fn carrying_found<F: Format>(rest: &[u8]) -> Found<'_>
 }
 
 /// A record of kind 2 behind its kind.
-#[tactic(auto, unfolding(crate::specs::Front::record_front, crate::specs::Front::reading_at))]
+#[tactic(auto, unfolding(crate::specs::Parsing::parse_record, crate::specs::Parsing::reading_at))]
 fn bare_found<F: Format>(rest: &[u8]) -> Found<'_>
-    ensures found { front_found F.grammar result ≡ record_front F.grammar (2 ∷ rest.now) }
+    ensures found { parse_found F.grammar result ≡ parse_record F.grammar (2 ∷ rest.now) }
     ensures few { OnCarrying F.grammar result }
 {
     if !F::timed() {
@@ -62,10 +62,10 @@ fn bare_found<F: Format>(rest: &[u8]) -> Found<'_>
     Found::Bare { reading }
 }
 
-/// The record at the front of the bytes.
-#[tactic(auto, unfolding(crate::specs::Front::record_front))]
+/// The record at the start of the bytes.
+#[tactic(auto, unfolding(crate::specs::Parsing::parse_record))]
 pub fn record_found<F: Format>(bytes: &[u8]) -> Found<'_>
-    ensures found { front_found F.grammar result ≡ record_front F.grammar bytes.now }
+    ensures found { parse_found F.grammar result ≡ parse_record F.grammar bytes.now }
     ensures few { OnCarrying F.grammar result }
 {
     let Some((kind, rest)) = bytes.split_first() else {
@@ -78,7 +78,7 @@ pub fn record_found<F: Format>(bytes: &[u8]) -> Found<'_>
     }
 }
 
-/// What bytes tell of the record at their front.
+/// What bytes tell of the record at their start.
 pub fn judge_record<F: Format>(bytes: &[u8]) -> Judged<RecordFault>
     ensures { Judges (file_of F.grammar) (λ fault. fault) result bytes.now }
 {

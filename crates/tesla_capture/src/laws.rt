@@ -1,7 +1,7 @@
 //! Laws about files of records, as contracts of functions that do nothing.
 
 ghost use Rattle.std.specs.Prelude.{◌≡◌, [], ◌∷◌, ◌++◌, List, ℕ, Option, Some, None};
-ghost use Rattle.tesla_base.specs.Front.{AreBytes};
+ghost use Rattle.tesla_base.specs.Prefix.{AreBytes};
 ghost use Rattle.tesla_desk.specs.Outside.{after_bytes};
 ghost use Rattle.tesla_capture.specs.Grammar.{IsFile};
 ghost use Rattle.tesla_capture.specs.Capture.{Record, IsCapture, capture};

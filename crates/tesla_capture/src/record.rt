@@ -17,7 +17,7 @@ pub enum RecordFault {
 
 /// What a reader of files of records tells of a record beside the bytes that the room holds.
 #[derive(Clone, Copy)]
-pub enum Told {
+pub enum RecordHead {
     /// A record of kind 1: its reading, and how many bytes it carries.
     Carrying { reading: u64, length: u16 },
     /// A record of kind 2: its reading, 0 where it has none.

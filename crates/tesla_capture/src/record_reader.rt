@@ -9,7 +9,7 @@ ghost use Rattle.tesla_capture.specs.Steps.{pending, ahead, Gives, Moves, length
 
 use crate::format::Format;
 use crate::kinds::FileFormat;
-use crate::record::{RecordFault, RecordKind, RecordStep, Told};
+use crate::record::{RecordFault, RecordHead, RecordKind, RecordStep};
 use std::marker::Model;
 use tesla_base::MOST_DATAGRAM;
 use tesla_desk::Source;
@@ -43,14 +43,14 @@ fn kind_of(refusal: Refusal<RecordFault>) -> RecordKind
 }
 
 /// The step that is answered.
-pub fn step_as(step: RecordsStep<RecordFault, Told>) -> RecordStep
+pub fn step_as(step: RecordsStep<RecordFault, RecordHead>) -> RecordStep
     ensures { result ≡ step_as step }
 {
     match step {
-        RecordsStep::Record(Told::Carrying { reading, length }) => {
+        RecordsStep::Record(RecordHead::Carrying { reading, length }) => {
             RecordStep::Carrying { reading, length }
         }
-        RecordsStep::Record(Told::Bare { reading }) => RecordStep::Bare { reading },
+        RecordsStep::Record(RecordHead::Bare { reading }) => RecordStep::Bare { reading },
         RecordsStep::End => RecordStep::End,
         RecordsStep::Refused { place, refusal } => RecordStep::Refused {
             place,

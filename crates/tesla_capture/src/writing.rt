@@ -14,13 +14,13 @@ use tesla_base::{Head, Name};
 use tesla_desk::{Sink, write_all};
 
 /// Writes one piece, and then the other.
-fn write_both<S: Sink>(sink: &mut S, front: &[u8], back: &[u8]) -> bool
-    ensures all { result ≡ true → S.written sink.new ≡ with_bytes (S.written sink.old) (front.now ++ back.now) }
-    ensures prefix { AppendsPrefix (S.written sink.old) (S.written sink.new) (front.now ++ back.now) }
+fn write_both<S: Sink>(sink: &mut S, header: &[u8], back: &[u8]) -> bool
+    ensures all { result ≡ true → S.written sink.new ≡ with_bytes (S.written sink.old) (header.now ++ back.now) }
+    ensures prefix { AppendsPrefix (S.written sink.old) (S.written sink.new) (header.now ++ back.now) }
     ensures cause { HasCause (S.faults sink.old) (S.faults sink.new) (result ≡ false) }
     ensures name { S.name sink.new ≡ S.name sink.old }
 {
-    if !write_all(sink, front) {
+    if !write_all(sink, header) {
         return false;
     }
     write_all(sink, back)

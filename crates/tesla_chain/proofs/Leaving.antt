@@ -33,17 +33,17 @@ none_below seed base ahead reached (level ∷ lower) low within =
     (λ h. none_below seed base ahead reached lower low h, λ h. (λ near. absurd (omega arith), none_below seed (base + 2 ^ length lower) (ahead - 2 ^ length lower) reached lower (omega arith) (omega arith)))
 
 -- a level's own traveller
-pub traveller_left : (seed : Key) (base ahead place reached span : ℕ) (key : Key) (level : Level) (lower : List Level) → span ≡ 2 ^ length lower → span ≤ ahead → ahead < 2 ^ length (level ∷ lower) → (place + ahead) + 1 ≡ 2 * span → reached ≡ (base + place) + 1 → key ≡ walk seed (base + place) → Travellers seed base ahead reached (record { mark = level.mark; traveller = key } ∷ lower)
-traveller_left seed base ahead place reached span key level lower spans above within here e is =
+pub traveller_left : (seed : Key) (base ahead position reached span : ℕ) (key : Key) (level : Level) (lower : List Level) → span ≡ 2 ^ length lower → span ≤ ahead → ahead < 2 ^ length (level ∷ lower) → (position + ahead) + 1 ≡ 2 * span → reached ≡ (base + position) + 1 → key ≡ walk seed (base + position) → Travellers seed base ahead reached (record { mark = level.mark; traveller = key } ∷ lower)
+traveller_left seed base ahead position reached span key level lower spans above within here e is =
     let whole = doubled level lower in
     (λ h. absurd (omega arith), λ h. (λ near. at seed key _ _ is (omega arith), none_below seed (base + 2 ^ length lower) (ahead - 2 ^ length lower) reached lower (omega arith) (omega arith)))
 
 -- no traveller stands here
-pub none_left : (seed : Key) (base ahead place reached span : ℕ) (level : Level) (lower : List Level) → span ≡ 2 ^ length lower → span ≤ ahead → ahead < 2 ^ length (level ∷ lower) → place < span → ((place + ahead) + 1 ≡ 2 * span → ⊥) → reached ≡ (base + place) + 1 → Travellers seed base ahead (base + place) (level ∷ lower) → Travellers seed base ahead reached (level ∷ lower)
-none_left seed base ahead place reached span level lower spans above within low other e travellers =
+pub none_left : (seed : Key) (base ahead position reached span : ℕ) (level : Level) (lower : List Level) → span ≡ 2 ^ length lower → span ≤ ahead → ahead < 2 ^ length (level ∷ lower) → position < span → ((position + ahead) + 1 ≡ 2 * span → ⊥) → reached ≡ (base + position) + 1 → Travellers seed base ahead (base + position) (level ∷ lower) → Travellers seed base ahead reached (level ∷ lower)
+none_left seed base ahead position reached span level lower spans above within low other e travellers =
     let whole = doubled level lower in
     let own = (travellers.1 (omega arith)).0 in
-    let elsewhere : ((place + ahead) + 1 ≡ 2 * span) → ⊥ = other in
+    let elsewhere : ((position + ahead) + 1 ≡ 2 * span) → ⊥ = other in
     (λ h. absurd (omega arith), λ h. (λ near. own (omega (arith, elsewhere)), none_below seed (base + 2 ^ length lower) (ahead - 2 ^ length lower) reached lower (omega arith) (omega arith)))
 
 -- none stands beyond the key that is given next

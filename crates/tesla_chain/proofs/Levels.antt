@@ -71,17 +71,17 @@ pass_here seed base ahead left free high traveller level lower after same here e
     (rest seed base (base + 2 ^ length lower) left free refl (omega arith) top marks)
 
 -- where a traveller stands
-pub place_of : (seed : Key) (base ahead free : ℕ) (level : Level) (lower : List Level) → 2 ^ length lower ≤ ahead → Stand seed base ahead free (level ∷ lower) → level.traveller ≡ walk seed (((base + 2 ^ length lower) + 2 ^ length lower) - (1 + ahead))
-place_of seed base ahead free level lower above stand =
-    let place = ((base + 2 ^ length lower) + 2 ^ length lower) - (1 + ahead) in
-    ((stand.travellers (place + 1)).1 above).0 (omega arith)
+pub position_of : (seed : Key) (base ahead free : ℕ) (level : Level) (lower : List Level) → 2 ^ length lower ≤ ahead → Stand seed base ahead free (level ∷ lower) → level.traveller ≡ walk seed (((base + 2 ^ length lower) + 2 ^ length lower) - (1 + ahead))
+position_of seed base ahead free level lower above stand =
+    let position = ((base + 2 ^ length lower) + 2 ^ length lower) - (1 + ahead) in
+    ((stand.travellers (position + 1)).1 above).0 (omega arith)
 
 -- and after its step
 pub stepped : (seed : Key) (base ahead left free : ℕ) (level : Level) (lower : List Level) → 2 ^ length lower < ahead → ahead < 2 ^ length (level ∷ lower) → ahead ≡ left + 1 → Stand seed base ahead free (level ∷ lower) → next_of level.traveller ≡ walk seed (((base + 2 ^ length lower) + 2 ^ length lower) - (1 + left))
 stepped seed base ahead left free level lower above within e stand =
     let whole = doubled level lower in
-    let place = ((base + 2 ^ length lower) + 2 ^ length lower) - (1 + ahead) in
-    ap next_of (place_of seed base ahead free level lower (omega arith) stand) ∙ sym (walk_more seed place) ∙ ap (walk seed) (omega arith)
+    let position = ((base + 2 ^ length lower) + 2 ^ length lower) - (1 + ahead) in
+    ap next_of (position_of seed base ahead free level lower (omega arith) stand) ∙ sym (walk_more seed position) ∙ ap (walk seed) (omega arith)
 
 pub pass_far : (seed : Key) (base ahead left free span : ℕ) (traveller : Key) (level : Level) (lower after : List Level) → length after ≡ length lower → span ≡ 2 ^ length lower → span < ahead → ahead < 2 ^ length (level ∷ lower) → ahead ≡ left + 1 → traveller ≡ next_of level.traveller → Stand seed base ahead free (level ∷ lower)
     → ((seed : Key) (base left free : ℕ) → ahead - span ≡ left + 1 → level.mark ≡ walk seed base → traveller ≡ walk seed (base - (ahead - span)) → Stand seed base (ahead - span) free lower → Stand seed base left free after)

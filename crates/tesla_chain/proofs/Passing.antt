@@ -25,10 +25,10 @@ passed last given seed commitment levels after is some more same rest =
     }
 
 -- a traversal that goes on to the key of a given index
-pub came : (last given index ahead left : ℕ) (seed commitment : Key) (levels after : List Level) → IsKept last given seed commitment levels → given < index → index < last → ahead ≡ last - (given + 1) → left ≡ last - (index + 1) → length after ≡ length levels
+pub goes_on : (last given index ahead left : ℕ) (seed commitment : Key) (levels after : List Level) → IsKept last given seed commitment levels → given < index → index < last → ahead ≡ last - (given + 1) → left ≡ last - (index + 1) → length after ≡ length levels
     → ((seed' : Key) (base free more : ℕ) → free ≤ more → ahead ≤ more → seed ≡ walk seed' base → Stand seed' base ahead free levels → Stand seed' base left more after)
     → IsKept last index seed commitment after
-came last given index ahead left seed commitment levels after is beyond within start end same rest =
+goes_on last given index ahead left seed commitment levels after is beyond within start end same rest =
     let P : ℕ → Type 0 = λ n. Stand seed 0 n last levels in
     let Q : ℕ → Type 0 = λ n. Stand seed 0 n last after in
     record {

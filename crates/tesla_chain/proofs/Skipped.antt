@@ -5,7 +5,7 @@ use Rattle.tesla_prf.specs.Keys.{walk}
 use Rattle.tesla_chain.specs.declared.level.Level.{Level}
 use Rattle.tesla_chain.specs.Levels.{Marks, Stand, Travellers}
 use Rattle.tesla_chain.proofs.Free.{afresh}
-use Rattle.tesla_chain.proofs.Levels.{at, doubled, far, place_of, put_far, put_near, same_span}
+use Rattle.tesla_chain.proofs.Levels.{at, doubled, far, position_of, put_far, put_near, same_span}
 use Rattle.tesla_chain.proofs.Leaving.{below}
 
 -- the levels below, where a span is known by another number
@@ -33,18 +33,18 @@ pub skipped_far : (seed : Key) (base ahead left free more span : ℕ) (walked : 
 skipped_far seed base ahead left free more span walked level lower mid after same_mid same spans above less within is stand rest marks travellers =
     let whole = doubled level lower in
     let span_after : 2 ^ length after ≡ 2 ^ length lower = same_span lower after (same ∙ same_mid) in
-    let start : level.traveller ≡ walk seed (((base + 2 ^ length lower) + 2 ^ length lower) - (1 + ahead)) = place_of seed base ahead free level lower (omega arith) stand in
-    let place : walked ≡ walk seed ((((base + 2 ^ length lower) + 2 ^ length lower) - (1 + ahead)) + ((ahead - span) - (left - span))) = below seed level.traveller walked _ _ start is in
+    let start : level.traveller ≡ walk seed (((base + 2 ^ length lower) + 2 ^ length lower) - (1 + ahead)) = position_of seed base ahead free level lower (omega arith) stand in
+    let position : walked ≡ walk seed ((((base + 2 ^ length lower) + 2 ^ length lower) - (1 + ahead)) + ((ahead - span) - (left - span))) = below seed level.traveller walked _ _ start is in
     let deeper : Stand seed (base + span) (left - span) 0 after = record { marks = marks rest.marks; travellers = λ reached. travellers reached (rest.travellers reached) } in
     let P : ℕ → Type 0 = λ n. Stand seed (base + n) (left - n) 0 after in
     let by_span : span ≡ 2 ^ length after = omega arith in
-    put_far seed base left more (record { mark = level.mark; traveller = walked }) after (omega arith) (at seed level.mark _ _ (mark_of seed base ahead free span level lower spans (omega arith) stand) (omega arith)) (at seed walked _ _ place (omega arith)) (subst P by_span deeper)
+    put_far seed base left more (record { mark = level.mark; traveller = walked }) after (omega arith) (at seed level.mark _ _ (mark_of seed base ahead free span level lower spans (omega arith) stand) (omega arith)) (at seed walked _ _ position (omega arith)) (subst P by_span deeper)
 
 -- where the traveller of the level starts
 pub starts : (seed : Key) (base ahead free span : ℕ) (level : Level) (lower : List Level) → span ≡ 2 ^ length lower → span ≤ ahead → ahead < 2 ^ length (level ∷ lower) → Stand seed base ahead free (level ∷ lower) → level.traveller ≡ walk seed ((base + span) - ((ahead - span) + 1))
 starts seed base ahead free span level lower spans above within stand =
     let whole = doubled level lower in
-    at seed level.traveller _ _ (place_of seed base ahead free level lower (omega arith) stand) (omega arith)
+    at seed level.traveller _ _ (position_of seed base ahead free level lower (omega arith) stand) (omega arith)
 
 -- the next key comes to be above the level's mark: the marks of the levels below
 pub turned : (seed : Key) (base ahead free span : ℕ) (level : Level) (lower mid : List Level) → span ≡ 2 ^ length lower → span ≤ ahead → ahead < 2 ^ length (level ∷ lower) → Stand seed base ahead free (level ∷ lower)

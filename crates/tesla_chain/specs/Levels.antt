@@ -24,9 +24,9 @@ abbrev pub Travellers : Key → ℕ → ℕ → ℕ → List Level → Type 0
 Travellers seed base ahead reached [] = Unit {0}
 Travellers seed base ahead reached (level ∷ lower) =
     let span = 2 ^ length lower in
-    let place = ((base + span) + span) - (1 + ahead) in
+    let position = ((base + span) + span) - (1 + ahead) in
     (ahead < span → Travellers seed base ahead reached lower)
-    × (span ≤ ahead → (place < reached → level.traveller ≡ walk seed place) × Travellers seed (base + span) (ahead - span) reached lower)
+    × (span ≤ ahead → (position < reached → level.traveller ≡ walk seed position) × Travellers seed (base + span) (ahead - span) reached lower)
 
 -- both, of all travellers
 pub record Stand (seed : Key) (base ahead free : ℕ) (levels : List Level) : Type 0 where

@@ -2,7 +2,7 @@
 use Rattle.std.specs.Prelude.{◌≡◌, ℕ, Bool, true, false, List, [], ◌∷◌, ◌++◌, codes, flat_map}
 use Rattle.std.specs.Str.{bytes_eq}
 use Rattle.tesla_desk.specs.Outside.{Told}
-use Rattle.tesla_front.specs.Came.{Came}
+use Rattle.tesla_front.specs.OutcomeView.{OutcomeView}
 use Rattle.tesla_front.specs.Command.{Command, Performs, RunsAs, no_command}
 use Rattle.tesla_front.specs.Printing.{RunsPrinting}
 use Rattle.tesla_front.specs.Run.{Runs}
@@ -36,7 +36,7 @@ use Rattle.tesla_run_weave.specs.Arguments as weaves
 
 -- words that are a form of a command are run as that command, told the command of any words
 abbrev pub NamesForms : (List (List ℕ) → Command) → Command → Type 0
-NamesForms named command = (arguments : command.Arguments) (words : List (List ℕ)) (old new : Told) (came : Came) → command.IsForm arguments words → RunsAs (named words) words old new came → Performs command arguments old new came
+NamesForms named command = (arguments : command.Arguments) (words : List (List ℕ)) (old new : Told) (outcome : OutcomeView) → command.IsForm arguments words → RunsAs (named words) words old new outcome → Performs command arguments old new outcome
 
 -- ---- the streams
 
@@ -97,10 +97,10 @@ names_show [] = false
 names_show (word ∷ words) = bytes_eq word (codes "show")
 
 -- a run of words, told whether they are for show
-abbrev pub runs_where : Bool → List (List ℕ) → Told → Told → Came → Type 0
-runs_where true words old new told = RunsPrinting show tool_usage words old new told
-runs_where false words old new told = Runs (tool_of words) tool_usage words old new told
+abbrev pub runs_where : Bool → List (List ℕ) → Told → Told → OutcomeView → Type 0
+runs_where true words old new reported = RunsPrinting show tool_usage words old new reported
+runs_where false words old new reported = Runs (tool_of words) tool_usage words old new reported
 
 -- one run of the words over a desk: what it tells before and after, and what the run came to, as it was told
-abbrev pub RunsTool : List (List ℕ) → Told → Told → Came → Type 0
-RunsTool words old new told = runs_where (names_show words) words old new told
+abbrev pub RunsTool : List (List ℕ) → Told → Told → OutcomeView → Type 0
+RunsTool words old new reported = runs_where (names_show words) words old new reported

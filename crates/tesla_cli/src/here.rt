@@ -1,7 +1,7 @@
 //! The commands over files: their forms, which word names each, and one run of them.
 
 ghost use Rattle.std.specs.Prelude.{◌≡◌, map, string_bytes};
-ghost use Rattle.tesla_front.specs.Came.{Came, outcome_came, status_of};
+ghost use Rattle.tesla_front.specs.OutcomeView.{OutcomeView, outcome_view, status_of};
 ghost use Rattle.tesla_front.specs.Command.{RunsAs};
 ghost use Rattle.tesla_front.specs.Run.{HasStatusCauses, Runs};
 ghost use Rattle.tesla_front.specs.Usage.{usage_of};
@@ -29,7 +29,7 @@ pub const FORMS: [FormText; 11] = [
 // Runs the words as those of the command that the first of them names. `Usage` where it names none, or there is no
 // word, and then nothing was opened.
 fn run_words<D: Desk>(alloc: Global, words: &[String], desk: &mut D) -> Outcome
-    ensures { RunsAs (command_of (map string_bytes words.now)) (map string_bytes words.now) (D.told desk.old) (D.told desk.new) (outcome_came result) }
+    ensures { RunsAs (command_of (map string_bytes words.now)) (map string_bytes words.now) (D.told desk.old) (D.told desk.new) (outcome_view result) }
 {
     match words {
         [word, ..] if word.as_str() == "replay" => run_replay(alloc, words, desk),
@@ -62,7 +62,7 @@ fn run_words<D: Desk>(alloc: Global, words: &[String], desk: &mut D) -> Outcome
 /// At 0 to 3 and 6 to 10 no read and no write of a file failed, at 5 no read, and at 4 a write only while what was made
 /// before was written.
 pub fn run_here<D: Desk>(alloc: Global, words: &[String], desk: &mut D) -> u8
-    ensures came { (told : Came) × (result ≡ status_of told) × Runs (command_of (map string_bytes words.now)) usage (map string_bytes words.now) (D.told desk.old) (D.told desk.new) told }
+    ensures outcome { (reported : OutcomeView) × (result ≡ status_of reported) × Runs (command_of (map string_bytes words.now)) usage (map string_bytes words.now) (D.told desk.old) (D.told desk.new) reported }
     ensures causes { HasStatusCauses result (D.told desk.old).faults (D.told desk.new).faults }
 {
     let run = run_table(
@@ -70,7 +70,7 @@ pub fn run_here<D: Desk>(alloc: Global, words: &[String], desk: &mut D) -> u8
         desk,
         forms(),
         move |words: &[String], desk: &mut D|
-            ensures { RunsAs (command_of (map string_bytes words.now)) (map string_bytes words.now) (D.told desk.old) (D.told desk.new) (outcome_came result.outcome) }
+            ensures { RunsAs (command_of (map string_bytes words.now)) (map string_bytes words.now) (D.told desk.old) (D.told desk.new) (outcome_view result.outcome) }
         {
             LiveRun {
                 outcome: run_words(alloc, words, desk),

@@ -2,7 +2,7 @@
 //! run of them.
 
 ghost use Rattle.std.specs.Prelude.{◌≡◌, true, false, map, string_bytes};
-ghost use Rattle.tesla_front.specs.Came.{Came, outcome_came, status_of};
+ghost use Rattle.tesla_front.specs.OutcomeView.{OutcomeView, outcome_view, status_of};
 ghost use Rattle.tesla_front.specs.Command.{RunsAs};
 ghost use Rattle.tesla_front.specs.Printing.{RunsPrinting};
 ghost use Rattle.tesla_front.specs.Run.{HasStatusCauses, Runs};
@@ -40,7 +40,7 @@ fn is_show(words: &[String]) -> bool
 // Runs the words as those of the tool that the first of them names, `ask` or `reply`. `Usage` where it names neither,
 // or there is no word, and then nothing was opened.
 fn run_words<D: Desk>(alloc: Global, words: &[String], desk: &mut D) -> Outcome
-    ensures { RunsAs (tool_of (map string_bytes words.now)) (map string_bytes words.now) (D.told desk.old) (D.told desk.new) (outcome_came result) }
+    ensures { RunsAs (tool_of (map string_bytes words.now)) (map string_bytes words.now) (D.told desk.old) (D.told desk.new) (outcome_view result) }
 {
     match words {
         [word, ..] if word.as_str() == "ask" => run_ask(words, desk),
@@ -61,33 +61,33 @@ fn run_words<D: Desk>(alloc: Global, words: &[String], desk: &mut D) -> Outcome
 ///
 /// At 0 to 3, 6 and 7 no read and no write of a file failed, at 5 no read, and at 4 no write.
 pub fn run_tools<D: Desk>(alloc: Global, words: &[String], desk: &mut D) -> u8
-    ensures came { (told : Came) × (result ≡ status_of told) × RunsTool (map string_bytes words.now) (D.told desk.old) (D.told desk.new) told }
+    ensures outcome { (reported : OutcomeView) × (result ≡ status_of reported) × RunsTool (map string_bytes words.now) (D.told desk.old) (D.told desk.new) reported }
     ensures causes { HasStatusCauses result (D.told desk.old).faults (D.told desk.new).faults }
 {
-    run_told(alloc, words, desk).status()
+    run_reported(alloc, words, desk).status()
 }
 
 // The same, with what it came to as it was told.
-fn run_told<D: Desk>(alloc: Global, words: &[String], desk: &mut D) -> Outcome
-    ensures { RunsTool (map string_bytes words.now) (D.told desk.old) (D.told desk.new) (outcome_came result) }
+fn run_reported<D: Desk>(alloc: Global, words: &[String], desk: &mut D) -> Outcome
+    ensures { RunsTool (map string_bytes words.now) (D.told desk.old) (D.told desk.new) (outcome_view result) }
 {
     if is_show(words) {
-        print_told(words, desk)
+        run_printing(words, desk)
     } else {
-        come_told(alloc, words, desk)
+        run_silently(alloc, words, desk)
     }
 }
 
 // Runs the words as those of a tool that prints nothing before its end.
-fn come_told<D: Desk>(alloc: Global, words: &[String], desk: &mut D) -> Outcome
-    ensures { Runs (tool_of (map string_bytes words.now)) tool_usage (map string_bytes words.now) (D.told desk.old) (D.told desk.new) (outcome_came result) }
+fn run_silently<D: Desk>(alloc: Global, words: &[String], desk: &mut D) -> Outcome
+    ensures { Runs (tool_of (map string_bytes words.now)) tool_usage (map string_bytes words.now) (D.told desk.old) (D.told desk.new) (outcome_view result) }
 {
     let run = run_table(
         words,
         desk,
         forms(),
         move |words: &[String], desk: &mut D|
-            ensures { RunsAs (tool_of (map string_bytes words.now)) (map string_bytes words.now) (D.told desk.old) (D.told desk.new) (outcome_came result.outcome) }
+            ensures { RunsAs (tool_of (map string_bytes words.now)) (map string_bytes words.now) (D.told desk.old) (D.told desk.new) (outcome_view result.outcome) }
         {
             LiveRun {
                 outcome: run_words(alloc, words, desk),
@@ -99,15 +99,15 @@ fn come_told<D: Desk>(alloc: Global, words: &[String], desk: &mut D) -> Outcome
 }
 
 // Runs the words as those of `show`, which prints its lines on the console.
-fn print_told<D: Desk>(words: &[String], desk: &mut D) -> Outcome
-    ensures { RunsPrinting show tool_usage (map string_bytes words.now) (D.told desk.old) (D.told desk.new) (outcome_came result) }
+fn run_printing<D: Desk>(words: &[String], desk: &mut D) -> Outcome
+    ensures { RunsPrinting show tool_usage (map string_bytes words.now) (D.told desk.old) (D.told desk.new) (outcome_view result) }
 {
     match open_console(desk) {
         Ok(mut console) => {
             let printed = run_show(words, &mut console, desk);
-            let told = tell_printed(&mut console, forms(), printed);
+            let reported = tell_printed(&mut console, forms(), printed);
             desk.close_sink(console);
-            told
+            reported
         }
         Err(fault) => Outcome::Failed(fault),
     }

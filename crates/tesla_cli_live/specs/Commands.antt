@@ -3,7 +3,7 @@ use Rattle.std.specs.Prelude.{◌≡◌, ◌++◌, ℕ, true, List, [], ◌∷�
 use Rattle.std.specs.Str.{bytes_eq}
 use Rattle.tesla_desk.specs.Live.{Live}
 use Rattle.tesla_desk.specs.Outside.{Told}
-use Rattle.tesla_front.specs.Came.{Came}
+use Rattle.tesla_front.specs.OutcomeView.{OutcomeView}
 use Rattle.tesla_front.specs.Command.{Command, no_command}
 use Rattle.tesla_front.specs.Table.{IsFirst, RunsLeaving, RunsTable, command_in, is_named, where_named}
 use Rattle.tesla_front.specs.Usage.{usage_line}
@@ -51,12 +51,12 @@ abbrev pub live_usage : List ℕ
 live_usage = flat_map usage_line (receiving.usages ++ relaying.usages ++ playing.usages)
 
 -- the words were run as those of their command; of relay and play, and of words that are no form, there is no history
-abbrev pub RunsLiveWords : List (List ℕ) → Told → Told → Option (Ended Entry) → Came → Type 0
-RunsLiveWords words old new last came = RunsLeaving (λ before now left. live_of before now left words) (IsReceive words) words old new last came
+abbrev pub RunsLiveWords : List (List ℕ) → Told → Told → Option (Ended Entry) → OutcomeView → Type 0
+RunsLiveWords words old new last outcome = RunsLeaving (λ before now left. live_of before now left words) (IsReceive words) words old new last outcome
 
 -- one run of the words over a desk, with the console
-abbrev pub RunsLive : List (List ℕ) → Told → Told → Option (Ended Entry) → Came → Type 0
-RunsLive words old new last told = RunsTable (λ before now left. live_of before now left words) (IsReceive words) live_usage words old new last told
+abbrev pub RunsLive : List (List ℕ) → Told → Told → Option (Ended Entry) → OutcomeView → Type 0
+RunsLive words old new last reported = RunsTable (λ before now left. live_of before now left words) (IsReceive words) live_usage words old new last reported
 
 -- ---- capture, feed and watch
 
@@ -85,14 +85,14 @@ abbrev pub live_tool_usage : List ℕ
 live_tool_usage = flat_map usage_line (capturing.usages ++ feeding.usages ++ watches.usages)
 
 -- the words were run as those of their tool; of capture and feed, and of words that are no form, there is no history
-abbrev pub RunsLiveToolWords : List (List ℕ) → Told → Told → Option (Ended Entry) → Came → Type 0
-RunsLiveToolWords words old new last came =
-    RunsLeaving (λ before now left. live_tool_of before now left words) (IsWatching words) words old new last came
+abbrev pub RunsLiveToolWords : List (List ℕ) → Told → Told → Option (Ended Entry) → OutcomeView → Type 0
+RunsLiveToolWords words old new last outcome =
+    RunsLeaving (λ before now left. live_tool_of before now left words) (IsWatching words) words old new last outcome
 
 -- one run of the words over a desk, with the console
-abbrev pub RunsLiveTools : List (List ℕ) → Told → Told → Option (Ended Entry) → Came → Type 0
-RunsLiveTools words old new last told =
-    RunsTable (λ before now left. live_tool_of before now left words) (IsWatching words) live_tool_usage words old new last told
+abbrev pub RunsLiveTools : List (List ℕ) → Told → Told → Option (Ended Entry) → OutcomeView → Type 0
+RunsLiveTools words old new last reported =
+    RunsTable (λ before now left. live_tool_of before now left words) (IsWatching words) live_tool_usage words old new last reported
 
 -- ---- record
 
@@ -105,9 +105,9 @@ abbrev pub record_usage : List ℕ
 record_usage = flat_map usage_line records.usages
 
 -- the words were run as those of record; of words that are not its form there is no history
-abbrev pub RunsRecordedWords : List (List ℕ) → Told → Told → Option (Ended Entry) → Came → Type 0
-RunsRecordedWords words old new last came = RunsLeaving recording (Unit {0}) words old new last came
+abbrev pub RunsRecordedWords : List (List ℕ) → Told → Told → Option (Ended Entry) → OutcomeView → Type 0
+RunsRecordedWords words old new last outcome = RunsLeaving recording (Unit {0}) words old new last outcome
 
 -- one run of the words over a desk, with the console
-abbrev pub RunsRecorded : List (List ℕ) → Told → Told → Option (Ended Entry) → Came → Type 0
-RunsRecorded words old new last told = RunsTable recording (Unit {0}) record_usage words old new last told
+abbrev pub RunsRecorded : List (List ℕ) → Told → Told → Option (Ended Entry) → OutcomeView → Type 0
+RunsRecorded words old new last reported = RunsTable recording (Unit {0}) record_usage words old new last reported

@@ -1,7 +1,7 @@
 //! The live tools: their forms, which word names each, and one run of them.
 
 ghost use Rattle.std.specs.Prelude.{◌≡◌, None, true, false, map, string_bytes};
-ghost use Rattle.tesla_front.specs.Came.{Came, Usage, outcome_came, status_of};
+ghost use Rattle.tesla_front.specs.OutcomeView.{OutcomeView, Usage, outcome_view, status_of};
 ghost use Rattle.tesla_front.specs.Command.{RunsAs};
 ghost use Rattle.tesla_front.specs.Run.{HasStatusCauses};
 ghost use Rattle.tesla_cli_live.specs.Commands.{IsLiveTool, IsWatching, RunsLiveToolWords, RunsLiveTools, live_tool_of};
@@ -36,8 +36,8 @@ fn run_words<R: Threads + Wait + Sync, D: Desk>(
     words: &[String],
     desk: &mut D,
 ) -> LiveRun<Last<Watched>>
-    ensures runs { RunsAs (live_tool_of (D.told desk.old).live (D.told desk.new).live result.last (map string_bytes words.now)) (map string_bytes words.now) (D.told desk.old) (D.told desk.new) (outcome_came result.outcome) }
-    ensures none { outcome_came result.outcome ≡ Usage → result.last ≡ None }
+    ensures runs { RunsAs (live_tool_of (D.told desk.old).live (D.told desk.new).live result.last (map string_bytes words.now)) (map string_bytes words.now) (D.told desk.old) (D.told desk.new) (outcome_view result.outcome) }
+    ensures none { outcome_view result.outcome ≡ Usage → result.last ≡ None }
     ensures others { (IsWatching (map string_bytes words.now) → ⊥) → result.last ≡ None }
 {
     match words {
@@ -75,7 +75,7 @@ pub fn run_live_tools<R: Threads + Wait + Sync, D: Desk>(
     words: &[String],
     desk: &mut D,
 ) -> LiveToolsDone
-    ensures came { (told : Came) × (result.status ≡ status_of told) × RunsLiveTools (map string_bytes words.now) (D.told desk.old) (D.told desk.new) result.last told }
+    ensures outcome { (reported : OutcomeView) × (result.status ≡ status_of reported) × RunsLiveTools (map string_bytes words.now) (D.told desk.old) (D.told desk.new) result.last reported }
     ensures causes { HasStatusCauses result.status (D.told desk.old).faults (D.told desk.new).faults }
 {
     let run = run_table(
@@ -83,7 +83,7 @@ pub fn run_live_tools<R: Threads + Wait + Sync, D: Desk>(
         desk,
         &FORMS,
         move |words: &[String], desk: &mut D|
-            ensures { RunsLiveToolWords (map string_bytes words.now) (D.told desk.old) (D.told desk.new) result.last (outcome_came result.outcome) }
+            ensures { RunsLiveToolWords (map string_bytes words.now) (D.told desk.old) (D.told desk.new) result.last (outcome_view result.outcome) }
         { run_words(rt, alloc, words, desk) },
     );
     LiveToolsDone {

@@ -1,7 +1,7 @@
 //! The command `record`: its form, which word names it, and one run of it.
 
 ghost use Rattle.std.specs.Prelude.{◌≡◌, true, false, map, string_bytes};
-ghost use Rattle.tesla_front.specs.Came.{Came, outcome_came, status_of};
+ghost use Rattle.tesla_front.specs.OutcomeView.{OutcomeView, outcome_view, status_of};
 ghost use Rattle.tesla_front.specs.Run.{HasStatusCauses};
 ghost use Rattle.tesla_cli_live.specs.Commands.{IsRecorded, RunsRecorded, RunsRecordedWords};
 
@@ -48,7 +48,7 @@ pub fn run_recorded<R: Threads + Wait + Sync, D: Desk>(
     words: &[String],
     desk: &mut D,
 ) -> RecordedDone
-    ensures came { (told : Came) × (result.status ≡ status_of told) × RunsRecorded (map string_bytes words.now) (D.told desk.old) (D.told desk.new) result.last told }
+    ensures outcome { (reported : OutcomeView) × (result.status ≡ status_of reported) × RunsRecorded (map string_bytes words.now) (D.told desk.old) (D.told desk.new) result.last reported }
     ensures causes { HasStatusCauses result.status (D.told desk.old).faults (D.told desk.new).faults }
 {
     let run = run_table(
@@ -56,7 +56,7 @@ pub fn run_recorded<R: Threads + Wait + Sync, D: Desk>(
         desk,
         &FORMS,
         move |words: &[String], desk: &mut D|
-            ensures { RunsRecordedWords (map string_bytes words.now) (D.told desk.old) (D.told desk.new) result.last (outcome_came result.outcome) }
+            ensures { RunsRecordedWords (map string_bytes words.now) (D.told desk.old) (D.told desk.new) result.last (outcome_view result.outcome) }
         { run_record(rt, alloc, words, desk) },
     );
     RecordedDone {

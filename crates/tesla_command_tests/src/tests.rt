@@ -27,7 +27,7 @@ use tesla_cli_live::{is_live, is_live_tool, is_recorded, run_live, run_live_tool
 use tesla_desk::Desk;
 use tesla_memory_desk::MemoryDesk;
 use tesla_program::run_program;
-use tesla_test_desk::{Row, set_pieces, told_of, words_of};
+use tesla_test_desk::{Row, run_result, set_pieces, words_of};
 
 /// More bytes than any page has.
 const WHOLE: usize = 100_000;
@@ -93,14 +93,14 @@ fn status_of<R: Threads + Wait + Sync, D: Desk>(
 }
 
 // What is told of a run of these words: the status, a space and the console.
-fn told_by<R: Threads + Wait + Sync>(
+fn result_by<R: Threads + Wait + Sync>(
     rt: &R,
     alloc: Global,
     line: &str,
     desk: &mut MemoryDesk,
 ) -> Result<String, Fail> {
     let status = status_of(rt, alloc, words_of(alloc, line)?, desk);
-    told_of(alloc, status, desk)
+    run_result(alloc, status, desk)
 }
 
 // What is wrong of a row, where its pages move at most so many bytes a call.

@@ -256,8 +256,8 @@ after_words last before line word kind has h =
     subst (λ (j : SetupKind). WhyChain last before j line) x.0 why)
     (λ index found k end.
     let delay = number_found word.0 number is in
-    let place = number_found word.1 index found in
-    let spelled : HasNumbers line number index word.2 = (has_again line word.0 word.1 word.2 (decimal number) (decimal index) word.2 has delay.0 place.0 refl, delay.1, place.1) in
+    let offset = number_found word.1 index found in
+    let spelled : HasNumbers line number index word.2 = (has_again line word.0 word.1 word.2 (decimal number) (decimal index) word.2 has delay.0 offset.0 refl, delay.1, offset.1) in
     after_numbers last before line number index word.2 k spelled end)
     refused)
     h

@@ -29,67 +29,67 @@ pair_is a b c d h =
 same_kind : (e d : ℕ × SetupKind) → refused e ≡ refused d → e ≡ d
 same_kind e d h = cc
 
-pub chains_step : (version : Version) (last number before : ℕ) (front : List ChainRow) (parts others : List (List ℕ)) (line : List ℕ) (row : ChainRow) → number ≢ end_line version → next_line number parts ≡ Ok (line, others) → chain_in last before line ≡ Ok row → onto front (chains_judged version last number before parts) ≡ onto (front ++ row ∷ []) (chains_judged version last (number + 1) row.delay others)
+pub chains_step : (version : Version) (last number before : ℕ) (prefix : List ChainRow) (parts others : List (List ℕ)) (line : List ℕ) (row : ChainRow) → number ≢ end_line version → next_line number parts ≡ Ok (line, others) → chain_in last before line ≡ Ok row → onto prefix (chains_judged version last number before parts) ≡ onto (prefix ++ row ∷ []) (chains_judged version last (number + 1) row.delay others)
 unfolding chains_judged
-chains_step version last number before front [] others line row ne h k = absurd cc
-chains_step version last number before front (unended ∷ []) others line row ne h k = absurd cc
-chains_step version last number before front (first ∷ next ∷ more) others line row ne h k =
+chains_step version last number before prefix [] others line row ne h k = absurd cc
+chains_step version last number before prefix (unended ∷ []) others line row ne h k = absurd cc
+chains_step version last number before prefix (first ∷ next ∷ more) others line row ne h k =
     let p = pair_is first line (next ∷ more) others h in
     let test = not_line number (end_line version) ne in
     let judged : chain_in last before first ≡ Ok row = ap (chain_in last before) p.0 ∙ k in
-    rw (test, judged, ← p.1) (onto_first front row (chains_judged version last (number + 1) row.delay (next ∷ more)))
+    rw (test, judged, ← p.1) (onto_first prefix row (chains_judged version last (number + 1) row.delay (next ∷ more)))
 
-pub chains_refused : (version : Version) (last number before : ℕ) (front : List ChainRow) (parts others : List (List ℕ)) (line : List ℕ) (kind : SetupKind) → number ≢ end_line version → next_line number parts ≡ Ok (line, others) → chain_in last before line ≡ Err kind → onto front (chains_judged version last number before parts) ≡ Err (number, kind)
+pub chains_refused : (version : Version) (last number before : ℕ) (prefix : List ChainRow) (parts others : List (List ℕ)) (line : List ℕ) (kind : SetupKind) → number ≢ end_line version → next_line number parts ≡ Ok (line, others) → chain_in last before line ≡ Err kind → onto prefix (chains_judged version last number before parts) ≡ Err (number, kind)
 unfolding chains_judged
-chains_refused version last number before front [] others line kind ne h k = absurd cc
-chains_refused version last number before front (unended ∷ []) others line kind ne h k = absurd cc
-chains_refused version last number before front (first ∷ next ∷ more) others line kind ne h k =
+chains_refused version last number before prefix [] others line kind ne h k = absurd cc
+chains_refused version last number before prefix (unended ∷ []) others line kind ne h k = absurd cc
+chains_refused version last number before prefix (first ∷ next ∷ more) others line kind ne h k =
     let p = pair_is first line (next ∷ more) others h in
     let test = not_line number (end_line version) ne in
     let judged : chain_in last before first ≡ Err kind = ap (chain_in last before) p.0 ∙ k in
     rw (test, judged) refl
 
-unended_is : (version : Version) (last number before : ℕ) (front : List ChainRow) (text : List ℕ) (parts : List (List ℕ)) (e : ℕ × SetupKind) → 0 < length text → number ≢ end_line version → (parts ≡ text ∷ []) → next_line number parts ≡ Err e → onto front (chains_judged version last number before parts) ≡ Err e
+unended_is : (version : Version) (last number before : ℕ) (prefix : List ChainRow) (text : List ℕ) (parts : List (List ℕ)) (e : ℕ × SetupKind) → 0 < length text → number ≢ end_line version → (parts ≡ text ∷ []) → next_line number parts ≡ Err e → onto prefix (chains_judged version last number before parts) ≡ Err e
 unfolding chains_judged
-unended_is version last number before front text parts e some ne only h =
+unended_is version last number before prefix text parts e some ne only h =
     let test = not_line number (end_line version) ne in
     let nonempty : eqb (length text) 0 ≡ false = grind (arith, nat_tests) in
     let kind : (number, BadLine) ≡ e = same_kind (number, BadLine) e (rw only at h) in
     rw (only, nonempty, test) (ap Err kind)
 
-pub chains_unended : (version : Version) (last number before : ℕ) (front : List ChainRow) (text : List ℕ) (e : ℕ × SetupKind) → 0 < length text → number ≢ end_line version → next_line number (lines text) ≡ Err e → onto front (chains_judged version last number before (lines text)) ≡ Err e
-chains_unended version last number before front text e some ne h =
-    unended_is version last number before front text (lines text) e some ne (only_line number text e h) h
+pub chains_unended : (version : Version) (last number before : ℕ) (prefix : List ChainRow) (text : List ℕ) (e : ℕ × SetupKind) → 0 < length text → number ≢ end_line version → next_line number (lines text) ≡ Err e → onto prefix (chains_judged version last number before (lines text)) ≡ Err e
+chains_unended version last number before prefix text e some ne h =
+    unended_is version last number before prefix text (lines text) e some ne (only_line number text e h) h
 
-over_is : (version : Version) (last number before : ℕ) (front : List ChainRow) (text : List ℕ) (parts : List (List ℕ)) → 0 < length text → number ≡ end_line version → ((other : List ℕ) → parts ≡ other ∷ [] → other ≡ text) → 1 ≤ length parts → onto front (chains_judged version last number before parts) ≡ Err (number, TooManyChains)
+over_is : (version : Version) (last number before : ℕ) (prefix : List ChainRow) (text : List ℕ) (parts : List (List ℕ)) → 0 < length text → number ≡ end_line version → ((other : List ℕ) → parts ≡ other ∷ [] → other ≡ text) → 1 ≤ length parts → onto prefix (chains_judged version last number before parts) ≡ Err (number, TooManyChains)
 unfolding chains_judged
-over_is version last number before front text [] some e only h = absurd (omega arith)
-over_is version last number before front text (unended ∷ []) some e only h =
+over_is version last number before prefix text [] some e only h = absurd (omega arith)
+over_is version last number before prefix text (unended ∷ []) some e only h =
     let same = only unended refl in
     let nonempty : eqb (length unended) 0 ≡ false = rw same (grind (arith, nat_tests)) in
     let test = same_line number (end_line version) e in
     rw (nonempty, test) refl
-over_is version last number before front text (line ∷ next ∷ others) some e only h =
+over_is version last number before prefix text (line ∷ next ∷ others) some e only h =
     let test = same_line number (end_line version) e in
     rw test refl
 
-pub chains_over : (version : Version) (last number before : ℕ) (front : List ChainRow) (text : List ℕ) → 0 < length text → number ≡ end_line version → onto front (chains_judged version last number before (lines text)) ≡ Err (number, TooManyChains)
-chains_over version last number before front text some e =
+pub chains_over : (version : Version) (last number before : ℕ) (prefix : List ChainRow) (text : List ℕ) → 0 < length text → number ≡ end_line version → onto prefix (chains_judged version last number before (lines text)) ≡ Err (number, TooManyChains)
+chains_over version last number before prefix text some e =
     let f = has_first 10 text in
     let count : 1 ≤ length (lines text) = omega (arith, ap (length {A = List ℕ}) f.2) in
-    over_is version last number before front text (lines text) some e (λ other h. is_only text other h) count
+    over_is version last number before prefix text (lines text) some e (λ other h. is_only text other h) count
 
-pub chains_none : (version : Version) (last number before : ℕ) (front : List ChainRow) (text : List ℕ) → length text ≡ 0 → number ≡ first_line version → onto front (chains_judged version last number before (lines text)) ≡ Err (number, NoChain)
+pub chains_none : (version : Version) (last number before : ℕ) (prefix : List ChainRow) (text : List ℕ) → length text ≡ 0 → number ≡ first_line version → onto prefix (chains_judged version last number before (lines text)) ≡ Err (number, NoChain)
 unfolding chains_judged
-chains_none version last number before front text none e =
+chains_none version last number before prefix text none e =
     let test = same_line number (first_line version) e in
     rw (lines_of_nothing text none, test) refl
 
-pub chains_end : (version : Version) (last number before : ℕ) (front : List ChainRow) (text : List ℕ) → length text ≡ 0 → number ≢ first_line version → onto front (chains_judged version last number before (lines text)) ≡ Ok front
+pub chains_end : (version : Version) (last number before : ℕ) (prefix : List ChainRow) (text : List ℕ) → length text ≡ 0 → number ≢ first_line version → onto prefix (chains_judged version last number before (lines text)) ≡ Ok prefix
 unfolding chains_judged
-chains_end version last number before front text none ne =
+chains_end version last number before prefix text none ne =
     let test = not_line number (first_line version) ne in
-    rw (lines_of_nothing text none, test) (ap Ok (append-nil front))
+    rw (lines_of_nothing text none, test) (ap Ok (append-nil prefix))
 
 -- ---- refusals in the loop
 
@@ -102,10 +102,10 @@ at_err number line kind (Err other) h =
     let e = same_error (number, other) (line, kind) (at number (Err other)) refl h in
     (ap (λ (p : ℕ × SetupKind). Err p.1) e, ap (λ (p : ℕ × SetupKind). p.0) e)
 
-pub row_refused : (version : Version) (last number before other : ℕ) (front : List ChainRow) (parts others : List (List ℕ)) (line : List ℕ) (kind : SetupKind) → number ≢ end_line version → next_line number parts ≡ Ok (line, others) → at number (chain_in last before line) ≡ Err (other, kind) → onto front (chains_judged version last number before parts) ≡ Err (other, kind)
-row_refused version last number before other front parts others line kind ne h k =
+pub row_refused : (version : Version) (last number before other : ℕ) (prefix : List ChainRow) (parts others : List (List ℕ)) (line : List ℕ) (kind : SetupKind) → number ≢ end_line version → next_line number parts ≡ Ok (line, others) → at number (chain_in last before line) ≡ Err (other, kind) → onto prefix (chains_judged version last number before parts) ≡ Err (other, kind)
+row_refused version last number before other prefix parts others line kind ne h k =
     let a = at_err number other kind (chain_in last before line) k in
-    chains_refused version last number before front parts others line kind ne h a.0 ∙ ap (λ (n : ℕ). Err (n, kind)) a.1
+    chains_refused version last number before prefix parts others line kind ne h a.0 ∙ ap (λ (n : ℕ). Err (n, kind)) a.1
 
 -- ---- what chains that are not refused are
 

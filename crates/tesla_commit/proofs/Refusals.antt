@@ -87,8 +87,8 @@ some_head version stream start length fits begins shortest longest =
     record { stream = fits; start = begins; times = record { shortest = shortest; longest = longest; first = omega arith; most = omega arith }; tag_length = longest_is version }
 
 -- the text with one more of its lines known
-pub grown : (text front parts others : List (List ℕ)) (line spelled : List ℕ) → text ≡ front ++ parts → parts ≡ line ∷ others → line ≡ spelled → text ≡ front ++ spelled ∷ others
-grown text front parts others line spelled h k e = h ∙ ap (λ (r : List (List ℕ)). front ++ r) (k ∙ ap (λ (l : List ℕ). l ∷ others) e)
+pub grown : (text prefix parts others : List (List ℕ)) (line spelled : List ℕ) → text ≡ prefix ++ parts → parts ≡ line ∷ others → line ≡ spelled → text ≡ prefix ++ spelled ∷ others
+grown text prefix parts others line spelled h k e = h ∙ ap (λ (r : List (List ℕ)). prefix ++ r) (k ∙ ap (λ (l : List ℕ). l ∷ others) e)
 
 abbrev pub stream_line : ℕ → List ℕ
 stream_line stream = codes "stream" ++ 32 ∷ encode_lower (to_be_bytes w64 stream)
@@ -99,14 +99,14 @@ after_opening version stream rest = Ok (version, stream, rest)
 
 -- a text whose first line is the title stops at line 2
 second_stops : (version : Version) (text parts : List (List ℕ)) (e : ℕ × SetupKind) → 0 < length parts → text ≡ title version ∷ parts → (next_line 2 parts >>= λ two. at 2 (stream_in two.0) >>= λ stream. after_opening version stream two.1) ≡ Err e → Stops text e
-second_stops version text parts e some front h =
+second_stops version text parts e some prefix h =
     let known_of = known version 0 (times_of 0 1000) in
     let limits = some_head version 0 0 1000 (omega arith) (omega arith) (omega arith) (omega arith) in
     by_steps (λ (d : ℕ × SetupKind). Stops text d) (next_line 2 parts) (λ two. at 2 (stream_in two.0) >>= λ stream. after_opening version stream two.1) e
-    (λ d refused. head_stops text 1 known_of parts d limits (omega (arith, first_bounds version)) front (next_why (why_head 1) 2 parts d some refused))
+    (λ d refused. head_stops text 1 known_of parts d limits (omega (arith, first_bounds version)) prefix (next_why (why_head 1) 2 parts d some refused))
     (λ two taken d refused.
     by_steps (λ (k : ℕ × SetupKind). Stops text k) (at 2 (stream_in two.0)) (λ stream. after_opening version stream two.1) d
-    (λ k end. head_stops text 1 known_of parts k limits (omega (arith, first_bounds version)) front (line_why (why_head 1) 2 parts two (stream_in two.0) k taken (λ j r. stream_why two.0 j r) end))
+    (λ k end. head_stops text 1 known_of parts k limits (omega (arith, first_bounds version)) prefix (line_why (why_head 1) 2 parts two (stream_in two.0) k taken (λ j r. stream_why two.0 j r) end))
     (λ stream ok k end. absurd cc)
     refused)
     h
@@ -127,9 +127,9 @@ opening_stops text e some h =
     h
 
 -- lines 1 and 2 where neither is refused
-pub opening_front : (text : List (List ℕ)) (x : Version × StreamId × List (List ℕ)) → opening_judged text ≡ Ok x → (text ≡ title x.0 ∷ stream_line x.1.0 ∷ x.2) × (x.1.0 < 2 ^ 64) × (0 < length x.2)
+pub opening_spelled : (text : List (List ℕ)) (x : Version × StreamId × List (List ℕ)) → opening_judged text ≡ Ok x → (text ≡ title x.0 ∷ stream_line x.1.0 ∷ x.2) × (x.1.0 < 2 ^ 64) × (0 < length x.2)
 unfolding opening_judged
-opening_front text x h =
+opening_spelled text x h =
     let one = bind_ok (next_line 1 text) (λ one. at 1 (title_in one.0) >>= λ version. next_line 2 one.1 >>= λ two. at 2 (stream_in two.0) >>= λ stream. Ok (version, stream, two.1)) x h in
     let version = bind_ok (at 1 (title_in one.0.0)) (λ version. next_line 2 one.0.1 >>= λ two. at 2 (stream_in two.0) >>= λ stream. Ok (version, stream, two.1)) x one.2 in
     let two = bind_ok (next_line 2 one.0.1) (λ two. at 2 (stream_in two.0) >>= λ stream. Ok (version.0, stream, two.1)) x version.2 in
@@ -146,29 +146,29 @@ after_times start length last rest = Ok (record { start = start; length = length
 
 -- a text stops at line 5
 fifth_stops : (version : Version) (text parts : List (List ℕ)) (stream start span : ℕ) (e : ℕ × SetupKind) → 0 < length parts → IsHead (known version stream (times_of start span)) → text ≡ take 4 (head_lines (known version stream (times_of start span))) ++ parts → (next_line 5 parts >>= λ five. at 5 (limited_in (codes "last") 1 1048576 five.0) >>= λ last. after_times start span last five.1) ≡ Err e → Stops text e
-fifth_stops version text parts stream start span e some limits front h =
+fifth_stops version text parts stream start span e some limits prefix h =
     by_steps (λ (d : ℕ × SetupKind). Stops text d) (next_line 5 parts) (λ five. at 5 (limited_in (codes "last") 1 1048576 five.0) >>= λ last. after_times start span last five.1) e
-    (λ d refused. head_stops text 4 (known version stream (times_of start span)) parts d limits (omega (arith, first_bounds version)) front (next_why (why_head 4) 5 parts d some refused))
+    (λ d refused. head_stops text 4 (known version stream (times_of start span)) parts d limits (omega (arith, first_bounds version)) prefix (next_why (why_head 4) 5 parts d some refused))
     (λ five taken d refused.
     by_steps (λ (k : ℕ × SetupKind). Stops text k) (at 5 (limited_in (codes "last") 1 1048576 five.0)) (λ last. after_times start span last five.1) d
-    (λ k end. head_stops text 4 (known version stream (times_of start span)) parts k limits (omega (arith, first_bounds version)) front (line_why (why_head 4) 5 parts five (limited_in (codes "last") 1 1048576 five.0) k taken (λ j r. limited_why (codes "last") 1 1048576 five.0 j r) end))
+    (λ k end. head_stops text 4 (known version stream (times_of start span)) parts k limits (omega (arith, first_bounds version)) prefix (line_why (why_head 4) 5 parts five (limited_in (codes "last") 1 1048576 five.0) k taken (λ j r. limited_why (codes "last") 1 1048576 five.0 j r) end))
     (λ last ok k end. absurd cc)
     refused)
     h
 
 -- a text stops at line 4 or 5
 fourth_stops : (version : Version) (text parts : List (List ℕ)) (stream start : ℕ) (e : ℕ × SetupKind) → 0 < length parts → stream < 2 ^ 64 → start < 2 ^ 64 → text ≡ take 3 (head_lines (known version stream (times_of start 1000))) ++ parts → (next_line 4 parts >>= λ four. at 4 (limited_in (codes "interval") 1000 3600000000 four.0) >>= λ length. next_line 5 four.1 >>= λ five. at 5 (limited_in (codes "last") 1 1048576 five.0) >>= λ last. after_times start length last five.1) ≡ Err e → Stops text e
-fourth_stops version text parts stream start e some fits begins front h =
+fourth_stops version text parts stream start e some fits begins prefix h =
     let known_of = known version stream (times_of start 1000) in
     let limits = some_head version stream start 1000 fits begins (omega arith) (omega arith) in
     by_steps (λ (d : ℕ × SetupKind). Stops text d) (next_line 4 parts) (λ four. at 4 (limited_in (codes "interval") 1000 3600000000 four.0) >>= λ length. next_line 5 four.1 >>= λ five. at 5 (limited_in (codes "last") 1 1048576 five.0) >>= λ last. after_times start length last five.1) e
-    (λ d refused. head_stops text 3 known_of parts d limits (omega (arith, first_bounds version)) front (next_why (why_head 3) 4 parts d some refused))
+    (λ d refused. head_stops text 3 known_of parts d limits (omega (arith, first_bounds version)) prefix (next_why (why_head 3) 4 parts d some refused))
     (λ four taken d refused.
     by_steps (λ (k : ℕ × SetupKind). Stops text k) (at 4 (limited_in (codes "interval") 1000 3600000000 four.0)) (λ length. next_line 5 four.1 >>= λ five. at 5 (limited_in (codes "last") 1 1048576 five.0) >>= λ last. after_times start length last five.1) d
-    (λ k end. head_stops text 3 known_of parts k limits (omega (arith, first_bounds version)) front (line_why (why_head 3) 4 parts four (limited_in (codes "interval") 1000 3600000000 four.0) k taken (λ j r. limited_why (codes "interval") 1000 3600000000 four.0 j r) end))
+    (λ k end. head_stops text 3 known_of parts k limits (omega (arith, first_bounds version)) prefix (line_why (why_head 3) 4 parts four (limited_in (codes "interval") 1000 3600000000 four.0) k taken (λ j r. limited_why (codes "interval") 1000 3600000000 four.0 j r) end))
     (λ span ok k end.
     let said = limited_found (codes "interval") 1000 3600000000 four.0 span (at_ok 4 (limited_in (codes "interval") 1000 3600000000 four.0) span ok) in
-    let more = grown text (take 3 (head_lines known_of)) parts four.1 four.0 (codes "interval" ++ 32 ∷ decimal span) front (line_taken 4 parts four taken).0 said.0 in
+    let more = grown text (take 3 (head_lines known_of)) parts four.1 four.0 (codes "interval" ++ 32 ∷ decimal span) prefix (line_taken 4 parts four taken).0 said.0 in
     fifth_stops version text four.1 stream start span k (line_taken 4 parts four taken).1 (some_head version stream start span fits begins said.1 said.2) more end)
     refused)
     h
@@ -176,17 +176,17 @@ fourth_stops version text parts stream start e some fits begins front h =
 -- a text stops at line 3, 4 or 5
 pub times_stops : (version : Version) (text parts : List (List ℕ)) (stream : ℕ) (e : ℕ × SetupKind) → 0 < length parts → stream < 2 ^ 64 → text ≡ title version ∷ stream_line stream ∷ parts → times_judged parts ≡ Err e → Stops text e
 unfolding times_judged
-times_stops version text parts stream e some fits front h =
+times_stops version text parts stream e some fits prefix h =
     let known_of = known version stream (times_of 0 1000) in
     let limits = some_head version stream 0 1000 fits (omega arith) (omega arith) (omega arith) in
     by_steps (λ (d : ℕ × SetupKind). Stops text d) (next_line 3 parts) (λ three. at 3 (start_in three.0) >>= λ start. next_line 4 three.1 >>= λ four. at 4 (limited_in (codes "interval") 1000 3600000000 four.0) >>= λ length. next_line 5 four.1 >>= λ five. at 5 (limited_in (codes "last") 1 1048576 five.0) >>= λ last. after_times start length last five.1) e
-    (λ d refused. head_stops text 2 known_of parts d limits (omega (arith, first_bounds version)) front (next_why (why_head 2) 3 parts d some refused))
+    (λ d refused. head_stops text 2 known_of parts d limits (omega (arith, first_bounds version)) prefix (next_why (why_head 2) 3 parts d some refused))
     (λ three taken d refused.
     by_steps (λ (k : ℕ × SetupKind). Stops text k) (at 3 (start_in three.0)) (λ start. next_line 4 three.1 >>= λ four. at 4 (limited_in (codes "interval") 1000 3600000000 four.0) >>= λ length. next_line 5 four.1 >>= λ five. at 5 (limited_in (codes "last") 1 1048576 five.0) >>= λ last. after_times start length last five.1) d
-    (λ k end. head_stops text 2 known_of parts k limits (omega (arith, first_bounds version)) front (line_why (why_head 2) 3 parts three (start_in three.0) k taken (λ j r. start_why three.0 j r) end))
+    (λ k end. head_stops text 2 known_of parts k limits (omega (arith, first_bounds version)) prefix (line_why (why_head 2) 3 parts three (start_in three.0) k taken (λ j r. start_why three.0 j r) end))
     (λ start ok k end.
     let said = start_found three.0 start (at_ok 3 (start_in three.0) start ok) in
-    let more = grown text (title version ∷ stream_line stream ∷ []) parts three.1 three.0 (codes "start" ++ 32 ∷ decimal start) front (line_taken 3 parts three taken).0 said.0 in
+    let more = grown text (title version ∷ stream_line stream ∷ []) parts three.1 three.0 (codes "start" ++ 32 ∷ decimal start) prefix (line_taken 3 parts three taken).0 said.0 in
     fourth_stops version text three.1 stream start k (line_taken 3 parts three taken).1 fits said.1 more end)
     refused)
     h
@@ -199,9 +199,9 @@ pub record AreTimes (parts : List (List ℕ)) (x : Times × List (List ℕ)) : T
   pub more : 0 < length x.1
 
 -- lines 3 to 5 where none is refused
-pub times_front : (parts : List (List ℕ)) (x : Times × List (List ℕ)) → times_judged parts ≡ Ok x → AreTimes parts x
+pub times_spelled_out : (parts : List (List ℕ)) (x : Times × List (List ℕ)) → times_judged parts ≡ Ok x → AreTimes parts x
 unfolding times_judged
-times_front parts x h =
+times_spelled_out parts x h =
     let three = bind_ok (next_line 3 parts) (λ three. at 3 (start_in three.0) >>= λ start. next_line 4 three.1 >>= λ four. at 4 (limited_in (codes "interval") 1000 3600000000 four.0) >>= λ length. next_line 5 four.1 >>= λ five. at 5 (limited_in (codes "last") 1 1048576 five.0) >>= λ last. after_times start length last five.1) x h in
     let start = bind_ok (at 3 (start_in three.0.0)) (λ start. next_line 4 three.0.1 >>= λ four. at 4 (limited_in (codes "interval") 1000 3600000000 four.0) >>= λ length. next_line 5 four.1 >>= λ five. at 5 (limited_in (codes "last") 1 1048576 five.0) >>= λ last. after_times start length last five.1) x three.2 in
     let four = bind_ok (next_line 4 three.0.1) (λ four. at 4 (limited_in (codes "interval") 1000 3600000000 four.0) >>= λ length. next_line 5 four.1 >>= λ five. at 5 (limited_in (codes "last") 1 1048576 five.0) >>= λ last. after_times start.0 length last five.1) x start.2 in
@@ -236,15 +236,15 @@ pub record ChainStop (version : Version) (last number before : ℕ) (parts : Lis
 
 -- at the first of them
 chain_now : (version : Version) (last number before : ℕ) (parts : List (List ℕ)) (e : ℕ × SetupKind) → StopsAtChain (most_chains version) (number - first_line version) last before e.1 parts → number ≡ e.0 → ChainStop version last number before parts e
-chain_now version last number before parts e why place =
-    record { rows = []; rest = parts; spelled = refl; place = omega (arith, place); each = tt; rise = tt; keys = tt; why = subst (λ (n : ℕ). StopsAtChain (most_chains version) (n - first_line version) last before e.1 parts) place why }
+chain_now version last number before parts e why offset =
+    record { rows = []; rest = parts; spelled = refl; place = omega (arith, offset); each = tt; rise = tt; keys = tt; why = subst (λ (n : ℕ). StopsAtChain (most_chains version) (n - first_line version) last before e.1 parts) offset why }
 
 -- behind one that is not refused
 chain_later : (version : Version) (last number before : ℕ) (line : List ℕ) (others : List (List ℕ)) (row : ChainRow) (e : ℕ × SetupKind) → chain_in last before line ≡ Ok row → ChainStop version last (number + 1) row.delay others e → ChainStop version last number before (line ∷ others) e
 chain_later version last number before line others row e ok more =
     let found = row_found last before line row ok in
     let next = (row_is last before row row (chain_row last before line row ok)).1 in
-    let place = more.place in
+    let offset = more.place in
     record {
       rows = row ∷ more.rows;
       rest = more.rest;
@@ -333,24 +333,24 @@ chains_stop version last number before (line ∷ next ∷ others) e low high som
 -- a text stops at the line of the tags' length
 tag_stops : (version : Version) (text parts : List (List ℕ)) (stream : ℕ) (times : Times) (e : ℕ × SetupKind) → 0 < length parts → IsHead (known version stream times) → text ≡ take 5 (head_lines (known version stream times)) ++ parts → tag_judged version parts ≡ Err e → Stops text e
 unfolding tag_judged
-tag_stops One text parts stream times e some limits front h = absurd cc
-tag_stops Two text parts stream times e some limits front h =
+tag_stops One text parts stream times e some limits prefix h = absurd cc
+tag_stops Two text parts stream times e some limits prefix h =
     by_steps (λ (d : ℕ × SetupKind). Stops text d) (next_line 6 parts) (λ six. at 6 (limited_in (codes "tag") (shortest_tag Two) (longest_tag Two) six.0) >>= λ size. Ok (size, six.1)) e
-    (λ d refused. head_stops text 5 (known Two stream times) parts d limits (omega arith) front (next_why (why_head 5) 6 parts d some refused))
+    (λ d refused. head_stops text 5 (known Two stream times) parts d limits (omega arith) prefix (next_why (why_head 5) 6 parts d some refused))
     (λ six taken d refused.
     by_steps (λ (k : ℕ × SetupKind). Stops text k) (at 6 (limited_in (codes "tag") (shortest_tag Two) (longest_tag Two) six.0)) (λ size. Ok (size, six.1)) d
-    (λ k end. head_stops text 5 (known Two stream times) parts k limits (omega arith) front (line_why (why_head 5) 6 parts six (limited_in (codes "tag") (shortest_tag Two) (longest_tag Two) six.0) k taken (λ j r. limited_why (codes "tag") (shortest_tag Two) (longest_tag Two) six.0 j r) end))
+    (λ k end. head_stops text 5 (known Two stream times) parts k limits (omega arith) prefix (line_why (why_head 5) 6 parts six (limited_in (codes "tag") (shortest_tag Two) (longest_tag Two) six.0) k taken (λ j r. limited_why (codes "tag") (shortest_tag Two) (longest_tag Two) six.0 j r) end))
     (λ size ok k end. absurd cc)
     refused)
     h
 
 -- the line of the tags' length where it isn't refused
-tag_front : (version : Version) (parts : List (List ℕ)) (x : ℕ × List (List ℕ)) → 0 < length parts → tag_judged version parts ≡ Ok x → (parts ≡ tag_lines version x.0 ++ x.1) × IsTagLength version x.0 × (0 < length x.1)
+tag_spelled : (version : Version) (parts : List (List ℕ)) (x : ℕ × List (List ℕ)) → 0 < length parts → tag_judged version parts ≡ Ok x → (parts ≡ tag_lines version x.0 ++ x.1) × IsTagLength version x.0 × (0 < length x.1)
 unfolding tag_judged
-tag_front One parts x some h =
+tag_spelled One parts x some h =
     let made : ℕ × List (List ℕ) = (longest_tag One, parts) in
     subst (λ (y : ℕ × List (List ℕ)). (parts ≡ tag_lines One y.0 ++ y.1) × IsTagLength One y.0 × (0 < length y.1)) (ok_is made x (Ok made) refl h) (refl, longest_is One, some)
-tag_front Two parts x some h =
+tag_spelled Two parts x some h =
     let six = bind_ok (next_line 6 parts) (λ six. at 6 (limited_in (codes "tag") (shortest_tag Two) (longest_tag Two) six.0) >>= λ size. Ok (size, six.1)) x h in
     let size = bind_ok (at 6 (limited_in (codes "tag") (shortest_tag Two) (longest_tag Two) six.0.0)) (λ size. Ok (size, six.0.1)) x six.2 in
     let said = limited_found (codes "tag") (shortest_tag Two) (longest_tag Two) six.0.0 size.0 (at_ok 6 (limited_in (codes "tag") (shortest_tag Two) (longest_tag Two) six.0.0) size.0 size.1) in
@@ -361,11 +361,11 @@ tag_front Two parts x some h =
 
 -- a text stops at a line of its chains
 chains_whole : (text others : List (List ℕ)) (head : Parts) (e : ℕ × SetupKind) → IsHead head → text ≡ head_lines head ++ others → 0 < length others → chains_judged head.version head.times.last (first_line head.version) 0 others ≡ Err e → Stops text e
-chains_whole text others head e limits front some h =
+chains_whole text others head e limits prefix some h =
     let first = first_line head.version in
     let bounds = first_bounds head.version in
     let c = chains_stop head.version head.times.last first 0 others e (omega arith) (omega arith) some h in
-    let place = c.place in
+    let offset = c.place in
     let count : e.0 - first ≡ length c.rows = omega arith in
     let before : suc ((first - 1) + length c.rows) ≡ e.0 = omega (arith, bounds.0) in
     subst (λ (n : ℕ). StopsAt text n e.1) before (inr (record {
@@ -376,7 +376,7 @@ chains_whole text others head e limits front some h =
       keys = c.keys;
       count = omega (arith, bounds.0);
       rest = c.rest;
-      spelled = front ∙ ap (λ (r : List (List ℕ)). head_lines head ++ r) c.spelled ∙ sym (append_assoc (head_lines head) (map chain_text c.rows) c.rest);
+      spelled = prefix ∙ ap (λ (r : List (List ℕ)). head_lines head ++ r) c.spelled ∙ sym (append_assoc (head_lines head) (map chain_text c.rows) c.rest);
       why = subst (λ (n : ℕ). StopsAtChain (most_chains head.version) n head.times.last (last_delay 0 c.rows) e.1 c.rest) count c.why;
     }))
 
@@ -386,13 +386,13 @@ whole_setup version stream times size rows = Ok (record { version = version; str
 -- a text stops behind the lines of the intervals
 rest_stops : (version : Version) (text others : List (List ℕ)) (stream : StreamId) (times : Times) (e : ℕ × SetupKind) → 0 < length others → IsHead (known version stream.0 times) → text ≡ take 5 (head_lines (known version stream.0 times)) ++ others → rest_judged version stream times others ≡ Err e → Stops text e
 unfolding rest_judged
-rest_stops version text others stream times e some limits front h =
+rest_stops version text others stream times e some limits prefix h =
     by_steps (λ (d : ℕ × SetupKind). Stops text d) (tag_judged version others) (λ tag. chains_judged version times.last (first_line version) 0 tag.1 >>= λ rows. whole_setup version stream times tag.0 rows) e
-    (λ d refused. tag_stops version text others stream.0 times d some limits front refused)
+    (λ d refused. tag_stops version text others stream.0 times d some limits prefix refused)
     (λ tag ok d refused.
-    let t = tag_front version others tag some ok in
+    let t = tag_spelled version others tag some ok in
     let head : Parts = record { version = version; stream = stream; times = times; tag_length = tag.0; rows = [] } in
-    let whole : text ≡ head_lines head ++ tag.1 = front ∙ ap (λ (r : List (List ℕ)). take 5 (head_lines (known version stream.0 times)) ++ r) t.0 in
+    let whole : text ≡ head_lines head ++ tag.1 = prefix ∙ ap (λ (r : List (List ℕ)). take 5 (head_lines (known version stream.0 times)) ++ r) t.0 in
     by_steps (λ (k : ℕ × SetupKind). Stops text k) (chains_judged version times.last (first_line version) 0 tag.1) (λ rows. whole_setup version stream times tag.0 rows) d
     (λ k stop. chains_whole text tag.1 head k (record { stream = limits.stream; start = limits.start; times = limits.times; tag_length = t.1 }) whole t.2 stop)
     (λ rows are k stop. absurd cc)
@@ -414,13 +414,13 @@ lines_stop text e some h =
     by_steps (λ (d : ℕ × SetupKind). Stops text d) (opening_judged text) (λ opening. times_judged opening.2 >>= λ times. rest_judged opening.0 opening.1 times.0 times.1) e
     (λ d refused. opening_stops text d some refused)
     (λ opening ok d refused.
-    let o = opening_front text opening ok in
+    let o = opening_spelled text opening ok in
     by_steps (λ (k : ℕ × SetupKind). Stops text k) (times_judged opening.2) (λ times. rest_judged opening.0 opening.1 times.0 times.1) d
     (λ k end. times_stops opening.0 text opening.2 opening.1.0 k o.2 o.1 o.0 end)
     (λ times found k end.
-    let t = times_front opening.2 times found in
-    let front : text ≡ take 5 (head_lines (known opening.0 opening.1.0 times.0)) ++ times.1 = o.0 ∙ ap (λ (r : List (List ℕ)). title opening.0 ∷ stream_line opening.1.0 ∷ r) t.spelled in
-    rest_stops opening.0 text times.1 opening.1 times.0 k t.more (record { stream = o.1; start = t.start; times = t.limits; tag_length = longest_is opening.0 }) front end)
+    let t = times_spelled_out opening.2 times found in
+    let prefix : text ≡ take 5 (head_lines (known opening.0 opening.1.0 times.0)) ++ times.1 = o.0 ∙ ap (λ (r : List (List ℕ)). title opening.0 ∷ stream_line opening.1.0 ∷ r) t.spelled in
+    rest_stops opening.0 text times.1 opening.1 times.0 k t.more (record { stream = o.1; start = t.start; times = t.limits; tag_length = longest_is opening.0 }) prefix end)
     refused)
     h
 

@@ -19,8 +19,8 @@ use Rattle.tesla_commit.specs.declared.refusal.SetupKind.TheVariants.{NoChain, T
 
 -- rows before those that are judged
 abbrev pub onto : {A E : Type 0} → List A → Result (List A) E → Result (List A) E
-onto front (Ok others) = Ok (front ++ others)
-onto front (Err e) = Err e
+onto prefix (Ok others) = Ok (prefix ++ others)
+onto prefix (Err e) = Err e
 
 -- a step that was not refused
 pub bind_ok : {A B E : Type 0} (r : Result A E) (f : A → Result B E) (y : B) → (r >>= f) ≡ Ok y → (x : A) × (r ≡ Ok x) × (f x ≡ Ok y)
@@ -68,9 +68,9 @@ row_again last before row h =
     let e : nat_lt last row.index ≡ false = grind (arith, nat_tests) in
     rw (a, b, d, e) refl
 
-pub onto_first : {A E : Type 0} (front : List A) (x : A) (r : Result (List A) E) → onto front (r >>= λ others. Ok (x ∷ others)) ≡ onto (front ++ x ∷ []) r
-onto_first front x (Ok others) = ap Ok (sym (append_assoc front (x ∷ []) others))
-onto_first front x (Err e) = refl
+pub onto_first : {A E : Type 0} (prefix : List A) (x : A) (r : Result (List A) E) → onto prefix (r >>= λ others. Ok (x ∷ others)) ≡ onto (prefix ++ x ∷ []) r
+onto_first prefix x (Ok others) = ap Ok (sym (append_assoc prefix (x ∷ []) others))
+onto_first prefix x (Err e) = refl
 
 pub not_line : (line other : ℕ) → line ≢ other → eqb line other ≡ false
 not_line line other h = grind (arith, nat_tests)
@@ -83,44 +83,44 @@ first_bounds Two = (omega arith, omega arith)
 pub same_line : (line other : ℕ) → line ≡ other → eqb line other ≡ true
 same_line line other h = grind (arith, nat_tests)
 
-pub rows_step : (version : Version) (last line before : ℕ) (front rows : List ChainRow) (row other : ChainRow) → line ≢ end_line version → row_judged last before row ≡ Ok other → onto front (rows_judged version last line before (row ∷ rows)) ≡ onto (front ++ row ∷ []) (rows_judged version last (line + 1) row.delay rows)
+pub rows_step : (version : Version) (last line before : ℕ) (prefix rows : List ChainRow) (row other : ChainRow) → line ≢ end_line version → row_judged last before row ≡ Ok other → onto prefix (rows_judged version last line before (row ∷ rows)) ≡ onto (prefix ++ row ∷ []) (rows_judged version last (line + 1) row.delay rows)
 unfolding rows_judged
-rows_step version last line before front rows row other ne h =
+rows_step version last line before prefix rows row other ne h =
     let e = (row_is last before row other h).0 in
     let judged : row_judged last before row ≡ Ok row = h ∙ ap Ok (sym e) in
     let test = not_line line (end_line version) ne in
-    rw (test, judged) (onto_first front row (rows_judged version last (line + 1) row.delay rows))
+    rw (test, judged) (onto_first prefix row (rows_judged version last (line + 1) row.delay rows))
 
-pub rows_refused : (version : Version) (last line before : ℕ) (front rows : List ChainRow) (row : ChainRow) (kind : SetupKind) → line ≢ end_line version → row_judged last before row ≡ Err kind → onto front (rows_judged version last line before (row ∷ rows)) ≡ Err (line, kind)
+pub rows_refused : (version : Version) (last line before : ℕ) (prefix rows : List ChainRow) (row : ChainRow) (kind : SetupKind) → line ≢ end_line version → row_judged last before row ≡ Err kind → onto prefix (rows_judged version last line before (row ∷ rows)) ≡ Err (line, kind)
 unfolding rows_judged
-rows_refused version last line before front rows row kind ne h =
+rows_refused version last line before prefix rows row kind ne h =
     let test = not_line line (end_line version) ne in
     rw (test, h) refl
 
-pub rows_over : (version : Version) (last line before : ℕ) (front rows : List ChainRow) (row : ChainRow) → line ≡ end_line version → onto front (rows_judged version last line before (row ∷ rows)) ≡ Err (line, TooManyChains)
+pub rows_over : (version : Version) (last line before : ℕ) (prefix rows : List ChainRow) (row : ChainRow) → line ≡ end_line version → onto prefix (rows_judged version last line before (row ∷ rows)) ≡ Err (line, TooManyChains)
 unfolding rows_judged
-rows_over version last line before front rows row e =
+rows_over version last line before prefix rows row e =
     let test = same_line line (end_line version) e in
     rw test refl
 
-pub rows_none : (version : Version) (last line before : ℕ) (front : List ChainRow) → line ≡ first_line version → onto front (rows_judged version last line before []) ≡ Err (line, NoChain)
+pub rows_none : (version : Version) (last line before : ℕ) (prefix : List ChainRow) → line ≡ first_line version → onto prefix (rows_judged version last line before []) ≡ Err (line, NoChain)
 unfolding rows_judged
-rows_none version last line before front e =
+rows_none version last line before prefix e =
     let test = same_line line (first_line version) e in
     rw test refl
 
-pub rows_end : (version : Version) (last line before : ℕ) (front : List ChainRow) → line ≢ first_line version → onto front (rows_judged version last line before []) ≡ Ok front
+pub rows_end : (version : Version) (last line before : ℕ) (prefix : List ChainRow) → line ≢ first_line version → onto prefix (rows_judged version last line before []) ≡ Ok prefix
 unfolding rows_judged
-rows_end version last line before front ne =
+rows_end version last line before prefix ne =
     let test = not_line line (first_line version) ne in
-    rw test (ap Ok (append-nil front))
+    rw test (ap Ok (append-nil prefix))
 
-from_place : (rows : List ChainRow) (i : ℕ) (d : ChainRow) → i < length rows → drop i rows ≡ get_or rows i d ∷ drop (i + 1) rows
-from_place rows i d lt = rw (add-one, drop-cons rows i d) refl
+from_index : (rows : List ChainRow) (i : ℕ) (d : ChainRow) → i < length rows → drop i rows ≡ get_or rows i d ∷ drop (i + 1) rows
+from_index rows i d lt = rw (add-one, drop-cons rows i d) refl
 
 pub at_step : (version : Version) (last line before i : ℕ) (rows : List ChainRow) (d other : ChainRow) → i < length rows → line ≢ end_line version → row_judged last before (get_or rows i d) ≡ Ok other → onto (take i rows) (rows_judged version last line before (drop i rows)) ≡ onto (take (i + 1) rows) (rows_judged version last (line + 1) (get_or rows i d).delay (drop (i + 1) rows))
 at_step version last line before i rows d other lt ne h =
-    let e = from_place rows i d lt in
+    let e = from_index rows i d lt in
     let t : take (i + 1) rows ≡ take i rows ++ get_or rows i d ∷ [] = take_more rows i d lt in
     rw (e, t) (rows_step version last line before (take i rows) (drop (i + 1) rows) (get_or rows i d) other ne h)
 
@@ -137,11 +137,11 @@ keys_more last before i rows d other lt judged key keys =
 
 pub at_refused : (version : Version) (last line before i : ℕ) (rows : List ChainRow) (d : ChainRow) (kind : SetupKind) → i < length rows → line ≢ end_line version → row_judged last before (get_or rows i d) ≡ Err kind → onto (take i rows) (rows_judged version last line before (drop i rows)) ≡ Err (line, kind)
 at_refused version last line before i rows d kind lt ne h =
-    rw (from_place rows i d lt) (rows_refused version last line before (take i rows) (drop (i + 1) rows) (get_or rows i d) kind ne h)
+    rw (from_index rows i d lt) (rows_refused version last line before (take i rows) (drop (i + 1) rows) (get_or rows i d) kind ne h)
 
 pub at_over : (version : Version) (last line before i : ℕ) (rows : List ChainRow) (d : ChainRow) → i < length rows → line ≡ end_line version → onto (take i rows) (rows_judged version last line before (drop i rows)) ≡ Err (line, TooManyChains)
 at_over version last line before i rows d lt e =
-    rw (from_place rows i d lt) (rows_over version last line before (take i rows) (drop (i + 1) rows) (get_or rows i d) e)
+    rw (from_index rows i d lt) (rows_over version last line before (take i rows) (drop (i + 1) rows) (get_or rows i d) e)
 
 pub at_none : (version : Version) (last line before i : ℕ) (rows : List ChainRow) → length rows ≤ i → line ≡ first_line version → onto (take i rows) (rows_judged version last line before (drop i rows)) ≡ Err (line, NoChain)
 at_none version last line before i rows le e = rw (drop_all i rows le) (rows_none version last line before (take i rows) e)

@@ -100,7 +100,7 @@ bounded false true v most n e d h k = rw (← same_number v n k) (h refl)
 bounded false false v most n e d h k = absurd cc
 
 unless_bounded : (o : Option ℕ) (most before n : ℕ) (text : List ℕ) → value_unless o most before text ≡ Ok n → n ≤ most
-unless_bounded (Some place) most before n text h = absurd cc
+unless_bounded (Some offset) most before n text h = absurd cc
 unless_bounded None most before n text h = bounded _ (nat_le (digits_value 10 text) most) (digits_value 10 text) most n _ _ (λ e. grind (arith, nat_tests)) h
 
 number_bounded : (b : Bool) (o : Option ℕ) (most before n : ℕ) (text : List ℕ) (e : NumberFault) → cond b (Err e) (value_unless o most before text) ≡ Ok n → n ≤ most
@@ -175,8 +175,8 @@ lower_back c v low h =
           let b : (nat_le 97 c && nat_le c 102) ≡ true = grind (arith, nat_tests) in
           let value : hex_digit_value c ≡ Some (c - 87) = rw (a, b) refl in
           let same : c - 87 ≡ v = some_is (c - 87) v (hex_digit_value c) value h in
-          let place : v ≡ 10 + (c - 97) = omega arith in
-          let digit : slice_index lower_digits v ≡ 97 + (c - 97) = rw place (lower_high (c - 97) (omega arith)) in
+          let offset : v ≡ 10 + (c - 97) = omega arith in
+          let digit : slice_index lower_digits v ≡ 97 + (c - 97) = rw offset (lower_high (c - 97) (omega arith)) in
           let back : 97 + (c - 97) ≡ c = omega arith in
           (digit ∙ back, omega arith)
     ]
@@ -210,8 +210,8 @@ pairs_spelled i (a ∷ b ∷ rest) bytes low h =
     let quotient : p0.0 / 16 ≡ p1.0 = omega (arith, high.1, under.1) in
     let remainder : p0.0 % 16 ≡ p2.0 = omega (arith, high.1, under.1) in
     let whole : (p0.0 ∷ p3.0) ≡ bytes = ok_is (p0.0 ∷ p3.0) bytes (Ok (p0.0 ∷ p3.0)) refl p3.2 in
-    let front : encode_lower (p0.0 ∷ p3.0) ≡ a ∷ b ∷ rest = rw (quotient, remainder, high.0, under.0, pairs_spelled (i + 2) rest p3.0 l1.1 p3.1) refl in
-    ap encode_lower (sym whole) ∙ front
+    let prefix : encode_lower (p0.0 ∷ p3.0) ≡ a ∷ b ∷ rest = rw (quotient, remainder, high.0, under.0, pairs_spelled (i + 2) rest p3.0 l1.1 p3.1) refl in
+    ap encode_lower (sym whole) ∙ prefix
 
 bytes_ok : (r : Result (List ℕ) FromHexError) (bytes : List ℕ) → bytes_or_bad r ≡ Ok bytes → r ≡ Ok bytes
 bytes_ok (Ok found) bytes h = ap Ok (ok_is found bytes (bytes_or_bad (Ok found)) refl h)
@@ -296,9 +296,9 @@ pub line_then : (text name value rest : List ℕ) → text ≡ name ++ 32 ∷ va
 line_then text name value rest h = rw h (sym (append_assoc (name ++ 32 ∷ value) (10 ∷ []) rest))
 
 -- one more line behind a front
-more : (whole front : List ℕ) (number : ℕ) (parts : List (List ℕ)) (x : List ℕ × List (List ℕ)) (name value : List ℕ) → whole ≡ front ++ join_with_byte 10 parts → next_line number parts ≡ Ok x → x.0 ≡ name ++ 32 ∷ value → whole ≡ (front ++ line name value) ++ join_with_byte 10 x.1
-more whole front number parts x name value h k text =
-    h ∙ ap (λ (r : List ℕ). front ++ r) (line_found number parts x k ∙ line_then x.0 name value (join_with_byte 10 x.1) text) ∙ sym (append_assoc front (line name value) (join_with_byte 10 x.1))
+more : (whole prefix : List ℕ) (number : ℕ) (parts : List (List ℕ)) (x : List ℕ × List (List ℕ)) (name value : List ℕ) → whole ≡ prefix ++ join_with_byte 10 parts → next_line number parts ≡ Ok x → x.0 ≡ name ++ 32 ∷ value → whole ≡ (prefix ++ line name value) ++ join_with_byte 10 x.1
+more whole prefix number parts x name value h k text =
+    h ∙ ap (λ (r : List ℕ). prefix ++ r) (line_found number parts x k ∙ line_then x.0 name value (join_with_byte 10 x.1) text) ∙ sym (append_assoc prefix (line name value) (join_with_byte 10 x.1))
 
 abbrev pub opening_text : Version → StreamId → List ℕ
 opening_text version stream = line (codes "tesla") (version_text version) ++ line (codes "stream") (encode_lower (to_be_bytes w64 stream.0))
@@ -317,11 +317,11 @@ opening_found whole parts x start h =
     subst (λ (y : Version × StreamId × List (List ℕ)). (whole ≡ opening_text y.0 y.1 ++ join_with_byte 10 y.2) × (y.1.0 < 2 ^ 64)) (ok_is made x (Ok made) refl stream.2) (second, said.1)
 
 abbrev pub times_text : List ℕ → Times → List ℕ
-times_text front times = front ++ line (codes "start") (decimal times.start) ++ line (codes "interval") (decimal times.length) ++ line (codes "last") (decimal times.last)
+times_text prefix times = prefix ++ line (codes "start") (decimal times.start) ++ line (codes "interval") (decimal times.length) ++ line (codes "last") (decimal times.last)
 
-times_found : (whole front : List ℕ) (parts : List (List ℕ)) (x : Times × List (List ℕ)) → whole ≡ front ++ join_with_byte 10 parts → times_judged parts ≡ Ok x → (whole ≡ times_text front x.0 ++ join_with_byte 10 x.1) × IsSchedule x.0 × (x.0.start < 2 ^ 64)
+times_found : (whole prefix : List ℕ) (parts : List (List ℕ)) (x : Times × List (List ℕ)) → whole ≡ prefix ++ join_with_byte 10 parts → times_judged parts ≡ Ok x → (whole ≡ times_text prefix x.0 ++ join_with_byte 10 x.1) × IsSchedule x.0 × (x.0.start < 2 ^ 64)
 unfolding times_judged
-times_found whole front parts x begin h =
+times_found whole prefix parts x begin h =
     let three = bind_ok (next_line 3 parts) (λ three. at 3 (start_in three.0) >>= λ start. next_line 4 three.1 >>= λ four. at 4 (limited_in (codes "interval") 1000 3600000000 four.0) >>= λ length. next_line 5 four.1 >>= λ five. at 5 (limited_in (codes "last") 1 1048576 five.0) >>= λ last. Ok (record { start = start; length = length; last = last }, five.1)) x h in
     let start = bind_ok (at 3 (start_in three.0.0)) (λ start. next_line 4 three.0.1 >>= λ four. at 4 (limited_in (codes "interval") 1000 3600000000 four.0) >>= λ length. next_line 5 four.1 >>= λ five. at 5 (limited_in (codes "last") 1 1048576 five.0) >>= λ last. Ok (record { start = start; length = length; last = last }, five.1)) x three.2 in
     let four = bind_ok (next_line 4 three.0.1) (λ four. at 4 (limited_in (codes "interval") 1000 3600000000 four.0) >>= λ length. next_line 5 four.1 >>= λ five. at 5 (limited_in (codes "last") 1 1048576 five.0) >>= λ last. Ok (record { start = start.0; length = length; last = last }, five.1)) x start.2 in
@@ -331,24 +331,24 @@ times_found whole front parts x begin h =
     let starts = start_found three.0.0 start.0 (at_ok 3 (start_in three.0.0) start.0 start.1) in
     let spans = limited_found (codes "interval") 1000 3600000000 four.0.0 span.0 (at_ok 4 (limited_in (codes "interval") 1000 3600000000 four.0.0) span.0 span.1) in
     let lasts = limited_found (codes "last") 1 1048576 five.0.0 last.0 (at_ok 5 (limited_in (codes "last") 1 1048576 five.0.0) last.0 last.1) in
-    let first = more whole front 3 parts three.0 (codes "start") (decimal start.0) begin three.1 starts.0 in
-    let second = more whole (front ++ line (codes "start") (decimal start.0)) 4 three.0.1 four.0 (codes "interval") (decimal span.0) first four.1 spans.0 in
-    let third = more whole (front ++ line (codes "start") (decimal start.0) ++ line (codes "interval") (decimal span.0)) 5 four.0.1 five.0 (codes "last") (decimal last.0) second five.1 lasts.0 in
+    let first = more whole prefix 3 parts three.0 (codes "start") (decimal start.0) begin three.1 starts.0 in
+    let second = more whole (prefix ++ line (codes "start") (decimal start.0)) 4 three.0.1 four.0 (codes "interval") (decimal span.0) first four.1 spans.0 in
+    let third = more whole (prefix ++ line (codes "start") (decimal start.0) ++ line (codes "interval") (decimal span.0)) 5 four.0.1 five.0 (codes "last") (decimal last.0) second five.1 lasts.0 in
     let made : Times × List (List ℕ) = (record { start = start.0; length = span.0; last = last.0 }, five.0.1) in
-    subst (λ (y : Times × List (List ℕ)). (whole ≡ times_text front y.0 ++ join_with_byte 10 y.1) × IsSchedule y.0 × (y.0.start < 2 ^ 64)) (ok_is made x (Ok made) refl last.2) (third, record { shortest = spans.1; longest = spans.2; first = lasts.1; most = lasts.2 }, starts.1)
+    subst (λ (y : Times × List (List ℕ)). (whole ≡ times_text prefix y.0 ++ join_with_byte 10 y.1) × IsSchedule y.0 × (y.0.start < 2 ^ 64)) (ok_is made x (Ok made) refl last.2) (third, record { shortest = spans.1; longest = spans.2; first = lasts.1; most = lasts.2 }, starts.1)
 
 -- the line of the tags' length, where there is one
-tag_found : (version : Version) (whole front : List ℕ) (parts : List (List ℕ)) (x : ℕ × List (List ℕ)) → whole ≡ front ++ join_with_byte 10 parts → tag_judged version parts ≡ Ok x → (whole ≡ (front ++ tag_line version x.0) ++ join_with_byte 10 x.1) × IsTagLength version x.0
+tag_found : (version : Version) (whole prefix : List ℕ) (parts : List (List ℕ)) (x : ℕ × List (List ℕ)) → whole ≡ prefix ++ join_with_byte 10 parts → tag_judged version parts ≡ Ok x → (whole ≡ (prefix ++ tag_line version x.0) ++ join_with_byte 10 x.1) × IsTagLength version x.0
 unfolding tag_judged
-tag_found One whole front parts x begin h =
+tag_found One whole prefix parts x begin h =
     let made : ℕ × List (List ℕ) = (longest_tag One, parts) in
-    subst (λ (y : ℕ × List (List ℕ)). (whole ≡ (front ++ tag_line One y.0) ++ join_with_byte 10 y.1) × IsTagLength One y.0) (ok_is made x (Ok made) refl h) (begin ∙ ap (λ (r : List ℕ). r ++ join_with_byte 10 parts) (sym (append-nil front)), record { shortest = omega arith; longest = omega arith })
-tag_found Two whole front parts x begin h =
+    subst (λ (y : ℕ × List (List ℕ)). (whole ≡ (prefix ++ tag_line One y.0) ++ join_with_byte 10 y.1) × IsTagLength One y.0) (ok_is made x (Ok made) refl h) (begin ∙ ap (λ (r : List ℕ). r ++ join_with_byte 10 parts) (sym (append-nil prefix)), record { shortest = omega arith; longest = omega arith })
+tag_found Two whole prefix parts x begin h =
     let six = bind_ok (next_line 6 parts) (λ six. at 6 (limited_in (codes "tag") (shortest_tag Two) (longest_tag Two) six.0) >>= λ size. Ok (size, six.1)) x h in
     let size = bind_ok (at 6 (limited_in (codes "tag") (shortest_tag Two) (longest_tag Two) six.0.0)) (λ size. Ok (size, six.0.1)) x six.2 in
     let said = limited_found (codes "tag") (shortest_tag Two) (longest_tag Two) six.0.0 size.0 (at_ok 6 (limited_in (codes "tag") (shortest_tag Two) (longest_tag Two) six.0.0) size.0 size.1) in
     let made : ℕ × List (List ℕ) = (size.0, six.0.1) in
-    subst (λ (y : ℕ × List (List ℕ)). (whole ≡ (front ++ tag_line Two y.0) ++ join_with_byte 10 y.1) × IsTagLength Two y.0) (ok_is made x (Ok made) refl size.2) (more whole front 6 parts six.0 (codes "tag") (decimal size.0) begin six.1 said.0, record { shortest = said.1; longest = said.2 })
+    subst (λ (y : ℕ × List (List ℕ)). (whole ≡ (prefix ++ tag_line Two y.0) ++ join_with_byte 10 y.1) × IsTagLength Two y.0) (ok_is made x (Ok made) refl size.2) (more whole prefix 6 parts six.0 (codes "tag") (decimal size.0) begin six.1 said.0, record { shortest = said.1; longest = said.2 })
 
 pub nothing_is : (text : List ℕ) → length text ≡ 0 → text ≡ []
 nothing_is [] h = refl

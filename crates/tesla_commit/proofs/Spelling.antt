@@ -110,8 +110,8 @@ lower_digit v h =
     elim (cases_lt v 10) [
       | inl lt ↦ rw (lower_low v lt) (grind (arith, nat_tests))
       | inr le ↦
-          let place : v ≡ 10 + (v - 10) = omega arith in
-          let digit : slice_index lower_digits v ≡ 97 + (v - 10) = ap (λ (k : ℕ). slice_index lower_digits k) place ∙ lower_high (v - 10) (omega arith) in
+          let offset : v ≡ 10 + (v - 10) = omega arith in
+          let digit : slice_index lower_digits v ≡ 97 + (v - 10) = ap (λ (k : ℕ). slice_index lower_digits k) offset ∙ lower_high (v - 10) (omega arith) in
           rw digit (grind (arith, nat_tests))
     ]
 

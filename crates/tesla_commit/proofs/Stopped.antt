@@ -164,9 +164,9 @@ chain_none version last number before rest six none =
 
 -- the line of a chain is refused where it stops
 chain_stopped : (version : Version) (last number count before : ℕ) (kind : SetupKind) (rest : List (List ℕ)) → number ≡ first_line version + count → StopsAtChain (most_chains version) count last before kind rest → chains_judged version last number before rest ≡ Err (number, kind)
-chain_stopped version last number count before NoChain rest place h = chain_none version last number before rest (let c = h.0 in omega arith) h.1
-chain_stopped version last number count before TooManyChains rest place h = chain_over version last number before rest (let c = h.0 in omega arith) h.1 h.2
-chain_stopped version last number count before kind rest place h = chain_here version last number before kind rest (let c = h.0 in omega arith) h.1 h.2
+chain_stopped version last number count before NoChain rest offset h = chain_none version last number before rest (let c = h.0 in omega arith) h.1
+chain_stopped version last number count before TooManyChains rest offset h = chain_over version last number before rest (let c = h.0 in omega arith) h.1 h.2
+chain_stopped version last number count before kind rest offset h = chain_here version last number before kind rest (let c = h.0 in omega arith) h.1 h.2
 
 -- a text stops behind no more chains than there may be, and never behind its end
 chain_bounds : (most count last before : ℕ) (kind : SetupKind) (rest : List (List ℕ)) → StopsAtChain most count last before kind rest → (count ≤ most) × (0 < length rest)

@@ -37,13 +37,13 @@ chain_more line first a delay b index c key more h0 h1 h2 h3 =
     let n = has_first 32 more in
     rw (h0, h1, h2, h3, n.2) refl
 
-at_most : (b : Bool) (place : ℕ) → cond b (Some place) None ≡ None → b ≡ false
-at_most true place h = absurd cc
-at_most false place h = refl
+at_most : (b : Bool) (offset : ℕ) → cond b (Some offset) None ≡ None → b ≡ false
+at_most true offset h = absurd cc
+at_most false offset h = refl
 
-at_place : (b : Bool) (place other : ℕ) → cond b (Some place) None ≡ Some other → (b ≡ true) × (place ≡ other)
-at_place true place other h = (refl, cc)
-at_place false place other h = absurd cc
+at_offset : (b : Bool) (offset other : ℕ) → cond b (Some offset) None ≡ Some other → (b ≡ true) × (offset ≡ other)
+at_offset true offset other h = (refl, cc)
+at_offset false offset other h = absurd cc
 
 pub not_found : (byte : ℕ) (text : List ℕ) → position (λ b. eqb b byte) text ≡ None → between byte text ≡ text ∷ []
 unfolding between
@@ -52,13 +52,13 @@ not_found byte text h =
     let past : length text ≤ p = ltb-false _ _ (at_most (ltb p (length text)) p h) in
     slice_split_none (λ b. eqb b byte) text (λ k d lt. fails_before_first (λ b. eqb b byte) text k d (omega (arith, past)))
 
-pub found_at : (byte : ℕ) (text : List ℕ) (place : ℕ) → position (λ b. eqb b byte) text ≡ Some place → (place < length text) × (between byte text ≡ take place text ∷ between byte (take (length text - (place + 1)) (drop (place + 1) text)))
+pub found_at : (byte : ℕ) (text : List ℕ) (offset : ℕ) → position (λ b. eqb b byte) text ≡ Some offset → (offset < length text) × (between byte text ≡ take offset text ∷ between byte (take (length text - (offset + 1)) (drop (offset + 1) text)))
 unfolding between
-found_at byte text place h =
+found_at byte text offset h =
     let p = position_or_len (λ b. eqb b byte) text in
-    let a = at_place (ltb p (length text)) p place h in
+    let a = at_offset (ltb p (length text)) p offset h in
     let lt : p < length text = ltb-true _ _ a.0 in
-    let whole : take (length text - (place + 1)) (drop (place + 1) text) ≡ drop (place + 1) text = take_all _ _ (omega (arith, length-drop (place + 1) text)) in
+    let whole : take (length text - (offset + 1)) (drop (offset + 1) text) ≡ drop (offset + 1) text = take_all _ _ (omega (arith, length-drop (offset + 1) text)) in
     (rw (← a.1) lt, rw (whole, ← a.1) (slice_split_first (λ b. eqb b byte) text 0 lt))
 
 -- a text of one part is that part

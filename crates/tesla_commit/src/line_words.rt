@@ -14,14 +14,14 @@ use tesla_base::read_decimal;
 pub fn cut(text: &[u8], byte: u8) -> Option<(&[u8], &[u8])>
     ensures { MatchOption result (between byte text.now ≡ text.now ∷ []) (λ x. between byte text.now ≡ x.0.now ∷ between byte x.1.now) }
 {
-    let Some(place) = first_place(text, byte) else {
+    let Some(place) = first_offset(text, byte) else {
         return None;
     };
     Some((&text[..place], &text[place + 1..]))
 }
 
 /// The place of the first such byte of a text.
-fn first_place(text: &[u8], byte: u8) -> Option<usize>
+fn first_offset(text: &[u8], byte: u8) -> Option<usize>
     ensures { result ≡ position (λ b. b == byte) text.now }
 {
     text.iter().position(|b| *b == byte)

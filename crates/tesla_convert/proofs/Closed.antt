@@ -5,7 +5,7 @@ use Rattle.tesla_desk.specs.Faults.{HasCause, HasCauseBeside, after_source}
 use Rattle.tesla_desk.specs.Outside.{Page, Untold, Absent, Holds, Told, Opened, OfSource, OfSink, page_of}
 use Rattle.tesla_desk.proofs.Told.{opened_holds}
 use Rattle.tesla_desk.proofs.Counts.{causes_as, causes_closed, causes_plain, causes_then}
-use Rattle.tesla_front.specs.Came.{Came, Done, Usage, Refused, Failed}
+use Rattle.tesla_front.specs.OutcomeView.{OutcomeView, Done, Usage, Refused, Failed}
 use Rattle.tesla_front.specs.Files.{HoldsWhere, HasFailed}
 use Rattle.tesla_front.specs.Openings.{AnyFailed, Opens}
 use Rattle.tesla_front.specs.declared.fault.Fault.{Fault}
@@ -31,16 +31,16 @@ failed_page : (written : Option (List ℕ)) (count : ℕ) → 0 < count → HasF
 failed_page None count some = tt
 failed_page (Some done) count some = grind (arith, nat_tests, some)
 
-ends_page : (meaning : Meaning) (input : Page) (before written : Option (List ℕ)) (count : ℕ) (came : Came) → Opened input before → EndsBetween meaning before written came → ComesToEnd meaning input (page_of written count) came
-ends_page meaning input before written count came opened ends = record {
+ends_page : (meaning : Meaning) (input : Page) (before written : Option (List ℕ)) (count : ℕ) (outcome : OutcomeView) → Opened input before → EndsBetween meaning before written outcome → ComesToEnd meaning input (page_of written count) outcome
+ends_page meaning input before written count outcome opened ends = record {
   there = opened_there input before opened;
   end = λ bytes failed is. ends.end bytes (opened_holds input before bytes failed is opened);
   text = holds_page written count (λ done told bytes failed is. ends.text bytes done (opened_holds input before bytes failed is opened) told);
 }
 
-some_or_failed : {Whole Front : Type 0} (written : Option (List ℕ)) (count : ℕ) → Whole ⊎ ((0 < count) × Front) → Whole ⊎ (HasFailed (page_of written count) × Front)
+some_or_failed : {Whole Parsed : Type 0} (written : Option (List ℕ)) (count : ℕ) → Whole ⊎ ((0 < count) × Parsed) → Whole ⊎ (HasFailed (page_of written count) × Parsed)
 some_or_failed written count (inl whole) = inl whole
-some_or_failed written count (inr (some, front)) = inr (failed_page written count some, front)
+some_or_failed written count (inr (some, prefix)) = inr (failed_page written count some, prefix)
 
 stops_page : (meaning : Meaning) (input : Page) (before left written : Option (List ℕ)) (count : ℕ) → Opened input before → StopsBetween meaning before left written count → StopsReading meaning input left (page_of written count)
 stops_page meaning input before left written count opened stops = record {
@@ -66,7 +66,7 @@ wants_page meaning input before written count opened wants = record {
 }
 
 -- what was so between the open source and sink is so of the pages
-pub converts_pages : (meaning : Meaning) (input old : Page) (before left written : Option (List ℕ)) (count : ℕ) (came : Came) → Opened input before → ConvertsBetween meaning before left written count came → Converts meaning input left old (page_of written count) came
+pub converts_pages : (meaning : Meaning) (input old : Page) (before left written : Option (List ℕ)) (count : ℕ) (outcome : OutcomeView) → Opened input before → ConvertsBetween meaning before left written count outcome → Converts meaning input left old (page_of written count) outcome
 converts_pages meaning input old before left written count (Done lines) opened between = ends_page meaning input before written count (Done lines) opened between
 converts_pages meaning input old before left written count Usage opened between = absurd between
 converts_pages meaning input old before left written count (Refused status line) opened between = ends_page meaning input before written count (Refused status line) opened between
@@ -84,7 +84,7 @@ converts_pages meaning input old before left written count (Failed faults.NoMemo
 converts_pages meaning input old before left written count (Failed faults.NoMemory) opened (inr wants) = inr (inr (wants_page meaning input before written count opened wants))
 converts_pages meaning input old before left written count (Failed faults.Open) opened between = absurd between
 
-no_open : (meaning : Meaning) (before left written : Option (List ℕ)) (count : ℕ) (came : Came) → ConvertsBetween meaning before left written count came → came ≡ Failed faults.Open → ⊥
+no_open : (meaning : Meaning) (before left written : Option (List ℕ)) (count : ℕ) (outcome : OutcomeView) → ConvertsBetween meaning before left written count outcome → outcome ≡ Failed faults.Open → ⊥
 no_open meaning before left written count (Done lines) between is = absurd cc
 no_open meaning before left written count Usage between is = absurd cc
 no_open meaning before left written count (Refused status line) between is = absurd cc
@@ -94,7 +94,7 @@ no_open meaning before left written count (Failed faults.NoMemory) between is = 
 no_open meaning before left written count (Failed faults.Open) between is = between
 
 -- where memory was wanting between both, all was left, unless it may be wanting later
-unread_between : (meaning : Meaning) (before left written : Option (List ℕ)) (count : ℕ) (came : Came) → ConvertsBetween meaning before left written count came → came ≡ Failed faults.NoMemory → (left ≡ before) ⊎ meaning.MayWant
+unread_between : (meaning : Meaning) (before left written : Option (List ℕ)) (count : ℕ) (outcome : OutcomeView) → ConvertsBetween meaning before left written count outcome → outcome ≡ Failed faults.NoMemory → (left ≡ before) ⊎ meaning.MayWant
 unread_between meaning before left written count (Done lines) between is = absurd cc
 unread_between meaning before left written count Usage between is = absurd cc
 unread_between meaning before left written count (Refused status line) between is = absurd cc
@@ -105,25 +105,25 @@ unread_between meaning before left written count (Failed faults.NoMemory) (inr w
 unread_between meaning before left written count (Failed faults.Open) between is = absurd cc
 
 -- both were opened, the one was converted into the other, and both were closed
-pub converts_closed : (meaning : Meaning) (input output : List ℕ) (before empty left written : Option (List ℕ)) (taken given : ℕ) (came : Came) (old mid new : Told) → OpensBoth input output before empty old mid → ConvertsBetween meaning before left written given came → HasCause 0 taken (came ≡ Failed faults.Read) → HasCauseBeside ((came ≡ Failed faults.Read) × (0 < given)) 0 given (came ≡ Failed faults.Write) → ClosesBoth input output left written taken given mid new → ConvertsFiles meaning input output old new came
-converts_closed meaning input output before empty left written taken given came old mid new opens between reads writes closes =
+pub converts_closed : (meaning : Meaning) (input output : List ℕ) (before empty left written : Option (List ℕ)) (taken given : ℕ) (outcome : OutcomeView) (old mid new : Told) → OpensBoth input output before empty old mid → ConvertsBetween meaning before left written given outcome → HasCause 0 taken (outcome ≡ Failed faults.Read) → HasCauseBeside ((outcome ≡ Failed faults.Read) × (0 < given)) 0 given (outcome ≡ Failed faults.Write) → ClosesBoth input output left written taken given mid new → ConvertsFiles meaning input output old new outcome
+converts_closed meaning input output before empty left written taken given outcome old mid new opens between reads writes closes =
     let opened : Opens (OfSource input ∷ OfSink output ∷ []) 2 old new = record {
       asked = closes.asked ∙ opens.asked;
       pages = λ name none. let other : name ≢ output = λ e. none (inr (inl (ap OfSink (sym e)))) in closes.pages name other ∙ opens.pages name other;
       lefts = λ name none. closes.lefts name (not_first_read name input (OfSink output ∷ []) none) ∙ opens.lefts name;
     } in
-    let pages = converts_pages meaning (old.page input) (old.page output) before left written given came opens.opened between in
-    let whole : Converts meaning (old.page input) (new.left input) (old.page output) (new.page output) came =
-    subst (λ (l : Option (List ℕ)). Converts meaning (old.page input) l (old.page output) (new.page output) came) (sym closes.own_left)
-    (subst (λ (p : Page). Converts meaning (old.page input) left (old.page output) p came) (sym closes.own_page) pages) in
-    let counted = causes_closed mid.faults (after_source mid.faults taken) new.faults taken given refl closes.counts reads writes (no_open meaning before left written given came between) in
-    let wide : (came ≡ Failed faults.Read) × (0 < given) → (came ≡ Failed faults.Read) × AnyFailed (OfSource input ∷ OfSink output ∷ []) new =
+    let pages = converts_pages meaning (old.page input) (old.page output) before left written given outcome opens.opened between in
+    let whole : Converts meaning (old.page input) (new.left input) (old.page output) (new.page output) outcome =
+    subst (λ (l : Option (List ℕ)). Converts meaning (old.page input) l (old.page output) (new.page output) outcome) (sym closes.own_left)
+    (subst (λ (p : Page). Converts meaning (old.page input) left (old.page output) p outcome) (sym closes.own_page) pages) in
+    let counted = causes_closed mid.faults (after_source mid.faults taken) new.faults taken given refl closes.counts reads writes (no_open meaning before left written given outcome between) in
+    let wide : (outcome ≡ Failed faults.Read) × (0 < given) → (outcome ≡ Failed faults.Read) × AnyFailed (OfSource input ∷ OfSink output ∷ []) new =
     λ hidden. (hidden.0, inl (subst (λ (p : Page). HasFailed p) (sym closes.own_page) (failed_page written given hidden.1))) in
     record {
       opened = 2;
       opens = opened;
       converts = whole;
-      unread = λ e. unread_closed 2 (old.page input) before left (new.left input) opens.opened closes.own_left (unread_between meaning before left written given came between e);
+      unread = λ e. unread_closed 2 (old.page input) before left (new.left input) opens.opened closes.own_left (unread_between meaning before left written given outcome between e);
       counts = causes_then old.faults mid.faults new.faults opens.counts (causes_as mid.faults new.faults counted wide (λ f. f) (λ f. f) (λ f. f) (λ f. f) (λ f. f) (λ f. f));
     }
 

@@ -1,7 +1,7 @@
 pub mod Unread
 pub mod Held
 mod Made
-mod Places
+mod Offsets
 mod Opened
 pub mod Closed
 pub mod Meanings

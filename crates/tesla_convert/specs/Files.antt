@@ -2,7 +2,7 @@
 use Rattle.std.specs.Prelude.{◌≡◌, ◌≢◌, ◌⊎◌, ℕ, Option, IfSome, List, [], ◌∷◌}
 use Rattle.tesla_desk.specs.Faults.{HasCauses, HasCausesBeside, after_source, after_sink}
 use Rattle.tesla_desk.specs.Outside.{Told, Opened, OfSource, OfSink, page_of, with_openings}
-use Rattle.tesla_front.specs.Came.{Came, Failed}
+use Rattle.tesla_front.specs.OutcomeView.{OutcomeView, Failed}
 use Rattle.tesla_front.specs.Openings.{AnyFailed, Opens}
 use Rattle.tesla_front.specs.declared.fault.Fault.{Fault}
 use Rattle.tesla_front.specs.declared.fault.Fault.TheVariants as faults
@@ -37,10 +37,10 @@ pub record ClosesBoth (input output : List ℕ) (left written : Option (List ℕ
   pub counts : new.faults ≡ after_sink (after_source old.faults read_faults) write_faults
 
 -- an input was converted into an output, both under their names
-pub record ConvertsFiles (meaning : Meaning) (input output : List ℕ) (old new : Told) (came : Came) : Type 0 where
+pub record ConvertsFiles (meaning : Meaning) (input output : List ℕ) (old new : Told) (outcome : OutcomeView) : Type 0 where
   pub opened : ℕ
   pub opens : Opens (OfSource input ∷ OfSink output ∷ []) opened old new
-  pub converts : Converts meaning (old.page input) (new.left input) (old.page output) (new.page output) came
+  pub converts : Converts meaning (old.page input) (new.left input) (old.page output) (new.page output) outcome
   -- where memory was wanting, no byte of the input was read, unless it may be wanting later
-  pub unread : came ≡ Failed faults.NoMemory → IsUnread 0 opened (old.page input) (new.left input) ⊎ meaning.MayWant
-  pub counts : HasCausesBeside ((came ≡ Failed faults.Read) × AnyFailed (OfSource input ∷ OfSink output ∷ []) new) old.faults new.faults (came ≡ Failed faults.Read) (came ≡ Failed faults.Write) (came ≡ Failed faults.Open)
+  pub unread : outcome ≡ Failed faults.NoMemory → IsUnread 0 opened (old.page input) (new.left input) ⊎ meaning.MayWant
+  pub counts : HasCausesBeside ((outcome ≡ Failed faults.Read) × AnyFailed (OfSource input ∷ OfSink output ∷ []) new) old.faults new.faults (outcome ≡ Failed faults.Read) (outcome ≡ Failed faults.Write) (outcome ≡ Failed faults.Open)

@@ -1,7 +1,7 @@
 -- What a command that makes one file of another comes to, and what it writes, told as functions of the input's bytes.
 use Rattle.std.specs.Prelude.{◌≡◌, ◌≢◌, ◌⊎◌, ℕ, ◌<◌, ◌≤◌, false, Option, Some, IfSome, List, [], ◌++◌}
 use Rattle.tesla_desk.specs.Outside.{Page, Absent, Holds}
-use Rattle.tesla_front.specs.Came.{Came, Done, Refused, Failed}
+use Rattle.tesla_front.specs.OutcomeView.{OutcomeView, Done, Refused, Failed}
 use Rattle.tesla_front.specs.Files.{HoldsWhere, HasFailed, IsPrefix, IsUnwritten}
 use Rattle.tesla_front.specs.Openings.{File}
 use Rattle.tesla_front.specs.Setup.{IsNoSetup}
@@ -9,7 +9,7 @@ use Rattle.tesla_front.specs.declared.fault.Fault.TheVariants as faults
 
 pub record Meaning : Type 1 where
   -- what it comes to where nothing fails: its end, or the first place that is refused
-  pub comes : List ℕ → Came
+  pub comes : List ℕ → OutcomeView
   -- what is written then
   pub makes : List ℕ → List ℕ
   -- what is written of the first bytes of an input, where a read fails behind them
@@ -36,9 +36,9 @@ abbrev pub IsUnread : ℕ → ℕ → Page → Option (List ℕ) → Type 0
 IsUnread before opened input left = (opened ≤ before) ⊎ HoldsWhere input (λ bytes. left ≡ Some bytes)
 
 -- the input was taken as far as it goes: the command came to its end or to a refused place, and the output holds its text
-pub record ComesToEnd (meaning : Meaning) (input out : Page) (came : Came) : Type 0 where
+pub record ComesToEnd (meaning : Meaning) (input out : Page) (outcome : OutcomeView) : Type 0 where
   pub there : input ≢ Absent
-  pub end : Where input (λ bytes. came ≡ meaning.comes bytes)
+  pub end : Where input (λ bytes. outcome ≡ meaning.comes bytes)
   pub text : HoldsWhere out (λ written. Where input (λ bytes. written ≡ meaning.makes bytes))
 
 -- a write failed: the output holds a prefix of its text
@@ -67,7 +67,7 @@ pub record StopsWanting (meaning : Meaning) (input out : Page) : Type 0 where
   pub sound : (written : List ℕ) (failed : _) → out ≡ Holds written failed → failed ≡ false
 
 -- what converting the input comes to, with what was left of it, and what the output is before and afterwards
-abbrev pub Converts : Meaning → Page → Option (List ℕ) → Page → Page → Came → Type 0
+abbrev pub Converts : Meaning → Page → Option (List ℕ) → Page → Page → OutcomeView → Type 0
 Converts meaning input left before out (Done lines) = ComesToEnd meaning input out (Done lines)
 Converts meaning input left before out (Refused status line) = ComesToEnd meaning input out (Refused status line)
 Converts meaning input left before out (Failed faults.Write) = BreaksOff meaning input out
@@ -79,8 +79,8 @@ Converts meaning input left before out (Failed faults.Open) = out ≡ before
 Converts meaning input left before out _ = ⊥
 
 -- the same between a source and a sink that are open, told what the source had left before and afterwards, what was written, and how often a write failed
-pub record EndsBetween (meaning : Meaning) (before written : Option (List ℕ)) (came : Came) : Type 0 where
-  pub end : (bytes : List ℕ) → before ≡ Some bytes → came ≡ meaning.comes bytes
+pub record EndsBetween (meaning : Meaning) (before written : Option (List ℕ)) (outcome : OutcomeView) : Type 0 where
+  pub end : (bytes : List ℕ) → before ≡ Some bytes → outcome ≡ meaning.comes bytes
   pub text : (bytes done : List ℕ) → before ≡ Some bytes → written ≡ Some done → done ≡ meaning.makes bytes
 
 abbrev pub StopsBetween : Meaning → Option (List ℕ) → Option (List ℕ) → Option (List ℕ) → ℕ → Type 0
@@ -95,7 +95,7 @@ IsUnbegun before left written failed = (left ≡ before) × IfSome written (λ b
 abbrev pub WantsBetween : Meaning → Option (List ℕ) → Option (List ℕ) → ℕ → Type 0
 WantsBetween meaning before written failed = meaning.MayWant × (failed ≡ 0) × ((bytes done : List ℕ) → before ≡ Some bytes → written ≡ Some done → IsPrefix (meaning.makes bytes) done)
 
-abbrev pub ConvertsBetween : Meaning → Option (List ℕ) → Option (List ℕ) → Option (List ℕ) → ℕ → Came → Type 0
+abbrev pub ConvertsBetween : Meaning → Option (List ℕ) → Option (List ℕ) → Option (List ℕ) → ℕ → OutcomeView → Type 0
 ConvertsBetween meaning before left written failed (Done lines) = EndsBetween meaning before written (Done lines)
 ConvertsBetween meaning before left written failed (Refused status line) = EndsBetween meaning before written (Refused status line)
 ConvertsBetween meaning before left written failed (Failed faults.Write) = (0 < failed) × ((bytes done : List ℕ) → before ≡ Some bytes → written ≡ Some done → IsPrefix (meaning.makes bytes) done)
@@ -106,6 +106,6 @@ ConvertsBetween meaning before left written failed _ = ⊥
 -- ---- the setup, which such a command reads first
 
 -- there is no setup under the name, and no other file was asked for
-pub record StopsAtSetup (setup : File) (opened : ℕ) (came : Came) : Type 0 where
+pub record StopsAtSetup (setup : File) (opened : ℕ) (outcome : OutcomeView) : Type 0 where
   pub alone : opened ≤ 1
-  pub why : IsNoSetup setup.page came
+  pub why : IsNoSetup setup.page outcome

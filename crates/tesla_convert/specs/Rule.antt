@@ -33,19 +33,19 @@ with_text text made = record { text = text ++ made.text; refused = made.refused 
 -- what is made behind all records
 abbrev pub made_behind : (G : Grammar) (Kind : Type 0) → Rule G Kind → Behind Kind → List G.Record → Made Kind
 made_behind G Kind rule Ends before = record { text = rule.ends before; refused = None }
-made_behind G Kind rule (RefusedAt place kind) before = record { text = []; refused = Some (place, kind) }
+made_behind G Kind rule (RefusedAt offset kind) before = record { text = []; refused = Some (offset, kind) }
 made_behind G Kind rule Unread before = record { text = []; refused = None }
 
 -- what is made of a record at a place, and of those behind it
 abbrev pub made_first : {Kind : Type 0} → Option Kind → ℕ → List ℕ → Made Kind → Made Kind
-made_first None place text others = with_text text others
-made_first (Some kind) place text others = record { text = []; refused = Some (place, kind) }
+made_first None offset text others = with_text text others
+made_first (Some kind) offset text others = record { text = []; refused = Some (offset, kind) }
 
 -- what is made of these records, of which the first stands at a place, behind some others
 abbrev pub made_of : (G : Grammar) (Kind : Type 0) → Rule G Kind → Behind Kind → ℕ → List G.Record → List G.Record → Made Kind
-made_of G Kind rule behind place before [] = made_behind G Kind rule behind before
-made_of G Kind rule behind place before (first ∷ records) =
-    made_first (rule.refuses before first) place (rule.adds before first) (made_of G Kind rule behind (place + length (G.record_text first)) (before ++ first ∷ []) records)
+made_of G Kind rule behind offset before [] = made_behind G Kind rule behind before
+made_of G Kind rule behind offset before (first ∷ records) =
+    made_first (rule.refuses before first) offset (rule.adds before first) (made_of G Kind rule behind (offset + length (G.record_text first)) (before ++ first ∷ []) records)
 
 -- what stands behind the records of a file
 abbrev pub behind_of : (G : Grammar) (Kind : Type 0) → Rule G Kind → Option (ℕ × RecordKind) → Behind Kind

@@ -1,7 +1,7 @@
 -- What the inner steps of a conversion come to.
 use Rattle.std.specs.Prelude.{◌≡◌, ◌⊎◌, ℕ, ◌<◌, ◌≤◌, true, Option, Some, None, Result, Ok, Err, List, [], ◌++◌}
 use Rattle.tesla_capture.specs.Grammar.{Grammar, limit}
-use Rattle.tesla_capture.specs.Records.{outline_of, record_place}
+use Rattle.tesla_capture.specs.Records.{outline_of, record_offset}
 use Rattle.tesla_capture.specs.Steps.{Progress}
 use Rattle.tesla_capture.specs.Taken.{HoldsNoRefusal, IsTaken}
 use Rattle.tesla_desk.specs.Outside.{AppendsPrefix, with_bytes}
@@ -16,14 +16,14 @@ use Rattle.tesla_convert.specs.declared.conversion.Stopped.{Stopped}
 use Rattle.tesla_convert.specs.declared.conversion.Stopped.TheVariants.{Read, Write, Memory}
 
 -- these first records of a file were converted, and the rest of it isn't taken yet
-pub record IsAt (G : Grammar) (Kind : Type 0) (rule : Rule G Kind) (Has : List G.Record → Type 0) (bytes : List ℕ) (place : ℕ) (ahead written : Option (List ℕ)) (held : List ℕ) : Type 0 where
+pub record IsAt (G : Grammar) (Kind : Type 0) (rule : Rule G Kind) (Has : List G.Record → Type 0) (bytes : List ℕ) (offset : ℕ) (ahead written : Option (List ℕ)) (held : List ℕ) : Type 0 where
   pub records : List G.Record
   pub rest : List ℕ
   pub text : List ℕ
   pub ahead_is : ahead ≡ Some rest
-  pub taken : IsTaken G bytes records place rest
+  pub taken : IsTaken G bytes records offset rest
   -- none of them is refused, and this is written of them
-  pub passed : (behind : Behind Kind) (more : List G.Record) → made_of G Kind rule behind 5 [] (records ++ more) ≡ with_text text (made_of G Kind rule behind (record_place place) records more)
+  pub passed : (behind : Behind Kind) (more : List G.Record) → made_of G Kind rule behind 5 [] (records ++ more) ≡ with_text text (made_of G Kind rule behind (record_offset offset) records more)
   pub has : Has records
   pub holds : HoldsText written held (rule.begins ++ text)
 
@@ -57,17 +57,17 @@ pub record IsCutOff (G : Grammar) (Kind : Type 0) (rule : Rule G Kind) (bytes : 
 
 -- the next record was converted, or there was none, or it is refused, or the conversion stopped
 abbrev pub StepsTo : (G : Grammar) (Kind : Type 0) → Rule G Kind → (List G.Record → Type 0) → Result (Option (Ending Kind)) Stopped → List ℕ → ℕ → Option (List ℕ) → Option (List ℕ) → Option (List ℕ) → List ℕ → Type 0
-StepsTo G Kind rule Has (Ok None) bytes place ahead left written held = IsAt G Kind rule Has bytes place ahead written held
-StepsTo G Kind rule Has (Ok (Some End)) bytes place ahead left written held = IsAtEnd G Kind rule Has bytes written held
-StepsTo G Kind rule Has (Ok (Some (Refused place kind))) bytes now ahead left written held = IsMade G Kind rule (Some (place, kind)) bytes written held
-StepsTo G Kind rule Has (Err Read) bytes place ahead left written held = IsCutOff G Kind rule bytes left written held
-StepsTo G Kind rule Has (Err Write) bytes place ahead left written held = HoldsPrefix written [] (made G Kind rule bytes).text
-StepsTo G Kind rule Has (Err Memory) bytes place ahead left written held = HoldsPrefix written [] (made G Kind rule bytes).text
+StepsTo G Kind rule Has (Ok None) bytes offset ahead left written held = IsAt G Kind rule Has bytes offset ahead written held
+StepsTo G Kind rule Has (Ok (Some End)) bytes offset ahead left written held = IsAtEnd G Kind rule Has bytes written held
+StepsTo G Kind rule Has (Ok (Some (Refused offset kind))) bytes now ahead left written held = IsMade G Kind rule (Some (offset, kind)) bytes written held
+StepsTo G Kind rule Has (Err Read) bytes offset ahead left written held = IsCutOff G Kind rule bytes left written held
+StepsTo G Kind rule Has (Err Write) bytes offset ahead left written held = HoldsPrefix written [] (made G Kind rule bytes).text
+StepsTo G Kind rule Has (Err Memory) bytes offset ahead left written held = HoldsPrefix written [] (made G Kind rule bytes).text
 
 -- all records were converted
 abbrev pub RecordsTo : (G : Grammar) (Kind : Type 0) → Rule G Kind → (List G.Record → Type 0) → Result (Ending Kind) Stopped → List ℕ → Option (List ℕ) → Option (List ℕ) → List ℕ → Type 0
 RecordsTo G Kind rule Has (Ok End) bytes left written held = IsAtEnd G Kind rule Has bytes written held
-RecordsTo G Kind rule Has (Ok (Refused place kind)) bytes left written held = IsMade G Kind rule (Some (place, kind)) bytes written held
+RecordsTo G Kind rule Has (Ok (Refused offset kind)) bytes left written held = IsMade G Kind rule (Some (offset, kind)) bytes written held
 RecordsTo G Kind rule Has (Err Read) bytes left written held = IsCutOff G Kind rule bytes left written held
 RecordsTo G Kind rule Has (Err Write) bytes left written held = HoldsPrefix written [] (made G Kind rule bytes).text
 RecordsTo G Kind rule Has (Err Memory) bytes left written held = HoldsPrefix written [] (made G Kind rule bytes).text
@@ -75,7 +75,7 @@ RecordsTo G Kind rule Has (Err Memory) bytes left written held = HoldsPrefix wri
 -- the file was converted to its end
 abbrev pub AllTo : (G : Grammar) (Kind : Type 0) → Rule G Kind → (List G.Record → Type 0) → Result (Ending Kind) Stopped → List ℕ → Option (List ℕ) → Option (List ℕ) → List ℕ → Type 0
 AllTo G Kind rule Ended (Ok End) bytes left written held = Ended (outline_of G bytes).records × IsMade G Kind rule None bytes written held
-AllTo G Kind rule Ended (Ok (Refused place kind)) bytes left written held = IsMade G Kind rule (Some (place, kind)) bytes written held
+AllTo G Kind rule Ended (Ok (Refused offset kind)) bytes left written held = IsMade G Kind rule (Some (offset, kind)) bytes written held
 AllTo G Kind rule Ended (Err Read) bytes left written held = IsCutOff G Kind rule bytes left written held
 AllTo G Kind rule Ended (Err Write) bytes left written held = HoldsPrefix written [] (made G Kind rule bytes).text
 AllTo G Kind rule Ended (Err Memory) bytes left written held = HoldsPrefix written [] (made G Kind rule bytes).text
@@ -101,7 +101,7 @@ pub record IsWrittenSoFar (G : Grammar) (Kind : Type 0) (rule : Rule G Kind) (by
 -- the file was converted, and what was made of it is written
 abbrev pub Converts : (G : Grammar) (Kind : Type 0) → Rule G Kind → (List G.Record → Type 0) → Result (Ending Kind) Stopped → List ℕ → Option (List ℕ) → Option (List ℕ) → ℕ → Type 0
 Converts G Kind rule Ended (Ok End) bytes left written failed = Ended (outline_of G bytes).records × IsMade G Kind rule None bytes written []
-Converts G Kind rule Ended (Ok (Refused place kind)) bytes left written failed = IsMade G Kind rule (Some (place, kind)) bytes written []
+Converts G Kind rule Ended (Ok (Refused offset kind)) bytes left written failed = IsMade G Kind rule (Some (offset, kind)) bytes written []
 Converts G Kind rule Ended (Err Read) bytes left written failed = IsWrittenSoFar G Kind rule bytes left written failed
 Converts G Kind rule Ended (Err Write) bytes left written failed = HoldsPrefix written [] (made G Kind rule bytes).text
 Converts G Kind rule Ended (Err Memory) bytes left written failed = HoldsPrefix written [] (made G Kind rule bytes).text
@@ -115,7 +115,7 @@ SoundFor (Err Memory) failed = failed ≡ 0
 
 -- after a record that was converted there may be more; one that is refused ends the file at its offset
 abbrev pub ending_at : {Kind : Type 0} → ℕ → Converted Kind → Result (Option (Ending Kind)) Stopped
-ending_at place Whole = Ok None
-ending_at place (conversions.Refused kind) = Ok (Some (Refused place kind))
-ending_at place WriteFault = Err Write
-ending_at place NoMemory = Err Memory
+ending_at offset Whole = Ok None
+ending_at offset (conversions.Refused kind) = Ok (Some (Refused offset kind))
+ending_at offset WriteFault = Err Write
+ending_at offset NoMemory = Err Memory

@@ -3,7 +3,7 @@
 ghost use Rattle.std.specs.Prelude.{◌≡◌, ◌+◌, ◌<◌, ◌≤◌, [], ℕ, List, Some, None, Ok, Err, true, IfSome, take};
 ghost use Rattle.tesla_capture.specs.Gathering.{gathered};
 ghost use Rattle.tesla_capture.specs.Grammar.{limit};
-ghost use Rattle.tesla_capture.specs.Records.{record_place};
+ghost use Rattle.tesla_capture.specs.Records.{record_offset};
 ghost use Rattle.tesla_capture.specs.Steps.{ahead};
 ghost use Rattle.tesla_desk.specs.Faults.{HasCause, HasCauseBeside};
 ghost use Rattle.tesla_convert.specs.Held.{HoldsText};
@@ -49,7 +49,7 @@ pub struct Conversion<C> {
 
 // The offset of the record that is read from a place on: that of the first is behind the head.
 fn offset_of(place: u64) -> u64
-    ensures { result ≡ record_place place }
+    ensures { result ≡ record_offset place }
 {
     if place == 0 { FIRST } else { place }
 }
@@ -259,8 +259,8 @@ impl<C: Converter> Conversion<C> {
         ensures input { S.name source.new ≡ S.name source.old }
         ensures output { O.name out.new ≡ O.name out.old }
     {
-        let came = self.convert_all(source, out);
-        let settled = settle(&mut self.gatherer, came, out);
+        let outcome = self.convert_all(source, out);
+        let settled = settle(&mut self.gatherer, outcome, out);
         let Conversion {
             converter,
             gatherer: _,

@@ -13,16 +13,16 @@ use tesla_desk::Sink;
 /// nothing more is written, and where memory was wanting nothing is gathered any more.
 pub fn settle<T: Copy, O: Sink>(
     gatherer: &mut Gatherer,
-    came: Result<T, Stopped>,
+    outcome: Result<T, Stopped>,
     out: &mut O,
 ) -> Result<T, Stopped>
-    requires { SoundFor came (O.faults out.old) }
-    ensures settles { Settles came result (O.written out.old) (O.written out.new) (gathered gatherer.old) (O.faults out.new) }
-    ensures wants { result ≡ Err Stopped.Memory → came ≡ Err Stopped.Memory }
+    requires { SoundFor outcome (O.faults out.old) }
+    ensures settles { Settles outcome result (O.written out.old) (O.written out.new) (gathered gatherer.old) (O.faults out.new) }
+    ensures wants { result ≡ Err Stopped.Memory → outcome ≡ Err Stopped.Memory }
     ensures cause { HasCauseBeside ((result ≡ Err Stopped.Read) × (0 < O.faults out.new)) 0 (O.faults out.new) (result ≡ Err Stopped.Write) }
     ensures name { O.name out.new ≡ O.name out.old }
 {
-    match came {
+    match outcome {
         Ok(value) => {
             if gatherer.flush(out) {
                 Ok(value)

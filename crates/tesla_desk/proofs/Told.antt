@@ -11,7 +11,7 @@ use Rattle.tesla_desk.specs.declared.desk.OpenRefusal.TheVariants as refusals
 -- two pieces one after another are one piece
 pub with_bytes_twice : (written : Option (List ℕ)) (a b : List ℕ) → with_bytes (with_bytes written a) b ≡ with_bytes written (a ++ b)
 with_bytes_twice None a b = refl
-with_bytes_twice (Some front) a b = ap (λ bytes. Some bytes) (append_assoc front a b)
+with_bytes_twice (Some prefix) a b = ap (λ bytes. Some bytes) (append_assoc prefix a b)
 
 -- two pieces read one after another are one piece
 pub after_bytes_twice : (left : Option (List ℕ)) (a b : List ℕ) → after_bytes a (after_bytes b left) ≡ after_bytes (a ++ b) left
@@ -26,7 +26,7 @@ appends_more before now next whole i n e f =
 -- nothing was appended yet
 pub appends_none : (before : Option (List ℕ)) → before ≡ with_bytes before []
 appends_none None = refl
-appends_none (Some front) = ap (λ bytes. Some bytes) (sym (append-nil front))
+appends_none (Some prefix) = ap (λ bytes. Some bytes) (sym (append-nil prefix))
 
 -- ---- prefixes of a piece
 
@@ -40,21 +40,21 @@ prefix_whole old new piece e = (length piece, record { fits = omega arith; writt
 
 -- a prefix of a piece is one of a longer piece
 pub prefix_longer : (old new : Option (List ℕ)) (piece more : List ℕ) → AppendsPrefix old new piece → AppendsPrefix old new (piece ++ more)
-prefix_longer old new piece more front = (
-  front.0,
+prefix_longer old new piece more prefix = (
+  prefix.0,
   record {
-    fits = omega (arith, front.1.fits, length-append piece more);
-    written = front.1.written ∙ ap (λ bytes. with_bytes old bytes) (sym (take-append-le front.0 piece more front.1.fits));
+    fits = omega (arith, prefix.1.fits, length-append piece more);
+    written = prefix.1.written ∙ ap (λ bytes. with_bytes old bytes) (sym (take-append-le prefix.0 piece more prefix.1.fits));
   },
 )
 
 -- a prefix of a piece that comes after another is a prefix of both
 pub prefix_after : (first old new : Option (List ℕ)) (a b : List ℕ) → old ≡ with_bytes first a → AppendsPrefix old new b → AppendsPrefix first new (a ++ b)
-prefix_after first old new a b e front = (
-  length a + front.0,
+prefix_after first old new a b e prefix = (
+  length a + prefix.0,
   record {
-    fits = omega (arith, front.1.fits, length-append a b);
-    written = front.1.written ∙ ap (λ w. with_bytes w (take front.0 b)) e ∙ with_bytes_twice first a (take front.0 b) ∙ ap (λ bytes. with_bytes first bytes) (sym (take-append-add a b front.0));
+    fits = omega (arith, prefix.1.fits, length-append a b);
+    written = prefix.1.written ∙ ap (λ w. with_bytes w (take prefix.0 b)) e ∙ with_bytes_twice first a (take prefix.0 b) ∙ ap (λ bytes. with_bytes first bytes) (sym (take-append-add a b prefix.0));
   },
 )
 
@@ -73,20 +73,20 @@ ended_rest bytes (Some more) after rest ends e =
     let is : rest ≡ bytes ++ more = cc in
     is ∙ ap (λ m. bytes ++ m) none ∙ append-nil bytes
 
--- a prefix of the rest was moved to the front of a slice
-pub brings_front : (slice bytes moved tail : List ℕ) (at n : ℕ) → slice ≡ bytes → 0 < n → n ≤ length (take (length slice - at) (drop at slice)) → moved ≡ take n (take (length slice - at) (drop at slice)) → Brings n (Some (drop at bytes)) (Some (drop (at + n) bytes)) (moved ++ tail)
-brings_front slice bytes moved tail at n same some fits is =
+-- a prefix of the rest was moved to the start of a slice
+pub brings_prefix : (slice bytes moved tail : List ℕ) (at n : ℕ) → slice ≡ bytes → 0 < n → n ≤ length (take (length slice - at) (drop at slice)) → moved ≡ take n (take (length slice - at) (drop at slice)) → Brings n (Some (drop at bytes)) (Some (drop (at + n) bytes)) (moved ++ tail)
+brings_prefix slice bytes moved tail at n same some fits is =
     let rest : take (length slice - at) (drop at slice) ≡ drop at bytes = take_rest slice at ∙ ap (λ whole. drop at whole) same in
-    let front : moved ≡ take n (drop at bytes) = is ∙ ap (λ r. take n r) rest in
+    let prefix : moved ≡ take n (drop at bytes) = is ∙ ap (λ r. take n r) rest in
     let long : n ≤ length (drop at bytes) = omega (arith, ap length rest) in
-    let size : length moved ≡ n = ap length front ∙ length-take-le n (drop at bytes) long in
+    let size : length moved ≡ n = ap length prefix ∙ length-take-le n (drop at bytes) long in
     let taken : take n (moved ++ tail) ≡ moved = ap (λ k. take k (moved ++ tail)) (sym size) ∙ take-append_seam moved tail in
     let split : take n (drop at bytes) ++ drop (at + n) bytes ≡ drop at bytes =
     ap (λ r. take n (drop at bytes) ++ r) (sym (drop-drop n at bytes)) ∙ take-append-drop n (drop at bytes) in
     record {
       some = some;
       fits = omega (arith, length-append moved tail, size);
-      left = ap (λ r. Some r) (sym (ap (λ b. b ++ drop (at + n) bytes) (taken ∙ front) ∙ split));
+      left = ap (λ r. Some r) (sym (ap (λ b. b ++ drop (at + n) bytes) (taken ∙ prefix) ∙ split));
     }
 
 -- what was moved is all that there was, once nothing is left
@@ -116,10 +116,10 @@ opened_holds Absent left bytes failed page opened = absurd opened
 opened_holds (Holds held told) left bytes failed page opened = cc
 
 -- what a new sink tells after its first bytes is these bytes
-pub first_written : (written now : Option (List ℕ)) (bytes held : List ℕ) → IfSome written (λ front. front ≡ []) → now ≡ with_bytes written bytes → now ≡ Some held → held ≡ bytes
+pub first_written : (written now : Option (List ℕ)) (bytes held : List ℕ) → IfSome written (λ prefix. prefix ≡ []) → now ≡ with_bytes written bytes → now ≡ Some held → held ≡ bytes
 first_written None now bytes held empty step told = cc
-first_written (Some front) now bytes held empty step told =
-    let same : held ≡ front ++ bytes = cc in same ∙ ap (λ f. f ++ bytes) empty
+first_written (Some prefix) now bytes held empty step told =
+    let same : held ≡ prefix ++ bytes = cc in same ∙ ap (λ f. f ++ bytes) empty
 
 -- ---- openings asked for one after another
 
@@ -149,18 +149,18 @@ asks_tried opening others (Err refusals.NoMemory) before now asked = asks_nothin
 
 -- the first of these was asked for, and then a prefix of the others
 pub asks_then : (opening : Opening) (others : List Opening) (before mid now : Option (List Opening)) → mid ≡ with_opening before opening → AsksPrefix others mid now → AsksPrefix (opening ∷ others) before now
-asks_then opening others before mid now asked front =
-    (suc front.0, front.1 ∙ ap (λ told. with_openings told (take front.0 others)) asked ∙ openings_first before opening (take front.0 others))
+asks_then opening others before mid now asked prefix =
+    (suc prefix.0, prefix.1 ∙ ap (λ told. with_openings told (take prefix.0 others)) asked ∙ openings_first before opening (take prefix.0 others))
 
 -- a prefix of openings is one of more openings
 pub asks_longer : (openings more : List Opening) (before now : Option (List Opening)) → AsksPrefix openings before now → AsksPrefix (openings ++ more) before now
-asks_longer openings more before now front =
-    let n = min front.0 (length openings) in
-    (n, front.1 ∙ ap (λ asked. with_openings before asked) (sym (take_min front.0 openings) ∙ sym (take-append-le n openings more (omega arith))))
+asks_longer openings more before now prefix =
+    let n = min prefix.0 (length openings) in
+    (n, prefix.1 ∙ ap (λ asked. with_openings before asked) (sym (take_min prefix.0 openings) ∙ sym (take-append-le n openings more (omega arith))))
 
 -- what asks for nothing leaves what was asked for
 pub asks_same : (openings : List Opening) (before mid now : Option (List Opening)) → now ≡ mid → AsksPrefix openings before mid → AsksPrefix openings before now
-asks_same openings before mid now same front = (front.0, same ∙ front.1)
+asks_same openings before mid now same prefix = (prefix.0, same ∙ prefix.1)
 
 -- ---- links
 

@@ -28,7 +28,7 @@ after_bytes bytes left = option_map (λ rest. bytes ++ rest) left
 
 -- what was written, where it is told, with these bytes at its end
 abbrev pub with_bytes : Option (List ℕ) → List ℕ → Option (List ℕ)
-with_bytes written bytes = option_map (λ front. front ++ bytes) written
+with_bytes written bytes = option_map (λ prefix. prefix ++ bytes) written
 
 -- the first n bytes of what was left now stand at the front of this slice
 pub record Brings (n : ℕ) (old new : Option (List ℕ)) (into : List ℕ) : Type 0 where

@@ -6,7 +6,7 @@ use Rattle.tesla_desk.specs.declared.post.PostStep.TheVariants.{Sent, Failed}
 
 -- what was sent, where it is told, with this datagram at its end
 abbrev pub with_datagram : Option (List (List ℕ)) → List ℕ → Option (List (List ℕ))
-with_datagram sent datagram = option_map (λ front. front ++ datagram ∷ []) sent
+with_datagram sent datagram = option_map (λ prefix. prefix ++ datagram ∷ []) sent
 
 -- what one call does to what was sent
 abbrev pub Posts : Option (List (List ℕ)) → Option (List (List ℕ)) → List ℕ → PostStep → Type 0

@@ -11,7 +11,7 @@ use Rattle.tesla_receiver.specs.declared.history.Entry.{Entry}
 use Rattle.tesla_early.specs.Early.{Message, learnt}
 use Rattle.tesla_early.specs.Laws.{IsLearnt, Taught, TaughtPromise, WasEarly, WasPromised, origin_of}
 use Rattle.tesla_early.specs.Learnt.{Learnt, is_named}
-use Rattle.tesla_early.proofs.Places.{came_from, from_origin, keeps_place, origin_got, origins_all, one_place, rises, taught_place}
+use Rattle.tesla_early.proofs.Origins.{taught_from, from_origin, keeps_index, origin_got, origins_all, one_index, rises, taught_index}
 use Rattle.tesla_early.proofs.Steps.{after_accepted, before, is_of, origins}
 
 -- ---- a promise of a message
@@ -57,7 +57,7 @@ is_of_promise message it unused own =
 pub was_promised : (most : ℕ) (h : List Entry) (entry : ℕ) (message : Message) → WasEarly most h entry message → WasPromised most h entry message
 was_promised most h entry message was =
     let one = (after_accepted most h entry message was).one in
-    let from = came_from most h entry one.place (origin_of one.it) (origin_got (before most h entry) one.place one.it one.at) in
+    let from = taught_from most h entry one.place (origin_of one.it) (origin_got (before most h entry) one.place one.it one.at) in
     record {
       teacher = one.it.entry;
       before = from.earlier;
@@ -71,22 +71,22 @@ was_promised most h entry message was =
 -- it is learnt
 pub taught_learnt : (most : ℕ) (h : List Entry) (entry : ℕ) (payload : List ℕ) (promise : Promise) → Taught most h entry payload → promise_of payload ≡ Some promise → IsLearnt most h entry promise
 taught_learnt most h entry payload promise taught is =
-    let place = length (origins most h entry) in
+    let index = length (origins most h entry) in
     let within : entry < length h = ⊎_elim (λ gave. slice_get_within h entry _ gave.is) (λ early. slice_get_within h entry _ early.1.is) taught in
-    let origin = keeps_place most h (suc entry) (length h) place (entry, promise) (omega arith) (taught_place most h entry payload promise taught is) in
-    let has = from_origin (learnt most h) place (entry, promise) (ap (λ ks. slice_get ks place) (sym (origins_all most h)) ∙ origin) in
-    record { place = place; it = has.it; is = has.at; entry_is = ap (λ k. k.0) has.origin_is; promise_is = ap (λ k. k.1) has.origin_is }
+    let origin = keeps_index most h (suc entry) (length h) index (entry, promise) (omega arith) (taught_index most h entry payload promise taught is) in
+    let has = from_origin (learnt most h) index (entry, promise) (ap (λ ks. slice_get ks index) (sym (origins_all most h)) ∙ origin) in
+    record { place = index; it = has.it; is = has.at; entry_is = ap (λ k. k.0) has.origin_is; promise_is = ap (λ k. k.1) has.origin_is }
 
-all_origin : (most : ℕ) (h : List Entry) (place : ℕ) (it : Learnt) → slice_get (learnt most h) place ≡ Some it → slice_get (origins most h (length h)) place ≡ Some (origin_of it)
-all_origin most h place it at = ap (λ ks. slice_get ks place) (origins_all most h) ∙ origin_got (learnt most h) place it at
+all_origin : (most : ℕ) (h : List Entry) (index : ℕ) (it : Learnt) → slice_get (learnt most h) index ≡ Some it → slice_get (origins most h (length h)) index ≡ Some (origin_of it)
+all_origin most h index it at = ap (λ ks. slice_get ks index) (origins_all most h) ∙ origin_got (learnt most h) index it at
 
 -- what is learnt was taught
-pub learnt_taught : (most : ℕ) (h : List Entry) (place : ℕ) (it : Learnt) → slice_get (learnt most h) place ≡ Some it → TaughtPromise most h it.entry it.promise
-learnt_taught most h place it at = (came_from most h (length h) place (origin_of it) (all_origin most h place it at)).taught
+pub learnt_taught : (most : ℕ) (h : List Entry) (index : ℕ) (it : Learnt) → slice_get (learnt most h) index ≡ Some it → TaughtPromise most h it.entry it.promise
+learnt_taught most h index it at = (taught_from most h (length h) index (origin_of it) (all_origin most h index it at)).taught
 
 -- no two places are of one entry
 pub learnt_once : (most : ℕ) (h : List Entry) (i j : ℕ) (a b : Learnt) → slice_get (learnt most h) i ≡ Some a → slice_get (learnt most h) j ≡ Some b → a.entry ≡ b.entry → i ≡ j
-learnt_once most h i j a b first second same = one_place most h (length h) i j (origin_of a) (origin_of b) (all_origin most h i a first) (all_origin most h j b second) same
+learnt_once most h i j a b first second same = one_index most h (length h) i j (origin_of a) (origin_of b) (all_origin most h i a first) (all_origin most h j b second) same
 
 -- later places are of later entries
 pub learnt_rises : (most : ℕ) (h : List Entry) (i j : ℕ) (a b : Learnt) → slice_get (learnt most h) i ≡ Some a → slice_get (learnt most h) j ≡ Some b → i < j → a.entry < b.entry

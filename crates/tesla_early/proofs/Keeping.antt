@@ -30,9 +30,9 @@ last_joined most xs ys =
     let all = xs ++ ys in
     let size = length-drop n all in
     let both = length-append xs ys in
-    let front : drop n xs ++ ys ≡ drop n all = sym (drop-append-le n xs ys (omega arith)) in
+    let prefix : drop n xs ++ ys ≡ drop n all = sym (drop-append-le n xs ys (omega arith)) in
     let count : n + (length (drop n all) - most) ≡ length all - most = omega arith in
-    sym (ap (last_of most) front ∙ drop-drop (length (drop n all) - most) n all ∙ ap (λ k. drop k all) count)
+    sym (ap (last_of most) prefix ∙ drop-drop (length (drop n all) - most) n all ∙ ap (λ k. drop k all) count)
 
 -- a function of each
 last_map : {A B : Type 0} (f : A → B) (most : ℕ) (xs : List A) → last_of most (map f xs) ≡ map f (last_of most xs)
@@ -42,14 +42,14 @@ last_map f most xs = ap (λ n. drop (n - most) (map f xs)) (length-map xs f) ∙
 last_changed : {A : Type 0} (most : ℕ) (change : List A → List A) (xs : List A) → ((ys : List A) → length (change ys) ≡ length ys) → last_of most (on_last most change xs) ≡ change (last_of most xs)
 last_changed most change xs same =
     let n = length xs - most in
-    let front = take n xs in
+    let prefix = take n xs in
     let rest = change (drop n xs) in
     let size = length-take-le n xs (omega arith) in
     let behind = same (drop n xs) in
     let left = length-drop n xs in
-    let whole = length-append front rest in
-    let count : length (front ++ rest) - most ≡ length front = omega arith in
-    ap (λ k. drop k (front ++ rest)) count ∙ drop-append_seam front rest
+    let whole = length-append prefix rest in
+    let count : length (prefix ++ rest) - most ≡ length prefix = omega arith in
+    ap (λ k. drop k (prefix ++ rest)) count ∙ drop-append_seam prefix rest
 
 -- none of an empty list
 none_last : {A : Type 0} (n : ℕ) (none : List A) → none ≡ [] → drop n none ≡ []
@@ -105,8 +105,8 @@ kept_accepted_is most entry ls kept (Some message) same =
 kept_accepted_is most entry ls kept None same = same
 
 -- a message came
-kept_came : (most entry : ℕ) (ls : List Learnt) (kept : List Kept) (message : Option Message) → kept ≡ map kept_of (last_of most ls) → kept_after most kept message ≡ map kept_of (last_of most (cond (is_promised most ls message) (accepted most ls entry message) ls))
-kept_came most entry ls kept message same =
+kept_with_message : (most entry : ℕ) (ls : List Learnt) (kept : List Kept) (message : Option Message) → kept ≡ map kept_of (last_of most ls) → kept_after most kept message ≡ map kept_of (last_of most (cond (is_promised most ls message) (accepted most ls entry message) ls))
+kept_with_message most entry ls kept message same =
     ap (λ b. cond b (kept_accepted most kept message) kept) (promised_kept most ls kept message same)
     ∙ (elim (is_promised most ls message) as (λ b. cond b (kept_accepted most kept message) kept ≡ map kept_of (last_of most (cond b (accepted most ls entry message) ls))) [ true ↦ kept_accepted_is most entry ls kept message same | false ↦ same ])
 
@@ -142,7 +142,7 @@ pub arrived_stands : (state after : EarlyState) (h : List Entry) (ingest reading
 arrived_stands state after h ingest reading bytes verdict st answer receiver most kept =
     let arrival : Arrival = record { ingest = ingest; reading = reading; bytes = bytes; verdict = verdict } in
     more_stands state after h (entry_of state.receiver.config h (Arrives ingest reading bytes)) receiver most
-    (kept ∙ kept_came state.promises.most (length h) (learnt state.promises.most h) state.promises.kept (candidate arrival) st.promises
+    (kept ∙ kept_with_message state.promises.most (length h) (learnt state.promises.most h) state.promises.kept (candidate arrival) st.promises
     ∙ ap (λ (e : Entry). map kept_of (last_of state.promises.most (learnt_with state.promises.most (learnt state.promises.most h) (length h) e))) answer)
 
 -- it is early

@@ -1,12 +1,12 @@
 pub mod Learnt
 pub mod FirstUsed
 pub mod Steps
-pub mod Places
+pub mod Origins
 pub mod Accepted
 pub mod UsedOnce
 pub mod Counted
 pub mod Live
-pub mod Fronts
+pub mod Prefixes
 pub mod Authentic
 pub mod Genuine
 pub mod Ring

@@ -20,13 +20,13 @@ pub live_early : (most : ℕ) (h : List Entry) (entry : ℕ) (payload : List ℕ
 live_early most h entry payload message arrival taught promise live is =
     let all = learnt most h in
     let own = taught_learnt most h entry payload (promise_for message.name message.payload) taught promise in
-    let place : own.place ≡ live.place = learnt_once most h own.place live.place own.it live.it own.is live.is (own.entry_is ∙ sym live.entry_is) in
-    let it : own.it ≡ live.it = same_Some own.it live.it (sym own.is ∙ ap (slice_get all) place ∙ live.is) in
+    let index : own.place ≡ live.place = learnt_once most h own.place live.place own.it live.it own.is live.is (own.entry_is ∙ sym live.entry_is) in
+    let it : own.it ≡ live.it = same_Some own.it live.it (sym own.is ∙ ap (slice_get all) index ∙ live.is) in
     let passes : is_of message live.it ≡ true = is_of_promise message live.it live.unused (ap (λ l. l.promise) (sym it) ∙ own.promise_is) in
-    let front = length all - most in
-    let whole : front + (live.place - front) ≡ live.place = (let last = live.last in omega arith) in
+    let prefix = length all - most in
+    let whole : prefix + (live.place - prefix) ≡ live.place = (let last = live.last in omega arith) in
     ap (is_promised most all) is
-    ∙ list_any_got (is_of message) (drop front all) (live.place - front) live.it (from_drop all front (live.place - front) ∙ ap (slice_get all) whole ∙ live.is) passes
+    ∙ list_any_got (is_of message) (drop prefix all) (live.place - prefix) live.it (from_drop all prefix (live.place - prefix) ∙ ap (slice_get all) whole ∙ live.is) passes
 
 -- of payloads that were woven, the later message
 pub woven_early : (most gap k entry : ℕ) (names : List Name) (bodies : List (List ℕ)) (payload later : List ℕ) (name : Name) (h : List Entry) (arrival : Arrival) → 1 ≤ gap → length names ≡ length bodies → name.interval < 2 ^ 32 → name.number < 2 ^ 16

@@ -12,7 +12,7 @@ use Rattle.tesla_base.proofs.Filtered.{filter-filter, filter_on, in_filter, in_f
 use Rattle.tesla_base.proofs.Members.{apart_joined, differs, in_here, in_joined, in_there, list_with, range_in, somewhere, without_none}
 use Rattle.tesla_links.specs.Lists.{Lists, list_of}
 use Rattle.tesla_early.specs.Learnt.{last_of}
-use Rattle.tesla_early.specs.Ring.{IsRing, bucket_of, count_after, is_in_bucket, kept_at, kept_in, no_slot, order_of, place_after, room_made, slot_at}
+use Rattle.tesla_early.specs.Ring.{IsRing, bucket_of, count_after, is_in_bucket, kept_at, kept_in, no_slot, order_of, index_after, room_made, slot_at}
 use Rattle.tesla_early.specs.Stands.{Kept}
 use Rattle.tesla_early.specs.declared.promises.Slot.{Slot}
 
@@ -97,7 +97,7 @@ list_within most count next buckets slots r b below p i =
     omega (arith, order_within most count next buckets slots r p there.0, r.long)
 
 -- the places with the next one behind them, round the ring
-turned : (most count next : ℕ) → next < most → (count ≡ next) ⊎ (count + 1 ≡ most) → turn (next + 1) (count - next) next ++ next ∷ [] ≡ turn (place_after most next) (count + 1 - place_after most next) (place_after most next)
+turned : (most count next : ℕ) → next < most → (count ≡ next) ⊎ (count + 1 ≡ most) → turn (next + 1) (count - next) next ++ next ∷ [] ≡ turn (index_after most next) (count + 1 - index_after most next) (index_after most next)
 turned most count next within cases =
     let low = range_with_len (next + 1) (count - next) in
     let more : turn (next + 1) (count - next) next ++ next ∷ [] ≡ turn (next + 1) (count - next) (next + 1) =
@@ -118,7 +118,7 @@ turned most count next within cases =
     (cases_eq (next + 1) most)
 
 -- the place behind one below a bound is below it
-after_within : (most next : ℕ) → next < most → place_after most next < most
+after_within : (most next : ℕ) → next < most → index_after most next < most
 after_within most next within =
     ⊎_elim
     (λ (last : next + 1 ≡ most). subst (λ n. n < most) (sym (cond-true (eqb (next + 1) most) 0 (next + 1) (eq-eqb (next + 1) most last))) (omega arith))
@@ -160,26 +160,26 @@ pub record HasRoom (most count next : ℕ) (slots : List Slot) (lists : List (Li
   pub length_is : length lists ≡ most
   pub listed : (b : ℕ) → b < most → get_or lists b [] ≡ filter (is_in_bucket most slots b) (others_of count next)
   pub last : (new : Kept) → map (kept_at slots) (others_of count next) ++ new ∷ [] ≡ last_of most (map (kept_at slots) (order_of count next) ++ new ∷ [])
-  pub more : others_of count next ++ next ∷ [] ≡ order_of (count_after most count) (place_after most next)
-  pub taken : (count_after most count ≡ place_after most next) ⊎ (count_after most count ≡ most)
+  pub more : others_of count next ++ next ∷ [] ≡ order_of (count_after most count) (index_after most next)
+  pub taken : (count_after most count ≡ index_after most next) ⊎ (count_after most count ≡ most)
 
 -- where a place is left
 room_left : (most count next : ℕ) (buckets : Lists) (slots : List Slot) → IsRing most count next buckets slots → (count ≡ most → ⊥) → HasRoom most count next slots buckets.lists
 room_left most count next buckets slots r other =
     let same : count ≡ next = ⊎_elim (λ (a : count ≡ next). a) (λ (b : count ≡ most). absurd (other b)) r.taken in
-    let places = none_next count next same in
+    let in_order = none_next count next same in
     let grown : count_after most count ≡ count + 1 = cond-false (eqb count most) most (count + 1) (ne_eqb count most other) in
     let number : count - next - 1 ≡ count - next = omega arith in
     record {
       length_is = r.lists;
-      listed = λ b below. r.listed b below ∙ ap (filter (is_in_bucket most slots b)) places;
+      listed = λ b below. r.listed b below ∙ ap (filter (is_in_bucket most slots b)) in_order;
       last = λ new.
           let xs = map (kept_at slots) (order_of count next) in
-          let size : length (order_of count next) ≡ next = ap length places ∙ ap (λ n. length (range_with_len (next + 1) n ++ range_with_len 0 next)) (let fewer : count - next - 1 ≡ 0 = omega arith in fewer) ∙ length-range_with_len 0 next in
+          let size : length (order_of count next) ≡ next = ap length in_order ∙ ap (λ n. length (range_with_len (next + 1) n ++ range_with_len 0 next)) (let fewer : count - next - 1 ≡ 0 = omega arith in fewer) ∙ length-range_with_len 0 next in
           let few : length (xs ++ new ∷ []) - most ≡ 0 = omega (arith, length-append xs (new ∷ []), length-map (order_of count next) (kept_at slots), size, r.within) in
-          ap (λ ps. map (kept_at slots) ps ++ new ∷ []) (sym places) ∙ sym (ap (λ n. drop n (xs ++ new ∷ [])) few);
+          ap (λ ps. map (kept_at slots) ps ++ new ∷ []) (sym in_order) ∙ sym (ap (λ n. drop n (xs ++ new ∷ [])) few);
       more = ap (λ n. turn (next + 1) n next ++ next ∷ []) number ∙ turned most count next r.within (inl same)
-          ∙ ap (λ n. order_of n (place_after most next)) (sym grown);
+          ∙ ap (λ n. order_of n (index_after most next)) (sym grown);
       taken = ⊎_elim
           (λ (last : next + 1 ≡ most). inr (grown ∙ (let all : count + 1 ≡ most = omega arith in all)))
           (λ (more : next + 1 ≡ most → ⊥). inl (grown ∙ ap (λ n. n + 1) same ∙ sym (cond-false (eqb (next + 1) most) 0 (next + 1) (ne_eqb (next + 1) most more))))
@@ -189,12 +189,12 @@ room_left most count next buckets slots r other =
 -- where each is taken, and the next one was taken out of its list
 room_after : (most count next : ℕ) (buckets : Lists) (slots : List Slot) → IsRing most count next buckets slots → count ≡ most → HasRoom most count next slots (map (without next) buckets.lists)
 room_after most count next buckets slots r full =
-    let places = first_next count next (omega (arith, r.within)) in
+    let in_order = first_next count next (omega (arith, r.within)) in
     let others = others_of count next in
     let absent = next_absent count next in
     let kept : count_after most count ≡ most = cond-true (eqb count most) most (count + 1) (eq-eqb count most full) in
     let left : without next (order_of count next) ≡ others =
-    ap (without next) places
+    ap (without next) in_order
     ∙ cond-false (not (eqb next next)) (next ∷ without next others) (without next others) (not_from_true (eqb next next) (eq-eqb next next refl))
     ∙ without_none next others absent in
     let number : count - next - 1 ≡ (most - 1) - next = omega arith in
@@ -209,9 +209,9 @@ room_after most count next buckets slots r full =
           let xs = map (kept_at slots) others in
           let size : length others ≡ most - 1 = length-append (range_with_len (next + 1) (count - next - 1)) (range_with_len 0 next) ∙ omega (arith, length-range_with_len (next + 1) (count - next - 1), length-range_with_len 0 next, r.within) in
           let one : length (kept_at slots next ∷ xs ++ new ∷ []) - most ≡ 1 = omega (arith, length-append xs (new ∷ []), length-map others (kept_at slots), size, r.some) in
-          sym (ap (λ ps. last_of most (map (kept_at slots) ps ++ new ∷ [])) places ∙ ap (λ n. drop n (kept_at slots next ∷ xs ++ new ∷ [])) one);
+          sym (ap (λ ps. last_of most (map (kept_at slots) ps ++ new ∷ [])) in_order ∙ ap (λ n. drop n (kept_at slots next ∷ xs ++ new ∷ [])) one);
       more = ap (λ n. turn (next + 1) n next ++ next ∷ []) number ∙ turned most (most - 1) next r.within (inr whole)
-          ∙ ap (λ n. order_of n (place_after most next)) (whole ∙ sym kept);
+          ∙ ap (λ n. order_of n (index_after most next)) (whole ∙ sym kept);
       taken = inr kept;
     }
 
@@ -239,7 +239,7 @@ slot_other slots count next slot p there =
     get_or-set_other slots next p slot no_slot (λ same. differs p next (others_of count next) there (next_absent count next) (sym same))
 
 module _ (most count next : ℕ) (buckets after : Lists) (lists : List (List ℕ)) (slots : List Slot) (slot : Slot) (r : IsRing most count next buckets slots) (h : HasRoom most count next slots lists)
-    (same : after.places ≡ buckets.places) (put : after.lists ≡ set lists (bucket_of most slot.promise.name) (get_or lists (bucket_of most slot.promise.name) [] ++ next ∷ [])) where
+    (same : after.slot_count ≡ buckets.slot_count) (put : after.lists ≡ set lists (bucket_of most slot.promise.name) (get_or lists (bucket_of most slot.promise.name) [] ++ next ∷ [])) where
   abbrev changed : List Slot
   changed = set slots next slot
 
@@ -281,19 +281,19 @@ module _ (most count next : ℕ) (buckets after : Lists) (lists : List (List ℕ
       ∙ sym split)
       (cases_eq own_bucket b)
 
-  pub ring_put : IsRing most (count_after most count) (place_after most next) after changed
+  pub ring_put : IsRing most (count_after most count) (index_after most next) after changed
   ring_put = record {
     some = r.some;
     few = r.few;
     within = after_within most next r.within;
     taken = h.taken;
-    places = same ∙ r.places;
+    slot_count = same ∙ r.slot_count;
     lists = ap length put ∙ length-set lists own_bucket (get_or lists own_bucket [] ++ next ∷ []) ∙ h.length_is;
     long = length-set slots next slot ∙ r.long;
     listed = λ b below. put_listed b below ∙ ap (filter (is_in_bucket most changed b)) h.more;
   }
 
-  pub kept_put : map (kept_at changed) (order_of (count_after most count) (place_after most next)) ≡ last_of most (map (kept_at slots) (order_of count next) ++ kept_in slot ∷ [])
+  pub kept_put : map (kept_at changed) (order_of (count_after most count) (index_after most next)) ≡ last_of most (map (kept_at slots) (order_of count next) ++ kept_in slot ∷ [])
   kept_put =
       let others = others_of count next in
       ap (map (kept_at changed)) (sym h.more) ∙ map-append (kept_at changed) others (next ∷ [])

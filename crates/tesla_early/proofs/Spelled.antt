@@ -5,8 +5,8 @@ use Rattle.std.proofs.lemmas.Bool.{and_parts, and_right, eqb-true, le-leb, leb-t
 use Rattle.std.proofs.lemmas.List.{drop-drop, length-append, length-drop, length-take, take_at, take-append-drop}
 use Rattle.std.proofs.lemmas.Nat.{from_be_bytes-to_be_bytes_2, from_be_bytes-to_be_bytes_4}
 use Rattle.std.proofs.lemmas.Option.{same_Some}
-use Rattle.tesla_base.proofs.Fronts.{AreBytes-drop, field16, field32, test_some}
-use Rattle.tesla_base.specs.Front.{AreBytes}
+use Rattle.tesla_base.proofs.Prefixes.{AreBytes-drop, field16, field32, test_some}
+use Rattle.tesla_base.specs.Prefix.{AreBytes}
 use Rattle.tesla_early.specs.Payloads.{Promises, plain_text, promise_in, promise_of, promising_text}
 use Rattle.tesla_early.specs.declared.promise.Promise.{Promise}
 

@@ -78,12 +78,12 @@ past_end [] n none = omega arith
 past_end (x ∷ xs) zero none = absurd (cc)
 past_end (x ∷ xs) (suc n) none = let rest = past_end xs n none in omega arith
 
-place_step : (most : ℕ) (h : List Entry) (n : ℕ) (o : Option Entry) → slice_get h n ≡ o → Step most h n
-place_step most h n (Some e) at = entry_step most h n e at
-place_step most h n None at = inl (let past = past_end h n at in learnt_past most h (suc n) (omega arith) ∙ sym (learnt_past most h n past))
+index_step : (most : ℕ) (h : List Entry) (n : ℕ) (o : Option Entry) → slice_get h n ≡ o → Step most h n
+index_step most h n (Some e) at = entry_step most h n e at
+index_step most h n None at = inl (let past = past_end h n at in learnt_past most h (suc n) (omega arith) ∙ sym (learnt_past most h n past))
 
 pub step : (most : ℕ) (h : List Entry) (n : ℕ) → Step most h n
-step most h n = place_step most h n (slice_get h n) refl
+step most h n = index_step most h n (slice_get h n) refl
 
 -- ---- what stays of the promises
 
@@ -125,19 +125,19 @@ origins_step most h n = ⊎_elim (λ stays. inl (ap (map origin_of) stays)) (λ 
     teaching (inr early) = (early.0.payload, inr (early.0.name, early.1))
 
 -- a used promise stays used
-pub stays_used : (most : ℕ) (h : List Entry) (n place : ℕ) (it : Learnt) → slice_get (before most h n) place ≡ Some it → it.used ≡ true → (now : Learnt) × (slice_get (before most h (suc n)) place ≡ Some now) × (now.used ≡ true)
-stays_used most h n place it at used =
-    let Goal : Type 0 = (now : Learnt) × (slice_get (before most h (suc n)) place ≡ Some now) × (now.used ≡ true) in
-    let within = slice_get_within (before most h n) place it at in
+pub stays_used : (most : ℕ) (h : List Entry) (n index : ℕ) (it : Learnt) → slice_get (before most h n) index ≡ Some it → it.used ≡ true → (now : Learnt) × (slice_get (before most h (suc n)) index ≡ Some now) × (now.used ≡ true)
+stays_used most h n index it at used =
+    let Goal : Type 0 = (now : Learnt) × (slice_get (before most h (suc n)) index ≡ Some now) × (now.used ≡ true) in
+    let within = slice_get_within (before most h n) index it at in
     ⊎_elim
-    (λ stays. (it, ap (λ ls. slice_get ls place) stays ∙ at, used))
+    (λ stays. (it, ap (λ ls. slice_get ls index) stays ∙ at, used))
     (λ taught. ⊎_elim
-    (λ gave. (it, ap (λ ls. slice_get ls place) (after_given most h n gave.0 gave.1) ∙ slice_get-append (before most h n) (taught_by n gave.0) place within ∙ at, used))
+    (λ gave. (it, ap (λ ls. slice_get ls index) (after_given most h n gave.0 gave.1) ∙ slice_get-append (before most h n) (taught_by n gave.0) index within ∙ at, used))
     (λ early. accepting early.0 (after_accepted most h n early.0 early.1))
     taught)
     (step most h n)
   where
-    accepting : (message : Message) → Accepts most h n message → (now : Learnt) × (slice_get (before most h (suc n)) place ≡ Some now) × (now.used ≡ true)
+    accepting : (message : Message) → Accepts most h n message → (now : Learnt) × (slice_get (before most h (suc n)) index ≡ Some now) × (now.used ≡ true)
     accepting message accepts =
         let one = accepts.one in
         let kept = before most h n in
@@ -146,11 +146,11 @@ stays_used most h n place it at used =
         ⊎_elim
         (λ same. (
           used_up one.it,
-          ap (λ ls. slice_get ls place) accepts.is
-              ∙ slice_get-append change (taught_by n message.payload) place (slice_get_within change place (used_up one.it) (ap (slice_get change) same ∙ set_here kept one.place (used_up one.it) here))
+          ap (λ ls. slice_get ls index) accepts.is
+              ∙ slice_get-append change (taught_by n message.payload) index (slice_get_within change index (used_up one.it) (ap (slice_get change) same ∙ set_here kept one.place (used_up one.it) here))
               ∙ ap (slice_get change) same ∙ set_here kept one.place (used_up one.it) here,
           refl,
         ))
-        (λ differs. let there = set_there kept one.place place (used_up one.it) it differs at in
-        (it, ap (λ ls. slice_get ls place) accepts.is ∙ slice_get-append change (taught_by n message.payload) place (slice_get_within change place it there) ∙ there, used))
-        (cases_eq place one.place)
+        (λ differs. let there = set_there kept one.place index (used_up one.it) it differs at in
+        (it, ap (λ ls. slice_get ls index) accepts.is ∙ slice_get-append change (taught_by n message.payload) index (slice_get_within change index it there) ∙ there, used))
+        (cases_eq index one.place)

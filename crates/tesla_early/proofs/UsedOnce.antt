@@ -10,7 +10,7 @@ use Rattle.tesla_early.specs.Early.{Message}
 use Rattle.tesla_early.specs.Laws.{Gave, TaughtPromise, Uses, WasEarly, origin_of}
 use Rattle.tesla_early.specs.Learnt.{taught_by}
 use Rattle.tesla_early.proofs.Accepted.{is_of_message}
-use Rattle.tesla_early.proofs.Places.{came_from, keeps_place, keeps_used, origin_got, one_place}
+use Rattle.tesla_early.proofs.Origins.{taught_from, keeps_index, keeps_used, origin_got, one_index}
 use Rattle.tesla_early.proofs.Steps.{Accepts, after_accepted, after_given, before, step}
 use Rattle.tesla_early.proofs.FirstUsed.{set_here, set_there, used_up}
 
@@ -20,7 +20,7 @@ use Rattle.tesla_early.proofs.FirstUsed.{set_here, set_there, used_up}
 pub one_taught : (most : ℕ) (h : List Entry) (entry : ℕ) (message : Message) (accepts : Accepts most h entry message) → (accepts.one.it.entry < entry) × TaughtPromise most h accepts.one.it.entry (promise_for message.name message.payload)
 one_taught most h entry message accepts =
     let one = accepts.one in
-    let from = came_from most h entry one.place (origin_of one.it) (origin_got (before most h entry) one.place one.it one.at) in
+    let from = taught_from most h entry one.place (origin_of one.it) (origin_got (before most h entry) one.place one.it one.at) in
     (from.earlier, subst (λ p. TaughtPromise most h one.it.entry p) (is_of_message message one.it one.passes).promise from.taught)
 
 -- the early arrival uses it
@@ -101,8 +101,8 @@ used_earlier most h n m teacher first second lower =
     let later = keeps_used most h (suc n) m first.place first.after (omega arith) first.now first.used in
     let origin = origin_got (before most h n) first.place first.before first.is in
     let same : first.place ≡ second.place =
-    one_place most h m first.place second.place (origin_of first.before) (origin_of second.before)
-    (keeps_place most h n m first.place (origin_of first.before) (omega arith) origin)
+    one_index most h m first.place second.place (origin_of first.before) (origin_of second.before)
+    (keeps_index most h n m first.place (origin_of first.before) (omega arith) origin)
     (origin_got (before most h m) second.place second.before second.is) (first.entry_is ∙ sym second.entry_is) in
     let one : later.0 ≡ second.before = same_Some later.0 second.before (sym later.1 ∙ ap (slice_get (before most h m)) same ∙ second.is) in
     true≢false (sym later.2 ∙ ap (λ it. it.used) one ∙ second.unused)

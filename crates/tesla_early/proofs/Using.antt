@@ -82,53 +82,53 @@ module _ (slots : List Slot) (name : Name) (hash : List ℕ) where
       (cases_Bool (found p))
 
   -- one is found
-  pub found_place : (ps : List ℕ) (place : ℕ) → Some place ≡ find found ps → is_in place ps ≡ true
-  found_place [] place h = absurd (none-some place (sym h))
-  found_place (p ∷ ps) place h =
+  pub found_index : (ps : List ℕ) (index : ℕ) → Some index ≡ find found ps → is_in index ps ≡ true
+  found_index [] index h = absurd (none-some index (sym h))
+  found_index (p ∷ ps) index h =
       ⊎_elim
       (λ (y : found p ≡ true).
-      let here : place ≡ p = same_Some place p (h ∙ cond-true (found p) (Some p) (find found ps) y) in
+      let here : index ≡ p = same_Some index p (h ∙ cond-true (found p) (Some p) (find found ps) y) in
       ap (λ x. is_in x (p ∷ ps)) here ∙ in_here p ps)
-      (λ (no : found p ≡ false). in_there p place ps (found_place ps place (h ∙ cond-false (found p) (Some p) (find found ps) no)))
+      (λ (no : found p ≡ false). in_there p index ps (found_index ps index (h ∙ cond-false (found p) (Some p) (find found ps) no)))
       (cases_Bool (found p))
 
-  pub one_kept : (ps : List ℕ) (place : ℕ) → Some place ≡ find found ps → list_any test (map (kept_at slots) ps) ≡ true
-  one_kept [] place h = absurd (none-some place (sym h))
-  one_kept (p ∷ ps) place h =
+  pub one_kept : (ps : List ℕ) (index : ℕ) → Some index ≡ find found ps → list_any test (map (kept_at slots) ps) ≡ true
+  one_kept [] index h = absurd (none-some index (sym h))
+  one_kept (p ∷ ps) index h =
       let rest = list_any test (map (kept_at slots) ps) in
       ⊎_elim
       (λ (y : found p ≡ true). or_left (found p) rest y)
-      (λ (no : found p ≡ false). or_right (found p) rest (one_kept ps place (h ∙ cond-false (found p) (Some p) (find found ps) no)))
+      (λ (no : found p ≡ false). or_right (found p) rest (one_kept ps index (h ∙ cond-false (found p) (Some p) (find found ps) no)))
       (cases_Bool (found p))
 
 -- ---- its slot is used
 
 -- the slot of a place, used
 abbrev pub used_slot : List Slot → ℕ → Slot
-used_slot slots place = record { promise = (slot_at slots place).promise; used = true }
+used_slot slots index = record { promise = (slot_at slots index).promise; used = true }
 
 -- the slot that was read at a place, used
-pub used_is : (slots : List Slot) (place : ℕ) (slot : Slot) → place < length slots → slot ≡ get_or slots place slot → (let used : Slot = record { promise = slot.promise; used = true } in used) ≡ used_slot slots place
-used_is slots place slot within same =
-    ap (λ (s : Slot). (let used : Slot = record { promise = s.promise; used = true } in used)) (get_or_read_under slots place (length slots) slot no_slot same within refl)
+pub used_is : (slots : List Slot) (index : ℕ) (slot : Slot) → index < length slots → slot ≡ get_or slots index slot → (let used : Slot = record { promise = slot.promise; used = true } in used) ≡ used_slot slots index
+used_is slots index slot within same =
+    ap (λ (s : Slot). (let used : Slot = record { promise = s.promise; used = true } in used)) (get_or_read_under slots index (length slots) slot no_slot same within refl)
 
-module _ (slots : List Slot) (place : ℕ) (within : place < length slots) where
+module _ (slots : List Slot) (index : ℕ) (within : index < length slots) where
   abbrev marked : List Slot
-  marked = set slots place (used_slot slots place)
+  marked = set slots index (used_slot slots index)
 
-  slot_here : slot_at marked place ≡ used_slot slots place
-  slot_here = get_or-set_same slots place (used_slot slots place) no_slot within
+  slot_here : slot_at marked index ≡ used_slot slots index
+  slot_here = get_or-set_same slots index (used_slot slots index) no_slot within
 
-  slot_there : (p : ℕ) → (p ≡ place → ⊥) → slot_at marked p ≡ slot_at slots p
-  slot_there p other = get_or-set_other slots place p (used_slot slots place) no_slot other
+  slot_there : (p : ℕ) → (p ≡ index → ⊥) → slot_at marked p ≡ slot_at slots p
+  slot_there p other = get_or-set_other slots index p (used_slot slots index) no_slot other
 
   -- the promises of all places stay
   same_promise : (p : ℕ) → (slot_at marked p).promise ≡ (slot_at slots p).promise
   same_promise p =
       ⊎_elim
-      (λ (here : p ≡ place). ap (λ x. (slot_at marked x).promise) here ∙ ap (λ (s : Slot). s.promise) slot_here ∙ ap (λ x. (slot_at slots x).promise) (sym here))
-      (λ (other : p ≡ place → ⊥). ap (λ (s : Slot). s.promise) (slot_there p other))
-      (cases_eq p place)
+      (λ (here : p ≡ index). ap (λ x. (slot_at marked x).promise) here ∙ ap (λ (s : Slot). s.promise) slot_here ∙ ap (λ x. (slot_at slots x).promise) (sym here))
+      (λ (other : p ≡ index → ⊥). ap (λ (s : Slot). s.promise) (slot_there p other))
+      (cases_eq p index)
 
   pub ring_marked : (most count next : ℕ) (buckets : Lists) → IsRing most count next buckets slots → IsRing most count next buckets marked
   ring_marked most count next buckets r = record {
@@ -136,9 +136,9 @@ module _ (slots : List Slot) (place : ℕ) (within : place < length slots) where
     few = r.few;
     within = r.within;
     taken = r.taken;
-    places = r.places;
+    slot_count = r.slot_count;
     lists = r.lists;
-    long = length-set slots place (used_slot slots place) ∙ r.long;
+    long = length-set slots index (used_slot slots index) ∙ r.long;
     listed = λ b below.
         r.listed b below
         ∙ filter_on (is_in_bucket most slots b) (is_in_bucket most marked b) (order_of count next)
@@ -146,8 +146,8 @@ module _ (slots : List Slot) (place : ℕ) (within : place < length slots) where
   }
 
   -- the first promise that passes is used
-  pub one_used : (name : Name) (hash : List ℕ) (ps : List ℕ) → Distinct ps → Some place ≡ find (is_found slots name hash) ps → map (kept_at marked) ps ≡ use_first_kept (is_of_message name hash) (map (kept_at slots) ps)
-  one_used name hash [] d h = absurd (none-some place (sym h))
+  pub one_used : (name : Name) (hash : List ℕ) (ps : List ℕ) → Distinct ps → Some index ≡ find (is_found slots name hash) ps → map (kept_at marked) ps ≡ use_first_kept (is_of_message name hash) (map (kept_at slots) ps)
+  one_used name hash [] d h = absurd (none-some index (sym h))
   one_used name hash (p ∷ ps) d h =
       let found = is_found slots name hash in
       let x = kept_at slots p in
@@ -155,13 +155,13 @@ module _ (slots : List Slot) (place : ℕ) (within : place < length slots) where
       let later = use_first_kept (is_of_message name hash) xs in
       ⊎_elim
       (λ (y : found p ≡ true).
-      let here : place ≡ p = same_Some place p (h ∙ cond-true (found p) (Some p) (find found ps) y) in
+      let here : index ≡ p = same_Some index p (h ∙ cond-true (found p) (Some p) (find found ps) y) in
       ap (λ k. k ∷ map (kept_at marked) ps) (ap (kept_at marked) (sym here) ∙ ap kept_in slot_here ∙ ap (λ q. record (kept_at slots q) { used = true }) here)
       ∙ ap (λ ks. record x { used = true } ∷ ks) (map_on (kept_at marked) (kept_at slots) ps (λ q there. ap kept_in (slot_there q (λ same. differs q p ps there d.0 (sym (same ∙ here))))))
       ∙ sym (cond-true (found p) (record x { used = true } ∷ xs) (x ∷ later) y))
       (λ (no : found p ≡ false).
-      let there : Some place ≡ find found ps = h ∙ cond-false (found p) (Some p) (find found ps) no in
-      let other : p ≡ place → ⊥ = differs place p ps (found_place slots name hash ps place there) d.0 in
+      let there : Some index ≡ find found ps = h ∙ cond-false (found p) (Some p) (find found ps) no in
+      let other : p ≡ index → ⊥ = differs index p ps (found_index slots name hash ps index there) d.0 in
       ap (λ s. kept_in s ∷ map (kept_at marked) ps) (slot_there p other)
       ∙ ap (λ ks. x ∷ ks) (one_used name hash ps d.1 there)
       ∙ sym (cond-false (found p) (record x { used = true } ∷ xs) (x ∷ later) no))

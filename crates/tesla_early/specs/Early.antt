@@ -68,9 +68,9 @@ given_learnt learnt entry Over = learnt
 
 -- the promises after an entry of this place, told those before it
 abbrev pub learnt_with : ℕ → List Learnt → ℕ → Entry → List Learnt
-learnt_with most learnt place (Arrived arrival) = cond (is_promised most learnt (candidate arrival)) (accepted most learnt place (candidate arrival)) learnt
-learnt_with most learnt place (Taken releaser reply) = given_learnt learnt place reply
-learnt_with most learnt place (Ended ingest) = learnt
+learnt_with most learnt index (Arrived arrival) = cond (is_promised most learnt (candidate arrival)) (accepted most learnt index (candidate arrival)) learnt
+learnt_with most learnt index (Taken releaser reply) = given_learnt learnt index reply
+learnt_with most learnt index (Ended ingest) = learnt
 
 abbrev pub learnt_after : ℕ → List Learnt → ℕ × Entry → List Learnt
 learnt_after most learnt p = learnt_with most learnt p.0 p.1

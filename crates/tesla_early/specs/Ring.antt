@@ -15,7 +15,7 @@ no_slot = record { promise = record { name = record { interval = 0; number = 0 }
 
 -- the slot of a place
 abbrev pub slot_at : List Slot → ℕ → Slot
-slot_at slots place = get_or slots place no_slot
+slot_at slots index = get_or slots index no_slot
 
 -- the promise of a slot
 abbrev pub kept_in : Slot → Kept
@@ -23,11 +23,11 @@ kept_in slot = record { promise = slot.promise; used = slot.used }
 
 -- the promise of a place
 abbrev pub kept_at : List Slot → ℕ → Kept
-kept_at slots place = kept_in (slot_at slots place)
+kept_at slots index = kept_in (slot_at slots index)
 
 -- the promise of a place isn't used, and it's of a message of this name whose payload has this digest
 abbrev pub is_found : List Slot → Name → List ℕ → ℕ → Bool
-is_found slots name hash place = is_of_message name hash (kept_at slots place)
+is_found slots name hash index = is_of_message name hash (kept_at slots index)
 
 -- what is known of the digest of a payload is that digest
 abbrev pub IsDigest : Option (List ℕ) → List ℕ → Type 0
@@ -40,15 +40,15 @@ bucket_of buckets name = (name.interval * 61 + name.number) % buckets
 
 -- the promise of a place is of a name in this bucket
 abbrev pub is_in_bucket : ℕ → List Slot → ℕ → ℕ → Bool
-is_in_bucket buckets slots bucket place = bucket_of buckets (slot_at slots place).promise.name == bucket
+is_in_bucket buckets slots bucket index = bucket_of buckets (slot_at slots index).promise.name == bucket
 
 -- the places that are taken, in the order in which their promises were learnt: those from the next one on, once all are taken, before the others
 abbrev pub order_of : ℕ → ℕ → List ℕ
 order_of count next = range_with_len next (count - next) ++ range_with_len 0 next
 
 -- the place behind this one, round the ring
-abbrev pub place_after : ℕ → ℕ → ℕ
-place_after most place = if place + 1 == most then 0 else place + 1
+abbrev pub index_after : ℕ → ℕ → ℕ
+index_after most index = if index + 1 == most then 0 else index + 1
 
 -- how many places are taken with one promise more
 abbrev pub count_after : ℕ → ℕ → ℕ
@@ -56,7 +56,7 @@ count_after most count = if count == most then most else count + 1
 
 -- the lists once there is room for one promise more: where all places were taken, this one is in none
 abbrev pub room_made : ℕ → ℕ → ℕ → List (List ℕ) → List (List ℕ)
-room_made most count place lists = if count == most then map (without place) lists else lists
+room_made most count index lists = if count == most then map (without index) lists else lists
 
 -- the list of each bucket has the places of its promises, in the order in which they were learnt
 pub record IsRing (most count next : ℕ) (buckets : Lists) (slots : List Slot) : Type 0 where
@@ -64,7 +64,7 @@ pub record IsRing (most count next : ℕ) (buckets : Lists) (slots : List Slot) 
   pub few : most ≤ 4096
   pub within : next < most
   pub taken : (count ≡ next) ⊎ (count ≡ most)
-  pub places : buckets.places ≡ most
+  pub slot_count : buckets.slot_count ≡ most
   pub lists : length buckets.lists ≡ most
   pub long : length slots ≡ most
   pub listed : (b : ℕ) → b < most → list_of buckets b ≡ filter (is_in_bucket most slots b) (order_of count next)

@@ -59,7 +59,7 @@ pub fn taught()
     ensures order { (most : ℕ) (h : List Entry) (i j : ℕ) (a b : Learnt) → slice_get (learnt most h) i ≡ Some a → slice_get (learnt most h) j ≡ Some b → i < j → a.entry < b.entry }
 {}
 
-/// What was told stays told: of the first entries it is a front of what all of them tell.
+/// What was told stays told: of the first entries it is a prefix of what all of them tell.
 pub fn prefixes()
     // The promises that were learnt stay, in their places; only whether they were used may change.
     ensures promises { (most : ℕ) (h more : List Entry) → (rest : List (ℕ × Promise)) × (map origin_of (learnt most (h ++ more)) ≡ map origin_of (learnt most h) ++ rest) }

@@ -1,7 +1,7 @@
 //! What is so of every payload, as contracts of functions that do nothing.
 
 ghost use Rattle.std.specs.Prelude.{◌≡◌, ◌↔◌, ◌+◌, ◌≤◌, ◌<◌, ◌^◌, ℕ, List, Some, None, length, slice_get};
-ghost use Rattle.tesla_base.specs.Front.{AreBytes};
+ghost use Rattle.tesla_base.specs.Prefix.{AreBytes};
 ghost use Rattle.tesla_base.specs.declared.names.Name.{Name};
 ghost use Rattle.tesla_early.specs.Payloads.{Promises, plain_text, promise_for, promise_of};
 ghost use Rattle.tesla_early.specs.Woven.{IsWovenAt, woven};

@@ -8,7 +8,7 @@ use sha2::{Digest, Sha256};
 use tesla_base::Name;
 
 /// The bytes before the body of a payload that promises: the byte 1, the name and the digest.
-pub(crate) const FRONT: usize = 39;
+pub(crate) const HEADER_LENGTH: usize = 39;
 
 /// What a payload promises: the name of a later message, and the SHA-256 digest of its payload (FIPS 180-4).
 #[derive(Clone, Copy, Debug, PartialEq, Eq)]
@@ -29,7 +29,7 @@ pub fn hash_of(payload: &[u8]) -> [u8; 32]
 pub fn promise_of(payload: &[u8]) -> Option<Promise>
     ensures { result ≡ promise_of payload.now }
 {
-    if payload.len() < FRONT || payload[0] != 1 {
+    if payload.len() < HEADER_LENGTH || payload[0] != 1 {
         return None;
     }
     let fields = &payload[1..];
@@ -38,6 +38,6 @@ pub fn promise_of(payload: &[u8]) -> Option<Promise>
         number: u16::from_be_bytes([fields[4], fields[5]]),
     };
     let mut hash = [0; 32];
-    hash.copy_from_slice(&fields[6..FRONT - 1]);
+    hash.copy_from_slice(&fields[6..HEADER_LENGTH - 1]);
     Some(Promise { name, hash })
 }

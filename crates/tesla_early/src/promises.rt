@@ -7,7 +7,7 @@ ghost use Rattle.tesla_base.specs.Members.{is_in};
 ghost use Rattle.tesla_links.specs.Lists.{list_of};
 ghost use Rattle.tesla_early.specs.Kept.{is_of_message, is_of_name, use_first_kept};
 ghost use Rattle.tesla_early.specs.Learnt.{last_of};
-ghost use Rattle.tesla_early.specs.Ring.{IsDigest, bucket_of, count_after, is_found, kept_in, place_after, room_made};
+ghost use Rattle.tesla_early.specs.Ring.{IsDigest, bucket_of, count_after, is_found, kept_in, index_after, room_made};
 
 use crate::{Promise, hash_of};
 use std::alloc::Global;
@@ -73,9 +73,9 @@ fn bucket(buckets: u32, name: Name) -> u32
 }
 
 /// The place behind this one, round a ring of so many places.
-fn place_after(most: u32, place: u32) -> u32
+fn index_after(most: u32, place: u32) -> u32
     requires { place < most }
-    ensures { result ≡ place_after most place }
+    ensures { result ≡ index_after most place }
 {
     if place + 1 == most { 0 } else { place + 1 }
 }
@@ -91,7 +91,7 @@ fn count_after(most: u32, count: u32) -> u32
 /// Makes room for one promise more: where all places are taken, this one is taken out of its bucket.
 fn make_room(buckets: &mut Links, most: u32, count: u32, place: u32)
     requires { count ≡ most → list_any (is_in place) buckets.old.lists ≡ true }
-    ensures places { buckets.new.places ≡ buckets.old.places }
+    ensures slot_count { buckets.new.slot_count ≡ buckets.old.slot_count }
     ensures lists { buckets.new.lists ≡ room_made most count place buckets.old.lists }
 {
     if count == most {
@@ -135,7 +135,7 @@ fn is_of_message(slot: &Slot, name: Name, payload: &[u8], digest: &mut Option<[u
 
 /// The first place of a bucket whose promise isn't used and is of a message of this name with this payload; `None` exactly
 /// where there is none. The payload is hashed once at most, and only where a promise of this name isn't used.
-fn find_place(
+fn find_index(
     buckets: &Links,
     slots: &[Slot],
     bucket: u32,
@@ -188,7 +188,7 @@ impl Promises {
             used: false,
         };
         self.count = count_after(self.most, self.count);
-        self.next = place_after(self.most, place);
+        self.next = index_after(self.most, place);
     }
 
     /// Uses the first promise that isn't used and is of a message of this name with this payload, and tells whether there is
@@ -199,7 +199,7 @@ impl Promises {
         ensures used { self.new.kept ≡ use_first_kept (is_of_message name (sha256 payload.now)) self.old.kept }
     {
         let bucket = bucket(self.most, name);
-        let Some(place) = find_place(&self.buckets, self.slots.as_slice(), bucket, name, payload)
+        let Some(place) = find_index(&self.buckets, self.slots.as_slice(), bucket, name, payload)
         else {
             return false;
         };

@@ -5,7 +5,7 @@ ghost use Rattle.std.specs.List.{All};
 ghost use Rattle.tesla_early.specs.Payloads.{promising_text};
 ghost use Rattle.tesla_early.specs.Woven.{woven, woven_payload};
 
-use crate::promise::FRONT;
+use crate::promise::HEADER_LENGTH;
 use crate::{Promise, hash_of};
 use std::alloc::Global;
 use tesla_base::{Name, NoMemory, Text};
@@ -17,26 +17,26 @@ pub const MOST_BODY: usize = 1161;
 const ROOM: usize = 1200;
 
 /// The bytes before the body of a payload that makes this promise.
-fn front_of(promise: &Promise) -> [u8; FRONT]
+fn header_of(promise: &Promise) -> [u8; HEADER_LENGTH]
     ensures { (body : List ℕ) → result ++ body ≡ promising_text promise.now body }
 {
-    let mut front = [1; FRONT];
-    front[1..5].copy_from_slice(&promise.name.interval.to_be_bytes());
-    front[5..7].copy_from_slice(&promise.name.number.to_be_bytes());
-    front[7..].copy_from_slice(&promise.hash);
-    front
+    let mut header = [1; HEADER_LENGTH];
+    header[1..5].copy_from_slice(&promise.name.interval.to_be_bytes());
+    header[5..7].copy_from_slice(&promise.name.number.to_be_bytes());
+    header[7..].copy_from_slice(&promise.hash);
+    header
 }
 
 /// The bytes and the body behind them.
-fn joined(alloc: Global, front: &[u8], body: &[u8]) -> Result<Text, NoMemory>
-    requires front { length front.now ≤ 39 }
+fn joined(alloc: Global, header: &[u8], body: &[u8]) -> Result<Text, NoMemory>
+    requires header { length header.now ≤ 39 }
     requires short { length body.now ≤ 1161 }
-    ensures { IfOk result (λ payload. payload ≡ front.now ++ body.now) }
+    ensures { IfOk result (λ payload. payload ≡ header.now ++ body.now) }
 {
-    let until = front.len() + body.len();
+    let until = header.len() + body.len();
     let mut payload = [0; ROOM];
-    payload[..front.len()].copy_from_slice(front);
-    payload[front.len()..until].copy_from_slice(body);
+    payload[..header.len()].copy_from_slice(header);
+    payload[header.len()..until].copy_from_slice(body);
     Text::new(alloc, &payload[..until])
 }
 
@@ -60,7 +60,7 @@ fn payload_of(
         name: names[gap - 1],
         hash: hash_of(behind[behind.len() - gap].bytes()),
     };
-    joined(alloc, &front_of(&promise), body)
+    joined(alloc, &header_of(&promise), body)
 }
 
 /// The payloads of messages with these names and bodies: each is its body behind the promise of the message that comes

@@ -10,21 +10,21 @@ use Rattle.tesla_desk.specs.Links.{after_letters}
 use Rattle.tesla_desk.specs.declared.link.Letter.{Letter}
 use Rattle.tesla_relay.specs.Posts.{PostSeen, with_datagrams}
 use Rattle.tesla_sender.specs.Made.{Call, Stream}
-use Rattle.tesla_feed.specs.Fed.{Event, Feeding, Rested, after_event, datagram_of, datagrams_from, datagrams_of, has_begun, is_all_told, is_unread, nothing_fed, reading_of}
-use Rattle.tesla_feed.specs.Feed.{AreNeeded, Heard, OpensAt, SendPosts, SendsPost, came_of, letter_of, rested_at}
-use Rattle.tesla_feed.specs.Steps.{Awaits, Goes, HandPosts, HandsPost, Hears, Makes, Misses, Rests, StandsFor, WaitsOn, fed_after, is_told_after}
+use Rattle.tesla_feed.specs.Fed.{Event, Feeding, Rested, after_event, datagram_of, datagrams_from, datagrams_of, has_begun, is_all_disclosed, is_unread, nothing_fed, reading_of}
+use Rattle.tesla_feed.specs.Feed.{AreNeeded, Heard, OpensAt, SendPosts, SendsPost, received_of, letter_of, rested_at}
+use Rattle.tesla_feed.specs.Steps.{Awaits, Goes, HandPosts, HandsPost, Hears, Makes, Misses, Rests, StandsFor, WaitsOn, fed_after, is_disclosed_after}
 use Rattle.tesla_feed.specs.declared.feeder.Feeder.{Feeder}
-use Rattle.tesla_feed.proofs.Kept.{told_is}
+use Rattle.tesla_feed.proofs.Kept.{disclosed_is}
 
 -- ---- posts
 
 sent_twice : (sent : Option (List (List ℕ))) (a b : List (List ℕ)) → with_datagrams (with_datagrams sent a) b ≡ with_datagrams sent (a ++ b)
 sent_twice None a b = refl
-sent_twice (Some front) a b = ap (λ (ds : List (List ℕ)). Some ds) (append_assoc front a b)
+sent_twice (Some prefix) a b = ap (λ (ds : List (List ℕ)). Some ds) (append_assoc prefix a b)
 
 sent_none : (sent : Option (List (List ℕ))) → with_datagrams sent [] ≡ sent
 sent_none None = refl
-sent_none (Some front) = ap (λ (ds : List (List ℕ)). Some ds) (append-nil front)
+sent_none (Some prefix) = ap (λ (ds : List (List ℕ)). Some ds) (append-nil prefix)
 
 differ : (false ≡ true) → ⊥
 differ e = absurd cc
@@ -199,17 +199,17 @@ hears_none stream first feeder failed left told posts goes = record { heard = []
 -- an item more was heard
 pub hears_more : (stream : Stream) (first : ℕ) (one : Heard) (feeder now : Feeder) (failed failed_now : List Bool) (left mid later : Option (List Letter)) (before then after : Option Ticking) (first_posts posts posts_now : List PostSeen) → Hears stream first feeder failed left mid before then first_posts posts
     → mid ≡ after_letters (one.letter ∷ []) later → Ticks then after one.reading
-    → TakesEvent (came_of one) feeder now posts posts_now failed failed_now → Hears stream first now failed_now left later before after first_posts posts_now
+    → TakesEvent (received_of one) feeder now posts posts_now failed failed_now → Hears stream first now failed_now left later before after first_posts posts_now
 hears_more stream first one feeder now failed failed_now left mid later before then after first_posts posts posts_now hears next ticks goes =
-    let events = map came_of hears.heard in
-    let more : map came_of (hears.heard ++ one ∷ []) ≡ events ++ came_of one ∷ [] = map_more came_of hears.heard one in
-    let readings : map reading_of (map came_of (hears.heard ++ one ∷ [])) ≡ map reading_of events ++ one.reading ∷ [] = ap (map reading_of) more ∙ map_more reading_of events (came_of one) in
-    let made : fed_after stream first nothing_fed (map came_of (hears.heard ++ one ∷ [])) ≡ after_event stream first (fed_after stream first nothing_fed events) (came_of one) = ap (fed_after stream first nothing_fed) more ∙ fed_more stream first nothing_fed events (came_of one) in
+    let events = map received_of hears.heard in
+    let more : map received_of (hears.heard ++ one ∷ []) ≡ events ++ received_of one ∷ [] = map_more received_of hears.heard one in
+    let readings : map reading_of (map received_of (hears.heard ++ one ∷ [])) ≡ map reading_of events ++ one.reading ∷ [] = ap (map reading_of) more ∙ map_more reading_of events (received_of one) in
+    let made : fed_after stream first nothing_fed (map received_of (hears.heard ++ one ∷ [])) ≡ after_event stream first (fed_after stream first nothing_fed events) (received_of one) = ap (fed_after stream first nothing_fed) more ∙ fed_more stream first nothing_fed events (received_of one) in
     record {
       heard = hears.heard ++ one ∷ [];
       gives = subst (λ (rs : List ℕ). Gives rs before after) (sym readings) (gives_more (map reading_of events) before then after one.reading hears.gives ticks);
       left_is = hears.left_is ∙ ap (after_letters (map letter_of hears.heard)) next ∙ letters_twice later (map letter_of hears.heard) (one.letter ∷ []) ∙ ap (λ (ls : List Letter). after_letters ls later) (sym (map_more letter_of hears.heard one));
-      goes = subst (λ (m : Feeding). Goes stream first m first_posts now posts_now failed_now) (sym made) (takes_as stream first (came_of one) (fed_after stream first nothing_fed events) first_posts feeder now posts posts_now failed failed_now goes hears.goes);
+      goes = subst (λ (m : Feeding). Goes stream first m first_posts now posts_now failed_now) (sym made) (takes_as stream first (received_of one) (fed_after stream first nothing_fed events) first_posts feeder now posts posts_now failed failed_now goes hears.goes);
     }
 
 -- and the next keys were made
@@ -218,7 +218,7 @@ hears_next stream first feeder now failed left later before after first_posts po
   heard = hears.heard;
   gives = hears.gives;
   left_is = hears.left_is;
-  goes = goes_next stream first (fed_after stream first nothing_fed (map came_of hears.heard)) first_posts feeder now posts failed next hears.goes;
+  goes = goes_next stream first (fed_after stream first nothing_fed (map received_of hears.heard)) first_posts feeder now posts failed next hears.goes;
 }
 
 -- ---- rests
@@ -227,13 +227,13 @@ hears_next stream first feeder now failed left later before after first_posts po
 pub rests_none : (stream : Stream) (first : ℕ) (made : Feeding) (first_posts : List PostSeen) (feeder : Feeder) (failed : List Bool) (told : Option Ticking) (posts : List PostSeen) → Goes stream first made first_posts feeder posts failed → Rests stream first made first_posts feeder failed told told posts
 rests_none stream first made first_posts feeder failed told posts goes = record { rests = []; gives = refl; needed = tt; goes = goes }
 
-needed_more : (stream : Stream) (first : ℕ) (made : Feeding) (rests : List ℕ) (reading : ℕ) → AreNeeded stream first made rests → is_all_told stream (fed_after stream first made (map rested_at rests)).log ≡ false → AreNeeded stream first made (rests ++ reading ∷ [])
+needed_more : (stream : Stream) (first : ℕ) (made : Feeding) (rests : List ℕ) (reading : ℕ) → AreNeeded stream first made rests → is_all_disclosed stream (fed_after stream first made (map rested_at rests)).log ≡ false → AreNeeded stream first made (rests ++ reading ∷ [])
 needed_more stream first made [] reading needed untold = (untold, tt)
 needed_more stream first made (one ∷ rests) reading needed untold = (needed.0, needed_more stream first (after_event stream first made (Rested one)) rests reading needed.1 untold)
 
 -- it rested once more
 pub rests_more : (stream : Stream) (first reading : ℕ) (made : Feeding) (first_posts : List PostSeen) (feeder now : Feeder) (failed failed_now : List Bool) (before then after : Option Ticking) (posts posts_now : List PostSeen) → Rests stream first made first_posts feeder failed before then posts
-    → is_told_after feeder.sender.stream feeder.message feeder.latest ≡ false → Ticks then after reading
+    → is_disclosed_after feeder.sender.stream feeder.message feeder.latest ≡ false → Ticks then after reading
     → TakesEvent (Rested reading) feeder now posts posts_now failed failed_now → Rests stream first made first_posts now failed_now before after posts_now
 rests_more stream first reading made first_posts feeder now failed failed_now before then after posts posts_now rests untold ticks goes =
     let events = map rested_at rests.rests in
@@ -244,7 +244,7 @@ rests_more stream first reading made first_posts feeder now failed failed_now be
     record {
       rests = rests.rests ++ reading ∷ [];
       gives = subst (λ (rs : List ℕ). Gives rs before after) (sym readings) (gives_more (map reading_of events) before then after reading rests.gives ticks);
-      needed = needed_more stream first made rests.rests reading rests.needed (told_is stream first feeder mid rests.goes.stands ∙ ap (λ (s : Stream). is_told_after s feeder.message feeder.latest) (sym rests.goes.stands.stream_is) ∙ untold);
+      needed = needed_more stream first made rests.rests reading rests.needed (disclosed_is stream first feeder mid rests.goes.stands ∙ ap (λ (s : Stream). is_disclosed_after s feeder.message feeder.latest) (sym rests.goes.stands.stream_is) ∙ untold);
       goes = subst (λ (m : Feeding). Goes stream first m first_posts now posts_now failed_now) (sym all) (takes_as stream first (Rested reading) mid first_posts feeder now posts posts_now failed failed_now goes rests.goes);
     }
 

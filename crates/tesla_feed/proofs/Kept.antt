@@ -7,16 +7,16 @@ use Rattle.std.proofs.lemmas.List.Sums.{fold-append, sum_by-append}
 use Rattle.tesla_base.specs.declared.names.Name.{Name}
 use Rattle.tesla_clock.specs.Schedule.{Times}
 use Rattle.tesla_frame.specs.Frame.{Frame, frame_text}
-use Rattle.tesla_sender.specs.Made.{Call, Message, Disclose, Chain, Stream, any_due, chains_of, disclosed, disclosed_after, disclosure_frame, frame_in, framed, index_told, interval_at, interval_in, is_message_of, latest_of, made_disclosure, made_message, message_frame, messages_of, name_after, name_of, tells_newer}
-use Rattle.tesla_sender.specs.Stands.{Answers, State, gone_on, number_at, sent_in, told_disclosure, told_message}
+use Rattle.tesla_sender.specs.Made.{Call, Message, Disclose, Chain, Stream, any_due, chains_of, disclosed, disclosed_after, disclosure_frame, frame_in, framed, index_disclosed, interval_at, interval_in, is_message_of, latest_of, made_disclosure, made_message, message_frame, messages_of, name_after, name_of, tells_newer}
+use Rattle.tesla_sender.specs.Stands.{Answers, State, gone_on, number_at, sent_in, returned_disclosure, returned_message}
 use Rattle.tesla_sender.specs.declared.refusal.DiscloseRefusal.{DiscloseRefusal}
 use Rattle.tesla_sender.specs.declared.refusal.DiscloseRefusal.TheVariants as undisclosed
 use Rattle.tesla_sender.specs.declared.refusal.SendRefusal.{SendRefusal}
 use Rattle.tesla_sender.specs.declared.refusal.SendRefusal.TheVariants as unsent
 use Rattle.tesla_sender.proofs.Logs.{named, spells_answered}
 use Rattle.tesla_desk.specs.declared.link.Letter.TheVariants as letters
-use Rattle.tesla_feed.specs.Fed.{counts_of, Came, Feeding, after_event, after_judged, after_none, datagram_of, has_begun, is_all_told, is_due, is_unread, last_message, latest_from, message_interval, name_from, tells_more, told_by, with_call, with_refusal, with_unread}
-use Rattle.tesla_feed.specs.Steps.{Makes, StandsFor, after_item, after_refusal, after_unread, is_due_after, is_told_after, one_more}
+use Rattle.tesla_feed.specs.Fed.{counts_of, Received, Feeding, after_event, after_judged, after_none, datagram_of, has_begun, is_all_disclosed, is_due, is_unread, last_message, latest_from, message_interval, name_from, tells_more, disclosed_by, with_call, with_refusal, with_unread}
+use Rattle.tesla_feed.specs.Steps.{Makes, StandsFor, after_item, after_refusal, after_unread, is_due_after, is_disclosed_after, one_more}
 use Rattle.tesla_feed.specs.declared.counts.FeedCounts.{FeedCounts}
 use Rattle.tesla_feed.specs.declared.feeder.Feeder.{Feeder}
 use Rattle.tesla_feed.proofs.Counting.{disclosure_counts, message_counts, refused_counts, unread_counts}
@@ -32,12 +32,12 @@ messages_more times interval log call = sum_by-append (λ c. cond {A = ℕ} (is_
 last_more : (times : Times) (log : List Call) (call : Call) → last_message times (log ++ call ∷ []) ≡ message_interval times (last_message times log) call
 last_more times log call = fold-append (message_interval times) 0 log (call ∷ [])
 
-told_more : (times : Times) (log : List Call) (call : Call) (chain : Chain) → told_by times (log ++ call ∷ []) chain ≡ max (told_by times log chain) (index_told (interval_in times call) chain)
-told_more times log call chain = fold-append (λ (most : ℕ) (call : Call). max most (index_told (interval_in times call) chain)) 0 log (call ∷ [])
+disclosed_more : (times : Times) (log : List Call) (call : Call) (chain : Chain) → disclosed_by times (log ++ call ∷ []) chain ≡ max (disclosed_by times log chain) (index_disclosed (interval_in times call) chain)
+disclosed_more times log call chain = fold-append (λ (most : ℕ) (call : Call). max most (index_disclosed (interval_in times call) chain)) 0 log (call ∷ [])
 
 -- a call that doesn't go backward tells at least what was told
-told_last : (times : Times) (log : List Call) (call : Call) (chain : Chain) (latest : ℕ) → told_by times log chain ≡ index_told latest chain → latest ≤ interval_in times call → told_by times (log ++ call ∷ []) chain ≡ index_told (interval_in times call) chain
-told_last times log call chain latest told later = omega (arith, told_more times log call chain, told, later)
+disclosed_last : (times : Times) (log : List Call) (call : Call) (chain : Chain) (latest : ℕ) → disclosed_by times log chain ≡ index_disclosed latest chain → latest ≤ interval_in times call → disclosed_by times (log ++ call ∷ []) chain ≡ index_disclosed (interval_in times call) chain
+disclosed_last times log call chain latest told later = omega (arith, disclosed_more times log call chain, told, later)
 
 -- ---- names
 
@@ -171,9 +171,9 @@ message_stands stream first feeder now made reading payload name stands from sen
           let none : messages_of times after made.log ≡ 0 = stands.none_later after (omega (arith, later, at, less)) in
           omega (arith, messages_more times after made.log call, no, none);
       latest = latest ∙ sym (latest_more times made.log call);
-      told = λ chain.
-          let told = told_last times made.log call chain feeder.latest (stands.told chain) (omega (arith, stands.latest, of.later)) in
-          told ∙ ap (λ i. index_told i chain) (sym latest);
+      keys_disclosed = λ chain.
+          let told = disclosed_last times made.log call chain feeder.latest (stands.keys_disclosed chain) (omega (arith, stands.latest, of.later)) in
+          told ∙ ap (λ i. index_disclosed i chain) (sym latest);
       message = message ∙ sym (last_more times made.log call);
       counts = counts ∙ ap (λ (c : FeedCounts). let it : FeedCounts = record c { messages = one_more c.messages } in it) stands.counts ∙ sym (message_counts made reading payload);
     }
@@ -203,18 +203,18 @@ pub due_is : (stream : Stream) (first : ℕ) (feeder : Feeder) (made : Feeding) 
 due_is stream first feeder made reading read stands =
     let times = stream.setup.times in
     let interval = interval_at times reading in
-    let newer : tells_more stream made.log interval ≡ tells_newer feeder.latest interval (chains_of stream) = any_same (λ chain. nat_lt (told_by times made.log chain) (index_told interval chain)) (λ chain. nat_lt (index_told feeder.latest chain) (index_told interval chain)) (chains_of stream) (λ chain. ap (λ n. nat_lt n (index_told interval chain)) (stands.told chain)) in
+    let newer : tells_more stream made.log interval ≡ tells_newer feeder.latest interval (chains_of stream) = any_same (λ chain. nat_lt (disclosed_by times made.log chain) (index_disclosed interval chain)) (λ chain. nat_lt (index_disclosed feeder.latest chain) (index_disclosed interval chain)) (chains_of stream) (λ chain. ap (λ n. nat_lt n (index_disclosed interval chain)) (stands.keys_disclosed chain)) in
     ap (due_where stream first made.log reading) read ∙ ap (λ (l : ℕ). nat_le first interval && (nat_le l interval && tells_more stream made.log interval)) (sym stands.latest) ∙ ap (λ (b : Bool). nat_le first interval && (nat_le feeder.latest interval && b)) newer
 
--- whether all keys were told is judged by what a feeder keeps
-pub told_is : (stream : Stream) (first : ℕ) (feeder : Feeder) (made : Feeding) → StandsFor stream first feeder made → is_all_told stream made.log ≡ is_told_after stream feeder.message feeder.latest
-told_is stream first feeder made stands =
+-- whether all keys were disclosed is judged by what a feeder keeps
+pub disclosed_is : (stream : Stream) (first : ℕ) (feeder : Feeder) (made : Feeding) → StandsFor stream first feeder made → is_all_disclosed stream made.log ≡ is_disclosed_after stream feeder.message feeder.latest
+disclosed_is stream first feeder made stands =
     let times = stream.setup.times in
-    ap (λ (m : ℕ). list_all (λ chain. nat_le m (told_by times made.log chain)) (chains_of stream)) (sym stands.message)
-    ∙ all_same (λ chain. nat_le feeder.message (told_by times made.log chain)) (λ chain. nat_le feeder.message (index_told feeder.latest chain)) (chains_of stream) (λ chain. ap (nat_le feeder.message) (stands.told chain))
+    ap (λ (m : ℕ). list_all (λ chain. nat_le m (disclosed_by times made.log chain)) (chains_of stream)) (sym stands.message)
+    ∙ all_same (λ chain. nat_le feeder.message (disclosed_by times made.log chain)) (λ chain. nat_le feeder.message (index_disclosed feeder.latest chain)) (chains_of stream) (λ chain. ap (nat_le feeder.message) (stands.keys_disclosed chain))
 
 -- where one is due, some chain has a key to disclose
-newer_one : (most interval : ℕ) (chain : Chain) → nat_lt most (index_told interval chain) ≡ true → nat_lt chain.row.delay interval ≡ true
+newer_one : (most interval : ℕ) (chain : Chain) → nat_lt most (index_disclosed interval chain) ≡ true → nat_lt chain.row.delay interval ≡ true
 newer_one most interval chain newer = lt-ltb _ _ (omega (arith, ltb-true _ _ newer))
 
 or_ways : (a b c d : Bool) → (a ≡ true → c ≡ true) → (b ≡ true → d ≡ true) → (a || b) ≡ true → (c || d) ≡ true
@@ -223,10 +223,10 @@ or_ways false b true d left right is = refl
 or_ways false b false d left right is = right is
 
 -- the greatest index that was told is a function of the chain
-any_newer : (most : Chain → ℕ) (interval : ℕ) (chains : List Chain) → list_any (λ chain. nat_lt (most chain) (index_told interval chain)) chains ≡ true → any_due interval chains ≡ true
+any_newer : (most : Chain → ℕ) (interval : ℕ) (chains : List Chain) → list_any (λ chain. nat_lt (most chain) (index_disclosed interval chain)) chains ≡ true → any_due interval chains ≡ true
 any_newer most interval [] newer = absurd cc
 any_newer most interval (chain ∷ chains) newer =
-    or_ways (nat_lt (most chain) (index_told interval chain)) (list_any (λ c. nat_lt (most c) (index_told interval c)) chains) (nat_lt chain.row.delay interval) (any_due interval chains) (newer_one (most chain) interval chain) (any_newer most interval chains) newer
+    or_ways (nat_lt (most chain) (index_disclosed interval chain)) (list_any (λ c. nat_lt (most c) (index_disclosed interval c)) chains) (nat_lt chain.row.delay interval) (any_due interval chains) (newer_one (most chain) interval chain) (any_newer most interval chains) newer
 
 and_ways : (a b c : Bool) → (a && (b && c)) ≡ true → (a ≡ true) × (b ≡ true) × (c ≡ true)
 and_ways true true true is = (refl, refl, refl)
@@ -243,7 +243,7 @@ pub record IsDue (stream : Stream) (first latest interval : ℕ) : Type 0 where
 pub due_tells : (stream : Stream) (first latest interval : ℕ) → is_due_after stream first latest interval ≡ true → IsDue stream first latest interval
 due_tells stream first latest interval due =
     let ways = and_ways (nat_le first interval) (nat_le latest interval) (tells_newer latest interval (chains_of stream)) due in
-    record { begun = leb-true _ _ ways.0; later = leb-true _ _ ways.1; some = any_newer (λ chain. index_told latest chain) interval (chains_of stream) ways.2 }
+    record { begun = leb-true _ _ ways.0; later = leb-true _ _ ways.1; some = any_newer (λ chain. index_disclosed latest chain) interval (chains_of stream) ways.2 }
 
 begun_ways : (unread begun : Bool) → (not unread && begun) ≡ true → (unread ≡ false) × (begun ≡ true)
 begun_ways false true is = (refl, refl)
@@ -265,7 +265,7 @@ log_tells stream first log reading due =
     let interval = interval_at times reading in
     let ways = and_ways (has_begun times first reading) (nat_le (latest_of times log) interval) (tells_more stream log interval) due in
     let begun = begun_ways (is_unread reading) (nat_le first interval) ways.0 in
-    record { begun = leb-true _ _ begun.1; later = leb-true _ _ ways.1; some = any_newer (told_by times log) interval (chains_of stream) ways.2 }
+    record { begun = leb-true _ _ begun.1; later = leb-true _ _ ways.1; some = any_newer (disclosed_by times log) interval (chains_of stream) ways.2 }
 
 abbrev discloses : Bool → Bool → DiscloseRefusal → ℕ → Result ℕ DiscloseRefusal
 discloses backward due refusal interval = if backward then Err refusal else if due then Ok interval else Err undisclosed.NothingDue
@@ -290,7 +290,7 @@ kept_stands stream first feeder made left frame reading counts refused unread st
   used = stands.used;
   none_later = stands.none_later;
   latest = stands.latest;
-  told = stands.told;
+  keys_disclosed = stands.keys_disclosed;
   message = stands.message;
   counts = counted;
 }
@@ -322,18 +322,18 @@ makes_none stream first feeder made reading read due stands =
 
 -- a disclosure that is due isn't refused
 pub never_refused : (stream : Stream) (first : ℕ) (feeder : Feeder) (made : Feeding) (reading : ℕ) (refusal : DiscloseRefusal) (before now : List ℕ) → StandsFor stream first feeder made → is_due_after stream first feeder.latest (interval_at stream.setup.times reading) ≡ true
-    → Answers (err_disclosed refusal) (told_disclosure feeder.sender reading) before now → ⊥
+    → Answers (err_disclosed refusal) (returned_disclosure feeder.sender reading) before now → ⊥
 never_refused stream first feeder made reading refusal before now stands due answers =
     let old = feeder.sender in
     let interval = interval_at stream.setup.times reading in
     let tells = due_tells stream first feeder.latest interval due in
-    let told : told_disclosure old reading ≡ disclosed stream (disclosed_after stream.setup.times old.latest (any_due interval (chains_of stream)) reading) = ap (λ (s : Stream). disclosed s (disclosed_after s.setup.times old.latest (any_due (interval_at s.setup.times reading) (chains_of s)) reading)) stands.stream_is in
+    let told : returned_disclosure old reading ≡ disclosed stream (disclosed_after stream.setup.times old.latest (any_due interval (chains_of stream)) reading) = ap (λ (s : Stream). disclosed s (disclosed_after s.setup.times old.latest (any_due (interval_at s.setup.times reading) (chains_of s)) reading)) stands.stream_is in
     let P : Result Frame DiscloseRefusal → Type 0 = λ m. Answers (err_disclosed refusal) m before now in
     subst P (told ∙ ap (disclosed stream) (due_accepted stream old.latest reading (omega (arith, stands.from, stands.latest, tells.begun, tells.later)) tells.some)) answers
 
 -- a disclosure that is due is made
 pub makes_disclosure : (stream : Stream) (first : ℕ) (feeder now : Feeder) (made : Feeding) (reading size : ℕ) (before : List ℕ) → is_unread reading ≡ false → is_due_after stream first feeder.latest (interval_at stream.setup.times reading) ≡ true → StandsFor stream first feeder made
-    → Answers (ok_disclosed size) (told_disclosure feeder.sender reading) before now.frame → now.sender ≡ gone_on feeder.sender (interval_at stream.setup.times reading) now.sender.left
+    → Answers (ok_disclosed size) (returned_disclosure feeder.sender reading) before now.frame → now.sender ≡ gone_on feeder.sender (interval_at stream.setup.times reading) now.sender.left
     → now.first ≡ feeder.first → now.latest ≡ interval_at stream.setup.times reading → now.message ≡ feeder.message → now.counts ≡ record feeder.counts { disclosures = one_more feeder.counts.disclosures }
     → Makes stream first made (after_none stream first made reading) now (Some size)
 unfolding made_disclosure
@@ -345,8 +345,8 @@ makes_disclosure stream first feeder now made reading size before read due stand
     let tells = due_tells stream first feeder.latest interval due in
     let after : after_none stream first made reading ≡ with_call made call = ap (disclosed_where made reading) (due_is stream first feeder made reading read stands ∙ due) in
     let later : old.latest ≤ interval = omega (arith, stands.from, stands.latest, tells.begun, tells.later) in
-    let told : told_disclosure old reading ≡ disclosed stream (disclosed_after times old.latest (any_due interval (chains_of stream)) reading) = ap (λ (s : Stream). disclosed s (disclosed_after s.setup.times old.latest (any_due (interval_at s.setup.times reading) (chains_of s)) reading)) stands.stream_is in
-    let accepted : told_disclosure old reading ≡ Ok (disclosure_frame stream.setup (chains_of stream) interval) = told ∙ ap (disclosed stream) (due_accepted stream old.latest reading later tells.some) in
+    let told : returned_disclosure old reading ≡ disclosed stream (disclosed_after times old.latest (any_due interval (chains_of stream)) reading) = ap (λ (s : Stream). disclosed s (disclosed_after s.setup.times old.latest (any_due (interval_at s.setup.times reading) (chains_of s)) reading)) stands.stream_is in
+    let accepted : returned_disclosure old reading ≡ Ok (disclosure_frame stream.setup (chains_of stream) interval) = told ∙ ap (disclosed stream) (due_accepted stream old.latest reading later tells.some) in
     let P : Result Frame DiscloseRefusal → Type 0 = λ m. Answers (ok_disclosed size) m before now.frame in
     let written = spells_answered (ok_disclosed size) (ok_frame (disclosure_frame stream.setup (chains_of stream) interval)) before now.frame (subst P accepted answers) in
     let framed_is : made_disclosure stream made.log reading ≡ Ok (disclosure_frame stream.setup (chains_of stream) interval) = ap (disclosed stream) (due_accepted stream (latest_of times made.log) reading (omega (arith, stands.latest, tells.later)) tells.some) in
@@ -365,7 +365,7 @@ makes_disclosure stream first feeder now made reading size before read due stand
         used = omega (arith, used, counted, messages_more times interval made.log call, moved);
         none_later = λ after less. (let none : messages_of times after made.log ≡ 0 = stands.none_later after (omega (arith, later, at, less)) in omega (arith, messages_more times after made.log call, none));
         latest = latest ∙ sym (latest_more times made.log call);
-        told = λ chain. told_last times made.log call chain feeder.latest (stands.told chain) tells.later ∙ ap (λ i. index_told i chain) (sym latest);
+        keys_disclosed = λ chain. disclosed_last times made.log call chain feeder.latest (stands.keys_disclosed chain) tells.later ∙ ap (λ i. index_disclosed i chain) (sym latest);
         message = message ∙ stands.message ∙ sym (last_more times made.log call);
         counts = counts ∙ ap (λ (c : FeedCounts). let it : FeedCounts = record c { disclosures = one_more c.disclosures } in it) stands.counts ∙ sym (disclosure_counts made reading);
       };
@@ -374,18 +374,18 @@ makes_disclosure stream first feeder now made reading size before read due stand
 
 -- a message that came while the clock was read is judged by its name
 pub read_judged : (stream : Stream) (first : ℕ) (made : Feeding) (reading : ℕ) (payload : List ℕ) → is_unread reading ≡ false
-    → after_event stream first made (Came reading (letters.Datagram payload)) ≡ after_judged stream first made reading payload (name_from stream.setup.times first made.log reading payload)
+    → after_event stream first made (Received reading (letters.Datagram payload)) ≡ after_judged stream first made reading payload (name_from stream.setup.times first made.log reading payload)
 read_judged stream first made reading payload read = ap (λ (unread : Bool). if unread then with_unread made else after_judged stream first made reading payload (name_from stream.setup.times first made.log reading payload)) read
 
 -- a message is sent
 pub makes_message : (stream : Stream) (first : ℕ) (feeder now : Feeder) (made : Feeding) (reading : ℕ) (payload : List ℕ) (size : ℕ) (before : List ℕ) → is_unread reading ≡ false → StandsFor stream first feeder made
-    → Answers (ok_size size) (told_message feeder.sender reading payload) before now.frame → now.sender ≡ sent_in feeder.sender (interval_at stream.setup.times reading) now.sender.left
+    → Answers (ok_size size) (returned_message feeder.sender reading payload) before now.frame → now.sender ≡ sent_in feeder.sender (interval_at stream.setup.times reading) now.sender.left
     → now.first ≡ feeder.first → now.latest ≡ interval_at stream.setup.times reading → now.message ≡ interval_at stream.setup.times reading → now.counts ≡ record feeder.counts { messages = one_more feeder.counts.messages }
-    → Makes stream first made (after_event stream first made (Came reading (letters.Datagram payload))) now (Some size)
+    → Makes stream first made (after_event stream first made (Received reading (letters.Datagram payload))) now (Some size)
 makes_message stream first feeder now made reading payload size before read stands answers sender first_is latest message counts =
     let times = stream.setup.times in
     let old = feeder.sender in
-    let told : told_message old reading payload ≡ framed stream payload (name_after times old.latest (number_at old.latest old.used (interval_at times reading)) reading payload) = ap (λ (s : Stream). framed s payload (name_after s.setup.times old.latest (number_at old.latest old.used (interval_at s.setup.times reading)) reading payload)) stands.stream_is in
+    let told : returned_message old reading payload ≡ framed stream payload (name_after times old.latest (number_at old.latest old.used (interval_at times reading)) reading payload) = ap (λ (s : Stream). framed s payload (name_after s.setup.times old.latest (number_at old.latest old.used (interval_at s.setup.times reading)) reading payload)) stands.stream_is in
     let P : Result Frame SendRefusal → Type 0 = λ m. Answers (ok_size size) m before now.frame in
     let found = message_datagram stream first feeder made reading payload size before now.frame stands (subst P told answers) in
     let Q : Feeding → Type 0 = λ a. Makes stream first made a now (Some size) in
@@ -400,9 +400,9 @@ feeder_with feeder sender frame counts = record { sender = sender; frame = frame
 
 -- a message is refused, and a disclosure may be due
 pub makes_refused : (feeder now : Feeder) (made : Feeding) (reading : ℕ) (payload : List ℕ) (refusal : SendRefusal) (frame : List ℕ) (sender : State) (counts : FeedCounts) (result : Option ℕ) → is_unread reading ≡ false → StandsFor feeder.sender.stream feeder.first feeder made
-    → Answers (err_size refusal) (told_message feeder.sender reading payload) feeder.frame frame → sender ≡ feeder.sender → counts ≡ after_refusal feeder.counts refusal
+    → Answers (err_size refusal) (returned_message feeder.sender reading payload) feeder.frame frame → sender ≡ feeder.sender → counts ≡ after_refusal feeder.counts refusal
     → ((mid : Feeding) → StandsFor sender.stream feeder.first (feeder_with feeder sender frame counts) mid → Makes sender.stream feeder.first mid (after_none sender.stream feeder.first mid reading) now result)
-    → Makes feeder.sender.stream feeder.first made (after_event feeder.sender.stream feeder.first made (Came reading (letters.Datagram payload))) now result
+    → Makes feeder.sender.stream feeder.first made (after_event feeder.sender.stream feeder.first made (Received reading (letters.Datagram payload))) now result
 makes_refused feeder now made reading payload refusal frame sender counts result read stands answers same counted discloses =
     let stream = feeder.sender.stream in
     let first = feeder.first in

@@ -15,7 +15,7 @@ use Rattle.tesla_sender.specs.Stands.{AreAcceptedAfter, IsAccepted}
 use Rattle.tesla_sender.specs.declared.refusal.DiscloseRefusal.{DiscloseRefusal}
 use Rattle.tesla_sender.specs.declared.refusal.SendRefusal.{SendRefusal}
 use Rattle.tesla_sender.proofs.Logs.{named}
-use Rattle.tesla_feed.specs.Fed.{Came, Event, Feeding, Rested, after_event, after_judged, after_none, fed, first_interval, has_ended, is_due, is_unread, latest_from, name_from, nothing_fed, with_call, with_refusal, with_unread}
+use Rattle.tesla_feed.specs.Fed.{Received, Event, Feeding, Rested, after_event, after_judged, after_none, fed, first_interval, has_ended, is_due, is_unread, latest_from, name_from, nothing_fed, with_call, with_refusal, with_unread}
 use Rattle.tesla_feed.specs.Fed as feeds
 use Rattle.tesla_feed.specs.Laws.{FeedsApart, FeedsAreAccepted, FeedsEnd}
 use Rattle.tesla_feed.proofs.Kept.{due_accepted, log_tells, made_name}
@@ -44,10 +44,10 @@ kept_unread P made after true more now = now
 kept_unread P made after false more now = more refl
 
 kept_by_event : (stream : Stream) (first : ℕ) (At : ℕ → Type 0) (P : List Call → Type 0) (made : Feeding) (event : Event) → KeptByCalls stream first At P → At (feeds.reading_of event) → P made.log → P (after_event stream first made event).log
-kept_by_event stream first At P made (Came reading (letters.Datagram bytes)) kept at now =
+kept_by_event stream first At P made (Received reading (letters.Datagram bytes)) kept at now =
     let name = name_from stream.setup.times first made.log reading bytes in
     kept_unread P made (after_judged stream first made reading bytes name) (is_unread reading) (λ read. kept_by_judged stream first At P made reading bytes name refl kept at read now) now
-kept_by_event stream first At P made (Came reading letters.Quiet) kept at now = kept_by_none stream first At P made reading kept at now
+kept_by_event stream first At P made (Received reading letters.Quiet) kept at now = kept_by_none stream first At P made reading kept at now
 kept_by_event stream first At P made (Rested reading) kept at now = kept_by_none stream first At P made reading kept at now
 
 -- holds of the whole log, where it held of the log before

@@ -8,20 +8,20 @@ use Rattle.tesla_desk.specs.declared.link.Letter.{Letter}
 use Rattle.tesla_relay.specs.Posts.{PostSeen, with_datagrams}
 use Rattle.tesla_sender.specs.Made.{Stream}
 use Rattle.tesla_feed.specs.Fed.{Event, Feeding, after_event, fed, first_interval, has_begun, has_ended, nothing_fed, reading_of}
-use Rattle.tesla_feed.specs.Feed.{AreNeeded, Feeds, SendPosts, came_of, has_failed, rested_at}
-use Rattle.tesla_feed.specs.Steps.{Awaits, Goes, Hears, Rests, StandsFor, StopsHearing, fed_after, is_told_after}
+use Rattle.tesla_feed.specs.Feed.{AreNeeded, Feeds, SendPosts, received_of, has_failed, rested_at}
+use Rattle.tesla_feed.specs.Steps.{Awaits, Goes, Hears, Rests, StandsFor, StopsHearing, fed_after, is_disclosed_after}
 use Rattle.tesla_feed.specs.declared.feeder.Feeder.{Feeder}
 use Rattle.tesla_feed.specs.declared.feeding.FeedEnd.{FeedEnd}
 use Rattle.tesla_feed.specs.declared.hearing.Hearing.{Hearing}
 use Rattle.tesla_feed.specs.declared.hearing.Hearing.TheVariants as hearings
 use Rattle.tesla_feed.proofs.Going.{both_ways}
-use Rattle.tesla_feed.proofs.Kept.{noted_stands, told_is}
+use Rattle.tesla_feed.proofs.Kept.{noted_stands, disclosed_is}
 
 -- ---- the beginning
 
 unsent : (sent : Option (List (List ℕ))) → sent ≡ with_datagrams sent []
 unsent None = refl
-unsent (Some front) = ap (λ (ds : List (List ℕ)). Some ds) (sym (append-nil front))
+unsent (Some prefix) = ap (λ (ds : List (List ℕ)). Some ds) (sym (append-nil prefix))
 
 -- nothing was sent, and no post has failed
 pub none_sent : {A : Type 0} (f : A → PostSeen) (xs : List A) (marks : List Bool) → length xs ≤ length marks → list_all not marks ≡ true → SendPosts [] (map f xs) (map f xs) (take (length xs) marks)
@@ -73,7 +73,7 @@ pub record Parts (stream : Stream) (opening : ℕ) (opened begun heard told : Fe
   pub stops : StopsHearing hearing marks later
   pub rests : (made : Feeding) (first_posts : List PostSeen) → Goes heard.sender.stream heard.first made first_posts heard mid marks → Rests heard.sender.stream heard.first made first_posts told failed third last now
   pub stays : list_all has_failed marks ≡ true → failed ≡ marks
-  pub ends : list_all has_failed failed ≡ false → is_told_after told.sender.stream told.message told.latest ≡ true
+  pub ends : list_all has_failed failed ≡ false → is_disclosed_after told.sender.stream told.message told.latest ≡ true
 
 -- what holds of a stream and a first interval holds of equal ones
 of_equal : (P : Stream → ℕ → Type 0) (own stream : Stream) (first from : ℕ) → own ≡ stream → first ≡ from → P own first → P stream from
@@ -88,16 +88,16 @@ feeds_all stream opening opened begun heard told marks failed hearing result lef
     let same_first : begun.first ≡ from = ap (λ (f : Feeder). f.first) parts.awaits.same ∙ parts.stands.first_is in
     let hears : Hears stream from heard marks left later second third posts mid =
     of_equal (λ s f. Hears s f heard marks left later second third posts mid) begun.sender.stream stream begun.first from same_stream same_first parts.hears in
-    let came = map came_of hears.heard in
-    let made = fed_after stream from nothing_fed came in
+    let received = map received_of hears.heard in
+    let made = fed_after stream from nothing_fed received in
     let goes = hears.goes in
     let P : Stream → ℕ → Type 0 = λ s f. Goes s f made posts heard mid marks → Rests s f made posts told failed third last now in
     let rests : Rests stream from made posts told failed third last now = of_equal P heard.sender.stream stream heard.first from goes.stands.stream_is goes.stands.first_is (parts.rests made posts) goes in
     let rested = map rested_at rests.rests in
     let all = fed_after stream from made rested in
-    let events = came ++ rested in
-    let whole : all ≡ fed stream opening events = sym (lasting_fed stream opening events parts.lasts ∙ fold-append (after_event stream from) nothing_fed came rested) in
-    let readings : Gives (map reading_of events) second last = subst (λ (rs : List ℕ). Gives rs second last) (sym (map_both reading_of came rested)) (gives_both (map reading_of came) (map reading_of rested) second third last hears.gives rests.gives) in
+    let events = received ++ rested in
+    let whole : all ≡ fed stream opening events = sym (lasting_fed stream opening events parts.lasts ∙ fold-append (after_event stream from) nothing_fed received rested) in
+    let readings : Gives (map reading_of events) second last = subst (λ (rs : List ℕ). Gives rs second last) (sym (map_both reading_of received rested)) (gives_both (map reading_of received) (map reading_of rested) second third last hears.gives rests.gives) in
     let early = parts.awaits.early in
     let begins = parts.awaits.begun in
     record {
@@ -113,8 +113,8 @@ feeds_all stream opening opened begun heard told marks failed hearing result lef
       made_is = whole;
       failed = failed;
       posts_are = rests.goes.sends;
-      needed = subst (λ (m : Feeding). AreNeeded stream from m rests.rests) (sym (lasting_fed stream opening came parts.lasts)) rests.needed;
-      told = λ some. told_is stream from told all rests.goes.stands ∙ ap (λ (s : Stream). is_told_after s told.message told.latest) (sym rests.goes.stands.stream_is) ∙ parts.ends some;
+      needed = subst (λ (m : Feeding). AreNeeded stream from m rests.rests) (sym (lasting_fed stream opening received parts.lasts)) rests.needed;
+      keys_disclosed = λ some. disclosed_is stream from told all rests.goes.stands ∙ ap (λ (s : Stream). is_disclosed_after s told.message told.latest) (sym rests.goes.stands.stream_is) ∙ parts.ends some;
       ended = λ some fault. ended hearing marks failed later parts.stops (link_failed fault) parts.stays some;
       counts = counts ∙ rests.goes.stands.counts;
       some_failed = post_failed;

@@ -7,7 +7,7 @@ use Rattle.tesla_desk.specs.declared.link.Letter.{Letter}
 use Rattle.tesla_desk.specs.declared.link.Letter.TheVariants as letters
 use Rattle.tesla_frame.specs.Frame.{frame_text}
 use Rattle.tesla_relay.specs.Counts.{counted}
-use Rattle.tesla_sender.specs.Made.{Call, Message, Disclose, Chain, Stream, chains_of, frame_made, index_told, interval_at, interval_in, latest_of, messages_of, name_after}
+use Rattle.tesla_sender.specs.Made.{Call, Message, Disclose, Chain, Stream, chains_of, frame_made, index_disclosed, interval_at, interval_in, latest_of, messages_of, name_after}
 use Rattle.tesla_sender.specs.declared.refusal.SendRefusal.{SendRefusal}
 use Rattle.tesla_sender.specs.declared.refusal.SendRefusal.TheVariants as unsent
 use Rattle.tesla_feed.specs.declared.counts.FeedCounts.{FeedCounts}
@@ -16,11 +16,11 @@ use Rattle.tesla_feed.specs.declared.counts.FeedCounts.{FeedCounts}
 
 -- at one reading of the clock an item left the link, or the gate had rested
 pub data Event : Type 0 where
-  Came : (reading : ℕ) (letter : Letter) → Event
+  Received : (reading : ℕ) (letter : Letter) → Event
   Rested : (reading : ℕ) → Event
 
 abbrev pub reading_of : Event → ℕ
-reading_of (Came reading letter) = reading
+reading_of (Received reading letter) = reading
 reading_of (Rested reading) = reading
 
 -- a clock that can't be read gives this in place of a reading: no call is made at it
@@ -55,12 +55,12 @@ name_from times first log reading payload = name_after times (latest_from times 
 -- ---- keys
 
 -- the greatest index of a key of the chain that the frames of these calls tell, 0 where they tell none
-abbrev pub told_by : Times → List Call → Chain → ℕ
-told_by times log chain = fold (λ most call. max most (index_told (interval_in times call) chain)) 0 log
+abbrev pub disclosed_by : Times → List Call → Chain → ℕ
+disclosed_by times log chain = fold (λ most call. max most (index_disclosed (interval_in times call) chain)) 0 log
 
 -- on some chain a call in the interval tells a newer key than every frame of a log
 abbrev pub tells_more : Stream → List Call → ℕ → Bool
-tells_more stream log interval = list_any (λ chain. nat_lt (told_by stream.setup.times log chain) (index_told interval chain)) (chains_of stream)
+tells_more stream log interval = list_any (λ chain. nat_lt (disclosed_by stream.setup.times log chain) (index_disclosed interval chain)) (chains_of stream)
 
 -- a disclosure at the reading is due after a log: the clock was read, its interval isn't before the first one or before that of the last call, and it tells a newer key
 abbrev pub is_due : Stream → ℕ → List Call → ℕ → Bool
@@ -96,9 +96,9 @@ after_judged stream first made reading payload (Err refusal) = after_none stream
 
 -- each datagram is a message; one that comes while the clock can't be read is counted, and nothing is made of it
 abbrev pub after_event : Stream → ℕ → Feeding → Event → Feeding
-after_event stream first made (Came reading (letters.Datagram bytes)) =
+after_event stream first made (Received reading (letters.Datagram bytes)) =
     if is_unread reading then with_unread made else after_judged stream first made reading bytes (name_from stream.setup.times first made.log reading bytes)
-after_event stream first made (Came reading letters.Quiet) = after_none stream first made reading
+after_event stream first made (Received reading letters.Quiet) = after_none stream first made reading
 after_event stream first made (Rested reading) = after_none stream first made reading
 
 -- ---- a whole feed
@@ -135,9 +135,9 @@ message_interval times before (Disclose reading) = before
 abbrev pub last_message : Times → List Call → ℕ
 last_message times log = fold (message_interval times) 0 log
 
--- the key of the last message's interval was told on every chain
-abbrev pub is_all_told : Stream → List Call → Bool
-is_all_told stream log = list_all (λ chain. nat_le (last_message stream.setup.times log) (told_by stream.setup.times log chain)) (chains_of stream)
+-- the key of the last message's interval was disclosed on every chain
+abbrev pub is_all_disclosed : Stream → List Call → Bool
+is_all_disclosed stream log = list_all (λ chain. nat_le (last_message stream.setup.times log) (disclosed_by stream.setup.times log chain)) (chains_of stream)
 
 -- ---- counts
 

@@ -9,7 +9,7 @@ use Rattle.tesla_relay.specs.Counts.{IsSentCount}
 use Rattle.tesla_relay.specs.Posts.{PostSeen, with_datagrams}
 use Rattle.tesla_sender.specs.Made.{Stream}
 use Rattle.tesla_sender.specs.Stands.{Stands}
-use Rattle.tesla_feed.specs.Fed.{Event, Came, Rested, Feeding, after_event, counts_of, datagrams_of, fed, first_interval, has_begun, is_all_told, has_ended, is_unread, reading_of}
+use Rattle.tesla_feed.specs.Fed.{Event, Received, Rested, Feeding, after_event, counts_of, datagrams_of, fed, first_interval, has_begun, is_all_disclosed, has_ended, is_unread, reading_of}
 use Rattle.tesla_feed.specs.declared.feeding.FeedEnd.{FeedEnd}
 use Rattle.tesla_feed.specs.declared.opening.OpenFeed.{OpenFeed}
 
@@ -23,24 +23,24 @@ pub record Heard : Type 0 where
 abbrev pub letter_of : Heard → Letter
 letter_of one = one.letter
 
-abbrev pub came_of : Heard → Event
-came_of one = Came one.reading one.letter
+abbrev pub received_of : Heard → Event
+received_of one = Received one.reading one.letter
 
 abbrev pub rested_at : ℕ → Event
 rested_at reading = Rested reading
 
 -- items left the link, and then the gate rested
 abbrev pub events_of : List Heard → List ℕ → List Event
-events_of heard rests = map came_of heard ++ map rested_at rests
+events_of heard rests = map received_of heard ++ map rested_at rests
 
 -- before each of these rests a key of the last message was still to be told
 abbrev pub AreNeeded : Stream → ℕ → Feeding → List ℕ → Type 0
 AreNeeded stream first made [] = Unit {0}
-AreNeeded stream first made (reading ∷ rests) = (is_all_told stream made.log ≡ false) × AreNeeded stream first (after_event stream first made (Rested reading)) rests
+AreNeeded stream first made (reading ∷ rests) = (is_all_disclosed stream made.log ≡ false) × AreNeeded stream first (after_event stream first made (Rested reading)) rests
 
 -- ---- posts
 
--- a post sent these datagrams, in order and each once; where it failed, a front of them
+-- a post sent these datagrams, in order and each once; where it failed, a prefix of them
 pub record SendsPost (datagrams : List (List ℕ)) (before now : PostSeen) (failed : Bool) : Type 0 where
   pub sends : ℕ
   pub many : IsSentCount datagrams failed sends
@@ -90,9 +90,9 @@ pub record Feeds (stream : Stream) (opening : ℕ) (result : FeedEnd) (left late
   pub made_is : made ≡ fed stream opening (events_of heard rests)
   pub failed : List Bool
   pub posts_are : SendPosts (datagrams_of stream made.log) posts posts_now failed
-  -- why it rested, and why it ended: all posts failed, or all keys of the last message were told after the end or the failure of the link
-  pub needed : AreNeeded stream (first_interval stream.setup.times opening) (fed stream opening (map came_of heard)) rests
-  pub told : list_all has_failed failed ≡ false → is_all_told stream made.log ≡ true
+  -- why it rested, and why it ended: all posts failed, or all keys of the last message were disclosed after the end or the failure of the link
+  pub needed : AreNeeded stream (first_interval stream.setup.times opening) (fed stream opening (map received_of heard)) rests
+  pub keys_disclosed : list_all has_failed failed ≡ false → is_all_disclosed stream made.log ≡ true
   pub ended : list_all has_failed failed ≡ false → result.link_failed ≡ false → IfSome later (λ rest. rest ≡ [])
   -- what it tells
   pub counts : result.counts ≡ counts_of made

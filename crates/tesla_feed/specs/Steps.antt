@@ -8,11 +8,11 @@ use Rattle.tesla_desk.specs.Links.{after_letters}
 use Rattle.tesla_desk.specs.declared.link.Letter.{Letter}
 use Rattle.tesla_desk.specs.declared.link.Letter.TheVariants as letters
 use Rattle.tesla_relay.specs.Posts.{PostSeen, with_datagrams}
-use Rattle.tesla_sender.specs.Made.{Call, Chain, Stream, chains_of, index_told, latest_of, messages_of, tells_all, tells_newer}
+use Rattle.tesla_sender.specs.Made.{Call, Chain, Stream, chains_of, index_disclosed, latest_of, messages_of, tells_all, tells_newer}
 use Rattle.tesla_sender.specs.declared.refusal.SendRefusal.{SendRefusal}
 use Rattle.tesla_sender.specs.declared.refusal.SendRefusal.TheVariants as unsent
-use Rattle.tesla_feed.specs.Fed.{Event, Came, Feeding, after_event, after_none, counts_of, datagram_of, datagrams_of, has_begun, is_unread, last_message, latest_from, nothing_fed, reading_of, told_by}
-use Rattle.tesla_feed.specs.Feed.{AreNeeded, Heard, SendPosts, came_of, has_failed, letter_of, rested_at}
+use Rattle.tesla_feed.specs.Fed.{Event, Received, Feeding, after_event, after_none, counts_of, datagram_of, datagrams_of, has_begun, is_unread, last_message, latest_from, nothing_fed, reading_of, disclosed_by}
+use Rattle.tesla_feed.specs.Feed.{AreNeeded, Heard, SendPosts, received_of, has_failed, letter_of, rested_at}
 use Rattle.tesla_feed.specs.declared.counts.FeedCounts.{FeedCounts}
 use Rattle.tesla_feed.specs.declared.feeder.Feeder.{Feeder}
 use Rattle.tesla_feed.specs.declared.hearing.Hearing.{Hearing}
@@ -43,9 +43,9 @@ after_unread counts None = counts
 abbrev pub is_due_after : Stream → ℕ → ℕ → ℕ → Bool
 is_due_after stream first latest interval = nat_le first interval && (nat_le latest interval && tells_newer latest interval (chains_of stream))
 
--- the key of the interval of the last message was told on every chain, told the interval of the last call
-abbrev pub is_told_after : Stream → ℕ → ℕ → Bool
-is_told_after stream message latest = tells_all message latest (chains_of stream)
+-- the key of the interval of the last message was disclosed on every chain, told the interval of the last call
+abbrev pub is_disclosed_after : Stream → ℕ → ℕ → Bool
+is_disclosed_after stream message latest = tells_all message latest (chains_of stream)
 
 -- a feeder of the stream, whose first interval this is, remembers what it needs of what was made
 pub record StandsFor (stream : Stream) (first : ℕ) (feeder : Feeder) (made : Feeding) : Type 0 where
@@ -56,11 +56,11 @@ pub record StandsFor (stream : Stream) (first : ℕ) (feeder : Feeder) (made : F
   -- no message was sent in an interval after that
   pub none_later : (interval : ℕ) → feeder.sender.latest < interval → messages_of stream.setup.times interval made.log ≡ 0
   pub latest : feeder.latest ≡ latest_of stream.setup.times made.log
-  pub told : (chain : Chain) → told_by stream.setup.times made.log chain ≡ index_told feeder.latest chain
+  pub keys_disclosed : (chain : Chain) → disclosed_by stream.setup.times made.log chain ≡ index_disclosed feeder.latest chain
   pub message : feeder.message ≡ last_message stream.setup.times made.log
   pub counts : feeder.counts ≡ counts_of made
 
--- a call more was made, and the datagram of its frame stands at the front of the room; or none was made
+-- a call more was made, and the datagram of its frame stands at the start of the room; or none was made
 abbrev pub Adds : Stream → List Call → List Call → Option ℕ → List ℕ → Type 0
 Adds stream before now None frame = now ≡ before
 Adds stream before now (Some size) frame = (call : Call) × (now ≡ before ++ call ∷ []) × (datagram_of stream before call ≡ take size frame ∷ [])
@@ -95,7 +95,7 @@ bytes_in (Some bytes) = Some bytes.now
 
 -- what is made after an item that is a message, or none
 abbrev pub after_item : Stream → ℕ → Feeding → ℕ → Option (List ℕ) → Feeding
-after_item stream first made reading (Some bytes) = after_event stream first made (Came reading (letters.Datagram bytes))
+after_item stream first made reading (Some bytes) = after_event stream first made (Received reading (letters.Datagram bytes))
 after_item stream first made reading None = after_none stream first made reading
 
 -- the last reading that was noted, after this one: what a clock gives while it can't be read isn't noted
@@ -138,9 +138,9 @@ fed_after stream first made events = fold (after_event stream first) made events
 -- items left the link, and what they ask for was done
 pub record Hears (stream : Stream) (first : ℕ) (feeder : Feeder) (failed : List Bool) (left later : Option (List Letter)) (before after : Option Ticking) (posts posts_now : List PostSeen) : Type 0 where
   pub heard : List Heard
-  pub gives : Gives (map reading_of (map came_of heard)) before after
+  pub gives : Gives (map reading_of (map received_of heard)) before after
   pub left_is : left ≡ after_letters (map letter_of heard) later
-  pub goes : Goes stream first (fed_after stream first nothing_fed (map came_of heard)) posts feeder posts_now failed
+  pub goes : Goes stream first (fed_after stream first nothing_fed (map received_of heard)) posts feeder posts_now failed
 
 -- why no more items were taken
 abbrev pub StopsHearing : Hearing → List Bool → Option (List Letter) → Type 0

@@ -2,8 +2,8 @@
 
 ghost use Rattle.std.specs.Prelude.{◌≡◌, ◌≤◌, [], false, IfSome};
 ghost use Rattle.tesla_sender.specs.Stands.{Stands};
-ghost use Rattle.tesla_feed.specs.Fed.{Came, Feeding, after_event, after_none, first_interval, has_begun, is_unread, nothing_fed};
-ghost use Rattle.tesla_feed.specs.Steps.{Makes, StandsFor, after_item, after_unread, bytes_in, is_due_after, is_told_after, noted};
+ghost use Rattle.tesla_feed.specs.Fed.{Received, Feeding, after_event, after_none, first_interval, has_begun, is_unread, nothing_fed};
+ghost use Rattle.tesla_feed.specs.Steps.{Makes, StandsFor, after_item, after_unread, bytes_in, is_due_after, is_disclosed_after, noted};
 ghost use Rattle.tesla_desk.specs.declared.link.Letter.TheVariants as letters;
 
 use crate::FeedCounts;
@@ -16,7 +16,7 @@ use tesla_sender::Sender;
 #[derive(Drop)]
 pub struct Feeder {
     sender: Sender,
-    /// The frame that was made last stands at its front.
+    /// The frame that was made last stands at its start.
     pub frame: [u8; MOST_DATAGRAM],
     // The first interval in which a call is made.
     first: u64,
@@ -77,7 +77,7 @@ impl Feeder {
         steps: &mut Steps<L>,
     ) -> Option<usize>
         requires read { is_unread reading ≡ false }
-        ensures makes { (made : Feeding) → StandsFor self.old.sender.stream self.old.first self.old made → Makes self.old.sender.stream self.old.first made (after_event self.old.sender.stream self.old.first made (Came reading (letters.Datagram payload.now))) self.new result }
+        ensures makes { (made : Feeding) → StandsFor self.old.sender.stream self.old.first self.old made → Makes self.old.sender.stream self.old.first made (after_event self.old.sender.stream self.old.first made (Received reading (letters.Datagram payload.now))) self.new result }
         ensures room { IfSome result (λ length. length ≤ 2048) }
     {
         match self
@@ -157,9 +157,9 @@ impl Feeder {
             && self.sender.tells_newer(self.latest, interval)
     }
 
-    /// Whether the key of the last message was told on every chain.
-    pub fn has_told_all(&self) -> bool
-        ensures { result ≡ is_told_after self.now.sender.stream self.now.message self.now.latest }
+    /// Whether the key of the last message was disclosed on every chain.
+    pub fn has_disclosed_all(&self) -> bool
+        ensures { result ≡ is_disclosed_after self.now.sender.stream self.now.message self.now.latest }
     {
         self.sender.tells_all(self.message, self.latest)
     }

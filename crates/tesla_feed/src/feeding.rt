@@ -31,11 +31,11 @@ pub struct FeedEnd {
 }
 
 /// Feeds what comes over the link to the posts: each datagram is a message of the sender, at the reading of the clock
-/// when it came, and keys are told when they are due, also where nothing comes. Each frame is handed to each post, in
+/// when it came, and keys are disclosed when they are due, also where nothing comes. Each frame is handed to each post, in
 /// their order. Where the clock can't be read nothing is sent, and a message that came then is counted.
 ///
 /// The feed makes no call in the interval of its opening or an earlier one, and asks the link for nothing before the
-/// next one has begun. After the link's end or failure it goes on until the key of the last message's interval was told
+/// next one has begun. After the link's end or failure it goes on until the key of the last message's interval was disclosed
 /// on every chain. A post that fails sends no more; where all have failed the feed ends. It waits for the clock and for
 /// the link, and takes no memory.
 pub fn feed<R: Wait, L: Ledger, K: Link, C: Clock, P: Post, G: Gate>(

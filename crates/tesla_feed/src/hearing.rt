@@ -6,7 +6,7 @@ ghost use Rattle.tesla_relay.specs.Posts.{PostSeen};
 ghost use Rattle.std.specs.List.{list_all};
 ghost use Rattle.tesla_feed.specs.Feed.{has_failed};
 ghost use Rattle.tesla_feed.specs.Fed.{Feeding, nothing_fed};
-ghost use Rattle.tesla_feed.specs.Steps.{Awaits, Goes, Hears, Rests, StopsHearing, StandsFor, is_told_after, after_item, bytes_in};
+ghost use Rattle.tesla_feed.specs.Steps.{Awaits, Goes, Hears, Rests, StopsHearing, StandsFor, is_disclosed_after, after_item, bytes_in};
 
 use crate::feeder::Feeder;
 use crate::posts::{hand, have_all_failed};
@@ -124,10 +124,10 @@ pub fn tell_rest<R: Wait, L: Ledger, C: Clock, P: Post, G: Gate>(
         (made : Feeding) (first_posts : List PostSeen) → Goes feeder.old.sender.stream feeder.old.first made first_posts feeder.old (seen posts.old) failed.old
         → Rests feeder.old.sender.stream feeder.old.first made first_posts feeder.new failed.new (C.told clock.old) (C.told clock.new) (seen posts.new) }
     ensures stays { list_all has_failed failed.old ≡ true → failed.new ≡ failed.old }
-    ensures ends { list_all has_failed failed.new ≡ false → is_told_after feeder.new.sender.stream feeder.new.message feeder.new.latest ≡ true }
+    ensures ends { list_all has_failed failed.new ≡ false → is_disclosed_after feeder.new.sender.stream feeder.new.message feeder.new.latest ≡ true }
 {
     for _ in rt.forever() {
-        if have_all_failed(failed) || feeder.has_told_all() {
+        if have_all_failed(failed) || feeder.has_disclosed_all() {
             return;
         }
         gate.rest_for(feeder.until_next());

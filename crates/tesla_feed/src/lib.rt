@@ -1,4 +1,4 @@
-//! The live sender: messages that come over a link are tagged at the reading of a clock, keys are told on time, also
+//! The live sender: messages that come over a link are tagged at the reading of a clock, keys are disclosed on time, also
 //! while nothing comes, and each frame is handed to every post (RFC 4082, sections 3.2 to 3.4).
 #![tactic(auto)]
 

@@ -14,10 +14,10 @@ pub begins_more : (text piece before now new : List ℕ) (at : ℕ) → new ≡ 
 begins_more text piece before now new at step len begun =
     let k = length piece in
     let behind = drop (length text) before in
-    let front : take at now ≡ text = ap (take at) begun ∙ take_at text behind at len in
+    let prefix : take at now ≡ text = ap (take at) begun ∙ take_at text behind at len in
     let back : drop (at + k) now ≡ drop (length (text ++ piece)) before =
     sym (drop-drop k at now) ∙ ap (λ (l : List ℕ). drop k (drop at l)) begun ∙ ap (drop k) (drop_at text behind at len) ∙ drop-drop k (length text) before ∙ ap (λ (n : ℕ). drop n before) (sym (length-append text piece)) in
-    step ∙ ap (λ (a : List ℕ). a ++ (piece ++ drop (at + k) now)) front ∙ ap (λ (b : List ℕ). text ++ (piece ++ b)) back ∙ sym (append_assoc text piece (drop (length (text ++ piece)) before))
+    step ∙ ap (λ (a : List ℕ). a ++ (piece ++ drop (at + k) now)) prefix ∙ ap (λ (b : List ℕ). text ++ (piece ++ b)) back ∙ sym (append_assoc text piece (drop (length (text ++ piece)) before))
 
 -- the same, from what a write to a part of a slice leaves
 pub begins_put : (text piece before now part : List ℕ) (at : ℕ) → part ≡ piece → length text ≡ at → Begins text before now → Begins (text ++ piece) before (put_mid at (at + length piece - at) now part)
@@ -35,8 +35,8 @@ rows_length (tag ∷ tags) [] same = absurd (omega arith)
 rows_length (tag ∷ tags) (key ∷ keys) same = (let rest = rows_length tags keys (omega arith) in omega (arith, rest))
 
 -- the count is the number of rows
-pub data_begun : (front payload : List ℕ) (version : Version) (size : ℕ) (tags : List WideTag) (keys : List (Option Key)) (before new : List ℕ) → length keys ≡ length tags
-    → Begins (((front ++ payload) ++ counts_text version (length tags) size) ++ flat_map tag_row_text (rows_of tags keys)) before new
-    → Begins (((front ++ payload) ++ counts_text version (length (rows_of tags keys)) size) ++ flat_map tag_row_text (rows_of tags keys)) before new
-data_begun front payload version size tags keys before new same begun =
-    subst (λ (n : ℕ). Begins (((front ++ payload) ++ counts_text version n size) ++ flat_map tag_row_text (rows_of tags keys)) before new) (sym (rows_length tags keys same)) begun
+pub data_begun : (prefix payload : List ℕ) (version : Version) (size : ℕ) (tags : List WideTag) (keys : List (Option Key)) (before new : List ℕ) → length keys ≡ length tags
+    → Begins (((prefix ++ payload) ++ counts_text version (length tags) size) ++ flat_map tag_row_text (rows_of tags keys)) before new
+    → Begins (((prefix ++ payload) ++ counts_text version (length (rows_of tags keys)) size) ++ flat_map tag_row_text (rows_of tags keys)) before new
+data_begun prefix payload version size tags keys before new same begun =
+    subst (λ (n : ℕ). Begins (((prefix ++ payload) ++ counts_text version n size) ++ flat_map tag_row_text (rows_of tags keys)) before new) (sym (rows_length tags keys same)) begun

@@ -6,11 +6,11 @@ use Rattle.std.specs.Int.{w16, w32, w64, to_be_bytes}
 use Rattle.std.proofs.lemmas.Bool.{ltb-true, lt-ltb, eqb-true, and_parts, and_from}
 use Rattle.std.proofs.lemmas.List.{append-nil, nil_from_length}
 use Rattle.std.proofs.lemmas.Slice.Eq.{bytes_eq-Decides}
-use Rattle.tesla_base.specs.Front.{AreBytes, bytes_front, number_front}
+use Rattle.tesla_base.specs.Prefix.{AreBytes, parse_bytes, parse_number}
 use Rattle.tesla_base.specs.Version.{number_of, version_of, most_chains}
 use Rattle.tesla_base.specs.declared.version.Version.{Version}
 use Rattle.tesla_base.specs.declared.version.Version.TheVariants.{One, Two}
-use Rattle.tesla_base.proofs.Fronts.{bind_some, test_some, some_is, bytes_take, bytes_again, Takes, Takes-then, field16, field32, field64}
+use Rattle.tesla_base.proofs.Prefixes.{bind_some, test_some, some_is, bytes_take, bytes_again, Takes, Takes-then, field16, field32, field64}
 use Rattle.tesla_frame.specs.declared.view.FrameView.{FrameView}
 use Rattle.tesla_frame.specs.Shown.{shown}
 use Rattle.tesla_frame.specs.declared.row.KeyRow.{KeyRow}
@@ -38,9 +38,9 @@ data_text f = to_be_bytes w64 f.stream.0 ++ (to_be_bytes w32 f.name.interval ++ 
 data_takes : (version : Version) (bytes : List ℕ) (f : DataFrame) → AreBytes bytes → data_of version bytes ≡ Some f → (bytes ≡ data_text f) × IsDataFrame f × (f.version ≡ version)
 unfolding data_of
 data_takes version bytes f fits e =
-    let s0 = bind_some (number_front w64 bytes) _ f e in
-    let s1 = bind_some (number_front w32 s0.0.1) _ f s0.2 in
-    let s2 = bind_some (number_front w16 s1.0.1) _ f s1.2 in
+    let s0 = bind_some (parse_number w64 bytes) _ f e in
+    let s1 = bind_some (parse_number w32 s0.0.1) _ f s0.2 in
+    let s2 = bind_some (parse_number w16 s1.0.1) _ f s1.2 in
     let s3 = bind_some (payload_at s2.0.1) _ f s2.2 in
     let s4 = bind_some (count_at version s3.0.1) _ f s3.2 in
     let s5 = bind_some (tag_length_at version s4.0.1) _ f s4.2 in
@@ -116,7 +116,7 @@ keys_text f = to_be_bytes w64 f.stream.0 ++ (length f.rows ∷ [] ++ flat_map ke
 keys_takes : (version : Version) (bytes : List ℕ) (f : KeysFrame) → AreBytes bytes → keys_of version bytes ≡ Some f → (bytes ≡ keys_text f) × IsKeysFrame f × (f.version ≡ version)
 unfolding keys_of
 keys_takes version bytes f fits e =
-    let s0 = bind_some (number_front w64 bytes) _ f e in
+    let s0 = bind_some (parse_number w64 bytes) _ f e in
     let s4 = bind_some (count_at version s0.0.1) _ f s0.2 in
     let s5 = bind_some (rows_at key_row_at s4.0.0 s4.0.1) _ f s4.2 in
     let made : KeysFrame = record { version = version; stream = record { 0 = s0.0.0 }; rows = s5.0.0 } in
@@ -155,7 +155,7 @@ version_number (suc (suc (suc n))) version e = absurd cc
 version_takes : (bytes : List ℕ) (x : Version × List ℕ) → AreBytes bytes → version_at bytes ≡ Some x → Takes bytes (head x.0) x.1
 unfolding version_at
 version_takes bytes x fits e =
-    let s0 = bind_some (bytes_front 4 bytes) _ x e in
+    let s0 = bind_some (parse_bytes 4 bytes) _ x e in
     let s1 = bind_some (byte_at s0.0.1) _ x s0.2 in
     let s2 = bind_some (version_of s1.0.0) _ x s1.2 in
     let made : Version × List ℕ = (s2.0, s1.0.1) in
@@ -164,7 +164,7 @@ version_takes bytes x fits e =
     let t0 = bytes_take 4 bytes s0.0 fits s0.1 in
     let t1 = byte_field.takes s0.0.1 s1.0 t0.0.rest_fits s1.1 in
     let both = Takes-then bytes s0.0.0 s0.0.1 (s1.0.0 ∷ []) s1.0.1 t0.0 t1.0 in
-    let here : Takes bytes (head s2.0) s1.0.1 = subst (λ (front : List ℕ). Takes bytes front s1.0.1) (ap (λ (magic : List ℕ). magic ++ s1.0.0 ∷ []) same ∙ ap (λ (n : ℕ). codes "TSLA" ++ n ∷ []) (version_number s1.0.0 s2.0 s2.1)) both in
+    let here : Takes bytes (head s2.0) s1.0.1 = subst (λ (prefix : List ℕ). Takes bytes prefix s1.0.1) (ap (λ (magic : List ℕ). magic ++ s1.0.0 ∷ []) same ∙ ap (λ (n : ℕ). codes "TSLA" ++ n ∷ []) (version_number s1.0.0 s2.0 s2.1)) both in
     subst (λ (p : Version × List ℕ). Takes bytes (head p.0) p.1) (some_is made x g.1) here
 
 version_again : (version : Version) (rest : List ℕ) → version_at (head version ++ rest) ≡ Some (version, rest)
@@ -215,9 +215,9 @@ pub frame_takes : (bytes : List ℕ) (f : Frame) → AreBytes bytes → frame_of
 unfolding frame_of
 frame_takes bytes f fits e =
     let s = bind_some (version_at bytes) (λ version. body_of version.0 version.1) f e in
-    let front = version_takes bytes s.0 fits s.1 in
-    let t = body_takes s.0.0 s.0.1 f front.rest_fits s.2 in
-    let whole : bytes ≡ head (version_in f) ++ body_text f = front.parts ∙ ap (λ (r : List ℕ). head s.0.0 ++ r) t.0 ∙ ap (λ (v : Version). head v ++ body_text f) (sym t.2) in
+    let prefix = version_takes bytes s.0 fits s.1 in
+    let t = body_takes s.0.0 s.0.1 f prefix.rest_fits s.2 in
+    let whole : bytes ≡ head (version_in f) ++ body_text f = prefix.parts ∙ ap (λ (r : List ℕ). head s.0.0 ++ r) t.0 ∙ ap (λ (v : Version). head v ++ body_text f) (sym t.2) in
     record { limits = t.1; spelled = whole ∙ sym (frame_text_is f) }
 
 pub frame_again : (bytes : List ℕ) (f : Frame) → IsFrame bytes f → frame_of bytes ≡ Some f

@@ -2,9 +2,9 @@
 use Rattle.std.proofs.Common.{◌≡◌, ℕ, zero, suc, eqb, ◌&&◌, List, [], ◌∷◌, length, Some, subst}
 use Rattle.std.specs.Int.{w64}
 use Rattle.std.proofs.lemmas.Bool.{and_parts}
-use Rattle.tesla_base.specs.Front.{number_front}
+use Rattle.tesla_base.specs.Prefix.{parse_number}
 use Rattle.tesla_base.specs.declared.version.Version.{Version}
-use Rattle.tesla_base.proofs.Fronts.{bind_some, test_some, some_is}
+use Rattle.tesla_base.proofs.Prefixes.{bind_some, test_some, some_is}
 use Rattle.tesla_frame.specs.Frame.{KeysFrame, Data, Disclosure, ChainsRise}
 use Rattle.tesla_frame.specs.Reading.{key_row_at, rows_at, count_at, chains_rise, data_of, keys_of, body_of, version_at, frame_of}
 use Rattle.tesla_frame.proofs.Both.{rises}
@@ -12,7 +12,7 @@ use Rattle.tesla_frame.proofs.Both.{rises}
 keys_rise : (version : Version) (bytes : List ℕ) (f : KeysFrame) → keys_of version bytes ≡ Some f → ChainsRise f.rows
 unfolding keys_of
 keys_rise version bytes f e =
-    let s0 = bind_some (number_front w64 bytes) _ f e in
+    let s0 = bind_some (parse_number w64 bytes) _ f e in
     let s1 = bind_some (count_at version s0.0.1) _ f s0.2 in
     let s2 = bind_some (rows_at key_row_at s1.0.0 s1.0.1) _ f s1.2 in
     let made : KeysFrame = record { version = version; stream = record { 0 = s0.0.0 }; rows = s2.0.0 } in

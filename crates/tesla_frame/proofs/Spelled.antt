@@ -5,12 +5,12 @@ use Rattle.std.specs.List.{flat_map, AllByRecursion}
 use Rattle.std.specs.Int.{w16, w32, to_be_bytes}
 use Rattle.std.proofs.lemmas.Bool.{ltb-false, le-ltb, leb-true, le-leb, and_parts}
 use Rattle.std.proofs.lemmas.List.Concat.{flat_map-cons}
-use Rattle.tesla_base.specs.Front.{AreBytes, ◌>>=◌, bytes_front, number_front}
+use Rattle.tesla_base.specs.Prefix.{AreBytes, ◌>>=◌, parse_bytes, parse_number}
 use Rattle.tesla_base.specs.Version.{IsTagLength, shortest_tag, longest_tag}
 use Rattle.tesla_base.specs.declared.names.Key.{Key}
 use Rattle.tesla_base.specs.declared.version.Version.{Version}
 use Rattle.tesla_base.specs.declared.version.Version.TheVariants.{One, Two}
-use Rattle.tesla_base.proofs.Fronts.{bind_some, guard_some, test_some, some_is, Takes, Takes-then, IsField, bytes_take, bytes_again, field16, field32}
+use Rattle.tesla_base.proofs.Prefixes.{bind_some, guard_some, test_some, some_is, Takes, Takes-then, IsField, bytes_take, bytes_again, field16, field32}
 use Rattle.tesla_frame.specs.declared.row.KeyRow.{KeyRow}
 use Rattle.tesla_frame.specs.Frame.{TagRow, IsKey, IsTagRow, IsKeyRow, key_text, tag_row_text, key_row_text}
 use Rattle.tesla_frame.specs.Reading.{key_at, optional_key_at, tag_row_at, byte_at, key_row_at, rows_at, byte_within, tag_length_at, payload_at}
@@ -20,7 +20,7 @@ use Rattle.tesla_frame.specs.Reading.{key_at, optional_key_at, tag_row_at, byte_
 key_takes : (bytes : List ℕ) (x : Key × List ℕ) → AreBytes bytes → key_at bytes ≡ Some x → Takes bytes x.0.0 x.1 × IsKey x.0
 unfolding key_at
 key_takes bytes x fits e =
-    let b = bind_some (bytes_front 32 bytes) (λ key. Some (record { 0 = key.0 }, key.1)) x e in
+    let b = bind_some (parse_bytes 32 bytes) (λ key. Some (record { 0 = key.0 }, key.1)) x e in
     let t = bytes_take 32 bytes b.0 fits b.1 in
     let made : Key × List ℕ = (record { 0 = b.0.0 }, b.0.1) in
     subst (λ (p : Key × List ℕ). Takes bytes p.0.0 p.1 × IsKey p.0) (some_is made x b.2) (t.0, (t.1, t.2))
@@ -54,7 +54,7 @@ optional_again (Some key) rest fits = rw (key_again key rest fits) refl
 tag_row_takes : (size : ℕ) (bytes : List ℕ) (x : TagRow × List ℕ) → AreBytes bytes → tag_row_at size bytes ≡ Some x → Takes bytes (tag_row_text x.0) x.1 × IsTagRow size x.0
 unfolding tag_row_at
 tag_row_takes size bytes x fits e =
-    let a = bind_some (bytes_front size bytes) (λ tag. optional_key_at tag.1 >>= λ key. Some (record { tag = tag.0; key = key.0 }, key.1)) x e in
+    let a = bind_some (parse_bytes size bytes) (λ tag. optional_key_at tag.1 >>= λ key. Some (record { tag = tag.0; key = key.0 }, key.1)) x e in
     let b = bind_some (optional_key_at a.0.1) (λ key. Some (record { tag = a.0.0; key = key.0 }, key.1)) x a.2 in
     let s = bytes_take size bytes a.0 fits a.1 in
     let t = optional_takes a.0.1 b.0 s.0.rest_fits b.1 in
@@ -86,8 +86,8 @@ byte_field = record { takes = byte_takes; again = byte_again }
 key_row_takes : (bytes : List ℕ) (x : KeyRow × List ℕ) → AreBytes bytes → key_row_at bytes ≡ Some x → Takes bytes (key_row_text x.0) x.1 × IsKeyRow x.0
 unfolding key_row_at
 key_row_takes bytes x fits e =
-    let a = bind_some (byte_at bytes) (λ chain. number_front w32 chain.1 >>= λ index. key_at index.1 >>= λ key. Some (record { chain = record { 0 = chain.0 }; index = index.0; key = key.0 }, key.1)) x e in
-    let b = bind_some (number_front w32 a.0.1) (λ index. key_at index.1 >>= λ key. Some (record { chain = record { 0 = a.0.0 }; index = index.0; key = key.0 }, key.1)) x a.2 in
+    let a = bind_some (byte_at bytes) (λ chain. parse_number w32 chain.1 >>= λ index. key_at index.1 >>= λ key. Some (record { chain = record { 0 = chain.0 }; index = index.0; key = key.0 }, key.1)) x e in
+    let b = bind_some (parse_number w32 a.0.1) (λ index. key_at index.1 >>= λ key. Some (record { chain = record { 0 = a.0.0 }; index = index.0; key = key.0 }, key.1)) x a.2 in
     let d = bind_some (key_at b.0.1) (λ key. Some (record { chain = record { 0 = a.0.0 }; index = b.0.0; key = key.0 }, key.1)) x b.2 in
     let s = byte_takes bytes a.0 fits a.1 in
     let t = field32.takes a.0.1 b.0 s.0.rest_fits b.1 in
@@ -178,8 +178,8 @@ payload_text payload = to_be_bytes w16 (length payload) ++ payload
 payload_takes : (bytes : List ℕ) (x : List ℕ × List ℕ) → AreBytes bytes → payload_at bytes ≡ Some x → Takes bytes (payload_text x.0) x.1 × ((length x.0 ≤ 1200) × AreBytes x.0)
 unfolding payload_at
 payload_takes bytes x fits e =
-    let a = bind_some (number_front w16 bytes) (λ n. cond (ltb 1200 n.0) None (bytes_front n.0 n.1)) x e in
-    let g = guard_some (ltb 1200 a.0.0) (bytes_front a.0.0 a.0.1) x a.2 in
+    let a = bind_some (parse_number w16 bytes) (λ n. cond (ltb 1200 n.0) None (parse_bytes n.0 n.1)) x e in
+    let g = guard_some (ltb 1200 a.0.0) (parse_bytes a.0.0 a.0.1) x a.2 in
     let few : a.0.0 ≤ 1200 = ltb-false _ _ g.0 in
     let s = field16.takes bytes a.0 fits a.1 in
     let t = bytes_take a.0.0 a.0.1 x s.0.rest_fits g.1 in

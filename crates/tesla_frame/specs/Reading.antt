@@ -1,7 +1,7 @@
 -- Frames read from left to right, all of the bytes.
 use Rattle.std.specs.Prelude.{ℕ, zero, suc, Bool, true, ◌&&◌, List, [], ◌∷◌, length, Option, Some, None, nat_lt, nat_le, ◌==◌, bytes_eq, if◌then◌else◌, codes}
 use Rattle.std.specs.Int.{w16, w32, w64}
-use Rattle.tesla_base.specs.Front.{◌>>=◌, bytes_front, number_front}
+use Rattle.tesla_base.specs.Prefix.{◌>>=◌, parse_bytes, parse_number}
 use Rattle.tesla_base.specs.Version.{version_of, most_chains, shortest_tag, longest_tag}
 use Rattle.tesla_base.specs.declared.names.Key.{Key}
 use Rattle.tesla_base.specs.declared.version.Version.{Version}
@@ -12,7 +12,7 @@ use Rattle.tesla_frame.specs.Frame.{TagRow, DataFrame, KeysFrame, Frame, Data, D
 -- a field is a value with the bytes after it: here a key
 unfoldable pub key_at : List ℕ → Option (Key × List ℕ)
 key_at bytes = do
-  key ← bytes_front 32 bytes
+  key ← parse_bytes 32 bytes
   Some (record { 0 = key.0 }, key.1)
 
 -- a flag, and a key behind a 1
@@ -27,7 +27,7 @@ optional_key_at (suc (suc _) ∷ rest) = None
 -- a tag of that length, and perhaps a key
 unfoldable pub tag_row_at : ℕ → List ℕ → Option (TagRow × List ℕ)
 tag_row_at size bytes = do
-  tag ← bytes_front size bytes
+  tag ← parse_bytes size bytes
   key ← optional_key_at tag.1
   Some (record { tag = tag.0; key = key.0 }, key.1)
 
@@ -38,7 +38,7 @@ byte_at (byte ∷ rest) = Some (byte, rest)
 unfoldable pub key_row_at : List ℕ → Option (KeyRow × List ℕ)
 key_row_at bytes = do
   chain ← byte_at bytes
-  index ← number_front w32 chain.1
+  index ← parse_number w32 chain.1
   key ← key_at index.1
   Some (record { chain = record { 0 = chain.0 }; index = index.0; key = key.0 }, key.1)
 
@@ -68,8 +68,8 @@ tag_length_at Two bytes = byte_within (shortest_tag Two) (longest_tag Two) bytes
 -- the payload behind its length, which has a limit
 unfoldable pub payload_at : List ℕ → Option (List ℕ × List ℕ)
 payload_at bytes = do
-  n ← number_front w16 bytes
-  if nat_lt 1200 n.0 then None else bytes_front n.0 n.1
+  n ← parse_number w16 bytes
+  if nat_lt 1200 n.0 then None else parse_bytes n.0 n.1
 
 -- each chain's number is above the one before
 abbrev pub chains_rise : List KeyRow → Bool
@@ -80,9 +80,9 @@ chains_rise (row ∷ next ∷ rows) = nat_lt row.chain.0 next.chain.0 && chains_
 -- all of the bytes after the kind of a data frame
 unfoldable pub data_of : Version → List ℕ → Option DataFrame
 data_of version bytes = do
-  stream ← number_front w64 bytes
-  interval ← number_front w32 stream.1
-  number ← number_front w16 interval.1
+  stream ← parse_number w64 bytes
+  interval ← parse_number w32 stream.1
+  number ← parse_number w16 interval.1
   payload ← payload_at number.1
   count ← count_at version payload.1
   size ← tag_length_at version count.1
@@ -94,7 +94,7 @@ data_of version bytes = do
 -- all of the bytes after the kind of a disclosure frame
 unfoldable pub keys_of : Version → List ℕ → Option KeysFrame
 keys_of version bytes = do
-  stream ← number_front w64 bytes
+  stream ← parse_number w64 bytes
   count ← count_at version stream.1
   rows ← rows_at key_row_at count.0 count.1
   if length rows.1 == 0 && chains_rise rows.0
@@ -114,7 +114,7 @@ body_of version _ = None
 -- the version behind the magic
 unfoldable pub version_at : List ℕ → Option (Version × List ℕ)
 version_at bytes = do
-  magic ← bytes_front 4 bytes
+  magic ← parse_bytes 4 bytes
   number ← byte_at magic.1
   version ← version_of number.0
   if bytes_eq magic.0 (codes "TSLA") then Some (version, number.1) else None

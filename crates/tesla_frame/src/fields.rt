@@ -1,4 +1,4 @@
-//! The fields of a frame, each read off the front of the bytes.
+//! The fields of a frame, each read off the start of the bytes.
 
 ghost use Rattle.std.specs.Prelude.{◌≡◌, ◌≤◌, length, option_map, IfSome};
 ghost use Rattle.tesla_base.specs.Version.{most_chains, IsTagLength};

@@ -1,7 +1,7 @@
 //! Laws about frames, as contracts of functions that do nothing.
 
 ghost use Rattle.std.specs.Prelude.{◌≡◌, List, ℕ, Some};
-ghost use Rattle.tesla_base.specs.Front.{AreBytes};
+ghost use Rattle.tesla_base.specs.Prefix.{AreBytes};
 ghost use Rattle.tesla_frame.specs.Frame.{ChainsRise, Disclosure, Frame, IsFrame, KeysFrame};
 ghost use Rattle.tesla_frame.specs.Reading.{frame_of};
 

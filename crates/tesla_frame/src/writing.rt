@@ -190,8 +190,8 @@ fn put_key_row(into: &mut [u8; MOST_DATAGRAM], at: usize, row: &KeyRow) -> usize
     ensures row { IsKeyRow row.now }
     ensures text { (text before : List ℕ) → length text ≡ at → Begins text before into.old → Begins (text ++ key_row_text row.now) before into.new }
 {
-    let front = key_head(row.chain, row.index);
-    let at = put(into, at, &front);
+    let header = key_head(row.chain, row.index);
+    let at = put(into, at, &header);
     put(into, at, &row.key.0)
 }
 

@@ -1,6 +1,6 @@
 pub mod SmallTexts
 pub mod Openings
-pub mod Told
+pub mod Reported
 pub mod Consoles
 pub mod Printing
 pub mod Tables

@@ -8,11 +8,11 @@ use Rattle.std.proofs.lemmas.Fmt.{digits_decimal}
 use Rattle.std.proofs.lemmas.Grind.{common_steps}
 use Rattle.std.proofs.lemmas.Option.{none-some}
 use Rattle.std.proofs.lemmas.List.Quantifiers.{position-Some}
-use Rattle.tesla_base.proofs.Fronts.{some_is}
+use Rattle.tesla_base.proofs.Prefixes.{some_is}
 use Rattle.std.proofs.lemmas.List.{drop_more, take_rest}
 use Rattle.std.proofs.lemmas.List.Sums.{position_or_len_is}
-use Rattle.tesla_front.specs.Words.{ArePlaces, IsNumberWithin, is_slash}
-use Rattle.tesla_front.specs.declared.words.Places.{Places}
+use Rattle.tesla_front.specs.Words.{ArePacketLimits, IsNumberWithin, is_slash}
+use Rattle.tesla_front.specs.declared.words.PacketLimits.{PacketLimits}
 use Rattle.std.proofs.lemmas.Str.Parse.{IsNumeralModel, digit_at, numerals_by_value, tells_digits}
 
 own : IsNumeralModel (AllDigits 10) (digits_value 10)
@@ -59,44 +59,44 @@ parts_of (x ∷ xs) ys =
     (ap (λ l. x ∷ l) (parts_of xs ys).0, ap (λ k. drop k (x ∷ (xs ++ 47 ∷ ys))) count ∙ (parts_of xs ys).1)
 
 -- both numbers of a word with a slash
-pub both_spelled : (word : List ℕ) (place : ℕ) (places : Places) → position is_slash word ≡ Some place → ArePlaces word places → IsNumberWithin 1 65536 (take place word) places.capacity × IsNumberWithin 1 places.capacity (drop (place + 1) word) places.quota
-both_spelled word place places at are = by are.spelled where
-  by : ((word ≡ decimal places.capacity) × (places.quota ≡ places.capacity)) ⊎ (word ≡ decimal places.capacity ++ 47 ∷ decimal places.quota) → IsNumberWithin 1 65536 (take place word) places.capacity × IsNumberWithin 1 places.capacity (drop (place + 1) word) places.quota
+pub both_spelled : (word : List ℕ) (place : ℕ) (limits : PacketLimits) → position is_slash word ≡ Some place → ArePacketLimits word limits → IsNumberWithin 1 65536 (take place word) limits.capacity × IsNumberWithin 1 limits.capacity (drop (place + 1) word) limits.quota
+both_spelled word place limits at are = by are.spelled where
+  by : ((word ≡ decimal limits.capacity) × (limits.quota ≡ limits.capacity)) ⊎ (word ≡ decimal limits.capacity ++ 47 ∷ decimal limits.quota) → IsNumberWithin 1 65536 (take place word) limits.capacity × IsNumberWithin 1 limits.capacity (drop (place + 1) word) limits.quota
   by (inl lone) =
-      let none : position is_slash word ≡ None = ap (position is_slash) lone.0 ∙ no_slash (decimal places.capacity) (digits_of places.capacity are.capacity) in
+      let none : position is_slash word ≡ None = ap (position is_slash) lone.0 ∙ no_slash (decimal limits.capacity) (digits_of limits.capacity are.capacity) in
       absurd (none-some place (sym none ∙ at))
   by (inr both) =
-      let here : position is_slash word ≡ Some (length (decimal places.capacity)) = ap (position is_slash) both ∙ first_slash (decimal places.capacity) (decimal places.quota) (digits_of places.capacity are.capacity) in
-      let same : place ≡ length (decimal places.capacity) = some_is place (length (decimal places.capacity)) (sym at ∙ here) in
-      let parts = parts_of (decimal places.capacity) (decimal places.quota) in (
-        record { spelled = ap (λ k. take k word) same ∙ ap (take (length (decimal places.capacity))) both ∙ parts.0; least = omega (arith, are.some, are.within); limit = are.capacity },
-        record { spelled = ap (λ k. drop (k + 1) word) same ∙ ap (drop (length (decimal places.capacity) + 1)) both ∙ parts.1; least = are.some; limit = are.within },
+      let here : position is_slash word ≡ Some (length (decimal limits.capacity)) = ap (position is_slash) both ∙ first_slash (decimal limits.capacity) (decimal limits.quota) (digits_of limits.capacity are.capacity) in
+      let same : place ≡ length (decimal limits.capacity) = some_is place (length (decimal limits.capacity)) (sym at ∙ here) in
+      let parts = parts_of (decimal limits.capacity) (decimal limits.quota) in (
+        record { spelled = ap (λ k. take k word) same ∙ ap (take (length (decimal limits.capacity))) both ∙ parts.0; least = omega (arith, are.some, are.within); limit = are.capacity },
+        record { spelled = ap (λ k. drop (k + 1) word) same ∙ ap (drop (length (decimal limits.capacity) + 1)) both ∙ parts.1; least = are.some; limit = are.within },
       )
 
 -- the number of a word without a slash
-pub lone_spelled : (word : List ℕ) (places : Places) → position is_slash word ≡ None → ArePlaces word places → IsNumberWithin 1 65536 word places.capacity × (places.quota ≡ places.capacity)
-lone_spelled word places none are = by are.spelled where
-  by : ((word ≡ decimal places.capacity) × (places.quota ≡ places.capacity)) ⊎ (word ≡ decimal places.capacity ++ 47 ∷ decimal places.quota) → IsNumberWithin 1 65536 word places.capacity × (places.quota ≡ places.capacity)
+pub lone_spelled : (word : List ℕ) (limits : PacketLimits) → position is_slash word ≡ None → ArePacketLimits word limits → IsNumberWithin 1 65536 word limits.capacity × (limits.quota ≡ limits.capacity)
+lone_spelled word limits none are = by are.spelled where
+  by : ((word ≡ decimal limits.capacity) × (limits.quota ≡ limits.capacity)) ⊎ (word ≡ decimal limits.capacity ++ 47 ∷ decimal limits.quota) → IsNumberWithin 1 65536 word limits.capacity × (limits.quota ≡ limits.capacity)
   by (inl lone) = (record { spelled = lone.0; least = omega (arith, are.some, are.within); limit = are.capacity }, lone.1)
   by (inr both) =
-      let here : position is_slash word ≡ Some (length (decimal places.capacity)) = ap (position is_slash) both ∙ first_slash (decimal places.capacity) (decimal places.quota) (digits_of places.capacity are.capacity) in
-      absurd (none-some (length (decimal places.capacity)) (sym none ∙ here))
+      let here : position is_slash word ≡ Some (length (decimal limits.capacity)) = ap (position is_slash) both ∙ first_slash (decimal limits.capacity) (decimal limits.quota) (digits_of limits.capacity are.capacity) in
+      absurd (none-some (length (decimal limits.capacity)) (sym none ∙ here))
 
 -- places are told by their two numbers
-same_places : (number : ℕ) (places : Places) → number ≡ places.capacity → number ≡ places.quota → Some (record { capacity = number; quota = number }) ≡ Some places
-same_places number places e d =
-    ap (λ (c : ℕ). Some (record { capacity = c; quota = number })) e ∙ ap (λ (q : ℕ). Some (record { capacity = places.capacity; quota = q })) d
+same_limits : (number : ℕ) (limits : PacketLimits) → number ≡ limits.capacity → number ≡ limits.quota → Some (record { capacity = number; quota = number }) ≡ Some limits
+same_limits number limits e d =
+    ap (λ (c : ℕ). Some (record { capacity = c; quota = number })) e ∙ ap (λ (q : ℕ). Some (record { capacity = limits.capacity; quota = q })) d
 
 -- a word without a slash spells no other places
-pub lone_is : (word : List ℕ) (number : ℕ) (places : Places) → position is_slash word ≡ None → ((n : ℕ) → IsNumberWithin 1 65536 word n → Some number ≡ Some n) → ArePlaces word places → Some (record { capacity = number; quota = number }) ≡ Some places
-lone_is word number places none only are =
-    let lone = lone_spelled word places none are in
-    let same : number ≡ places.capacity = some_is number places.capacity (only places.capacity lone.0) in
-    same_places number places same (same ∙ sym lone.1)
+pub lone_is : (word : List ℕ) (number : ℕ) (limits : PacketLimits) → position is_slash word ≡ None → ((n : ℕ) → IsNumberWithin 1 65536 word n → Some number ≡ Some n) → ArePacketLimits word limits → Some (record { capacity = number; quota = number }) ≡ Some limits
+lone_is word number limits none only are =
+    let lone = lone_spelled word limits none are in
+    let same : number ≡ limits.capacity = some_is number limits.capacity (only limits.capacity lone.0) in
+    same_limits number limits same (same ∙ sym lone.1)
 
 -- a word without a slash and without a number spells no places
-pub none_is : (word : List ℕ) (places : Places) → position is_slash word ≡ None → ((n : ℕ) → IsNumberWithin 1 65536 word n → None ≡ Some n) → ArePlaces word places → ⊥
-none_is word places none only are = none-some places.capacity (only places.capacity (lone_spelled word places none are).0)
+pub none_is : (word : List ℕ) (limits : PacketLimits) → position is_slash word ≡ None → ((n : ℕ) → IsNumberWithin 1 65536 word n → None ≡ Some n) → ArePacketLimits word limits → ⊥
+none_is word limits none only are = none-some limits.capacity (only limits.capacity (lone_spelled word limits none are).0)
 
 is_number : (m n : ℕ) → eqb m n ≡ true → m ≡ n
 is_number m n h = grind (arith, nat_tests)
@@ -105,19 +105,19 @@ split_at : (xs : List ℕ) (i : ℕ) → i < length xs → xs ≡ take i xs ++ g
 split_at xs i h = sym (take-append-drop i xs) ∙ ap (λ rest. take i xs ++ rest) (drop_more xs i 0 h)
 
 -- two numbers around the first slash spell the places
-pub both_are : (word : List ℕ) (place : ℕ) (places : Places) → position is_slash word ≡ Some place → IsNumberWithin 1 65536 (take place word) places.capacity → IsNumberWithin 1 places.capacity (take (length word - (place + 1)) (drop (place + 1) word)) places.quota → ArePlaces word places
-both_are word place places at front back =
+pub both_are : (word : List ℕ) (place : ℕ) (limits : PacketLimits) → position is_slash word ≡ Some place → IsNumberWithin 1 65536 (take place word) limits.capacity → IsNumberWithin 1 limits.capacity (take (length word - (place + 1)) (drop (place + 1) word)) limits.quota → ArePacketLimits word limits
+both_are word place limits at prefix back =
     let found = position-Some is_slash word place 0 at in
     let split = split_at word place found.0 in
     let slash : get_or word place 0 ≡ 47 = is_number (get_or word place 0) 47 found.1 in
     record {
-      spelled = inr (split ∙ ap (λ xs. xs ++ get_or word place 0 ∷ drop (place + 1) word) front.spelled ∙ ap (λ b. decimal places.capacity ++ b ∷ drop (place + 1) word) slash ∙ ap (λ ys. decimal places.capacity ++ 47 ∷ ys) (sym (take_rest word (place + 1)) ∙ back.spelled));
-      capacity = front.limit;
+      spelled = inr (split ∙ ap (λ xs. xs ++ get_or word place 0 ∷ drop (place + 1) word) prefix.spelled ∙ ap (λ b. decimal limits.capacity ++ b ∷ drop (place + 1) word) slash ∙ ap (λ ys. decimal limits.capacity ++ 47 ∷ ys) (sym (take_rest word (place + 1)) ∙ back.spelled));
+      capacity = prefix.limit;
       some = back.least;
       within = back.limit;
     }
 
 -- what is found around the first slash is what the word spells
-pub both_found : (word : List ℕ) (place : ℕ) (found : Option Places) → position is_slash word ≡ Some place → IfSome found (λ places. IsNumberWithin 1 65536 (take place word) places.capacity × IsNumberWithin 1 places.capacity (take (length word - (place + 1)) (drop (place + 1) word)) places.quota) → IfSome found (ArePlaces word)
+pub both_found : (word : List ℕ) (place : ℕ) (found : Option PacketLimits) → position is_slash word ≡ Some place → IfSome found (λ limits. IsNumberWithin 1 65536 (take place word) limits.capacity × IsNumberWithin 1 limits.capacity (take (length word - (place + 1)) (drop (place + 1) word)) limits.quota) → IfSome found (ArePacketLimits word)
 both_found word place None at is = tt
-both_found word place (Some places) at is = both_are word place places at is.0 is.1
+both_found word place (Some limits) at is = both_are word place limits at is.0 is.1

@@ -4,7 +4,7 @@ use Rattle.std.proofs.lemmas.Bool.Decides.{nat_tests}
 use Rattle.tesla_desk.specs.Faults.{Faults, HasCausesBeside, Rose, after_sink, no_faults, raised_where_failed}
 use Rattle.tesla_desk.specs.Outside.{Page, Untold, Absent, Holds, Told}
 use Rattle.tesla_desk.proofs.Counts.{not_rose, rose_where_some, rose_within, where_failed_stays}
-use Rattle.tesla_front.specs.Came.{Came, Done, Usage, Refused, Failed, HasOwnStatus, outcome_came, status_of}
+use Rattle.tesla_front.specs.OutcomeView.{OutcomeView, Done, Usage, Refused, Failed, HasOwnStatus, outcome_view, status_of}
 use Rattle.tesla_front.specs.Command.{Command}
 use Rattle.tesla_front.specs.Console.{Shows}
 use Rattle.tesla_front.specs.Fault.{IsUnfailed, fault_status, is_own_status}
@@ -18,7 +18,7 @@ use Rattle.tesla_front.specs.declared.outcome.Outcome.TheVariants as outcomes
 -- ---- statuses
 
 -- a refusal has a status of its own
-pub own_status : (outcome : Outcome) → HasOwnStatus (outcome_came outcome)
+pub own_status : (outcome : Outcome) → HasOwnStatus (outcome_view outcome)
 own_status (outcomes.Done lines) = tt
 own_status outcomes.Usage = tt
 own_status (outcomes.Refused refusal) = refusal.own
@@ -44,19 +44,19 @@ none_own : (fault : Fault) (status : ℕ) → status ≡ fault_status fault → 
 none_own fault status e own = let no : false ≡ true = sym (not_own fault) ∙ ap is_own_status (sym e) ∙ own in cc
 
 -- the status of a fault tells it
-fault_told : (told : Came) (fault : Fault) → HasOwnStatus told → status_of told ≡ fault_status fault → told ≡ Failed fault
-fault_told (Done lines) fault own e = absurd (none_own fault 0 e refl)
-fault_told Usage fault own e = absurd (none_own fault 1 e refl)
-fault_told (Refused status line) fault own e = absurd (none_own fault status e own)
-fault_told (Failed other) fault own e = ap (λ f. Failed f) (sym (at_status other) ∙ ap fault_at e ∙ at_status fault)
+fault_reported : (reported : OutcomeView) (fault : Fault) → HasOwnStatus reported → status_of reported ≡ fault_status fault → reported ≡ Failed fault
+fault_reported (Done lines) fault own e = absurd (none_own fault 0 e refl)
+fault_reported Usage fault own e = absurd (none_own fault 1 e refl)
+fault_reported (Refused status line) fault own e = absurd (none_own fault status e own)
+fault_reported (Failed other) fault own e = ap (λ f. Failed f) (sym (at_status other) ∙ ap fault_at e ∙ at_status fault)
 
 -- ---- counts
 
 -- a fault is told only where its count rose
-record ToldCauses (told : Came) (before now : Faults) : Type 0 where
-  read : told ≡ Failed faults.Read → Rose before.reads now.reads
-  write : told ≡ Failed faults.Write → Rose before.writes now.writes
-  opening : told ≡ Failed faults.Open → Rose before.openings now.openings
+record ReportedCauses (reported : OutcomeView) (before now : Faults) : Type 0 where
+  read : reported ≡ Failed faults.Read → Rose before.reads now.reads
+  write : reported ≡ Failed faults.Write → Rose before.writes now.writes
+  opening : reported ≡ Failed faults.Open → Rose before.openings now.openings
 
 still_by : (before now : ℕ) → nat_lt before now ≡ false → nat_lt before (2 ^ 64 - 1) ≡ true → Rose before now → ⊥
 still_by before now below full (inl less) = grind (arith, nat_tests, below, less)
@@ -72,18 +72,18 @@ rose_indeed : (before now : ℕ) → ((Rose before now → ⊥) → ⊥) → Ros
 rose_indeed before now is = rose_by (nat_lt before now) (nat_lt before (2 ^ 64 - 1)) before now refl refl is
 
 -- what the console shows is what came, or a write to it failed
-told_is : (usage : List ℕ) (came told : Came) (failed : ℕ) (page : Page) → Shows usage came told failed page → (told ≡ came) ⊎ ((told ≡ Failed faults.Write) × (0 < failed))
-told_is usage came told failed Untold (inl same) = inl same
-told_is usage came told failed Untold (inr it) = inr (it.0, it.2)
-told_is usage came told failed Absent none = absurd none
-told_is usage came told failed (Holds text false) it = inl it.0
-told_is usage came told failed (Holds text true) (inl it) = inl it.0
-told_is usage came told failed (Holds text true) (inr it) = inr (it.0, it.2)
+reported_is : (usage : List ℕ) (outcome reported : OutcomeView) (failed : ℕ) (page : Page) → Shows usage outcome reported failed page → (reported ≡ outcome) ⊎ ((reported ≡ Failed faults.Write) × (0 < failed))
+reported_is usage outcome reported failed Untold (inl same) = inl same
+reported_is usage outcome reported failed Untold (inr it) = inr (it.0, it.2)
+reported_is usage outcome reported failed Absent none = absurd none
+reported_is usage outcome reported failed (Holds text false) it = inl it.0
+reported_is usage outcome reported failed (Holds text true) (inl it) = inl it.0
+reported_is usage outcome reported failed (Holds text true) (inr it) = inr (it.0, it.2)
 
 -- a fault of what came raised its count, or a write to the console failed
-console_counts : {hidden : Type 0} (old before new : Faults) (came told : Came) (failed : ℕ) → HasCausesBeside hidden old before (came ≡ Failed faults.Read) (came ≡ Failed faults.Write) (came ≡ Failed faults.Open) → new ≡ after_sink before failed
-    → (told ≡ came) ⊎ ((told ≡ Failed faults.Write) × (0 < failed)) → ToldCauses told old new
-console_counts old before new came told failed counts closed (inl same) =
+console_counts : {hidden : Type 0} (old before new : Faults) (outcome reported : OutcomeView) (failed : ℕ) → HasCausesBeside hidden old before (outcome ≡ Failed faults.Read) (outcome ≡ Failed faults.Write) (outcome ≡ Failed faults.Open) → new ≡ after_sink before failed
+    → (reported ≡ outcome) ⊎ ((reported ≡ Failed faults.Write) × (0 < failed)) → ReportedCauses reported old new
+console_counts old before new outcome reported failed counts closed (inl same) =
     let reads : new.reads ≡ before.reads = ap (λ (f : Faults). f.reads) closed in
     let writes : new.writes ≡ raised_where_failed failed before.writes = ap (λ (f : Faults). f.writes) closed in
     let openings : new.openings ≡ before.openings = ap (λ (f : Faults). f.openings) closed in
@@ -93,7 +93,7 @@ console_counts old before new came told failed counts closed (inl same) =
       write = λ e. rose_within old.writes old.writes before.writes new.writes (omega arith) counts.writes.stays (omega (arith, writes, stays)) (counts.writes.rose (sym same ∙ e));
       opening = λ e. subst (λ (n : ℕ). Rose old.openings n) (sym openings) (counts.openings.rose (sym same ∙ e));
     }
-console_counts old before new came told failed counts closed (inr lost) =
+console_counts old before new outcome reported failed counts closed (inr lost) =
     let writes : new.writes ≡ raised_where_failed failed before.writes = ap (λ (f : Faults). f.writes) closed in
     let stays = where_failed_stays before.writes failed in
     let rose : Rose before.writes new.writes = subst (λ (n : ℕ). Rose before.writes n) (sym writes) (rose_where_some before.writes failed (inl lost.1)) in
@@ -104,72 +104,72 @@ console_counts old before new came told failed counts closed (inr lost) =
     }
 
 -- words that are no form raised no count, and are told so
-formed_causes : {A : Type 0} (told : Came) (old new : Faults) → ((A → ⊥) → told ≡ Usage) → (A → ToldCauses told old new) → ToldCauses told old new
-formed_causes {A} told old new usage done =
-    let formed : (fault : Fault) → told ≡ Failed fault → (A → ⊥) → ⊥ = λ fault e none. let no : Usage ≡ Failed fault = sym (usage none) ∙ e in cc in
+formed_causes : {A : Type 0} (reported : OutcomeView) (old new : Faults) → ((A → ⊥) → reported ≡ Usage) → (A → ReportedCauses reported old new) → ReportedCauses reported old new
+formed_causes {A} reported old new usage done =
+    let formed : (fault : Fault) → reported ≡ Failed fault → (A → ⊥) → ⊥ = λ fault e none. let no : Usage ≡ Failed fault = sym (usage none) ∙ e in cc in
     record {
       read = λ e. rose_indeed old.reads new.reads (λ none. formed faults.Read e (λ a. none ((done a).read e)));
       write = λ e. rose_indeed old.writes new.writes (λ none. formed faults.Write e (λ a. none ((done a).write e)));
       opening = λ e. rose_indeed old.openings new.openings (λ none. formed faults.Open e (λ a. none ((done a).opening e)));
     }
 
-console_causes : (command : Command) (usage : List ℕ) (words : List (List ℕ)) (old new : Told) (told : Came) → HasConsole command usage words old new told → ToldCauses told old.faults new.faults
-console_causes command usage words old new told ran =
-    formed_causes {A = (arguments : command.Arguments) × command.IsForm arguments words} told old.faults new.faults
+console_causes : (command : Command) (usage : List ℕ) (words : List (List ℕ)) (old new : Told) (reported : OutcomeView) → HasConsole command usage words old new reported → ReportedCauses reported old.faults new.faults
+console_causes command usage words old new reported ran =
+    formed_causes {A = (arguments : command.Arguments) × command.IsForm arguments words} reported old.faults new.faults
     (λ none. (ran.no_form (λ arguments form. none (arguments, form))).is_usage)
-    (λ a. let it = ran.form a.0 a.1 in console_counts old.faults it.before_console new.faults it.came told it.failed it.counts it.closed (told_is usage it.came told it.failed _ it.shows))
+    (λ a. let it = ran.form a.0 a.1 in console_counts old.faults it.before_console new.faults it.outcome reported it.failed it.counts it.closed (reported_is usage it.outcome reported it.failed _ it.shows))
 
 -- the same of a command that prints lines: what the console shows is what came, or a write to it failed
-printed_is : (lines usage : List ℕ) (came told : Came) (failed : ℕ) (page : Page) → ShowsAfter lines usage came told failed page → (told ≡ came) ⊎ ((told ≡ Failed faults.Write) × (0 < failed))
-printed_is lines usage came told failed Untold (inl same) = inl same
-printed_is lines usage came told failed Untold (inr it) = inr (it.0, it.2)
-printed_is lines usage came told failed Absent none = absurd none
-printed_is lines usage came told failed (Holds text false) it = inl it.0
-printed_is lines usage came told failed (Holds text true) (some, inl it) = inl it.0
-printed_is lines usage came told failed (Holds text true) (some, inr (inl it)) = inl it.0
-printed_is lines usage came told failed (Holds text true) (some, inr (inr it)) = inr (it.0, some)
+printed_is : (lines usage : List ℕ) (outcome reported : OutcomeView) (failed : ℕ) (page : Page) → ShowsAfter lines usage outcome reported failed page → (reported ≡ outcome) ⊎ ((reported ≡ Failed faults.Write) × (0 < failed))
+printed_is lines usage outcome reported failed Untold (inl same) = inl same
+printed_is lines usage outcome reported failed Untold (inr it) = inr (it.0, it.2)
+printed_is lines usage outcome reported failed Absent none = absurd none
+printed_is lines usage outcome reported failed (Holds text false) it = inl it.0
+printed_is lines usage outcome reported failed (Holds text true) (some, inl it) = inl it.0
+printed_is lines usage outcome reported failed (Holds text true) (some, inr (inl it)) = inl it.0
+printed_is lines usage outcome reported failed (Holds text true) (some, inr (inr it)) = inr (it.0, some)
 
-printed_causes : (command : PrintingCommand) (usage : List ℕ) (words : List (List ℕ)) (old new : Told) (told : Came) → HasPrinted command usage words old new told → ToldCauses told old.faults new.faults
-printed_causes command usage words old new told ran =
-    formed_causes {A = (arguments : command.Arguments) × command.IsForm arguments words} told old.faults new.faults
+printed_causes : (command : PrintingCommand) (usage : List ℕ) (words : List (List ℕ)) (old new : Told) (reported : OutcomeView) → HasPrinted command usage words old new reported → ReportedCauses reported old.faults new.faults
+printed_causes command usage words old new reported ran =
+    formed_causes {A = (arguments : command.Arguments) × command.IsForm arguments words} reported old.faults new.faults
     (λ none. (ran.no_form (λ arguments form. none (arguments, form))).is_usage)
-    (λ a. let it = ran.form a.0 a.1 in console_counts old.faults it.before_console new.faults it.came told it.failed it.counts it.closed (printed_is it.lines usage it.came told it.failed _ it.shows))
+    (λ a. let it = ran.form a.0 a.1 in console_counts old.faults it.before_console new.faults it.outcome reported it.failed it.counts it.closed (printed_is it.lines usage it.outcome reported it.failed _ it.shows))
 
-unopened_none : (told : Came) (fault : Fault) → (told ≡ Failed faults.Open) ⊎ (told ≡ Failed faults.NoMemory) → told ≡ Failed fault → (fault ≡ faults.Open → ⊥) → (fault ≡ faults.NoMemory → ⊥) → ⊥
-unopened_none told fault (inl is) e no_open no_memory = no_open (let same : Failed fault ≡ Failed faults.Open = sym e ∙ is in cc)
-unopened_none told fault (inr is) e no_open no_memory = no_memory (let same : Failed fault ≡ Failed faults.NoMemory = sym e ∙ is in cc)
+unopened_none : (reported : OutcomeView) (fault : Fault) → (reported ≡ Failed faults.Open) ⊎ (reported ≡ Failed faults.NoMemory) → reported ≡ Failed fault → (fault ≡ faults.Open → ⊥) → (fault ≡ faults.NoMemory → ⊥) → ⊥
+unopened_none reported fault (inl is) e no_open no_memory = no_open (let same : Failed fault ≡ Failed faults.Open = sym e ∙ is in cc)
+unopened_none reported fault (inr is) e no_open no_memory = no_memory (let same : Failed fault ≡ Failed faults.NoMemory = sym e ∙ is in cc)
 
-no_console_causes : (old new : Told) (told : Came) → HasNoConsole old new told → ToldCauses told old.faults new.faults
-no_console_causes old new told none = record {
-  read = λ e. absurd (unopened_none told faults.Read none.fault e (λ no. cc) (λ no. cc));
-  write = λ e. absurd (unopened_none told faults.Write none.fault e (λ no. cc) (λ no. cc));
+no_console_causes : (old new : Told) (reported : OutcomeView) → HasNoConsole old new reported → ReportedCauses reported old.faults new.faults
+no_console_causes old new reported none = record {
+  read = λ e. absurd (unopened_none reported faults.Read none.fault e (λ no. cc) (λ no. cc));
+  write = λ e. absurd (unopened_none reported faults.Write none.fault e (λ no. cc) (λ no. cc));
   opening = λ e. none.counts.openings.rose e;
 }
 
-told_causes : (command : Command) (usage : List ℕ) (words : List (List ℕ)) (old new : Told) (told : Came) → Runs command usage words old new told → ToldCauses told old.faults new.faults
-told_causes command usage words old new told (inl none) = no_console_causes old new told none
-told_causes command usage words old new told (inr ran) = console_causes command usage words old new told ran
+reported_causes : (command : Command) (usage : List ℕ) (words : List (List ℕ)) (old new : Told) (reported : OutcomeView) → Runs command usage words old new reported → ReportedCauses reported old.faults new.faults
+reported_causes command usage words old new reported (inl none) = no_console_causes old new reported none
+reported_causes command usage words old new reported (inr ran) = console_causes command usage words old new reported ran
 
-told_printing : (command : PrintingCommand) (usage : List ℕ) (words : List (List ℕ)) (old new : Told) (told : Came) → RunsPrinting command usage words old new told → ToldCauses told old.faults new.faults
-told_printing command usage words old new told (inl none) = no_console_causes old new told none
-told_printing command usage words old new told (inr ran) = printed_causes command usage words old new told ran
+reported_printing : (command : PrintingCommand) (usage : List ℕ) (words : List (List ℕ)) (old new : Told) (reported : OutcomeView) → RunsPrinting command usage words old new reported → ReportedCauses reported old.faults new.faults
+reported_printing command usage words old new reported (inl none) = no_console_causes old new reported none
+reported_printing command usage words old new reported (inr ran) = printed_causes command usage words old new reported ran
 
 -- ---- both
 
-by_status : (told : Came) (old new : Faults) → HasOwnStatus told → ToldCauses told old new → HasStatusCauses (status_of told) old new
-by_status told old new own causes = record {
-  read = λ e. causes.read (fault_told told faults.Read own e);
-  write = λ e. causes.write (fault_told told faults.Write own e);
-  opening = λ e. causes.opening (fault_told told faults.Open own e);
+by_status : (reported : OutcomeView) (old new : Faults) → HasOwnStatus reported → ReportedCauses reported old new → HasStatusCauses (status_of reported) old new
+by_status reported old new own causes = record {
+  read = λ e. causes.read (fault_reported reported faults.Read own e);
+  write = λ e. causes.write (fault_reported reported faults.Write own e);
+  opening = λ e. causes.opening (fault_reported reported faults.Open own e);
 }
 
 -- the status of what a run came to is that of a fault only where its count rose
-pub status_causes : (command : Command) (usage : List ℕ) (words : List (List ℕ)) (old new : Told) (told : Came) → HasOwnStatus told → Runs command usage words old new told → HasStatusCauses (status_of told) old.faults new.faults
-status_causes command usage words old new told own runs = by_status told old.faults new.faults own (told_causes command usage words old new told runs)
+pub status_causes : (command : Command) (usage : List ℕ) (words : List (List ℕ)) (old new : Told) (reported : OutcomeView) → HasOwnStatus reported → Runs command usage words old new reported → HasStatusCauses (status_of reported) old.faults new.faults
+status_causes command usage words old new reported own runs = by_status reported old.faults new.faults own (reported_causes command usage words old new reported runs)
 
 -- so it is of a command that prints lines while it goes
-pub printing_status_causes : (command : PrintingCommand) (usage : List ℕ) (words : List (List ℕ)) (old new : Told) (told : Came) → HasOwnStatus told → RunsPrinting command usage words old new told → HasStatusCauses (status_of told) old.faults new.faults
-printing_status_causes command usage words old new told own runs = by_status told old.faults new.faults own (told_printing command usage words old new told runs)
+pub printing_status_causes : (command : PrintingCommand) (usage : List ℕ) (words : List (List ℕ)) (old new : Told) (reported : OutcomeView) → HasOwnStatus reported → RunsPrinting command usage words old new reported → HasStatusCauses (status_of reported) old.faults new.faults
+printing_status_causes command usage words old new reported own runs = by_status reported old.faults new.faults own (reported_printing command usage words old new reported runs)
 
 -- and where no count can rise no such status comes
 pub never_failed : (status : ℕ) → HasStatusCauses status no_faults no_faults → IsUnfailed status

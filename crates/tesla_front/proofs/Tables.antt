@@ -6,7 +6,7 @@ use Rattle.std.specs.Str.{bytes_eq}
 use Rattle.std.proofs.lemmas.Slice.Eq.{bytes_eq-Decides}
 use Rattle.tesla_desk.specs.Live.{Live}
 use Rattle.tesla_desk.specs.Outside.{Told}
-use Rattle.tesla_front.specs.Came.{Came, outcome_came, status_of}
+use Rattle.tesla_front.specs.OutcomeView.{OutcomeView, outcome_view, status_of}
 use Rattle.tesla_front.specs.Command.{Command, IsNoForm, RunsAs}
 use Rattle.tesla_front.specs.Forms.{HasFirst, WordIs}
 use Rattle.tesla_front.specs.Parts.{texts_of}
@@ -42,9 +42,9 @@ pub begins_with_name : {Others : List (List ℕ) → Type 0} (name : List ℕ) (
 begins_with_name name words is = is.are ∙ ap (λ (word : List ℕ). word ∷ is.others) is.first
 
 -- words that are spelled so were run as the command of such words
-pub as_spelled : (command : List (List ℕ) → Command) (words spelled : List (List ℕ)) (old new : Told) (came : Came) → words ≡ spelled
-    → RunsAs (command words) words old new came → RunsAs (command spelled) words old new came
-as_spelled command words spelled old new came is runs = subst (λ (all : List (List ℕ)). RunsAs (command all) words old new came) is runs
+pub as_spelled : (command : List (List ℕ) → Command) (words spelled : List (List ℕ)) (old new : Told) (outcome : OutcomeView) → words ≡ spelled
+    → RunsAs (command words) words old new outcome → RunsAs (command spelled) words old new outcome
+as_spelled command words spelled old new outcome is runs = subst (λ (all : List (List ℕ)). RunsAs (command all) words old new outcome) is runs
 
 -- ---- the run
 
@@ -52,21 +52,21 @@ as_spelled command words spelled old new came is runs = subst (λ (all : List (L
 pub table_run : {D T : Type 0} (told : D → Told) (Calls : MutBor D → LiveRun T → MutBor D → Type 0) (command : Live → Live → Option T → Command)
     (Leaves : Type 0) (usage : List ℕ) (words : List (List ℕ)) (old new : D) (result : LiveRun T)
     → ((opened done : MutBor D) (run : LiveRun T) → Calls opened run done
-    → RunsLeaving command Leaves words (told opened.now) (told done.now) run.last (outcome_came run.outcome))
-    → RunsConsole told Calls usage old new result → RunsTable command Leaves usage words (told old) (told new) result.last (outcome_came result.outcome)
+    → RunsLeaving command Leaves words (told opened.now) (told done.now) run.last (outcome_view run.outcome))
+    → RunsConsole told Calls usage old new result → RunsTable command Leaves usage words (told old) (told new) result.last (outcome_view result.outcome)
 table_run told Calls command Leaves usage words old new result runs (inl none) = inl none
 table_run {D} {T} told Calls command Leaves usage words old new result runs (inr it) =
     let opened = told it.opened.now in
     let done = told it.done.now in
-    let came = outcome_came it.run.outcome in
+    let outcome = outcome_view it.run.outcome in
     let live = λ (before now : Live). command before now result.last in
-    let ran : RunsLeaving command Leaves words opened done result.last came =
-    subst (λ (last : Option T). RunsLeaving command Leaves words opened done last came) (sym it.last) (runs it.opened it.done it.run it.runs) in
+    let ran : RunsLeaving command Leaves words opened done result.last outcome =
+    subst (λ (last : Option T). RunsLeaving command Leaves words opened done last outcome) (sym it.last) (runs it.opened it.done it.run it.runs) in
     let unformed : IsNoForm (live (told old).live (told new).live) words → IsNoForm (live opened.live done.live) words =
-    λ none. subst (λ (now : Live). IsNoForm (live opened.live now) words) it.tolds.closes.live
-    (subst (λ (before : Live). IsNoForm (live before (told new).live) words) (sym it.tolds.opens.live) none) in
+    λ none. subst (λ (now : Live). IsNoForm (live opened.live now) words) it.reports.closes.live
+    (subst (λ (before : Live). IsNoForm (live before (told new).live) words) (sym it.reports.opens.live) none) in
     inr (
-      live_console_opened live usage words (told old) opened done (told new) came (outcome_came result.outcome) it.written it.failed it.tolds ran.runs,
+      live_console_opened live usage words (told old) opened done (told new) outcome (outcome_view result.outcome) it.written it.failed it.reports ran.runs,
       λ none. ran.none (ran.runs.usage (unformed none)).0,
       ran.others,
     )
@@ -74,25 +74,25 @@ table_run {D} {T} told Calls command Leaves usage words old new result runs (inr
 -- so it is where the command is told no history
 pub plain_run : {D T : Type 0} (told : D → Told) (Calls : MutBor D → LiveRun T → MutBor D → Type 0) (command : Command) (usage : List ℕ)
     (words : List (List ℕ)) (old new : D) (result : LiveRun T)
-    → ((opened done : MutBor D) (run : LiveRun T) → Calls opened run done → RunsAs command words (told opened.now) (told done.now) (outcome_came run.outcome))
-    → RunsConsole told Calls usage old new result → Runs command usage words (told old) (told new) (outcome_came result.outcome)
+    → ((opened done : MutBor D) (run : LiveRun T) → Calls opened run done → RunsAs command words (told opened.now) (told done.now) (outcome_view run.outcome))
+    → RunsConsole told Calls usage old new result → Runs command usage words (told old) (told new) (outcome_view result.outcome)
 plain_run told Calls command usage words old new result runs (inl none) = inl none.0
 plain_run told Calls command usage words old new result runs (inr it) =
-    inr (console_opened command usage words (told old) (told it.opened.now) (told it.done.now) (told new) (outcome_came it.run.outcome)
-    (outcome_came result.outcome) it.written it.failed it.tolds (runs it.opened it.done it.run it.runs))
+    inr (console_opened command usage words (told old) (told it.opened.now) (told it.done.now) (told new) (outcome_view it.run.outcome)
+    (outcome_view result.outcome) it.written it.failed it.reports (runs it.opened it.done it.run it.runs))
 
 -- the status of what a run came to is that of a fault only where its count rose
 pub plain_causes : (command : Command) (usage : List ℕ) (words : List (List ℕ)) (old new : Told) (outcome : Outcome) (status : ℕ)
-    → status ≡ status_of (outcome_came outcome)
-    → Runs command usage words old new (outcome_came outcome) → HasStatusCauses status old.faults new.faults
+    → status ≡ status_of (outcome_view outcome)
+    → Runs command usage words old new (outcome_view outcome) → HasStatusCauses status old.faults new.faults
 plain_causes command usage words old new outcome status is runs =
     subst (λ (s : ℕ). HasStatusCauses s old.faults new.faults) (sym is)
-    (status_causes command usage words old new (outcome_came outcome) (own_status outcome) runs)
+    (status_causes command usage words old new (outcome_view outcome) (own_status outcome) runs)
 
 -- so it is of a command that is told the history
 pub table_causes : {T : Type 0} (command : Live → Live → Option T → Command) (Leaves : Type 0) (usage : List ℕ) (words : List (List ℕ)) (old new : Told)
-    (last : Option T) (outcome : Outcome) (status : ℕ) → status ≡ status_of (outcome_came outcome)
-    → RunsTable command Leaves usage words old new last (outcome_came outcome) → HasStatusCauses status old.faults new.faults
+    (last : Option T) (outcome : Outcome) (status : ℕ) → status ≡ status_of (outcome_view outcome)
+    → RunsTable command Leaves usage words old new last (outcome_view outcome) → HasStatusCauses status old.faults new.faults
 table_causes command Leaves usage words old new last outcome status is (inl none) =
     plain_causes (command old.live new.live last) usage words old new outcome status is (inl none.0)
 table_causes command Leaves usage words old new last outcome status is (inr ran) =

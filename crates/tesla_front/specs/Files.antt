@@ -2,7 +2,7 @@
 use Rattle.std.specs.Prelude.{◌≡◌, ◌≢◌, ℕ, ◌+◌, ◌≤◌, true, false, Option, IfSome, Result, Ok, Err, List, [], ◌++◌, length, take}
 use Rattle.tesla_desk.specs.Live.{Mail, UntoldMail, AbsentMail, HoldsMail}
 use Rattle.tesla_desk.specs.Outside.{Page, Untold, Absent, Holds, after_bytes}
-use Rattle.tesla_front.specs.Came.{Came, Refused, Failed}
+use Rattle.tesla_front.specs.OutcomeView.{OutcomeView, Refused, Failed}
 use Rattle.tesla_front.specs.declared.fault.Fault.{Fault}
 use Rattle.tesla_front.specs.declared.fault.Fault.TheVariants.{Read, Write, NoMemory, Open}
 
@@ -31,7 +31,7 @@ HasFailedMail AbsentMail = ⊥
 HasFailedMail (HoldsMail sent failed) = failed ≡ true
 
 -- why a file isn't taken: there is one, and where its text is told this is why; or something else went wrong, but no write
-abbrev pub IsRefusedIn : Page → (List ℕ → Came → Type 0) → Came → Type 0
+abbrev pub IsRefusedIn : Page → (List ℕ → OutcomeView → Type 0) → OutcomeView → Type 0
 IsRefusedIn page Why (Refused status line) = HoldsWhere page (λ text. Why text (Refused status line))
 IsRefusedIn page Why (Failed fault) = fault ≢ Write
 IsRefusedIn page Why _ = ⊥

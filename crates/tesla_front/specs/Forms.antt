@@ -3,8 +3,8 @@ use Rattle.std.specs.Prelude.{◌≡◌, ℕ, ℤ, List, [], ◌∷◌, FitsSign
 use Rattle.std.specs.Fmt.{signed_decimal}
 use Rattle.std.specs.Int.{w64}
 use Rattle.tesla_front.specs.Names.{AreNames}
-use Rattle.tesla_front.specs.Words.{IsName, IsNumberWithin, ArePlaces}
-use Rattle.tesla_front.specs.declared.words.Places.{Places}
+use Rattle.tesla_front.specs.Words.{IsName, IsNumberWithin, ArePacketLimits}
+use Rattle.tesla_front.specs.declared.words.PacketLimits.{PacketLimits}
 
 -- the first of the words spells something, and the others spell the rest
 pub record HasFirst (Spells : List ℕ → Type 0) (Others : List (List ℕ) → Type 0) (words : List (List ℕ)) : Type 0 where
@@ -42,5 +42,5 @@ abbrev pub LagIs : ℤ → List ℕ → Type 0
 LagIs lag word = (word ≡ signed_decimal lag) × FitsSigned w64 lag
 
 -- how many packets are held at most
-abbrev pub PlacesAre : Places → List ℕ → Type 0
-PlacesAre places word = ArePlaces word places
+abbrev pub LimitsAre : PacketLimits → List ℕ → Type 0
+LimitsAre limits word = ArePacketLimits word limits

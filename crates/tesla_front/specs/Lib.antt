@@ -2,7 +2,7 @@ pub mod Command
 pub mod Run
 pub mod Printing
 pub mod Table
-pub mod Came
+pub mod OutcomeView
 pub mod Console
 pub mod Usage
 pub mod Words

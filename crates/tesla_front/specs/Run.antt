@@ -2,7 +2,7 @@
 use Rattle.std.specs.Prelude.{◌≡◌, ◌≢◌, ◌⊎◌, ℕ, ◌-◌, ◌^◌, ◌<◌, List, [], ◌∷◌, take, codes}
 use Rattle.tesla_desk.specs.Faults.{Faults, CountsOpening, HasCausesBeside, Rose, after_sink}
 use Rattle.tesla_desk.specs.Outside.{Opening, OfSource, OfSink, Told, with_openings, AsksPrefix}
-use Rattle.tesla_front.specs.Came.{Came, Usage, Failed}
+use Rattle.tesla_front.specs.OutcomeView.{OutcomeView, Usage, Failed}
 use Rattle.tesla_front.specs.Command.{Command, IsNoForm}
 use Rattle.tesla_front.specs.Console.{Shows}
 use Rattle.tesla_front.specs.Openings.{AnyFailed, IsAmong, files_told}
@@ -13,28 +13,28 @@ abbrev pub console : Opening
 console = OfSink (codes "-")
 
 -- the console wasn't opened: nothing else was, and nothing is written
-pub record HasNoConsole (old new : Told) (told : Came) : Type 0 where
-  pub fault : (told ≡ Failed faults.Open) ⊎ (told ≡ Failed faults.NoMemory)
+pub record HasNoConsole (old new : Told) (reported : OutcomeView) : Type 0 where
+  pub fault : (reported ≡ Failed faults.Open) ⊎ (reported ≡ Failed faults.NoMemory)
   pub asked : AsksPrefix (console ∷ []) old.openings new.openings
   pub pages : (name : List ℕ) → new.page name ≡ old.page name
   pub lefts : (name : List ℕ) → new.left name ≡ old.left name
   pub live : new.live ≡ old.live
-  pub counts : CountsOpening old.faults new.faults (told ≡ Failed faults.Open)
+  pub counts : CountsOpening old.faults new.faults (reported ≡ Failed faults.Open)
 
 -- words that are no form: the console alone was opened, and told so
-pub record TellsUsage (usage : List ℕ) (old new : Told) (told : Came) : Type 0 where
+pub record TellsUsage (usage : List ℕ) (old new : Told) (reported : OutcomeView) : Type 0 where
   pub asked : new.openings ≡ with_openings old.openings (console ∷ [])
   pub pages : (name : List ℕ) → name ≢ codes "-" → new.page name ≡ old.page name
   pub lefts : (name : List ℕ) → new.left name ≡ old.left name
   pub live : new.live ≡ old.live
-  pub is_usage : told ≡ Usage
+  pub is_usage : reported ≡ Usage
   -- so many writes to the console failed, and nothing else did
   pub failed : ℕ
   pub counts : new.faults ≡ after_sink old.faults failed
-  pub shows : Shows usage Usage told failed (new.page (codes "-"))
+  pub shows : Shows usage Usage reported failed (new.page (codes "-"))
 
 -- words that are a form: the console was opened, the command did what it does, and the console is told what it came to
-pub record IsDoneAs (command : Command) (arguments : command.Arguments) (usage : List ℕ) (old new : Told) (told : Came) : Type 0 where
+pub record IsDoneAs (command : Command) (arguments : command.Arguments) (usage : List ℕ) (old new : Told) (reported : OutcomeView) : Type 0 where
   -- after the console so many of its files were asked to be opened, in order
   pub opened : ℕ
   pub asked : new.openings ≡ with_openings old.openings (console ∷ take opened (command.files arguments))
@@ -42,23 +42,23 @@ pub record IsDoneAs (command : Command) (arguments : command.Arguments) (usage :
   pub pages : (name : List ℕ) → name ≢ codes "-" → (IsAmong (OfSink name) (take opened (command.files arguments)) → ⊥) → new.page name ≡ old.page name
   pub lefts : (name : List ℕ) → (IsAmong (OfSource name) (take opened (command.files arguments)) → ⊥) → new.left name ≡ old.left name
   -- the command did what it does, and came to the first thing that failed
-  pub came : Came
-  pub does : command.Does arguments opened (files_told old (command.files arguments)) (files_told new (command.files arguments)) came
+  pub outcome : OutcomeView
+  pub does : command.Does arguments opened (files_told old (command.files arguments)) (files_told new (command.files arguments)) outcome
   pub before_console : Faults
-  pub counts : HasCausesBeside ((came ≡ Failed faults.Read) × AnyFailed (command.files arguments) new) old.faults before_console (came ≡ Failed faults.Read) (came ≡ Failed faults.Write) (came ≡ Failed faults.Open)
+  pub counts : HasCausesBeside ((outcome ≡ Failed faults.Read) × AnyFailed (command.files arguments) new) old.faults before_console (outcome ≡ Failed faults.Read) (outcome ≡ Failed faults.Write) (outcome ≡ Failed faults.Open)
   -- and the console is told that, on which so many writes failed
   pub failed : ℕ
   pub closed : new.faults ≡ after_sink before_console failed
-  pub shows : Shows usage came told failed (new.page (codes "-"))
+  pub shows : Shows usage outcome reported failed (new.page (codes "-"))
 
 -- a run with the console opened
-pub record HasConsole (command : Command) (usage : List ℕ) (words : List (List ℕ)) (old new : Told) (told : Came) : Type 0 where
-  pub no_form : IsNoForm command words → TellsUsage usage old new told
-  pub form : (arguments : command.Arguments) → command.IsForm arguments words → IsDoneAs command arguments usage old new told
+pub record HasConsole (command : Command) (usage : List ℕ) (words : List (List ℕ)) (old new : Told) (reported : OutcomeView) : Type 0 where
+  pub no_form : IsNoForm command words → TellsUsage usage old new reported
+  pub form : (arguments : command.Arguments) → command.IsForm arguments words → IsDoneAs command arguments usage old new reported
 
 -- one run of the words over a desk: what it tells before and after, and what the run came to, as it was told
-abbrev pub Runs : Command → List ℕ → List (List ℕ) → Told → Told → Came → Type 0
-Runs command usage words old new told = HasNoConsole old new told ⊎ HasConsole command usage words old new told
+abbrev pub Runs : Command → List ℕ → List (List ℕ) → Told → Told → OutcomeView → Type 0
+Runs command usage words old new reported = HasNoConsole old new reported ⊎ HasConsole command usage words old new reported
 
 -- no count of faults rose, and none stands at the end of its type
 pub record NothingFailed (old new : Faults) : Type 0 where

@@ -5,7 +5,7 @@ use Rattle.std.specs.List.{list_any}
 use Rattle.std.specs.Str.{bytes_eq}
 use Rattle.tesla_desk.specs.Live.{Live}
 use Rattle.tesla_desk.specs.Outside.{ClosesSink, Told, with_opening}
-use Rattle.tesla_front.specs.Came.{Came, Usage, outcome_came}
+use Rattle.tesla_front.specs.OutcomeView.{OutcomeView, Usage, outcome_view}
 use Rattle.tesla_front.specs.Command.{Command, IsNoForm, RunsAs, no_command}
 use Rattle.tesla_front.specs.Console.{Tells}
 use Rattle.tesla_front.specs.Run.{HasConsole, HasNoConsole, console}
@@ -45,10 +45,10 @@ pub record OpensConsole (old opened : Told) (before : Option (List ℕ)) : Type 
   pub empty : IfSome before (λ bytes. bytes ≡ [])
 
 -- the console was opened before what was done, told what came, and closed
-pub record Tolds (usage : List ℕ) (old opened done new : Told) (came told : Came) (written : Option (List ℕ)) (failed : ℕ) : Type 0 where
+pub record Reports (usage : List ℕ) (old opened done new : Told) (outcome reported : OutcomeView) (written : Option (List ℕ)) (failed : ℕ) : Type 0 where
   pub before : Option (List ℕ)
   pub opens : OpensConsole old opened before
-  pub tells : Tells usage came told before written failed
+  pub tells : Tells usage outcome reported before written failed
   pub closes : ClosesSink (codes "-") written failed done new
 
 -- this ran over a desk whose console is open, told which calls at a desk there may be, and the console was told what it came to; the history that it left stays
@@ -61,23 +61,23 @@ pub record TellsRun {D T : Type 0} (told : D → Told) (Runs : MutBor D → Live
   pub last : result.last ≡ run.last
   pub written : Option (List ℕ)
   pub failed : ℕ
-  pub tolds : Tolds usage (told old) (told opened.now) (told done.now) (told new) (outcome_came run.outcome) (outcome_came result.outcome) written failed
+  pub reports : Reports usage (told old) (told opened.now) (told done.now) (told new) (outcome_view run.outcome) (outcome_view result.outcome) written failed
 
 -- this ran with the console; without one nothing was opened or run
 abbrev pub RunsConsole : {D T : Type 0} → (D → Told) → (MutBor D → LiveRun T → MutBor D → Type 0) → List ℕ → D → D → LiveRun T → Type 0
 RunsConsole told Runs usage old new result =
-    (HasNoConsole (told old) (told new) (outcome_came result.outcome) × (result.last ≡ None)) ⊎ TellsRun told Runs usage old new result
+    (HasNoConsole (told old) (told new) (outcome_view result.outcome) × (result.last ≡ None)) ⊎ TellsRun told Runs usage old new result
 
 -- the words were run as those of the command, told the history that they leave: there is none of words that are no form, nor where they don't leave one
 pub record RunsLeaving {T : Type 0} (command : Live → Live → Option T → Command) (Leaves : Type 0) (words : List (List ℕ)) (old new : Told) (last : Option T)
-    (came : Came) : Type 0 where
-  pub runs : RunsAs (command old.live new.live last) words old new came
-  pub none : came ≡ Usage → last ≡ None
+    (outcome : OutcomeView) : Type 0 where
+  pub runs : RunsAs (command old.live new.live last) words old new outcome
+  pub none : outcome ≡ Usage → last ≡ None
   pub others : (Leaves → ⊥) → last ≡ None
 
 -- one run of the words of a table over a desk: what it tells before and after, the whole history where there is one, and what the run came to, as it was told
-abbrev pub RunsTable : {T : Type 0} → (Live → Live → Option T → Command) → Type 0 → List ℕ → List (List ℕ) → Told → Told → Option T → Came → Type 0
-RunsTable command Leaves usage words old new last told =
-    (HasNoConsole old new told × (last ≡ None))
-    ⊎ (HasConsole (command old.live new.live last) usage words old new told
+abbrev pub RunsTable : {T : Type 0} → (Live → Live → Option T → Command) → Type 0 → List ℕ → List (List ℕ) → Told → Told → Option T → OutcomeView → Type 0
+RunsTable command Leaves usage words old new last reported =
+    (HasNoConsole old new reported × (last ≡ None))
+    ⊎ (HasConsole (command old.live new.live last) usage words old new reported
     × (IsNoForm (command old.live new.live last) words → last ≡ None) × ((Leaves → ⊥) → last ≡ None))

@@ -1,6 +1,6 @@
 -- The words that several commands share.
 use Rattle.std.specs.Prelude.{◌≡◌, ◌≢◌, ◌⊎◌, ◌==◌, Bool, ℕ, ◌≤◌, List, [], ◌++◌, codes, decimal}
-use Rattle.tesla_front.specs.declared.words.Places.{Places}
+use Rattle.tesla_front.specs.declared.words.PacketLimits.{PacketLimits}
 
 -- a name of a file: it is not empty, and not the console's
 pub record IsName (word : List ℕ) : Type 0 where
@@ -18,8 +18,8 @@ abbrev pub is_slash : ℕ → Bool
 is_slash b = b == 47
 
 -- the word spells how many packets are held at most: one number, which is the capacity and the quota, or the one, a slash and the other
-pub record ArePlaces (word : List ℕ) (places : Places) : Type 0 where
-  pub spelled : ((word ≡ decimal places.capacity) × (places.quota ≡ places.capacity)) ⊎ (word ≡ decimal places.capacity ++ (codes "/" ++ decimal places.quota))
-  pub capacity : places.capacity ≤ 65536
-  pub some : 1 ≤ places.quota
-  pub within : places.quota ≤ places.capacity
+pub record ArePacketLimits (word : List ℕ) (limits : PacketLimits) : Type 0 where
+  pub spelled : ((word ≡ decimal limits.capacity) × (limits.quota ≡ limits.capacity)) ⊎ (word ≡ decimal limits.capacity ++ (codes "/" ++ decimal limits.quota))
+  pub capacity : limits.capacity ≤ 65536
+  pub some : 1 ≤ limits.quota
+  pub within : limits.quota ≤ limits.capacity

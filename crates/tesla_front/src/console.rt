@@ -3,7 +3,7 @@
 ghost use Rattle.std.specs.Prelude.{◌≡◌, ◌++◌, codes, true, false};
 ghost use Rattle.tesla_desk.specs.Faults.{HasCause};
 ghost use Rattle.tesla_desk.specs.Outside.{AppendsPrefix, with_bytes};
-ghost use Rattle.tesla_front.specs.Came.{Done as CameDone, IsDone, outcome_came, text_of};
+ghost use Rattle.tesla_front.specs.OutcomeView.{Done as DoneView, IsDone, outcome_view, text_of};
 ghost use Rattle.tesla_front.specs.Console.{Tells};
 ghost use Rattle.tesla_front.specs.Usage.{usage_line, usage_of};
 
@@ -47,7 +47,7 @@ fn write_usage<S: Sink>(console: &mut S, forms: &[FormText]) -> bool
 // Tells a summary. One that isn't written whole is a write fault, which is told behind it.
 fn tell_summary<S: Sink>(console: &mut S, forms: &[FormText], lines: Lines) -> Outcome
     requires { S.faults console.old ≡ 0 }
-    ensures tells { Tells (usage_of forms.now) (CameDone lines.bytes) (outcome_came result) (S.written console.old) (S.written console.new) (S.faults console.new) }
+    ensures tells { Tells (usage_of forms.now) (DoneView lines.bytes) (outcome_view result) (S.written console.old) (S.written console.new) (S.faults console.new) }
     ensures name { S.name console.new ≡ S.name console.old }
 {
     let _ = forms;
@@ -60,9 +60,9 @@ fn tell_summary<S: Sink>(console: &mut S, forms: &[FormText], lines: Lines) -> O
 
 /// Writes the lines of an outcome that has no summary. False: a write failed.
 pub(crate) fn write_lines<S: Sink>(console: &mut S, forms: &[FormText], outcome: &Outcome) -> bool
-    requires { IsDone (outcome_came outcome.now) → ⊥ }
-    ensures all { result ≡ true → S.written console.new ≡ with_bytes (S.written console.old) (text_of (usage_of forms.now) (outcome_came outcome.now)) }
-    ensures prefix { AppendsPrefix (S.written console.old) (S.written console.new) (text_of (usage_of forms.now) (outcome_came outcome.now)) }
+    requires { IsDone (outcome_view outcome.now) → ⊥ }
+    ensures all { result ≡ true → S.written console.new ≡ with_bytes (S.written console.old) (text_of (usage_of forms.now) (outcome_view outcome.now)) }
+    ensures prefix { AppendsPrefix (S.written console.old) (S.written console.new) (text_of (usage_of forms.now) (outcome_view outcome.now)) }
     ensures cause { HasCause (S.faults console.old) (S.faults console.new) (result ≡ false) }
     ensures name { S.name console.new ≡ S.name console.old }
 {
@@ -76,16 +76,16 @@ pub(crate) fn write_lines<S: Sink>(console: &mut S, forms: &[FormText], outcome:
 
 /// Prints the lines of an outcome, for wrong words the usage lines of these forms, and gives the outcome that stands
 /// then: a summary that isn't written whole is a write fault, and a fault in printing any other line changes nothing.
-pub fn tell<S: Sink>(console: &mut S, forms: &[FormText], came: Outcome) -> Outcome
+pub fn tell<S: Sink>(console: &mut S, forms: &[FormText], outcome: Outcome) -> Outcome
     requires { S.faults console.old ≡ 0 }
-    ensures tells { Tells (usage_of forms.now) (outcome_came came) (outcome_came result) (S.written console.old) (S.written console.new) (S.faults console.new) }
+    ensures tells { Tells (usage_of forms.now) (outcome_view outcome) (outcome_view result) (S.written console.old) (S.written console.new) (S.faults console.new) }
     ensures name { S.name console.new ≡ S.name console.old }
 {
-    match came {
+    match outcome {
         Outcome::Done(lines) => tell_summary(console, forms, lines),
         _ => {
-            let _ = write_lines(console, forms, &came);
-            came
+            let _ = write_lines(console, forms, &outcome);
+            outcome
         }
     }
 }

@@ -27,4 +27,4 @@ pub use refusal::{Refusal, Stop};
 pub use seeds::seeds_under;
 pub use setup::setup_under;
 pub use table::{is_named, open_console, run_table};
-pub use words::{Count, Name, Places, is_name, number_in, places_in, stream_in};
+pub use words::{Count, Name, PacketLimits, is_name, limits_in, number_in, stream_in};

@@ -1,7 +1,7 @@
 //! What a run of words comes to.
 
 ghost use Rattle.std.specs.Prelude.{◌≡◌, None};
-ghost use Rattle.tesla_front.specs.Came.{came_of, outcome_came, status_of};
+ghost use Rattle.tesla_front.specs.OutcomeView.{result_view, outcome_view, status_of};
 
 use crate::{Fault, Lines, Refusal, Stop};
 
@@ -20,7 +20,7 @@ pub enum Outcome {
 
 /// What a command answers as an outcome.
 pub fn outcome_of(end: Result<Lines, Stop>) -> Outcome
-    ensures { outcome_came result ≡ came_of end }
+    ensures { outcome_view result ≡ result_view end }
 {
     match end {
         Ok(lines) => Outcome::Done(lines),
@@ -32,7 +32,7 @@ pub fn outcome_of(end: Result<Lines, Stop>) -> Outcome
 impl Outcome {
     /// The status that a program ends with.
     pub fn status(&self) -> u8
-        ensures { result ≡ status_of (outcome_came self.now) }
+        ensures { result ≡ status_of (outcome_view self.now) }
     {
         match self {
             Outcome::Done(_) => 0,

@@ -1,7 +1,7 @@
 //! What a command comes to that prints lines while it goes, and how the console is told.
 
 ghost use Rattle.std.specs.Prelude.{◌≡◌, false, true};
-ghost use Rattle.tesla_front.specs.Came.{Done as CameDone, outcome_came};
+ghost use Rattle.tesla_front.specs.OutcomeView.{Done as DoneView, outcome_view};
 ghost use Rattle.tesla_front.specs.Printing.{IsSound, TellsBehind, TellsPrinted};
 ghost use Rattle.tesla_front.specs.Usage.{usage_of};
 
@@ -21,7 +21,7 @@ pub enum Printed {
 // Tells a summary. One that isn't written whole is a write fault, which isn't told.
 fn tell_last<S: Sink>(console: &mut S, forms: &[FormText], lines: Lines) -> Outcome
     requires { S.faults console.old ≡ 0 }
-    ensures tells { TellsBehind (usage_of forms.now) (CameDone lines.bytes) (outcome_came result) (S.written console.old) (S.written console.new) (S.faults console.new) }
+    ensures tells { TellsBehind (usage_of forms.now) (DoneView lines.bytes) (outcome_view result) (S.written console.old) (S.written console.new) (S.faults console.new) }
     ensures name { S.name console.new ≡ S.name console.old }
 {
     let _ = forms;
@@ -32,16 +32,16 @@ fn tell_last<S: Sink>(console: &mut S, forms: &[FormText], lines: Lines) -> Outc
 }
 
 // Tells what came behind lines that were all written.
-fn tell_behind<S: Sink>(console: &mut S, forms: &[FormText], came: Outcome) -> Outcome
+fn tell_behind<S: Sink>(console: &mut S, forms: &[FormText], outcome: Outcome) -> Outcome
     requires { S.faults console.old ≡ 0 }
-    ensures tells { TellsBehind (usage_of forms.now) (outcome_came came) (outcome_came result) (S.written console.old) (S.written console.new) (S.faults console.new) }
+    ensures tells { TellsBehind (usage_of forms.now) (outcome_view outcome) (outcome_view result) (S.written console.old) (S.written console.new) (S.faults console.new) }
     ensures name { S.name console.new ≡ S.name console.old }
 {
-    match came {
+    match outcome {
         Outcome::Done(lines) => tell_last(console, forms, lines),
         _ => {
-            let _ = write_lines(console, forms, &came);
-            came
+            let _ = write_lines(console, forms, &outcome);
+            outcome
         }
     }
 }
@@ -51,11 +51,11 @@ fn tell_behind<S: Sink>(console: &mut S, forms: &[FormText], came: Outcome) -> O
 /// before, and a fault in printing any other line changes nothing. Behind a failed write nothing is written.
 pub fn tell_printed<S: Sink>(console: &mut S, forms: &[FormText], printed: Printed) -> Outcome
     requires { IsSound printed (S.faults console.old) }
-    ensures tells { TellsPrinted (usage_of forms.now) printed (outcome_came result) (S.written console.old) (S.written console.new) (S.faults console.old) (S.faults console.new) }
+    ensures tells { TellsPrinted (usage_of forms.now) printed (outcome_view result) (S.written console.old) (S.written console.new) (S.faults console.old) (S.faults console.new) }
     ensures name { S.name console.new ≡ S.name console.old }
 {
     match printed {
-        Printed::Whole(came) => tell_behind(console, forms, came),
+        Printed::Whole(outcome) => tell_behind(console, forms, outcome),
         Printed::Broken(fault) => Outcome::Failed(fault),
     }
 }

@@ -2,7 +2,7 @@
 
 ghost use Rattle.std.specs.Prelude.{◌≡◌, ℕ, List, [], ◌∷◌, length, IfOk, IfErr};
 ghost use Rattle.tesla_desk.specs.Outside.{OfSource};
-ghost use Rattle.tesla_front.specs.Came.{stop_came};
+ghost use Rattle.tesla_front.specs.OutcomeView.{stop_view};
 ghost use Rattle.tesla_front.specs.Openings.{Opens, OpensSome};
 ghost use Rattle.tesla_front.specs.Refusal.{StopCauses};
 ghost use Rattle.tesla_front.specs.Seeds.{IsSeedsIn, IsSeedsText, IsNoSeeds, IsNoSeedsText};
@@ -18,7 +18,7 @@ use tesla_seeds::{Seeds, SeedsRefusal, read_seeds};
 fn seeds_of(alloc: Global, text: &[u8], count: u8) -> Result<Seeds, Stop>
     ensures found { IfOk result (λ seeds. IsSeedsText count text.now seeds) }
     ensures count { IfOk result (λ seeds. length seeds ≡ count) }
-    ensures refused { IfErr result (λ stop. IsNoSeedsText count text.now (stop_came stop)) }
+    ensures refused { IfErr result (λ stop. IsNoSeedsText count text.now (stop_view stop)) }
 {
     match read_seeds(alloc, text, count) {
         Ok(seeds) => Ok(seeds),
@@ -42,7 +42,7 @@ pub fn seeds_under<D: Desk>(
 ) -> Result<Seeds, Stop>
     ensures found { IfOk result (λ seeds. IsSeedsIn count ((D.told desk.old).page name.now) seeds) }
     ensures count { IfOk result (λ seeds. length seeds ≡ count) }
-    ensures refused { IfErr result (λ stop. IsNoSeeds count ((D.told desk.old).page name.now) (stop_came stop)) }
+    ensures refused { IfErr result (λ stop. IsNoSeeds count ((D.told desk.old).page name.now) (stop_view stop)) }
     ensures opened { IfOk result (λ _. Opens (OfSource name.now ∷ []) 1 (D.told desk.old) (D.told desk.new)) }
     ensures opens { OpensSome (OfSource name.now ∷ []) (D.told desk.old) (D.told desk.new) }
     ensures pages { (n : List ℕ) → (D.told desk.new).page n ≡ (D.told desk.old).page n }

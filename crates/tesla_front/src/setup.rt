@@ -2,7 +2,7 @@
 
 ghost use Rattle.std.specs.Prelude.{◌≡◌, ℕ, List, [], ◌∷◌, IfOk, IfErr};
 ghost use Rattle.tesla_desk.specs.Outside.{OfSource};
-ghost use Rattle.tesla_front.specs.Came.{stop_came};
+ghost use Rattle.tesla_front.specs.OutcomeView.{stop_view};
 ghost use Rattle.tesla_front.specs.Openings.{Opens, OpensSome};
 ghost use Rattle.tesla_front.specs.Refusal.{StopCauses};
 ghost use Rattle.tesla_front.specs.Setup.{IsSetupIn, IsSetupText, IsNoSetup, IsNoSetupText};
@@ -19,7 +19,7 @@ pub const MOST: usize = 4097;
 // The setup that a text spells.
 fn setup_of(alloc: Global, text: &[u8]) -> Result<Setup, Stop>
     ensures found { IfOk result (λ setup. IsSetupText text.now setup) }
-    ensures refused { IfErr result (λ stop. IsNoSetupText text.now (stop_came stop)) }
+    ensures refused { IfErr result (λ stop. IsNoSetupText text.now (stop_view stop)) }
 {
     match read_setup(alloc, text) {
         Ok(setup) => Ok(setup),
@@ -36,7 +36,7 @@ fn setup_of(alloc: Global, text: &[u8]) -> Result<Setup, Stop>
 /// `Refused` with the first refused line where the file's text is no setup, and `Failed` as `read_file` fails.
 pub fn setup_under<D: Desk>(alloc: Global, name: &str, desk: &mut D) -> Result<Setup, Stop>
     ensures found { IfOk result (λ setup. IsSetupIn ((D.told desk.old).page name.now) setup) }
-    ensures refused { IfErr result (λ stop. IsNoSetup ((D.told desk.old).page name.now) (stop_came stop)) }
+    ensures refused { IfErr result (λ stop. IsNoSetup ((D.told desk.old).page name.now) (stop_view stop)) }
     ensures opened { IfOk result (λ _. Opens (OfSource name.now ∷ []) 1 (D.told desk.old) (D.told desk.new)) }
     ensures opens { OpensSome (OfSource name.now ∷ []) (D.told desk.old) (D.told desk.new) }
     ensures pages { (n : List ℕ) → (D.told desk.new).page n ≡ (D.told desk.old).page n }

@@ -1,7 +1,7 @@
 //! One run of a table of commands: the console is opened, the words are run, and the console is told what they came to.
 
 ghost use Rattle.std.specs.Prelude.{◌≡◌, Err, IfOk, codes, map, string_bytes};
-ghost use Rattle.tesla_front.specs.Came.{Failed};
+ghost use Rattle.tesla_front.specs.OutcomeView.{Failed};
 ghost use Rattle.tesla_front.specs.Parts.{texts_of};
 ghost use Rattle.tesla_front.specs.Run.{HasNoConsole};
 ghost use Rattle.tesla_front.specs.Table.{OpensConsole, RunsConsole, is_named};
@@ -38,10 +38,10 @@ pub fn run_table<D: Desk, T, F: FnOnce(&[String], &mut D) -> LiveRun<T>>(
     match open_console(desk) {
         Ok(mut console) => {
             let LiveRun { outcome, last } = run(words, desk);
-            let told = tell(&mut console, forms, outcome);
+            let reported = tell(&mut console, forms, outcome);
             desk.close_sink(console);
             LiveRun {
-                outcome: told,
+                outcome: reported,
                 last,
             }
         }

@@ -5,9 +5,9 @@ ghost use Rattle.std.specs.Prelude.{◌<◌, ◌≤◌, ◌^◌};
 ghost use Rattle.std.specs.Int.{w64, to_be_bytes};
 ghost use Rattle.hex.specs.Hex.{encode_lower};
 ghost use Rattle.tesla_base.specs.declared.names.StreamId.{StreamId};
-ghost use Rattle.tesla_front.specs.Words.{IsName, ArePlaces, IsNumberWithin, is_slash};
-ghost use Rattle.tesla_front.specs.Forms.{LagIs, NameIs, NumberIs, PlacesAre};
-ghost use Rattle.tesla_front.specs.declared.words.Places.{Places};
+ghost use Rattle.tesla_front.specs.Words.{IsName, ArePacketLimits, IsNumberWithin, is_slash};
+ghost use Rattle.tesla_front.specs.Forms.{LagIs, NameIs, NumberIs, LimitsAre};
+ghost use Rattle.tesla_front.specs.declared.words.PacketLimits.{PacketLimits};
 
 use crate::Word;
 use hex::{decode_to_slice, encode_to_slice};
@@ -20,7 +20,7 @@ const MOST: u32 = 65_536;
 
 /// How many packets a receiver holds at most.
 #[derive(Clone, Copy, Debug, PartialEq, Eq)]
-pub struct Places {
+pub struct PacketLimits {
     /// Of all intervals: 1 to 65,536.
     pub capacity: u32,
     /// Of one interval: 1 to the capacity.
@@ -100,9 +100,9 @@ fn slash_in(word: &[u8]) -> Option<usize>
 }
 
 // The capacity and the quota, told the words before and after the slash.
-fn both_in(capacity: &[u8], quota: &[u8]) -> Option<Places>
-    ensures found { IfSome result (λ places. IsNumberWithin 1 65536 capacity.now places.capacity × IsNumberWithin 1 places.capacity quota.now places.quota) }
-    ensures only { (places : Places) → IsNumberWithin 1 65536 capacity.now places.capacity → IsNumberWithin 1 places.capacity quota.now places.quota → result ≡ Some places }
+fn both_in(capacity: &[u8], quota: &[u8]) -> Option<PacketLimits>
+    ensures found { IfSome result (λ limits. IsNumberWithin 1 65536 capacity.now limits.capacity × IsNumberWithin 1 limits.capacity quota.now limits.quota) }
+    ensures only { (limits : PacketLimits) → IsNumberWithin 1 65536 capacity.now limits.capacity → IsNumberWithin 1 limits.capacity quota.now limits.quota → result ≡ Some limits }
 {
     let Some(capacity) = count_in(capacity, MOST) else {
         return None;
@@ -110,21 +110,21 @@ fn both_in(capacity: &[u8], quota: &[u8]) -> Option<Places>
     let Some(quota) = count_in(quota, capacity) else {
         return None;
     };
-    Some(Places { capacity, quota })
+    Some(PacketLimits { capacity, quota })
 }
 
 /// The capacity and the quota that a word spells: a decimal from 1 to 65,536, which is both, or two with a slash
 /// between them, of which the second is from 1 to the first. `None` exactly where it spells neither.
-pub fn places_in(word: &[u8]) -> Option<Places>
+pub fn limits_in(word: &[u8]) -> Option<PacketLimits>
     // What is found is spelled so.
-    ensures found { IfSome result (ArePlaces word.now) }
+    ensures found { IfSome result (ArePacketLimits word.now) }
     // What is spelled so is found.
-    ensures only { (places : Places) → ArePlaces word.now places → result ≡ Some places }
+    ensures only { (limits : PacketLimits) → ArePacketLimits word.now limits → result ≡ Some limits }
 {
     match slash_in(word) {
         Some(place) => both_in(&word[..place], &word[place + 1..]),
         None => match count_in(word, MOST) {
-            Some(number) => Some(Places {
+            Some(number) => Some(PacketLimits {
                 capacity: number,
                 quota: number,
             }),
@@ -246,10 +246,10 @@ impl<'a> Word<'a> for i64 {
     }
 }
 
-impl<'a> Word<'a> for Places {
-    ghost spells = { PlacesAre };
+impl<'a> Word<'a> for PacketLimits {
+    ghost spells = { LimitsAre };
 
-    fn read(word: &'a str) -> Option<Places> {
-        places_in(word.as_bytes())
+    fn read(word: &'a str) -> Option<PacketLimits> {
+        limits_in(word.as_bytes())
     }
 }

@@ -1,4 +1,4 @@
--- The laws over worlds that feeds make, and when their keys are told.
+-- The laws over worlds that feeds make, and when their keys are disclosed.
 use Rattle.std.specs.Prelude.{◌≡◌, ℕ, ◌+◌, ◌≤◌, false, List, map, Some}
 use Rattle.std.specs.List.{Contains}
 use Rattle.tesla_base.specs.declared.names.Key.{Key}
@@ -20,7 +20,7 @@ FeedsAreSecure =
     (cfg : Config) (seeds : List Key) (world : List Moment) (opening : ℕ) (events : List Event) (history : List Entry) →
     Joined cfg seeds world (fed (record { setup = cfg.setup; seeds = seeds }) opening events).log history → IsSecure cfg seeds world history
 
--- ---- when keys are told
+-- ---- when keys are disclosed
 
 -- an event, and what a clock that isn't set reads when it happens
 pub record Timed : Type 0 where

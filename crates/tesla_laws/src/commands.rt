@@ -3,7 +3,7 @@
 ghost use Rattle.std.specs.Prelude.{◌≡◌, ◌⊎◌, ℕ, List, map, string_bytes};
 ghost use Rattle.tesla_desk.specs.Outside.{Told};
 ghost use Rattle.tesla_memory_desk.specs.Sure.{sure_told_by};
-ghost use Rattle.tesla_front.specs.Came.{Came, status_of};
+ghost use Rattle.tesla_front.specs.OutcomeView.{OutcomeView, status_of};
 ghost use Rattle.tesla_front.specs.Fault.{IsUnfailed};
 ghost use Rattle.tesla_front.specs.Printing.{IsPrintedAs};
 ghost use Rattle.tesla_front.specs.Run.{HasNoConsole, Runs};
@@ -33,7 +33,7 @@ use tesla_memory_desk::SureDesk;
 pub fn forms_are_named()
     ensures commands { NamesForms command_of replay × NamesForms command_of chain × NamesForms command_of send × NamesForms command_of lag × NamesForms command_of stress × NamesForms command_of roll × NamesForms command_of weave × NamesForms command_of early × NamesForms command_of trace × NamesForms command_of audit }
     ensures tools { NamesForms tool_of ask × NamesForms tool_of reply }
-    ensures shows { (arguments : ShowArguments) (words : List (List ℕ)) (old new : Told) (came : Came) → IsShowForm arguments words → RunsTool words old new came → HasNoConsole old new came ⊎ IsPrintedAs show arguments tool_usage old new came }
+    ensures shows { (arguments : ShowArguments) (words : List (List ℕ)) (old new : Told) (outcome : OutcomeView) → IsShowForm arguments words → RunsTool words old new outcome → HasNoConsole old new outcome ⊎ IsPrintedAs show arguments tool_usage old new outcome }
     ensures ask_is { (arguments : AskArguments) (words : List (List ℕ)) → IsAskForm arguments words → IsTool words }
     ensures reply_is { (arguments : ReplyArguments) (words : List (List ℕ)) → IsReplyForm arguments words → IsTool words }
     ensures show_is { (arguments : ShowArguments) (words : List (List ℕ)) → IsShowForm arguments words → IsTool words }
@@ -41,7 +41,7 @@ pub fn forms_are_named()
 
 /// Runs the words as the top call does, over a desk on which no call from outside fails. The status is never 4, 5 or 7.
 pub fn run_surely(alloc: Global, words: &[String], desk: &mut SureDesk) -> u8
-    ensures came { (told : Came) × (result ≡ status_of told) × Runs (command_of (map string_bytes words.now)) usage (map string_bytes words.now) (sure_told_by desk.old) (sure_told_by desk.new) told }
+    ensures outcome { (told : OutcomeView) × (result ≡ status_of told) × Runs (command_of (map string_bytes words.now)) usage (map string_bytes words.now) (sure_told_by desk.old) (sure_told_by desk.new) told }
     ensures unfailed { IsUnfailed result }
 {
     run_here(alloc, words, desk)
@@ -49,7 +49,7 @@ pub fn run_surely(alloc: Global, words: &[String], desk: &mut SureDesk) -> u8
 
 /// The same of the tools.
 pub fn run_tools_surely(alloc: Global, words: &[String], desk: &mut SureDesk) -> u8
-    ensures came { (told : Came) × (result ≡ status_of told) × RunsTool (map string_bytes words.now) (sure_told_by desk.old) (sure_told_by desk.new) told }
+    ensures outcome { (told : OutcomeView) × (result ≡ status_of told) × RunsTool (map string_bytes words.now) (sure_told_by desk.old) (sure_told_by desk.new) told }
     ensures unfailed { IsUnfailed result }
 {
     run_tools(alloc, words, desk)

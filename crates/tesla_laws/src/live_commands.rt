@@ -4,7 +4,7 @@ ghost use Rattle.std.specs.Prelude.{◌≡◌, ℕ, List, Option, map, string_by
 ghost use Rattle.tesla_desk.specs.Live.{Live};
 ghost use Rattle.tesla_desk.specs.Outside.{Told};
 ghost use Rattle.tesla_memory_desk.specs.Sure.{sure_told_by};
-ghost use Rattle.tesla_front.specs.Came.{Came, status_of};
+ghost use Rattle.tesla_front.specs.OutcomeView.{OutcomeView, status_of};
 ghost use Rattle.tesla_front.specs.Command.{Performs, RunsAs};
 ghost use Rattle.tesla_front.specs.Fault.{IsUnfailed};
 ghost use Rattle.tesla_receiver.specs.declared.history.Entry.{Entry};
@@ -34,15 +34,15 @@ use tesla_memory_desk::SureDesk;
 /// Words that are a form of some command are run as that command, and are for its table: the first word of each form
 /// names it.
 pub fn forms_are_named()
-    ensures receives { (arguments : ReceiveArguments) (words : List (List ℕ)) (before now : Live) (last : Option (Ended Entry)) (old new : Told) (came : Came) → IsReceive arguments words → RunsAs (live_of before now last words) words old new came → Performs (receive before now last) arguments old new came }
-    ensures relays { (arguments : RelayArguments) (words : List (List ℕ)) (before now : Live) (last : Option (Ended Entry)) (old new : Told) (came : Came) → IsRelayForm arguments words → RunsAs (live_of before now last words) words old new came → Performs (relay before now) arguments old new came }
-    ensures plays { (arguments : PlayArguments) (words : List (List ℕ)) (before now : Live) (last : Option (Ended Entry)) (old new : Told) (came : Came) → IsPlayForm arguments words → RunsAs (live_of before now last words) words old new came → Performs (play before now) arguments old new came }
+    ensures receives { (arguments : ReceiveArguments) (words : List (List ℕ)) (before now : Live) (last : Option (Ended Entry)) (old new : Told) (outcome : OutcomeView) → IsReceive arguments words → RunsAs (live_of before now last words) words old new outcome → Performs (receive before now last) arguments old new outcome }
+    ensures relays { (arguments : RelayArguments) (words : List (List ℕ)) (before now : Live) (last : Option (Ended Entry)) (old new : Told) (outcome : OutcomeView) → IsRelayForm arguments words → RunsAs (live_of before now last words) words old new outcome → Performs (relay before now) arguments old new outcome }
+    ensures plays { (arguments : PlayArguments) (words : List (List ℕ)) (before now : Live) (last : Option (Ended Entry)) (old new : Told) (outcome : OutcomeView) → IsPlayForm arguments words → RunsAs (live_of before now last words) words old new outcome → Performs (play before now) arguments old new outcome }
     ensures receive_is { (arguments : ReceiveArguments) (words : List (List ℕ)) → IsReceive arguments words → IsLive words }
     ensures relay_is { (arguments : RelayArguments) (words : List (List ℕ)) → IsRelayForm arguments words → IsLive words }
     ensures play_is { (arguments : PlayArguments) (words : List (List ℕ)) → IsPlayForm arguments words → IsLive words }
-    ensures captures { (arguments : CaptureArguments) (words : List (List ℕ)) (before now : Live) (last : Option (Ended Entry)) (old new : Told) (came : Came) → IsCaptureForm arguments words → RunsAs (live_tool_of before now last words) words old new came → Performs (capture before now) arguments old new came }
-    ensures feeds { (arguments : FeedArguments) (words : List (List ℕ)) (before now : Live) (last : Option (Ended Entry)) (old new : Told) (came : Came) → IsFeedForm arguments words → RunsAs (live_tool_of before now last words) words old new came → Performs (feed before now) arguments old new came }
-    ensures watches { (arguments : OutputArguments) (words : List (List ℕ)) (before now : Live) (last : Option (Ended Entry)) (old new : Told) (came : Came) → IsWatch arguments words → RunsAs (live_tool_of before now last words) words old new came → Performs (watching before now last) arguments old new came }
+    ensures captures { (arguments : CaptureArguments) (words : List (List ℕ)) (before now : Live) (last : Option (Ended Entry)) (old new : Told) (outcome : OutcomeView) → IsCaptureForm arguments words → RunsAs (live_tool_of before now last words) words old new outcome → Performs (capture before now) arguments old new outcome }
+    ensures feeds { (arguments : FeedArguments) (words : List (List ℕ)) (before now : Live) (last : Option (Ended Entry)) (old new : Told) (outcome : OutcomeView) → IsFeedForm arguments words → RunsAs (live_tool_of before now last words) words old new outcome → Performs (feed before now) arguments old new outcome }
+    ensures watches { (arguments : OutputArguments) (words : List (List ℕ)) (before now : Live) (last : Option (Ended Entry)) (old new : Told) (outcome : OutcomeView) → IsWatch arguments words → RunsAs (live_tool_of before now last words) words old new outcome → Performs (watching before now last) arguments old new outcome }
     ensures capture_is { (arguments : CaptureArguments) (words : List (List ℕ)) → IsCaptureForm arguments words → IsLiveTool words }
     ensures feed_is { (arguments : FeedArguments) (words : List (List ℕ)) → IsFeedForm arguments words → IsLiveTool words }
     ensures watch_is { (arguments : OutputArguments) (words : List (List ℕ)) → IsWatch arguments words → IsLiveTool words }
@@ -56,7 +56,7 @@ pub fn run_surely<R: Threads + Wait + Sync>(
     words: &[String],
     desk: &mut SureDesk,
 ) -> Done
-    ensures came { (told : Came) × (result.status ≡ status_of told) × RunsLive (map string_bytes words.now) (sure_told_by desk.old) (sure_told_by desk.new) result.last told }
+    ensures outcome { (told : OutcomeView) × (result.status ≡ status_of told) × RunsLive (map string_bytes words.now) (sure_told_by desk.old) (sure_told_by desk.new) result.last told }
     ensures unfailed { IsUnfailed result.status }
 {
     run_live(rt, alloc, words, desk)
@@ -69,7 +69,7 @@ pub fn run_live_tools_surely<R: Threads + Wait + Sync>(
     words: &[String],
     desk: &mut SureDesk,
 ) -> LiveToolsDone
-    ensures came { (told : Came) × (result.status ≡ status_of told) × RunsLiveTools (map string_bytes words.now) (sure_told_by desk.old) (sure_told_by desk.new) result.last told }
+    ensures outcome { (told : OutcomeView) × (result.status ≡ status_of told) × RunsLiveTools (map string_bytes words.now) (sure_told_by desk.old) (sure_told_by desk.new) result.last told }
     ensures unfailed { IsUnfailed result.status }
 {
     run_live_tools(rt, alloc, words, desk)
@@ -82,7 +82,7 @@ pub fn run_recorded_surely<R: Threads + Wait + Sync>(
     words: &[String],
     desk: &mut SureDesk,
 ) -> RecordedDone
-    ensures came { (told : Came) × (result.status ≡ status_of told) × RunsRecorded (map string_bytes words.now) (sure_told_by desk.old) (sure_told_by desk.new) result.last told }
+    ensures outcome { (told : OutcomeView) × (result.status ≡ status_of told) × RunsRecorded (map string_bytes words.now) (sure_told_by desk.old) (sure_told_by desk.new) result.last told }
     ensures unfailed { IsUnfailed result.status }
 {
     run_recorded(rt, alloc, words, desk)

@@ -10,60 +10,60 @@ use Rattle.std.proofs.Math.Bool.{and-false, and-true, or-false}
 use Rattle.std.proofs.lemmas.List.Elements.{filter-append}
 use Rattle.std.proofs.lemmas.List.Folds.{list_any-append, list_any_at}
 use Rattle.std.proofs.lemmas.Option.{get_or_from_slice_get, none-some, same_Some, slice_get_within}
-use Rattle.tesla_links.specs.Entries.{Entry, Entries, first_place, is_at, is_under, is_unmarked_at, is_unmarked_under, marked_at, next_place, next_unmarked}
+use Rattle.tesla_links.specs.Entries.{Entry, Entries, first_slot, is_at, is_under, is_unmarked_at, is_unmarked_under, marked_at, next_slot, next_unmarked}
 use Rattle.tesla_links.specs.Indexed.{IsIndexed, IsMarked, entries_of, entry_of, group_of, is_marked}
 use Rattle.tesla_base.specs.Members.{Distinct, is_in, next_in, without}
 use Rattle.tesla_links.specs.Lists.{Lists, list_of, moved}
 use Rattle.tesla_links.specs.Slots.{has_key, is_vacant}
 use Rattle.tesla_base.proofs.Filtered.{distinct_filter, filter-filter, filter-map, filter_both, filter_nothing, filter_on, in_filter, in_filter_from, left_out, map_on}
-use Rattle.tesla_base.proofs.Members.{apart_from, differs, distinct_push, in_cases, in_front, in_here, in_joined, in_rest, in_there, list_with, somewhere, without_other, without_same}
+use Rattle.tesla_base.proofs.Members.{apart_from, differs, distinct_push, in_cases, in_prefix, in_here, in_joined, in_rest, in_there, list_with, somewhere, without_other, without_same}
 use Rattle.tesla_links.proofs.Keyed.{replicate_same}
 
--- ---- entries and places
+-- ---- entries and slots
 
--- the entries are those of the places
+-- the entries are those of the slots
 pub entries_are : (order : Lists) (keys : List (Option ℕ)) (groups : List ℕ) (marks : ℕ → Bool) → entries_of order keys groups marks ≡ map (entry_of keys groups marks) (list_of order 0)
 unfolding entries_of
 entries_are order keys groups marks = refl
 
--- an entry is at a place where the place is among those listed
-pub at_place : (keys : List (Option ℕ)) (groups : List ℕ) (marks : ℕ → Bool) (p : ℕ) (xs : List ℕ) → list_any (is_at p) (map (entry_of keys groups marks) xs) ≡ is_in p xs
-at_place keys groups marks p [] = refl
-at_place keys groups marks p (x ∷ xs) = ap (λ b. eqb x p || b) (at_place keys groups marks p xs)
+-- an entry is at a slot where the slot is among those listed
+pub at_slot : (keys : List (Option ℕ)) (groups : List ℕ) (marks : ℕ → Bool) (p : ℕ) (xs : List ℕ) → list_any (is_at p) (map (entry_of keys groups marks) xs) ≡ is_in p xs
+at_slot keys groups marks p [] = refl
+at_slot keys groups marks p (x ∷ xs) = ap (λ b. eqb x p || b) (at_slot keys groups marks p xs)
 
 -- and an unmarked one where it isn't marked too
-pub unmarked_at_place : (keys : List (Option ℕ)) (groups : List ℕ) (marks : ℕ → Bool) (p : ℕ) (xs : List ℕ) → list_any (is_unmarked_at p) (map (entry_of keys groups marks) xs) ≡ true
+pub unmarked_at_slot : (keys : List (Option ℕ)) (groups : List ℕ) (marks : ℕ → Bool) (p : ℕ) (xs : List ℕ) → list_any (is_unmarked_at p) (map (entry_of keys groups marks) xs) ≡ true
     → (is_in p xs ≡ true) × (marks p ≡ false)
-unmarked_at_place keys groups marks p [] i = absurd (false≢true i)
-unmarked_at_place keys groups marks p (x ∷ xs) i =
+unmarked_at_slot keys groups marks p [] i = absurd (false≢true i)
+unmarked_at_slot keys groups marks p (x ∷ xs) i =
     ⊎_elim
     (λ (here : (eqb x p && not (marks x)) ≡ true).
     let parts = and_parts (eqb x p) (not (marks x)) here in
     let s : x ≡ p = eqb-true x p parts.0 in
     (or_left (eqb x p) (is_in p xs) parts.0, sym (ap marks s) ∙ not-true (marks x) parts.1))
     (λ (more : list_any (is_unmarked_at p) (map (entry_of keys groups marks) xs) ≡ true).
-    let rest = unmarked_at_place keys groups marks p xs more in
+    let rest = unmarked_at_slot keys groups marks p xs more in
     (in_there x p xs rest.0, rest.1))
     (or_cases (eqb x p && not (marks x)) (list_any (is_unmarked_at p) (map (entry_of keys groups marks) xs)) i)
 
--- the key of a place
+-- the key of a slot
 abbrev key_at : List (Option ℕ) → List ℕ → ℕ → ℕ
 key_at keys groups p = unwrap_or (get_or keys (group_of groups p) None) 0
 
--- the test of a key on the entry of a place
+-- the test of a key on the entry of a slot
 abbrev under : List (Option ℕ) → List ℕ → ℕ → ℕ → Bool
 under keys groups key p = eqb (key_at keys groups p) key
 
--- the first entry's place
-pub first_is : (entry : ℕ → Entry) → ((q : ℕ) → (entry q).place ≡ q) → (xs : List ℕ) → first_place (map entry xs) ≡ slice_get xs 0
+-- the first entry's slot
+pub first_is : (entry : ℕ → Entry) → ((q : ℕ) → (entry q).place ≡ q) → (xs : List ℕ) → first_slot (map entry xs) ≡ slice_get xs 0
 first_is entry placed [] = refl
 first_is entry placed (x ∷ xs) = ap Some (placed x)
 
--- the next of the places that pass a test is that of the next entry that is related to the one at a place, where
--- these places are those of the related entries
+-- the next of the slots that pass a test is that of the next entry that is related to the one at a slot, where
+-- these slots are those of the related entries
 next_along : (entry : ℕ → Entry) (member : ℕ → Bool) (related : Entry → Entry → Bool) (next : List Entry → Option ℕ) (p : ℕ)
     → ((q : ℕ) → (entry q).place ≡ q) → next [] ≡ None
-    → ((e : Entry) (es : List Entry) → next (e ∷ es) ≡ cond (is_at p e) (first_place (filter (related e) es)) (next es))
+    → ((e : Entry) (es : List Entry) → next (e ∷ es) ≡ cond (is_at p e) (first_slot (filter (related e) es)) (next es))
     → (xs : List ℕ) → ((q : ℕ) → is_in q xs ≡ true → member q ≡ related (entry p) (entry q)) → member p ≡ true
     → next_in p (filter member xs) ≡ next (map entry xs)
 next_along entry member related next p placed none step [] agree own = sym none
@@ -78,9 +78,9 @@ next_along entry member related next p placed none step (x ∷ xs) agree own =
     ∙ cond-true (eqb x p) (slice_get (filter member xs) 0) (next_in p (filter member xs)) (eq-eqb x p s)
     ∙ ap (λ ys. slice_get ys 0) (filter_on member (λ q. related (entry p) (entry q)) xs rest)
     ∙ sym (first_is entry placed (filter (λ q. related (entry p) (entry q)) xs))
-    ∙ ap first_place (sym (filter-map (related (entry p)) entry xs))
-    ∙ ap (λ q. first_place (filter (related (entry q)) es)) (sym s)
-    ∙ sym (cond-true (is_at p (entry x)) (first_place (filter (related (entry x)) es)) (next es) (at ∙ eq-eqb x p s))
+    ∙ ap first_slot (sym (filter-map (related (entry p)) entry xs))
+    ∙ ap (λ q. first_slot (filter (related (entry q)) es)) (sym s)
+    ∙ sym (cond-true (is_at p (entry x)) (first_slot (filter (related (entry x)) es)) (next es) (at ∙ eq-eqb x p s))
     ∙ sym (step (entry x) es))
     (λ (ne : x ≡ p → ⊥).
     (elim (member x) as (λ b. next_in p (cond b (x ∷ filter member xs) (filter member xs)) ≡ next_in p (filter member xs)) [
@@ -88,11 +88,11 @@ next_along entry member related next p placed none step (x ∷ xs) agree own =
       | false ↦ refl
     ])
     ∙ next_along entry member related next p placed none step xs rest own
-    ∙ sym (cond-false (is_at p (entry x)) (first_place (filter (related (entry x)) es)) (next es) (at ∙ ne_eqb x p ne))
+    ∙ sym (cond-false (is_at p (entry x)) (first_slot (filter (related (entry x)) es)) (next es) (at ∙ ne_eqb x p ne))
     ∙ sym (step (entry x) es))
     (cases_eq x p)
 
--- the group of a place is among those of the places
+-- the group of a slot is among those of the slots
 in_mapped : (groups : List ℕ) (g p : ℕ) → group_of groups p ≡ g → (xs : List ℕ) → is_in p xs ≡ true → is_in g (map (group_of groups) xs) ≡ true
 in_mapped groups g p e [] i = i
 in_mapped groups g p e (x ∷ xs) i =
@@ -142,20 +142,20 @@ module _ (capacity : ℕ) (order members : Lists) (groups : List ℕ) (keys : Li
       let passes : has_key key (get_or keys (group_of groups p) None) ≡ true = ap (has_key key) own.1 ∙ eq-eqb own.0 key (sym is ∙ e) in
       false≢true (sym none ∙ list_any_at (has_key key) keys (group_of groups p) None (omega (arith, (h.within p i).1, h.keyed)) passes))))
 
-  -- a listed place is in the list of its group
+  -- a listed slot is in the list of its group
   pub in_group : (p : ℕ) → is_in p listed ≡ true → is_in p (list_of members (group_of groups p)) ≡ true
   in_group p i =
       ap (is_in p) (h.member (group_of groups p) (h.within p i).1)
       ∙ in_filter_from (λ q. eqb (group_of groups q) (group_of groups p)) p listed i (eq-eqb (group_of groups p) (group_of groups p) refl)
 
-  -- a place that isn't listed is in no group
+  -- a slot that isn't listed is in no group
   pub in_no_group : (p : ℕ) → is_in p listed ≡ false → list_any (is_in p) members.lists ≡ false
   in_no_group p none =
       false_from_ne_true (list_any (is_in p) members.lists) (λ some.
       let at = list_with p members.lists some in
       false≢true (sym none ∙ (in_filter (λ q. eqb (group_of groups q) at.0) p listed (ap (is_in p) (sym (h.member at.0 (omega (arith, at.1, h.member_lists)))) ∙ at.2)).0))
 
-  -- the places of the group of a place are those under its key
+  -- the slots of the group of a slot are those under its key
   same_group : (p : ℕ) → is_in p listed ≡ true → (q : ℕ) → is_in q listed ≡ true → eqb (group_of groups q) (group_of groups p) ≡ under keys groups (key_at keys groups p) q
   same_group p i q j =
       let own = h.live p i in
@@ -164,14 +164,14 @@ module _ (capacity : ℕ) (order members : Lists) (groups : List ℕ) (keys : Li
   own_member : (p : ℕ) → eqb (group_of groups p) (group_of groups p) ≡ true
   own_member p = eq-eqb (group_of groups p) (group_of groups p) refl
 
-  -- the place behind another in its group is that of the next entry with the same key
-  pub next_is : (marks : ℕ → Bool) (p : ℕ) → is_in p listed ≡ true → next_in p (list_of members (group_of groups p)) ≡ next_place p (map (entry_of keys groups marks) listed)
+  -- the slot behind another in its group is that of the next entry with the same key
+  pub next_is : (marks : ℕ → Bool) (p : ℕ) → is_in p listed ≡ true → next_in p (list_of members (group_of groups p)) ≡ next_slot p (map (entry_of keys groups marks) listed)
   next_is marks p i =
       ap (next_in p) (h.member (group_of groups p) (h.within p i).1)
-      ∙ next_along (entry_of keys groups marks) (λ q. eqb (group_of groups q) (group_of groups p)) (λ e. is_under e.key) (next_place p) p (λ q. refl) refl (λ e es. refl) listed
+      ∙ next_along (entry_of keys groups marks) (λ q. eqb (group_of groups q) (group_of groups p)) (λ e. is_under e.key) (next_slot p) p (λ q. refl) refl (λ e es. refl) listed
       (same_group p i) (own_member p)
 
-  -- where each group has a list of its unmarked places, these are those of the unmarked entries
+  -- where each group has a list of its unmarked slots, these are those of the unmarked entries
   module _ (unmarked : Lists) (m : IsMarked capacity order members unmarked) where
     abbrev marks : ℕ → Bool
     marks = is_marked capacity unmarked
@@ -182,7 +182,7 @@ module _ (capacity : ℕ) (order members : Lists) (groups : List ℕ) (keys : Li
         sym (filter_both (is_under key) unmarked_entry (map (entry_of keys groups marks) listed))
         ∙ ap (filter unmarked_entry) (under_key marks g key slot)
         ∙ filter-map unmarked_entry (entry_of keys groups marks) (list_of members g)
-        ∙ ap (map (entry_of keys groups marks)) (sym (m.open_places g (group_within g key slot)))
+        ∙ ap (map (entry_of keys groups marks)) (sym (m.open_slots g (group_within g key slot)))
 
     pub unmarked_none : (key : ℕ) → list_any (has_key key) keys ≡ false → filter (is_unmarked_under key) (map (entry_of keys groups marks) listed) ≡ []
     unmarked_none key none =
@@ -191,18 +191,18 @@ module _ (capacity : ℕ) (order members : Lists) (groups : List ℕ) (keys : Li
 
     pub in_unmarked : (p : ℕ) → is_in p listed ≡ true → marks p ≡ false → is_in p (list_of unmarked (group_of groups p)) ≡ true
     in_unmarked p i none =
-        ap (is_in p) (m.open_places (group_of groups p) (h.within p i).1)
+        ap (is_in p) (m.open_slots (group_of groups p) (h.within p i).1)
         ∙ in_filter_from (λ q. not (marks q)) p (list_of members (group_of groups p)) (in_group p i) (not_from_false (marks p) none)
 
     pub unmarked_next_is : (p : ℕ) → is_in p listed ≡ true → marks p ≡ false → next_in p (list_of unmarked (group_of groups p)) ≡ next_unmarked p (map (entry_of keys groups marks) listed)
     unmarked_next_is p i none =
         let member = λ (q : ℕ). eqb (group_of groups q) (group_of groups p) in
         let left = λ (q : ℕ). not (marks q) in
-        ap (next_in p) (m.open_places (group_of groups p) (h.within p i).1 ∙ ap (filter left) (h.member (group_of groups p) (h.within p i).1) ∙ filter_both member left listed)
+        ap (next_in p) (m.open_slots (group_of groups p) (h.within p i).1 ∙ ap (filter left) (h.member (group_of groups p) (h.within p i).1) ∙ filter_both member left listed)
         ∙ next_along (entry_of keys groups marks) (λ q. member q && left q) (λ e. is_unmarked_under e.key) (next_unmarked p) p (λ q. refl) refl (λ e es. refl) listed
         (λ q j. ap (λ b. b && left q) (same_group p i q j)) (and_from (member p) (left p) (own_member p) (not_from_false (marks p) none))
 
-    -- a listed place stands in one of the lists, and another in none
+    -- a listed slot stands in one of the lists, and another in none
     pub marked_somewhere : (p : ℕ) → is_in p listed ≡ true → list_any (is_in p) unmarked.lists ≡ true
     marked_somewhere p i =
         ⊎_elim (λ (t : marks p ≡ true). somewhere p unmarked.lists capacity t)
@@ -217,7 +217,7 @@ module _ (capacity : ℕ) (order members : Lists) (groups : List ℕ) (keys : Li
         (λ (s : at.0 ≡ capacity). m.marked p (sym (ap (λ k. is_in p (list_of unmarked k)) s) ∙ at.2))
         (λ (ne : at.0 ≡ capacity → ⊥).
         let below : at.0 < capacity = omega (arith, at.1, m.lists) in
-        let member = (in_filter (λ q. not (marks q)) p (list_of members at.0) (ap (is_in p) (sym (m.open_places at.0 below)) ∙ at.2)).0 in
+        let member = (in_filter (λ q. not (marks q)) p (list_of members at.0) (ap (is_in p) (sym (m.open_slots at.0 below)) ∙ at.2)).0 in
         (in_filter (λ q. eqb (group_of groups q) at.0) p listed (ap (is_in p) (sym (h.member at.0 below)) ∙ member)).0)
         (cases_eq at.0 capacity)))
 
@@ -262,7 +262,7 @@ module _ (capacity : ℕ) (order members order' members' : Lists) (groups : List
   group_kept : (q : ℕ) → is_in q before ≡ true → group_of groups' q ≡ group_of groups q
   group_kept q i = get_or-set_other groups p q g 0 (λ e. differs q p before i absent (sym e))
 
-  -- the key of a place that was there stays
+  -- the key of a slot that was there stays
   key_kept : (q : ℕ) → is_in q before ≡ true → get_or keys' (group_of groups q) None ≡ get_or keys (group_of groups q) None
   key_kept q i =
       ⊎_elim
@@ -305,28 +305,28 @@ module _ (capacity : ℕ) (order members order' members' : Lists) (groups : List
       (in_joined q before (p ∷ []) (ap (is_in q) (sym e) ∙ i))
 
   kept_listed : Listed → (q : ℕ) → is_in q before ≡ true → is_in q (list_of order' 0) ≡ true
-  kept_listed e q i = ap (is_in q) e ∙ in_front q before (p ∷ []) i
+  kept_listed e q i = ap (is_in q) e ∙ in_prefix q before (p ∷ []) i
 
   member_appended : Joined → Listed → (j : ℕ) → j < capacity → list_of members' j ≡ filter (λ q. eqb (group_of groups' q) j) (list_of order' 0)
   member_appended joined e j below =
       let test' = λ (q : ℕ). eqb (group_of groups' q) j in
       let test = λ (q : ℕ). eqb (group_of groups q) j in
-      let front : filter test' before ≡ list_of members j = filter_on test' test before (λ q i. ap (λ n. eqb n j) (group_kept q i)) ∙ sym (h.member j below) in
+      let prefix : filter test' before ≡ list_of members j = filter_on test' test before (λ q i. ap (λ n. eqb n j) (group_kept q i)) ∙ sym (h.member j below) in
       joined j below
       ∙ ⊎_elim
       (λ (s : j ≡ g).
       cond-true (eqb j g) (list_of members j ++ p ∷ []) (list_of members j) (eq-eqb j g s)
-      ∙ ap (λ ys. ys ++ p ∷ []) (sym front)
+      ∙ ap (λ ys. ys ++ p ∷ []) (sym prefix)
       ∙ ap (λ ys. filter test' before ++ ys) (sym (cond-true (test' p) (p ∷ []) [] (eq-eqb (group_of groups' p) j (group_there ∙ sym s)))))
       (λ (ne : j ≡ g → ⊥).
       cond-false (eqb j g) (list_of members j ++ p ∷ []) (list_of members j) (ne_eqb j g ne)
-      ∙ sym front ∙ sym (append-nil (filter test' before))
+      ∙ sym prefix ∙ sym (append-nil (filter test' before))
       ∙ ap (λ ys. filter test' before ++ ys) (sym (cond-false (test' p) (p ∷ []) [] (ne_eqb (group_of groups' p) j (λ s. ne (sym s ∙ group_there))))))
       (cases_eq j g)
       ∙ sym (filter-append test' before (p ∷ []))
       ∙ ap (filter test') (sym e)
 
-  pub indexed_append : order'.places ≡ order.places → length order'.lists ≡ length order.lists → members'.places ≡ members.places → length members'.lists ≡ length members.lists → Listed → Joined
+  pub indexed_append : order'.slot_count ≡ order.slot_count → length order'.lists ≡ length order.lists → members'.slot_count ≡ members.slot_count → length members'.lists ≡ length members.lists → Listed → Joined
       → IsIndexed capacity order' members' groups' keys'
   indexed_append same_order ones same_members lists e joined =
       let Within : ℕ → Type 0 = λ q. (q < capacity) × (group_of groups' q < capacity) in
@@ -335,9 +335,9 @@ module _ (capacity : ℕ) (order members order' members' : Lists) (groups : List
       record {
         some = h.some;
         most = h.most;
-        places = same_order ∙ h.places;
+        slot_count = same_order ∙ h.slot_count;
         one = ones ∙ h.one;
-        member_places = same_members ∙ h.member_places;
+        member_slots = same_members ∙ h.member_slots;
         member_lists = lists ∙ h.member_lists;
         grouped = length-set groups p g ∙ h.grouped;
         keyed = length-set keys g (Some key) ∙ h.keyed;
@@ -385,7 +385,7 @@ module _ (capacity : ℕ) (order members order' members' : Lists) (groups : List
 
 -- ---- an entry is removed
 
--- the keys after that: the group is vacant where it has no place left, and as before where it has
+-- the keys after that: the group is vacant where it has no slot left, and as before where it has
 abbrev pub Vacated : List (Option ℕ) → List (Option ℕ) → ℕ → List ℕ → Type 0
 Vacated keys keys' g left = ((get_or keys' g None ≡ None) × (left ≡ [])) ⊎ ((get_or keys' g None ≡ get_or keys g None) × ((r : ℕ) × (is_in r left ≡ true)))
 
@@ -453,14 +453,14 @@ module _ (capacity : ℕ) (order members order' members' : Lists) (groups : List
       (u.0, ap (is_in u.0) e ∙ without_other p u.0 was apart ∙ u.1, u.2))
       (cases_eq j own_group)
 
-  pub indexed_remove : order'.places ≡ order.places → length order'.lists ≡ length order.lists → members'.places ≡ members.places → length members'.lists ≡ length members.lists → length keys' ≡ length keys
+  pub indexed_remove : order'.slot_count ≡ order.slot_count → length order'.lists ≡ length order.lists → members'.slot_count ≡ members.slot_count → length members'.lists ≡ length members.lists → length keys' ≡ length keys
       → IsIndexed capacity order' members' groups keys'
   indexed_remove same_order ones same_members lists size = record {
     some = h.some;
     most = h.most;
-    places = same_order ∙ h.places;
+    slot_count = same_order ∙ h.slot_count;
     one = ones ∙ h.one;
-    member_places = same_members ∙ h.member_places;
+    member_slots = same_members ∙ h.member_slots;
     member_lists = lists ∙ h.member_lists;
     grouped = h.grouped;
     keyed = size ∙ h.keyed;
@@ -487,7 +487,7 @@ module _ (capacity : ℕ) (order members order' members' : Lists) (groups : List
 -- ---- at the opening
 
 pub indexed_open : (capacity : ℕ) (order members : Lists) (groups : List ℕ) (keys : List (Option ℕ)) → 1 ≤ capacity → capacity ≤ 65536
-    → ◌≡◌ {A = Lists} order (record { places = capacity; lists = replicate 1 []; reserved = order.reserved }) → ◌≡◌ {A = Lists} members (record { places = capacity; lists = replicate capacity []; reserved = members.reserved })
+    → ◌≡◌ {A = Lists} order (record { slot_count = capacity; lists = replicate 1 []; reserved = order.reserved }) → ◌≡◌ {A = Lists} members (record { slot_count = capacity; lists = replicate capacity []; reserved = members.reserved })
     → groups ≡ replicate capacity 0 → keys ≡ replicate capacity None
     → IsIndexed capacity order members groups keys
 indexed_open capacity order members groups keys some most eo em eg ek =
@@ -498,9 +498,9 @@ indexed_open capacity order members groups keys some most eo em eg ek =
     record {
       some = some;
       most = most;
-      places = ap (λ (v : Lists). v.places) eo;
+      slot_count = ap (λ (v : Lists). v.slot_count) eo;
       one = ap (λ (v : Lists). length v.lists) eo;
-      member_places = ap (λ (v : Lists). v.places) em;
+      member_slots = ap (λ (v : Lists). v.slot_count) em;
       member_lists = ap length lists ∙ length-replicate capacity [];
       grouped = ap length eg ∙ length-replicate capacity 0;
       keyed = ap length ek ∙ length-replicate capacity None;
@@ -512,15 +512,15 @@ indexed_open capacity order members groups keys some most eo em eg ek =
       unique = λ g k key e f. absurd (none-some key (sym (slot g) ∙ e));
     }
 
-pub marked_open : (capacity : ℕ) (order members unmarked : Lists) → ◌≡◌ {A = Lists} order (record { places = capacity; lists = replicate 1 []; reserved = order.reserved })
-    → ◌≡◌ {A = Lists} members (record { places = capacity; lists = replicate capacity []; reserved = members.reserved }) → ◌≡◌ {A = Lists} unmarked (record { places = capacity; lists = replicate (capacity + 1) []; reserved = unmarked.reserved })
+pub marked_open : (capacity : ℕ) (order members unmarked : Lists) → ◌≡◌ {A = Lists} order (record { slot_count = capacity; lists = replicate 1 []; reserved = order.reserved })
+    → ◌≡◌ {A = Lists} members (record { slot_count = capacity; lists = replicate capacity []; reserved = members.reserved }) → ◌≡◌ {A = Lists} unmarked (record { slot_count = capacity; lists = replicate (capacity + 1) []; reserved = unmarked.reserved })
     → IsMarked capacity order members unmarked
 marked_open capacity order members unmarked eo em eu =
     let empty : (j : ℕ) → list_of unmarked j ≡ [] = λ j. ap (λ (v : Lists). list_of v j) eu ∙ replicate_same (capacity + 1) j [] in
     record {
-      places = ap (λ (v : Lists). v.places) eu;
+      slot_count = ap (λ (v : Lists). v.slot_count) eu;
       lists = ap (λ (v : Lists). length v.lists) eu ∙ length-replicate (capacity + 1) [];
-      open_places = λ g below.
+      open_slots = λ g below.
           empty g ∙ sym (ap (filter (λ p. not (is_marked capacity unmarked p))) (ap (λ (v : Lists). list_of v g) em ∙ replicate_same capacity g []));
       marked = λ p i. absurd (false≢true (ap (is_in p) (sym (empty capacity)) ∙ i));
     }
@@ -557,10 +557,10 @@ module _ (capacity : ℕ) (order unmarked : Lists) (groups : List ℕ) (keys : L
   seen_length = ap length seen_entries ∙ length-map (list_of order 0) seen_entry
 
   pub seen_at : (p : ℕ) → list_any (is_at p) seen.entries ≡ is_in p (list_of order 0)
-  seen_at p = ap (list_any (is_at p)) seen_entries ∙ at_place keys groups (is_marked capacity unmarked) p (list_of order 0)
+  seen_at p = ap (list_any (is_at p)) seen_entries ∙ at_slot keys groups (is_marked capacity unmarked) p (list_of order 0)
 
   pub seen_unmarked : (p : ℕ) → list_any (is_unmarked_at p) seen.entries ≡ true → (is_in p (list_of order 0) ≡ true) × (is_marked capacity unmarked p ≡ false)
-  seen_unmarked p i = unmarked_at_place keys groups (is_marked capacity unmarked) p (list_of order 0) (sym (ap (list_any (is_unmarked_at p)) seen_entries) ∙ i)
+  seen_unmarked p i = unmarked_at_slot keys groups (is_marked capacity unmarked) p (list_of order 0) (sym (ap (list_any (is_unmarked_at p)) seen_entries) ∙ i)
 
 -- a number is put at the end of a list
 joined_at : (lists lists' : Lists) (g p : ℕ) → g < length lists.lists → lists'.lists ≡ set lists.lists g (list_of lists g ++ p ∷ [])
@@ -585,9 +585,9 @@ left_at lists lists' p e j below = ap (λ ls. get_or ls j []) e ∙ get_or-map (
 module _ (capacity : ℕ) (order members unmarked order' members' unmarked' : Lists) (groups : List ℕ) (keys keys' : List (Option ℕ)) (p g key : ℕ)
     (h : IsIndexed capacity order members groups keys) (m : IsMarked capacity order members unmarked)
     (within : p < capacity) (absent : is_in p (list_of order 0) ≡ false) (may : MayHave keys g key) (ek : keys' ≡ set keys g (Some key))
-    (op : order'.places ≡ order.places) (ol : order'.lists ≡ set order.lists 0 (list_of order 0 ++ p ∷ []))
-    (mp : members'.places ≡ members.places) (ml : members'.lists ≡ set members.lists g (list_of members g ++ p ∷ []))
-    (up : unmarked'.places ≡ unmarked.places) (ul : unmarked'.lists ≡ set unmarked.lists g (list_of unmarked g ++ p ∷ [])) where
+    (op : order'.slot_count ≡ order.slot_count) (ol : order'.lists ≡ set order.lists 0 (list_of order 0 ++ p ∷ []))
+    (mp : members'.slot_count ≡ members.slot_count) (ml : members'.lists ≡ set members.lists g (list_of members g ++ p ∷ []))
+    (up : unmarked'.slot_count ≡ unmarked.slot_count) (ul : unmarked'.lists ≡ set unmarked.lists g (list_of unmarked g ++ p ∷ [])) where
   chosen : g < capacity
   chosen = chosen_within capacity order members order' members' groups keys p g key h within absent may
 
@@ -600,7 +600,7 @@ module _ (capacity : ℕ) (order members unmarked order' members' unmarked' : Li
   unmarked_joined : (j : ℕ) → list_of unmarked' j ≡ cond (eqb j g) (list_of unmarked j ++ p ∷ []) (list_of unmarked j)
   unmarked_joined = joined_at unmarked unmarked' g p (omega (arith, m.lists, chosen)) ul
 
-  -- the marked places are as before
+  -- the marked slots are as before
   same_marked : list_of unmarked' capacity ≡ list_of unmarked capacity
   same_marked =
       unmarked_joined capacity ∙ cond-false (eqb capacity g) (list_of unmarked capacity ++ p ∷ []) (list_of unmarked capacity) (ne_eqb capacity g (λ e. absurd (omega (arith, e, chosen))))
@@ -613,7 +613,7 @@ module _ (capacity : ℕ) (order members unmarked order' members' unmarked' : Li
       let left = λ (q : ℕ). not (is_marked capacity unmarked q) in
       let xs = list_of members j in
       unmarked_joined j
-      ∙ ap (λ ys. cond (eqb j g) (ys ++ p ∷ []) ys) (m.open_places j below)
+      ∙ ap (λ ys. cond (eqb j g) (ys ++ p ∷ []) ys) (m.open_slots j below)
       ∙ (elim (eqb j g) as (λ b. cond b (filter left xs ++ p ∷ []) (filter left xs) ≡ filter left (cond b (xs ++ p ∷ []) xs)) [
         | true ↦ ap (λ ys. filter left xs ++ ys) (sym (cond-true (left p) (p ∷ []) [] (not_from_false (is_marked capacity unmarked p) own_unmarked))) ∙ sym (filter-append left xs (p ∷ []))
         | false ↦ refl
@@ -623,10 +623,10 @@ module _ (capacity : ℕ) (order members unmarked order' members' unmarked' : Li
 
   pub append_marked : IsMarked capacity order' members' unmarked'
   append_marked = record {
-    places = up ∙ m.places;
+    slot_count = up ∙ m.slot_count;
     lists = ap length ul ∙ length-set unmarked.lists g (list_of unmarked g ++ p ∷ []) ∙ m.lists;
-    open_places = unmarked_appended;
-    marked = λ q i. ap (is_in q) appended ∙ in_front q (list_of order 0) (p ∷ []) (m.marked q (ap (is_in q) (sym same_marked) ∙ i));
+    open_slots = unmarked_appended;
+    marked = λ q i. ap (is_in q) appended ∙ in_prefix q (list_of order 0) (p ∷ []) (m.marked q (ap (is_in q) (sym same_marked) ∙ i));
   }
 
   pub append_indexed : IsIndexed capacity order' members' (set groups p g) keys'
@@ -643,9 +643,9 @@ module _ (capacity : ℕ) (order members unmarked order' members' unmarked' : Li
 
 module _ (capacity : ℕ) (order members unmarked order' members' unmarked' : Lists) (groups : List ℕ) (keys : List (Option ℕ)) (p g count : ℕ)
     (h : IsIndexed capacity order members groups keys) (m : IsMarked capacity order members unmarked) (listed : is_in p (list_of order 0) ≡ true) (own : g ≡ group_of groups p)
-    (op : order'.places ≡ order.places) (ol : order'.lists ≡ map (without p) order.lists)
-    (mp : members'.places ≡ members.places) (ml : members'.lists ≡ map (without p) members.lists)
-    (up : unmarked'.places ≡ unmarked.places) (ul : unmarked'.lists ≡ map (without p) unmarked.lists) (counted : count ≡ length (list_of members' g)) where
+    (op : order'.slot_count ≡ order.slot_count) (ol : order'.lists ≡ map (without p) order.lists)
+    (mp : members'.slot_count ≡ members.slot_count) (ml : members'.lists ≡ map (without p) members.lists)
+    (up : unmarked'.slot_count ≡ unmarked.slot_count) (ul : unmarked'.lists ≡ map (without p) unmarked.lists) (counted : count ≡ length (list_of members' g)) where
   abbrev Removed : List (Option ℕ) → Type 0
   Removed ks = IsIndexed capacity order' members' groups ks × (entries_of order' ks groups (is_marked capacity unmarked') ≡ filter (λ x. not (is_at p x)) (entries_of order keys groups (is_marked capacity unmarked)))
 
@@ -665,19 +665,19 @@ module _ (capacity : ℕ) (order members unmarked order' members' unmarked' : Li
   not_left : (q : ℕ) (xs : List ℕ) → is_in q (without p xs) ≡ true → q ≡ p → ⊥
   not_left q xs i s = differs q p (without p xs) i (without_same p xs) (sym s)
 
-  unmarked_places_left : (j : ℕ) → j < capacity → list_of unmarked' j ≡ filter (λ q. not (is_marked capacity unmarked' q)) (list_of members' j)
-  unmarked_places_left j below =
+  unmarked_slots_left : (j : ℕ) → j < capacity → list_of unmarked' j ≡ filter (λ q. not (is_marked capacity unmarked' q)) (list_of members' j)
+  unmarked_slots_left j below =
       let left = λ (q : ℕ). not (is_marked capacity unmarked q) in
       let left' = λ (q : ℕ). not (is_marked capacity unmarked' q) in
-      unmarked_left j (omega arith) ∙ ap (without p) (m.open_places j below) ∙ filter-filter (λ q. not (eqb q p)) left (list_of members j)
+      unmarked_left j (omega arith) ∙ ap (without p) (m.open_slots j below) ∙ filter-filter (λ q. not (eqb q p)) left (list_of members j)
       ∙ sym (filter_on left' left (without p (list_of members j)) (λ q i. ap not (marks_left q (not_left q (list_of members j) i))))
       ∙ ap (filter left') (sym (members_left j below))
 
   pub remove_marked : IsMarked capacity order' members' unmarked'
   remove_marked = record {
-    places = up ∙ m.places;
+    slot_count = up ∙ m.slot_count;
     lists = ap length ul ∙ length-map unmarked.lists (without p) ∙ m.lists;
-    open_places = unmarked_places_left;
+    open_slots = unmarked_slots_left;
     marked = λ q i.
         let ne = not_left q (list_of unmarked capacity) (ap (is_in q) (sym (unmarked_left capacity (omega arith))) ∙ i) in
         ap (is_in q) listed_left ∙ without_other p q (list_of order 0) ne ∙ m.marked q (sym (marks_left q ne) ∙ i);
@@ -693,7 +693,7 @@ module _ (capacity : ℕ) (order members unmarked order' members' unmarked' : Li
     entries_remove capacity order members order' members' groups keys ks p h listed listed_left members_left others vacated (is_marked capacity unmarked) (is_marked capacity unmarked') marks_left,
   )
 
-  -- the group has a place left, and stays
+  -- the group has a slot left, and stays
   pub remove_kept : (count ≡ 0 → ⊥) → Removed keys
   remove_kept some = removed_with keys (λ j ne. refl) (inr (refl, some_in (list_of members' (group_of groups p)) (λ e. some (counted ∙ ap length left_size ∙ e)))) refl
 
@@ -713,7 +713,7 @@ module _ (capacity : ℕ) (order members unmarked order' members' unmarked' : Li
 
 module _ (capacity : ℕ) (order members unmarked unmarked' : Lists) (groups : List ℕ) (keys : List (Option ℕ)) (p : ℕ)
     (m : IsMarked capacity order members unmarked) (listed : is_in p (list_of order 0) ≡ true)
-    (up : unmarked'.places ≡ unmarked.places) (ul : unmarked'.lists ≡ moved p capacity unmarked.lists) where
+    (up : unmarked'.slot_count ≡ unmarked.slot_count) (ul : unmarked'.lists ≡ moved p capacity unmarked.lists) where
   marks_joined : list_of unmarked' capacity ≡ without p (list_of unmarked capacity) ++ p ∷ []
   marks_joined =
       ap (λ ls. get_or ls capacity []) ul
@@ -749,14 +749,14 @@ module _ (capacity : ℕ) (order members unmarked unmarked' : Lists) (groups : L
   unmarked_fewer : (j : ℕ) → j < capacity → list_of unmarked' j ≡ filter (λ q. not (is_marked capacity unmarked' q)) (list_of members j)
   unmarked_fewer j below =
       let left = λ (q : ℕ). not (is_marked capacity unmarked q) in
-      unmarked_without j below ∙ ap (without p) (m.open_places j below) ∙ filter_both left (λ q. not (eqb q p)) (list_of members j)
+      unmarked_without j below ∙ ap (without p) (m.open_slots j below) ∙ filter_both left (λ q. not (eqb q p)) (list_of members j)
       ∙ filter_on (λ q. left q && not (eqb q p)) (λ q. not (is_marked capacity unmarked' q)) (list_of members j) (λ q i. fewer_unmarked q)
 
   pub mark_marked : IsMarked capacity order members unmarked'
   mark_marked = record {
-    places = up ∙ m.places;
+    slot_count = up ∙ m.slot_count;
     lists = ap length ul ∙ length-set (map (without p) unmarked.lists) capacity (without p (list_of unmarked capacity) ++ p ∷ []) ∙ length-map unmarked.lists (without p) ∙ m.lists;
-    open_places = unmarked_fewer;
+    open_slots = unmarked_fewer;
     marked = λ q i.
         ⊎_elim (λ (s : q ≡ p). ap (λ x. is_in x (list_of order 0)) s ∙ listed)
         (λ (ne : q ≡ p → ⊥). m.marked q (sym (marks_kept q ne) ∙ i))

@@ -67,7 +67,7 @@ at_view capacity chains keys seen e h = subst (λ slots. IsKeyed capacity chains
 pub in_view : (capacity : ℕ) (chains : Lists) (keys : List ℕ) (slots : List (Option ℕ)) → IsKeyed capacity chains keys slots → IsKeyed capacity chains keys (slots_of capacity chains keys)
 in_view capacity chains keys slots h = subst (λ s. IsKeyed capacity chains keys s) (sym (slots_of_is capacity chains keys slots h)) h
 
--- ---- a place moves to another list
+-- ---- a slot moves to another list
 
 module _ (p to : ℕ) (lists : List (List ℕ)) where
   moved_to : to < length lists → is_in p (get_or (moved p to lists) to []) ≡ true
@@ -99,7 +99,7 @@ module _ (p to : ℕ) (lists : List (List ℕ)) where
 -- a place gets another slot, and stands in the list of it
 pub slot_set : (capacity : ℕ) (chains : Lists) (keys : List ℕ) (slots : List (Option ℕ)) (p : ℕ) (slot : Option ℕ) (chains' : Lists) (keys' : List ℕ)
     → IsKeyed capacity chains keys slots → p < capacity
-    → chains'.places ≡ chains.places → chains'.lists ≡ moved p (chain_of capacity slot) chains.lists
+    → chains'.slot_count ≡ chains.slot_count → chains'.lists ≡ moved p (chain_of capacity slot) chains.lists
     → length keys' ≡ length keys → ((k : ℕ) → slot ≡ Some k → get_or keys' p 0 ≡ k) → ((q : ℕ) → (q ≡ p → ⊥) → get_or keys' q 0 ≡ get_or keys q 0)
     → IsKeyed capacity chains' keys' (set slots p slot)
 slot_set capacity chains keys slots p slot chains' keys' h within same lists size key others =
@@ -112,7 +112,7 @@ slot_set capacity chains keys slots p slot chains' keys' h within same lists siz
     record {
       some = h.some;
       most = h.most;
-      places = same ∙ h.places;
+      slot_count = same ∙ h.slot_count;
       lists = ap length lists ∙ length-set (map (without p) chains.lists) to (without p (get_or chains.lists to []) ++ p ∷ []) ∙ length-map chains.lists (without p) ∙ h.lists;
       keyed = size ∙ h.keyed;
       slotted = length-set slots p slot ∙ h.slotted;
@@ -142,9 +142,9 @@ slot_set capacity chains keys slots p slot chains' keys' h within same lists siz
           (cases_eq q p);
     }
 
--- a place stands in some list
-pub place_somewhere : (capacity : ℕ) (chains : Lists) (keys : List ℕ) (slots : List (Option ℕ)) (p : ℕ) → IsKeyed capacity chains keys slots → p < capacity → list_any (is_in p) chains.lists ≡ true
-place_somewhere capacity chains keys slots p h within = somewhere p chains.lists (chain_of capacity (get_or slots p None)) (h.chained p within)
+-- a slot stands in some list
+pub slot_somewhere : (capacity : ℕ) (chains : Lists) (keys : List ℕ) (slots : List (Option ℕ)) (p : ℕ) → IsKeyed capacity chains keys slots → p < capacity → list_any (is_in p) chains.lists ≡ true
+slot_somewhere capacity chains keys slots p h within = somewhere p chains.lists (chain_of capacity (get_or slots p None)) (h.chained p within)
 
 -- ---- what is found
 
@@ -168,11 +168,11 @@ replicate_same (suc n) zero x = refl
 replicate_same (suc n) (suc p) x = replicate_same n p x
 
 -- an element that passes a test stands somewhere
-pub any_place : (f : Option ℕ → Bool) (slots : List (Option ℕ)) → list_any f slots ≡ true → (p : ℕ) × (p < length slots) × (f (get_or slots p None) ≡ true)
-any_place f [] h = absurd (false≢true h)
-any_place f (x ∷ slots) h =
+pub any_slot : (f : Option ℕ → Bool) (slots : List (Option ℕ)) → list_any f slots ≡ true → (p : ℕ) × (p < length slots) × (f (get_or slots p None) ≡ true)
+any_slot f [] h = absurd (false≢true h)
+any_slot f (x ∷ slots) h =
     ⊎_elim (λ (e : f x ≡ true). (0, omega arith, e))
-    (λ (more : list_any f slots ≡ true). let m = any_place f slots more in (suc m.0, omega (arith, m.1), m.2))
+    (λ (more : list_any f slots ≡ true). let m = any_slot f slots more in (suc m.0, omega (arith, m.1), m.2))
     (or_cases (f x) (list_any f slots) h)
 
 has_key_is : (key : ℕ) (o : Option ℕ) → has_key key o ≡ true → o ≡ Some key
@@ -184,7 +184,7 @@ is_vacant_is None h = refl
 is_vacant_is (Some k) h = absurd (false≢true h)
 
 module _ (capacity : ℕ) (chains : Lists) (keys : List ℕ) (slots : List (Option ℕ)) where
-  -- a place with the key in the list of its bucket has the key
+  -- a slot with the key in the list of its bucket has the key
   pub found : (key p : ℕ) → IsKeyed capacity chains keys slots → is_in p (list_of chains (bucket_of capacity key)) ≡ true → get_or keys p 0 ≡ key → slice_get slots p ≡ Some (Some key)
   found key p h i e =
       let within = bucket_within capacity key h.some in
@@ -196,16 +196,16 @@ module _ (capacity : ℕ) (chains : Lists) (keys : List ℕ) (slots : List (Opti
       (slot_cases (get_or slots p None)) in
       slice_get-get_or slots p None (omega (arith, own.0, h.slotted)) ∙ ap Some slot
 
-  -- where there is none in it, no place has the key
+  -- where there is none in it, no slot has the key
   pub not_found : (key : ℕ) → IsKeyed capacity chains keys slots → list_any (λ p. eqb (get_or keys p 0) key) (list_of chains (bucket_of capacity key)) ≡ false → list_any (has_key key) slots ≡ false
   not_found key h none =
       false_from_ne_true (list_any (has_key key) slots) (λ some.
-      let at = any_place (has_key key) slots some in
+      let at = any_slot (has_key key) slots some in
       let slot : get_or slots at.0 None ≡ Some key = has_key_is key (get_or slots at.0 None) at.2 in
       let i : is_in at.0 (list_of chains (bucket_of capacity key)) ≡ true = subst (λ o. is_in at.0 (list_of chains (chain_of capacity o)) ≡ true) slot (h.chained at.0 (omega (arith, at.1, h.slotted))) in
       false≢true (sym none ∙ in_any (λ p. eqb (get_or keys p 0) key) at.0 (list_of chains (bucket_of capacity key)) i (eq-eqb _ _ (h.key at.0 key slot))))
 
-  -- the first place of the list of vacant ones is vacant
+  -- the first slot of the list of vacant ones is vacant
   pub found_vacant : (p : ℕ) → IsKeyed capacity chains keys slots → slice_get (list_of chains capacity) 0 ≡ Some p → slice_get slots p ≡ Some None
   found_vacant p h e =
       let own = h.only p capacity (omega arith) (in_got (list_of chains capacity) 0 p e) in
@@ -215,16 +215,16 @@ module _ (capacity : ℕ) (chains : Lists) (keys : List ℕ) (slots : List (Opti
       (slot_cases (get_or slots p None)) in
       slice_get-get_or slots p None (omega (arith, own.0, h.slotted)) ∙ ap Some slot
 
-  -- where that list is empty, no place is
+  -- where that list is empty, no slot is
   pub none_vacant : IsKeyed capacity chains keys slots → slice_get (list_of chains capacity) 0 ≡ None → list_any is_vacant slots ≡ false
   none_vacant h e =
       false_from_ne_true (list_any is_vacant slots) (λ some.
-      let at = any_place is_vacant slots some in
+      let at = any_slot is_vacant slots some in
       let slot : get_or slots at.0 None ≡ None = is_vacant_is (get_or slots at.0 None) at.2 in
       let i : is_in at.0 (list_of chains capacity) ≡ true = subst (λ o. is_in at.0 (list_of chains (chain_of capacity o)) ≡ true) slot (h.chained at.0 (omega (arith, at.1, h.slotted))) in
       false≢true (ap (is_in at.0) (sym (empty (list_of chains capacity) e)) ∙ i))
 
-  -- so the first of the list is a vacant place, or there is none
+  -- so the first of the list is a vacant slot, or there is none
   pub first_vacant : IsKeyed capacity chains keys slots → (o : Option ℕ) → o ≡ slice_get (list_of chains capacity) 0 → MatchOption o (list_any is_vacant slots ≡ false) (λ p. slice_get slots p ≡ Some None)
   first_vacant h None e = none_vacant h (sym e)
   first_vacant h (Some p) e = found_vacant p h (sym e)
@@ -238,37 +238,37 @@ module _ (capacity : ℕ) (chains : Lists) (keys : List ℕ) (slots : List (Opti
 
 -- ---- at the opening
 
--- the vacant places, before the first of them
-pub vacant_none : (capacity : ℕ) (chains : Lists) → ◌≡◌ {A = Lists} chains (record { places = capacity; lists = replicate (capacity + 1) []; reserved = chains.reserved })
-    → ◌≡◌ {A = Lists} chains (record { places = capacity; lists = set (replicate (capacity + 1) []) capacity (range_with_len 0 0); reserved = chains.reserved })
+-- the vacant slots, before the first of them
+pub vacant_none : (capacity : ℕ) (chains : Lists) → ◌≡◌ {A = Lists} chains (record { slot_count = capacity; lists = replicate (capacity + 1) []; reserved = chains.reserved })
+    → ◌≡◌ {A = Lists} chains (record { slot_count = capacity; lists = set (replicate (capacity + 1) []) capacity (range_with_len 0 0); reserved = chains.reserved })
 vacant_none capacity chains e =
     let none : List ℕ = [] in
     let empties : List (List ℕ) = replicate (capacity + 1) none in
     let same : set empties capacity none ≡ empties = ap (set empties capacity) (sym (replicate_same (capacity + 1) capacity none)) ∙ set-get_or empties capacity none in
-    e ∙ ap (λ ls. record { places = capacity; lists = ls; reserved = chains.reserved }) (sym same)
+    e ∙ ap (λ ls. record { slot_count = capacity; lists = ls; reserved = chains.reserved }) (sym same)
 
--- one vacant place more
-pub vacant_more : (capacity place : ℕ) (chains chains' : Lists) → ◌≡◌ {A = Lists} chains (record { places = capacity; lists = set (replicate (capacity + 1) []) capacity (range_with_len 0 place); reserved = chains.reserved })
-    → chains'.places ≡ chains.places → chains'.lists ≡ set chains.lists capacity (get_or chains.lists capacity [] ++ place ∷ [])
-    → ◌≡◌ {A = Lists} chains' (record { places = capacity; lists = set (replicate (capacity + 1) []) capacity (range_with_len 0 (place + 1)); reserved = chains'.reserved })
-vacant_more capacity place chains chains' e same appended =
+-- one vacant slot more
+pub vacant_more : (capacity slot : ℕ) (chains chains' : Lists) → ◌≡◌ {A = Lists} chains (record { slot_count = capacity; lists = set (replicate (capacity + 1) []) capacity (range_with_len 0 slot); reserved = chains.reserved })
+    → chains'.slot_count ≡ chains.slot_count → chains'.lists ≡ set chains.lists capacity (get_or chains.lists capacity [] ++ slot ∷ [])
+    → ◌≡◌ {A = Lists} chains' (record { slot_count = capacity; lists = set (replicate (capacity + 1) []) capacity (range_with_len 0 (slot + 1)); reserved = chains'.reserved })
+vacant_more capacity slot chains chains' e same appended =
     let none : List ℕ = [] in
     let empties : List (List ℕ) = replicate (capacity + 1) none in
-    let old : List (List ℕ) = set empties capacity (range_with_len 0 place) in
+    let old : List (List ℕ) = set empties capacity (range_with_len 0 slot) in
     let seen : chains.lists ≡ old = ap (λ (v : Lists). v.lists) e in
     let long : length empties ≡ capacity + 1 = length-replicate (capacity + 1) none in
-    let at : get_or old capacity [] ≡ range_with_len 0 place = get_or-set_same empties capacity (range_with_len 0 place) [] (omega arith) in
-    let lists : chains'.lists ≡ set empties capacity (range_with_len 0 (place + 1)) =
-    appended ∙ ap (λ ls. set ls capacity (get_or ls capacity [] ++ place ∷ [])) seen
-    ∙ ap (λ xs. set old capacity (xs ++ place ∷ [])) at ∙ ap (set old capacity) (range_more place)
-    ∙ set-set empties capacity (range_with_len 0 place) (range_with_len 0 (place + 1)) in
-    let places : chains'.places ≡ capacity = same ∙ ap (λ (v : Lists). v.places) e in
-    let first : ◌≡◌ {A = Lists} chains' (record { places = capacity; lists = chains'.lists; reserved = chains'.reserved }) = ap (λ n. record { places = n; lists = chains'.lists; reserved = chains'.reserved }) places in
-    first ∙ ap (λ ls. record { places = capacity; lists = ls; reserved = chains'.reserved }) lists
+    let at : get_or old capacity [] ≡ range_with_len 0 slot = get_or-set_same empties capacity (range_with_len 0 slot) [] (omega arith) in
+    let lists : chains'.lists ≡ set empties capacity (range_with_len 0 (slot + 1)) =
+    appended ∙ ap (λ ls. set ls capacity (get_or ls capacity [] ++ slot ∷ [])) seen
+    ∙ ap (λ xs. set old capacity (xs ++ slot ∷ [])) at ∙ ap (set old capacity) (range_more slot)
+    ∙ set-set empties capacity (range_with_len 0 slot) (range_with_len 0 (slot + 1)) in
+    let slot_count : chains'.slot_count ≡ capacity = same ∙ ap (λ (v : Lists). v.slot_count) e in
+    let first : ◌≡◌ {A = Lists} chains' (record { slot_count = capacity; lists = chains'.lists; reserved = chains'.reserved }) = ap (λ n. record { slot_count = n; lists = chains'.lists; reserved = chains'.reserved }) slot_count in
+    first ∙ ap (λ ls. record { slot_count = capacity; lists = ls; reserved = chains'.reserved }) lists
 
--- all places are vacant
+-- all slots are vacant
 pub opened : (capacity : ℕ) (chains : Lists) (keys : List ℕ) → 1 ≤ capacity → capacity ≤ 65536
-    → ◌≡◌ {A = Lists} chains (record { places = capacity; lists = set (replicate (capacity + 1) []) capacity (range_with_len 0 capacity); reserved = chains.reserved }) → length keys ≡ capacity
+    → ◌≡◌ {A = Lists} chains (record { slot_count = capacity; lists = set (replicate (capacity + 1) []) capacity (range_with_len 0 capacity); reserved = chains.reserved }) → length keys ≡ capacity
     → IsKeyed capacity chains keys (replicate capacity None)
 opened capacity chains keys some most e size =
     let empties : List (List ℕ) = replicate (capacity + 1) [] in
@@ -280,7 +280,7 @@ opened capacity chains keys some most e size =
     record {
       some = some;
       most = most;
-      places = ap (λ (v : Lists). v.places) e;
+      slot_count = ap (λ (v : Lists). v.slot_count) e;
       lists = ap length lists ∙ length-set empties capacity (range_with_len 0 capacity) ∙ long;
       keyed = size;
       slotted = length-replicate capacity None;
@@ -306,10 +306,10 @@ module _ (f : Inside) (seen : Slots) {room : ℕ} (view : ◌≡◌ {A = Slots} 
   keyed_seen = at_view f.capacity f.chains f.keys.items seen.slots (ap (λ (v : Slots). v.slots) view) kept
 
   pub somewhere_seen : list_any (is_in p) f.chains.lists ≡ true
-  somewhere_seen = place_somewhere f.capacity f.chains f.keys.items seen.slots p keyed_seen (omega (arith, keyed_seen.slotted))
+  somewhere_seen = slot_somewhere f.capacity f.chains f.keys.items seen.slots p keyed_seen (omega (arith, keyed_seen.slotted))
 
-  pub slot_seen : (slot : Option ℕ) (chains' : Lists) (keys' : List ℕ) → chains'.places ≡ f.chains.places → chains'.lists ≡ moved p (chain_of f.capacity slot) f.chains.lists
+  pub slot_seen : (slot : Option ℕ) (chains' : Lists) (keys' : List ℕ) → chains'.slot_count ≡ f.chains.slot_count → chains'.lists ≡ moved p (chain_of f.capacity slot) f.chains.lists
       → length keys' ≡ length f.keys.items → (p < length f.keys.items → (k : ℕ) → slot ≡ Some k → get_or keys' p 0 ≡ k) → ((q : ℕ) → (q ≡ p → ⊥) → get_or keys' q 0 ≡ get_or f.keys.items q 0)
       → IsKeyed f.capacity chains' keys' (set seen.slots p slot)
-  slot_seen slot chains' keys' places lists size key others =
-      slot_set f.capacity f.chains f.keys.items seen.slots p slot chains' keys' keyed_seen (omega (arith, keyed_seen.slotted)) places lists size (key (omega (arith, keyed_seen))) others
+  slot_seen slot chains' keys' slot_count lists size key others =
+      slot_set f.capacity f.chains f.keys.items seen.slots p slot chains' keys' keyed_seen (omega (arith, keyed_seen.slotted)) slot_count lists size (key (omega (arith, keyed_seen))) others

@@ -19,18 +19,18 @@ walk_chain after before from (x ∷ xs) until c =
     ap (λ n. n ∷ walk after (length xs) (get_or after n 0)) c.0 ∙ ap (λ ys. x ∷ ys) (walk_chain after before x xs until c.2)
 
 -- the lists that are read off the rings are those that stand in them
-pub lists_of_is : (places : ℕ) (after before owners counts : List ℕ) (lists : List (List ℕ)) → IsLinked places after before owners counts lists → lists_of places after counts ≡ lists
+pub lists_of_is : (slot_count : ℕ) (after before owners counts : List ℕ) (lists : List (List ℕ)) → IsLinked slot_count after before owners counts lists → lists_of slot_count after counts ≡ lists
 unfolding lists_of
-lists_of_is places after before owners counts lists h =
-    let read = λ (k : ℕ). walk after (get_or counts k 0) (get_or after (places + k) 0) in
+lists_of_is slot_count after before owners counts lists h =
+    let read = λ (k : ℕ). walk after (get_or counts k 0) (get_or after (slot_count + k) 0) in
     let size : length (map read (range_with_len 0 (length counts))) ≡ length lists = length-map-range_with_len read 0 (length counts) ∙ h.counted in
     ext_get_or [] (map read (range_with_len 0 (length counts))) lists size
     (λ k below.
     let inside : k < length lists = omega arith in
     let ring = h.each k inside in
     get_or-map-range_with_len read 0 (length counts) k k [] (omega (arith, h.counted)) (omega arith)
-    ∙ ap (λ n. walk after n (get_or after (places + k) 0)) ring.counted
-    ∙ walk_chain after before (places + k) (get_or lists k []) (places + k) ring.chain)
+    ∙ ap (λ n. walk after n (get_or after (slot_count + k) 0)) ring.counted
+    ∙ walk_chain after before (slot_count + k) (get_or lists k []) (slot_count + k) ring.chain)
 
 -- ---- nodes of a chain
 
@@ -46,10 +46,10 @@ first_in after before from (x ∷ xs) until c =
     or_right (eqb until (get_or after from 0)) (is_in (get_or after from 0) (x ∷ xs)) (or_left (eqb x (get_or after from 0)) (is_in (get_or after from 0) xs) (eq-eqb _ _ (sym c.0)))
 
 -- a chain is two, up to one of its nodes and from there on
-pub chain_split : (after before : List ℕ) (from : ℕ) (front : List ℕ) (node : ℕ) (rest : List ℕ) (until : ℕ) → Chain after before from (front ++ node ∷ rest) until → Chain after before from front node × Chain after before node rest until
+pub chain_split : (after before : List ℕ) (from : ℕ) (prefix : List ℕ) (node : ℕ) (rest : List ℕ) (until : ℕ) → Chain after before from (prefix ++ node ∷ rest) until → Chain after before from prefix node × Chain after before node rest until
 chain_split after before from [] node rest until c = ((c.0, c.1), c.2)
-chain_split after before from (x ∷ front) node rest until c =
-    let more = chain_split after before x front node rest until c.2 in
+chain_split after before from (x ∷ prefix) node rest until c =
+    let more = chain_split after before x prefix node rest until c.2 in
     ((c.0, c.1, more.0), more.1)
 
 -- ---- what changes of the tables leave of a chain
@@ -69,39 +69,39 @@ chain_kept after before after' before' from (x ∷ xs) until c a ka kb b = (
 )
 
 -- a node is put in front of the end
-pub chain_append : (after before after' before' : List ℕ) (place from : ℕ) (xs : List ℕ) (until : ℕ) → Chain after before from xs until
-    → Distinct (from ∷ xs) → is_in until xs ≡ false → is_in place (from ∷ xs) ≡ false
-    → get_or after' (get_or before until 0) 0 ≡ place → get_or after' place 0 ≡ until
-    → get_or before' place 0 ≡ get_or before until 0 → get_or before' until 0 ≡ place
-    → ((n : ℕ) → (n ≡ get_or before until 0 → ⊥) → (n ≡ place → ⊥) → get_or after' n 0 ≡ get_or after n 0)
-    → ((n : ℕ) → (n ≡ until → ⊥) → (n ≡ place → ⊥) → get_or before' n 0 ≡ get_or before n 0)
-    → Chain after' before' from (xs ++ place ∷ []) until
-chain_append after before after' before' place from [] until c d u p a1 a2 b1 b2 ka kb =
+pub chain_append : (after before after' before' : List ℕ) (slot from : ℕ) (xs : List ℕ) (until : ℕ) → Chain after before from xs until
+    → Distinct (from ∷ xs) → is_in until xs ≡ false → is_in slot (from ∷ xs) ≡ false
+    → get_or after' (get_or before until 0) 0 ≡ slot → get_or after' slot 0 ≡ until
+    → get_or before' slot 0 ≡ get_or before until 0 → get_or before' until 0 ≡ slot
+    → ((n : ℕ) → (n ≡ get_or before until 0 → ⊥) → (n ≡ slot → ⊥) → get_or after' n 0 ≡ get_or after n 0)
+    → ((n : ℕ) → (n ≡ until → ⊥) → (n ≡ slot → ⊥) → get_or before' n 0 ≡ get_or before n 0)
+    → Chain after' before' from (xs ++ slot ∷ []) until
+chain_append after before after' before' slot from [] until c d u p a1 a2 b1 b2 ka kb =
     (ap (λ n. get_or after' n 0) (sym c.1) ∙ a1, b1 ∙ c.1, (a2, b2))
-chain_append after before after' before' place from (x ∷ xs) until c d u p a1 a2 b1 b2 ka kb =
+chain_append after before after' before' slot from (x ∷ xs) until c d u p a1 a2 b1 b2 ka kb =
     let last = last_in after before x xs until c.2 in
-    let p_from = apart from place (x ∷ xs) p in
-    let p_x = apart x place xs p_from.1 in
+    let p_from = apart from slot (x ∷ xs) p in
+    let p_x = apart x slot xs p_from.1 in
     let u_x = apart x until xs u in (
       ka from (differs (get_or before until 0) from (x ∷ xs) last d.0) p_from.0 ∙ c.0,
       kb x u_x.0 p_x.0 ∙ c.1,
-      chain_append after before after' before' place x xs until c.2 d.1 u_x.1 p_from.1 a1 a2 b1 b2 ka kb,
+      chain_append after before after' before' slot x xs until c.2 d.1 u_x.1 p_from.1 a1 a2 b1 b2 ka kb,
     )
 
 -- a node is taken out
-pub chain_cut : (after before after' before' : List ℕ) (from : ℕ) (front : List ℕ) (place : ℕ) (rest : List ℕ) (until : ℕ)
-    → Chain after before from front place → Chain after before place rest until
-    → Distinct (from ∷ (front ++ place ∷ rest)) → is_in until (front ++ place ∷ rest) ≡ false
-    → get_or after' (get_or before place 0) 0 ≡ get_or after place 0
-    → get_or before' (get_or after place 0) 0 ≡ get_or before place 0
-    → ((n : ℕ) → (n ≡ get_or before place 0 → ⊥) → get_or after' n 0 ≡ get_or after n 0)
-    → ((n : ℕ) → (n ≡ get_or after place 0 → ⊥) → get_or before' n 0 ≡ get_or before n 0)
-    → Chain after' before' from (front ++ rest) until
-chain_cut after before after' before' from [] place [] until c e d u a b ka kb =
+pub chain_cut : (after before after' before' : List ℕ) (from : ℕ) (prefix : List ℕ) (slot : ℕ) (rest : List ℕ) (until : ℕ)
+    → Chain after before from prefix slot → Chain after before slot rest until
+    → Distinct (from ∷ (prefix ++ slot ∷ rest)) → is_in until (prefix ++ slot ∷ rest) ≡ false
+    → get_or after' (get_or before slot 0) 0 ≡ get_or after slot 0
+    → get_or before' (get_or after slot 0) 0 ≡ get_or before slot 0
+    → ((n : ℕ) → (n ≡ get_or before slot 0 → ⊥) → get_or after' n 0 ≡ get_or after n 0)
+    → ((n : ℕ) → (n ≡ get_or after slot 0 → ⊥) → get_or before' n 0 ≡ get_or before n 0)
+    → Chain after' before' from (prefix ++ rest) until
+chain_cut after before after' before' from [] slot [] until c e d u a b ka kb =
     (ap (λ n. get_or after' n 0) (sym c.1) ∙ a ∙ e.0, ap (λ n. get_or before' n 0) (sym e.0) ∙ b ∙ c.1)
-chain_cut after before after' before' from [] place (y ∷ rest) until c e d u a b ka kb =
-    let from_apart = apart place from (y ∷ rest) d.0 in
-    let u_apart = apart place until (y ∷ rest) u in
+chain_cut after before after' before' from [] slot (y ∷ rest) until c e d u a b ka kb =
+    let from_apart = apart slot from (y ∷ rest) d.0 in
+    let u_apart = apart slot until (y ∷ rest) u in
     let u_y = apart y until rest u_apart.1 in
     let from_y = apart y from rest from_apart.1 in
     let y_apart : is_in y rest ≡ false = d.1.1.0 in (
@@ -113,16 +113,16 @@ chain_cut after before after' before' from [] place (y ∷ rest) until c e d u a
           (λ n i. kb n (λ q. differs n y rest i y_apart (sym (q ∙ e.0))))
           (kb until (λ q. u_y.0 (sym (q ∙ e.0)))),
     )
-chain_cut after before after' before' from (x ∷ front) place rest until c e d u a b ka kb =
-    let last = last_in after before x front place c.2 in
-    let next = first_in after before place rest until e in
-    let from_apart = apart_both from (x ∷ front) (place ∷ rest) d.0 in
-    let u_x = apart x until (front ++ place ∷ rest) u in
-    let x_apart = apart_both x front (place ∷ rest) d.1.0 in
-    let x_rest = apart place x rest x_apart.1 in (
-      ka from (differs (get_or before place 0) from (x ∷ front) last from_apart.0) ∙ c.0,
-      kb x (differs (get_or after place 0) x (until ∷ rest) next (apart_from until x rest (λ q. u_x.0 (sym q)) x_rest.1)) ∙ c.1,
-      chain_cut after before after' before' x front place rest until c.2 e d.1 u_x.1 a b ka kb,
+chain_cut after before after' before' from (x ∷ prefix) slot rest until c e d u a b ka kb =
+    let last = last_in after before x prefix slot c.2 in
+    let next = first_in after before slot rest until e in
+    let from_apart = apart_both from (x ∷ prefix) (slot ∷ rest) d.0 in
+    let u_x = apart x until (prefix ++ slot ∷ rest) u in
+    let x_apart = apart_both x prefix (slot ∷ rest) d.1.0 in
+    let x_rest = apart slot x rest x_apart.1 in (
+      ka from (differs (get_or before slot 0) from (x ∷ prefix) last from_apart.0) ∙ c.0,
+      kb x (differs (get_or after slot 0) x (until ∷ rest) next (apart_from until x rest (λ q. u_x.0 (sym q)) x_rest.1)) ∙ c.1,
+      chain_cut after before after' before' x prefix slot rest until c.2 e d.1 u_x.1 a b ka kb,
     )
 
 -- ---- what the code reads
@@ -138,11 +138,11 @@ first_some after before from [] until c ne = absurd (ne c.0)
 first_some after before from (x ∷ xs) until c ne = ap Some (sym c.0)
 
 -- what stands behind a number
-next_in_split : (p : ℕ) (front rest : List ℕ) → is_in p front ≡ false → next_in p (front ++ p ∷ rest) ≡ slice_get rest 0
+next_in_split : (p : ℕ) (prefix rest : List ℕ) → is_in p prefix ≡ false → next_in p (prefix ++ p ∷ rest) ≡ slice_get rest 0
 next_in_split p [] rest none = cond-true (eqb p p) (slice_get rest 0) (next_in p rest) (eq-eqb p p refl)
-next_in_split p (x ∷ front) rest none =
-    let parts = apart x p front none in
-    cond-false (eqb x p) (slice_get (front ++ p ∷ rest) 0) (next_in p (front ++ p ∷ rest)) (ne_eqb x p parts.0) ∙ next_in_split p front rest parts.1
+next_in_split p (x ∷ prefix) rest none =
+    let parts = apart x p prefix none in
+    cond-false (eqb x p) (slice_get (prefix ++ p ∷ rest) 0) (next_in p (prefix ++ p ∷ rest)) (ne_eqb x p parts.0) ∙ next_in_split p prefix rest parts.1
 
 module _ (after before : List ℕ) (from : ℕ) (xs : List ℕ) (until p : ℕ) where
   behind : Chain after before from xs until → Distinct xs → is_in p xs ≡ true → (rest : List ℕ) × Chain after before p rest until × (next_in p xs ≡ slice_get rest 0) × (is_in until xs ≡ false → is_in until rest ≡ false)

@@ -1,4 +1,4 @@
--- An index as a caller sees it: where the entry of a place stands, and which entries a key has.
+-- An index as a caller sees it: where the entry of a slot stands, and which entries a key has.
 use Rattle.std.proofs.Common.{◌≡◌, ℕ, ◌<◌, true, false, not, List, [], ◌∷◌, ◌++◌, length, get_or, map, Some, None, Option, sym, ap, ◌∙◌, arith}
 use Rattle.std.specs.List.{filter, list_any}
 use Rattle.std.specs.Prelude.{slice_get}
@@ -7,7 +7,7 @@ use Rattle.std.proofs.lemmas.List.{get_or_read}
 use Rattle.std.proofs.lemmas.Option.{get_or_from_slice_get}
 use Rattle.tesla_base.specs.Members.{is_in, next_in, without}
 use Rattle.tesla_base.proofs.Members.{somewhere}
-use Rattle.tesla_links.specs.Entries.{Entries, Entry, is_at, is_under, is_unmarked_at, is_unmarked_under, next_place, next_unmarked}
+use Rattle.tesla_links.specs.Entries.{Entries, Entry, is_at, is_under, is_unmarked_at, is_unmarked_under, next_slot, next_unmarked}
 use Rattle.tesla_links.specs.Indexed.{IsIndexed, IsMarked, entries_of, entry_of, group_of, is_marked}
 use Rattle.tesla_links.specs.Lists.{Lists, list_of}
 use Rattle.tesla_links.specs.Slots.{has_key}
@@ -22,11 +22,11 @@ Shows f seen room = ◌≡◌ {A = Entries} (record { capacity = f.capacity; ent
 abbrev pub IsKept : Inside → Type 0
 IsKept f = IsIndexed f.capacity f.order f.members f.groups.items f.keys.slots × IsMarked f.capacity f.order f.members f.unmarked
 
--- the entry of a place, as it is read off the fields
+-- the entry of a slot, as it is read off the fields
 abbrev pub entry_at : Inside → ℕ → Entry
 entry_at f = entry_of f.keys.slots f.groups.items (is_marked f.capacity f.unmarked)
 
--- a place has an entry
+-- a slot has an entry
 pub record IsListed (f : Inside) (p : ℕ) : Type 0 where
   pub kept : IsKept f
   pub listed : is_in p (list_of f.order 0) ≡ true
@@ -49,7 +49,7 @@ listed_in f p k listed =
       in_unmarked = marked_somewhere f.capacity f.order f.members f.groups.items f.keys.slots k.0 f.unmarked k.1 p listed;
     }
 
--- the group of a place that has an entry, as it is read
+-- the group of a slot that has an entry, as it is read
 pub record HasGroup (f : Inside) (p g : ℕ) : Type 0 where
   pub entry : IsListed f p
   pub own : g ≡ group_of f.groups.items p
@@ -57,7 +57,7 @@ pub record HasGroup (f : Inside) (p g : ℕ) : Type 0 where
 pub group_read : (f : Inside) (p g : ℕ) → IsListed f p → g ≡ get_or f.groups.items p g → HasGroup f p g
 group_read f p g l e = record { entry = l; own = get_or_read f.groups.items p g (omega arith) e 0 }
 
--- a place has none
+-- a slot has none
 pub record IsAbsent (f : Inside) (p : ℕ) : Type 0 where
   pub kept : IsKept f
   pub absent : is_in p (list_of f.order 0) ≡ false
@@ -116,11 +116,11 @@ module _ (f : Inside) (seen : Entries) (room : ℕ) (view : Shows f seen room) (
     ap (filter (is_unmarked_under key)) shown ∙ unmarked_none f.capacity f.order f.members f.groups.items f.keys.slots k.0 f.unmarked k.1 key none,
   )
 
-  -- the place behind another in its group is that of the next entry with its key
-  pub next_at : (p g : ℕ) → HasGroup f p g → (is_in p (list_of f.members g) ≡ true) × (next_in p (list_of f.members g) ≡ next_place p seen.entries)
+  -- the slot behind another in its group is that of the next entry with its key
+  pub next_at : (p g : ℕ) → HasGroup f p g → (is_in p (list_of f.members g) ≡ true) × (next_in p (list_of f.members g) ≡ next_slot p seen.entries)
   next_at p g own = (
     ap (λ j. is_in p (list_of f.members j)) own.own ∙ in_group f.capacity f.order f.members f.groups.items f.keys.slots k.0 p own.entry.listed,
-    ap (λ j. next_in p (list_of f.members j)) own.own ∙ next_is f.capacity f.order f.members f.groups.items f.keys.slots k.0 (is_marked f.capacity f.unmarked) p own.entry.listed ∙ ap (next_place p) (sym shown),
+    ap (λ j. next_in p (list_of f.members j)) own.own ∙ next_is f.capacity f.order f.members f.groups.items f.keys.slots k.0 (is_marked f.capacity f.unmarked) p own.entry.listed ∙ ap (next_slot p) (sym shown),
   )
 
   pub next_unmarked_at : (p g : ℕ) → HasGroup f p g → is_marked f.capacity f.unmarked p ≡ false → (is_in p (list_of f.unmarked g) ≡ true) × (next_in p (list_of f.unmarked g) ≡ next_unmarked p seen.entries)
@@ -136,9 +136,9 @@ pub record AreAppended (f : Inside) (order' members' unmarked' : Lists) (keys' :
   pub entry : IsAbsent f p
   pub may : MayHave f.keys.slots g key
   pub keys : keys' ≡ set f.keys.slots g (Some key)
-  pub order : (order'.places ≡ f.order.places) × (order'.lists ≡ set f.order.lists 0 (list_of f.order 0 ++ p ∷ []))
-  pub members : (members'.places ≡ f.members.places) × (members'.lists ≡ set f.members.lists g (list_of f.members g ++ p ∷ []))
-  pub unmarked : (unmarked'.places ≡ f.unmarked.places) × (unmarked'.lists ≡ set f.unmarked.lists g (list_of f.unmarked g ++ p ∷ []))
+  pub order : (order'.slot_count ≡ f.order.slot_count) × (order'.lists ≡ set f.order.lists 0 (list_of f.order 0 ++ p ∷ []))
+  pub members : (members'.slot_count ≡ f.members.slot_count) × (members'.lists ≡ set f.members.lists g (list_of f.members g ++ p ∷ []))
+  pub unmarked : (unmarked'.slot_count ≡ f.unmarked.slot_count) × (unmarked'.lists ≡ set f.unmarked.lists g (list_of f.unmarked g ++ p ∷ []))
 
 module _ (f : Inside) (order' members' unmarked' : Lists) (keys' : List (Option ℕ)) (p g key : ℕ) (a : AreAppended f order' members' unmarked' keys' p g key) where
   pub kept_appended : IsIndexed f.capacity order' members' (set f.groups.items p g) keys' × IsMarked f.capacity order' members' unmarked'
@@ -155,9 +155,9 @@ module _ (f : Inside) (order' members' unmarked' : Lists) (keys' : List (Option 
 -- the parts after an entry was removed
 pub record AreRemoved (f : Inside) (order' members' unmarked' : Lists) (p g count : ℕ) : Type 0 where
   pub entry : HasGroup f p g
-  pub order : (order'.places ≡ f.order.places) × (order'.lists ≡ map (without p) f.order.lists)
-  pub members : (members'.places ≡ f.members.places) × (members'.lists ≡ map (without p) f.members.lists)
-  pub unmarked : (unmarked'.places ≡ f.unmarked.places) × (unmarked'.lists ≡ map (without p) f.unmarked.lists)
+  pub order : (order'.slot_count ≡ f.order.slot_count) × (order'.lists ≡ map (without p) f.order.lists)
+  pub members : (members'.slot_count ≡ f.members.slot_count) × (members'.lists ≡ map (without p) f.members.lists)
+  pub unmarked : (unmarked'.slot_count ≡ f.unmarked.slot_count) × (unmarked'.lists ≡ map (without p) f.unmarked.lists)
   pub counted : count ≡ length (list_of members' g)
 
 -- what they keep and show then

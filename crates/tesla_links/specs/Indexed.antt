@@ -1,5 +1,5 @@
--- How an index is kept: the places in the order in which they came, and for each key in use a group, which is the
--- list of the places under it. The marked places stand in a list of their own, the others in the list of their group.
+-- How an index is kept: the slots in the order in which they came, and for each key in use a group, which is the
+-- list of the slots under it. The marked slots stand in a list of their own, the others in the list of their group.
 use Rattle.std.specs.Prelude.{◌≡◌, ℕ, ◌==◌, ◌+◌, ◌<◌, ◌≤◌, Bool, true, not, List, length, map, get_or, Option, None, Some}
 use Rattle.std.specs.List.{filter}
 use Rattle.std.specs.Option.{unwrap_or}
@@ -7,29 +7,29 @@ use Rattle.tesla_links.specs.Entries.{Entry}
 use Rattle.tesla_base.specs.Members.{Distinct, is_in}
 use Rattle.tesla_links.specs.Lists.{Lists, list_of}
 
--- the group of a place
+-- the group of a slot
 abbrev pub group_of : List ℕ → ℕ → ℕ
-group_of groups place = get_or groups place 0
+group_of groups slot = get_or groups slot 0
 
--- whether a place is marked, by the list behind those of the groups
+-- whether a slot is marked, by the list behind those of the groups
 abbrev pub is_marked : ℕ → Lists → ℕ → Bool
-is_marked capacity unmarked place = is_in place (list_of unmarked capacity)
+is_marked capacity unmarked slot = is_in slot (list_of unmarked capacity)
 
--- the entry of a place, whose key is that of its group
+-- the entry of a slot, whose key is that of its group
 abbrev pub entry_of : List (Option ℕ) → List ℕ → (ℕ → Bool) → ℕ → Entry
-entry_of keys groups marks place = record { key = unwrap_or (get_or keys (group_of groups place) None) 0; place = place; marked = marks place }
+entry_of keys groups marks slot = record { key = unwrap_or (get_or keys (group_of groups slot) None) 0; place = slot; marked = marks slot }
 
--- the entries, read off the places
+-- the entries, read off the slots
 unfoldable pub entries_of : Lists → List (Option ℕ) → List ℕ → (ℕ → Bool) → List Entry
 entries_of order keys groups marks = map (entry_of keys groups marks) (list_of order 0)
 
--- each group in use has the places under its key, and no two have one key
+-- each group in use has the slots under its key, and no two have one key
 pub record IsIndexed (capacity : ℕ) (order members : Lists) (groups : List ℕ) (keys : List (Option ℕ)) : Type 0 where
   pub some : 1 ≤ capacity
   pub most : capacity ≤ 65536
-  pub places : order.places ≡ capacity
+  pub slot_count : order.slot_count ≡ capacity
   pub one : length order.lists ≡ 1
-  pub member_places : members.places ≡ capacity
+  pub member_slots : members.slot_count ≡ capacity
   pub member_lists : length members.lists ≡ capacity
   pub grouped : length groups ≡ capacity
   pub keyed : length keys ≡ capacity
@@ -40,9 +40,9 @@ pub record IsIndexed (capacity : ℕ) (order members : Lists) (groups : List ℕ
   pub used : (g key : ℕ) → get_or keys g None ≡ Some key → (p : ℕ) × (is_in p (list_of order 0) ≡ true) × (group_of groups p ≡ g)
   pub unique : (g h key : ℕ) → get_or keys g None ≡ Some key → get_or keys h None ≡ Some key → g ≡ h
 
--- the list of each group has its unmarked places, and the one behind them has only places that are listed
+-- the list of each group has its unmarked slots, and the one behind them has only slots that are listed
 pub record IsMarked (capacity : ℕ) (order members unmarked : Lists) : Type 0 where
-  pub places : unmarked.places ≡ capacity
+  pub slot_count : unmarked.slot_count ≡ capacity
   pub lists : length unmarked.lists ≡ capacity + 1
-  pub open_places : (g : ℕ) → g < capacity → list_of unmarked g ≡ filter (λ p. not (is_marked capacity unmarked p)) (list_of members g)
+  pub open_slots : (g : ℕ) → g < capacity → list_of unmarked g ≡ filter (λ p. not (is_marked capacity unmarked p)) (list_of members g)
   pub marked : (p : ℕ) → is_marked capacity unmarked p ≡ true → is_in p (list_of order 0) ≡ true

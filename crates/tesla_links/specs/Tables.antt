@@ -1,4 +1,4 @@
--- How a table of keys is kept: the places of each bucket stand in a list, the vacant ones in another.
+-- How a table of keys is kept: the slots of each bucket stand in a list, the vacant ones in another.
 use Rattle.std.specs.Prelude.{◌≡◌, ℕ, ◌+◌, ◌*◌, ◌/◌, ◌%◌, ◌^◌, ◌<◌, ◌≤◌, true, cond, List, length, map, get_or, Option, None, Some}
 use Rattle.std.specs.List.{range_with_len}
 use Rattle.tesla_base.specs.Members.{is_in}
@@ -21,7 +21,7 @@ slots_of capacity chains keys = map (λ p. cond (is_in p (list_of chains capacit
 pub record IsKeyed (capacity : ℕ) (chains : Lists) (keys : List ℕ) (slots : List (Option ℕ)) : Type 0 where
   pub some : 1 ≤ capacity
   pub most : capacity ≤ 65536
-  pub places : chains.places ≡ capacity
+  pub slot_count : chains.slot_count ≡ capacity
   pub lists : length chains.lists ≡ capacity + 1
   pub keyed : length keys ≡ capacity
   pub slotted : length slots ≡ capacity

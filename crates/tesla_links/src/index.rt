@@ -2,7 +2,7 @@
 
 ghost use Rattle.std.specs.Prelude.{◌≡◌, ◌+◌, ◌<◌, ◌≤◌, ◌⊎◌, [], ◌∷◌, ◌++◌, false, true, not, length, replicate, slice_get, slice_set, IfOk};
 ghost use Rattle.std.specs.List.{filter, list_any};
-ghost use Rattle.tesla_links.specs.Entries.{first_place, is_at, is_under, is_unmarked_at, is_unmarked_under, marked_at, next_place, next_unmarked};
+ghost use Rattle.tesla_links.specs.Entries.{first_slot, is_at, is_under, is_unmarked_at, is_unmarked_under, marked_at, next_slot, next_unmarked};
 ghost use Rattle.tesla_links.specs.Slots.{has_key, is_vacant};
 
 use crate::{KeyTable, Links};
@@ -10,18 +10,18 @@ use std::alloc::Global;
 use std::marker::Model;
 use tesla_base::NoMemory;
 
-/// Entries of a key and a place, in the order in which they came. A place has one entry at most; a key may have
+/// Entries of a key and a slot, in the order in which they came. A slot has one entry at most; a key may have
 /// many. The entries of a key are found by it, and each leads to the next. An entry may be marked; the unmarked ones
 /// of a key are found in the same way, and marked ones are not passed on the way.
 ///
-/// The places of a key in use are a group, found by a hash table of as many places as there may be entries. So no
+/// The slots of a key in use are a group, found by a hash table of as many slots as there may be entries. So no
 /// call goes over entries, be they of the same key or of others.
 #[derive(Drop)]
 pub struct Index {
     capacity: u32,
     order: Links,
     members: Links,
-    /// For each group its unmarked places, and behind these lists one of the marked places of all groups.
+    /// For each group its unmarked slots, and behind these lists one of the marked slots of all groups.
     unmarked: Links,
     groups: Vec<u32>,
     keys: KeyTable,
@@ -79,50 +79,50 @@ impl Index {
     }
 
     /// Puts an entry behind the others. It is not marked.
-    pub fn append(&mut self, key: u64, place: u32)
+    pub fn append(&mut self, key: u64, slot: u32)
         requires room { length self.old.entries < self.old.capacity }
-        requires place { place < self.old.capacity }
-        requires absent { list_any (is_at place) self.old.entries ≡ false }
+        requires slot { slot < self.old.capacity }
+        requires absent { list_any (is_at slot) self.old.entries ≡ false }
         ensures capacity { self.new.capacity ≡ self.old.capacity }
         ensures reserved { self.new.reserved ≡ self.old.reserved }
-        ensures entries { self.new.entries ≡ self.old.entries ++ record { key = key; place = place; marked = false } ∷ [] }
+        ensures entries { self.new.entries ≡ self.old.entries ++ record { key = key; place = slot; marked = false } ∷ [] }
     {
         let group = enter_group(&mut self.keys, key);
-        self.groups[place as usize] = group;
-        self.members.append(group, place);
-        self.order.append(0, place);
-        self.unmarked.append(group, place);
+        self.groups[slot as usize] = group;
+        self.members.append(group, slot);
+        self.order.append(0, slot);
+        self.unmarked.append(group, slot);
     }
 
-    /// Marks the entry of a place; the others stay as they are. One that is marked stays so.
-    pub fn mark(&mut self, place: u32)
-        requires { list_any (is_at place) self.old.entries ≡ true }
+    /// Marks the entry of a slot; the others stay as they are. One that is marked stays so.
+    pub fn mark(&mut self, slot: u32)
+        requires { list_any (is_at slot) self.old.entries ≡ true }
         ensures capacity { self.new.capacity ≡ self.old.capacity }
         ensures reserved { self.new.reserved ≡ self.old.reserved }
-        ensures entries { self.new.entries ≡ marked_at place self.old.entries }
+        ensures entries { self.new.entries ≡ marked_at slot self.old.entries }
     {
-        self.unmarked.transfer(self.capacity, place);
+        self.unmarked.transfer(self.capacity, slot);
     }
 
-    /// Removes the entry of a place; the others stay in order.
-    pub fn remove(&mut self, place: u32)
-        requires { list_any (is_at place) self.old.entries ≡ true }
+    /// Removes the entry of a slot; the others stay in order.
+    pub fn remove(&mut self, slot: u32)
+        requires { list_any (is_at slot) self.old.entries ≡ true }
         ensures capacity { self.new.capacity ≡ self.old.capacity }
         ensures reserved { self.new.reserved ≡ self.old.reserved }
-        ensures entries { self.new.entries ≡ filter (λ e. not (is_at place e)) self.old.entries }
+        ensures entries { self.new.entries ≡ filter (λ e. not (is_at slot e)) self.old.entries }
     {
-        let group = self.groups[place as usize];
-        self.members.remove(place);
-        self.order.remove(place);
-        self.unmarked.remove(place);
+        let group = self.groups[slot as usize];
+        self.members.remove(slot);
+        self.order.remove(slot);
+        self.unmarked.remove(slot);
         if self.members.count(group) == 0 {
             self.keys.clear(group);
         }
     }
 
-    /// The place of the first entry with a key; `None` exactly where there is none.
+    /// The slot of the first entry with a key; `None` exactly where there is none.
     pub fn first(&self, key: u64) -> Option<u32>
-        ensures { result ≡ first_place (filter (is_under key) self.now.entries) }
+        ensures { result ≡ first_slot (filter (is_under key) self.now.entries) }
     {
         let Some(group) = self.keys.find(key) else {
             return None;
@@ -130,13 +130,13 @@ impl Index {
         self.members.first(group)
     }
 
-    /// The place of the next entry with the same key as that of a place; `None` exactly where there is none.
-    pub fn next(&self, place: u32) -> Option<u32>
-        requires { list_any (is_at place) self.now.entries ≡ true }
-        ensures { result ≡ next_place place self.now.entries }
+    /// The slot of the next entry with the same key as that of a slot; `None` exactly where there is none.
+    pub fn next(&self, slot: u32) -> Option<u32>
+        requires { list_any (is_at slot) self.now.entries ≡ true }
+        ensures { result ≡ next_slot slot self.now.entries }
     {
-        let group = self.groups[place as usize];
-        self.members.next(group, place)
+        let group = self.groups[slot as usize];
+        self.members.next(group, slot)
     }
 
     /// How many entries have a key.
@@ -149,9 +149,9 @@ impl Index {
         }
     }
 
-    /// The place of the first unmarked entry with a key; `None` exactly where there is none.
+    /// The slot of the first unmarked entry with a key; `None` exactly where there is none.
     pub fn first_unmarked(&self, key: u64) -> Option<u32>
-        ensures { result ≡ first_place (filter (is_unmarked_under key) self.now.entries) }
+        ensures { result ≡ first_slot (filter (is_unmarked_under key) self.now.entries) }
     {
         let Some(group) = self.keys.find(key) else {
             return None;
@@ -159,14 +159,14 @@ impl Index {
         self.unmarked.first(group)
     }
 
-    /// The place of the next unmarked entry with the same key as that of a place, which is unmarked; `None` exactly
+    /// The slot of the next unmarked entry with the same key as that of a slot, which is unmarked; `None` exactly
     /// where there is none.
-    pub fn next_unmarked(&self, place: u32) -> Option<u32>
-        requires { list_any (is_unmarked_at place) self.now.entries ≡ true }
-        ensures { result ≡ next_unmarked place self.now.entries }
+    pub fn next_unmarked(&self, slot: u32) -> Option<u32>
+        requires { list_any (is_unmarked_at slot) self.now.entries ≡ true }
+        ensures { result ≡ next_unmarked slot self.now.entries }
     {
-        let group = self.groups[place as usize];
-        self.unmarked.next(group, place)
+        let group = self.groups[slot as usize];
+        self.unmarked.next(group, slot)
     }
 
     /// How many entries have a key and are not marked.

@@ -12,11 +12,11 @@ use std::alloc::Global;
 use std::marker::Model;
 use tesla_base::NoMemory;
 
-/// A hash table of a fixed number of places. Each place has a key or is vacant. A place is found by its key, and
+/// A hash table of a fixed number of slots. Each slot has a key or is vacant. A slot is found by its key, and
 /// a vacant one by being so.
 ///
-/// The places whose keys have one bucket are linked, so a look-up goes over these alone. There are as many
-/// buckets as places. Keys below 2^32 that follow one another have different buckets.
+/// The slots whose keys have one bucket are linked, so a look-up goes over these alone. There are as many
+/// buckets as slots. Keys below 2^32 that follow one another have different buckets.
 #[derive(Drop)]
 pub struct KeyTable {
     capacity: u32,
@@ -47,19 +47,19 @@ fn bucket(buckets: u32, key: u64) -> u32
     (mixed % u64::from(buckets)) as u32
 }
 
-/// Lists for so many buckets, which are empty, and one for the vacant places, which has all.
+/// Lists for so many buckets, which are empty, and one for the vacant slots, which has all.
 fn vacant_chains(alloc: Global, capacity: u32) -> Result<Links, NoMemory>
     requires { capacity ≤ 65536 }
-    ensures { IfOk result (λ l. l ≡ record { places = capacity; lists = slice_set (replicate (capacity + 1) []) capacity (range_with_len 0 capacity); reserved = l.reserved }) }
+    ensures { IfOk result (λ l. l ≡ record { slot_count = capacity; lists = slice_set (replicate (capacity + 1) []) capacity (range_with_len 0 capacity); reserved = l.reserved }) }
 {
     let mut chains = Links::open(alloc, capacity + 1, capacity)?;
-    for place in 0..capacity {
-        chains.append(capacity, place);
+    for slot in 0..capacity {
+        chains.append(capacity, slot);
     }
     Ok(chains)
 }
 
-/// The first place of a list that has a key.
+/// The first slot of a list that has a key.
 fn find_in(chains: &Links, keys: &[u64], list: u32, key: u64) -> Option<u32>
     requires list { list < length chains.now.lists }
     requires keyed { (p : ℕ) → is_in p (list_of chains.now list) ≡ true → p < length keys.now }
@@ -67,17 +67,17 @@ fn find_in(chains: &Links, keys: &[u64], list: u32, key: u64) -> Option<u32>
 {
     let mut next = chains.first(list);
     for _ in 0..chains.count(list) {
-        let Some(place) = next else { return None };
-        if keys[place as usize] == key {
-            return Some(place);
+        let Some(slot) = next else { return None };
+        if keys[slot as usize] == key {
+            return Some(slot);
         }
-        next = chains.next(list, place);
+        next = chains.next(list, slot);
     }
     None
 }
 
 impl KeyTable {
-    /// A table of so many places, all vacant. All memory is taken here.
+    /// A table of so many slots, all vacant. All memory is taken here.
     pub fn open(alloc: Global, capacity: u32) -> Result<KeyTable, NoMemory>
         requires some { 1 ≤ capacity }
         requires most { capacity ≤ 65536 }
@@ -90,33 +90,33 @@ impl KeyTable {
         })
     }
 
-    /// Gives a place a key.
-    pub fn enter(&mut self, place: u32, key: u64)
-        requires { place < length self.old.slots }
-        ensures slots { self.new.slots ≡ slice_set self.old.slots place (Some key) }
+    /// Gives a slot a key.
+    pub fn enter(&mut self, slot: u32, key: u64)
+        requires { slot < length self.old.slots }
+        ensures slots { self.new.slots ≡ slice_set self.old.slots slot (Some key) }
         ensures reserved { self.new.reserved ≡ self.old.reserved }
     {
-        self.chains.transfer(bucket(self.capacity, key), place);
-        self.keys[place as usize] = key;
+        self.chains.transfer(bucket(self.capacity, key), slot);
+        self.keys[slot as usize] = key;
     }
 
-    /// Makes a place vacant.
-    pub fn clear(&mut self, place: u32)
-        requires { place < length self.old.slots }
-        ensures slots { self.new.slots ≡ slice_set self.old.slots place None }
+    /// Makes a slot vacant.
+    pub fn clear(&mut self, slot: u32)
+        requires { slot < length self.old.slots }
+        ensures slots { self.new.slots ≡ slice_set self.old.slots slot None }
         ensures reserved { self.new.reserved ≡ self.old.reserved }
     {
-        self.chains.transfer(self.capacity, place);
+        self.chains.transfer(self.capacity, slot);
     }
 
-    /// A place that has a key; `None` exactly where no place has it.
+    /// A slot that has a key; `None` exactly where no slot has it.
     pub fn find(&self, key: u64) -> Option<u32>
         ensures { MatchOption result (list_any (has_key key) self.now.slots ≡ false) (λ p. slice_get self.now.slots p ≡ Some (Some key)) }
     {
         find_in(&self.chains, &self.keys, bucket(self.capacity, key), key)
     }
 
-    /// A vacant place; `None` exactly where there is none.
+    /// A vacant slot; `None` exactly where there is none.
     pub fn vacant(&self) -> Option<u32>
         ensures { MatchOption result (list_any is_vacant self.now.slots ≡ false) (λ p. slice_get self.now.slots p ≡ Some None) }
     {

@@ -13,10 +13,10 @@ use tesla_base::NoMemory;
 /// the same time, however many numbers the lists have.
 ///
 /// Each list is a ring, linked both ways, so that its first and its last number are changed as any other. Node p of
-/// the tables is the number p; node `places + k` is the head of list k.
+/// the tables is the number p; node `slot_count + k` is the head of list k.
 #[derive(Drop)]
 pub struct Links {
-    places: u32,
+    slot_count: u32,
     after: Vec<u32>,
     before: Vec<u32>,
     owners: Vec<u32>,
@@ -32,12 +32,12 @@ impl Model for Links {
     ghost Value = { Lists };
 
     ghost view = { λ l. record {
-      places = l.places;
-      lists = lists_of l.places l.after.items l.counts.items;
+      slot_count = l.slot_count;
+      lists = lists_of l.slot_count l.after.items l.counts.items;
       reserved = vec_capacity l.after + vec_capacity l.before + vec_capacity l.owners + vec_capacity l.counts;
     } };
 
-    ghost invariant = { λ l. IsLinked l.places l.after.items l.before.items l.owners.items l.counts.items (lists_of l.places l.after.items l.counts.items) };
+    ghost invariant = { λ l. IsLinked l.slot_count l.after.items l.before.items l.owners.items l.counts.items (lists_of l.slot_count l.after.items l.counts.items) };
 }
 
 /// The numbers from 0 up to a bound.
@@ -52,66 +52,66 @@ fn numbers(alloc: Global, count: u32) -> Result<Vec<u32>, AllocError>
 }
 
 impl Links {
-    /// So many empty lists of numbers below `places`. All memory is taken here.
-    pub fn open(alloc: Global, lists: u32, places: u32) -> Result<Links, NoMemory>
+    /// So many empty lists of numbers below `slot_count`. All memory is taken here.
+    pub fn open(alloc: Global, lists: u32, slot_count: u32) -> Result<Links, NoMemory>
         requires few { lists ≤ 2 ^ 20 }
-        requires small { places ≤ 2 ^ 20 }
-        ensures { IfOk result (λ l. l ≡ record { places = places; lists = replicate lists []; reserved = l.reserved }) }
+        requires small { slot_count ≤ 2 ^ 20 }
+        ensures { IfOk result (λ l. l ≡ record { slot_count = slot_count; lists = replicate lists []; reserved = l.reserved }) }
     {
         Ok(Links {
-            places,
-            after: numbers(alloc, places + lists)?,
-            before: numbers(alloc, places + lists)?,
-            owners: vec![in alloc; 0; places as usize]?,
+            slot_count,
+            after: numbers(alloc, slot_count + lists)?,
+            before: numbers(alloc, slot_count + lists)?,
+            owners: vec![in alloc; 0; slot_count as usize]?,
             counts: vec![in alloc; 0; lists as usize]?,
         })
     }
 
     /// Puts a number at the end of a list.
-    pub fn append(&mut self, list: u32, place: u32)
+    pub fn append(&mut self, list: u32, slot: u32)
         requires list { list < length self.old.lists }
-        requires place { place < self.old.places }
-        requires nowhere { list_any (is_in place) self.old.lists ≡ false }
-        ensures places { self.new.places ≡ self.old.places }
+        requires slot { slot < self.old.slot_count }
+        requires nowhere { list_any (is_in slot) self.old.lists ≡ false }
+        ensures slot_count { self.new.slot_count ≡ self.old.slot_count }
         ensures reserved { self.new.reserved ≡ self.old.reserved }
-        ensures lists { self.new.lists ≡ slice_set self.old.lists list (list_of self.old list ++ place ∷ []) }
+        ensures lists { self.new.lists ≡ slice_set self.old.lists list (list_of self.old list ++ slot ∷ []) }
     {
-        let head = self.places + list;
+        let head = self.slot_count + list;
         let last = self.before[head as usize];
-        self.after[last as usize] = place;
-        self.after[place as usize] = head;
-        self.before[place as usize] = last;
-        self.before[head as usize] = place;
-        self.owners[place as usize] = list;
+        self.after[last as usize] = slot;
+        self.after[slot as usize] = head;
+        self.before[slot as usize] = last;
+        self.before[head as usize] = slot;
+        self.owners[slot as usize] = list;
         self.counts[list as usize] += 1;
     }
 
     /// Takes a number out of the list in which it stands.
-    pub fn remove(&mut self, place: u32)
-        requires somewhere { list_any (is_in place) self.old.lists ≡ true }
-        ensures places { self.new.places ≡ self.old.places }
+    pub fn remove(&mut self, slot: u32)
+        requires somewhere { list_any (is_in slot) self.old.lists ≡ true }
+        ensures slot_count { self.new.slot_count ≡ self.old.slot_count }
         ensures reserved { self.new.reserved ≡ self.old.reserved }
-        ensures lists { self.new.lists ≡ map (without place) self.old.lists }
-        ensures within { place < self.old.places }
+        ensures lists { self.new.lists ≡ map (without slot) self.old.lists }
+        ensures within { slot < self.old.slot_count }
     {
-        let after = self.after[place as usize];
-        let before = self.before[place as usize];
-        let list = self.owners[place as usize];
+        let after = self.after[slot as usize];
+        let before = self.before[slot as usize];
+        let list = self.owners[slot as usize];
         self.after[before as usize] = after;
         self.before[after as usize] = before;
         self.counts[list as usize] -= 1;
     }
 
     /// Takes a number out of the list in which it stands, and puts it at the end of a list.
-    pub fn transfer(&mut self, list: u32, place: u32)
+    pub fn transfer(&mut self, list: u32, slot: u32)
         requires list { list < length self.old.lists }
-        requires somewhere { list_any (is_in place) self.old.lists ≡ true }
-        ensures places { self.new.places ≡ self.old.places }
+        requires somewhere { list_any (is_in slot) self.old.lists ≡ true }
+        ensures slot_count { self.new.slot_count ≡ self.old.slot_count }
         ensures reserved { self.new.reserved ≡ self.old.reserved }
-        ensures lists { self.new.lists ≡ moved place list self.old.lists }
+        ensures lists { self.new.lists ≡ moved slot list self.old.lists }
     {
-        self.remove(place);
-        self.append(list, place);
+        self.remove(slot);
+        self.append(list, slot);
     }
 
     /// The first number of a list; `None` exactly where the list is empty.
@@ -120,7 +120,7 @@ impl Links {
         ensures value { result ≡ slice_get (list_of self.now list) 0 }
         ensures distinct { Distinct (list_of self.now list) }
     {
-        let head = self.places + list;
+        let head = self.slot_count + list;
         let first = self.after[head as usize];
         if first == head {
             return None;
@@ -129,14 +129,14 @@ impl Links {
     }
 
     /// The number behind another one in its list; `None` exactly where it is the last.
-    pub fn next(&self, list: u32, place: u32) -> Option<u32>
+    pub fn next(&self, list: u32, slot: u32) -> Option<u32>
         requires list { list < length self.now.lists }
-        requires place { is_in place (list_of self.now list) ≡ true }
-        ensures value { result ≡ next_in place (list_of self.now list) }
+        requires slot { is_in slot (list_of self.now list) ≡ true }
+        ensures value { result ≡ next_in slot (list_of self.now list) }
         ensures distinct { Distinct (list_of self.now list) }
     {
-        let next = self.after[place as usize];
-        if next == self.places + list {
+        let next = self.after[slot as usize];
+        if next == self.slot_count + list {
             return None;
         }
         Some(next)

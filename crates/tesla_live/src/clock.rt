@@ -16,17 +16,17 @@ const PAUSE: u64 = 1;
 
 /// Reads the system's clocks until both can be read, a second apart. It tells once on standard error that it waits.
 pub(crate) fn anchor_of<R: time::Clock + Eprint + Wait>(rt: &R, command: Command) -> Anchor {
-    let mut is_told = false;
+    let mut is_returned = false;
     for _ in rt.forever() {
         if let Some(anchor) = Anchor::at(times_now(rt)) {
             return anchor;
         }
-        if !is_told {
+        if !is_returned {
             let _ = eprintln!(rt;
                 "tesla: {}: the system's clock can't be read; waiting until it can",
                 command.name()
             );
-            is_told = true;
+            is_returned = true;
         }
         rt.sleep(Duration::from_secs(PAUSE));
     }

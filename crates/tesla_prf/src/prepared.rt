@@ -8,7 +8,7 @@ ghost use Rattle.tesla_prf.specs.Keys.{mac_of, next_of, tag_under};
 
 use crate::hmac::Begun;
 use crate::keys::{MAC, NEXT};
-use crate::tags::{front_of, message_mac};
+use crate::tags::{message_mac, prefix_of};
 use std::fmt;
 use std::marker::Model;
 use std::sync::ledger::Ledger;
@@ -119,7 +119,7 @@ impl PreparedKey {
         ensures cost { steps.new ≡ steps.old + 1 }
     {
         let digest = message_mac(&self.begun, stream, chain, name, payload, steps);
-        front_of(&digest)
+        prefix_of(&digest)
     }
 }
 

@@ -47,12 +47,12 @@ pub fn message_mac<L: Ledger>(
 }
 
 /// The tag of 16 bytes that an HMAC begins with.
-pub fn front_of(digest: &[u8; DIGEST]) -> Tag
+pub fn prefix_of(digest: &[u8; DIGEST]) -> Tag
     ensures { result.0 ≡ take 16 digest.now }
 {
-    let mut front = [0; TAG_LENGTH];
-    front.copy_from_slice(&digest[..TAG_LENGTH]);
-    Tag(front)
+    let mut prefix = [0; TAG_LENGTH];
+    prefix.copy_from_slice(&digest[..TAG_LENGTH]);
+    Tag(prefix)
 }
 
 /// The tag of a message on a chain, under the MAC key of the message's interval, where tags have `length`
@@ -92,7 +92,7 @@ pub fn tag<L: Ledger>(
     ensures cost { steps.new ≡ steps.old + 1 }
 {
     let digest = message_mac(&Begun::new(&mac.0), stream, chain, name, payload, steps);
-    front_of(&digest)
+    prefix_of(&digest)
 }
 
 /// Whether both tags are the same bytes.

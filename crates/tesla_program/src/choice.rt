@@ -1,7 +1,7 @@
 //! The choice of the table that words are run by.
 
 ghost use Rattle.std.specs.Prelude.{◌≡◌, map, string_bytes};
-ghost use Rattle.tesla_front.specs.Came.{Came, status_of};
+ghost use Rattle.tesla_front.specs.OutcomeView.{OutcomeView, status_of};
 ghost use Rattle.tesla_program.specs.Choice.{RunsChosen};
 
 use std::alloc::Global;
@@ -11,7 +11,7 @@ use tesla_desk::Desk;
 /// Runs the words as those of a tool where the first of them names one, and else as those of the other commands, and
 /// gives the status.
 pub fn run_chosen<D: Desk>(alloc: Global, words: &[String], desk: &mut D) -> u8
-    ensures { (told : Came) × (result ≡ status_of told) × RunsChosen (map string_bytes words.now) (D.told desk.old) (D.told desk.new) told }
+    ensures { (reported : OutcomeView) × (result ≡ status_of reported) × RunsChosen (map string_bytes words.now) (D.told desk.old) (D.told desk.new) reported }
 {
     if is_tool(words) {
         return run_tools(alloc, words, desk);

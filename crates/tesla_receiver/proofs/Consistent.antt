@@ -34,7 +34,7 @@ use Rattle.tesla_state.proofs.Named.{same_name}
 use Rattle.tesla_receiver.proofs.Judged.{held_all, held_interval}
 use Rattle.tesla_receiver.proofs.KeptState.{none_let_go}
 use Rattle.tesla_receiver.proofs.Limits.{capacity_kept, quota_kept}
-use Rattle.tesla_receiver.proofs.Once.{released_once, all_called, place_once, next_out, untaken_stays, found_held}
+use Rattle.tesla_receiver.proofs.Once.{released_once, all_called, order_once, next_out, untaken_stays, found_held}
 use Rattle.tesla_receiver.proofs.Owners.{owned_at}
 
 -- ---- the packets in order
@@ -65,18 +65,18 @@ rises_above n (x ∷ held) zero item r at = let first = r.0 in subst (λ (i : Ho
 rises_above n (x ∷ held) (suc k) item r at = let rest = rises_above (x.order + 1) held k item r.1 at in let first = r.0 in omega (arith, rest, first)
 
 -- two packets of one number are one
-pub one_place : (n : ℕ) (held : List Holding) (j k : ℕ) (a b : Holding) → RisesFrom n held → slice_get held j ≡ Some a → slice_get held k ≡ Some b → a.order ≡ b.order → j ≡ k
-one_place n [] j k a b r at there same = absurd (cc)
-one_place n (x ∷ held) zero zero a b r at there same = refl
-one_place n (x ∷ held) zero (suc k) a b r at there same =
+pub one_order : (n : ℕ) (held : List Holding) (j k : ℕ) (a b : Holding) → RisesFrom n held → slice_get held j ≡ Some a → slice_get held k ≡ Some b → a.order ≡ b.order → j ≡ k
+one_order n [] j k a b r at there same = absurd (cc)
+one_order n (x ∷ held) zero zero a b r at there same = refl
+one_order n (x ∷ held) zero (suc k) a b r at there same =
     let above = rises_above (x.order + 1) held k b r.1 there in
     let first : x.order ≡ a.order = ap (λ (i : Holding). i.order) (same_Some x a at) in
     absurd (omega (arith, above, first, same))
-one_place n (x ∷ held) (suc j) zero a b r at there same =
+one_order n (x ∷ held) (suc j) zero a b r at there same =
     let above = rises_above (x.order + 1) held j a r.1 at in
     let first : x.order ≡ b.order = ap (λ (i : Holding). i.order) (same_Some x b there) in
     absurd (omega (arith, above, first, same))
-one_place n (x ∷ held) (suc j) (suc k) a b r at there same = ap suc (one_place (x.order + 1) held j k a b r.1 at there same)
+one_order n (x ∷ held) (suc j) (suc k) a b r at there same = ap suc (one_order (x.order + 1) held j k a b r.1 at there same)
 
 -- ---- where a held packet comes from
 
@@ -91,10 +91,10 @@ held_if made true i item at = absurd (cc)
 held_if made false zero item at = (refl, same_Some made item at)
 held_if made false (suc i) item at = absurd (cc)
 
-from_at : (cfg : Config) (xs : List Arrival) (given place : ℕ) (x : Arrival) (o : Option Packet) → slice_get xs place ≡ Some x → packet_of x ≡ o → (i : ℕ) (item : Holding) → slice_get (held_at cfg xs given place o) i ≡ Some item → HeldFrom cfg xs given item
-from_at cfg xs given place x None at kept i item there = absurd (cc)
-from_at cfg xs given place x (Some packet) at kept i item there =
-    let parts = held_if (holding_of cfg xs given place packet) (is_gone cfg xs given place packet) i item there in
+from_at : (cfg : Config) (xs : List Arrival) (given order : ℕ) (x : Arrival) (o : Option Packet) → slice_get xs order ≡ Some x → packet_of x ≡ o → (i : ℕ) (item : Holding) → slice_get (held_at cfg xs given order o) i ≡ Some item → HeldFrom cfg xs given item
+from_at cfg xs given order x None at kept i item there = absurd (cc)
+from_at cfg xs given order x (Some packet) at kept i item there =
+    let parts = held_if (holding_of cfg xs given order packet) (is_gone cfg xs given order packet) i item there in
     subst (λ (h : Holding). HeldFrom cfg xs given h) parts.1 (record { packet = packet; brought = record { arrival = x; at = at; kept = kept }; stays = parts.0; same = refl })
 
 pub held_from : (cfg : Config) (xs : List Arrival) (given : ℕ) (i : ℕ) (item : Holding) → slice_get (holdings cfg xs given) i ≡ Some item → HeldFrom cfg xs given item
@@ -117,16 +117,16 @@ name_unique cfg xs j k a b at there same =
     (λ other. ⊎_elim (λ less. absurd (named_apart cfg xs j k a b at there same less)) (λ less. absurd (named_apart cfg xs k j b a there at (sym same) less)) other)
     (cases_order j k)
 
-placed_apart : (cfg : Config) (xs : List Arrival) (j k : ℕ) (a b : Release) → slice_get (released cfg xs) j ≡ Some a → slice_get (released cfg xs) k ≡ Some b → a.place ≡ b.place → j < k → ⊥
-placed_apart cfg xs j k a b at there same less =
-    both_ways (list_any (is_at b.place) (take k (released cfg xs))) (place_once cfg xs k b there)
+orders_apart : (cfg : Config) (xs : List Arrival) (j k : ℕ) (a b : Release) → slice_get (released cfg xs) j ≡ Some a → slice_get (released cfg xs) k ≡ Some b → a.place ≡ b.place → j < k → ⊥
+orders_apart cfg xs j k a b at there same less =
+    both_ways (list_any (is_at b.place) (take k (released cfg xs))) (order_once cfg xs k b there)
     (any_before (is_at b.place) (released cfg xs) j k a less at (eq-eqb a.place b.place same))
 
 -- two releases of one packet are one
-pub place_unique : (cfg : Config) (xs : List Arrival) (j k : ℕ) (a b : Release) → slice_get (released cfg xs) j ≡ Some a → slice_get (released cfg xs) k ≡ Some b → a.place ≡ b.place → j ≡ k
-place_unique cfg xs j k a b at there same =
+pub order_unique : (cfg : Config) (xs : List Arrival) (j k : ℕ) (a b : Release) → slice_get (released cfg xs) j ≡ Some a → slice_get (released cfg xs) k ≡ Some b → a.place ≡ b.place → j ≡ k
+order_unique cfg xs j k a b at there same =
     ⊎_elim (λ e. e)
-    (λ other. ⊎_elim (λ less. absurd (placed_apart cfg xs j k a b at there same less)) (λ less. absurd (placed_apart cfg xs k j b a there at (sym same) less)) other)
+    (λ other. ⊎_elim (λ less. absurd (orders_apart cfg xs j k a b at there same less)) (λ less. absurd (orders_apart cfg xs k j b a there at (sym same) less)) other)
     (cases_order j k)
 
 -- ---- released packets that are held
@@ -138,12 +138,12 @@ record ReleaseOf (cfg : Config) (xs : List Arrival) (item : Holding) : Type 0 wh
   place : release.place ≡ item.order
   name : release.name ≡ item.name
 
-called_name : (place : ℕ) (name : Name) (release : Release) → is_at place release ≡ true → is_called place name release ≡ true → release.name ≡ name
-called_name place name release here h =
+called_name : (order : ℕ) (name : Name) (release : Release) → is_at order release ≡ true → is_called order name release ≡ true → release.name ≡ name
+called_name order name release here h =
     ⊎_elim
-    (λ e. absurd (both_ways (is_at place release) (not-true (is_at place release) e) here))
+    (λ e. absurd (both_ways (is_at order release) (not-true (is_at order release) e) here))
     (λ e. same_name name release e)
-    (or_cases (not (is_at place release)) (has_name name release) h)
+    (or_cases (not (is_at order release)) (has_name name release) h)
 
 release_of_held : (cfg : Config) (xs : List Arrival) (given : ℕ) (item : Holding) → HeldFrom cfg xs given item → item.released ≡ true → ReleaseOf cfg xs item
 release_of_held cfg xs given item from out =
@@ -176,7 +176,7 @@ is_waiting cfg xs given k r at =
     let owned = owned_at cfg xs (given + k) r at in
     let out = next_out cfg xs (given + k) r at in
     let untaken : list_any (is_at r.place) (take given (released cfg xs)) ≡ false =
-    false_from_ne_true (list_any (is_at r.place) (take given (released cfg xs))) (λ e. both_ways (list_any (is_at r.place) (take (given + k) (released cfg xs))) (place_once cfg xs (given + k) r at) (any_further (is_at r.place) (released cfg xs) given k e)) in
+    false_from_ne_true (list_any (is_at r.place) (take given (released cfg xs))) (λ e. both_ways (list_any (is_at r.place) (take (given + k) (released cfg xs))) (order_once cfg xs (given + k) r at) (any_further (is_at r.place) (released cfg xs) given k e)) in
     record {
       item = holding_of cfg xs given r.place owned.packet;
       found = found_held cfg xs given r.place owned.packet owned.brought (untaken_stays cfg xs given r.place owned.packet out untaken);
@@ -210,7 +210,7 @@ consistent s h st =
     let released_at : (k : ℕ) (r : Release) → slice_get s.waiting k ≡ Some r → slice_get (released cfg xs) (given + k) ≡ Some r = λ k r at. waits_from cfg xs given k r (ap (λ w. slice_get w k) (sym st.waiting) ∙ at) in
     let waits : (k : ℕ) (r : Release) → slice_get s.waiting k ≡ Some r → IsWaiting s.held r = λ k r at. subst (λ (hs : List Holding). IsWaiting hs r) (sym st.held) (is_waiting cfg xs given k r (released_at k r at)) in
     let apart : (j k : ℕ) (a b : Release) → slice_get s.waiting j ≡ Some a → slice_get s.waiting k ≡ Some b → a.place ≡ b.place → j ≡ k =
-    λ j k a b at there same. (let one : given + j ≡ given + k = place_unique cfg xs (given + j) (given + k) a b (released_at j a at) (released_at k b there) same in omega (arith, one)) in
+    λ j k a b at there same. (let one : given + j ≡ given + k = order_unique cfg xs (given + j) (given + k) a b (released_at j a at) (released_at k b there) same in omega (arith, one)) in
     let held_few : held_of cfg xs given None ≤ cfg.capacity = capacity_kept cfg h st.legal in
     let held_count : length s.held ≡ held_of cfg xs given None = ap length st.held ∙ held_all cfg xs given in
     record {
@@ -230,7 +230,7 @@ consistent s h st =
           let count : s.counts.arrivals ≡ length xs = ap (λ (c : Report). c.arrivals) st.counts in omega (arith, below, count));
       stays = λ k item at. not-true (is_let_go cfg s.tips [] item) (passes_at (λ i. not (is_let_go cfg s.tips [] i)) s.held k item (none_let_go s xs given (keeps_of s h st)) at);
       taken = λ k item at e. (let same = (from k item at).same in ap (λ (i : Holding). i.released) same ∙ any_taken (is_at item.order) given (released cfg xs) (sym (ap (λ (i : Holding). i.taken) same) ∙ e));
-      names = λ j k a b at there out_a out_b same. one_place 0 s.held j k a b rise at there (same_order cfg xs given a b (from j a at) (from k b there) out_a out_b same);
+      names = λ j k a b at there out_a out_b same. one_order 0 s.held j k a b rise at there (same_order cfg xs given a b (from j a at) (from k b there) out_a out_b same);
       waiting = waits;
       once = apart;
       few_waiting = all_numbered s.waiting (filter is_released s.held) (λ k r at. (let w = waits k r at in found_filtered (is_numbered r.place) is_released s.held w.item w.found w.released)) apart;

@@ -43,16 +43,16 @@ use Rattle.tesla_receiver.proofs.Owners.{released_proved}
 -- ---- settled packets
 
 -- a packet that is released is settled, and so is one that is gone
-released_settled : (cfg : Config) (xs : List Arrival) (place : ℕ) (packet : Packet) → list_any (is_at place) (released cfg xs) ≡ true → is_settled cfg xs place packet ≡ true
-released_settled cfg xs place packet h = or_left (list_any (is_at place) (candidates cfg xs)) (list_all (is_past cfg xs packet) (chains cfg)) (released_proved cfg xs (is_at place) h)
+released_settled : (cfg : Config) (xs : List Arrival) (order : ℕ) (packet : Packet) → list_any (is_at order) (released cfg xs) ≡ true → is_settled cfg xs order packet ≡ true
+released_settled cfg xs order packet h = or_left (list_any (is_at order) (candidates cfg xs)) (list_all (is_past cfg xs packet) (chains cfg)) (released_proved cfg xs (is_at order) h)
 
-gone_settled : (cfg : Config) (xs : List Arrival) (given place : ℕ) (packet : Packet) → is_gone cfg xs given place packet ≡ true → is_settled cfg xs place packet ≡ true
-gone_settled cfg xs given place packet h =
+gone_settled : (cfg : Config) (xs : List Arrival) (given order : ℕ) (packet : Packet) → is_gone cfg xs given order packet ≡ true → is_settled cfg xs order packet ≡ true
+gone_settled cfg xs given order packet h =
     ⊎_elim
-    (λ e. (and_parts (is_settled cfg xs place packet) (not (list_any (is_at place) (released cfg xs))) e).0)
-    (λ e. released_settled cfg xs place packet
-    (any_taken (is_at place) given (released cfg xs) ((and_parts (list_any (is_at place) (take given (released cfg xs))) (list_all (has_passed cfg xs packet.frame.name.interval) (chains cfg)) e).0)))
-    (or_cases (is_settled cfg xs place packet && not (list_any (is_at place) (released cfg xs))) (list_any (is_at place) (take given (released cfg xs)) && list_all (has_passed cfg xs packet.frame.name.interval) (chains cfg)) h)
+    (λ e. (and_parts (is_settled cfg xs order packet) (not (list_any (is_at order) (released cfg xs))) e).0)
+    (λ e. released_settled cfg xs order packet
+    (any_taken (is_at order) given (released cfg xs) ((and_parts (list_any (is_at order) (take given (released cfg xs))) (list_all (has_passed cfg xs packet.frame.name.interval) (chains cfg)) e).0)))
+    (or_cases (is_settled cfg xs order packet && not (list_any (is_at order) (released cfg xs))) (list_any (is_at order) (take given (released cfg xs)) && list_all (has_passed cfg xs packet.frame.name.interval) (chains cfg)) h)
 
 unsettled : (settled out t : Bool) → (settled && not out || t) ≡ false → out ≡ false → settled ≡ false
 unsettled settled out t stays waits =
@@ -61,30 +61,30 @@ unsettled settled out t stays waits =
 -- ---- the pairs
 
 module _ (s : State) (xs : List Arrival) (given : ℕ) (k : Keeps s xs given) (new : List KeyRow) where
-  reached_same : (place : ℕ) (packet : Packet) → count_by (is_reached_by s.tips new (holding_of s.config xs given place packet)) (chains s.config) ≡ count_by (is_reached s.config xs new packet) (chains s.config)
-  reached_same place packet =
-      count_below (is_reached_by s.tips new (holding_of s.config xs given place packet)) (is_reached s.config xs new packet) 0 (length s.config.setup.rows)
+  reached_same : (order : ℕ) (packet : Packet) → count_by (is_reached_by s.tips new (holding_of s.config xs given order packet)) (chains s.config) ≡ count_by (is_reached s.config xs new packet) (chains s.config)
+  reached_same order packet =
+      count_below (is_reached_by s.tips new (holding_of s.config xs given order packet)) (is_reached s.config xs new packet) 0 (length s.config.setup.rows)
       (λ c h. ap (λ (n : ℕ). has_chain packet.chains c && nat_lt n packet.frame.name.interval && has_reaching new packet.frame.name.interval c) (tips_kept s xs given k c (omega arith)))
 
-  item_reached : (place : ℕ) (packet : Packet) → is_gone s.config xs given place packet ≡ false → reached_by s new (holding_of s.config xs given place packet) ≡ reached_on s.config xs new place (Some packet)
-  item_reached place packet stays =
-      let count : ℕ = count_by (is_reached_by s.tips new (holding_of s.config xs given place packet)) (chains s.config) in
+  item_reached : (order : ℕ) (packet : Packet) → is_gone s.config xs given order packet ≡ false → reached_by s new (holding_of s.config xs given order packet) ≡ reached_on s.config xs new order (Some packet)
+  item_reached order packet stays =
+      let count : ℕ = count_by (is_reached_by s.tips new (holding_of s.config xs given order packet)) (chains s.config) in
       let named : ℕ = count_by (is_reached s.config xs new packet) (chains s.config) in
       ⊎_elim
-      (λ out. ap (λ b. cond b 0 count) out ∙ ap (λ b. cond b 0 named) (sym (released_settled s.config xs place packet out)))
-      (λ waits. ap (λ b. cond b 0 count) waits ∙ reached_same place packet
-      ∙ ap (λ b. cond b 0 named) (sym (unsettled (is_settled s.config xs place packet) (list_any (is_at place) (released s.config xs)) (list_any (is_at place) (take given (released s.config xs)) && list_all (has_passed s.config xs packet.frame.name.interval) (chains s.config)) stays waits)))
-      (cases_Bool (list_any (is_at place) (released s.config xs)))
+      (λ out. ap (λ b. cond b 0 count) out ∙ ap (λ b. cond b 0 named) (sym (released_settled s.config xs order packet out)))
+      (λ waits. ap (λ b. cond b 0 count) waits ∙ reached_same order packet
+      ∙ ap (λ b. cond b 0 named) (sym (unsettled (is_settled s.config xs order packet) (list_any (is_at order) (released s.config xs)) (list_any (is_at order) (take given (released s.config xs)) && list_all (has_passed s.config xs packet.frame.name.interval) (chains s.config)) stays waits)))
+      (cases_Bool (list_any (is_at order) (released s.config xs)))
 
-  one_reached : (place : ℕ) (o : Option Packet) → sum_by (reached_by s new) (held_at s.config xs given place o) ≡ reached_on s.config xs new place o
-  one_reached place None = refl
-  one_reached place (Some packet) =
-      let item : Holding = holding_of s.config xs given place packet in
+  one_reached : (order : ℕ) (o : Option Packet) → sum_by (reached_by s new) (held_at s.config xs given order o) ≡ reached_on s.config xs new order o
+  one_reached order None = refl
+  one_reached order (Some packet) =
+      let item : Holding = holding_of s.config xs given order packet in
       ⊎_elim
       (λ gone. ap (λ b. sum_by (reached_by s new) (cond b [] (item ∷ []))) gone
-      ∙ ap (λ b. cond b 0 (count_by (is_reached s.config xs new packet) (chains s.config))) (sym (gone_settled s.config xs given place packet gone)))
-      (λ stays. ap (λ b. sum_by (reached_by s new) (cond b [] (item ∷ []))) stays ∙ zero-add (reached_by s new item) ∙ item_reached place packet stays)
-      (cases_Bool (is_gone s.config xs given place packet))
+      ∙ ap (λ b. cond b 0 (count_by (is_reached s.config xs new packet) (chains s.config))) (sym (gone_settled s.config xs given order packet gone)))
+      (λ stays. ap (λ b. sum_by (reached_by s new) (cond b [] (item ∷ []))) stays ∙ zero-add (reached_by s new item) ∙ item_reached order packet stays)
+      (cases_Bool (is_gone s.config xs given order packet))
 
   all_reached : sum_by (reached_by s new) s.held ≡ sum_by (λ (p : ℕ × Arrival). reached_on s.config xs new p.0 (packet_of p.1)) (enumerate_from 0 xs)
   unfolding holdings

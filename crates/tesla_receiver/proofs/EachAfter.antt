@@ -16,9 +16,9 @@ pub each_after_more : {A B : Type 0} (f : List A → A → List B) (xs : List A)
 each_after_more f xs x = each_after-append f [] xs (x ∷ []) ∙ ap (λ r. each_after f [] xs ++ r) (append-nil (f xs x))
 
 -- all that is gathered along a list passes, where all that each element gives does
-pub all_each_after : {A B : Type 0} (q : B → Bool) (f : List A → A → List B) (before xs : List A) → ((front : List A) (x : A) (rest : List A) → xs ≡ front ++ x ∷ rest → list_all q (f (before ++ front) x) ≡ true) → list_all q (each_after f before xs) ≡ true
+pub all_each_after : {A B : Type 0} (q : B → Bool) (f : List A → A → List B) (before xs : List A) → ((prefix : List A) (x : A) (rest : List A) → xs ≡ prefix ++ x ∷ rest → list_all q (f (before ++ prefix) x) ≡ true) → list_all q (each_after f before xs) ≡ true
 all_each_after q f before [] h = refl
 all_each_after q f before (x ∷ xs) h =
     let here : list_all q (f before x) ≡ true = ap (λ b. list_all q (f b x)) (sym (append-nil before)) ∙ h [] x xs refl in
-    let later = all_each_after q f (before ++ x ∷ []) xs (λ front y rest e. ap (λ b. list_all q (f b y)) (append_assoc before (x ∷ []) front) ∙ h (x ∷ front) y rest (ap (λ ys. x ∷ ys) e)) in
+    let later = all_each_after q f (before ++ x ∷ []) xs (λ prefix y rest e. ap (λ b. list_all q (f b y)) (append_assoc before (x ∷ []) prefix) ∙ h (x ∷ prefix) y rest (ap (λ ys. x ∷ ys) e)) in
     list_all_both q (f before x) (each_after f (before ++ x ∷ []) xs) here later

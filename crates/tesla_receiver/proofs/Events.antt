@@ -15,7 +15,7 @@ pub after_one : (cfg : Config) (h : List Entry) (events : List Event) (event : E
 after_one cfg h [] event = refl
 after_one cfg h (e ∷ events) event = after_one cfg (h ++ entry_of cfg h e ∷ []) events event
 
--- the history before events is a front of that after them
+-- the history before events is a prefix of that after them
 pub after_grows : (cfg : Config) (h : List Entry) (events : List Event) → (more : List Entry) × (after_events cfg h events ≡ h ++ more)
 after_grows cfg h [] = ([], sym (append-nil h))
 after_grows cfg h (event ∷ events) =
@@ -30,13 +30,13 @@ arrivals_more h e = flat_map-append arrival_in h (e ∷ []) ∙ ap (λ r. arriva
 pub given_rises : (h more : List Entry) → given_in h ≤ given_in (h ++ more)
 given_rises h more = let both : given_in (h ++ more) ≡ given_in h + given_in more = sum_by-append (λ x. cond (gives x) 1 0) h more in omega arith
 
-legal_after_front : (cfg : Config) (before h more : List Entry) → IsLegalAfter cfg before (h ++ more) → IsLegalAfter cfg before h
-legal_after_front cfg before [] more l = tt
-legal_after_front cfg before (e ∷ h) more l = (l.0, legal_after_front cfg (before ++ e ∷ []) h more l.1)
+legal_after_prefix : (cfg : Config) (before h more : List Entry) → IsLegalAfter cfg before (h ++ more) → IsLegalAfter cfg before h
+legal_after_prefix cfg before [] more l = tt
+legal_after_prefix cfg before (e ∷ h) more l = (l.0, legal_after_prefix cfg (before ++ e ∷ []) h more l.1)
 
--- a front of a legal history is legal
-pub legal_front : (cfg : Config) (h more : List Entry) → IsLegal cfg (h ++ more) → IsLegal cfg h
-legal_front cfg h more l = legal_after_front cfg [] h more l
+-- a prefix of a legal history is legal
+pub legal_prefix : (cfg : Config) (h more : List Entry) → IsLegal cfg (h ++ more) → IsLegal cfg h
+legal_prefix cfg h more l = legal_after_prefix cfg [] h more l
 
 legal_after_at : (cfg : Config) (before h : List Entry) (n : ℕ) (e : Entry) → IsLegalAfter cfg before h → slice_get h n ≡ Some e → e ≡ entry_of cfg (before ++ take n h) (event_of e)
 legal_after_at cfg before [] n e l at = absurd (cc)

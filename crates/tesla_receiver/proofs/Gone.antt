@@ -22,17 +22,17 @@ use Rattle.tesla_receiver.specs.Keys.{newest, new_keys}
 use Rattle.tesla_receiver.specs.Packets.{packet_of, is_proof, proves, release_on, release_of, batch, candidates, released}
 use Rattle.tesla_receiver.specs.Held.{has_passed, is_past, is_settled, is_gone}
 use Rattle.tesla_receiver.proofs.EachAfter.{each_after-append, all_each_after}
-use Rattle.tesla_receiver.proofs.Fronts.{released_more, newest_rises}
-use Rattle.tesla_receiver.proofs.Places.{firsts_pass, unless_pass}
+use Rattle.tesla_receiver.proofs.Prefixes.{released_more, newest_rises}
+use Rattle.tesla_receiver.proofs.ArrivalOrders.{firsts_pass, unless_pass}
 use Rattle.tesla_state.proofs.Named.{same_name}
 
 -- a release isn't of the place
 abbrev pub is_elsewhere : ℕ → Release → Bool
-is_elsewhere place release = not (is_at place release)
+is_elsewhere order release = not (is_at order release)
 
 -- a release of the place has the name
 abbrev pub is_called : ℕ → Name → Release → Bool
-is_called place name release = is_elsewhere place release || has_name name release
+is_called order name release = is_elsewhere order release || has_name name release
 
 -- ---- chains
 
@@ -73,151 +73,151 @@ past_none cfg xs new packet h =
 
 -- ---- the releases of a place
 
-on_elsewhere : (place m : ℕ) (f : DataFrame) (o : Option ℕ) → (m == place) ≡ false → list_all (is_elsewhere place) (release_on m f o) ≡ true
-on_elsewhere place m f None h = refl
-on_elsewhere place m f (Some chain) h = and_from (not (m == place)) true (not_from_false (m == place) h) refl
+on_elsewhere : (order m : ℕ) (f : DataFrame) (o : Option ℕ) → (m == order) ≡ false → list_all (is_elsewhere order) (release_on m f o) ≡ true
+on_elsewhere order m f None h = refl
+on_elsewhere order m f (Some chain) h = and_from (not (m == order)) true (not_from_false (m == order) h) refl
 
 -- a packet that no chain can prove isn't released
-of_past : (cfg : Config) (xs : List Arrival) (new : List KeyRow) (packet : Packet) (place m : ℕ) (o : Option Packet) → list_all (is_past cfg xs packet) (chains cfg) ≡ true → (m ≡ place → o ≡ Some packet) → list_all (is_elsewhere place) (release_of cfg xs new m o) ≡ true
-of_past cfg xs new packet place m None past here = refl
-of_past cfg xs new packet place m (Some other) past here =
+of_past : (cfg : Config) (xs : List Arrival) (new : List KeyRow) (packet : Packet) (order m : ℕ) (o : Option Packet) → list_all (is_past cfg xs packet) (chains cfg) ≡ true → (m ≡ order → o ≡ Some packet) → list_all (is_elsewhere order) (release_of cfg xs new m o) ≡ true
+of_past cfg xs new packet order m None past here = refl
+of_past cfg xs new packet order m (Some other) past here =
     ⊎_elim
-    (λ e. let same : other ≡ packet = same_Some other packet (here (eqb-true m place e)) in
+    (λ e. let same : other ≡ packet = same_Some other packet (here (eqb-true m order e)) in
     let none : find (proves cfg xs new other) (chains cfg) ≡ None = ap (λ (p : Packet). find (proves cfg xs new p) (chains cfg)) same ∙ past_none cfg xs new packet past in
-    ap (λ (o : Option ℕ). list_all (is_elsewhere place) (release_on m other.frame o)) none)
-    (λ e. on_elsewhere place m other.frame (find (proves cfg xs new other) (chains cfg)) e)
-    (cases_Bool (m == place))
+    ap (λ (o : Option ℕ). list_all (is_elsewhere order) (release_on m other.frame o)) none)
+    (λ e. on_elsewhere order m other.frame (find (proves cfg xs new other) (chains cfg)) e)
+    (cases_Bool (m == order))
 
-pub called_same : (place m : ℕ) (name : Name) (release : Release) → release.name ≡ name → has_name name release ≡ true
-called_same place m name release e =
+pub called_same : (order m : ℕ) (name : Name) (release : Release) → release.name ≡ name → has_name name release ≡ true
+called_same order m name release e =
     and_from (release.name.interval == name.interval) (release.name.number == name.number)
     (eq-eqb release.name.interval name.interval (ap (λ (n : Name). n.interval) e)) (eq-eqb release.name.number name.number (ap (λ (n : Name). n.number) e))
 
-on_called : (place m : ℕ) (name : Name) (f : DataFrame) (o : Option ℕ) → (m ≡ place → f.name ≡ name) → list_all (is_called place name) (release_on m f o) ≡ true
-on_called place m name f None h = refl
-on_called place m name f (Some chain) h =
+on_called : (order m : ℕ) (name : Name) (f : DataFrame) (o : Option ℕ) → (m ≡ order → f.name ≡ name) → list_all (is_called order name) (release_on m f o) ≡ true
+on_called order m name f None h = refl
+on_called order m name f (Some chain) h =
     let release : Release = record { place = m; name = f.name; chain = record { 0 = chain } } in
-    and_from (is_called place name release) true
-    (⊎_elim (λ e. or_right (not (m == place)) (has_name name release) (called_same place m name release (h (eqb-true m place e))))
-    (λ e. or_left (not (m == place)) (has_name name release) (not_from_false (m == place) e)) (cases_Bool (m == place)))
+    and_from (is_called order name release) true
+    (⊎_elim (λ e. or_right (not (m == order)) (has_name name release) (called_same order m name release (h (eqb-true m order e))))
+    (λ e. or_left (not (m == order)) (has_name name release) (not_from_false (m == order) e)) (cases_Bool (m == order)))
     refl
 
-of_called : (cfg : Config) (xs : List Arrival) (new : List KeyRow) (packet : Packet) (place m : ℕ) (o : Option Packet) → (m ≡ place → o ≡ Some packet) → list_all (is_called place packet.frame.name) (release_of cfg xs new m o) ≡ true
-of_called cfg xs new packet place m None here = refl
-of_called cfg xs new packet place m (Some other) here =
-    on_called place m packet.frame.name other.frame (find (proves cfg xs new other) (chains cfg)) (λ e. ap (λ (p : Packet). p.frame.name) (same_Some other packet (here e)))
+of_called : (cfg : Config) (xs : List Arrival) (new : List KeyRow) (packet : Packet) (order m : ℕ) (o : Option Packet) → (m ≡ order → o ≡ Some packet) → list_all (is_called order packet.frame.name) (release_of cfg xs new m o) ≡ true
+of_called cfg xs new packet order m None here = refl
+of_called cfg xs new packet order m (Some other) here =
+    on_called order m packet.frame.name other.frame (find (proves cfg xs new other) (chains cfg)) (λ e. ap (λ (p : Packet). p.frame.name) (same_Some other packet (here e)))
 
 -- the arrival at the place brought the packet
-pub record Brought (xs : List Arrival) (place : ℕ) (packet : Packet) : Type 0 where
+pub record Brought (xs : List Arrival) (order : ℕ) (packet : Packet) : Type 0 where
   pub arrival : Arrival
-  pub at : slice_get xs place ≡ Some arrival
+  pub at : slice_get xs order ≡ Some arrival
   pub kept : packet_of arrival ≡ Some packet
 
 -- what was brought, where some of the arrivals are looked at
-brought_at : (xs : List Arrival) (place m : ℕ) (packet : Packet) (x : Arrival) → Brought xs place packet → slice_get xs m ≡ Some x → m ≡ place → packet_of x ≡ Some packet
-brought_at xs place m packet x b at e =
+brought_at : (xs : List Arrival) (order m : ℕ) (packet : Packet) (x : Arrival) → Brought xs order packet → slice_get xs m ≡ Some x → m ≡ order → packet_of x ≡ Some packet
+brought_at xs order m packet x b at e =
     let same : x ≡ b.arrival = same_Some x b.arrival (sym at ∙ ap (slice_get xs) e ∙ b.at) in
     ap packet_of same ∙ b.kept
 
-brought_stays : (xs ys : List Arrival) (place : ℕ) (packet : Packet) → Brought xs place packet → Brought (xs ++ ys) place packet
-brought_stays xs ys place packet b = record { arrival = b.arrival; at = slice_get-append xs ys place (slice_get_within xs place b.arrival b.at) ∙ b.at; kept = b.kept }
+brought_stays : (xs ys : List Arrival) (order : ℕ) (packet : Packet) → Brought xs order packet → Brought (xs ++ ys) order packet
+brought_stays xs ys order packet b = record { arrival = b.arrival; at = slice_get-append xs ys order (slice_get_within xs order b.arrival b.at) ∙ b.at; kept = b.kept }
 
-pub candidates_called : (cfg : Config) (xs : List Arrival) (place : ℕ) (packet : Packet) → Brought xs place packet → list_all (is_called place packet.frame.name) (each_after (batch cfg) [] xs) ≡ true
-candidates_called cfg xs place packet b =
-    all_each_after (is_called place packet.frame.name) (batch cfg) [] xs (λ front x rest e.
-    all_enumerated (is_called place packet.frame.name) (λ (p : ℕ × Arrival). release_of cfg front (new_keys cfg front x) p.0 (packet_of p.1)) 0 front (λ k y at.
+pub candidates_called : (cfg : Config) (xs : List Arrival) (order : ℕ) (packet : Packet) → Brought xs order packet → list_all (is_called order packet.frame.name) (each_after (batch cfg) [] xs) ≡ true
+candidates_called cfg xs order packet b =
+    all_each_after (is_called order packet.frame.name) (batch cfg) [] xs (λ prefix x rest e.
+    all_enumerated (is_called order packet.frame.name) (λ (p : ℕ × Arrival). release_of cfg prefix (new_keys cfg prefix x) p.0 (packet_of p.1)) 0 prefix (λ k y at.
     let count : 0 + k ≡ k = omega arith in
-    let there : slice_get xs k ≡ Some y = ap (λ zs. slice_get zs k) e ∙ slice_get-append front (x ∷ rest) k (slice_get_within front k y at) ∙ at in
-    of_called cfg front (new_keys cfg front x) packet place (0 + k) (packet_of y) (λ same. brought_at xs place k packet y b there (sym count ∙ same))))
+    let there : slice_get xs k ≡ Some y = ap (λ zs. slice_get zs k) e ∙ slice_get-append prefix (x ∷ rest) k (slice_get_within prefix k y at) ∙ at in
+    of_called cfg prefix (new_keys cfg prefix x) packet order (0 + k) (packet_of y) (λ same. brought_at xs order k packet y b there (sym count ∙ same))))
 
-past_elsewhere : (cfg : Config) (xs ys : List Arrival) (place : ℕ) (packet : Packet) → Brought xs place packet → list_all (is_past cfg xs packet) (chains cfg) ≡ true → list_all (is_elsewhere place) (each_after (batch cfg) xs ys) ≡ true
-past_elsewhere cfg xs ys place packet b past =
-    all_each_after (is_elsewhere place) (batch cfg) xs ys (λ front x rest e.
-    all_enumerated (is_elsewhere place) (λ (p : ℕ × Arrival). release_of cfg (xs ++ front) (new_keys cfg (xs ++ front) x) p.0 (packet_of p.1)) 0 (xs ++ front) (λ k y at.
+past_elsewhere : (cfg : Config) (xs ys : List Arrival) (order : ℕ) (packet : Packet) → Brought xs order packet → list_all (is_past cfg xs packet) (chains cfg) ≡ true → list_all (is_elsewhere order) (each_after (batch cfg) xs ys) ≡ true
+past_elsewhere cfg xs ys order packet b past =
+    all_each_after (is_elsewhere order) (batch cfg) xs ys (λ prefix x rest e.
+    all_enumerated (is_elsewhere order) (λ (p : ℕ × Arrival). release_of cfg (xs ++ prefix) (new_keys cfg (xs ++ prefix) x) p.0 (packet_of p.1)) 0 (xs ++ prefix) (λ k y at.
     let count : 0 + k ≡ k = omega arith in
-    of_past cfg (xs ++ front) (new_keys cfg (xs ++ front) x) packet place (0 + k) (packet_of y) (all_past_stay cfg xs front packet past)
-    (λ same. brought_at (xs ++ front) place k packet y (brought_stays xs front place packet b) at (sym count ∙ same))))
+    of_past cfg (xs ++ prefix) (new_keys cfg (xs ++ prefix) x) packet order (0 + k) (packet_of y) (all_past_stay cfg xs prefix packet past)
+    (λ same. brought_at (xs ++ prefix) order k packet y (brought_stays xs prefix order packet b) at (sym count ∙ same))))
 
 -- where the name stands before, none of the place comes again
-called_elsewhere : (place : ℕ) (name : Name) (before xs : List Release) → list_any (has_name name) before ≡ true → list_all (is_called place name) xs ≡ true → list_all (is_elsewhere place) (each_after unless_named before xs) ≡ true
-called_elsewhere place name before [] stands h = refl
-called_elsewhere place name before (x ∷ xs) stands h =
-    let parts = and_parts (is_called place name x) (list_all (is_called place name) xs) h in
-    let later = called_elsewhere place name (before ++ x ∷ []) xs (list_any-append (has_name name) before (x ∷ []) ∙ or_left (list_any (has_name name) before) (list_any (has_name name) (x ∷ [])) stands) parts.1 in
-    let here : list_all (is_elsewhere place) (unless_named before x) ≡ true =
+called_elsewhere : (order : ℕ) (name : Name) (before xs : List Release) → list_any (has_name name) before ≡ true → list_all (is_called order name) xs ≡ true → list_all (is_elsewhere order) (each_after unless_named before xs) ≡ true
+called_elsewhere order name before [] stands h = refl
+called_elsewhere order name before (x ∷ xs) stands h =
+    let parts = and_parts (is_called order name x) (list_all (is_called order name) xs) h in
+    let later = called_elsewhere order name (before ++ x ∷ []) xs (list_any-append (has_name name) before (x ∷ []) ∙ or_left (list_any (has_name name) before) (list_any (has_name name) (x ∷ [])) stands) parts.1 in
+    let here : list_all (is_elsewhere order) (unless_named before x) ≡ true =
     ⊎_elim
-    (λ e. unless_pass (is_elsewhere place) x (list_any (has_name x.name) before) e)
+    (λ e. unless_pass (is_elsewhere order) x (list_any (has_name x.name) before) e)
     (λ e. let found : list_any (has_name x.name) before ≡ true = ap (λ (n : Name). list_any (has_name n) before) (same_name name x e) ∙ stands in
-    ap (λ b. list_all (is_elsewhere place) (cond b [] (x ∷ []))) found)
-    (or_cases (is_elsewhere place x) (has_name name x) parts.0) in
-    list_all-append (is_elsewhere place) (unless_named before x) (each_after unless_named (before ++ x ∷ []) xs)
-    ∙ and_from (list_all (is_elsewhere place) (unless_named before x)) (list_all (is_elsewhere place) (each_after unless_named (before ++ x ∷ []) xs)) here later
+    ap (λ b. list_all (is_elsewhere order) (cond b [] (x ∷ []))) found)
+    (or_cases (is_elsewhere order x) (has_name name x) parts.0) in
+    list_all-append (is_elsewhere order) (unless_named before x) (each_after unless_named (before ++ x ∷ []) xs)
+    ∙ and_from (list_all (is_elsewhere order) (unless_named before x)) (list_all (is_elsewhere order) (each_after unless_named (before ++ x ∷ []) xs)) here later
 
 -- a release of the place is one of the name
-pub called_any : (place : ℕ) (name : Name) (xs : List Release) → list_all (is_called place name) xs ≡ true → list_any (is_at place) xs ≡ true → list_any (has_name name) xs ≡ true
-called_any place name [] all h = absurd (cc)
-called_any place name (x ∷ xs) all h =
-    let parts = and_parts (is_called place name x) (list_all (is_called place name) xs) all in
+pub called_any : (order : ℕ) (name : Name) (xs : List Release) → list_all (is_called order name) xs ≡ true → list_any (is_at order) xs ≡ true → list_any (has_name name) xs ≡ true
+called_any order name [] all h = absurd (cc)
+called_any order name (x ∷ xs) all h =
+    let parts = and_parts (is_called order name x) (list_all (is_called order name) xs) all in
     ⊎_elim
-    (λ e. ⊎_elim (λ no. absurd (cc (not-true (is_at place x) no, e))) (λ yes. or_left (has_name name x) (list_any (has_name name) xs) yes) (or_cases (is_elsewhere place x) (has_name name x) parts.0))
-    (λ e. or_right (has_name name x) (list_any (has_name name) xs) (called_any place name xs parts.1 e))
-    (or_cases (is_at place x) (list_any (is_at place) xs) h)
+    (λ e. ⊎_elim (λ no. absurd (cc (not-true (is_at order x) no, e))) (λ yes. or_left (has_name name x) (list_any (has_name name) xs) yes) (or_cases (is_elsewhere order x) (has_name name x) parts.0))
+    (λ e. or_right (has_name name x) (list_any (has_name name) xs) (called_any order name xs parts.1 e))
+    (or_cases (is_at order x) (list_any (is_at order) xs) h)
 
 -- ---- the packet
 
-module _ (cfg : Config) (xs ys : List Arrival) (place : ℕ) (packet : Packet) where
-  settled_stays : is_settled cfg xs place packet ≡ true → is_settled cfg (xs ++ ys) place packet ≡ true
+module _ (cfg : Config) (xs ys : List Arrival) (order : ℕ) (packet : Packet) where
+  settled_stays : is_settled cfg xs order packet ≡ true → is_settled cfg (xs ++ ys) order packet ≡ true
   unfolding candidates
   settled_stays h =
       let a : List Release = each_after (batch cfg) [] xs in
       let b : List Release = each_after (batch cfg) xs ys in
-      let proved : list_any (is_at place) (each_after (batch cfg) [] (xs ++ ys)) ≡ (list_any (is_at place) a || list_any (is_at place) b) =
-      ap (list_any (is_at place)) (each_after-append (batch cfg) [] xs ys) ∙ list_any-append (is_at place) a b in
+      let proved : list_any (is_at order) (each_after (batch cfg) [] (xs ++ ys)) ≡ (list_any (is_at order) a || list_any (is_at order) b) =
+      ap (list_any (is_at order)) (each_after-append (batch cfg) [] xs ys) ∙ list_any-append (is_at order) a b in
       let past : Bool = list_all (is_past cfg (xs ++ ys) packet) (chains cfg) in
       ap (λ p. p || past) proved
       ∙ ⊎_elim
-      (λ e. or_left (list_any (is_at place) a || list_any (is_at place) b) past (or_left (list_any (is_at place) a) (list_any (is_at place) b) e))
-      (λ e. or_right (list_any (is_at place) a || list_any (is_at place) b) past (all_past_stay cfg xs ys packet e))
-      (or_cases (list_any (is_at place) a) (list_all (is_past cfg xs packet) (chains cfg)) h)
+      (λ e. or_left (list_any (is_at order) a || list_any (is_at order) b) past (or_left (list_any (is_at order) a) (list_any (is_at order) b) e))
+      (λ e. or_right (list_any (is_at order) a || list_any (is_at order) b) past (all_past_stay cfg xs ys packet e))
+      (or_cases (list_any (is_at order) a) (list_all (is_past cfg xs packet) (chains cfg)) h)
 
   -- what was settled is released with the arrivals that settle it, or never
-  unreleased_stays : Brought xs place packet → is_settled cfg xs place packet ≡ true → list_any (is_at place) (released cfg xs) ≡ false → list_any (is_at place) (released cfg (xs ++ ys)) ≡ false
+  unreleased_stays : Brought xs order packet → is_settled cfg xs order packet ≡ true → list_any (is_at order) (released cfg xs) ≡ false → list_any (is_at order) (released cfg (xs ++ ys)) ≡ false
   unfolding candidates released
   unreleased_stays brought settled none =
       let a : List Release = each_after (batch cfg) [] xs in
       let b : List Release = each_after (batch cfg) xs ys in
       let all : each_after (batch cfg) [] (xs ++ ys) ≡ a ++ b = each_after-append (batch cfg) [] xs ys in
       let rest : List Release = each_after unless_named a b in
-      let elsewhere : list_all (is_elsewhere place) rest ≡ true =
+      let elsewhere : list_all (is_elsewhere order) rest ≡ true =
       ⊎_elim
-      (λ e. let called = and_parts (list_all (is_called place packet.frame.name) a) (list_all (is_called place packet.frame.name) b)
-      (sym (list_all-append (is_called place packet.frame.name) a b) ∙ ap (list_all (is_called place packet.frame.name)) (sym all) ∙ candidates_called cfg (xs ++ ys) place packet (brought_stays xs ys place packet brought)) in
-      called_elsewhere place packet.frame.name a b (called_any place packet.frame.name a called.0 e) called.1)
-      (λ e. firsts_pass (is_elsewhere place) a b (past_elsewhere cfg xs ys place packet brought e))
-      (or_cases (list_any (is_at place) a) (list_all (is_past cfg xs packet) (chains cfg)) settled) in
-      ap (λ c. list_any (is_at place) (each_after unless_named [] c)) all ∙ ap (list_any (is_at place)) (each_after-append unless_named [] a b)
-      ∙ list_any-append (is_at place) (each_after unless_named [] a) rest
-      ∙ or_from (list_any (is_at place) (each_after unless_named [] a)) (list_any (is_at place) rest) none (none_passes (is_at place) rest elsewhere)
+      (λ e. let called = and_parts (list_all (is_called order packet.frame.name) a) (list_all (is_called order packet.frame.name) b)
+      (sym (list_all-append (is_called order packet.frame.name) a b) ∙ ap (list_all (is_called order packet.frame.name)) (sym all) ∙ candidates_called cfg (xs ++ ys) order packet (brought_stays xs ys order packet brought)) in
+      called_elsewhere order packet.frame.name a b (called_any order packet.frame.name a called.0 e) called.1)
+      (λ e. firsts_pass (is_elsewhere order) a b (past_elsewhere cfg xs ys order packet brought e))
+      (or_cases (list_any (is_at order) a) (list_all (is_past cfg xs packet) (chains cfg)) settled) in
+      ap (λ c. list_any (is_at order) (each_after unless_named [] c)) all ∙ ap (list_any (is_at order)) (each_after-append unless_named [] a b)
+      ∙ list_any-append (is_at order) (each_after unless_named [] a) rest
+      ∙ or_from (list_any (is_at order) (each_after unless_named [] a)) (list_any (is_at order) rest) none (none_passes (is_at order) rest elsewhere)
 
-  taken_stays : (given more : ℕ) → list_any (is_at place) (take given (released cfg xs)) ≡ true → list_any (is_at place) (take (given + more) (released cfg (xs ++ ys))) ≡ true
+  taken_stays : (given more : ℕ) → list_any (is_at order) (take given (released cfg xs)) ≡ true → list_any (is_at order) (take (given + more) (released cfg (xs ++ ys))) ≡ true
   taken_stays given more h =
       let longer = released_more cfg xs ys in
-      any_further (is_at place) (released cfg (xs ++ ys)) given more
-      (ap (λ r. list_any (is_at place) (take given r)) longer.1 ∙ any_longer (is_at place) (released cfg xs) longer.0 given h)
+      any_further (is_at order) (released cfg (xs ++ ys)) given more
+      (ap (λ r. list_any (is_at order) (take given r)) longer.1 ∙ any_longer (is_at order) (released cfg xs) longer.0 given h)
 
   -- a packet that is gone stays gone
-  pub gone_stays : (given more : ℕ) → Brought xs place packet → is_gone cfg xs given place packet ≡ true → is_gone cfg (xs ++ ys) (given + more) place packet ≡ true
+  pub gone_stays : (given more : ℕ) → Brought xs order packet → is_gone cfg xs given order packet ≡ true → is_gone cfg (xs ++ ys) (given + more) order packet ≡ true
   gone_stays given more brought h =
       let interval : ℕ = packet.frame.name.interval in
-      let none : Bool = is_settled cfg (xs ++ ys) place packet && not (list_any (is_at place) (released cfg (xs ++ ys))) in
-      let done : Bool = list_any (is_at place) (take (given + more) (released cfg (xs ++ ys))) && list_all (has_passed cfg (xs ++ ys) interval) (chains cfg) in
+      let none : Bool = is_settled cfg (xs ++ ys) order packet && not (list_any (is_at order) (released cfg (xs ++ ys))) in
+      let done : Bool = list_any (is_at order) (take (given + more) (released cfg (xs ++ ys))) && list_all (has_passed cfg (xs ++ ys) interval) (chains cfg) in
       ⊎_elim
-      (λ e. let parts = and_parts (is_settled cfg xs place packet) (not (list_any (is_at place) (released cfg xs))) e in
+      (λ e. let parts = and_parts (is_settled cfg xs order packet) (not (list_any (is_at order) (released cfg xs))) e in
       or_left none done
-      (and_from (is_settled cfg (xs ++ ys) place packet) (not (list_any (is_at place) (released cfg (xs ++ ys)))) (settled_stays parts.0)
-      (not_from_false (list_any (is_at place) (released cfg (xs ++ ys))) (unreleased_stays brought parts.0 (not-true (list_any (is_at place) (released cfg xs)) parts.1)))))
-      (λ e. let parts = and_parts (list_any (is_at place) (take given (released cfg xs))) (list_all (has_passed cfg xs interval) (chains cfg)) e in
+      (and_from (is_settled cfg (xs ++ ys) order packet) (not (list_any (is_at order) (released cfg (xs ++ ys)))) (settled_stays parts.0)
+      (not_from_false (list_any (is_at order) (released cfg (xs ++ ys))) (unreleased_stays brought parts.0 (not-true (list_any (is_at order) (released cfg xs)) parts.1)))))
+      (λ e. let parts = and_parts (list_any (is_at order) (take given (released cfg xs))) (list_all (has_passed cfg xs interval) (chains cfg)) e in
       or_right none done
-      (and_from (list_any (is_at place) (take (given + more) (released cfg (xs ++ ys)))) (list_all (has_passed cfg (xs ++ ys) interval) (chains cfg)) (taken_stays given more parts.0)
+      (and_from (list_any (is_at order) (take (given + more) (released cfg (xs ++ ys)))) (list_all (has_passed cfg (xs ++ ys) interval) (chains cfg)) (taken_stays given more parts.0)
       (list_all_weaker (has_passed cfg xs interval) (has_passed cfg (xs ++ ys) interval) (chains cfg) (passed_stays cfg xs ys interval) parts.1)))
-      (or_cases (is_settled cfg xs place packet && not (list_any (is_at place) (released cfg xs))) (list_any (is_at place) (take given (released cfg xs)) && list_all (has_passed cfg xs interval) (chains cfg)) h)
+      (or_cases (is_settled cfg xs order packet && not (list_any (is_at order) (released cfg xs))) (list_any (is_at order) (take given (released cfg xs)) && list_all (has_passed cfg xs interval) (chains cfg)) h)

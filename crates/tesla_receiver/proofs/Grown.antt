@@ -15,8 +15,8 @@ pub same_taken : (cfg : Config) (a : Arrival) (verdict : Verdict) → takes_keys
 same_taken cfg a verdict e = ap (λ b. cond b (keys_in cfg (frame_of a.bytes)) []) e
 
 -- what is proved is the same where the last arrival takes the same keys
-pub candidates_same : (cfg : Config) (front : List Arrival) (a b : Arrival) → keys_taken cfg a ≡ keys_taken cfg b → candidates cfg (front ++ a ∷ []) ≡ candidates cfg (front ++ b ∷ [])
+pub candidates_same : (cfg : Config) (prefix : List Arrival) (a b : Arrival) → keys_taken cfg a ≡ keys_taken cfg b → candidates cfg (prefix ++ a ∷ []) ≡ candidates cfg (prefix ++ b ∷ [])
 unfolding candidates
-candidates_same cfg front a b same =
-    let new : new_keys cfg front a ≡ new_keys cfg front b = ap (filter (λ row. nat_lt (newest cfg front row.chain.0) row.index)) same in
-    each_after_more (batch cfg) front a ∙ ap (λ rs. each_after (batch cfg) [] front ++ proved_by cfg front rs) new ∙ sym (each_after_more (batch cfg) front b)
+candidates_same cfg prefix a b same =
+    let new : new_keys cfg prefix a ≡ new_keys cfg prefix b = ap (filter (λ row. nat_lt (newest cfg prefix row.chain.0) row.index)) same in
+    each_after_more (batch cfg) prefix a ∙ ap (λ rs. each_after (batch cfg) [] prefix ++ proved_by cfg prefix rs) new ∙ sym (each_after_more (batch cfg) prefix b)

@@ -31,7 +31,7 @@ use Rattle.tesla_state.specs.Steps.{batch_of, released_of, is_passed, is_over, i
 use Rattle.tesla_receiver.proofs.Batches.{TipsOf, proof_held, released_by}
 use Rattle.tesla_receiver.proofs.EachAfter.{each_after-append, each_after_more}
 use Rattle.tesla_receiver.proofs.Gone.{Brought, gone_stays}
-use Rattle.tesla_receiver.proofs.Places.{is_below, proved_below, candidates_below, firsts_pass}
+use Rattle.tesla_receiver.proofs.ArrivalOrders.{is_below, proved_below, candidates_below, firsts_pass}
 
 -- ---- what is proved and released with one arrival more
 
@@ -45,47 +45,47 @@ released_grow cfg xs a = ap (each_after unless_named []) (candidates_grow cfg xs
 
 -- ---- releases of one place
 
-on_other : (place j : ℕ) (f : DataFrame) (o : Option ℕ) → (j ≡ place → ⊥) → list_any (is_at place) (release_on j f o) ≡ false
-on_other place j f None other = refl
-on_other place j f (Some chain) other = or-false (j == place) ∙ ne_eqb j place other
+on_other : (order j : ℕ) (f : DataFrame) (o : Option ℕ) → (j ≡ order → ⊥) → list_any (is_at order) (release_on j f o) ≡ false
+on_other order j f None other = refl
+on_other order j f (Some chain) other = or-false (j == order) ∙ ne_eqb j order other
 
-of_other : (cfg : Config) (xs : List Arrival) (new : List KeyRow) (place j : ℕ) (o : Option Packet) → (j ≡ place → ⊥) → list_any (is_at place) (release_of cfg xs new j o) ≡ false
-of_other cfg xs new place j None other = refl
-of_other cfg xs new place j (Some packet) other = on_other place j packet.frame (find (proves cfg xs new packet) (chains cfg)) other
+of_other : (cfg : Config) (xs : List Arrival) (new : List KeyRow) (order j : ℕ) (o : Option Packet) → (j ≡ order → ⊥) → list_any (is_at order) (release_of cfg xs new j o) ≡ false
+of_other cfg xs new order j None other = refl
+of_other cfg xs new order j (Some packet) other = on_other order j packet.frame (find (proves cfg xs new packet) (chains cfg)) other
 
-released_other : (place : ℕ) (item : Holding) (o : Option ℕ) → (item.order ≡ place → ⊥) → list_any (is_at place) (released_on item o) ≡ false
-released_other place item None other = refl
-released_other place item (Some chain) other = or-false (item.order == place) ∙ ne_eqb item.order place other
+released_other : (order : ℕ) (item : Holding) (o : Option ℕ) → (item.order ≡ order → ⊥) → list_any (is_at order) (released_on item o) ≡ false
+released_other order item None other = refl
+released_other order item (Some chain) other = or-false (item.order == order) ∙ ne_eqb item.order order other
 
-unless_other : (place : ℕ) (item : Holding) (o : Option ℕ) (b : Bool) → (item.order ≡ place → ⊥) → list_any (is_at place) (cond b [] (released_on item o)) ≡ false
-unless_other place item o true other = refl
-unless_other place item o false other = released_other place item o other
+unless_other : (order : ℕ) (item : Holding) (o : Option ℕ) (b : Bool) → (item.order ≡ order → ⊥) → list_any (is_at order) (cond b [] (released_on item o)) ≡ false
+unless_other order item o true other = refl
+unless_other order item o false other = released_other order item o other
 
-if_other : (cfg : Config) (tips : List Tip) (new : List KeyRow) (place : ℕ) (item : Holding) (gone : Bool) → (item.order ≡ place → ⊥) → list_any (is_at place) (flat_map (proof_of cfg tips new) (cond gone [] (item ∷ []))) ≡ false
-if_other cfg tips new place item true other = refl
-if_other cfg tips new place item false other =
-    ap (list_any (is_at place)) (append-nil (proof_of cfg tips new item)) ∙ unless_other place item (find (proves_on cfg tips new item) (chains cfg)) item.released other
+if_other : (cfg : Config) (tips : List Tip) (new : List KeyRow) (order : ℕ) (item : Holding) (gone : Bool) → (item.order ≡ order → ⊥) → list_any (is_at order) (flat_map (proof_of cfg tips new) (cond gone [] (item ∷ []))) ≡ false
+if_other cfg tips new order item true other = refl
+if_other cfg tips new order item false other =
+    ap (list_any (is_at order)) (append-nil (proof_of cfg tips new item)) ∙ unless_other order item (find (proves_on cfg tips new item) (chains cfg)) item.released other
 
-held_other : (cfg : Config) (xs : List Arrival) (given : ℕ) (tips : List Tip) (new : List KeyRow) (place j : ℕ) (o : Option Packet) → (j ≡ place → ⊥) → list_any (is_at place) (flat_map (proof_of cfg tips new) (held_at cfg xs given j o)) ≡ false
-held_other cfg xs given tips new place j None other = refl
-held_other cfg xs given tips new place j (Some packet) other = if_other cfg tips new place (holding_of cfg xs given j packet) (is_gone cfg xs given j packet) other
+held_other : (cfg : Config) (xs : List Arrival) (given : ℕ) (tips : List Tip) (new : List KeyRow) (order j : ℕ) (o : Option Packet) → (j ≡ order → ⊥) → list_any (is_at order) (flat_map (proof_of cfg tips new) (held_at cfg xs given j o)) ≡ false
+held_other cfg xs given tips new order j None other = refl
+held_other cfg xs given tips new order j (Some packet) other = if_other cfg tips new order (holding_of cfg xs given j packet) (is_gone cfg xs given j packet) other
 
-proved_here : (cfg : Config) (xs : List Arrival) (new : List KeyRow) (place : ℕ) (packet : Packet) → Brought xs place packet → list_any (is_at place) (proved_by cfg xs new) ≡ list_any (is_at place) (release_of cfg xs new place (Some packet))
-proved_here cfg xs new place packet brought =
-    let count : 0 + place ≡ place = omega arith in
-    any_at (is_at place) (λ (p : ℕ × Arrival). release_of cfg xs new p.0 (packet_of p.1)) 0 xs place brought.arrival brought.at (λ j y other. of_other cfg xs new place j (packet_of y) (λ e. other (e ∙ sym count)))
-    ∙ ap (λ (n : ℕ). list_any (is_at place) (release_of cfg xs new n (packet_of brought.arrival))) count ∙ ap (λ o. list_any (is_at place) (release_of cfg xs new place o)) brought.kept
+proved_here : (cfg : Config) (xs : List Arrival) (new : List KeyRow) (order : ℕ) (packet : Packet) → Brought xs order packet → list_any (is_at order) (proved_by cfg xs new) ≡ list_any (is_at order) (release_of cfg xs new order (Some packet))
+proved_here cfg xs new order packet brought =
+    let count : 0 + order ≡ order = omega arith in
+    any_at (is_at order) (λ (p : ℕ × Arrival). release_of cfg xs new p.0 (packet_of p.1)) 0 xs order brought.arrival brought.at (λ j y other. of_other cfg xs new order j (packet_of y) (λ e. other (e ∙ sym count)))
+    ∙ ap (λ (n : ℕ). list_any (is_at order) (release_of cfg xs new n (packet_of brought.arrival))) count ∙ ap (λ o. list_any (is_at order) (release_of cfg xs new order o)) brought.kept
 
-batch_here : (cfg : Config) (xs : List Arrival) (given : ℕ) (tips : List Tip) (new : List KeyRow) (place : ℕ) (packet : Packet) → Brought xs place packet → is_gone cfg xs given place packet ≡ false → list_any (is_at place) (batch_of cfg tips new (holdings cfg xs given)) ≡ list_any (is_at place) (proof_of cfg tips new (holding_of cfg xs given place packet))
+batch_here : (cfg : Config) (xs : List Arrival) (given : ℕ) (tips : List Tip) (new : List KeyRow) (order : ℕ) (packet : Packet) → Brought xs order packet → is_gone cfg xs given order packet ≡ false → list_any (is_at order) (batch_of cfg tips new (holdings cfg xs given)) ≡ list_any (is_at order) (proof_of cfg tips new (holding_of cfg xs given order packet))
 unfolding holdings
-batch_here cfg xs given tips new place packet brought stays =
-    let count : 0 + place ≡ place = omega arith in
-    ap (list_any (is_at place)) (flat_map-flat_map (proof_of cfg tips new) (λ (p : ℕ × Arrival). held_at cfg xs given p.0 (packet_of p.1)) (enumerate_from 0 xs))
-    ∙ any_at (is_at place) (λ (p : ℕ × Arrival). flat_map (proof_of cfg tips new) (held_at cfg xs given p.0 (packet_of p.1))) 0 xs place brought.arrival brought.at (λ j y other. held_other cfg xs given tips new place j (packet_of y) (λ e. other (e ∙ sym count)))
-    ∙ ap (λ (n : ℕ). list_any (is_at place) (flat_map (proof_of cfg tips new) (held_at cfg xs given n (packet_of brought.arrival)))) count
-    ∙ ap (λ o. list_any (is_at place) (flat_map (proof_of cfg tips new) (held_at cfg xs given place o))) brought.kept
-    ∙ ap (λ b. list_any (is_at place) (flat_map (proof_of cfg tips new) (cond b [] (holding_of cfg xs given place packet ∷ [])))) stays
-    ∙ ap (list_any (is_at place)) (append-nil (proof_of cfg tips new (holding_of cfg xs given place packet)))
+batch_here cfg xs given tips new order packet brought stays =
+    let count : 0 + order ≡ order = omega arith in
+    ap (list_any (is_at order)) (flat_map-flat_map (proof_of cfg tips new) (λ (p : ℕ × Arrival). held_at cfg xs given p.0 (packet_of p.1)) (enumerate_from 0 xs))
+    ∙ any_at (is_at order) (λ (p : ℕ × Arrival). flat_map (proof_of cfg tips new) (held_at cfg xs given p.0 (packet_of p.1))) 0 xs order brought.arrival brought.at (λ j y other. held_other cfg xs given tips new order j (packet_of y) (λ e. other (e ∙ sym count)))
+    ∙ ap (λ (n : ℕ). list_any (is_at order) (flat_map (proof_of cfg tips new) (held_at cfg xs given n (packet_of brought.arrival)))) count
+    ∙ ap (λ o. list_any (is_at order) (flat_map (proof_of cfg tips new) (held_at cfg xs given order o))) brought.kept
+    ∙ ap (λ b. list_any (is_at order) (flat_map (proof_of cfg tips new) (cond b [] (holding_of cfg xs given order packet ∷ [])))) stays
+    ∙ ap (list_any (is_at order)) (append-nil (proof_of cfg tips new (holding_of cfg xs given order packet)))
 
 -- ---- tests
 
@@ -130,56 +130,56 @@ module _ (cfg : Config) (xs : List Arrival) (a : Arrival) (given : ℕ) (tips af
   taken_after : take given (released cfg (xs ++ a ∷ [])) ≡ take given (released cfg xs)
   taken_after = ap (take given) released_after ∙ take-append-le given (released cfg xs) released_now few
 
-  holding_after : (place : ℕ) (packet : Packet) → holding_of cfg (xs ++ a ∷ []) given place packet ≡ marked released_now (holding_of cfg xs given place packet)
-  holding_after place packet =
-      ap (λ rs. record (holding_of cfg (xs ++ a ∷ []) given place packet) { taken = list_any (is_at place) rs }) taken_after
-      ∙ ap (λ b. record (holding_of cfg xs given place packet) { released = b }) (ap (list_any (is_at place)) released_after ∙ list_any-append (is_at place) (released cfg xs) released_now)
+  holding_after : (order : ℕ) (packet : Packet) → holding_of cfg (xs ++ a ∷ []) given order packet ≡ marked released_now (holding_of cfg xs given order packet)
+  holding_after order packet =
+      ap (λ rs. record (holding_of cfg (xs ++ a ∷ []) given order packet) { taken = list_any (is_at order) rs }) taken_after
+      ∙ ap (λ b. record (holding_of cfg xs given order packet) { released = b }) (ap (list_any (is_at order)) released_after ∙ list_any-append (is_at order) (released cfg xs) released_now)
 
   -- a packet that isn't released after the arrival was proved exactly where the batch has it
-  candidate_after : (place : ℕ) (packet : Packet) → Brought xs place packet → is_gone cfg xs given place packet ≡ false → list_any (is_at place) (released cfg (xs ++ a ∷ [])) ≡ false → list_any (is_at place) (candidates cfg (xs ++ a ∷ [])) ≡ list_any (is_at place) proved_now
-  candidate_after place packet brought stays waits_after =
-      let item : Holding = holding_of cfg xs given place packet in
+  candidate_after : (order : ℕ) (packet : Packet) → Brought xs order packet → is_gone cfg xs given order packet ≡ false → list_any (is_at order) (released cfg (xs ++ a ∷ [])) ≡ false → list_any (is_at order) (candidates cfg (xs ++ a ∷ [])) ≡ list_any (is_at order) proved_now
+  candidate_after order packet brought stays waits_after =
+      let item : Holding = holding_of cfg xs given order packet in
       let new : List KeyRow = new_keys cfg xs a in
-      let waits : list_any (is_at place) (released cfg xs) ≡ false =
-      (or_parts (list_any (is_at place) (released cfg xs)) (list_any (is_at place) released_now) (sym (list_any-append (is_at place) (released cfg xs) released_now) ∙ ap (list_any (is_at place)) (sym released_after) ∙ waits_after)).0 in
-      let none : list_any (is_at place) (candidates cfg xs) ≡ false =
-      unproved (list_any (is_at place) (candidates cfg xs)) (list_all (is_past cfg xs packet) (chains cfg)) (list_any (is_at place) (released cfg xs)) (list_any (is_at place) (take given (released cfg xs)) && list_all (has_passed cfg xs packet.frame.name.interval) (chains cfg)) stays waits in
-      ap (list_any (is_at place)) (candidates_grow cfg xs a) ∙ list_any-append (is_at place) (candidates cfg xs) (batch cfg xs a)
-      ∙ ap (λ b. b || list_any (is_at place) (batch cfg xs a)) none
-      ∙ proved_here cfg xs new place packet brought
-      ∙ ap (list_any (is_at place)) (sym (proof_held cfg xs given new tips newer place packet waits))
-      ∙ sym (batch_here cfg xs given tips new place packet brought stays)
+      let waits : list_any (is_at order) (released cfg xs) ≡ false =
+      (or_parts (list_any (is_at order) (released cfg xs)) (list_any (is_at order) released_now) (sym (list_any-append (is_at order) (released cfg xs) released_now) ∙ ap (list_any (is_at order)) (sym released_after) ∙ waits_after)).0 in
+      let none : list_any (is_at order) (candidates cfg xs) ≡ false =
+      unproved (list_any (is_at order) (candidates cfg xs)) (list_all (is_past cfg xs packet) (chains cfg)) (list_any (is_at order) (released cfg xs)) (list_any (is_at order) (take given (released cfg xs)) && list_all (has_passed cfg xs packet.frame.name.interval) (chains cfg)) stays waits in
+      ap (list_any (is_at order)) (candidates_grow cfg xs a) ∙ list_any-append (is_at order) (candidates cfg xs) (batch cfg xs a)
+      ∙ ap (λ b. b || list_any (is_at order) (batch cfg xs a)) none
+      ∙ proved_here cfg xs new order packet brought
+      ∙ ap (list_any (is_at order)) (sym (proof_held cfg xs given new tips newer order packet waits))
+      ∙ sym (batch_here cfg xs given tips new order packet brought stays)
 
-  gone_after : (place : ℕ) (packet : Packet) → Brought xs place packet → is_gone cfg xs given place packet ≡ false → is_gone cfg (xs ++ a ∷ []) given place packet ≡ is_let_go cfg after proved_now (marked released_now (holding_of cfg xs given place packet))
-  gone_after place packet brought stays =
+  gone_after : (order : ℕ) (packet : Packet) → Brought xs order packet → is_gone cfg xs given order packet ≡ false → is_gone cfg (xs ++ a ∷ []) given order packet ≡ is_let_go cfg after proved_now (marked released_now (holding_of cfg xs given order packet))
+  gone_after order packet brought stays =
       let all : List Arrival = xs ++ a ∷ [] in
-      let item : Holding = marked released_now (holding_of cfg xs given place packet) in
-      let same = holding_after place packet in
-      let out : Bool = list_any (is_at place) (released cfg all) in
+      let item : Holding = marked released_now (holding_of cfg xs given order packet) in
+      let same = holding_after order packet in
+      let out : Bool = list_any (is_at order) (released cfg all) in
       let passed : list_all (has_passed cfg all packet.frame.name.interval) (chains cfg) ≡ list_all (is_passed after packet.frame.name.interval) (chains cfg) = sym (passed_same cfg all after packet.frame.name.interval newer_after) in
       let past : list_all (is_past cfg all packet) (chains cfg) ≡ list_all (is_over after item) (chains cfg) = sym (over_same cfg all after packet item newer_after refl refl) in
-      let left : (is_settled cfg all place packet && not out) ≡ ((list_any (is_at place) proved_now || list_all (is_over after item) (chains cfg)) && not out) =
-      left_same (is_settled cfg all place packet) (list_any (is_at place) proved_now || list_all (is_over after item) (chains cfg)) out
-      (λ waits. ap (λ b. b || list_all (is_past cfg all packet) (chains cfg)) (candidate_after place packet brought stays waits) ∙ ap (λ b. list_any (is_at place) proved_now || b) past) in
-      ap (λ b. b || list_any (is_at place) (take given (released cfg all)) && list_all (has_passed cfg all packet.frame.name.interval) (chains cfg)) left
-      ∙ ap (λ b. (list_any (is_at place) proved_now || list_all (is_over after item) (chains cfg)) && not out || list_any (is_at place) (take given (released cfg all)) && b) passed
-      ∙ ap (λ (i : Holding). (list_any (is_at place) proved_now || list_all (is_over after item) (chains cfg)) && not i.released || i.taken && list_all (is_passed after packet.frame.name.interval) (chains cfg)) same
+      let left : (is_settled cfg all order packet && not out) ≡ ((list_any (is_at order) proved_now || list_all (is_over after item) (chains cfg)) && not out) =
+      left_same (is_settled cfg all order packet) (list_any (is_at order) proved_now || list_all (is_over after item) (chains cfg)) out
+      (λ waits. ap (λ b. b || list_all (is_past cfg all packet) (chains cfg)) (candidate_after order packet brought stays waits) ∙ ap (λ b. list_any (is_at order) proved_now || b) past) in
+      ap (λ b. b || list_any (is_at order) (take given (released cfg all)) && list_all (has_passed cfg all packet.frame.name.interval) (chains cfg)) left
+      ∙ ap (λ b. (list_any (is_at order) proved_now || list_all (is_over after item) (chains cfg)) && not out || list_any (is_at order) (take given (released cfg all)) && b) passed
+      ∙ ap (λ (i : Holding). (list_any (is_at order) proved_now || list_all (is_over after item) (chains cfg)) && not i.released || i.taken && list_all (is_passed after packet.frame.name.interval) (chains cfg)) same
 
-  one_after : (place : ℕ) (o : Option Packet) → ((packet : Packet) → o ≡ Some packet → Brought xs place packet) → held_at cfg (xs ++ a ∷ []) given place o ≡ flat_map (kept_after cfg after proved_now released_now) (held_at cfg xs given place o)
-  one_after place None brought = refl
-  one_after place (Some packet) brought =
+  one_after : (order : ℕ) (o : Option Packet) → ((packet : Packet) → o ≡ Some packet → Brought xs order packet) → held_at cfg (xs ++ a ∷ []) given order o ≡ flat_map (kept_after cfg after proved_now released_now) (held_at cfg xs given order o)
+  one_after order None brought = refl
+  one_after order (Some packet) brought =
       let all : List Arrival = xs ++ a ∷ [] in
-      let item : Holding = holding_of cfg xs given place packet in
+      let item : Holding = holding_of cfg xs given order packet in
       let none : given + 0 ≡ given = omega arith in
       ⊎_elim
-      (λ e. let gone : is_gone cfg all given place packet ≡ true = subst (λ (g : ℕ). is_gone cfg all g place packet ≡ true) none (gone_stays cfg xs (a ∷ []) place packet given 0 (brought packet refl) e) in
-      ap (λ b. cond b [] (holding_of cfg all given place packet ∷ [])) gone
+      (λ e. let gone : is_gone cfg all given order packet ≡ true = subst (λ (g : ℕ). is_gone cfg all g order packet ≡ true) none (gone_stays cfg xs (a ∷ []) order packet given 0 (brought packet refl) e) in
+      ap (λ b. cond b [] (holding_of cfg all given order packet ∷ [])) gone
       ∙ ap (λ b. flat_map (kept_after cfg after proved_now released_now) (cond b [] (item ∷ []))) (sym e))
-      (λ e. ap (λ b. cond b [] (holding_of cfg all given place packet ∷ [])) (gone_after place packet (brought packet refl) e)
-      ∙ ap (λ i. cond (is_let_go cfg after proved_now (marked released_now item)) [] (i ∷ [])) (holding_after place packet)
+      (λ e. ap (λ b. cond b [] (holding_of cfg all given order packet ∷ [])) (gone_after order packet (brought packet refl) e)
+      ∙ ap (λ i. cond (is_let_go cfg after proved_now (marked released_now item)) [] (i ∷ [])) (holding_after order packet)
       ∙ sym (append-nil (kept_after cfg after proved_now released_now item))
       ∙ ap (λ b. flat_map (kept_after cfg after proved_now released_now) (cond b [] (item ∷ []))) (sym e))
-      (cases_Bool (is_gone cfg xs given place packet))
+      (cases_Bool (is_gone cfg xs given order packet))
 
   -- ---- all packets
 

@@ -28,7 +28,7 @@ use Rattle.tesla_fitting.specs.declared.verdict.Verdict.TheVariants.{Foreign, Mi
 use Rattle.tesla_fitting.specs.Fitting.{stream_of, version_in, is_early, is_outside, fields_misfit, is_misfit, is_future}
 use Rattle.tesla_receiver.specs.Answer.{is_bad, safe_chains, packet_verdict, verdict_taken, refusal}
 use Rattle.tesla_fitting.specs.Config.{chains, chain_row}
-use Rattle.tesla_receiver.specs.Held.{is_asked, has_passed, is_gone, has_place, held_of}
+use Rattle.tesla_receiver.specs.Held.{is_asked, has_passed, is_gone, has_slot, held_of}
 use Rattle.tesla_receiver.specs.History.{IsLegal, arrivals_in}
 use Rattle.tesla_fitting.specs.Rows.{carried, keys_of, leads_to}
 use Rattle.tesla_receiver.specs.Keys.{keys_in, takes_keys, newest, new_keys}
@@ -137,14 +137,14 @@ one_counted : (q : Holding → Bool) (item : Holding) (gone : Bool) → count_by
 one_counted q item true = ap (λ b. cond b 1 0) (sym (and_right (q item) false refl))
 one_counted q item false = zero-add (cond (q item) 1 0) ∙ ap (λ b. cond b 1 0) (sym (and_true (q item)))
 
-at_counted : (cfg : Config) (xs : List Arrival) (given : ℕ) (asked : Option ℕ) (place : ℕ) (o : Option Packet) → count_by (λ item. is_asked asked item.name.interval) (held_at cfg xs given place o) ≡ cond (has_place cfg xs given asked place o) 1 0
-at_counted cfg xs given asked place None = refl
-at_counted cfg xs given asked place (Some packet) = one_counted (λ item. is_asked asked item.name.interval) (holding_of cfg xs given place packet) (is_gone cfg xs given place packet)
+at_counted : (cfg : Config) (xs : List Arrival) (given : ℕ) (asked : Option ℕ) (order : ℕ) (o : Option Packet) → count_by (λ item. is_asked asked item.name.interval) (held_at cfg xs given order o) ≡ cond (has_slot cfg xs given asked order o) 1 0
+at_counted cfg xs given asked order None = refl
+at_counted cfg xs given asked order (Some packet) = one_counted (λ item. is_asked asked item.name.interval) (holding_of cfg xs given order packet) (is_gone cfg xs given order packet)
 
 held_counted : (cfg : Config) (xs : List Arrival) (given : ℕ) (asked : Option ℕ) → count_by (λ item. is_asked asked item.name.interval) (holdings cfg xs given) ≡ held_of cfg xs given asked
 unfolding holdings held_of
 held_counted cfg xs given asked =
-    count_gathered (λ item. is_asked asked item.name.interval) (λ (p : ℕ × Arrival). held_at cfg xs given p.0 (packet_of p.1)) (λ (p : ℕ × Arrival). has_place cfg xs given asked p.0 (packet_of p.1)) (enumerate_from 0 xs)
+    count_gathered (λ item. is_asked asked item.name.interval) (λ (p : ℕ × Arrival). held_at cfg xs given p.0 (packet_of p.1)) (λ (p : ℕ × Arrival). has_slot cfg xs given asked p.0 (packet_of p.1)) (enumerate_from 0 xs)
     (λ p. at_counted cfg xs given asked p.0 (packet_of p.1))
 
 -- how many packets are held: all, and those of an interval

@@ -95,19 +95,19 @@ still_kept c p false t h =
     let parts = or_parts ((c || p) && true) t h in
     or_from (p && true) t (and_left p true (⊎_elim (λ e. (or_parts c p e).1) (λ e. absurd (cc)) (and_cases (c || p) true parts.0))) parts.1
 
-let_go_of : (cfg : Config) (xs : List Arrival) (given place : ℕ) (packet : Packet) (tips : List Tip) → TipsOf cfg xs tips → is_gone cfg xs given place packet ≡ false → is_let_go cfg tips [] (holding_of cfg xs given place packet) ≡ false
-let_go_of cfg xs given place packet tips newer stays =
-    let item : Holding = holding_of cfg xs given place packet in
+let_go_of : (cfg : Config) (xs : List Arrival) (given order : ℕ) (packet : Packet) (tips : List Tip) → TipsOf cfg xs tips → is_gone cfg xs given order packet ≡ false → is_let_go cfg tips [] (holding_of cfg xs given order packet) ≡ false
+let_go_of cfg xs given order packet tips newer stays =
+    let item : Holding = holding_of cfg xs given order packet in
     ap (λ b. b && not item.released || item.taken && list_all (is_passed tips item.name.interval) (chains cfg)) (over_same cfg xs tips packet item newer refl refl)
     ∙ ap (λ b. list_all (is_past cfg xs packet) (chains cfg) && not item.released || item.taken && b) (passed_same cfg xs tips packet.frame.name.interval newer)
-    ∙ still_kept (list_any (is_at place) (candidates cfg xs)) (list_all (is_past cfg xs packet) (chains cfg)) item.released (item.taken && list_all (has_passed cfg xs packet.frame.name.interval) (chains cfg)) stays
+    ∙ still_kept (list_any (is_at order) (candidates cfg xs)) (list_all (is_past cfg xs packet) (chains cfg)) item.released (item.taken && list_all (has_passed cfg xs packet.frame.name.interval) (chains cfg)) stays
 
 -- a packet that is held can't be let go
 pub none_let_go : (s : State) (xs : List Arrival) (given : ℕ) → Keeps s xs given → list_all (λ item. not (is_let_go s.config s.tips [] item)) s.held ≡ true
 none_let_go s xs given k =
     ap (list_all (λ item. not (is_let_go s.config s.tips [] item))) k.held
-    ∙ all_held s.config xs given (λ item. not (is_let_go s.config s.tips [] item)) (λ place packet brought stays.
-    not_from_false (is_let_go s.config s.tips [] (holding_of s.config xs given place packet)) (let_go_of s.config xs given place packet s.tips (tips_kept s xs given k) stays))
+    ∙ all_held s.config xs given (λ item. not (is_let_go s.config s.tips [] item)) (λ order packet brought stays.
+    not_from_false (is_let_go s.config s.tips [] (holding_of s.config xs given order packet)) (let_go_of s.config xs given order packet s.tips (tips_kept s xs given k) stays))
 
 -- ---- no new key
 

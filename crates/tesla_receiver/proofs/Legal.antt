@@ -13,7 +13,7 @@ use Rattle.tesla_walks.specs.declared.release.Release.{Release}
 use Rattle.tesla_receiver.specs.History.{Event, Arrives, Takes, Ends, event_of, entry_of, IsLegalAfter, IsLegal, arrival_in, arrivals_in, gives, given_in, has_end, reply_to, reply_with}
 use Rattle.tesla_receiver.specs.Packets.{released}
 use Rattle.tesla_receiver.proofs.Events.{arrivals_more}
-use Rattle.tesla_receiver.proofs.Fronts.{released_more}
+use Rattle.tesla_receiver.proofs.Prefixes.{released_more}
 use Rattle.tesla_receiver.proofs.Standing.{given_same}
 
 along : (cfg : Config) (P : List Entry → Type 0) → ((h : List Entry) (event : Event) → P h → P (h ++ entry_of cfg h event ∷ [])) → (before h : List Entry) → IsLegalAfter cfg before h → P before → P (before ++ h)

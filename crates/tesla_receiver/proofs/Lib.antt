@@ -3,9 +3,9 @@ pub mod Newest
 pub mod Grown
 pub mod Verdicts
 pub mod Standing
-pub mod Places
+pub mod ArrivalOrders
 pub mod Events
-pub mod Fronts
+pub mod Prefixes
 pub mod Finishing
 pub mod Gone
 pub mod Held

@@ -28,7 +28,7 @@ use Rattle.tesla_receiver.specs.Stands.{holding_of, held_at, holdings}
 use Rattle.tesla_state.specs.Steps.{payload_held, is_numbered}
 use Rattle.tesla_receiver.proofs.Gone.{Brought, is_called, called_any, candidates_called}
 use Rattle.tesla_receiver.proofs.Owners.{owned_at}
-use Rattle.tesla_receiver.proofs.Places.{firsts_pass}
+use Rattle.tesla_receiver.proofs.ArrivalOrders.{firsts_pass}
 
 -- ---- each name is released once
 
@@ -70,13 +70,13 @@ pub released_once : (cfg : Config) (xs : List Arrival) (k : ℕ) (r : Release) �
 unfolding released
 released_once cfg xs k r at = firsts_once [] (candidates cfg xs) k r at
 
-pub all_called : (cfg : Config) (xs : List Arrival) (place : ℕ) (packet : Packet) → Brought xs place packet → list_all (is_called place packet.frame.name) (released cfg xs) ≡ true
+pub all_called : (cfg : Config) (xs : List Arrival) (order : ℕ) (packet : Packet) → Brought xs order packet → list_all (is_called order packet.frame.name) (released cfg xs) ≡ true
 unfolding released candidates
-all_called cfg xs place packet brought = firsts_pass (is_called place packet.frame.name) [] (each_after (batch cfg) [] xs) (candidates_called cfg xs place packet brought)
+all_called cfg xs order packet brought = firsts_pass (is_called order packet.frame.name) [] (each_after (batch cfg) [] xs) (candidates_called cfg xs order packet brought)
 
 -- a packet is released once
-pub place_once : (cfg : Config) (xs : List Arrival) (k : ℕ) (r : Release) → slice_get (released cfg xs) k ≡ Some r → list_any (is_at r.place) (take k (released cfg xs)) ≡ false
-place_once cfg xs k r at =
+pub order_once : (cfg : Config) (xs : List Arrival) (k : ℕ) (r : Release) → slice_get (released cfg xs) k ≡ Some r → list_any (is_at r.place) (take k (released cfg xs)) ≡ false
+order_once cfg xs k r at =
     let owned = owned_at cfg xs k r at in
     let called = list_all-take (is_called r.place owned.packet.frame.name) k (released cfg xs) (all_called cfg xs r.place owned.packet owned.brought) in
     let once : list_any (has_name owned.packet.frame.name) (take k (released cfg xs)) ≡ false = ap (λ (n : Name). list_any (has_name n) (take k (released cfg xs))) owned.name ∙ released_once cfg xs k r at in
@@ -88,29 +88,29 @@ pub next_out : (cfg : Config) (xs : List Arrival) (k : ℕ) (r : Release) → sl
 next_out cfg xs k r at = list_any_got (is_at r.place) (released cfg xs) k r at (eq-eqb r.place r.place refl)
 
 -- a packet that is released and wasn't taken has its place
-pub untaken_stays : (cfg : Config) (xs : List Arrival) (given place : ℕ) (packet : Packet) → list_any (is_at place) (released cfg xs) ≡ true → list_any (is_at place) (take given (released cfg xs)) ≡ false → is_gone cfg xs given place packet ≡ false
-untaken_stays cfg xs given place packet out untaken =
-    or_from (is_settled cfg xs place packet && not (list_any (is_at place) (released cfg xs))) (list_any (is_at place) (take given (released cfg xs)) && list_all (has_passed cfg xs packet.frame.name.interval) (chains cfg))
-    (and_right (is_settled cfg xs place packet) (not (list_any (is_at place) (released cfg xs))) (not_from_true (list_any (is_at place) (released cfg xs)) out))
-    (and_left (list_any (is_at place) (take given (released cfg xs))) (list_all (has_passed cfg xs packet.frame.name.interval) (chains cfg)) untaken)
+pub untaken_stays : (cfg : Config) (xs : List Arrival) (given order : ℕ) (packet : Packet) → list_any (is_at order) (released cfg xs) ≡ true → list_any (is_at order) (take given (released cfg xs)) ≡ false → is_gone cfg xs given order packet ≡ false
+untaken_stays cfg xs given order packet out untaken =
+    or_from (is_settled cfg xs order packet && not (list_any (is_at order) (released cfg xs))) (list_any (is_at order) (take given (released cfg xs)) && list_all (has_passed cfg xs packet.frame.name.interval) (chains cfg))
+    (and_right (is_settled cfg xs order packet) (not (list_any (is_at order) (released cfg xs))) (not_from_true (list_any (is_at order) (released cfg xs)) out))
+    (and_left (list_any (is_at order) (take given (released cfg xs))) (list_all (has_passed cfg xs packet.frame.name.interval) (chains cfg)) untaken)
 
-numbered_if : (place : ℕ) (item : Holding) (gone : Bool) → (item.order ≡ place → ⊥) → find (is_numbered place) (cond gone [] (item ∷ [])) ≡ None
-numbered_if place item true other = refl
-numbered_if place item false other = ap (λ b. cond b (Some item) None) (ne_eqb item.order place other)
+numbered_if : (order : ℕ) (item : Holding) (gone : Bool) → (item.order ≡ order → ⊥) → find (is_numbered order) (cond gone [] (item ∷ [])) ≡ None
+numbered_if order item true other = refl
+numbered_if order item false other = ap (λ b. cond b (Some item) None) (ne_eqb item.order order other)
 
-numbered_other : (cfg : Config) (xs : List Arrival) (given place j : ℕ) (o : Option Packet) → (j ≡ place → ⊥) → find (is_numbered place) (held_at cfg xs given j o) ≡ None
-numbered_other cfg xs given place j None other = refl
-numbered_other cfg xs given place j (Some packet) other = numbered_if place (holding_of cfg xs given j packet) (is_gone cfg xs given j packet) other
+numbered_other : (cfg : Config) (xs : List Arrival) (given order j : ℕ) (o : Option Packet) → (j ≡ order → ⊥) → find (is_numbered order) (held_at cfg xs given j o) ≡ None
+numbered_other cfg xs given order j None other = refl
+numbered_other cfg xs given order j (Some packet) other = numbered_if order (holding_of cfg xs given j packet) (is_gone cfg xs given j packet) other
 
 -- a packet that isn't gone is found by its number
-pub found_held : (cfg : Config) (xs : List Arrival) (given place : ℕ) (packet : Packet) → Brought xs place packet → is_gone cfg xs given place packet ≡ false → find (is_numbered place) (holdings cfg xs given) ≡ Some (holding_of cfg xs given place packet)
+pub found_held : (cfg : Config) (xs : List Arrival) (given order : ℕ) (packet : Packet) → Brought xs order packet → is_gone cfg xs given order packet ≡ false → find (is_numbered order) (holdings cfg xs given) ≡ Some (holding_of cfg xs given order packet)
 unfolding holdings
-found_held cfg xs given place packet brought stays =
-    let count : 0 + place ≡ place = omega arith in
-    find_at (is_numbered place) (λ (p : ℕ × Arrival). held_at cfg xs given p.0 (packet_of p.1)) 0 xs place brought.arrival brought.at (λ j y other. numbered_other cfg xs given place j (packet_of y) (λ e. other (e ∙ sym count)))
-    ∙ ap (λ (n : ℕ). find (is_numbered place) (held_at cfg xs given n (packet_of brought.arrival))) count ∙ ap (λ o. find (is_numbered place) (held_at cfg xs given place o)) brought.kept
-    ∙ ap (λ b. find (is_numbered place) (cond b [] (holding_of cfg xs given place packet ∷ []))) stays
-    ∙ ap (λ b. cond b (Some (holding_of cfg xs given place packet)) None) (eq-eqb place place refl)
+found_held cfg xs given order packet brought stays =
+    let count : 0 + order ≡ order = omega arith in
+    find_at (is_numbered order) (λ (p : ℕ × Arrival). held_at cfg xs given p.0 (packet_of p.1)) 0 xs order brought.arrival brought.at (λ j y other. numbered_other cfg xs given order j (packet_of y) (λ e. other (e ∙ sym count)))
+    ∙ ap (λ (n : ℕ). find (is_numbered order) (held_at cfg xs given n (packet_of brought.arrival))) count ∙ ap (λ o. find (is_numbered order) (held_at cfg xs given order o)) brought.kept
+    ∙ ap (λ b. find (is_numbered order) (cond b [] (holding_of cfg xs given order packet ∷ []))) stays
+    ∙ ap (λ b. cond b (Some (holding_of cfg xs given order packet)) None) (eq-eqb order order refl)
 
 payload_kept : (v : Verdict) (o : Option Frame) (packet : Packet) → packet_in v o ≡ Some packet → payload_in o ≡ packet.frame.payload
 payload_kept (Kept set) (Some (Data f)) packet e = ap (λ (p : Packet). p.frame.payload) (same_Some (record { chains = set; frame = f }) packet e)
@@ -130,6 +130,6 @@ payload_kept Keys o packet e = absurd (cc)
 pub payload_next : (cfg : Config) (xs : List Arrival) (given : ℕ) (r : Release) → slice_get (released cfg xs) given ≡ Some r → payload_held (find (is_numbered r.place) (holdings cfg xs given)) ≡ payload_of (slice_get xs r.place)
 payload_next cfg xs given r at =
     let owned = owned_at cfg xs given r at in
-    ap payload_held (found_held cfg xs given r.place owned.packet owned.brought (untaken_stays cfg xs given r.place owned.packet (next_out cfg xs given r at) (place_once cfg xs given r at)))
+    ap payload_held (found_held cfg xs given r.place owned.packet owned.brought (untaken_stays cfg xs given r.place owned.packet (next_out cfg xs given r at) (order_once cfg xs given r at)))
     ∙ sym (payload_kept owned.brought.arrival.verdict (frame_of owned.brought.arrival.bytes) owned.packet owned.brought.kept)
     ∙ ap payload_of (sym owned.brought.at)

@@ -45,13 +45,13 @@ rising_few chain (row ∷ rows) rise =
 
 -- ---- a data frame, whose rows are numbered
 
-carried_step : (chain place index : ℕ) (key : Key) (early : Bool) → (place == chain) ≡ false → filter (is_of chain) (cond early [] (record { chain = record { 0 = place }; index = index; key = key } ∷ [])) ≡ []
-carried_step chain place index key true e = refl
-carried_step chain place index key false e = ap (λ b. cond b (record { chain = record { 0 = place }; index = index; key = key } ∷ []) []) e
+carried_step : (chain order index : ℕ) (key : Key) (early : Bool) → (order == chain) ≡ false → filter (is_of chain) (cond early [] (record { chain = record { 0 = order }; index = index; key = key } ∷ [])) ≡ []
+carried_step chain order index key true e = refl
+carried_step chain order index key false e = ap (λ b. cond b (record { chain = record { 0 = order }; index = index; key = key } ∷ []) []) e
 
-carried_other : (cfg : Config) (interval chain place : ℕ) (key : Option Key) → (place == chain) ≡ false → filter (is_of chain) (carried cfg interval place key) ≡ []
-carried_other cfg interval chain place None e = refl
-carried_other cfg interval chain place (Some key) e = carried_step chain place (interval - (chain_row cfg place).delay) key (nat_lt interval (chain_row cfg place).delay) e
+carried_other : (cfg : Config) (interval chain order : ℕ) (key : Option Key) → (order == chain) ≡ false → filter (is_of chain) (carried cfg interval order key) ≡ []
+carried_other cfg interval chain order None e = refl
+carried_other cfg interval chain order (Some key) e = carried_step chain order (interval - (chain_row cfg order).delay) key (nat_lt interval (chain_row cfg order).delay) e
 
 few_cond : (b : Bool) (row : KeyRow) → AtMostOne (cond b (row ∷ []) [])
 few_cond true row = inr (row, refl)
@@ -61,32 +61,32 @@ carried_few_step : (chain : ℕ) (row : KeyRow) (early : Bool) → AtMostOne (fi
 carried_few_step chain row true = inl refl
 carried_few_step chain row false = few_cond (is_of chain row) row
 
-carried_few : (cfg : Config) (interval chain place : ℕ) (key : Option Key) → AtMostOne (filter (is_of chain) (carried cfg interval place key))
-carried_few cfg interval chain place None = inl refl
-carried_few cfg interval chain place (Some key) =
-    carried_few_step chain (record { chain = record { 0 = place }; index = interval - (chain_row cfg place).delay; key = key }) (nat_lt interval (chain_row cfg place).delay)
+carried_few : (cfg : Config) (interval chain order : ℕ) (key : Option Key) → AtMostOne (filter (is_of chain) (carried cfg interval order key))
+carried_few cfg interval chain order None = inl refl
+carried_few cfg interval chain order (Some key) =
+    carried_few_step chain (record { chain = record { 0 = order }; index = interval - (chain_row cfg order).delay; key = key }) (nat_lt interval (chain_row cfg order).delay)
 
 module _ (cfg : Config) (interval chain : ℕ) where
   abbrev carried_from : ℕ → List TagRow → List KeyRow
-  carried_from place rows = flat_map (λ (p : ℕ × TagRow). carried cfg interval p.0 p.1.key) (enumerate_from place rows)
+  carried_from order rows = flat_map (λ (p : ℕ × TagRow). carried cfg interval p.0 p.1.key) (enumerate_from order rows)
 
-  own_both : (place : ℕ) (row : TagRow) (rows : List TagRow) → filter (is_of chain) (carried_from place (row ∷ rows)) ≡ filter (is_of chain) (carried cfg interval place row.key) ++ filter (is_of chain) (carried_from (place + 1) rows)
-  own_both place row rows = filter-append (is_of chain) (carried cfg interval place row.key) (carried_from (place + 1) rows)
+  own_both : (order : ℕ) (row : TagRow) (rows : List TagRow) → filter (is_of chain) (carried_from order (row ∷ rows)) ≡ filter (is_of chain) (carried cfg interval order row.key) ++ filter (is_of chain) (carried_from (order + 1) rows)
+  own_both order row rows = filter-append (is_of chain) (carried cfg interval order row.key) (carried_from (order + 1) rows)
 
-  numbered_none : (place : ℕ) (rows : List TagRow) → chain < place → filter (is_of chain) (carried_from place rows) ≡ []
-  numbered_none place [] above = refl
-  numbered_none place (row ∷ rows) above =
-      own_both place row rows ∙ ap (λ own. own ++ filter (is_of chain) (carried_from (place + 1) rows)) (carried_other cfg interval chain place row.key (ne_eqb place chain (λ e. omega (arith, e, above))))
-      ∙ numbered_none (place + 1) rows (omega arith)
+  numbered_none : (order : ℕ) (rows : List TagRow) → chain < order → filter (is_of chain) (carried_from order rows) ≡ []
+  numbered_none order [] above = refl
+  numbered_none order (row ∷ rows) above =
+      own_both order row rows ∙ ap (λ own. own ++ filter (is_of chain) (carried_from (order + 1) rows)) (carried_other cfg interval chain order row.key (ne_eqb order chain (λ e. omega (arith, e, above))))
+      ∙ numbered_none (order + 1) rows (omega arith)
 
-  numbered_few : (place : ℕ) (rows : List TagRow) → AtMostOne (filter (is_of chain) (carried_from place rows))
-  numbered_few place [] = inl refl
-  numbered_few place (row ∷ rows) = subst (λ own. AtMostOne own) (sym (own_both place row rows)) (elim (cases_Bool (place == chain)) [
-    | inl e ↦ (let same : place ≡ chain = eqb-true place chain e in
-        let rest : filter (is_of chain) (carried cfg interval place row.key) ++ filter (is_of chain) (carried_from (place + 1) rows) ≡ filter (is_of chain) (carried cfg interval place row.key) =
-        ap (λ own. filter (is_of chain) (carried cfg interval place row.key) ++ own) (numbered_none (place + 1) rows (omega (arith, same))) ∙ append-nil (filter (is_of chain) (carried cfg interval place row.key)) in
-        subst (λ own. AtMostOne own) (sym rest) (carried_few cfg interval chain place row.key))
-    | inr e ↦ subst (λ own. AtMostOne (own ++ filter (is_of chain) (carried_from (place + 1) rows))) (sym (carried_other cfg interval chain place row.key e)) (numbered_few (place + 1) rows)
+  numbered_few : (order : ℕ) (rows : List TagRow) → AtMostOne (filter (is_of chain) (carried_from order rows))
+  numbered_few order [] = inl refl
+  numbered_few order (row ∷ rows) = subst (λ own. AtMostOne own) (sym (own_both order row rows)) (elim (cases_Bool (order == chain)) [
+    | inl e ↦ (let same : order ≡ chain = eqb-true order chain e in
+        let rest : filter (is_of chain) (carried cfg interval order row.key) ++ filter (is_of chain) (carried_from (order + 1) rows) ≡ filter (is_of chain) (carried cfg interval order row.key) =
+        ap (λ own. filter (is_of chain) (carried cfg interval order row.key) ++ own) (numbered_none (order + 1) rows (omega (arith, same))) ∙ append-nil (filter (is_of chain) (carried cfg interval order row.key)) in
+        subst (λ own. AtMostOne own) (sym rest) (carried_few cfg interval chain order row.key))
+    | inr e ↦ subst (λ own. AtMostOne (own ++ filter (is_of chain) (carried_from (order + 1) rows))) (sym (carried_other cfg interval chain order row.key e)) (numbered_few (order + 1) rows)
   ])
 
 -- ---- frames and arrivals

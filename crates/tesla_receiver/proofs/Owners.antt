@@ -20,7 +20,7 @@ use Rattle.tesla_receiver.specs.Keys.{new_keys}
 use Rattle.tesla_receiver.specs.Packets.{packet_of, proves, release_on, release_of, batch, candidates, released}
 use Rattle.tesla_receiver.proofs.Gone.{Brought, called_any, candidates_called}
 use Rattle.tesla_state.proofs.Named.{same_name}
-use Rattle.tesla_receiver.proofs.Places.{firsts_pass}
+use Rattle.tesla_receiver.proofs.ArrivalOrders.{firsts_pass}
 use Rattle.tesla_receiver.proofs.EachAfter.{all_each_after}
 
 abbrev brought_in : Option Arrival → Option Packet
@@ -53,28 +53,28 @@ owned_from : (xs : List Arrival) (release : Release) (o : Option Arrival) → sl
 owned_from xs release None at h = absurd (cc)
 owned_from xs release (Some x) at h = owned_packet xs release x (packet_of x) at refl h
 
-own_here : (xs : List Arrival) (place : ℕ) (y : Arrival) (packet : Packet) (chain : ℕ) → slice_get xs place ≡ Some y → packet_of y ≡ Some packet → is_own xs (record { place = place; name = packet.frame.name; chain = record { 0 = chain } }) ≡ true
-own_here xs place y packet chain at kept =
-    let release : Release = record { place = place; name = packet.frame.name; chain = record { 0 = chain } } in
+own_here : (xs : List Arrival) (order : ℕ) (y : Arrival) (packet : Packet) (chain : ℕ) → slice_get xs order ≡ Some y → packet_of y ≡ Some packet → is_own xs (record { place = order; name = packet.frame.name; chain = record { 0 = chain } }) ≡ true
+own_here xs order y packet chain at kept =
+    let release : Release = record { place = order; name = packet.frame.name; chain = record { 0 = chain } } in
     ap (λ o. is_own_of release (brought_in o)) at ∙ ap (is_own_of release) kept
     ∙ and_from (packet.frame.name.interval == packet.frame.name.interval) (packet.frame.name.number == packet.frame.name.number)
     (eq-eqb packet.frame.name.interval packet.frame.name.interval refl) (eq-eqb packet.frame.name.number packet.frame.name.number refl)
 
-own_on : (xs : List Arrival) (place : ℕ) (y : Arrival) (packet : Packet) (o : Option ℕ) → slice_get xs place ≡ Some y → packet_of y ≡ Some packet → list_all (is_own xs) (release_on place packet.frame o) ≡ true
-own_on xs place y packet None at kept = refl
-own_on xs place y packet (Some chain) at kept = and_from (is_own xs (record { place = place; name = packet.frame.name; chain = record { 0 = chain } })) true (own_here xs place y packet chain at kept) refl
+own_on : (xs : List Arrival) (order : ℕ) (y : Arrival) (packet : Packet) (o : Option ℕ) → slice_get xs order ≡ Some y → packet_of y ≡ Some packet → list_all (is_own xs) (release_on order packet.frame o) ≡ true
+own_on xs order y packet None at kept = refl
+own_on xs order y packet (Some chain) at kept = and_from (is_own xs (record { place = order; name = packet.frame.name; chain = record { 0 = chain } })) true (own_here xs order y packet chain at kept) refl
 
-own_of : (cfg : Config) (xs front : List Arrival) (new : List KeyRow) (place : ℕ) (y : Arrival) (o : Option Packet) → slice_get xs place ≡ Some y → packet_of y ≡ o → list_all (is_own xs) (release_of cfg front new place o) ≡ true
-own_of cfg xs front new place y None at kept = refl
-own_of cfg xs front new place y (Some packet) at kept = own_on xs place y packet (find (proves cfg front new packet) (chains cfg)) at kept
+own_of : (cfg : Config) (xs prefix : List Arrival) (new : List KeyRow) (order : ℕ) (y : Arrival) (o : Option Packet) → slice_get xs order ≡ Some y → packet_of y ≡ o → list_all (is_own xs) (release_of cfg prefix new order o) ≡ true
+own_of cfg xs prefix new order y None at kept = refl
+own_of cfg xs prefix new order y (Some packet) at kept = own_on xs order y packet (find (proves cfg prefix new packet) (chains cfg)) at kept
 
 candidates_own : (cfg : Config) (xs : List Arrival) → list_all (is_own xs) (each_after (batch cfg) [] xs) ≡ true
 candidates_own cfg xs =
-    all_each_after (is_own xs) (batch cfg) [] xs (λ front x rest e.
-    all_enumerated (is_own xs) (λ (p : ℕ × Arrival). release_of cfg front (new_keys cfg front x) p.0 (packet_of p.1)) 0 front (λ k y at.
+    all_each_after (is_own xs) (batch cfg) [] xs (λ prefix x rest e.
+    all_enumerated (is_own xs) (λ (p : ℕ × Arrival). release_of cfg prefix (new_keys cfg prefix x) p.0 (packet_of p.1)) 0 prefix (λ k y at.
     let count : k ≡ 0 + k = omega arith in
-    let there : slice_get xs k ≡ Some y = ap (λ zs. slice_get zs k) e ∙ slice_get-append front (x ∷ rest) k (slice_get_within front k y at) ∙ at in
-    own_of cfg xs front (new_keys cfg front x) (0 + k) y (packet_of y) (ap (slice_get xs) (sym count) ∙ there) refl))
+    let there : slice_get xs k ≡ Some y = ap (λ zs. slice_get zs k) e ∙ slice_get-append prefix (x ∷ rest) k (slice_get_within prefix k y at) ∙ at in
+    own_of cfg xs prefix (new_keys cfg prefix x) (0 + k) y (packet_of y) (ap (slice_get xs) (sym count) ∙ there) refl))
 
 -- each released packet is that of an arrival
 pub owned_at : (cfg : Config) (xs : List Arrival) (k : ℕ) (release : Release) → slice_get (released cfg xs) k ≡ Some release → Owned xs release
@@ -84,9 +84,9 @@ owned_at cfg xs k release at =
     (passes_at (is_own xs) (released cfg xs) k release (firsts_pass (is_own xs) [] (each_after (batch cfg) [] xs) (candidates_own cfg xs)) at)
 
 -- where a packet is proved, one of its name is
-pub named_at : (cfg : Config) (xs : List Arrival) (place : ℕ) (packet : Packet) → Brought xs place packet → list_any (is_at place) (candidates cfg xs) ≡ true → list_any (has_name packet.frame.name) (candidates cfg xs) ≡ true
+pub named_at : (cfg : Config) (xs : List Arrival) (order : ℕ) (packet : Packet) → Brought xs order packet → list_any (is_at order) (candidates cfg xs) ≡ true → list_any (has_name packet.frame.name) (candidates cfg xs) ≡ true
 unfolding candidates
-named_at cfg xs place packet brought h = called_any place packet.frame.name (each_after (batch cfg) [] xs) (candidates_called cfg xs place packet brought) h
+named_at cfg xs order packet brought h = called_any order packet.frame.name (each_after (batch cfg) [] xs) (candidates_called cfg xs order packet brought) h
 
 any_kept : (q : Release → Bool) (release : Release) (t : Bool) → list_any q (cond t [] (release ∷ [])) ≡ true → q release ≡ true
 any_kept q release true h = absurd (cc)

@@ -24,12 +24,12 @@ use Rattle.tesla_state.specs.Releases.{each_after, has_name}
 use Rattle.tesla_receiver.proofs.EachAfter.{each_after_more}
 use Rattle.tesla_receiver.proofs.Names.{first_named}
 
-name_itself : (name : Name) (place chain : ℕ) → has_name name (record { place = place; name = name; chain = record { 0 = chain } }) ≡ true
-name_itself name place chain = and_from (name.interval == name.interval) (name.number == name.number) (eq-eqb name.interval name.interval refl) (eq-eqb name.number name.number refl)
+name_itself : (name : Name) (order chain : ℕ) → has_name name (record { place = order; name = name; chain = record { 0 = chain } }) ≡ true
+name_itself name order chain = and_from (name.interval == name.interval) (name.number == name.number) (eq-eqb name.interval name.interval refl) (eq-eqb name.number name.number refl)
 
-named_on : (place : ℕ) (f : DataFrame) (test : ℕ → Bool) (n chain : ℕ) (o : Option ℕ) → find test (range_with_len 0 n) ≡ o → chain < n → test chain ≡ true → list_any (has_name f.name) (release_on place f o) ≡ true
-named_on place f test n chain (Some c) e below passes = or_left (has_name f.name (record { place = place; name = f.name; chain = record { 0 = c } })) false (name_itself f.name place c)
-named_on place f test n chain None e below passes =
+named_on : (order : ℕ) (f : DataFrame) (test : ℕ → Bool) (n chain : ℕ) (o : Option ℕ) → find test (range_with_len 0 n) ≡ o → chain < n → test chain ≡ true → list_any (has_name f.name) (release_on order f o) ≡ true
+named_on order f test n chain (Some c) e below passes = or_left (has_name f.name (record { place = order; name = f.name; chain = record { 0 = c } })) false (name_itself f.name order c)
+named_on order f test n chain None e below passes =
     absurd (both_ways (list_all (λ c. not (test c)) (range_with_len 0 n)) (not_all_numbers (λ c. not (test c)) n chain below (not_from_true (test chain) passes)) (unfound_fail test (range_with_len 0 n) e))
 
 -- the batch of an arrival has a release of each packet that it proves
@@ -47,9 +47,9 @@ taken_more xs n x at = take_more xs n x (slice_get_within xs n x at) ∙ ap (λ 
 pub proved_released : ProvedAreReleased
 unfolding released candidates
 proved_released cfg xs m n kept a packet chain before at is there below proof =
-    let front : List Arrival = take n xs in
+    let prefix : List Arrival = take n xs in
     let q : Release → Bool = has_name packet.frame.name in
-    let named : list_any q (batch cfg front a) ≡ true = named_in_batch cfg front a kept m packet chain (taken_at xs m n before ∙ at) is below proof in
-    let all : list_any q (each_after (batch cfg) [] (front ++ a ∷ [])) ≡ true =
-    ap (list_any q) (each_after_more (batch cfg) front a) ∙ list_any-append q (each_after (batch cfg) [] front) (batch cfg front a) ∙ or_right (list_any q (each_after (batch cfg) [] front)) (list_any q (batch cfg front a)) named in
-    ap (λ (ys : List Arrival). list_any q (released cfg ys)) (taken_more xs n a there) ∙ first_named packet.frame.name [] (candidates cfg (front ++ a ∷ [])) refl all
+    let named : list_any q (batch cfg prefix a) ≡ true = named_in_batch cfg prefix a kept m packet chain (taken_at xs m n before ∙ at) is below proof in
+    let all : list_any q (each_after (batch cfg) [] (prefix ++ a ∷ [])) ≡ true =
+    ap (list_any q) (each_after_more (batch cfg) prefix a) ∙ list_any-append q (each_after (batch cfg) [] prefix) (batch cfg prefix a) ∙ or_right (list_any q (each_after (batch cfg) [] prefix)) (list_any q (batch cfg prefix a)) named in
+    ap (λ (ys : List Arrival). list_any q (released cfg ys)) (taken_more xs n a there) ∙ first_named packet.frame.name [] (candidates cfg (prefix ++ a ∷ [])) refl all

@@ -33,7 +33,7 @@ use Rattle.tesla_receiver.proofs.Batches.{TipsOf}
 use Rattle.tesla_receiver.proofs.HeldAfter.{passed_same}
 use Rattle.tesla_receiver.proofs.KeptState.{tips_kept}
 use Rattle.tesla_receiver.proofs.Legal.{arrivals_same, given_take}
-use Rattle.tesla_receiver.proofs.Once.{place_once, next_out, untaken_stays, payload_next}
+use Rattle.tesla_receiver.proofs.Once.{order_once, next_out, untaken_stays, payload_next}
 use Rattle.tesla_receiver.proofs.Standing.{entered_legal, ended_same}
 
 -- ---- the answer
@@ -61,54 +61,54 @@ reply_same s h st =
 
 -- ---- the packets that are held after a take
 
-untouched : (cfg : Config) (tips : List Tip) (place : ℕ) (item : Holding) (gone : Bool) → (item.order == place) ≡ false → cond gone [] (item ∷ []) ≡ flat_map (taken_after cfg tips place) (cond gone [] (item ∷ []))
-untouched cfg tips place item true other = refl
-untouched cfg tips place item false other = ap (λ b. cond b (cond (list_all (is_passed tips item.name.interval) (chains cfg)) [] (record item { taken = true } ∷ [])) (item ∷ []) ++ []) (sym other)
+untouched : (cfg : Config) (tips : List Tip) (order : ℕ) (item : Holding) (gone : Bool) → (item.order == order) ≡ false → cond gone [] (item ∷ []) ≡ flat_map (taken_after cfg tips order) (cond gone [] (item ∷ []))
+untouched cfg tips order item true other = refl
+untouched cfg tips order item false other = ap (λ b. cond b (cond (list_all (is_passed tips item.name.interval) (chains cfg)) [] (record item { taken = true } ∷ [])) (item ∷ []) ++ []) (sym other)
 
 -- a packet, by whether it was taken
 abbrev at_taken : Config → List Arrival → ℕ → ℕ → Packet → Bool → List Holding
-at_taken cfg xs given place packet taken =
-    cond (is_settled cfg xs place packet && not (list_any (is_at place) (released cfg xs)) || taken && list_all (has_passed cfg xs packet.frame.name.interval) (chains cfg)) [] (record (holding_of cfg xs given place packet) { taken = taken } ∷ [])
+at_taken cfg xs given order packet taken =
+    cond (is_settled cfg xs order packet && not (list_any (is_at order) (released cfg xs)) || taken && list_all (has_passed cfg xs packet.frame.name.interval) (chains cfg)) [] (record (holding_of cfg xs given order packet) { taken = taken } ∷ [])
 
 released_gone : (settled out passed : Bool) → out ≡ true → (settled && not out || true && passed) ≡ passed
 released_gone settled true passed e = ap (λ b. b || passed) (and_right settled false refl)
 released_gone settled false passed e = absurd (cc)
 
 module _ (cfg : Config) (xs : List Arrival) (given : ℕ) (tips : List Tip) (newer : TipsOf cfg xs tips) (r : Release) (next : slice_get (released cfg xs) given ≡ Some r) where
-  taken_now : (place : ℕ) → list_any (is_at place) (take (given + 1) (released cfg xs)) ≡ (list_any (is_at place) (take given (released cfg xs)) || r.place == place)
-  taken_now place =
-      list_any_more (is_at place) (released cfg xs) given r (slice_get_within (released cfg xs) given r next)
-      ∙ ap (λ (x : Release). list_any (is_at place) (take given (released cfg xs)) || x.place == place) (get_or_from_slice_get (released cfg xs) given r r next)
+  taken_now : (order : ℕ) → list_any (is_at order) (take (given + 1) (released cfg xs)) ≡ (list_any (is_at order) (take given (released cfg xs)) || r.place == order)
+  taken_now order =
+      list_any_more (is_at order) (released cfg xs) given r (slice_get_within (released cfg xs) given r next)
+      ∙ ap (λ (x : Release). list_any (is_at order) (take given (released cfg xs)) || x.place == order) (get_or_from_slice_get (released cfg xs) given r r next)
 
-  other_after : (place : ℕ) (packet : Packet) → (place ≡ r.place → ⊥) → held_at cfg xs (given + 1) place (Some packet) ≡ flat_map (taken_after cfg tips r.place) (held_at cfg xs given place (Some packet))
-  other_after place packet other =
-      let same : list_any (is_at place) (take (given + 1) (released cfg xs)) ≡ list_any (is_at place) (take given (released cfg xs)) =
-      taken_now place ∙ ap (λ b. list_any (is_at place) (take given (released cfg xs)) || b) (ne_eqb r.place place (λ e. other (sym e))) ∙ or-false (list_any (is_at place) (take given (released cfg xs))) in
-      ap (at_taken cfg xs given place packet) same
-      ∙ untouched cfg tips r.place (holding_of cfg xs given place packet) (is_gone cfg xs given place packet) (ne_eqb place r.place other)
+  other_after : (order : ℕ) (packet : Packet) → (order ≡ r.place → ⊥) → held_at cfg xs (given + 1) order (Some packet) ≡ flat_map (taken_after cfg tips r.place) (held_at cfg xs given order (Some packet))
+  other_after order packet other =
+      let same : list_any (is_at order) (take (given + 1) (released cfg xs)) ≡ list_any (is_at order) (take given (released cfg xs)) =
+      taken_now order ∙ ap (λ b. list_any (is_at order) (take given (released cfg xs)) || b) (ne_eqb r.place order (λ e. other (sym e))) ∙ or-false (list_any (is_at order) (take given (released cfg xs))) in
+      ap (at_taken cfg xs given order packet) same
+      ∙ untouched cfg tips r.place (holding_of cfg xs given order packet) (is_gone cfg xs given order packet) (ne_eqb order r.place other)
 
   next_after : (packet : Packet) → held_at cfg xs (given + 1) r.place (Some packet) ≡ flat_map (taken_after cfg tips r.place) (held_at cfg xs given r.place (Some packet))
   next_after packet =
-      let place : ℕ = r.place in
-      let item : Holding = holding_of cfg xs given place packet in
+      let order : ℕ = r.place in
+      let item : Holding = holding_of cfg xs given order packet in
       let out = next_out cfg xs given r next in
-      let stays = untaken_stays cfg xs given place packet out (place_once cfg xs given r next) in
-      let now : list_any (is_at place) (take (given + 1) (released cfg xs)) ≡ true = taken_now place ∙ or_right (list_any (is_at place) (take given (released cfg xs))) (place == place) (eq-eqb place place refl) in
-      ap (at_taken cfg xs given place packet) now
+      let stays = untaken_stays cfg xs given order packet out (order_once cfg xs given r next) in
+      let now : list_any (is_at order) (take (given + 1) (released cfg xs)) ≡ true = taken_now order ∙ or_right (list_any (is_at order) (take given (released cfg xs))) (order == order) (eq-eqb order order refl) in
+      ap (at_taken cfg xs given order packet) now
       ∙ ap (λ b. cond b [] (record item { taken = true } ∷ []))
-      (released_gone (is_settled cfg xs place packet) (list_any (is_at place) (released cfg xs)) (list_all (has_passed cfg xs packet.frame.name.interval) (chains cfg)) out
+      (released_gone (is_settled cfg xs order packet) (list_any (is_at order) (released cfg xs)) (list_all (has_passed cfg xs packet.frame.name.interval) (chains cfg)) out
       ∙ sym (passed_same cfg xs tips packet.frame.name.interval newer))
-      ∙ ap (λ b. cond b (cond (list_all (is_passed tips item.name.interval) (chains cfg)) [] (record item { taken = true } ∷ [])) (item ∷ [])) (sym (eq-eqb place place refl))
-      ∙ sym (append-nil (taken_after cfg tips place item))
-      ∙ ap (λ b. flat_map (taken_after cfg tips place) (cond b [] (item ∷ []))) (sym stays)
+      ∙ ap (λ b. cond b (cond (list_all (is_passed tips item.name.interval) (chains cfg)) [] (record item { taken = true } ∷ [])) (item ∷ [])) (sym (eq-eqb order order refl))
+      ∙ sym (append-nil (taken_after cfg tips order item))
+      ∙ ap (λ b. flat_map (taken_after cfg tips order) (cond b [] (item ∷ []))) (sym stays)
 
-  one_taken : (place : ℕ) (o : Option Packet) → held_at cfg xs (given + 1) place o ≡ flat_map (taken_after cfg tips r.place) (held_at cfg xs given place o)
-  one_taken place None = refl
-  one_taken place (Some packet) =
+  one_taken : (order : ℕ) (o : Option Packet) → held_at cfg xs (given + 1) order o ≡ flat_map (taken_after cfg tips r.place) (held_at cfg xs given order o)
+  one_taken order None = refl
+  one_taken order (Some packet) =
       ⊎_elim
       (λ e. subst (λ (p : ℕ). held_at cfg xs (given + 1) p (Some packet) ≡ flat_map (taken_after cfg tips r.place) (held_at cfg xs given p (Some packet))) (sym e) (next_after packet))
-      (λ other. other_after place packet other)
-      (cases_eq place r.place)
+      (λ other. other_after order packet other)
+      (cases_eq order r.place)
 
   holdings_taken : flat_map (taken_after cfg tips r.place) (holdings cfg xs given) ≡ holdings cfg xs (given + 1)
   unfolding holdings

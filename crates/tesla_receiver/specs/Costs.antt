@@ -31,9 +31,9 @@ is_reached cfg arrivals new packet chain =
 
 -- on how many chains new keys reach a packet, if it isn't settled
 abbrev pub reached_on : Config → List Arrival → List KeyRow → ℕ → Option Packet → ℕ
-reached_on cfg arrivals new place None = 0
-reached_on cfg arrivals new place (Some packet) =
-    if is_settled cfg arrivals place packet then 0 else count_by (is_reached cfg arrivals new packet) (chains cfg)
+reached_on cfg arrivals new order None = 0
+reached_on cfg arrivals new order (Some packet) =
+    if is_settled cfg arrivals order packet then 0 else count_by (is_reached cfg arrivals new packet) (chains cfg)
 
 -- how many pairs there are of a kept packet that isn't settled and a chain on which a new key of the frame reaches it
 abbrev pub pairs : Config → List Arrival → Frame → ℕ

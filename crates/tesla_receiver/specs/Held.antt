@@ -20,14 +20,14 @@ is_past cfg arrivals packet chain = not (has_chain packet.chains chain) || has_p
 
 -- the packet was proved, or no chain can prove it any more
 abbrev pub is_settled : Config → List Arrival → ℕ → Packet → Bool
-is_settled cfg arrivals place packet =
-    list_any (is_at place) (candidates cfg arrivals) || list_all (is_past cfg arrivals packet) (chains cfg)
+is_settled cfg arrivals order packet =
+    list_any (is_at order) (candidates cfg arrivals) || list_all (is_past cfg arrivals packet) (chains cfg)
 
 -- the packet is settled and isn't released, or it was given and every chain has passed it
 abbrev pub is_gone : Config → List Arrival → ℕ → ℕ → Packet → Bool
-is_gone cfg arrivals given place packet =
-    is_settled cfg arrivals place packet && not (list_any (is_at place) (released cfg arrivals))
-    || list_any (is_at place) (take given (released cfg arrivals))
+is_gone cfg arrivals given order packet =
+    is_settled cfg arrivals order packet && not (list_any (is_at order) (released cfg arrivals))
+    || list_any (is_at order) (take given (released cfg arrivals))
     && list_all (has_passed cfg arrivals packet.frame.name.interval) (chains cfg)
 
 -- any interval, or the one that is told
@@ -36,15 +36,15 @@ is_asked None interval = true
 is_asked (Some asked) interval = interval == asked
 
 -- the packet is of the interval, if one is told, and isn't gone
-abbrev pub has_place : Config → List Arrival → ℕ → Option ℕ → ℕ → Option Packet → Bool
-has_place cfg arrivals given asked place None = false
-has_place cfg arrivals given asked place (Some packet) =
-    is_asked asked packet.frame.name.interval && not (is_gone cfg arrivals given place packet)
+abbrev pub has_slot : Config → List Arrival → ℕ → Option ℕ → ℕ → Option Packet → Bool
+has_slot cfg arrivals given asked order None = false
+has_slot cfg arrivals given asked order (Some packet) =
+    is_asked asked packet.frame.name.interval && not (is_gone cfg arrivals given order packet)
 
 -- how many kept packets aren't gone: of one interval, or of all
 unfoldable pub held_of : Config → List Arrival → ℕ → Option ℕ → ℕ
 held_of cfg arrivals given asked =
-    count_by (λ (p : ℕ × Arrival). has_place cfg arrivals given asked p.0 (packet_of p.1)) (enumerate_from 0 arrivals)
+    count_by (λ (p : ℕ × Arrival). has_slot cfg arrivals given asked p.0 (packet_of p.1)) (enumerate_from 0 arrivals)
 
 -- no more packets are held than the capacity, which is at most 65,536
 pub record HeldFits (config : Config) (arrivals : List Arrival) (given : ℕ) : Type 0 where

@@ -65,14 +65,14 @@ proves cfg before new packet chain =
     && list_any (is_proof cfg packet.frame chain) new
 
 abbrev pub release_on : ℕ → DataFrame → Option ℕ → List Release
-release_on place f None = []
-release_on place f (Some chain) = record { place = place; name = f.name; chain = record { 0 = chain } } ∷ []
+release_on order f None = []
+release_on order f (Some chain) = record { place = order; name = f.name; chain = record { 0 = chain } } ∷ []
 
 -- the release of a packet by new keys, told the least chain that proves it
 abbrev pub release_of : Config → List Arrival → List KeyRow → ℕ → Option Packet → List Release
-release_of cfg before new place None = []
-release_of cfg before new place (Some packet) =
-    release_on place packet.frame (find (proves cfg before new packet) (chains cfg))
+release_of cfg before new order None = []
+release_of cfg before new order (Some packet) =
+    release_on order packet.frame (find (proves cfg before new packet) (chains cfg))
 
 -- the packets before that these new keys prove, in order of arrival
 abbrev pub proved_by : Config → List Arrival → List KeyRow → List Release

@@ -18,20 +18,20 @@ use Rattle.tesla_walks.specs.Holding.{Holding}
 use Rattle.tesla_state.specs.State.{State}
 
 abbrev pub holding_of : Config → List Arrival → ℕ → ℕ → Packet → Holding
-holding_of cfg arrivals given place packet = record {
-  order = place;
+holding_of cfg arrivals given order packet = record {
+  order = order;
   name = packet.frame.name;
   chains = packet.chains;
   payload = packet.frame.payload;
   tags = map tag_in packet.frame.rows;
-  released = list_any (is_at place) (released cfg arrivals);
-  taken = list_any (is_at place) (take given (released cfg arrivals));
+  released = list_any (is_at order) (released cfg arrivals);
+  taken = list_any (is_at order) (take given (released cfg arrivals));
 }
 
 abbrev pub held_at : Config → List Arrival → ℕ → ℕ → Option Packet → List Holding
-held_at cfg arrivals given place None = []
-held_at cfg arrivals given place (Some packet) =
-    if is_gone cfg arrivals given place packet then [] else holding_of cfg arrivals given place packet ∷ []
+held_at cfg arrivals given order None = []
+held_at cfg arrivals given order (Some packet) =
+    if is_gone cfg arrivals given order packet then [] else holding_of cfg arrivals given order packet ∷ []
 
 -- the kept packets that aren't gone, in order of arrival, when so many packets were given
 unfoldable pub holdings : Config → List Arrival → ℕ → List Holding

@@ -23,7 +23,7 @@ pub fn events()
     ensures one { (cfg : Config) (h : List Entry) (es : List Event) (e : Event) →
         after_events cfg h (es ++ e ∷ []) ≡ after_events cfg h es ++ entry_of cfg (after_events cfg h es) e ∷ [] }
     // What was before the events stays.
-    ensures front { (cfg : Config) (h : List Entry) (es : List Event) → (more : List Entry) × (after_events cfg h es ≡ h ++ more) }
+    ensures prefix { (cfg : Config) (h : List Entry) (es : List Event) → (more : List Entry) × (after_events cfg h es ≡ h ++ more) }
     // Events lead from a legal history to a legal one.
     ensures legal { (cfg : Config) (h : List Entry) (es : List Event) → IsLegal cfg h → IsLegal cfg (after_events cfg h es) }
 {}
@@ -34,13 +34,13 @@ pub fn finished_takes()
     ensures { (cfg : Config) (h : List Entry) → cfg.ingests ≡ 1 → Finishes cfg h }
 {}
 
-/// What was told stays told: of the first arrivals or entries it is a front of what all of them tell.
+/// What was told stays told: of the first arrivals or entries it is a prefix of what all of them tell.
 pub fn prefixes()
     // What is released of the first arrivals comes first in what is released of all.
     ensures released { (cfg : Config) (xs ys : List Arrival) → (rest : List Release) × (released cfg (xs ++ ys) ≡ released cfg xs ++ rest) }
     // The newest index of a chain only rises.
     ensures newest { (cfg : Config) (xs ys : List Arrival) (chain : ℕ) → newest cfg xs chain ≤ newest cfg (xs ++ ys) chain }
-    // A front of a legal history is legal.
+    // A prefix of a legal history is legal.
     ensures legal { (cfg : Config) (h more : List Entry) → IsLegal cfg (h ++ more) → IsLegal cfg h }
     // The number of packets that were given only rises.
     ensures given { (h more : List Entry) → given_in h ≤ given_in (h ++ more) }

@@ -9,9 +9,9 @@ use Rattle.tesla_recorder.specs.Recorded.{RecordedState, RecordedStands, Tail, l
 -- they are the last ones of those kept and the new one
 last_more : (keep : ℕ) (history : List Entry) (entry : Entry) → last_entries keep (last_entries keep history ++ entry ∷ []) ≡ last_entries keep (history ++ entry ∷ [])
 last_more keep history entry =
-    let front : last_entries keep history ++ entry ∷ [] ≡ drop (length history - keep) (history ++ entry ∷ []) =
+    let prefix : last_entries keep history ++ entry ∷ [] ≡ drop (length history - keep) (history ++ entry ∷ []) =
     sym (drop-append-le (length history - keep) history (entry ∷ []) (omega arith)) in
-    ap (λ (es : List Entry). last_entries keep es) front
+    ap (λ (es : List Entry). last_entries keep es) prefix
     ∙ drop-drop (length (drop (length history - keep) (history ++ entry ∷ [])) - keep) (length history - keep) (history ++ entry ∷ [])
     ∙ ap (λ (n : ℕ). drop n (history ++ entry ∷ [])) (omega (arith, length-drop (length history - keep) (history ++ entry ∷ []), length-append history (entry ∷ [])))
 

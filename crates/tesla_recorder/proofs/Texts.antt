@@ -32,7 +32,7 @@ texts_left (suc count) (size ∷ sizes) bytes =
 pub texts_more : (sizes bytes text : List ℕ) → sum sizes ≡ length bytes → texts_in (sizes ++ length text ∷ []) (bytes ++ text) ≡ texts_in sizes bytes ++ text ∷ []
 texts_more [] bytes text whole =
     let none : bytes ≡ [] = drop_all 0 bytes (omega (arith, whole)) in
-    ap (λ front. take (length text) (front ++ text) ∷ []) none
+    ap (λ prefix. take (length text) (prefix ++ text) ∷ []) none
     ∙ ap (λ t. t ∷ []) (take_all (length text) text (omega arith))
 texts_more (size ∷ sizes) bytes text whole =
     let within : size ≤ length bytes = omega (arith, whole, sum_by-cons (λ x. x) size sizes) in
@@ -56,15 +56,15 @@ kept_whole : (room : ℕ) (items : List ℕ) → length items ≤ room → keep_
 kept_whole room items few = let none : length items - room ≡ 0 = omega (arith, few) in ap (λ n. drop n items) none
 
 -- three parts were put behind what is left, and there was room
-pub three_more : (before first second third : Buffer ℕ) (front body back : List ℕ) → length before.items + (length front + length body + length back) ≤ before.capacity → first ≡ buffer (keep_last before.capacity (before.items ++ front)) before.capacity → second ≡ buffer (keep_last first.capacity (first.items ++ body)) first.capacity → third ≡ buffer (keep_last second.capacity (second.items ++ back)) second.capacity → third ≡ buffer (before.items ++ (front ++ body ++ back)) before.capacity
-three_more before first second third front body back few first_is second_is third_is =
-    let a : first ≡ buffer (before.items ++ front) before.capacity = first_is ∙ ap (λ xs. buffer xs before.capacity) (kept_whole before.capacity (before.items ++ front) (omega (arith, few, length-append before.items front))) in
-    let b : second ≡ buffer ((before.items ++ front) ++ body) before.capacity =
+pub three_more : (before first second third : Buffer ℕ) (prefix body back : List ℕ) → length before.items + (length prefix + length body + length back) ≤ before.capacity → first ≡ buffer (keep_last before.capacity (before.items ++ prefix)) before.capacity → second ≡ buffer (keep_last first.capacity (first.items ++ body)) first.capacity → third ≡ buffer (keep_last second.capacity (second.items ++ back)) second.capacity → third ≡ buffer (before.items ++ (prefix ++ body ++ back)) before.capacity
+three_more before first second third prefix body back few first_is second_is third_is =
+    let a : first ≡ buffer (before.items ++ prefix) before.capacity = first_is ∙ ap (λ xs. buffer xs before.capacity) (kept_whole before.capacity (before.items ++ prefix) (omega (arith, few, length-append before.items prefix))) in
+    let b : second ≡ buffer ((before.items ++ prefix) ++ body) before.capacity =
     second_is ∙ ap (λ f. buffer (keep_last f.capacity (f.items ++ body)) f.capacity) a
-    ∙ ap (λ xs. buffer xs before.capacity) (kept_whole before.capacity ((before.items ++ front) ++ body) (omega (arith, few, length-append before.items front, length-append (before.items ++ front) body))) in
+    ∙ ap (λ xs. buffer xs before.capacity) (kept_whole before.capacity ((before.items ++ prefix) ++ body) (omega (arith, few, length-append before.items prefix, length-append (before.items ++ prefix) body))) in
     third_is ∙ ap (λ f. buffer (keep_last f.capacity (f.items ++ back)) f.capacity) b
-    ∙ ap (λ xs. buffer xs before.capacity) (kept_whole before.capacity (((before.items ++ front) ++ body) ++ back) (omega (arith, few, length-append before.items front, length-append (before.items ++ front) body, length-append ((before.items ++ front) ++ body) back)))
-    ∙ ap (λ xs. buffer xs before.capacity) (ap (λ xs. xs ++ back) (append_assoc before.items front body) ∙ append_assoc before.items (front ++ body) back)
+    ∙ ap (λ xs. buffer xs before.capacity) (kept_whole before.capacity (((before.items ++ prefix) ++ body) ++ back) (omega (arith, few, length-append before.items prefix, length-append (before.items ++ prefix) body, length-append ((before.items ++ prefix) ++ body) back)))
+    ∙ ap (λ xs. buffer xs before.capacity) (ap (λ xs. xs ++ back) (append_assoc before.items prefix body) ∙ append_assoc before.items (prefix ++ body) back)
 
 -- what is held holds one text more
 pub holds_more : (bytes lengths left sizes now : Buffer ℕ) (text : List ℕ) → HoldsTexts bytes lengths → length text ≤ 2070 → sizes ≡ buffer (drop (length lengths.items + 1 - lengths.capacity) lengths.items ++ length text ∷ []) lengths.capacity → left ≡ buffer (drop (sum (take (length lengths.items + 1 - lengths.capacity) lengths.items)) bytes.items) bytes.capacity → now ≡ buffer (left.items ++ text) left.capacity → HoldsTexts now sizes
@@ -103,14 +103,14 @@ abbrev tail_in : Buffer ℕ → Buffer ℕ → Tail
 tail_in bytes lengths = record { keep = lengths.capacity; texts = texts_in lengths.items bytes.items }
 
 -- a text in three parts was put behind what is left
-pub puts_more : (bytes lengths left sizes first second third : Buffer ℕ) (front body back : List ℕ) (size : ℕ) → HoldsTexts bytes lengths → length front + length body + length back ≤ 2070 → size ≡ length front + length body + length back → sizes ≡ buffer (drop (length lengths.items + 1 - lengths.capacity) lengths.items ++ size ∷ []) lengths.capacity → left ≡ buffer (drop (sum (take (length lengths.items + 1 - lengths.capacity) lengths.items)) bytes.items) bytes.capacity → first ≡ buffer (keep_last left.capacity (left.items ++ front)) left.capacity → second ≡ buffer (keep_last first.capacity (first.items ++ body)) first.capacity → third ≡ buffer (keep_last second.capacity (second.items ++ back)) second.capacity → HoldsTexts third sizes × (tail_in third sizes ≡ with_text (tail_in bytes lengths) (front ++ body ++ back))
-puts_more bytes lengths left sizes first second third front body back size held few size_is sizes_is left_is first_is second_is third_is =
-    let text : List ℕ = front ++ body ++ back in
+pub puts_more : (bytes lengths left sizes first second third : Buffer ℕ) (prefix body back : List ℕ) (size : ℕ) → HoldsTexts bytes lengths → length prefix + length body + length back ≤ 2070 → size ≡ length prefix + length body + length back → sizes ≡ buffer (drop (length lengths.items + 1 - lengths.capacity) lengths.items ++ size ∷ []) lengths.capacity → left ≡ buffer (drop (sum (take (length lengths.items + 1 - lengths.capacity) lengths.items)) bytes.items) bytes.capacity → first ≡ buffer (keep_last left.capacity (left.items ++ prefix)) left.capacity → second ≡ buffer (keep_last first.capacity (first.items ++ body)) first.capacity → third ≡ buffer (keep_last second.capacity (second.items ++ back)) second.capacity → HoldsTexts third sizes × (tail_in third sizes ≡ with_text (tail_in bytes lengths) (prefix ++ body ++ back))
+puts_more bytes lengths left sizes first second third prefix body back size held few size_is sizes_is left_is first_is second_is third_is =
+    let text : List ℕ = prefix ++ body ++ back in
     let gone = length lengths.items + 1 - lengths.capacity in
-    let whole : size ≡ length text = omega (arith, size_is, length-append (front ++ body) back, length-append front body) in
+    let whole : size ≡ length text = omega (arith, size_is, length-append (prefix ++ body) back, length-append prefix body) in
     let short : length text ≤ 2070 = omega (arith, few, size_is, whole) in
     let sized : sizes ≡ buffer (drop gone lengths.items ++ length text ∷ []) lengths.capacity = sizes_is ∙ ap (λ n. buffer (drop gone lengths.items ++ n ∷ []) lengths.capacity) whole in
-    let now : third ≡ buffer (left.items ++ text) left.capacity = three_more left first second third front body back (omega (arith, has_room bytes lengths left (length text) held short left_is, size_is, whole)) first_is second_is third_is in
+    let now : third ≡ buffer (left.items ++ text) left.capacity = three_more left first second third prefix body back (omega (arith, has_room bytes lengths left (length text) held short left_is, size_is, whole)) first_is second_is third_is in
     let spelled : third ≡ buffer (drop (sum (take gone lengths.items)) bytes.items ++ text) bytes.capacity = now ∙ ap (λ b. buffer (b.items ++ text) b.capacity) left_is in (
       holds_more bytes lengths left sizes third text held short sized left_is now,
       ap (λ b. tail_in b sizes) spelled ∙ ap (λ s. tail_in (buffer (drop (sum (take gone lengths.items)) bytes.items ++ text) bytes.capacity) s) sized

@@ -14,7 +14,7 @@ use std::alloc::Global;
 use std::marker::Model;
 use tesla_base::{MOST_PAYLOAD, NoMemory};
 use tesla_receiver::{Take, Verdict};
-use tesla_trace::{arrived_front, given_front, verdict_bytes};
+use tesla_trace::{arrival_header, given_header, verdict_bytes};
 
 /// How many bytes an entry has at most: those of an arrival of 2,048 bytes, with the longest verdict.
 const LONGEST: usize = 2_070;
@@ -70,9 +70,9 @@ impl LastEntries {
         requires { length bytes.now ≤ 2048 }
         ensures { self.new ≡ with_text self.old (entry_text (Arrived (record { ingest = ingest; reading = reading; bytes = bytes.now; verdict = verdict }))) }
     {
-        let front = arrived_front(ingest, reading, bytes.len() as u16);
-        let told = verdict_bytes(verdict);
-        self.put(&front, bytes, &told.bytes[..told.length]);
+        let header = arrival_header(ingest, reading, bytes.len() as u16);
+        let returned = verdict_bytes(verdict);
+        self.put(&header, bytes, &returned.bytes[..returned.length]);
     }
 
     /// Puts a take with its answer behind them. The oldest is let go where there is no room.
@@ -85,7 +85,7 @@ impl LastEntries {
             Take::Over => self.put(&[2, releaser, 1], &[], &[]),
             Take::Given(head) => {
                 let given = &payload[..usize::from(head.length)];
-                self.put(&given_front(releaser, &head), given, &[]);
+                self.put(&given_header(releaser, &head), given, &[]);
             }
         }
     }
@@ -98,13 +98,13 @@ impl LastEntries {
     }
 
     /// Puts a text behind them, in three parts. The oldest is let go where there is no room.
-    fn put(&mut self, front: &[u8], body: &[u8], back: &[u8])
-        requires { length front.now + length body.now + length back.now ≤ 2070 }
-        ensures { self.new ≡ with_text self.old (front.now ++ body.now ++ back.now) }
+    fn put(&mut self, header: &[u8], body: &[u8], back: &[u8])
+        requires { length header.now + length body.now + length back.now ≤ 2070 }
+        ensures { self.new ≡ with_text self.old (header.now ++ body.now ++ back.now) }
     {
-        let length = front.len() + body.len() + back.len();
+        let length = header.len() + body.len() + back.len();
         make_room(&mut self.lengths, &mut self.bytes, length as u16);
-        self.bytes.extend_from_slice(front);
+        self.bytes.extend_from_slice(header);
         self.bytes.extend_from_slice(body);
         self.bytes.extend_from_slice(back);
     }

@@ -4,6 +4,6 @@ pub mod StaysAhead
 pub mod StepGives
 pub mod Moved
 pub mod OutlineStep
-pub mod FrontAgain
+pub mod ParsedAgain
 pub mod Taken
 pub mod OutlineIsFile

@@ -9,7 +9,7 @@ ghost use Rattle.tesla_records.specs.Judged.{Judges, JudgesHead, BeginsWhole};
 pub enum Judged<K> {
     /// Nothing yet: only more bytes tell.
     Awaits,
-    /// A whole record of so many bytes stands at their front.
+    /// A whole record of so many bytes stands at their start.
     Whole(usize),
     /// No record begins so.
     Bad(K),
@@ -60,14 +60,14 @@ pub trait Format {
     fn judge_head(bytes: &[u8]) -> HeadJudged<Self::Head>
         ensures { JudgesHead grammar head_of result bytes.now };
 
-    /// What bytes tell of the record at their front.
+    /// What bytes tell of the record at their start.
     fn judge(bytes: &[u8]) -> Judged<Self::Kind>
         ensures { Judges grammar kind_of result bytes.now };
 
     /// Puts the record of these bytes into the room.
     fn put(bytes: &[u8], room: &mut Self::Room) -> Self::Taken
         requires { BeginsWhole grammar (length bytes.now) bytes.now }
-        ensures shown { (it : grammar.Record) → grammar.front bytes.now ≡ Whole it (length bytes.now) → shown result room.new ≡ it }
+        ensures shown { (it : grammar.Record) → grammar.parse bytes.now ≡ Whole it (length bytes.now) → shown result room.new ≡ it }
         ensures fits { fits result room.old room.new };
 
     ghost is: { IsGrammar grammar };

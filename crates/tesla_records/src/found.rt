@@ -1,4 +1,4 @@
-//! What stands at the front of the bytes of a file that were read ahead.
+//! What stands at the start of the bytes of a file that were read ahead.
 
 ghost use Rattle.tesla_records.specs.Found.{Tells, TellsHead};
 
@@ -29,7 +29,7 @@ pub enum HeadFound<H> {
     Failed,
 }
 
-/// What is known of the head from the bytes at the front of a file. None: they may be a part of it.
+/// What is known of the head from the bytes at the start of a file. None: they may be a part of it.
 pub fn head_found<F: Format>(bytes: &[u8]) -> Option<HeadFound<F::Head>>
     ensures { TellsHead F.grammar F.head_of result bytes.now }
 {
@@ -40,7 +40,7 @@ pub fn head_found<F: Format>(bytes: &[u8]) -> Option<HeadFound<F::Head>>
     }
 }
 
-/// What is known of the record at the front of the bytes. None: there is neither a whole record nor
+/// What is known of the record at the start of the bytes. None: there is neither a whole record nor
 /// one that is refused, whatever follows.
 pub fn record_found<F: Format>(bytes: &[u8]) -> Option<Found<F::Kind>>
     ensures { Tells F.grammar F.kind_of result bytes.now }

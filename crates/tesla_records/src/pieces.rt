@@ -1,7 +1,7 @@
 //! A file of records of any format, read ahead from a source in pieces.
 
 ghost use Rattle.std.specs.Prelude.{◌≡◌, ◌<◌, ◌≤◌, ◌+◌, ◌-◌, ◌^◌, [], List, ℕ, Option, None, Some, IfSome, length, take, drop};
-ghost use Rattle.tesla_base.specs.Front.{AreBytes};
+ghost use Rattle.tesla_base.specs.Prefix.{AreBytes};
 ghost use Rattle.tesla_desk.specs.Faults.{HasCause};
 ghost use Rattle.tesla_records.specs.Grammar.{limit, Awaits, AwaitsHead};
 
@@ -85,7 +85,7 @@ impl PieceReader {
         ensures place { self.new.place ≡ 0 }
         ensures whole { HeadIsPending F.grammar F.head_of result (pending self.new) }
         ensures finds { (rest : List ℕ) → ahead self.old (S.left source.old) ≡ Some rest → FindsHead F.grammar F.head_of result (pending self.new) rest (S.left source.new) }
-        ensures cut { result ≡ HeadFound.Failed → F.grammar.head_front (pending self.new) ≡ AwaitsHead }
+        ensures cut { result ≡ HeadFound.Failed → F.grammar.parse_head (pending self.new) ≡ AwaitsHead }
         ensures cause { HasCause (S.faults source.old) (S.faults source.new) (result ≡ HeadFound.Failed) }
         ensures name { S.name source.new ≡ S.name source.old }
     {
@@ -122,7 +122,7 @@ impl PieceReader {
 
     /// Reads once where neither a whole record nor a refused one is pending. None: there are more bytes.
     fn find_end<F: Format, S: Source>(&mut self, source: &mut S) -> Option<Found<F::Kind>>
-        requires { F.grammar.front (pending self.old) ≡ Awaits }
+        requires { F.grammar.parse (pending self.old) ≡ Awaits }
         ensures place { self.new.place ≡ self.old.place }
         ensures more { result ≡ None → length (pending self.old) < length (pending self.new) }
         ensures ahead { result ≡ None → ahead self.new (S.left source.new) ≡ ahead self.old (S.left source.old) }
@@ -145,7 +145,7 @@ impl PieceReader {
 
     /// Whether the file goes on where its first 2^40 bytes were read.
     fn find_past<F: Format, S: Source>(&self, source: &mut S) -> Found<F::Kind>
-        requires awaits { F.grammar.front (pending self.now) ≡ Awaits }
+        requires awaits { F.grammar.parse (pending self.now) ≡ Awaits }
         requires full { self.now.place + length (pending self.now) ≡ limit }
         ensures whole { IsPending F.grammar result (pending self.now) }
         ensures finds { (rest : List ℕ) → ahead self.now (S.left source.old) ≡ Some rest → Finds F.grammar F.kind_of result self.now.place (pending self.now) rest (S.left source.new) }
@@ -172,7 +172,7 @@ impl PieceReader {
         ensures cause { HasCause (S.faults source.old) (S.faults source.new) (result ≡ ReadStep.Failed) }
         ensures name { S.name source.new ≡ S.name source.old }
     {
-        self.move_to_front();
+        self.move_to_start();
         let most = LIMIT - self.place;
         let end = if most < PIECE as u64 {
             most as usize
@@ -187,8 +187,8 @@ impl PieceReader {
         step
     }
 
-    /// Moves the pending bytes to the front of the piece.
-    fn move_to_front(&mut self)
+    /// Moves the pending bytes to the start of the piece.
+    fn move_to_start(&mut self)
         ensures pending { pending self.new ≡ pending self.old }
         ensures from { self.new.from ≡ 0 }
         ensures place { self.new.place ≡ self.old.place }

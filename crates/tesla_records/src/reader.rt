@@ -163,7 +163,7 @@ impl<F: Format> RecordsReader<F> {
 
     /// Takes the head that is pending.
     fn take_head(&mut self, head: F::Head)
-        requires { F.grammar.head_front (pending self.old) ≡ HeadIs (F.head_of head) }
+        requires { F.grammar.parse_head (pending self.old) ≡ HeadIs (F.head_of head) }
         ensures pending { pending self.new ≡ drop F.grammar.head_size (pending self.old) }
         ensures place { self.new.place ≡ self.old.place + F.grammar.head_size }
         ensures limits { F.grammar.IsHead (F.head_of head) }
@@ -230,7 +230,7 @@ impl<F: Format> RecordsReader<F> {
         ensures place { self.new.place ≡ self.old.place + size }
         ensures head { self.new.head ≡ self.old.head }
         ensures fits { F.fits result room.old room.new }
-        ensures took { (it : F.grammar.Record) → F.grammar.front (pending self.old) ≡ Whole it size → TakesWhole F.grammar (pending self.old) it size (F.shown result room.new) }
+        ensures took { (it : F.grammar.Record) → F.grammar.parse (pending self.old) ≡ Whole it size → TakesWhole F.grammar (pending self.old) it size (F.shown result room.new) }
     {
         let taken = F::put(&self.pieces.pending()[..size], room);
         self.pieces.advance(size);

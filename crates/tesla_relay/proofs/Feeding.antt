@@ -16,19 +16,19 @@ use Rattle.tesla_relay.specs.declared.line.Item.TheVariants.{Datagram, End}
 
 -- ---- marks
 
-kept_one : (marks : List Bool) (came : List (List ℕ)) (datagram : List ℕ) → length marks ≡ length came → kept_of (marks ++ true ∷ []) (came ++ datagram ∷ []) ≡ kept_of marks came ++ datagram ∷ []
+kept_one : (marks : List Bool) (arrived : List (List ℕ)) (datagram : List ℕ) → length marks ≡ length arrived → kept_of (marks ++ true ∷ []) (arrived ++ datagram ∷ []) ≡ kept_of marks arrived ++ datagram ∷ []
 kept_one [] [] datagram same = refl
-kept_one [] (d ∷ came) datagram same = absurd (omega (arith, same))
+kept_one [] (d ∷ arrived) datagram same = absurd (omega (arith, same))
 kept_one (m ∷ marks) [] datagram same = absurd (omega (arith, same))
-kept_one (true ∷ marks) (d ∷ came) datagram same = ap (λ rest. d ∷ rest) (kept_one marks came datagram (omega (arith, same)))
-kept_one (false ∷ marks) (d ∷ came) datagram same = kept_one marks came datagram (omega (arith, same))
+kept_one (true ∷ marks) (d ∷ arrived) datagram same = ap (λ rest. d ∷ rest) (kept_one marks arrived datagram (omega (arith, same)))
+kept_one (false ∷ marks) (d ∷ arrived) datagram same = kept_one marks arrived datagram (omega (arith, same))
 
-kept_none : (marks : List Bool) (came : List (List ℕ)) (datagram : List ℕ) → length marks ≡ length came → kept_of (marks ++ false ∷ []) (came ++ datagram ∷ []) ≡ kept_of marks came
+kept_none : (marks : List Bool) (arrived : List (List ℕ)) (datagram : List ℕ) → length marks ≡ length arrived → kept_of (marks ++ false ∷ []) (arrived ++ datagram ∷ []) ≡ kept_of marks arrived
 kept_none [] [] datagram same = refl
-kept_none [] (d ∷ came) datagram same = absurd (omega (arith, same))
+kept_none [] (d ∷ arrived) datagram same = absurd (omega (arith, same))
 kept_none (m ∷ marks) [] datagram same = absurd (omega (arith, same))
-kept_none (true ∷ marks) (d ∷ came) datagram same = ap (λ rest. d ∷ rest) (kept_none marks came datagram (omega (arith, same)))
-kept_none (false ∷ marks) (d ∷ came) datagram same = kept_none marks came datagram (omega (arith, same))
+kept_none (true ∷ marks) (d ∷ arrived) datagram same = ap (λ rest. d ∷ rest) (kept_none marks arrived datagram (omega (arith, same)))
+kept_none (false ∷ marks) (d ∷ arrived) datagram same = kept_none marks arrived datagram (omega (arith, same))
 
 dropped_one : (marks : List Bool) → dropped_in (marks ++ false ∷ []) ≡ suc (dropped_in marks)
 dropped_one [] = refl
@@ -46,12 +46,12 @@ behind_one capacity before (true ∷ marks) behind = behind_one capacity (suc be
 behind_one capacity before (false ∷ marks) behind = (behind.0, behind_one capacity before marks behind.1)
 
 -- a datagram more is dropped behind all that were kept
-behind_drop : (capacity before : ℕ) (marks : List Bool) (came : List (List ℕ)) → length marks ≡ length came → capacity ≤ before + length (kept_of marks came) → DropsBehind capacity before marks → DropsBehind capacity before (marks ++ false ∷ [])
+behind_drop : (capacity before : ℕ) (marks : List Bool) (arrived : List (List ℕ)) → length marks ≡ length arrived → capacity ≤ before + length (kept_of marks arrived) → DropsBehind capacity before marks → DropsBehind capacity before (marks ++ false ∷ [])
 behind_drop capacity before [] [] same full behind = (omega (arith, full), tt)
-behind_drop capacity before [] (d ∷ came) same full behind = absurd (omega (arith, same))
+behind_drop capacity before [] (d ∷ arrived) same full behind = absurd (omega (arith, same))
 behind_drop capacity before (m ∷ marks) [] same full behind = absurd (omega (arith, same))
-behind_drop capacity before (true ∷ marks) (d ∷ came) same full behind = behind_drop capacity (suc before) marks came (omega (arith, same)) (omega (arith, full)) behind
-behind_drop capacity before (false ∷ marks) (d ∷ came) same full behind = (behind.0, behind_drop capacity before marks came (omega (arith, same)) full behind.1)
+behind_drop capacity before (true ∷ marks) (d ∷ arrived) same full behind = behind_drop capacity (suc before) marks arrived (omega (arith, same)) (omega (arith, full)) behind
+behind_drop capacity before (false ∷ marks) (d ∷ arrived) same full behind = (behind.0, behind_drop capacity before marks arrived (omega (arith, same)) full behind.1)
 
 -- ---- items
 
@@ -72,23 +72,23 @@ is_datagram : (item : Item) (datagram : List ℕ) → text_in item ≡ datagram 
 is_datagram (Datagram size bytes) datagram is = tt
 is_datagram End datagram is = absurd (omega (arith, ap (λ (l : List (List ℕ)). length l) is))
 
-pub keeps_more : (capacity : ℕ) (came : List (List ℕ)) (items : List Item) (dropped : ℕ) (item : Item) (datagram : List ℕ) → text_in item ≡ datagram ∷ [] → Keeps capacity came items dropped → Keeps capacity (came ++ datagram ∷ []) (items ++ item ∷ []) dropped
-keeps_more capacity came items dropped item datagram is keeps = record {
+pub keeps_more : (capacity : ℕ) (arrived : List (List ℕ)) (items : List Item) (dropped : ℕ) (item : Item) (datagram : List ℕ) → text_in item ≡ datagram ∷ [] → Keeps capacity arrived items dropped → Keeps capacity (arrived ++ datagram ∷ []) (items ++ item ∷ []) dropped
+keeps_more capacity arrived items dropped item datagram is keeps = record {
   marks = keeps.marks ++ true ∷ [];
-  each = length-append keeps.marks (true ∷ []) ∙ ap (λ n. n + 1) keeps.each ∙ sym (length-append came (datagram ∷ []));
+  each = length-append keeps.marks (true ∷ []) ∙ ap (λ n. n + 1) keeps.each ∙ sym (length-append arrived (datagram ∷ []));
   full = behind_one capacity 0 keeps.marks keeps.full;
-  texts_are = texts_more items item datagram is ∙ ap (λ front. front ++ datagram ∷ []) keeps.texts_are ∙ sym (kept_one keeps.marks came datagram keeps.each);
+  texts_are = texts_more items item datagram is ∙ ap (λ prefix. prefix ++ datagram ∷ []) keeps.texts_are ∙ sym (kept_one keeps.marks arrived datagram keeps.each);
   whole = all_more items item keeps.whole (is_datagram item datagram is);
   dropped_is = keeps.dropped_is ∙ ap counted (sym (dropped_none keeps.marks));
 }
 
-pub keeps_drop : (capacity : ℕ) (came : List (List ℕ)) (items : List Item) (dropped more : ℕ) (datagram : List ℕ) → capacity ≤ length items → more ≡ min (dropped + 1) (2 ^ 64 - 1) → Keeps capacity came items dropped → Keeps capacity (came ++ datagram ∷ []) items more
-keeps_drop capacity came items dropped more datagram full is keeps =
-    let stored : length items ≡ length (kept_of keeps.marks came) = sym (texts_count items keeps.whole) ∙ ap length keeps.texts_are in record {
+pub keeps_drop : (capacity : ℕ) (arrived : List (List ℕ)) (items : List Item) (dropped more : ℕ) (datagram : List ℕ) → capacity ≤ length items → more ≡ min (dropped + 1) (2 ^ 64 - 1) → Keeps capacity arrived items dropped → Keeps capacity (arrived ++ datagram ∷ []) items more
+keeps_drop capacity arrived items dropped more datagram full is keeps =
+    let stored : length items ≡ length (kept_of keeps.marks arrived) = sym (texts_count items keeps.whole) ∙ ap length keeps.texts_are in record {
       marks = keeps.marks ++ false ∷ [];
-      each = length-append keeps.marks (false ∷ []) ∙ ap (λ n. n + 1) keeps.each ∙ sym (length-append came (datagram ∷ []));
-      full = behind_drop capacity 0 keeps.marks came keeps.each (omega (arith, full, stored)) keeps.full;
-      texts_are = keeps.texts_are ∙ sym (kept_none keeps.marks came datagram keeps.each);
+      each = length-append keeps.marks (false ∷ []) ∙ ap (λ n. n + 1) keeps.each ∙ sym (length-append arrived (datagram ∷ []));
+      full = behind_drop capacity 0 keeps.marks arrived keeps.each (omega (arith, full, stored)) keeps.full;
+      texts_are = keeps.texts_are ∙ sym (kept_none keeps.marks arrived datagram keeps.each);
       whole = keeps.whole;
       dropped_is = is ∙ omega (arith, keeps.dropped_is) ∙ ap counted (sym (dropped_one keeps.marks));
     }
@@ -96,22 +96,22 @@ keeps_drop capacity came items dropped more datagram full is keeps =
 -- ---- feeds
 
 -- a datagram more was put in
-pub fed_more : (came : List (List ℕ)) (old new : Feed) (item : Item) (datagram : List ℕ) → text_in item ≡ datagram ∷ [] → view new.pass ≡ put_log ((view old.pass).put ++ item ∷ []) → new.capacity ≡ old.capacity → new.dropped ≡ old.dropped → Fed came old → Fed (came ++ datagram ∷ []) new
-fed_more came old new item datagram is put capacity dropped fed =
+pub fed_more : (arrived : List (List ℕ)) (old new : Feed) (item : Item) (datagram : List ℕ) → text_in item ≡ datagram ∷ [] → view new.pass ≡ put_log ((view old.pass).put ++ item ∷ []) → new.capacity ≡ old.capacity → new.dropped ≡ old.dropped → Fed arrived old → Fed (arrived ++ datagram ∷ []) new
+fed_more arrived old new item datagram is put capacity dropped fed =
     let items : (view old.pass).put ≡ fed.0 = ap (λ (l : Log). l.put) fed.1 in (
       fed.0 ++ item ∷ [],
       put ∙ ap (λ (is : List Item). put_log (is ++ item ∷ [])) items,
-      subst (λ (n : ℕ). Keeps new.capacity (came ++ datagram ∷ []) (fed.0 ++ item ∷ []) n) (sym dropped)
-          (subst (λ (n : ℕ). Keeps n (came ++ datagram ∷ []) (fed.0 ++ item ∷ []) old.dropped) (sym capacity) (keeps_more old.capacity came fed.0 old.dropped item datagram is fed.2)),
+      subst (λ (n : ℕ). Keeps new.capacity (arrived ++ datagram ∷ []) (fed.0 ++ item ∷ []) n) (sym dropped)
+          (subst (λ (n : ℕ). Keeps n (arrived ++ datagram ∷ []) (fed.0 ++ item ∷ []) old.dropped) (sym capacity) (keeps_more old.capacity arrived fed.0 old.dropped item datagram is fed.2)),
     )
 
 -- a datagram more was dropped
-pub fed_drops : (came : List (List ℕ)) (old new : Feed) (datagram : List ℕ) → old.capacity ≤ length (view old.pass).put → view new.pass ≡ view old.pass → new.capacity ≡ old.capacity → new.dropped ≡ min (old.dropped + 1) (2 ^ 64 - 1) → Fed came old → Fed (came ++ datagram ∷ []) new
-fed_drops came old new datagram full same capacity dropped fed =
+pub fed_drops : (arrived : List (List ℕ)) (old new : Feed) (datagram : List ℕ) → old.capacity ≤ length (view old.pass).put → view new.pass ≡ view old.pass → new.capacity ≡ old.capacity → new.dropped ≡ min (old.dropped + 1) (2 ^ 64 - 1) → Fed arrived old → Fed (arrived ++ datagram ∷ []) new
+fed_drops arrived old new datagram full same capacity dropped fed =
     let items : length (view old.pass).put ≡ length fed.0 = ap (λ (l : Log). length l.put) fed.1 in (
       fed.0,
       same ∙ fed.1,
-      subst (λ (n : ℕ). Keeps n (came ++ datagram ∷ []) fed.0 new.dropped) (sym capacity) (keeps_drop old.capacity came fed.0 old.dropped new.dropped datagram (omega (arith, full, items)) dropped fed.2),
+      subst (λ (n : ℕ). Keeps n (arrived ++ datagram ∷ []) fed.0 new.dropped) (sym capacity) (keeps_drop old.capacity arrived fed.0 old.dropped new.dropped datagram (omega (arith, full, items)) dropped fed.2),
     )
 
 moved : {L I : Type 0} (a b : L) → b ≡ a → (f : L → I) → f b ≡ f a
@@ -140,9 +140,9 @@ feeding_same old new feeding pass line capacity taken same = record {
 }
 
 -- the end was put in
-pub fed_closed : (came : List (List ℕ)) (old new : Feed) → view new.pass ≡ put_log ((view old.pass).put ++ End ∷ []) → new.capacity ≡ old.capacity → new.dropped ≡ old.dropped → Fed came old → Closed came new
-fed_closed came old new put capacity dropped fed = (
+pub fed_closed : (arrived : List (List ℕ)) (old new : Feed) → view new.pass ≡ put_log ((view old.pass).put ++ End ∷ []) → new.capacity ≡ old.capacity → new.dropped ≡ old.dropped → Fed arrived old → Closed arrived new
+fed_closed arrived old new put capacity dropped fed = (
   fed.0,
   put ∙ ap (λ (l : Log). put_log (l.put ++ End ∷ [])) fed.1,
-  subst (λ (n : ℕ). Keeps new.capacity came fed.0 n) (sym dropped) (subst (λ (n : ℕ). Keeps n came fed.0 old.dropped) (sym capacity) fed.2),
+  subst (λ (n : ℕ). Keeps new.capacity arrived fed.0 n) (sym dropped) (subst (λ (n : ℕ). Keeps n arrived fed.0 old.dropped) (sym capacity) fed.2),
 )

@@ -19,41 +19,41 @@ pub feeds_none : (feeds : List Feed) → AreFeeding feeds → Each (FeedsOn []) 
 feeds_none [] feeding = tt
 feeds_none (feed ∷ feeds) feeding = (record { feeding = feeding.0; same = record { table = refl; capacity = refl }; fed = λ before fed. subst (λ (all : List (List ℕ)). Fed all feed) (sym (append-nil before)) fed }, feeds_none feeds feeding.1)
 
-feeds_then : (came more : List (List ℕ)) (a b c : List Feed) → Each (FeedsOn came) a b → Each (FeedsOn more) b c → Each (FeedsOn (came ++ more)) a c
-feeds_then came more [] [] [] one two = tt
-feeds_then came more [] [] (z ∷ c) one two = absurd two
-feeds_then came more [] (y ∷ b) c one two = absurd one
-feeds_then came more (x ∷ a) [] c one two = absurd one
-feeds_then came more (x ∷ a) (y ∷ b) [] one two = absurd two
-feeds_then came more (x ∷ a) (y ∷ b) (z ∷ c) one two = (
+feeds_then : (arrived more : List (List ℕ)) (a b c : List Feed) → Each (FeedsOn arrived) a b → Each (FeedsOn more) b c → Each (FeedsOn (arrived ++ more)) a c
+feeds_then arrived more [] [] [] one two = tt
+feeds_then arrived more [] [] (z ∷ c) one two = absurd two
+feeds_then arrived more [] (y ∷ b) c one two = absurd one
+feeds_then arrived more (x ∷ a) [] c one two = absurd one
+feeds_then arrived more (x ∷ a) (y ∷ b) [] one two = absurd two
+feeds_then arrived more (x ∷ a) (y ∷ b) (z ∷ c) one two = (
   record {
     feeding = two.0.feeding;
     same = same_feeds x y z one.0.same two.0.same;
-    fed = λ before fed. subst (λ (all : List (List ℕ)). Fed all z) (append_assoc before came more) (two.0.fed (before ++ came) (one.0.fed before fed));
+    fed = λ before fed. subst (λ (all : List (List ℕ)). Fed all z) (append_assoc before arrived more) (two.0.fed (before ++ arrived) (one.0.fed before fed));
   },
-  feeds_then came more a b c one.1 two.1,
+  feeds_then arrived more a b c one.1 two.1,
 )
 
-feeds_end : (came : List (List ℕ)) (a b c : List Feed) → Each (FeedsOn came) a b → Each (FeedsAll []) b c → Each (FeedsAll came) a c
-feeds_end came [] [] [] one two = tt
-feeds_end came [] [] (z ∷ c) one two = absurd two
-feeds_end came [] (y ∷ b) c one two = absurd one
-feeds_end came (x ∷ a) [] c one two = absurd one
-feeds_end came (x ∷ a) (y ∷ b) [] one two = absurd two
-feeds_end came (x ∷ a) (y ∷ b) (z ∷ c) one two = (
+feeds_end : (arrived : List (List ℕ)) (a b c : List Feed) → Each (FeedsOn arrived) a b → Each (FeedsAll []) b c → Each (FeedsAll arrived) a c
+feeds_end arrived [] [] [] one two = tt
+feeds_end arrived [] [] (z ∷ c) one two = absurd two
+feeds_end arrived [] (y ∷ b) c one two = absurd one
+feeds_end arrived (x ∷ a) [] c one two = absurd one
+feeds_end arrived (x ∷ a) (y ∷ b) [] one two = absurd two
+feeds_end arrived (x ∷ a) (y ∷ b) (z ∷ c) one two = (
   record {
     own = two.0.own;
     same = same_feeds x y z one.0.same two.0.same;
-    fed = λ before fed. subst (λ (all : List (List ℕ)). Closed all z) (append-nil (before ++ came)) (two.0.fed (before ++ came) (one.0.fed before fed));
+    fed = λ before fed. subst (λ (all : List (List ℕ)). Closed all z) (append-nil (before ++ arrived)) (two.0.fed (before ++ arrived) (one.0.fed before fed));
   },
-  feeds_end came a b c one.1 two.1,
+  feeds_end arrived a b c one.1 two.1,
 )
 
-pub are_feeding : (came : List (List ℕ)) (a b : List Feed) → Each (FeedsOn came) a b → AreFeeding b
-are_feeding came [] [] on = tt
-are_feeding came [] (y ∷ b) on = absurd on
-are_feeding came (x ∷ a) [] on = absurd on
-are_feeding came (x ∷ a) (y ∷ b) on = (on.0.feeding, are_feeding came a b on.1)
+pub are_feeding : (arrived : List (List ℕ)) (a b : List Feed) → Each (FeedsOn arrived) a b → AreFeeding b
+are_feeding arrived [] [] on = tt
+are_feeding arrived [] (y ∷ b) on = absurd on
+are_feeding arrived (x ∷ a) [] on = absurd on
+are_feeding arrived (x ∷ a) (y ∷ b) on = (on.0.feeding, are_feeding arrived a b on.1)
 
 -- ---- letters
 
@@ -76,9 +76,9 @@ hears_quiet left mid later olds feeds hears quiet = record {
 }
 
 pub hears_more : (datagram : List ℕ) (left mid later : Option (List Letter)) (olds feeds news : List Feed) → HearsOn left mid olds feeds → mid ≡ after_letters (letters.Datagram datagram ∷ []) later → Each (FeedsOn (datagram ∷ [])) feeds news → HearsOn left later olds news
-hears_more datagram left mid later olds feeds news hears came on = record {
+hears_more datagram left mid later olds feeds news hears arrived on = record {
   taken = hears.taken ++ letters.Datagram datagram ∷ [];
-  left_is = letters_then hears.taken (letters.Datagram datagram ∷ []) left mid later hears.left_is came;
+  left_is = letters_then hears.taken (letters.Datagram datagram ∷ []) left mid later hears.left_is arrived;
   feeds = subst (λ (all : List (List ℕ)). Each (FeedsOn all) olds news) (sym (flat_map-append datagram_in hears.taken (letters.Datagram datagram ∷ []))) (feeds_then (datagrams hears.taken) (datagram ∷ []) olds feeds news hears.feeds on);
 }
 

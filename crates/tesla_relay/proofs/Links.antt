@@ -10,7 +10,7 @@ use Rattle.tesla_desk.specs.declared.link.Letter.{Letter}
 use Rattle.tesla_front.specs.Openings.{Opens}
 use Rattle.tesla_front.proofs.Openings.{opens_first, opens_none}
 use Rattle.tesla_relay.specs.Links.{HasBroken, HasEnded, LeftWhere}
-use Rattle.tesla_relay.proofs.Mails.{rose_told}
+use Rattle.tesla_relay.proofs.Mails.{rose_reported}
 
 -- its opening was tried, and nothing else was opened
 pub link_tried : {A : Type 0} (link : List ℕ) (files : List Opening) (refusal : OpenRefusal) (before now : Told) → OpensLink {A = A} link (Err refusal) before now → (n : ℕ) × Opens (OfLink link ∷ files) n before now
@@ -35,4 +35,4 @@ ended_left (Some rest) missed none sound = (none, ap (λ (n : ℕ). nat_lt 0 n) 
 -- it failed
 pub broken_left : (later : Option (List Letter)) (missed : ℕ) → Rose 0 missed → HasBroken (remainder_of later missed)
 broken_left None missed rose = tt
-broken_left (Some rest) missed rose = rose_told 0 missed refl rose
+broken_left (Some rest) missed rose = rose_reported 0 missed refl rose

@@ -17,12 +17,12 @@ pub some_rose : (before now : ℕ) → before ≡ 0 → Rose before now → 0 < 
 some_rose before now none rose = grind (arith, none, rose)
 
 -- which is told
-pub rose_told : (before now : ℕ) → before ≡ 0 → Rose before now → nat_lt 0 now ≡ true
-rose_told before now none rose = let some : 0 < now = some_rose before now none rose in grind (arith, nat_tests, some)
+pub rose_reported : (before now : ℕ) → before ≡ 0 → Rose before now → nat_lt 0 now ≡ true
+rose_reported before now none rose = let some : 0 < now = some_rose before now none rose in grind (arith, nat_tests, some)
 
 -- what had not failed before did so where that is told
 pub failed_is : (failed : Bool) (before faults : ℕ) → before ≡ 0 → HasCause before faults (failed ≡ true) → nat_lt 0 faults ≡ failed
-failed_is true before faults none cause = rose_told before faults none (cause.rose refl)
+failed_is true before faults none cause = rose_reported before faults none (cause.rose refl)
 failed_is false before faults none cause = ap (λ (n : ℕ). nat_lt 0 n) (cause.still (λ e. absurd cc) ∙ none)
 
 -- ---- mail
@@ -30,7 +30,7 @@ failed_is false before faults none cause = ap (λ (n : ℕ). nat_lt 0 n) (cause.
 -- a post that had sent nothing sent these datagrams
 pub holds_sent : (old new : Option (List (List ℕ))) (datagrams : List (List ℕ)) (faults : ℕ) (failed : Bool) → IfSome old (λ sent. sent ≡ []) → new ≡ with_datagrams old datagrams → nat_lt 0 faults ≡ failed → HoldsSent datagrams failed (mail_of new faults)
 holds_sent None new datagrams faults failed empty sent is = subst (λ (s : Option (List (List ℕ))). HoldsSent datagrams failed (mail_of s faults)) (sym sent) tt
-holds_sent (Some front) new datagrams faults failed empty sent is = subst (λ (s : Option (List (List ℕ))). HoldsSent datagrams failed (mail_of s faults)) (sym sent) (ap (λ (f : List (List ℕ)). f ++ datagrams) empty, is)
+holds_sent (Some prefix) new datagrams faults failed empty sent is = subst (λ (s : Option (List (List ℕ))). HoldsSent datagrams failed (mail_of s faults)) (sym sent) (ap (λ (f : List (List ℕ)). f ++ datagrams) empty, is)
 
 failed_mail : (sent : Option (List (List ℕ))) (faults : ℕ) → 0 < faults → HasFailedMail (mail_of sent faults)
 failed_mail None faults some = tt

@@ -125,14 +125,14 @@ pub opens_new : (names : List (List ℕ)) (before now : Told) (posts : List Post
 opens_new names before now posts result (opened, posts_are, each) =
     subst (λ (ps : List PostSeen). OpensTo names ps before now result) (sym posts_are) (opens_to names before now opened result each)
 
-none_of_front : (n : ℕ) (name : List ℕ) (names : List (List ℕ)) → IsNoneOf name names → IsNoneOf name (take n names)
-none_of_front zero name names none = tt
-none_of_front (suc n) name [] none = tt
-none_of_front (suc n) name (other ∷ names) none = (none.0, none_of_front n name names none.1)
+none_of_prefix : (n : ℕ) (name : List ℕ) (names : List (List ℕ)) → IsNoneOf name names → IsNoneOf name (take n names)
+none_of_prefix zero name names none = tt
+none_of_prefix (suc n) name [] none = tt
+none_of_prefix (suc n) name (other ∷ names) none = (none.0, none_of_prefix n name names none.1)
 
 -- what is none of the names is none of the posts'
 pub none_of_opened : (name : List ℕ) (names : List (List ℕ)) (posts : List PostSeen) (before now : Told) (result : Result (Unit {0}) Fault) → OpensTo names posts before now result → IsNoneOf name names → IsNoneOf name (map post_name posts)
-none_of_opened name names posts before now result to none = subst (λ (ns : List (List ℕ)). IsNoneOf name ns) (sym to.names_are) (none_of_front (length posts) name names none)
+none_of_opened name names posts before now result to none = subst (λ (ns : List (List ℕ)). IsNoneOf name ns) (sym to.names_are) (none_of_prefix (length posts) name names none)
 
 module _ {P : Type 0} (seen : P → PostSeen) (names : List (List ℕ)) (before now : Told) (old : List PostSeen) (posts : List P) (opens : OpensPosts names before now old (map seen posts) (Ok tt)) (none : old ≡ []) where
   -- the posts that were opened are all that there are

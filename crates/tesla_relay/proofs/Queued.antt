@@ -70,10 +70,10 @@ module _ (R : PostSeen → Feed → ServerSeen → Type 0) where
   adds_none feeds servers = ([], [], sym (append-nil feeds), sym (append-nil servers), (refl, refl))
 
   -- the last of both are those of the first post
-  pub back_pop : (posts : List PostSeen) (front : List Feed) (feed : Feed) (others : List ServerSeen) (server : ServerSeen) → Backwards R posts (front ++ feed ∷ []) (others ++ server ∷ []) → (post : PostSeen) × (rest : List PostSeen) × (posts ≡ post ∷ rest) × R post feed server × Backwards R rest front others
-  back_pop [] front feed others server back = absurd (snoc_some front feed back.0)
-  back_pop (post ∷ posts) front feed others server back =
-      let fs = snoc_same front back.0 feed back.1 back.4 in let ss = snoc_same others back.2 server back.3 back.5 in
+  pub back_pop : (posts : List PostSeen) (prefix : List Feed) (feed : Feed) (others : List ServerSeen) (server : ServerSeen) → Backwards R posts (prefix ++ feed ∷ []) (others ++ server ∷ []) → (post : PostSeen) × (rest : List PostSeen) × (posts ≡ post ∷ rest) × R post feed server × Backwards R rest prefix others
+  back_pop [] prefix feed others server back = absurd (snoc_some prefix feed back.0)
+  back_pop (post ∷ posts) prefix feed others server back =
+      let fs = snoc_same prefix back.0 feed back.1 back.4 in let ss = snoc_same others back.2 server back.3 back.5 in
       (post, posts, refl, subst₂ (λ (f : Feed) (s : ServerSeen). R post f s) (sym fs.1) (sym ss.1) back.6, subst₂ (λ (f : List Feed) (s : List ServerSeen). Backwards R posts f s) (sym fs.0) (sym ss.0) back.7)
 
   -- there is a feed for each server
@@ -92,11 +92,11 @@ gives_one R Q both old new count olds all posts more counts others is own gives 
     subst (λ (l : List PostSeen). GivesBack R l posts more counts others) (sym is)
     (new ∷ gives.0, count ∷ gives.1, gives.2 ∙ append_assoc posts (new ∷ []) gives.0, gives.3 ∙ append_assoc counts (count ∷ []) gives.1, both old new count olds gives.0 gives.1 own gives.4)
 
-pub gives_none : (capacity : ℕ) (came : List (List ℕ)) (all posts : List PostSeen) (counts : List PostCount) → all ≡ [] → GivesBack (RelaysPosts capacity came) all posts posts counts counts
-gives_none capacity came all posts counts none = subst (λ (l : List PostSeen). GivesBack (RelaysPosts capacity came) l posts posts counts counts) (sym none) ([], [], sym (append-nil posts), sym (append-nil counts), tt)
+pub gives_none : (capacity : ℕ) (arrived : List (List ℕ)) (all posts : List PostSeen) (counts : List PostCount) → all ≡ [] → GivesBack (RelaysPosts capacity arrived) all posts posts counts counts
+gives_none capacity arrived all posts counts none = subst (λ (l : List PostSeen). GivesBack (RelaysPosts capacity arrived) l posts posts counts counts) (sym none) ([], [], sym (append-nil posts), sym (append-nil counts), tt)
 
-pub relays_one : (capacity : ℕ) (came : List (List ℕ)) (old new : PostSeen) (count : PostCount) (olds news : List PostSeen) (counts : List PostCount) → RelaysPost capacity came old new count → RelaysPosts capacity came olds news counts → RelaysPosts capacity came (old ∷ olds) (new ∷ news) (count ∷ counts)
-relays_one capacity came old new count olds news counts own others = (own, others)
+pub relays_one : (capacity : ℕ) (arrived : List (List ℕ)) (old new : PostSeen) (count : PostCount) (olds news : List PostSeen) (counts : List PostCount) → RelaysPost capacity arrived old new count → RelaysPosts capacity arrived olds news counts → RelaysPosts capacity arrived (old ∷ olds) (new ∷ news) (count ∷ counts)
+relays_one capacity arrived old new count olds news counts own others = (own, others)
 
 -- a new queue, and a server that has sent nothing, start
 pub starts_new : (capacity : ℕ) (queue : Queue) (post : PostSeen) (server : ServerSeen) → IsNew capacity queue → server.post ≡ post → server.table ≡ (arc_value queue.line).table.shared.table_id → server.pass ≡ queue.pass → server.sent ≡ 0 → server.failed ≡ false → Starts capacity post queue.feed server
@@ -122,15 +122,15 @@ starts_new capacity queue post server new own table pass sent failed =
   where
     sent_none : (told : Option (List (List ℕ))) → told ≡ with_datagrams told []
     sent_none None = refl
-    sent_none (Some front) = ap (λ l. Some l) (sym (append-nil front))
+    sent_none (Some prefix) = ap (λ l. Some l) (sym (append-nil prefix))
 
 pub new_last : (capacity : ℕ) (queues : List Queue) (queue : Queue) → AreNew capacity (queues ++ queue ∷ []) → AreNew capacity queues × IsNew capacity queue
 new_last capacity [] queue all = (tt, all.0)
 new_last capacity (first ∷ queues) queue all = let rest = new_last capacity queues queue all.1 in ((all.0, rest.0), rest.1)
 
 -- what ends may be settled
-pub ending_of : (capacity : ℕ) (came : List (List ℕ)) (post : PostSeen) (feed : Feed) (server : ServerSeen) → Ends capacity came post feed server → IsEnding feed server
-ending_of capacity came post feed server ends = record {
+pub ending_of : (capacity : ℕ) (arrived : List (List ℕ)) (post : PostSeen) (feed : Feed) (server : ServerSeen) → Ends capacity arrived post feed server → IsEnding feed server
+ending_of capacity arrived post feed server ends = record {
   own = ends.own;
   table = ends.table;
   whole = ends.serving.whole;
@@ -158,8 +158,8 @@ starting_serving capacity [] feeds servers start = subst AreServing (sym start.1
 starting_serving capacity (post ∷ posts) feeds servers start = subst AreServing (sym start.5) (serving_snoc start.2 start.3 (starting_serving capacity posts start.0 start.2 start.7) start.6.serving)
 
 -- what starts, was fed all and served all, ends
-pub ends_one : (capacity : ℕ) (came : List (List ℕ)) (post : PostSeen) (feed more : Feed) (server other : ServerSeen) → Starts capacity post feed server → FeedsAll came feed more → ServesAll server other → Ends capacity came post more other
-ends_one capacity came post feed more server other starts feeds serves = record {
+pub ends_one : (capacity : ℕ) (arrived : List (List ℕ)) (post : PostSeen) (feed more : Feed) (server other : ServerSeen) → Starts capacity post feed server → FeedsAll arrived feed more → ServesAll server other → Ends capacity arrived post more other
+ends_one capacity arrived post feed more server other starts feeds serves = record {
   own = feeds.own;
   closed = feeds.fed [] starts.fed;
   capacity_is = feeds.same.capacity ∙ starts.capacity_is;
@@ -170,7 +170,7 @@ ends_one capacity came post feed more server other starts feeds serves = record 
 }
 
 -- the last of two lists that belong together
-each_last : {A B : Type 0} (R : A → B → Type 0) (xs : List A) (x : A) (ys : List B) → Each R (xs ++ x ∷ []) ys → (front : List B) × (y : B) × (ys ≡ front ++ y ∷ []) × Each R xs front × R x y
+each_last : {A B : Type 0} (R : A → B → Type 0) (xs : List A) (x : A) (ys : List B) → Each R (xs ++ x ∷ []) ys → (prefix : List B) × (y : B) × (ys ≡ prefix ++ y ∷ []) × Each R xs prefix × R x y
 each_last R [] x [] each = absurd each
 each_last R [] x (y ∷ []) each = ([], y, refl, tt, each.0)
 each_last R [] x (y ∷ (z ∷ ys)) each = absurd each.1
@@ -181,13 +181,13 @@ each_none : {A B : Type 0} (R : A → B → Type 0) (ys : List B) → Each R [] 
 each_none R [] each = refl
 each_none R (y ∷ ys) each = absurd each
 
-pub starting_ending : (capacity : ℕ) (came : List (List ℕ)) (posts : List PostSeen) (feeds more : List Feed) (servers others : List ServerSeen) → Starting capacity posts feeds servers → Each (FeedsAll came) feeds more → Each ServesAll servers others → Ending capacity came posts more others
-starting_ending capacity came [] feeds more servers others start fed served =
-    (each_none (FeedsAll came) more (subst (λ (l : List Feed). Each (FeedsAll came) l more) start.0 fed), each_none ServesAll others (subst (λ (l : List ServerSeen). Each ServesAll l others) start.1 served))
-starting_ending capacity came (post ∷ posts) feeds more servers others start fed served =
-    let f = each_last (FeedsAll came) start.0 start.1 more (subst (λ (l : List Feed). Each (FeedsAll came) l more) start.4 fed) in
+pub starting_ending : (capacity : ℕ) (arrived : List (List ℕ)) (posts : List PostSeen) (feeds more : List Feed) (servers others : List ServerSeen) → Starting capacity posts feeds servers → Each (FeedsAll arrived) feeds more → Each ServesAll servers others → Ending capacity arrived posts more others
+starting_ending capacity arrived [] feeds more servers others start fed served =
+    (each_none (FeedsAll arrived) more (subst (λ (l : List Feed). Each (FeedsAll arrived) l more) start.0 fed), each_none ServesAll others (subst (λ (l : List ServerSeen). Each ServesAll l others) start.1 served))
+starting_ending capacity arrived (post ∷ posts) feeds more servers others start fed served =
+    let f = each_last (FeedsAll arrived) start.0 start.1 more (subst (λ (l : List Feed). Each (FeedsAll arrived) l more) start.4 fed) in
     let s = each_last ServesAll start.2 start.3 others (subst (λ (l : List ServerSeen). Each ServesAll l others) start.5 served) in
-    (f.0, f.1, s.0, s.1, f.2, s.2, ends_one capacity came post start.1 f.1 start.3 s.1 start.6 f.4 s.4, starting_ending capacity came posts start.0 f.0 start.2 s.0 start.7 f.3 s.3)
+    (f.0, f.1, s.0, s.1, f.2, s.2, ends_one capacity arrived post start.1 f.1 start.3 s.1 start.6 f.4 s.4, starting_ending capacity arrived posts start.0 f.0 start.2 s.0 start.7 f.3 s.3)
 
 -- what was added behind nothing
 pub adds_all : (R : List PostSeen → List Feed → List ServerSeen → Type 0) (posts : List PostSeen) (feeds more : List Feed) (servers others : List ServerSeen) → feeds ≡ [] → servers ≡ [] → Adds R posts feeds more servers others → R posts more others
@@ -211,8 +211,8 @@ each_length R (x ∷ xs) (y ∷ ys) each = ap suc (each_length R xs ys each.1)
 
 -- a vector all of whose items were written
 pub all_written : {A : Type 0} (n : ℕ) (xs ys : List A) → length xs ≡ n → take n (xs ++ drop (length xs) ys) ≡ xs
-all_written n xs ys same = subst (λ (m : ℕ). take m (xs ++ drop (length xs) ys) ≡ xs) same (front xs (drop (length xs) ys))
+all_written n xs ys same = subst (λ (m : ℕ). take m (xs ++ drop (length xs) ys) ≡ xs) same (prefix xs (drop (length xs) ys))
   where
-    front : {A : Type 0} (xs zs : List A) → take (length xs) (xs ++ zs) ≡ xs
-    front [] zs = refl
-    front (x ∷ xs) zs = ap (λ l. x ∷ l) (front xs zs)
+    prefix : {A : Type 0} (xs zs : List A) → take (length xs) (xs ++ zs) ≡ xs
+    prefix [] zs = refl
+    prefix (x ∷ xs) zs = ap (λ l. x ∷ l) (prefix xs zs)

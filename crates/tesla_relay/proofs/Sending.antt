@@ -16,21 +16,21 @@ use Rattle.tesla_relay.specs.declared.line.Item.TheVariants.{End}
 
 -- ---- what was sent
 
-sent_more : (sent : Option (List (List ℕ))) (front : List (List ℕ)) (datagram : List ℕ) → with_datagram (with_datagrams sent front) datagram ≡ with_datagrams sent (front ++ datagram ∷ [])
-sent_more None front datagram = refl
-sent_more (Some before) front datagram = ap (λ all. Some all) (append_assoc before front (datagram ∷ []))
+sent_more : (sent : Option (List (List ℕ))) (prefix : List (List ℕ)) (datagram : List ℕ) → with_datagram (with_datagrams sent prefix) datagram ≡ with_datagrams sent (prefix ++ datagram ∷ [])
+sent_more None prefix datagram = refl
+sent_more (Some before) prefix datagram = ap (λ all. Some all) (append_assoc before prefix (datagram ∷ []))
 
 texts_end : (popped : List Item) → texts (popped ++ End ∷ []) ≡ texts popped
 texts_end popped = flat_map-append text_in popped (End ∷ []) ∙ append-nil (texts popped)
 
--- a front stays a front
-take_front : (all : List (List ℕ)) (datagram : List ℕ) (n : ℕ) → n ≤ length all → take n (all ++ datagram ∷ []) ≡ take n all
-take_front all datagram n few = take-append-le n all (datagram ∷ []) few
+-- a front stays a prefix
+take_prefix : (all : List (List ℕ)) (datagram : List ℕ) (n : ℕ) → n ≤ length all → take n (all ++ datagram ∷ []) ≡ take n all
+take_prefix all datagram n few = take-append-le n all (datagram ∷ []) few
 
 take_more : (all : List (List ℕ)) (datagram : List ℕ) (n : ℕ) → n ≡ length all → take (n + 1) (all ++ datagram ∷ []) ≡ take n all ++ datagram ∷ []
 take_more all datagram n whole =
     let size : length (all ++ datagram ∷ []) ≡ n + 1 = length-append all (datagram ∷ []) ∙ ap (λ m. m + 1) (sym whole) in
-    ap (λ m. take m (all ++ datagram ∷ [])) (sym size) ∙ take-length (all ++ datagram ∷ []) ∙ ap (λ front. front ++ datagram ∷ []) (sym (ap (λ m. take m all) whole ∙ take-length all))
+    ap (λ m. take m (all ++ datagram ∷ [])) (sym size) ∙ take-length (all ++ datagram ∷ []) ∙ ap (λ prefix. prefix ++ datagram ∷ []) (sym (ap (λ m. take m all) whole ∙ take-length all))
 
 -- ---- one item later
 
@@ -42,8 +42,8 @@ module _ (start : PostSeen) (old new : ServerSeen) (pass : Pass Item Log) (item 
   more = ap (λ (ts : List (List ℕ)). length ts) (texts_more served.popped item datagram is) ∙ length-append (texts served.popped) (datagram ∷ [])
 
   -- no more was sent
-  front : take served.sends (texts (served.popped ++ item ∷ [])) ≡ take served.sends (texts served.popped)
-  front = ap (λ (ts : List (List ℕ)). take served.sends ts) (texts_more served.popped item datagram is) ∙ take_front (texts served.popped) datagram served.sends served.few
+  prefix : take served.sends (texts (served.popped ++ item ∷ [])) ≡ take served.sends (texts served.popped)
+  prefix = ap (λ (ts : List (List ℕ)). take served.sends ts) (texts_more served.popped item datagram is) ∙ take_prefix (texts served.popped) datagram served.sends served.few
 
   stays_failed : new.failed ≡ true → new.post.sent ≡ old.post.sent → new.sent ≡ old.sent → HasCause start.faults new.post.faults (new.failed ≡ true) → Served start new
   stays_failed failed sent count cause = record {
@@ -52,7 +52,7 @@ module _ (start : PostSeen) (old new : ServerSeen) (pass : Pass Item Log) (item 
     sends = served.sends;
     few = omega (arith, served.few, more);
     all = λ fine. absurd (true≢false (sym failed ∙ fine));
-    sent = sent ∙ served.sent ∙ ap (λ (ts : List (List ℕ)). with_datagrams start.sent ts) (sym front);
+    sent = sent ∙ served.sent ∙ ap (λ (ts : List (List ℕ)). with_datagrams start.sent ts) (sym prefix);
     name = next.name ∙ served.name;
     cause = cause;
     count = count ∙ served.count;

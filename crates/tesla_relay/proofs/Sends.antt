@@ -8,11 +8,11 @@ use Rattle.tesla_relay.specs.Steps.{Hands}
 
 sent_none : (sent : Option (List (List ℕ))) → with_datagrams sent [] ≡ sent
 sent_none None = refl
-sent_none (Some front) = ap (λ (ds : List (List ℕ)). Some ds) (append-nil front)
+sent_none (Some prefix) = ap (λ (ds : List (List ℕ)). Some ds) (append-nil prefix)
 
 pub sent_twice : (sent : Option (List (List ℕ))) (a b : List (List ℕ)) → with_datagrams (with_datagrams sent a) b ≡ with_datagrams sent (a ++ b)
 sent_twice None a b = refl
-sent_twice (Some front) a b = ap (λ (ds : List (List ℕ)). Some ds) (append_assoc front a b)
+sent_twice (Some prefix) a b = ap (λ (ds : List (List ℕ)). Some ds) (append_assoc prefix a b)
 
 -- nothing was sent yet
 pub none_sent : (posts : List PostSeen) → posts ≡ map (having_sent []) posts

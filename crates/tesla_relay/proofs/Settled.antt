@@ -24,33 +24,33 @@ tail_of [] = []
 tail_of (x ∷ xs) = xs
 
 -- datagrams and then one end: what stands before an end among them are all the datagrams
-before_end : (items front more : List Item) → AllByRecursion IsDatagram items → items ++ End ∷ [] ≡ (front ++ End ∷ []) ++ more → front ≡ items
+before_end : (items prefix more : List Item) → AllByRecursion IsDatagram items → items ++ End ∷ [] ≡ (prefix ++ End ∷ []) ++ more → prefix ≡ items
 unfolding tail_of head_of
 before_end [] [] more all same = refl
-before_end [] (f ∷ front) more all same =
-    let rest : [] ≡ (front ++ End ∷ []) ++ more = ap tail_of same in
-    let size : length ((front ++ End ∷ []) ++ more) ≡ length front + 1 + length more = length-append (front ++ End ∷ []) more ∙ ap (λ n. n + length more) (length-append front (End ∷ [])) in
+before_end [] (f ∷ prefix) more all same =
+    let rest : [] ≡ (prefix ++ End ∷ []) ++ more = ap tail_of same in
+    let size : length ((prefix ++ End ∷ []) ++ more) ≡ length prefix + 1 + length more = length-append (prefix ++ End ∷ []) more ∙ ap (λ n. n + length more) (length-append prefix (End ∷ [])) in
     absurd (omega (arith, size, ap (λ (l : List Item). length l) rest))
 before_end (i ∷ items) [] more all same = absurd (subst IsDatagram (ap (head_of End) same) all.0)
-before_end (i ∷ items) (f ∷ front) more all same =
+before_end (i ∷ items) (f ∷ prefix) more all same =
     let first : i ≡ f = ap (head_of End) same in
-    ap (λ (x : Item). x ∷ front) (sym first) ∙ ap (λ (l : List Item). i ∷ l) (before_end items front more all.1 (ap tail_of same))
+    ap (λ (x : Item). x ∷ prefix) (sym first) ∙ ap (λ (l : List Item). i ∷ l) (before_end items prefix more all.1 (ap tail_of same))
 
-texts_end : (front : List Item) → texts (front ++ End ∷ []) ≡ texts front
-texts_end front = flat_map-append text_in front (End ∷ []) ∙ append-nil (texts front)
+texts_end : (prefix : List Item) → texts (prefix ++ End ∷ []) ≡ texts prefix
+texts_end prefix = flat_map-append text_in prefix (End ∷ []) ∙ append-nil (texts prefix)
 
-pub settles : (capacity : ℕ) (came : List (List ℕ)) (start : PostSeen) (feed : Feed) (server : ServerSeen) (count : PostCount) (more : List Item) → Ends capacity came start feed server → (view feed.pass).put ≡ (view server.pass).popped ++ more → count.sent ≡ server.sent → count.dropped ≡ feed.dropped → count.failed ≡ server.failed
-    → RelaysPost capacity came start server.post count
-settles capacity came start feed server count more ends total sent dropped failed =
-    let items : List Item = ends.closed.0 in let keeps : Keeps feed.capacity came items feed.dropped = ends.closed.2 in
-    let front : List Item = ends.done.0 in let served : Served start server = ends.served in
+pub settles : (capacity : ℕ) (arrived : List (List ℕ)) (start : PostSeen) (feed : Feed) (server : ServerSeen) (count : PostCount) (more : List Item) → Ends capacity arrived start feed server → (view feed.pass).put ≡ (view server.pass).popped ++ more → count.sent ≡ server.sent → count.dropped ≡ feed.dropped → count.failed ≡ server.failed
+    → RelaysPost capacity arrived start server.post count
+settles capacity arrived start feed server count more ends total sent dropped failed =
+    let items : List Item = ends.closed.0 in let keeps : Keeps feed.capacity arrived items feed.dropped = ends.closed.2 in
+    let prefix : List Item = ends.done.0 in let served : Served start server = ends.served in
     let put : (view feed.pass).put ≡ items ++ End ∷ [] = ap (λ (l : Log). l.put) ends.closed.1 in
-    let popped : (view server.pass).popped ≡ front ++ End ∷ [] = ap (λ (l : Log). l.popped) ends.done.1 in
-    let same : front ≡ items = before_end items front more keeps.whole (sym put ∙ total ∙ ap (λ (l : List Item). l ++ more) popped) in
-    let mine : served.popped ≡ front ++ End ∷ [] = ap (λ (l : Log). l.popped) (sym served.view_is) ∙ popped in
-    let all : texts served.popped ≡ kept_of keeps.marks came = ap texts mine ∙ texts_end front ∙ ap texts same ∙ keeps.texts_are in
+    let popped : (view server.pass).popped ≡ prefix ++ End ∷ [] = ap (λ (l : Log). l.popped) ends.done.1 in
+    let same : prefix ≡ items = before_end items prefix more keeps.whole (sym put ∙ total ∙ ap (λ (l : List Item). l ++ more) popped) in
+    let mine : served.popped ≡ prefix ++ End ∷ [] = ap (λ (l : Log). l.popped) (sym served.view_is) ∙ popped in
+    let all : texts served.popped ≡ kept_of keeps.marks arrived = ap texts mine ∙ texts_end prefix ∙ ap texts same ∙ keeps.texts_are in
     record {
-      sent = take served.sends (kept_of keeps.marks came);
+      sent = take served.sends (kept_of keeps.marks arrived);
       to = record {
         marks = keeps.marks;
         each = keeps.each;

@@ -3,7 +3,7 @@ use Rattle.std.proofs.Common.{◌≡◌, ◌⊎◌, inl, inr, ap}
 use Rattle.tesla_desk.specs.Faults.{Faults, HasCausesBeside}
 use Rattle.tesla_desk.specs.Outside.{Told}
 use Rattle.tesla_desk.proofs.Counts.{cause_none, causes_opening, causes_plain}
-use Rattle.tesla_front.specs.Came.{Failed}
+use Rattle.tesla_front.specs.OutcomeView.{Failed}
 use Rattle.tesla_front.specs.declared.fault.Fault.{Fault}
 use Rattle.tesla_front.specs.declared.fault.Fault.TheVariants as faults
 use Rattle.tesla_relay.specs.Opened.{OpensNotAll}
@@ -33,6 +33,6 @@ not_all_counts {hidden} fault before now not_all =
       open_is f e = cc
 
 -- the command tells why
-pub came_cause : (fault : Fault) → (fault ≡ faults.Open) ⊎ (fault ≡ faults.NoMemory) → (Failed fault ≡ Failed faults.Open) ⊎ (Failed fault ≡ Failed faults.NoMemory)
-came_cause fault (inl refused) = inl (ap Failed refused)
-came_cause fault (inr memory) = inr (ap Failed memory)
+pub outcome_cause : (fault : Fault) → (fault ≡ faults.Open) ⊎ (fault ≡ faults.NoMemory) → (Failed fault ≡ Failed faults.Open) ⊎ (Failed fault ≡ Failed faults.NoMemory)
+outcome_cause fault (inl refused) = inl (ap Failed refused)
+outcome_cause fault (inr memory) = inr (ap Failed memory)

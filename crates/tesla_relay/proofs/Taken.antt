@@ -6,7 +6,7 @@ use Rattle.tesla_desk.specs.Clocks.{Gives, Ticking}
 use Rattle.tesla_capture.specs.Capture.{Record, Arrives, Takes, capture}
 use Rattle.tesla_capture.specs.Formats.{capture_is}
 use Rattle.tesla_capture.specs.Found.{AwaitsAt}
-use Rattle.tesla_capture.specs.Records.{AtEnd, Outline, Refuses, next_at, outline_at, outline_of, record_place, refusal_of, with_records}
+use Rattle.tesla_capture.specs.Records.{AtEnd, Outline, Refuses, next_at, outline_at, outline_of, record_offset, refusal_of, with_records}
 use Rattle.tesla_capture.specs.Reader.{GivesRecord}
 use Rattle.tesla_capture.specs.Steps.{LeavesFrom}
 use Rattle.tesla_capture.specs.declared.record.RecordKind.{RecordKind}
@@ -14,7 +14,7 @@ use Rattle.tesla_capture.proofs.OutlineStep.{one_refused, one_step}
 use Rattle.tesla_capture.proofs.Taken.{fault_taken, given_taken, none_taken, taken_outline}
 use Rattle.tesla_relay.specs.Posts.{PostSeen}
 use Rattle.tesla_relay.specs.declared.playing.PlayEnd.TheVariants.{Ended, Refused, ReadFault, PostFault}
-use Rattle.tesla_relay.specs.Play.{BreaksAt, IsCutOff, IsFront, IsPlayed, Paced, Played, Plays, arrivals_in, arrivals_of, bytes_of, having_sent, reading_of}
+use Rattle.tesla_relay.specs.Play.{BreaksAt, IsCutOff, IsPrefixOf, IsPlayed, Paced, Played, Plays, arrivals_in, arrivals_of, bytes_of, having_sent, reading_of}
 use Rattle.tesla_relay.specs.Steps.{IsPlayedTo, PlaysOn, WaitsFor}
 use Rattle.tesla_relay.proofs.Pace.{gives_both, paced_both}
 use Rattle.tesla_relay.proofs.Sends.{both_sent, none_sent}
@@ -38,62 +38,62 @@ left_told pending None all e = absurd cc
 left_told pending (Some behind) all e = (behind, refl)
 
 -- the place of the next record isn't before the place
-pub place_rises : (place : ℕ) → place ≤ record_place place
-place_rises zero = omega arith
-place_rises (suc place) = omega arith
+pub offset_rises : (offset : ℕ) → offset ≤ record_offset offset
+offset_rises zero = omega arith
+offset_rises (suc offset) = omega arith
 
 -- ---- the file
 
 -- no record was taken yet
-played_none : (bytes : List ℕ) (place : ℕ) (ahead : Option (List ℕ)) → place ≡ 0 → ahead ≡ Some bytes → IsPlayedTo bytes [] place ahead
-played_none bytes place ahead first told =
+played_none : (bytes : List ℕ) (offset : ℕ) (ahead : Option (List ℕ)) → offset ≡ 0 → ahead ≡ Some bytes → IsPlayedTo bytes [] offset ahead
+played_none bytes offset ahead first told =
     subst (λ (p : ℕ). IsPlayedTo bytes [] p ahead) (sym first) (record { records = []; rest = bytes; ahead_is = told; taken = none_taken capture capture_is bytes; arrivals = refl })
 
 -- one record more was taken
-played_more : (bytes : List ℕ) (played : List Played) (place now : ℕ) (ahead later : Option (List ℕ)) (given : Record) → (to : IsPlayedTo bytes played place ahead) → GivesRecord given place to.rest now later → IsPlayedTo bytes (played ++ arrivals_in given) now later
-played_more bytes played place now ahead later given to gives = record {
+played_more : (bytes : List ℕ) (played : List Played) (offset now : ℕ) (ahead later : Option (List ℕ)) (given : Record) → (to : IsPlayedTo bytes played offset ahead) → GivesRecord given offset to.rest now later → IsPlayedTo bytes (played ++ arrivals_in given) now later
+played_more bytes played offset now ahead later given to gives = record {
   records = to.records ++ given ∷ [];
   rest = gives.0;
   ahead_is = gives.1;
-  taken = given_taken capture capture_is bytes to.records place to.rest given now later to.taken gives;
-  arrivals = arrivals_more to.records (given ∷ []) ∙ ap (λ (front : List Played). front ++ arrivals_of (given ∷ [])) to.arrivals ∙ ap (λ (last : List Played). played ++ last) (append-nil (arrivals_in given));
+  taken = given_taken capture capture_is bytes to.records offset to.rest given now later to.taken gives;
+  arrivals = arrivals_more to.records (given ∷ []) ∙ ap (λ (prefix : List Played). prefix ++ arrivals_of (given ∷ [])) to.arrivals ∙ ap (λ (last : List Played). played ++ last) (append-nil (arrivals_in given));
 }
 
 -- none follows
-played_all : (bytes : List ℕ) (played : List Played) (place : ℕ) (ahead : Option (List ℕ)) (fault : Option (ℕ × RecordKind)) → (to : IsPlayedTo bytes played place ahead) → outline_at capture place to.rest ≡ record { records = []; fault = fault }
+played_all : (bytes : List ℕ) (played : List Played) (offset : ℕ) (ahead : Option (List ℕ)) (fault : Option (ℕ × RecordKind)) → (to : IsPlayedTo bytes played offset ahead) → outline_at capture offset to.rest ≡ record { records = []; fault = fault }
     → ((outline_of capture bytes).fault ≡ fault) × (arrivals_of (outline_of capture bytes).records ≡ played)
-played_all bytes played place ahead fault to none =
-    let whole : outline_of capture bytes ≡ with_records to.records (record { records = []; fault = fault }) = taken_outline capture capture_is bytes to.records place to.rest to.taken ∙ ap (with_records to.records) none in (
+played_all bytes played offset ahead fault to none =
+    let whole : outline_of capture bytes ≡ with_records to.records (record { records = []; fault = fault }) = taken_outline capture capture_is bytes to.records offset to.rest to.taken ∙ ap (with_records to.records) none in (
       ap (λ (o : Outline Record). o.fault) whole,
       ap (λ (o : Outline Record). arrivals_of o.records) whole ∙ ap arrivals_of (append-nil to.records) ∙ to.arrivals,
     )
 
 -- others may follow
-played_front : (bytes : List ℕ) (played : List Played) (place : ℕ) (ahead : Option (List ℕ)) → IsPlayedTo bytes played place ahead → IsFront bytes played
-played_front bytes played place ahead to =
-    let others = (outline_at capture place to.rest).records in
+played_prefix : (bytes : List ℕ) (played : List Played) (offset : ℕ) (ahead : Option (List ℕ)) → IsPlayedTo bytes played offset ahead → IsPrefixOf bytes played
+played_prefix bytes played offset ahead to =
+    let others = (outline_at capture offset to.rest).records in
     record {
       more = arrivals_of others;
-      arrivals = ap (λ (o : Outline Record). arrivals_of o.records) (taken_outline capture capture_is bytes to.records place to.rest to.taken) ∙ arrivals_more to.records others ∙ ap (λ (front : List Played). front ++ arrivals_of others) to.arrivals;
+      arrivals = ap (λ (o : Outline Record). arrivals_of o.records) (taken_outline capture capture_is bytes to.records offset to.rest to.taken) ∙ arrivals_more to.records others ∙ ap (λ (prefix : List Played). prefix ++ arrivals_of others) to.arrivals;
     }
 
 -- a read failed
-played_cut : (bytes : List ℕ) (played : List Played) (place now : ℕ) (ahead : Option (List ℕ)) (pending : List ℕ) (left : Option (List ℕ)) → (to : IsPlayedTo bytes played place ahead) → LeavesFrom capture 0 place to.rest now (after_bytes pending left) → AwaitsAt capture now pending → IsCutOff bytes left played
-played_cut bytes played place now ahead pending left to leaves awaits =
+played_cut : (bytes : List ℕ) (played : List Played) (offset now : ℕ) (ahead : Option (List ℕ)) (pending : List ℕ) (left : Option (List ℕ)) → (to : IsPlayedTo bytes played offset ahead) → LeavesFrom capture 0 offset to.rest now (after_bytes pending left) → AwaitsAt capture now pending → IsCutOff bytes left played
+played_cut bytes played offset now ahead pending left to leaves awaits =
     let behind = left_told pending left leaves.0 leaves.1 in
     record {
       left = behind.0;
       records = to.records;
       left_is = behind.1;
-      read = fault_taken capture capture_is bytes to.records place to.rest now pending left behind.0 to.taken leaves awaits behind.1;
+      read = fault_taken capture capture_is bytes to.records offset to.rest now pending left behind.0 to.taken leaves awaits behind.1;
       arrivals = to.arrivals;
     }
 
 -- ---- the play
 
 -- nothing was played yet
-pub plays_none : (count place : ℕ) (left ahead : Option (List ℕ)) (told : Option Ticking) (posts : List PostSeen) → count ≡ 0 → place ≡ 0 → ((bytes : List ℕ) → left ≡ Some bytes → ahead ≡ Some bytes) → PlaysOn count place left ahead told told posts posts
-plays_none count place left ahead told posts none first same = record {
+pub plays_none : (count offset : ℕ) (left ahead : Option (List ℕ)) (told : Option Ticking) (posts : List PostSeen) → count ≡ 0 → offset ≡ 0 → ((bytes : List ℕ) → left ≡ Some bytes → ahead ≡ Some bytes) → PlaysOn count offset left ahead told told posts posts
+plays_none count offset left ahead told posts none first same = record {
   played = [];
   limits = tt;
   readings = [];
@@ -101,12 +101,12 @@ plays_none count place left ahead told posts none first same = record {
   paced = tt;
   posts_are = none_sent posts;
   count_is = none;
-  file = λ bytes is. played_none bytes place ahead first (same bytes is);
+  file = λ bytes is. played_none bytes offset ahead first (same bytes is);
 }
 
 -- a take was skipped
-pub plays_take : (count place now : ℕ) (left ahead later : Option (List ℕ)) (before after : Option Ticking) (posts posts_now : List PostSeen) → PlaysOn count place left ahead before after posts posts_now → ((rest : List ℕ) → ahead ≡ Some rest → GivesRecord Takes place rest now later) → PlaysOn count now left later before after posts posts_now
-plays_take count place now left ahead later before after posts posts_now on gives = record {
+pub plays_take : (count offset now : ℕ) (left ahead later : Option (List ℕ)) (before after : Option Ticking) (posts posts_now : List PostSeen) → PlaysOn count offset left ahead before after posts posts_now → ((rest : List ℕ) → ahead ≡ Some rest → GivesRecord Takes offset rest now later) → PlaysOn count now left later before after posts posts_now
+plays_take count offset now left ahead later before after posts posts_now on gives = record {
   played = on.played;
   limits = on.limits;
   readings = on.readings;
@@ -115,11 +115,11 @@ plays_take count place now left ahead later before after posts posts_now on give
   posts_are = on.posts_are;
   count_is = on.count_is;
   file = λ bytes is.
-      let to = on.file bytes is in subst (λ (p : List Played). IsPlayedTo bytes p now later) (append-nil on.played) (played_more bytes on.played place now ahead later Takes to (gives to.rest to.ahead_is));
+      let to = on.file bytes is in subst (λ (p : List Played). IsPlayedTo bytes p now later) (append-nil on.played) (played_more bytes on.played offset now ahead later Takes to (gives to.rest to.ahead_is));
 }
 
 -- an arrival was waited for
-record Next (one : Played) (count place now : ℕ) (left later : Option (List ℕ)) (before after : Option Ticking) (posts posts_now : List PostSeen) : Type 0 where
+record Next (one : Played) (count offset now : ℕ) (left later : Option (List ℕ)) (before after : Option Ticking) (posts posts_now : List PostSeen) : Type 0 where
   played : List Played
   limits : AllByRecursion IsPlayed (played ++ one ∷ [])
   readings : List ℕ
@@ -129,9 +129,9 @@ record Next (one : Played) (count place now : ℕ) (left later : Option (List �
   count_is : count ≡ length played
   file : (bytes : List ℕ) → left ≡ Some bytes → IsPlayedTo bytes (played ++ one ∷ []) now later
 
-next_of : (one : Played) (count place now : ℕ) (left ahead later : Option (List ℕ)) (before mid after : Option Ticking) (posts posts_now : List PostSeen) → PlaysOn count place left ahead before mid posts posts_now → ((rest : List ℕ) → ahead ≡ Some rest → GivesRecord (Arrives one.reading one.bytes) place rest now later) → IsPlayed one → WaitsFor one.reading mid after
-    → Next one count place now left later before after posts posts_now
-next_of one count place now left ahead later before mid after posts posts_now on gives fits waits = record {
+next_of : (one : Played) (count offset now : ℕ) (left ahead later : Option (List ℕ)) (before mid after : Option Ticking) (posts posts_now : List PostSeen) → PlaysOn count offset left ahead before mid posts posts_now → ((rest : List ℕ) → ahead ≡ Some rest → GivesRecord (Arrives one.reading one.bytes) offset rest now later) → IsPlayed one → WaitsFor one.reading mid after
+    → Next one count offset now left later before after posts posts_now
+next_of one count offset now left ahead later before mid after posts posts_now on gives fits waits = record {
   played = on.played;
   limits = all_more on.played one on.limits fits;
   readings = on.readings ++ waits.readings;
@@ -139,14 +139,14 @@ next_of one count place now left ahead later before mid after posts posts_now on
   paced = subst (λ (due : List ℕ). Paced due (on.readings ++ waits.readings)) (sym (map_more reading_of on.played one)) (paced_both on.readings (map reading_of on.played) waits.readings (one.reading ∷ []) on.paced waits.paced);
   posts_are = on.posts_are;
   count_is = on.count_is;
-  file = λ bytes is. let to = on.file bytes is in played_more bytes on.played place now ahead later (Arrives one.reading one.bytes) to (gives to.rest to.ahead_is);
+  file = λ bytes is. let to = on.file bytes is in played_more bytes on.played offset now ahead later (Arrives one.reading one.bytes) to (gives to.rest to.ahead_is);
 }
 
 -- an arrival was sent to all posts
-pub plays_arrival : (one : Played) (count next place now : ℕ) (left ahead later : Option (List ℕ)) (before mid after : Option Ticking) (posts posts_mid posts_now : List PostSeen) → PlaysOn count place left ahead before mid posts posts_mid → ((rest : List ℕ) → ahead ≡ Some rest → GivesRecord (Arrives one.reading one.bytes) place rest now later) → IsPlayed one → WaitsFor one.reading mid after
+pub plays_arrival : (one : Played) (count next offset now : ℕ) (left ahead later : Option (List ℕ)) (before mid after : Option Ticking) (posts posts_mid posts_now : List PostSeen) → PlaysOn count offset left ahead before mid posts posts_mid → ((rest : List ℕ) → ahead ≡ Some rest → GivesRecord (Arrives one.reading one.bytes) offset rest now later) → IsPlayed one → WaitsFor one.reading mid after
     → posts_now ≡ map (having_sent (one.bytes ∷ [])) posts_mid → next ≡ count + 1 → PlaysOn next now left later before after posts posts_now
-plays_arrival one count next place now left ahead later before mid after posts posts_mid posts_now on gives fits waits sends counted =
-    let to = next_of one count place now left ahead later before mid after posts posts_mid on gives fits waits in
+plays_arrival one count next offset now left ahead later before mid after posts posts_mid posts_now on gives fits waits sends counted =
+    let to = next_of one count offset now left ahead later before mid after posts posts_mid on gives fits waits in
     record {
       played = to.played ++ one ∷ [];
       limits = to.limits;
@@ -160,10 +160,10 @@ plays_arrival one count next place now left ahead later before mid after posts p
     }
 
 -- a post failed
-pub plays_broken : (one : Played) (count place now : ℕ) (left ahead later : Option (List ℕ)) (final : Option (List ℕ)) (before mid after : Option Ticking) (posts posts_mid posts_now : List PostSeen) → PlaysOn count place left ahead before mid posts posts_mid → ((rest : List ℕ) → ahead ≡ Some rest → GivesRecord (Arrives one.reading one.bytes) place rest now later) → IsPlayed one → WaitsFor one.reading mid after
+pub plays_broken : (one : Played) (count offset now : ℕ) (left ahead later : Option (List ℕ)) (final : Option (List ℕ)) (before mid after : Option Ticking) (posts posts_mid posts_now : List PostSeen) → PlaysOn count offset left ahead before mid posts posts_mid → ((rest : List ℕ) → ahead ≡ Some rest → GivesRecord (Arrives one.reading one.bytes) offset rest now later) → IsPlayed one → WaitsFor one.reading mid after
     → BreaksAt one.bytes posts_mid posts_now → Plays PostFault left final before after posts posts_now
-plays_broken one count place now left ahead later final before mid after posts posts_mid posts_now on gives fits waits breaks =
-    let to = next_of one count place now left ahead later before mid after posts posts_mid on gives fits waits in
+plays_broken one count offset now left ahead later final before mid after posts posts_mid posts_now on gives fits waits breaks =
+    let to = next_of one count offset now left ahead later before mid after posts posts_mid on gives fits waits in
     record {
       played = to.played ++ one ∷ [];
       limits = to.limits;
@@ -171,18 +171,18 @@ plays_broken one count place now left ahead later final before mid after posts p
       gives = to.gives;
       paced = to.paced;
       posts_are = record {
-        front = map bytes_of to.played;
+        prefix = map bytes_of to.played;
         last = one.bytes;
         datagrams_are = map_more bytes_of to.played one;
         breaks = subst (λ (ps : List PostSeen). BreaksAt one.bytes ps posts_now) to.posts_are breaks;
       };
       count = tt;
-      file = λ bytes is. played_front bytes (to.played ++ one ∷ []) now later (to.file bytes is);
+      file = λ bytes is. played_prefix bytes (to.played ++ one ∷ []) now later (to.file bytes is);
     }
 
 -- the file ended
-pub plays_ended : (count place : ℕ) (left ahead later : Option (List ℕ)) (before after : Option Ticking) (posts posts_now : List PostSeen) → PlaysOn count place left ahead before after posts posts_now → ((rest : List ℕ) → ahead ≡ Some rest → next_at capture place rest ≡ AtEnd) → Plays (Ended count) left later before after posts posts_now
-plays_ended count place left ahead later before after posts posts_now on ends = record {
+pub plays_ended : (count offset : ℕ) (left ahead later : Option (List ℕ)) (before after : Option Ticking) (posts posts_now : List PostSeen) → PlaysOn count offset left ahead before after posts posts_now → ((rest : List ℕ) → ahead ≡ Some rest → next_at capture offset rest ≡ AtEnd) → Plays (Ended count) left later before after posts posts_now
+plays_ended count offset left ahead later before after posts posts_now on ends = record {
   played = on.played;
   limits = on.limits;
   readings = on.readings;
@@ -190,12 +190,12 @@ plays_ended count place left ahead later before after posts posts_now on ends = 
   paced = on.paced;
   posts_are = on.posts_are;
   count = on.count_is;
-  file = λ bytes is. let to = on.file bytes is in played_all bytes on.played place ahead None to (one_step capture capture_is place to.rest AtEnd (ends to.rest to.ahead_is));
+  file = λ bytes is. let to = on.file bytes is in played_all bytes on.played offset ahead None to (one_step capture capture_is offset to.rest AtEnd (ends to.rest to.ahead_is));
 }
 
 -- a place is refused
-pub plays_refused : (at : ℕ) (kind : RecordKind) (count place : ℕ) (left ahead later : Option (List ℕ)) (before after : Option Ticking) (posts posts_now : List PostSeen) → PlaysOn count place left ahead before after posts posts_now → ((rest : List ℕ) → ahead ≡ Some rest → next_at capture place rest ≡ Refuses at (refusal_of kind)) → Plays (Refused at kind) left later before after posts posts_now
-plays_refused at kind count place left ahead later before after posts posts_now on refuses = record {
+pub plays_refused : (at : ℕ) (kind : RecordKind) (count offset : ℕ) (left ahead later : Option (List ℕ)) (before after : Option Ticking) (posts posts_now : List PostSeen) → PlaysOn count offset left ahead before after posts posts_now → ((rest : List ℕ) → ahead ≡ Some rest → next_at capture offset rest ≡ Refuses at (refusal_of kind)) → Plays (Refused at kind) left later before after posts posts_now
+plays_refused at kind count offset left ahead later before after posts posts_now on refuses = record {
   played = on.played;
   limits = on.limits;
   readings = on.readings;
@@ -204,12 +204,12 @@ plays_refused at kind count place left ahead later before after posts posts_now 
   posts_are = on.posts_are;
   count = tt;
   file = λ bytes is.
-      let to = on.file bytes is in played_all bytes on.played place ahead (Some (at, kind)) to (one_refused capture capture_is place to.rest at kind (refuses to.rest to.ahead_is));
+      let to = on.file bytes is in played_all bytes on.played offset ahead (Some (at, kind)) to (one_refused capture capture_is offset to.rest at kind (refuses to.rest to.ahead_is));
 }
 
 -- a read failed
-pub plays_cut : (count place now : ℕ) (pending : List ℕ) (left ahead later : Option (List ℕ)) (before after : Option Ticking) (posts posts_now : List PostSeen) → PlaysOn count place left ahead before after posts posts_now → ((rest : List ℕ) → ahead ≡ Some rest → LeavesFrom capture 0 place rest now (after_bytes pending later)) → AwaitsAt capture now pending → Plays ReadFault left later before after posts posts_now
-plays_cut count place now pending left ahead later before after posts posts_now on leaves awaits = record {
+pub plays_cut : (count offset now : ℕ) (pending : List ℕ) (left ahead later : Option (List ℕ)) (before after : Option Ticking) (posts posts_now : List PostSeen) → PlaysOn count offset left ahead before after posts posts_now → ((rest : List ℕ) → ahead ≡ Some rest → LeavesFrom capture 0 offset rest now (after_bytes pending later)) → AwaitsAt capture now pending → Plays ReadFault left later before after posts posts_now
+plays_cut count offset now pending left ahead later before after posts posts_now on leaves awaits = record {
   played = on.played;
   limits = on.limits;
   readings = on.readings;
@@ -217,5 +217,5 @@ plays_cut count place now pending left ahead later before after posts posts_now 
   paced = on.paced;
   posts_are = on.posts_are;
   count = tt;
-  file = λ bytes is. let to = on.file bytes is in played_cut bytes on.played place now ahead pending later to (leaves to.rest to.ahead_is) awaits;
+  file = λ bytes is. let to = on.file bytes is in played_cut bytes on.played offset now ahead pending later to (leaves to.rest to.ahead_is) awaits;
 }

@@ -40,21 +40,21 @@ pub record IsFeeding (feed : Feed) : Type 0 where
   pub few : feed.capacity ≤ 4096
 
 -- these items are what was kept of the datagrams that came
-pub record Keeps (capacity : ℕ) (came : List (List ℕ)) (items : List Item) (dropped : ℕ) : Type 0 where
+pub record Keeps (capacity : ℕ) (arrived : List (List ℕ)) (items : List Item) (dropped : ℕ) : Type 0 where
   pub marks : List Bool
-  pub each : length marks ≡ length came
+  pub each : length marks ≡ length arrived
   pub full : DropsBehind capacity 0 marks
-  pub texts_are : texts items ≡ kept_of marks came
+  pub texts_are : texts items ≡ kept_of marks arrived
   pub whole : AllByRecursion IsDatagram items
   pub dropped_is : dropped ≡ counted (dropped_in marks)
 
 -- a feed put in what was kept of the datagrams that came
 abbrev pub Fed : List (List ℕ) → Feed → Type 0
-Fed came feed = (items : List Item) × (view feed.pass ≡ put_log items) × Keeps feed.capacity came items feed.dropped
+Fed arrived feed = (items : List Item) × (view feed.pass ≡ put_log items) × Keeps feed.capacity arrived items feed.dropped
 
 -- and then the news that none follows
 abbrev pub Closed : List (List ℕ) → Feed → Type 0
-Closed came feed = (items : List Item) × (view feed.pass ≡ put_log (items ++ End ∷ [])) × Keeps feed.capacity came items feed.dropped
+Closed arrived feed = (items : List Item) × (view feed.pass ≡ put_log (items ++ End ∷ [])) × Keeps feed.capacity arrived items feed.dropped
 
 -- it is a feed of the same queue
 pub record IsSameFeed (old new : Feed) : Type 0 where
@@ -78,7 +78,7 @@ pub record IsServing (server : ServerSeen) : Type 0 where
   pub popped : List Item
   pub view_is : view server.pass ≡ popped_log popped
 
--- a server sent, of the datagrams that it took out, all, or a front of them where the post failed
+-- a server sent, of the datagrams that it took out, all, or a prefix of them where the post failed
 pub record Served (start : PostSeen) (server : ServerSeen) : Type 0 where
   pub popped : List Item
   pub view_is : view server.pass ≡ popped_log popped
@@ -102,7 +102,7 @@ pub record SendsNext (datagram : List ℕ) (old new : ServerSeen) : Type 0 where
 
 -- the last item that it took out was the end
 abbrev pub IsDone : ServerSeen → Type 0
-IsDone server = (front : List Item) × (view server.pass ≡ popped_log (front ++ End ∷ []))
+IsDone server = (prefix : List Item) × (view server.pass ≡ popped_log (prefix ++ End ∷ []))
 
 -- it is a server of the same queue
 pub record IsSameServer (old new : ServerSeen) : Type 0 where

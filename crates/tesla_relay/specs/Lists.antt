@@ -24,16 +24,16 @@ AreFeeding [] = Unit {0}
 AreFeeding (feed ∷ feeds) = IsFeeding feed × AreFeeding feeds
 
 -- these datagrams came to a feed, after those that came before
-pub record FeedsOn (came : List (List ℕ)) (old new : Feed) : Type 0 where
+pub record FeedsOn (arrived : List (List ℕ)) (old new : Feed) : Type 0 where
   pub feeding : IsFeeding new
   pub same : IsSameFeed old new
-  pub fed : (before : List (List ℕ)) → Fed before old → Fed (before ++ came) new
+  pub fed : (before : List (List ℕ)) → Fed before old → Fed (before ++ arrived) new
 
 -- these datagrams came to a feed, and then the end
-pub record FeedsAll (came : List (List ℕ)) (old new : Feed) : Type 0 where
+pub record FeedsAll (arrived : List (List ℕ)) (old new : Feed) : Type 0 where
   pub own : IsPassOf (arc_value new.line) new.pass
   pub same : IsSameFeed old new
-  pub fed : (before : List (List ℕ)) → Fed before old → Closed (before ++ came) new
+  pub fed : (before : List (List ℕ)) → Fed before old → Closed (before ++ arrived) new
 
 -- what left the link came to all feeds
 pub record HearsOn (left later : Option (List Letter)) (olds news : List Feed) : Type 0 where
@@ -76,9 +76,9 @@ pub record Starts (capacity : ℕ) (start : PostSeen) (feed : Feed) (server : Se
   pub table : server.pass.table_id ≡ feed.pass.table_id
 
 -- all was put in and taken out
-pub record Ends (capacity : ℕ) (came : List (List ℕ)) (start : PostSeen) (feed : Feed) (server : ServerSeen) : Type 0 where
+pub record Ends (capacity : ℕ) (arrived : List (List ℕ)) (start : PostSeen) (feed : Feed) (server : ServerSeen) : Type 0 where
   pub own : IsPassOf (arc_value feed.line) feed.pass
-  pub closed : Closed came feed
+  pub closed : Closed arrived feed
   pub capacity_is : feed.capacity ≡ capacity
   pub serving : IsServing server
   pub served : Served start server

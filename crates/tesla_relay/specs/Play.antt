@@ -66,15 +66,15 @@ BreaksAt datagram (post ∷ posts) (post_now ∷ posts_now) = ((post_now ≡ hav
 
 -- these datagrams were sent to all posts, and then one more, at which a post failed
 pub record BreaksOff (datagrams : List (List ℕ)) (before now : List PostSeen) : Type 0 where
-  pub front : List (List ℕ)
+  pub prefix : List (List ℕ)
   pub last : List ℕ
-  pub datagrams_are : datagrams ≡ front ++ last ∷ []
-  pub breaks : BreaksAt last (map (having_sent front) before) now
+  pub datagrams_are : datagrams ≡ prefix ++ last ∷ []
+  pub breaks : BreaksAt last (map (having_sent prefix) before) now
 
 -- what the posts did with these datagrams: each sent all of them, in order and each once, unless a post failed
 abbrev pub PostsTo : PlayEnd → List (List ℕ) → List PostSeen → List PostSeen → Type 0
 PostsTo (Ended sent) datagrams before now = now ≡ map (having_sent datagrams) before
-PostsTo (Refused place kind) datagrams before now = now ≡ map (having_sent datagrams) before
+PostsTo (Refused offset kind) datagrams before now = now ≡ map (having_sent datagrams) before
 PostsTo ReadFault datagrams before now = now ≡ map (having_sent datagrams) before
 PostsTo PostFault datagrams before now = BreaksOff datagrams before now
 
@@ -89,16 +89,16 @@ pub record IsCutOff (bytes : List ℕ) (later : Option (List ℕ)) (played : Lis
   pub arrivals : arrivals_of records ≡ played
 
 -- the arrivals of a file begin with these
-pub record IsFront (bytes : List ℕ) (played : List Played) : Type 0 where
+pub record IsPrefixOf (bytes : List ℕ) (played : List Played) : Type 0 where
   pub more : List Played
   pub arrivals : arrivals_of (outline_of capture bytes).records ≡ played ++ more
 
 -- which arrivals of a file were played: all of one that is a capture, those before the first place that is refused, those of what was read before a read failed, or the first ones
 abbrev pub FileTo : PlayEnd → List ℕ → Option (List ℕ) → List Played → Type 0
 FileTo (Ended sent) bytes later played = ((outline_of capture bytes).fault ≡ None) × (arrivals_of (outline_of capture bytes).records ≡ played)
-FileTo (Refused place kind) bytes later played = ((outline_of capture bytes).fault ≡ Some (place, kind)) × (arrivals_of (outline_of capture bytes).records ≡ played)
+FileTo (Refused offset kind) bytes later played = ((outline_of capture bytes).fault ≡ Some (offset, kind)) × (arrivals_of (outline_of capture bytes).records ≡ played)
 FileTo ReadFault bytes later played = IsCutOff bytes later played
-FileTo PostFault bytes later played = IsFront bytes played
+FileTo PostFault bytes later played = IsPrefixOf bytes played
 
 -- ---- a play
 

@@ -10,4 +10,4 @@ pub record PostSeen : Type 0 where
 
 -- what was sent, where it is told, with these datagrams at its end
 abbrev pub with_datagrams : Option (List (List ℕ)) → List (List ℕ) → Option (List (List ℕ))
-with_datagrams sent datagrams = option_map (λ front. front ++ datagrams) sent
+with_datagrams sent datagrams = option_map (λ prefix. prefix ++ datagrams) sent

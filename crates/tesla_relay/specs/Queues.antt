@@ -27,15 +27,15 @@ AreNew capacity (queue ∷ queues) = IsNew capacity queue × AreNew capacity que
 abbrev pub Backwards : (PostSeen → Feed → ServerSeen → Type 0) → List PostSeen → List Feed → List ServerSeen → Type 0
 Backwards R [] feeds servers = (feeds ≡ []) × (servers ≡ [])
 Backwards R (post ∷ posts) feeds servers =
-    (front : List Feed) × (feed : Feed) × (others : List ServerSeen) × (server : ServerSeen)
-    × (feeds ≡ front ++ feed ∷ []) × (servers ≡ others ++ server ∷ []) × R post feed server × Backwards R posts front others
+    (prefix : List Feed) × (feed : Feed) × (others : List ServerSeen) × (server : ServerSeen)
+    × (feeds ≡ prefix ++ feed ∷ []) × (servers ≡ others ++ server ∷ []) × R post feed server × Backwards R posts prefix others
 
 -- before the run, and after it
 abbrev pub Starting : ℕ → List PostSeen → List Feed → List ServerSeen → Type 0
 Starting capacity posts feeds servers = Backwards (Starts capacity) posts feeds servers
 
 abbrev pub Ending : ℕ → List (List ℕ) → List PostSeen → List Feed → List ServerSeen → Type 0
-Ending capacity came posts feeds servers = Backwards (Ends capacity came) posts feeds servers
+Ending capacity arrived posts feeds servers = Backwards (Ends capacity arrived) posts feeds servers
 
 -- those of these posts were added behind those before
 abbrev pub Adds : (List PostSeen → List Feed → List ServerSeen → Type 0) → List PostSeen → List Feed → List Feed → List ServerSeen → List ServerSeen → Type 0

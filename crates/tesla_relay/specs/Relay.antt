@@ -31,33 +31,33 @@ DropsBehind capacity before (false ∷ marks) = (capacity ≤ before) × DropsBe
 
 -- ---- what a post sends
 
--- of the datagrams that came these were sent: those that weren't dropped for the post, in order and each once; where it failed, a front of them
-pub record RelaysTo (capacity : ℕ) (came sent : List (List ℕ)) (count : PostCount) : Type 0 where
+-- of the datagrams that came these were sent: those that weren't dropped for the post, in order and each once; where it failed, a prefix of them
+pub record RelaysTo (capacity : ℕ) (arrived sent : List (List ℕ)) (count : PostCount) : Type 0 where
   -- of each datagram a mark tells whether it was kept for the post, and none was dropped but behind as many others as the queue holds
   pub marks : List Bool
-  pub each : length marks ≡ length came
+  pub each : length marks ≡ length arrived
   pub full : DropsBehind capacity 0 marks
   pub sends : ℕ
-  pub few : sends ≤ length (kept_of marks came)
-  pub all : count.failed ≡ false → sends ≡ length (kept_of marks came)
-  pub sent_are : sent ≡ take sends (kept_of marks came)
+  pub few : sends ≤ length (kept_of marks arrived)
+  pub all : count.failed ≡ false → sends ≡ length (kept_of marks arrived)
+  pub sent_are : sent ≡ take sends (kept_of marks arrived)
   -- the counts tell it
   pub sent_count : count.sent ≡ counted sends
   pub dropped_count : count.dropped ≡ counted (dropped_in marks)
 
 -- a post sent such datagrams
-pub record RelaysPost (capacity : ℕ) (came : List (List ℕ)) (old new : PostSeen) (count : PostCount) : Type 0 where
+pub record RelaysPost (capacity : ℕ) (arrived : List (List ℕ)) (old new : PostSeen) (count : PostCount) : Type 0 where
   pub sent : List (List ℕ)
-  pub to : RelaysTo capacity came sent count
+  pub to : RelaysTo capacity arrived sent count
   pub sent_is : new.sent ≡ with_datagrams old.sent sent
   pub name : new.name ≡ old.name
   pub cause : HasCause old.faults new.faults (count.failed ≡ true)
 
 -- the same of each post, as it was and as it is, with its count
 abbrev pub RelaysPosts : ℕ → List (List ℕ) → List PostSeen → List PostSeen → List PostCount → Type 0
-RelaysPosts capacity came [] [] [] = Unit {0}
-RelaysPosts capacity came (old ∷ olds) (new ∷ news) (count ∷ counts) = RelaysPost capacity came old new count × RelaysPosts capacity came olds news counts
-RelaysPosts capacity came olds news counts = ⊥
+RelaysPosts capacity arrived [] [] [] = Unit {0}
+RelaysPosts capacity arrived (old ∷ olds) (new ∷ news) (count ∷ counts) = RelaysPost capacity arrived old new count × RelaysPosts capacity arrived olds news counts
+RelaysPosts capacity arrived olds news counts = ⊥
 
 -- ---- a run
 

@@ -25,15 +25,15 @@ Hands datagram true before now = now ≡ map (having_sent (datagram ∷ [])) bef
 Hands datagram false before now = BreaksAt datagram before now
 
 -- the first records of a file were taken, and these are their arrivals; what stands at the place is ahead
-pub record IsPlayedTo (bytes : List ℕ) (played : List Played) (place : ℕ) (ahead : Option (List ℕ)) : Type 0 where
+pub record IsPlayedTo (bytes : List ℕ) (played : List Played) (offset : ℕ) (ahead : Option (List ℕ)) : Type 0 where
   pub records : List Record
   pub rest : List ℕ
   pub ahead_is : ahead ≡ Some rest
-  pub taken : IsTaken capture bytes records place rest
+  pub taken : IsTaken capture bytes records offset rest
   pub arrivals : arrivals_of records ≡ played
 
 -- so many arrivals were played, and what stands at the place is ahead
-pub record PlaysOn (count place : ℕ) (left ahead : Option (List ℕ)) (before after : Option Ticking) (posts posts_now : List PostSeen) : Type 0 where
+pub record PlaysOn (count offset : ℕ) (left ahead : Option (List ℕ)) (before after : Option Ticking) (posts posts_now : List PostSeen) : Type 0 where
   pub played : List Played
   pub limits : AllByRecursion IsPlayed played
   pub readings : List ℕ
@@ -41,4 +41,4 @@ pub record PlaysOn (count place : ℕ) (left ahead : Option (List ℕ)) (before 
   pub paced : Paced (map reading_of played) readings
   pub posts_are : posts_now ≡ map (having_sent (map bytes_of played)) posts
   pub count_is : count ≡ length played
-  pub file : (bytes : List ℕ) → left ≡ Some bytes → IsPlayedTo bytes played place ahead
+  pub file : (bytes : List ℕ) → left ≡ Some bytes → IsPlayedTo bytes played offset ahead

@@ -9,7 +9,7 @@ use std::sync::Wait;
 use std::thread;
 use tesla_base::{MOST_DATAGRAM, NoMemory};
 
-/// The bytes of a datagram, which stands at their front.
+/// The bytes of a datagram, which stands at their start.
 pub type Buffer = Box<[u8; MOST_DATAGRAM]>;
 
 /// The buffers that hold no datagram now.

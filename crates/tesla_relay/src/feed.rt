@@ -120,7 +120,7 @@ impl Feed {
         self.has_room(rt) && self.put_copy(rt, size, bytes)
     }
 
-    /// Puts a datagram in, which stands at the front of these bytes, or drops it where the queue holds as many as it may.
+    /// Puts a datagram in, which stands at the start of these bytes, or drops it where the queue holds as many as it may.
     pub fn offer<R: Wait>(&mut self, rt: &R, length: u16, bytes: &[u8; MOST_DATAGRAM])
         requires { IsFeeding self.old }
         ensures { FeedsOn (take length bytes.now ∷ []) self.old self.new }

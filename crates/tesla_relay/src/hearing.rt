@@ -13,7 +13,7 @@ use std::thread::{Threads, for_each_mut};
 use tesla_base::MOST_DATAGRAM;
 use tesla_desk::{Gate, Got, Link};
 
-// Puts a datagram, which stands at the front of these bytes, into each queue that has room. All is done in this thread.
+// Puts a datagram, which stands at the start of these bytes, into each queue that has room. All is done in this thread.
 fn offer_all<R: Threads + Wait + Sync>(
     rt: &R,
     feeds: &mut [Feed],

@@ -13,7 +13,7 @@ use std::collections::LinkedList;
 use std::sync::Wait;
 use tesla_base::{MOST_DATAGRAM, NoMemory};
 
-/// What stands in a queue: a datagram, at the front of its bytes, or the news that none follows.
+/// What stands in a queue: a datagram, at the start of its bytes, or the news that none follows.
 #[derive(Drop)]
 pub enum Item {
     Datagram { length: u16, bytes: Buffer },
@@ -111,13 +111,13 @@ pub type Line = RuledArrayQueue<Item, Log, InOrder>;
 pub type LinePass = Pass<Item, Log>;
 
 /// A queue with so many places, empty, and its two passes: one puts in, the other takes out.
-pub fn new_line(alloc: Global, places: usize) -> Result<(Line, LinePass, LinePass), NoMemory>
-    requires { 0 < places }
+pub fn new_line(alloc: Global, slots: usize) -> Result<(Line, LinePass, LinePass), NoMemory>
+    requires { 0 < slots }
     ensures own { IfOk result (λ made. IsPassOf made.0 made.1 × IsPassOf made.0 made.2) }
-    ensures room { IfOk result (λ made. ruled_capacity made.0 ≡ places) }
+    ensures room { IfOk result (λ made. ruled_capacity made.0 ≡ slots) }
     ensures empty { IfOk result (λ made. (view made.1 ≡ put_log []) × (view made.2 ≡ popped_log [])) }
 {
-    let (line, mut put) = Line::ruled(alloc, places)?;
+    let (line, mut put) = Line::ruled(alloc, slots)?;
     let popped = line.another::<Ends>(&mut put);
     Ok((line, put, popped))
 }

@@ -103,7 +103,7 @@ pub fn take_in<P: Post, G: Gate>(
 // What a feed and a server come to: the post, its gate, and what became of the datagrams for it.
 fn settle_one<P: Post, G: Gate>(feed: Feed, server: Server<P, G>) -> (P, (G, PostCount))
     requires { IsEnding feed server }
-    ensures { (capacity : ℕ) (came : List (List ℕ)) (start : PostSeen) → Ends capacity came start feed server → RelaysPost capacity came start (record { name = P.name result.0; sent = P.sent result.0; faults = P.faults result.0 }) result.1.1 }
+    ensures { (capacity : ℕ) (arrived : List (List ℕ)) (start : PostSeen) → Ends capacity arrived start feed server → RelaysPost capacity arrived start (record { name = P.name result.0; sent = P.sent result.0; faults = P.faults result.0 }) result.1.1 }
 {
     let Feed {
         line,
@@ -139,10 +139,10 @@ pub fn give_back<P: Post, G: Gate>(
     gates: &mut Vec<G>,
     counts: &mut ArrayVec<PostCount, MOST>,
 )
-    requires ending { (capacity : ℕ) × (came : List (List ℕ)) × (places : List PostSeen) × Ending capacity came places feeds.old.items servers.old.items }
+    requires ending { (capacity : ℕ) × (arrived : List (List ℕ)) × (starts : List PostSeen) × Ending capacity arrived starts feeds.old.items servers.old.items }
     requires space { (vec_len posts.old + length servers.old.items ≤ vec_capacity posts.old) × (vec_len gates.old + length servers.old.items ≤ vec_capacity gates.old) }
     requires room { length counts.old.items + length servers.old.items ≤ 32 }
-    ensures given { (capacity : ℕ) (came : List (List ℕ)) (places : List PostSeen) → Ending capacity came places feeds.old.items servers.old.items → GivesBack (RelaysPosts capacity came) places (map (λ post. record { name = P.name post; sent = P.sent post; faults = P.faults post }) posts.old.items) (map (λ post. record { name = P.name post; sent = P.sent post; faults = P.faults post }) posts.new.items) counts.old.items counts.new.items }
+    ensures given { (capacity : ℕ) (arrived : List (List ℕ)) (starts : List PostSeen) → Ending capacity arrived starts feeds.old.items servers.old.items → GivesBack (RelaysPosts capacity arrived) starts (map (λ post. record { name = P.name post; sent = P.sent post; faults = P.faults post }) posts.old.items) (map (λ post. record { name = P.name post; sent = P.sent post; faults = P.faults post }) posts.new.items) counts.old.items counts.new.items }
     ensures empty { servers.new.items ≡ [] }
 {
     let Some(server) = servers.pop() else {

@@ -20,7 +20,7 @@ use Rattle.tesla_replay.specs.Records.{record_in, records_of, text_of, texts_of,
 use Rattle.tesla_replay.specs.Played.{event_in, played}
 use Rattle.tesla_receiver.proofs.Events.{arrivals_more, legal_after_events}
 use Rattle.tesla_replay.proofs.Records.{records_more}
-use Rattle.tesla_receiver.proofs.Fronts.{released_more}
+use Rattle.tesla_receiver.proofs.Prefixes.{released_more}
 use Rattle.tesla_base.proofs.Lists.{flat_map_numbered_more}
 use Rattle.tesla_replay.proofs.Texts.{texts_stay}
 use Rattle.tesla_receiver.proofs.Standing.{given_same}
@@ -57,13 +57,13 @@ wrote_arrival cfg h arrival w =
     let arrivals : arrivals_in (h ++ e ∷ []) ≡ xs ++ arrival ∷ [] = arrivals_more h e in
     let given : given_in h ≡ given_in (h ++ e ∷ []) = given_same h e refl in
     let records : records_of 0 (h ++ e ∷ []) ≡ records_of 0 h = records_more 0 h e ∙ append-nil (records_of 0 h) in
-    let front : take (given_in h) (released cfg (xs ++ arrival ∷ [])) ≡ take (given_in h) (released cfg xs) =
+    let prefix : take (given_in h) (released cfg (xs ++ arrival ∷ [])) ≡ take (given_in h) (released cfg xs) =
     ap (take (given_in h)) more.1 ∙ take-append-le (given_in h) (released cfg xs) more.0 w.few in
     let long : length (released cfg (xs ++ arrival ∷ [])) ≡ length (released cfg xs) + length more.0 = ap length more.1 ∙ length-append (released cfg xs) more.0 in
     let few : given_in h ≤ length (released cfg (xs ++ arrival ∷ [])) = omega (arith, w.few, long) in
     record {
       few = subst (λ g. g ≤ length (released cfg (arrivals_in (h ++ e ∷ [])))) given (subst (λ (ys : List Arrival). given_in h ≤ length (released cfg ys)) (sym arrivals) few);
-      same = records ∙ w.same ∙ sym (texts_stay cfg xs (arrival ∷ []) (given_in h)) ∙ ap (texts_of (xs ++ arrival ∷ [])) (sym front)
+      same = records ∙ w.same ∙ sym (texts_stay cfg xs (arrival ∷ []) (given_in h)) ∙ ap (texts_of (xs ++ arrival ∷ [])) (sym prefix)
           ∙ ap (λ g. texts_of (xs ++ arrival ∷ []) (take g (released cfg (xs ++ arrival ∷ [])))) given
           ∙ ap (λ (ys : List Arrival). texts_of ys (take (given_in (h ++ e ∷ [])) (released cfg ys))) (sym arrivals);
     }

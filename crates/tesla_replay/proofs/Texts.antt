@@ -10,7 +10,7 @@ use Rattle.tesla_walks.specs.declared.release.Release.{Release}
 use Rattle.tesla_state.specs.Releases.{head_of}
 use Rattle.tesla_receiver.specs.Packets.{released}
 use Rattle.tesla_receiver.specs.History.{payload_of}
-use Rattle.tesla_receiver.proofs.Places.{is_below, released_below}
+use Rattle.tesla_receiver.proofs.ArrivalOrders.{is_below, released_below}
 use Rattle.tesla_replay.specs.Records.{text_of, texts_of}
 
 texts_stay_from : (arrivals more : List Arrival) (n : ℕ) (xs : List Release) → list_all (is_below (length arrivals)) xs ≡ true → flat_map (text_of (arrivals ++ more)) (enumerate_from n xs) ≡ flat_map (text_of arrivals) (enumerate_from n xs)

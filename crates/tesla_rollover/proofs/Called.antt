@@ -17,11 +17,11 @@ use Rattle.tesla_rollover.proofs.InStep.{configs_numbered}
 
 -- ---- lists
 
-take_front : {A : Type 0} (n : ℕ) (ys zs : List A) → length ys ≡ n → take n (ys ++ zs) ≡ ys
-take_front zero [] zs h = refl
-take_front zero (y ∷ ys) zs h = absurd (omega (arith, h))
-take_front (suc n) [] zs h = absurd (omega (arith, h))
-take_front (suc n) (y ∷ ys) zs h = ap (λ rs. y ∷ rs) (take_front n ys zs (omega (arith, h)))
+take_prefix : {A : Type 0} (n : ℕ) (ys zs : List A) → length ys ≡ n → take n (ys ++ zs) ≡ ys
+take_prefix zero [] zs h = refl
+take_prefix zero (y ∷ ys) zs h = absurd (omega (arith, h))
+take_prefix (suc n) [] zs h = absurd (omega (arith, h))
+take_prefix (suc n) (y ∷ ys) zs h = ap (λ rs. y ∷ rs) (take_prefix n ys zs (omega (arith, h)))
 
 -- epochs with the same configurations are as many
 pub as_many : (xs ys : List Epoch) → configs_of xs ≡ configs_of ys → length xs ≡ length ys
@@ -32,7 +32,7 @@ as_many (x ∷ xs) (y ∷ ys) same = let others : configs_of xs ≡ configs_of y
 
 -- as many epochs as there were are written back whole
 pub epochs_back : (n : ℕ) (now new old : List Epoch) → length now ≡ n → configs_of new ≡ configs_of now → take n (new ++ drop (length new) old) ≡ new
-epochs_back n now new old long same = take_front n new (drop (length new) old) (as_many new now same ∙ long)
+epochs_back n now new old long same = take_prefix n new (drop (length new) old) (as_many new now same ∙ long)
 
 pub receivers_set : (epochs : List Epoch) (k : ℕ) (epoch : Epoch) → receivers_of (set epochs k epoch) ≡ set (receivers_of epochs) k epoch.receiver
 receivers_set [] k epoch = refl

@@ -22,7 +22,7 @@ use Rattle.tesla_rollover.specs.History.{RollEntry, RollTaken, config_at, config
 use Rattle.tesla_rollover.specs.Laws.{IsNextReleased}
 use Rattle.tesla_rollover.specs.declared.answers.Next.{Next}
 use Rattle.tesla_rollover.proofs.Entries.{at_more}
-use Rattle.tesla_rollover.proofs.Fronts.{config_stays}
+use Rattle.tesla_rollover.proofs.Prefixes.{config_stays}
 use Rattle.tesla_rollover.proofs.Legal.{answers_few, entered_legal, epoch_open, none_further, of_legal, past_end}
 
 -- ---- the answers of the epochs that are asked

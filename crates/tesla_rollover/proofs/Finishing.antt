@@ -31,7 +31,7 @@ use Rattle.tesla_rollover.specs.Replies.{IsEmpty, IsOver, is_over}
 use Rattle.tesla_rollover.specs.declared.answers.Next.{Next}
 use Rattle.tesla_rollover.proofs.Entries.{at_more, count_same, setups_more}
 use Rattle.tesla_rollover.proofs.Epochs.{taken_open}
-use Rattle.tesla_rollover.proofs.Fronts.{config_stays}
+use Rattle.tesla_rollover.proofs.Prefixes.{config_stays}
 use Rattle.tesla_rollover.proofs.Legal.{answers_few, entered_legal, none_further, opens_one, past_end}
 use Rattle.tesla_rollover.proofs.Numbers.{map_below, rest_same}
 
@@ -312,8 +312,8 @@ record TakesAll (cfg : Config) (h : List RollEntry) (n : ℕ) : Type 0 where
   count : length given ≡ n
   over : list_all is_over last ≡ true
 
-with_front : (h : List RollEntry) (e first : RollEntry) (others whole : List RollEntry) → whole ≡ (h ++ e ∷ []) ++ others → e ≡ first → whole ≡ h ++ first ∷ others
-with_front h e first others whole is same = is ∙ append_assoc h (e ∷ []) others ∙ ap (λ (x : RollEntry). h ++ x ∷ others) same
+with_prefix : (h : List RollEntry) (e first : RollEntry) (others whole : List RollEntry) → whole ≡ (h ++ e ∷ []) ++ others → e ≡ first → whole ≡ h ++ first ∷ others
+with_prefix h e first others whole is same = is ∙ append_assoc h (e ∷ []) others ∙ ap (λ (x : RollEntry). h ++ x ∷ others) same
 
 takes_all : (cfg : Config) (n : ℕ) (h : List RollEntry) → EndedAll cfg h → roll_waiting_in cfg h ≡ n → TakesAll cfg h n
 takes_all cfg zero h all waits =
@@ -340,7 +340,7 @@ takes_all cfg (suc n) h all waits =
     record {
       given = (answers_in cfg h, next) ∷ later.given;
       last = later.last;
-      entries = with_front h e (roll_giving (answers_in cfg h, next)) (map roll_giving later.given ++ RollTaken 0 later.last None ∷ []) (roll_after_events cfg (h ++ e ∷ []) (replicate (suc n) (Takes 0))) later.entries gave;
+      entries = with_prefix h e (roll_giving (answers_in cfg h, next)) (map roll_giving later.given ++ RollTaken 0 later.last None ∷ []) (roll_after_events cfg (h ++ e ∷ []) (replicate (suc n) (Takes 0))) later.entries gave;
       count = ap suc later.count;
       over = later.over;
     })
@@ -391,7 +391,7 @@ roll_finishes cfg h one l =
     record {
       given = takes.given;
       last = takes.last;
-      entries = with_front h (RollEnded 0) (RollEnded 0) (map roll_giving takes.given ++ RollTaken 0 takes.last None ∷ []) (roll_finished cfg h) takes.entries refl;
+      entries = with_prefix h (RollEnded 0) (RollEnded 0) (map roll_giving takes.given ++ RollTaken 0 takes.last None ∷ []) (roll_finished cfg h) takes.entries refl;
       count = takes.count;
       over = ap (λ (b : Bool). cond b IsOver IsEmpty) takes.over;
     }

@@ -26,7 +26,7 @@ use Rattle.tesla_rollover.specs.declared.answers.Next.TheVariants as nexts
 use Rattle.tesla_rollover.proofs.Answered.{setups_of_given, setups_with}
 use Rattle.tesla_rollover.proofs.Entries.{at_more, count_same, setups_more}
 use Rattle.tesla_rollover.proofs.Epochs.{taken_open}
-use Rattle.tesla_rollover.proofs.Fronts.{config_stays, history_grows}
+use Rattle.tesla_rollover.proofs.Prefixes.{config_stays, history_grows}
 use Rattle.tesla_rollover.proofs.Legal.{configs_count, entered_legal, of_legal, opens_one}
 
 -- ---- the packet that opens an epoch

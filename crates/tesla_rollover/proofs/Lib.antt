@@ -10,7 +10,7 @@ mod Opened
 pub mod Called
 pub mod Arrived
 pub mod Taken
-pub mod Fronts
+pub mod Prefixes
 pub mod Epochs
 pub mod Spelled
 pub mod Handovers

@@ -25,7 +25,7 @@ use Rattle.tesla_rollover.specs.declared.answers.Next.TheVariants.{Plain, Old, E
 use Rattle.tesla_rollover.specs.Replies.{had_memory}
 use Rattle.tesla_rollover.specs.Handover.{handover_text, setup_in, setup_judged, setup_spelled}
 use Rattle.tesla_rollover.specs.declared.epoch.Epoch.{Epoch}
-use Rattle.tesla_rollover.proofs.Found.{any_placed}
+use Rattle.tesla_rollover.proofs.Found.{any_position_found}
 
 -- ---- the ends that it begins with
 
@@ -83,7 +83,7 @@ pub next_is : (epochs found_in : List Epoch) (setup : Parts) (stream : StreamId)
 next_is epochs found_in setup stream spelled found used same own is place some =
     let any : used ≡ list_any (has_stream setup.stream) (configs_of epochs) =
     some ∙ ap (λ (o : Option ℕ). is_some o) place ∙ ap (λ (es : List Epoch). is_some (position (has_stream stream) (configs_of es))) same
-    ∙ ap (λ (s : StreamId). is_some (position (has_stream s) (configs_of epochs))) own ∙ sym (any_placed (has_stream setup.stream) (configs_of epochs)) in
+    ∙ ap (λ (s : StreamId). is_some (position (has_stream s) (configs_of epochs))) own ∙ sym (any_position_found (has_stream setup.stream) (configs_of epochs)) in
     ap (λ (s : StreamId). cond used (UsedStream s) Opened) own
     ∙ ap (λ (b : Bool). cond b (UsedStream setup.stream) Opened) any
     ∙ sym (ap (λ (judged : Result Parts (ℕ × SetupKind)). next_judged (configs_of epochs) judged) is)

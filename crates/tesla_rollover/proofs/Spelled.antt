@@ -7,7 +7,7 @@ use Rattle.tesla_rollover.specs.Handover.{IsHandover, handover_mark, handover_te
 spelled_by : (payload text : List ℕ) (same : Bool) → bytes_eq (take 5 payload) handover_mark ≡ same → cond same (Some (drop 5 payload)) None ≡ Some text → IsHandover payload text
 spelled_by payload text true same is =
     let rest : drop 5 payload ≡ text = cc in
-    sym (take-append-drop 5 payload) ∙ ap (λ (front : List ℕ). front ++ drop 5 payload) ((bytes_eq-Decides (take 5 payload) handover_mark).0 same) ∙ ap (λ (behind : List ℕ). handover_mark ++ behind) rest
+    sym (take-append-drop 5 payload) ∙ ap (λ (prefix : List ℕ). prefix ++ drop 5 payload) ((bytes_eq-Decides (take 5 payload) handover_mark).0 same) ∙ ap (λ (behind : List ℕ). handover_mark ++ behind) rest
 spelled_by payload text false same is = absurd cc
 
 -- the text that is read stands behind the mark

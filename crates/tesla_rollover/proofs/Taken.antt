@@ -80,7 +80,7 @@ ends_same ingests xs ys same = ap (λ (ks : List ℕ). map (λ (ingest : ℕ). E
 
 -- what epochs came to that were asked, with their receivers before and afterwards
 pub record Asks (old : RollState) (h : List RollEntry) (releaser : ℕ) (reply : AskedReply) (after : List Epoch) : Type 0 where
-  pub came : asked_from 0 (up_to_given (replies_of old.receivers (histories_in old.config.ingests h))) ≡ reply
+  pub replied : asked_from 0 (up_to_given (replies_of old.receivers (histories_in old.config.ingests h))) ≡ reply
   pub configs : configs_of after ≡ map config_in old.receivers
   pub stand : StandAll (receivers_of after) (with_takes releaser (up_to_given (replies_of old.receivers (histories_in old.config.ingests h))) (histories_in old.config.ingests h))
 
@@ -93,7 +93,7 @@ asks old h releaser shown reply items now after st same was is answer stand conf
     let receivers : receivers_of now ≡ old.receivers = ap receivers_of was ∙ same in
     let before : StandAll (receivers_of now) hs = subst (λ (ss : List State). StandAll ss hs) (sym receivers) st.receivers in
     record {
-      came = ap (λ (ss : List State). asked_from 0 (up_to_given (replies_of ss hs))) (sym receivers) ∙ sym (answer hs before) ∙ is;
+      replied = ap (λ (ss : List State). asked_from 0 (up_to_given (replies_of ss hs))) (sym receivers) ∙ sym (answer hs before) ∙ is;
       configs = configs ∙ ap (λ (ss : List State). map config_in ss) receivers;
       stand = subst (λ (ss : List State). StandAll (receivers_of after) (with_takes releaser (up_to_given (replies_of ss hs)) hs)) receivers (stand hs before);
     }
@@ -116,7 +116,7 @@ module _ (old : RollState) (h : List RollEntry) (releaser epoch : ℕ) (head : H
   replies_same = replies_are old.config h old.receivers st.configs
 
   gave_last : GaveAt 0 answers epoch head payload
-  gave_last = gave_at 0 (map (reply_at old.config h) (range_with_len 0 (epoch_count h))) epoch head payload (ap (λ (rs : List Reply). asked_from 0 (up_to_given rs)) (sym replies_same) ∙ at.asked.came)
+  gave_last = gave_at 0 (map (reply_at old.config h) (range_with_len 0 (epoch_count h))) epoch head payload (ap (λ (rs : List Reply). asked_from 0 (up_to_given rs)) (sym replies_same) ∙ at.asked.replied)
 
   stand_now : StandAll (receivers_of after) (with_takes releaser answers (histories_in old.config.ingests h))
   stand_now = subst (λ (rs : List Reply). StandAll (receivers_of after) (with_takes releaser (up_to_given rs) (histories_in old.config.ingests h))) replies_same at.asked.stand
@@ -188,16 +188,16 @@ module _ (old : RollState) (h : List RollEntry) (releaser : ℕ) (after : List E
       ∙ ap (λ (b : Bool). cond b IsOver IsEmpty) gave.all
 
   pub empty_answer : Asks old h releaser kept.IsEmpty after → IsEmpty ≡ reply_with (answers_in old.config h) (option_map (next_of (configs_in old.config h) (length (answers_in old.config h) - 1) true) (payload_given (answers_in old.config h)))
-  empty_answer at = sym (none_answer false (empty_some 0 replies (none_by old h kept.IsEmpty st at.came)))
+  empty_answer at = sym (none_answer false (empty_some 0 replies (none_by old h kept.IsEmpty st at.replied)))
 
   pub empty_stands : Asks old h releaser kept.IsEmpty after → RollStands (record { config = old.config; receivers = receivers_of after; given = old.given; calls = old.calls + 1 }) (h ++ roll_entry_of old.config h true (Takes releaser) ∷ [])
-  empty_stands at = none_stands old h releaser kept.IsEmpty false after st at (empty_some 0 replies (none_by old h kept.IsEmpty st at.came))
+  empty_stands at = none_stands old h releaser kept.IsEmpty false after st at (empty_some 0 replies (none_by old h kept.IsEmpty st at.replied))
 
   pub over_answer : Asks old h releaser kept.IsOver after → IsOver ≡ reply_with (answers_in old.config h) (option_map (next_of (configs_in old.config h) (length (answers_in old.config h) - 1) true) (payload_given (answers_in old.config h)))
-  over_answer at = sym (none_answer true (over_all 0 replies (none_by old h kept.IsOver st at.came)))
+  over_answer at = sym (none_answer true (over_all 0 replies (none_by old h kept.IsOver st at.replied)))
 
   pub over_stands : Asks old h releaser kept.IsOver after → RollStands (record { config = old.config; receivers = receivers_of after; given = old.given; calls = old.calls + 1 }) (h ++ roll_entry_of old.config h true (Takes releaser) ∷ [])
-  over_stands at = none_stands old h releaser kept.IsOver true after st at (over_all 0 replies (none_by old h kept.IsOver st at.came))
+  over_stands at = none_stands old h releaser kept.IsOver true after st at (over_all 0 replies (none_by old h kept.IsOver st at.replied))
 
 -- ---- what is kept
 

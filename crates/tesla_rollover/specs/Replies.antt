@@ -18,7 +18,7 @@ pub data RollReply : Type 0 where
   -- no epoch gave a packet, and every one is over
   IsOver : RollReply
 
--- the payload stands at the front of the bytes
+-- the payload stands at the start of the bytes
 abbrev pub roll_shown : RollTake → List ℕ → RollReply
 roll_shown (Given epoch head next) into = Gives epoch head (take head.length into) next
 roll_shown Empty into = IsEmpty

@@ -26,9 +26,9 @@ pub fn given()
     ensures { GivenAreReleased }
 {}
 
-/// What was told stays told: of the first entries it is a front of what all of them tell.
+/// What was told stays told: of the first entries it is a prefix of what all of them tell.
 pub fn prefixes()
-    // A front of a legal history is legal.
+    // A prefix of a legal history is legal.
     ensures legal { (cfg : Config) (h more : List RollEntry) → IsRollLegal cfg (h ++ more) → IsRollLegal cfg h }
     // Each epoch's history only grows.
     ensures histories { (ingests : ℕ) (h more : List RollEntry) (epoch : ℕ) → (rest : List Entry) × (history_at ingests (h ++ more) epoch ≡ history_at ingests h epoch ++ rest) }

@@ -4,7 +4,7 @@ use Rattle.arrayvec.specs.ArrayString.{ArrayString}
 use Rattle.tesla_desk.specs.Faults.{Faults, HasCausesBeside}
 use Rattle.tesla_desk.specs.Outside.{Page, Told, Opening, OfSource, OfSink}
 use Rattle.tesla_desk.proofs.Counts.{cause_as, causes_none, causes_then}
-use Rattle.tesla_front.specs.Came.{Came, Failed, came_of}
+use Rattle.tesla_front.specs.OutcomeView.{OutcomeView, Failed, result_view}
 use Rattle.tesla_front.specs.Command.{Performs}
 use Rattle.tesla_front.specs.Fault.{Causes}
 use Rattle.tesla_front.specs.Files.{ReadsFile}
@@ -43,7 +43,7 @@ pub ask_files : (arguments : AskArguments) (words : List (List ℕ)) → IsAskFo
 ask_files arguments words is = (is.rest.rest.first.0.file, tt)
 
 -- an ask was written
-pub performs_ask : (arguments : AskArguments) (message : List ℕ) (before now : Told) (result : Result ArrayString Stop) → AreFiles (files_of_ask arguments) → IsAsk message arguments.reading → OpensSome (OfSink arguments.out ∷ []) before now → WritesMessage message (asked_line arguments.reading) (before.page arguments.out) (now.page arguments.out) (came_of result) → StopCauses result before.faults now.faults → Performs ask arguments before now (came_of result)
+pub performs_ask : (arguments : AskArguments) (message : List ℕ) (before now : Told) (result : Result ArrayString Stop) → AreFiles (files_of_ask arguments) → IsAsk message arguments.reading → OpensSome (OfSink arguments.out ∷ []) before now → WritesMessage message (asked_line arguments.reading) (before.page arguments.out) (now.page arguments.out) (result_view result) → StopCauses result before.faults now.faults → Performs ask arguments before now (result_view result)
 performs_ask arguments message before now result named is opens writes causes = record {
   named = named;
   opened = opens.0;
@@ -75,13 +75,13 @@ performs_unasked {A} arguments fault before now named opens causes kind =
 
 -- a file was read
 pub record Reads (name : List ℕ) (most : ℕ) (read : List ℕ) (before now : Told) : Type 0 where
-  pub told : ReadsFile most (before.page name) read
+  pub read_is : ReadsFile most (before.page name) read
   pub opened : Opens (OfSource name ∷ []) 1 before now
   pub pages : (n : List ℕ) → now.page n ≡ before.page n
   pub faults : now.faults ≡ before.faults
 
 pub reads_by : {A : Type 0} (x : A) (name : List ℕ) (most : ℕ) (read : List ℕ) (before now : Told) → ReadsFile most (before.page name) read → Opens (OfSource name ∷ []) 1 before now → ((n : List ℕ) → now.page n ≡ before.page n) → Causes {A = A} (Ok x) before.faults now.faults → Reads name most read before now
-reads_by x name most read before now told opened pages causes = record { told = told; opened = opened; pages = pages; faults = still x before.faults now.faults causes }
+reads_by x name most read before now told opened pages causes = record { read_is = told; opened = opened; pages = pages; faults = still x before.faults now.faults causes }
 
 -- ASK was read, and KEY wasn't
 pub performs_unkeyed : {A : Type 0} (arguments : ReplyArguments) (fault : Fault) (text : List ℕ) (before mid now : Told) → AreFiles (files_of_reply arguments) → Reads arguments.ask 14 text before mid → OpensSome (OfSource arguments.key ∷ []) mid now → Causes {A = A} (Err fault) mid.faults now.faults → fault ≢ faults.Write → Performs reply arguments before now (Failed fault)
@@ -92,7 +92,7 @@ performs_unkeyed {A} arguments fault text before mid now named first opens cause
       opened = suc it.0;
       opens = opens_then (OfSource arguments.ask) (OfSource arguments.key ∷ OfSink arguments.out ∷ []) it.0 before mid now first.opened it.2;
       does = inl (record {
-        stops = inr (omega (arith, it.1), there 14 (before.page arguments.ask) text first.told);
+        stops = inr (omega (arith, it.1), there 14 (before.page arguments.ask) text first.read_is);
         fault = fault;
         failed = refl;
         no_write = kind;
@@ -105,16 +105,16 @@ first_alone : (opening other : Opening) (before now : Told) → Opens (opening �
 first_alone opening other before now opens = record { asked = opens.asked; pages = opens.pages; lefts = opens.lefts }
 
 -- both inputs were read, and one of their texts is refused
-does_refused : (reading : ℕ) (text shared : List ℕ) (asked keyed out written : Page) (came : Came) → ReadsFile 14 asked text → ReadsFile 66 keyed shared → RefusesTexts text shared came → ReadsNot 2 asked came ⊎ RefusesAsk 2 asked keyed came ⊎ RefusesKey 2 asked keyed came ⊎ Replies reading asked keyed out written came
-does_refused reading text shared asked keyed out written came reads keys (inl it) =
-    inr (inl (record { both = refl; read = there 66 keyed shared keys; none = no_ask_in asked text reads it.0; told = it.1 }))
-does_refused reading text shared asked keyed out written came reads keys (inr it) =
-    inr (inr (inl (record { both = refl; asked = (it.0.0, ask_in asked text it.0.0 reads it.0.1); none = no_key_in keyed shared keys it.1; told = it.2 })))
+does_refused : (reading : ℕ) (text shared : List ℕ) (asked keyed out written : Page) (outcome : OutcomeView) → ReadsFile 14 asked text → ReadsFile 66 keyed shared → RefusesTexts text shared outcome → ReadsNot 2 asked outcome ⊎ RefusesAsk 2 asked keyed outcome ⊎ RefusesKey 2 asked keyed outcome ⊎ Replies reading asked keyed out written outcome
+does_refused reading text shared asked keyed out written outcome reads keys (inl it) =
+    inr (inl (record { both = refl; read = there 66 keyed shared keys; none = no_ask_in asked text reads it.0; read_is = it.1 }))
+does_refused reading text shared asked keyed out written outcome reads keys (inr it) =
+    inr (inr (inl (record { both = refl; asked = (it.0.0, ask_in asked text it.0.0 reads it.0.1); none = no_key_in keyed shared keys it.1; read_is = it.2 })))
 
 -- both inputs were read, and their texts answered
-pub performs_read : (arguments : ReplyArguments) (text shared : List ℕ) (before mid late now : Told) (result : Result ArrayString Stop) → AreFiles (files_of_reply arguments) → Reads arguments.ask 14 text before mid → Reads arguments.key 66 shared mid late → Answers arguments text shared late now (came_of result) → StopCauses result late.faults now.faults → Performs reply arguments before now (came_of result)
+pub performs_read : (arguments : ReplyArguments) (text shared : List ℕ) (before mid late now : Told) (result : Result ArrayString Stop) → AreFiles (files_of_reply arguments) → Reads arguments.ask 14 text before mid → Reads arguments.key 66 shared mid late → Answers arguments text shared late now (result_view result) → StopCauses result late.faults now.faults → Performs reply arguments before now (result_view result)
 performs_read arguments text shared before mid late now result named first second answers causes =
-    let keys : ReadsFile 66 (before.page arguments.key) shared = subst (λ (p : Page). ReadsFile 66 p shared) (first.pages arguments.key) second.told in
+    let keys : ReadsFile 66 (before.page arguments.key) shared = subst (λ (p : Page). ReadsFile 66 p shared) (first.pages arguments.key) second.read_is in
     let both : late.faults ≡ before.faults = second.faults ∙ first.faults in
     let counts = causes_then before.faults late.faults now.faults both (counts_by result late.faults now.faults causes) in
     elim answers [
@@ -123,7 +123,7 @@ performs_read arguments text shared before mid late now result named first secon
         opened = 2;
         opens = opens_then (OfSource arguments.ask) (OfSource arguments.key ∷ OfSink arguments.out ∷ []) 1 before mid now first.opened
             (first_alone (OfSource arguments.key) (OfSink arguments.out) mid now (subst (λ (t : Told). Opens (OfSource arguments.key ∷ []) 1 mid t) (sym it.1) second.opened));
-        does = does_refused arguments.reading text shared (before.page arguments.ask) (before.page arguments.key) (before.page arguments.out) (now.page arguments.out) (came_of result) first.told keys it.0;
+        does = does_refused arguments.reading text shared (before.page arguments.ask) (before.page arguments.key) (before.page arguments.out) (now.page arguments.out) (result_view result) first.read_is keys it.0;
         counts = counts;
       }
       | inr it ↦ record {
@@ -134,11 +134,11 @@ performs_read arguments text shared before mid late now result named first secon
         does = inr (inr (inr (record {
           t_r = it.t_r;
           shared = it.shared;
-          asked = ask_in (before.page arguments.ask) text it.t_r first.told it.asked;
+          asked = ask_in (before.page arguments.ask) text it.t_r first.read_is it.asked;
           found = key_in (before.page arguments.key) shared it.shared keys it.found;
           message = it.message;
           is_reply = it.is_reply;
-          writes = subst (λ (p : Page). WritesMessage it.message (replied_line arguments.reading) p (now.page arguments.out) (came_of result)) (second.pages arguments.out ∙ first.pages arguments.out) it.writes;
+          writes = subst (λ (p : Page). WritesMessage it.message (replied_line arguments.reading) p (now.page arguments.out) (result_view result)) (second.pages arguments.out ∙ first.pages arguments.out) it.writes;
         })));
         counts = counts;
       }

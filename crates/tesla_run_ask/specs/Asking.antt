@@ -1,7 +1,7 @@
 -- What the command ask does.
 use Rattle.std.specs.Prelude.{ℕ, List, [], ◌∷◌, codes}
 use Rattle.tesla_desk.specs.Outside.{Page}
-use Rattle.tesla_front.specs.Came.{Came}
+use Rattle.tesla_front.specs.OutcomeView.{OutcomeView}
 use Rattle.tesla_front.specs.Command.{Command}
 use Rattle.tesla_front.specs.Lines.{count_line}
 use Rattle.tesla_front.specs.Openings.{File}
@@ -14,15 +14,15 @@ abbrev pub asked_line : ℕ → List ℕ
 asked_line reading = count_line (codes "asked") reading
 
 -- the ask of this reading was written
-pub record Asks (reading : ℕ) (before after : Page) (came : Came) : Type 0 where
+pub record Asks (reading : ℕ) (before after : Page) (outcome : OutcomeView) : Type 0 where
   pub message : List ℕ
   pub is_ask : IsAsk message reading
-  pub writes : WritesMessage message (asked_line reading) before after came
+  pub writes : WritesMessage message (asked_line reading) before after outcome
 
 -- a run of the command, with what is told of ASK-OUT before and after it, and what it came to
-abbrev pub DoesAsk : AskArguments → ℕ → List File → List File → Came → Type 0
-DoesAsk arguments opened (out ∷ []) (written ∷ []) came = Asks arguments.reading out.page written.page came
-DoesAsk arguments opened before after came = ⊥
+abbrev pub DoesAsk : AskArguments → ℕ → List File → List File → OutcomeView → Type 0
+DoesAsk arguments opened (out ∷ []) (written ∷ []) outcome = Asks arguments.reading out.page written.page outcome
+DoesAsk arguments opened before after outcome = ⊥
 
 -- the command
 abbrev pub ask : Command

@@ -2,7 +2,7 @@
 use Rattle.std.specs.Prelude.{◌≡◌, ◌≢◌, ◌⊎◌, ◌≤◌, ℕ, List, [], ◌∷◌, codes}
 use Rattle.tesla_base.specs.declared.names.Key.{Key}
 use Rattle.tesla_desk.specs.Outside.{Page}
-use Rattle.tesla_front.specs.Came.{Came, Refused, Failed}
+use Rattle.tesla_front.specs.OutcomeView.{OutcomeView, Refused, Failed}
 use Rattle.tesla_front.specs.Command.{Command}
 use Rattle.tesla_front.specs.Files.{HoldsWhere}
 use Rattle.tesla_front.specs.Lines.{count_line}
@@ -21,7 +21,7 @@ abbrev pub replied_line : ℕ → List ℕ
 replied_line reading = count_line (codes "replied") reading
 
 -- what an input that is refused comes to, told the name of the file and of the kind
-abbrev pub input_refused : List ℕ → List ℕ → Came
+abbrev pub input_refused : List ℕ → List ℕ → OutcomeView
 input_refused file kind = Refused 3 (refused_line file 0 kind)
 
 -- the text is no ask
@@ -37,42 +37,42 @@ abbrev pub IsThere : Page → Type 0
 IsThere page = HoldsWhere page (λ text. Unit {0})
 
 -- ASK or KEY wasn't read, and no file behind it was asked for
-pub record ReadsNot (opened : ℕ) (ask : Page) (came : Came) : Type 0 where
+pub record ReadsNot (opened : ℕ) (ask : Page) (outcome : OutcomeView) : Type 0 where
   pub stops : (opened ≤ 1) ⊎ ((opened ≤ 2) × IsThere ask)
   pub fault : Fault
-  pub failed : came ≡ Failed fault
+  pub failed : outcome ≡ Failed fault
   pub no_write : fault ≢ faults.Write
 
 -- both were read, ASK is no ask, and REPLY-OUT wasn't asked for
-pub record RefusesAsk (opened : ℕ) (ask key : Page) (came : Came) : Type 0 where
+pub record RefusesAsk (opened : ℕ) (ask key : Page) (outcome : OutcomeView) : Type 0 where
   pub both : opened ≡ 2
   pub read : IsThere key
   pub none : HoldsWhere ask IsNoAsk
-  pub told : came ≡ input_refused (codes "ask") (codes "BadAsk")
+  pub read_is : outcome ≡ input_refused (codes "ask") (codes "BadAsk")
 
 -- both were read, ASK is an ask and KEY is no key, and REPLY-OUT wasn't asked for
-pub record RefusesKey (opened : ℕ) (ask key : Page) (came : Came) : Type 0 where
+pub record RefusesKey (opened : ℕ) (ask key : Page) (outcome : OutcomeView) : Type 0 where
   pub both : opened ≡ 2
   pub asked : (t_r : ℕ) × HoldsWhere ask (λ text. IsAsk text t_r)
   pub none : HoldsWhere key IsNoKey
-  pub told : came ≡ input_refused (codes "key") (codes "BadKey")
+  pub read_is : outcome ≡ input_refused (codes "key") (codes "BadKey")
 
 -- the reply to the ask in ASK at this reading, under the key in KEY, was written
-pub record Replies (reading : ℕ) (ask key before after : Page) (came : Came) : Type 0 where
+pub record Replies (reading : ℕ) (ask key before after : Page) (outcome : OutcomeView) : Type 0 where
   pub t_r : ℕ
   pub shared : Key
   pub asked : HoldsWhere ask (λ text. IsAsk text t_r)
   pub found : HoldsWhere key (λ text. IsKeyText text shared)
   pub message : List ℕ
   pub is_reply : IsReply message shared t_r reading
-  pub writes : WritesMessage message (replied_line reading) before after came
+  pub writes : WritesMessage message (replied_line reading) before after outcome
 
 -- a run of the command, of which so many files were asked to be opened, with what is told of ASK, KEY and REPLY-OUT before and after it, and what it came to
-abbrev pub DoesReply : ReplyArguments → ℕ → List File → List File → Came → Type 0
-DoesReply arguments opened (ask ∷ key ∷ out ∷ []) (ask_after ∷ key_after ∷ out_after ∷ []) came =
-    ReadsNot opened ask.page came ⊎ RefusesAsk opened ask.page key.page came ⊎ RefusesKey opened ask.page key.page came
-    ⊎ Replies arguments.reading ask.page key.page out.page out_after.page came
-DoesReply arguments opened before after came = ⊥
+abbrev pub DoesReply : ReplyArguments → ℕ → List File → List File → OutcomeView → Type 0
+DoesReply arguments opened (ask ∷ key ∷ out ∷ []) (ask_after ∷ key_after ∷ out_after ∷ []) outcome =
+    ReadsNot opened ask.page outcome ⊎ RefusesAsk opened ask.page key.page outcome ⊎ RefusesKey opened ask.page key.page outcome
+    ⊎ Replies arguments.reading ask.page key.page out.page out_after.page outcome
+DoesReply arguments opened before after outcome = ⊥
 
 -- the command
 abbrev pub reply : Command

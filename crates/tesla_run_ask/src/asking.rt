@@ -1,7 +1,7 @@
 //! A run of `ask`.
 
 ghost use Rattle.std.specs.Prelude.{◌≡◌, map, string_bytes};
-ghost use Rattle.tesla_front.specs.Came.{came_of, outcome_came};
+ghost use Rattle.tesla_front.specs.OutcomeView.{result_view, outcome_view};
 ghost use Rattle.tesla_front.specs.Command.{Performs, RunsAs};
 ghost use Rattle.tesla_front.specs.Openings.{AreFiles};
 ghost use Rattle.tesla_run_ask.specs.Arguments.{ask_arguments, files_of_ask};
@@ -21,7 +21,7 @@ use tesla_sync::write_ask;
 /// no form, and then nothing was opened. `Failed` with what went wrong first, `Write` and `Open` exactly where the
 /// desk's count of that rose: behind a failed write ASK-OUT holds a prefix of the ask, and else it is as before.
 pub fn run_ask<D: Desk>(words: &[String], desk: &mut D) -> Outcome
-    ensures { RunsAs ask (map string_bytes words.now) (D.told desk.old) (D.told desk.new) (outcome_came result) }
+    ensures { RunsAs ask (map string_bytes words.now) (D.told desk.old) (D.told desk.new) (outcome_view result) }
 {
     match ask_in(words) {
         Some(arguments) => outcome_of(perform(&arguments, desk)),
@@ -32,7 +32,7 @@ pub fn run_ask<D: Desk>(words: &[String], desk: &mut D) -> Outcome
 // Does what the words ask for.
 fn perform<D: Desk>(arguments: &AskWords<'_>, desk: &mut D) -> Result<Lines, Stop>
     requires files { AreFiles (files_of_ask (ask_arguments arguments.now)) }
-    ensures { Performs ask (ask_arguments arguments.now) (D.told desk.old) (D.told desk.new) (came_of result) }
+    ensures { Performs ask (ask_arguments arguments.now) (D.told desk.old) (D.told desk.new) (result_view result) }
 {
     let message = write_ask(arguments.reading);
     write_message(arguments.out, &message, "asked", arguments.reading, desk)

@@ -3,7 +3,7 @@
 ghost use Rattle.std.specs.Prelude.{◌≡◌, ◌⊎◌, ℕ, List, Bool, map};
 ghost use Rattle.tesla_base.specs.declared.names.Key.{Key};
 ghost use Rattle.tesla_desk.specs.Outside.{Told, Holds};
-ghost use Rattle.tesla_front.specs.Came.{Came, Done, Failed};
+ghost use Rattle.tesla_front.specs.OutcomeView.{OutcomeView, Done, Failed};
 ghost use Rattle.tesla_front.specs.Command.{Performs};
 ghost use Rattle.tesla_front.specs.Run.{NothingFailed};
 ghost use Rattle.tesla_front.specs.declared.fault.Fault.TheVariants as faults;
@@ -27,14 +27,14 @@ pub fn forms() -> [FormText; 2]
 /// A run of `ask` or of `reply` comes to its end. Where no count of faults rose, and for `reply` the desk tells an ask and
 /// a key, it came to the line of the reading, or to want of memory.
 pub fn completeness()
-    ensures asks { (arguments : AskArguments) (old new : Told) (came : Came) →
-        Performs ask arguments old new came →
+    ensures asks { (arguments : AskArguments) (old new : Told) (outcome : OutcomeView) →
+        Performs ask arguments old new outcome →
         NothingFailed old.faults new.faults →
-        (came ≡ Done (asked_line arguments.reading)) ⊎ (came ≡ Failed faults.NoMemory) }
-    ensures replies { (arguments : ReplyArguments) (old new : Told) (came : Came) (text shared : List ℕ) (failed other : Bool) (t_r : ℕ) (key : Key) →
-        Performs reply arguments old new came →
+        (outcome ≡ Done (asked_line arguments.reading)) ⊎ (outcome ≡ Failed faults.NoMemory) }
+    ensures replies { (arguments : ReplyArguments) (old new : Told) (outcome : OutcomeView) (text shared : List ℕ) (failed other : Bool) (t_r : ℕ) (key : Key) →
+        Performs reply arguments old new outcome →
         old.page arguments.ask ≡ Holds text failed → IsAsk text t_r →
         old.page arguments.key ≡ Holds shared other → IsKeyText shared key →
         NothingFailed old.faults new.faults →
-        (came ≡ Done (replied_line arguments.reading)) ⊎ (came ≡ Failed faults.NoMemory) }
+        (outcome ≡ Done (replied_line arguments.reading)) ⊎ (outcome ≡ Failed faults.NoMemory) }
 {}

@@ -2,7 +2,7 @@
 
 ghost use Rattle.std.specs.Prelude.{◌≡◌, ◌<◌, ◌^◌, [], ◌∷◌, map, string_bytes, IfOk, IfErr};
 ghost use Rattle.tesla_desk.specs.Outside.{OfSink};
-ghost use Rattle.tesla_front.specs.Came.{came_of, outcome_came, stop_came};
+ghost use Rattle.tesla_front.specs.OutcomeView.{result_view, outcome_view, stop_view};
 ghost use Rattle.tesla_front.specs.Command.{Performs, RunsAs};
 ghost use Rattle.tesla_front.specs.Openings.{AreFiles, OpensSome};
 ghost use Rattle.tesla_front.specs.Refusal.{StopCauses};
@@ -38,7 +38,7 @@ const MOST_OF_KEY: usize = 66;
 /// count of that rose: behind a failed write REPLY-OUT holds a prefix of the reply, and else it is as before. So there is
 /// no memory only before REPLY-OUT was opened.
 pub fn run_reply<D: Desk>(alloc: Global, words: &[String], desk: &mut D) -> Outcome
-    ensures { RunsAs reply (map string_bytes words.now) (D.told desk.old) (D.told desk.new) (outcome_came result) }
+    ensures { RunsAs reply (map string_bytes words.now) (D.told desk.old) (D.told desk.new) (outcome_view result) }
 {
     match reply_in(words) {
         Some(arguments) => outcome_of(perform(alloc, &arguments, desk)),
@@ -49,7 +49,7 @@ pub fn run_reply<D: Desk>(alloc: Global, words: &[String], desk: &mut D) -> Outc
 // Does what the words ask for.
 fn perform<D: Desk>(alloc: Global, arguments: &ReplyWords<'_>, desk: &mut D) -> Result<Lines, Stop>
     requires files { AreFiles (files_of_reply (reply_arguments arguments.now)) }
-    ensures { Performs reply (reply_arguments arguments.now) (D.told desk.old) (D.told desk.new) (came_of result) }
+    ensures { Performs reply (reply_arguments arguments.now) (D.told desk.old) (D.told desk.new) (result_view result) }
 {
     let ask = read_file(alloc, arguments.ask, MOST_OF_ASK, desk)?;
     let key = read_file(alloc, arguments.key, MOST_OF_KEY, desk)?;
@@ -63,7 +63,7 @@ fn answer<D: Desk>(
     key: &[u8],
     desk: &mut D,
 ) -> Result<Lines, Stop>
-    ensures answers { Answers (reply_arguments arguments.now) ask.now key.now (D.told desk.old) (D.told desk.new) (came_of result) }
+    ensures answers { Answers (reply_arguments arguments.now) ask.now key.now (D.told desk.old) (D.told desk.new) (result_view result) }
     ensures causes { StopCauses result (D.told desk.old).faults (D.told desk.new).faults }
 {
     let (t_r, key) = judged(ask, key)?;

@@ -2,7 +2,7 @@
 
 ghost use Rattle.std.specs.Prelude.{◌≡◌, ◌≤◌, [], ◌∷◌, length};
 ghost use Rattle.tesla_desk.specs.Outside.{OfSink};
-ghost use Rattle.tesla_front.specs.Came.{came_of};
+ghost use Rattle.tesla_front.specs.OutcomeView.{result_view};
 ghost use Rattle.tesla_front.specs.Lines.{count_line};
 ghost use Rattle.tesla_front.specs.Openings.{OpensSome};
 ghost use Rattle.tesla_front.specs.Refusal.{StopCauses};
@@ -20,7 +20,7 @@ pub fn write_message<D: Desk>(
     desk: &mut D,
 ) -> Result<Lines, Stop>
     requires { length done.now ≤ 9 }
-    ensures writes { WritesMessage message.now (count_line done.now reading) ((D.told desk.old).page out.now) ((D.told desk.new).page out.now) (came_of result) }
+    ensures writes { WritesMessage message.now (count_line done.now reading) ((D.told desk.old).page out.now) ((D.told desk.new).page out.now) (result_view result) }
     ensures opens { OpensSome (OfSink out.now ∷ []) (D.told desk.old) (D.told desk.new) }
     ensures causes { StopCauses result (D.told desk.old).faults (D.told desk.new).faults }
 {

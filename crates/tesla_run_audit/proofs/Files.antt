@@ -8,7 +8,7 @@ use Rattle.tesla_desk.specs.declared.desk.OpenRefusal.TheVariants as refused
 use Rattle.tesla_desk.proofs.Counts.{causes_none, causes_opening, causes_plain, causes_source, causes_then, counts_stay}
 use Rattle.tesla_desk.proofs.Told.{opened_holds}
 use Rattle.tesla_fitting.specs.declared.config.Config.{Config}
-use Rattle.tesla_front.specs.Came.{Came, Failed, stop_came}
+use Rattle.tesla_front.specs.OutcomeView.{OutcomeView, Failed, stop_view}
 use Rattle.tesla_front.specs.Command.{Performs}
 use Rattle.tesla_front.specs.Fault.{unopened}
 use Rattle.tesla_front.specs.Openings.{AreFiles, Opens, OpensSome}
@@ -20,7 +20,7 @@ use Rattle.tesla_front.specs.declared.refusal.Stop.{Stop}
 use Rattle.tesla_front.proofs.Commands.{counts_stopped}
 use Rattle.tesla_front.proofs.Openings.{opens_first, opens_none, opens_some, opens_then, source_closed}
 use Rattle.tesla_run_audit.specs.Arguments.{AuditArguments, IsAudit, config_of, files_of_audit}
-use Rattle.tesla_run_audit.specs.Audit.{AuditsBetween, AuditsBytes, IsAuditCame, IsAudited, IsUnopened, audit}
+use Rattle.tesla_run_audit.specs.Audit.{AuditsBetween, AuditsBytes, IsAuditOutcome, IsAudited, IsUnopened, audit}
 use Rattle.tesla_run_audit.specs.Files.{AuditsFile}
 
 -- neither file is the console
@@ -53,54 +53,54 @@ opened_there Untold left opened e = absurd cc
 opened_there Absent left opened e = absurd opened
 opened_there (Holds bytes failed) left opened e = absurd cc
 
-never : (came : Came) (fault : Fault) → (IsAuditCame (Failed fault) → ⊥) → IsAuditCame came → came ≡ Failed fault → ⊥
-never came fault other possible e = other (subst (λ (c : Came). IsAuditCame c) e possible)
+never : (outcome : OutcomeView) (fault : Fault) → (IsAuditOutcome (Failed fault) → ⊥) → IsAuditOutcome outcome → outcome ≡ Failed fault → ⊥
+never outcome fault other possible e = other (subst (λ (c : OutcomeView). IsAuditOutcome c) e possible)
 
 -- it was opened, audited and closed
-pub audits_closed : {A : Type 0} (cfg : ℕ → Config) (name own : List ℕ) (it : A) (came : Came) (before left : Option (List ℕ)) (fresh count : ℕ) (old mid new : Told) → own ≡ name → Opened (old.page name) before → OpensSource {A = A} name (Ok it) old mid → AuditsBetween cfg before left came → fresh ≡ 0 → HasCause fresh count (came ≡ Failed faults.Read) → ClosesSource own left count mid new → AuditsFile cfg name old new came
-audits_closed {A} cfg name own it came before left fresh count old mid new named opened opens between sound cause closes =
+pub audits_closed : {A : Type 0} (cfg : ℕ → Config) (name own : List ℕ) (it : A) (outcome : OutcomeView) (before left : Option (List ℕ)) (fresh count : ℕ) (old mid new : Told) → own ≡ name → Opened (old.page name) before → OpensSource {A = A} name (Ok it) old mid → AuditsBetween cfg before left outcome → fresh ≡ 0 → HasCause fresh count (outcome ≡ Failed faults.Read) → ClosesSource own left count mid new → AuditsFile cfg name old new outcome
+audits_closed {A} cfg name own it outcome before left fresh count old mid new named opened opens between sound cause closes =
     let same : mid.faults ≡ old.faults = counts_stay old.faults mid.faults opens.counts (λ e. absurd cc) in
     let left_is : new.left name ≡ left = ap new.left (sym named) ∙ closes.own in
-    let counts : HasCauses mid.faults new.faults (came ≡ Failed faults.Read) (came ≡ Failed faults.Write) (came ≡ Failed faults.Open) =
-    causes_source mid.faults new.faults count closes.counts (subst (λ (n : ℕ). HasCause n count (came ≡ Failed faults.Read)) sound cause) (λ e. e) (λ e. e) (never came faults.Write (λ it. it) between.0) (never came faults.Open (λ it. it) between.0) in
+    let counts : HasCauses mid.faults new.faults (outcome ≡ Failed faults.Read) (outcome ≡ Failed faults.Write) (outcome ≡ Failed faults.Open) =
+    causes_source mid.faults new.faults count closes.counts (subst (λ (n : ℕ). HasCause n count (outcome ≡ Failed faults.Read)) sound cause) (λ e. e) (λ e. e) (never outcome faults.Write (λ it. it) between.0) (never outcome faults.Open (λ it. it) between.0) in
     record {
       opened = 1;
       opens = source_closed name own it old mid new left count named opens closes;
       audits = inr (record {
         there = opened_there (old.page name) before opened;
         possible = between.0;
-        audits = λ bytes failed page. subst (λ (l : Option (List ℕ)). AuditsBytes cfg bytes l came) (sym left_is) (between.1 bytes (opened_holds (old.page name) before bytes failed page opened));
+        audits = λ bytes failed page. subst (λ (l : Option (List ℕ)). AuditsBytes cfg bytes l outcome) (sym left_is) (between.1 bytes (opened_holds (old.page name) before bytes failed page opened));
       });
-      counts = subst (λ (f : Faults). HasCauses f new.faults (came ≡ Failed faults.Read) (came ≡ Failed faults.Write) (came ≡ Failed faults.Open)) same counts;
+      counts = subst (λ (f : Faults). HasCauses f new.faults (outcome ≡ Failed faults.Read) (outcome ≡ Failed faults.Write) (outcome ≡ Failed faults.Open)) same counts;
     }
 
 -- ---- the setup, and then the trace
 
 -- there was no setup
-pub performs_none : (arguments : AuditArguments) (before now : Told) (stop : Stop) → AreFiles (files_of_audit arguments) → OpensSome (OfSource arguments.setup ∷ []) before now → IsNoSetup (before.page arguments.setup) (stop_came stop) → StopCauses {A = Parts} (Err stop) before.faults now.faults → Performs audit arguments before now (stop_came stop)
+pub performs_none : (arguments : AuditArguments) (before now : Told) (stop : Stop) → AreFiles (files_of_audit arguments) → OpensSome (OfSource arguments.setup ∷ []) before now → IsNoSetup (before.page arguments.setup) (stop_view stop) → StopCauses {A = Parts} (Err stop) before.faults now.faults → Performs audit arguments before now (stop_view stop)
 performs_none arguments before now stop named some why causes =
     let it = opens_some (OfSource arguments.setup) (OfSource arguments.trace ∷ []) before now some in
     record { named = named; opened = it.0; opens = it.2; does = inl (record { alone = it.1; why = why }); counts = counts_stopped stop before.faults now.faults causes }
 
-behind_setup : (opened : ℕ) (came : Came) → IsUnopened 0 opened came → IsUnopened 1 (suc opened) came
-behind_setup opened came (inl failed) = inl failed
-behind_setup opened came (inr memory) = inr (memory.0, (let none = memory.1 in omega (arith, none)))
+behind_setup : (opened : ℕ) (outcome : OutcomeView) → IsUnopened 0 opened outcome → IsUnopened 1 (suc opened) outcome
+behind_setup opened outcome (inl failed) = inl failed
+behind_setup opened outcome (inr memory) = inr (memory.0, (let none = memory.1 in omega (arith, none)))
 
-audited_by : (cfg : ℕ → Config) (opened : ℕ) (before mid : Page) (left : Option (List ℕ)) (came : Came) → mid ≡ before → IsUnopened 0 opened came ⊎ IsAudited cfg mid left came → IsUnopened 1 (suc opened) came ⊎ IsAudited cfg before left came
-audited_by cfg opened before mid left came same (inl none) = inl (behind_setup opened came none)
-audited_by cfg opened before mid left came same (inr done) = inr (subst (λ (p : Page). IsAudited cfg p left came) same done)
+audited_by : (cfg : ℕ → Config) (opened : ℕ) (before mid : Page) (left : Option (List ℕ)) (outcome : OutcomeView) → mid ≡ before → IsUnopened 0 opened outcome ⊎ IsAudited cfg mid left outcome → IsUnopened 1 (suc opened) outcome ⊎ IsAudited cfg before left outcome
+audited_by cfg opened before mid left outcome same (inl none) = inl (behind_setup opened outcome none)
+audited_by cfg opened before mid left outcome same (inr done) = inr (subst (λ (p : Page). IsAudited cfg p left outcome) same done)
 
 -- the setup was read, and then the trace audited
-pub performs_audit : (arguments : AuditArguments) (setup : Parts) (before mid now : Told) (came : Came) → AreFiles (files_of_audit arguments) → Opens (OfSource arguments.setup ∷ []) 1 before mid → ((name : List ℕ) → mid.page name ≡ before.page name) → IsSetupIn (before.page arguments.setup) setup → StopCauses {A = Parts} (Ok setup) before.faults mid.faults
-    → AuditsFile (config_of arguments setup) arguments.trace mid now came → Performs audit arguments before now came
-performs_audit arguments setup before mid now came named opened pages found causes file = record {
+pub performs_audit : (arguments : AuditArguments) (setup : Parts) (before mid now : Told) (outcome : OutcomeView) → AreFiles (files_of_audit arguments) → Opens (OfSource arguments.setup ∷ []) 1 before mid → ((name : List ℕ) → mid.page name ≡ before.page name) → IsSetupIn (before.page arguments.setup) setup → StopCauses {A = Parts} (Ok setup) before.faults mid.faults
+    → AuditsFile (config_of arguments setup) arguments.trace mid now outcome → Performs audit arguments before now outcome
+performs_audit arguments setup before mid now outcome named opened pages found causes file = record {
   named = named;
   opened = suc file.opened;
   opens = opens_then (OfSource arguments.setup) (OfSource arguments.trace ∷ []) file.opened before mid now opened file.opens;
   does = inr (record {
     parts = setup;
     found = found;
-    audits = audited_by (config_of arguments setup) file.opened (before.page arguments.trace) (mid.page arguments.trace) (now.left arguments.trace) came (pages arguments.trace) file.audits;
+    audits = audited_by (config_of arguments setup) file.opened (before.page arguments.trace) (mid.page arguments.trace) (now.left arguments.trace) outcome (pages arguments.trace) file.audits;
   });
   counts = causes_then before.faults mid.faults now.faults (causes_none before.faults mid.faults causes (λ e. absurd cc) (λ e. absurd cc) (λ e. absurd cc)) (causes_plain mid.faults now.faults file.counts);
 }

@@ -5,7 +5,7 @@ use Rattle.tesla_desk.specs.Faults.{HasCause}
 use Rattle.tesla_desk.specs.Outside.{after_bytes}
 use Rattle.tesla_desk.proofs.Counts.{cause_as}
 use Rattle.tesla_fitting.specs.declared.config.Config.{Config}
-use Rattle.tesla_front.specs.Came.{Came, Refused, Failed}
+use Rattle.tesla_front.specs.OutcomeView.{OutcomeView, Refused, Failed}
 use Rattle.tesla_front.specs.Refusal.{IsRefusal}
 use Rattle.tesla_front.specs.declared.fault.Fault.TheVariants as faults
 use Rattle.tesla_front.specs.declared.refusal.Refusal.{Refusal}
@@ -14,7 +14,7 @@ use Rattle.tesla_receiver.specs.Stands.{Stands}
 use Rattle.tesla_receiver.specs.declared.history.Entry.{Entry}
 use Rattle.tesla_receiver.specs.declared.history.Entry.TheVariants.{Arrived, Taken, Ended}
 use Rattle.tesla_records.specs.Found.{AwaitsAt}
-use Rattle.tesla_records.specs.Records.{record_place}
+use Rattle.tesla_records.specs.Records.{record_offset}
 use Rattle.tesla_records.specs.Steps.{Gives, Moves, MovesHead, Progress, ReadsHead, ahead, goes_on, pending}
 use Rattle.tesla_records.specs.Taken.{IsTaken}
 use Rattle.tesla_records.proofs.Taken.{given_taken, none_taken}
@@ -30,7 +30,7 @@ use Rattle.tesla_audit.specs.declared.auditor.Answer.{Answer}
 use Rattle.tesla_audit.specs.declared.step.TraceStep.{TraceStep}
 use Rattle.tesla_audit.specs.declared.step.TraceStep.TheVariants as steps
 use Rattle.tesla_audit.proofs.Answered.{answer_is}
-use Rattle.tesla_run_audit.specs.Audit.{AuditsBytes, HasEntry, IsAuditCame, audit_of, refuted_line, refuted_text}
+use Rattle.tesla_run_audit.specs.Audit.{AuditsBytes, HasEntry, IsAuditOutcome, audit_of, refuted_line, refuted_text}
 use Rattle.tesla_run_audit.specs.Judging.{IsAt, IsBehind, stop_at}
 use Rattle.tesla_run_audit.proofs.Audited.{has_entry, start_stops, stops, wrong_is}
 
@@ -40,18 +40,18 @@ same_head : (head : Option ℕ) → option_map (λ (n : ℕ). n) head ≡ head
 same_head None = refl
 same_head (Some n) = refl
 
-pub moves_head : (place now : ℕ) (before after : Option ℕ) → MovesHead trace place (option_map (λ (n : ℕ). n) before) now (option_map (λ (n : ℕ). n) after) → MovesHead trace place before now after
-moves_head place now before after moves = subst₂ (λ (a b : Option ℕ). MovesHead trace place a now b) (same_head before) (same_head after) moves
+pub moves_head : (offset now : ℕ) (before after : Option ℕ) → MovesHead trace offset (option_map (λ (n : ℕ). n) before) now (option_map (λ (n : ℕ). n) after) → MovesHead trace offset before now after
+moves_head offset now before after moves = subst₂ (λ (a b : Option ℕ). MovesHead trace offset a now b) (same_head before) (same_head after) moves
 
-pub reads_head : (place now : ℕ) (rest : List ℕ) (after : Option ℕ) → ReadsHead trace place rest now (option_map (λ (n : ℕ). n) after) → ReadsHead trace place rest now after
-reads_head place now rest after reads = subst (λ (a : Option ℕ). ReadsHead trace place rest now a) (same_head after) reads
+pub reads_head : (offset now : ℕ) (rest : List ℕ) (after : Option ℕ) → ReadsHead trace offset rest now (option_map (λ (n : ℕ). n) after) → ReadsHead trace offset rest now after
+reads_head offset now rest after reads = subst (λ (a : Option ℕ). ReadsHead trace offset rest now a) (same_head after) reads
 
 -- ---- steps
 
 pub entry_gave : (step : TraceStep) → goes_on (records_step step) ≡ true → step ≡ steps.Entry
 entry_gave steps.Entry e = refl
 entry_gave steps.End e = absurd cc
-entry_gave (steps.Refused place kind) e = absurd cc
+entry_gave (steps.Refused offset kind) e = absurd cc
 entry_gave steps.ReadFault e = absurd cc
 
 text_some : (entry : Entry) → 1 ≤ length (entry_text entry)
@@ -59,50 +59,50 @@ text_some (Arrived arrival) = omega arith
 text_some (Taken releaser reply) = omega arith
 text_some (Ended ingest) = omega arith
 
-place_stays : (place : ℕ) → place ≤ record_place trace place
-place_stays zero = omega arith
-place_stays (suc place) = omega arith
+offset_stays : (offset : ℕ) → offset ≤ record_offset trace offset
+offset_stays zero = omega arith
+offset_stays (suc offset) = omega arith
 
 -- where an entry was given the reader has moved
-pub place_rises : (step : TraceStep) (entry : EntryBuffer) (place now : ℕ) → goes_on (records_step step) ≡ true → Moves trace (given_in entry) (records_step step) place now → place < now
-place_rises steps.Entry entry place now e moves = let moved = moves.0 in omega (arith, moved, text_some (entry_in entry), place_stays place)
-place_rises steps.End entry place now e moves = absurd cc
-place_rises (steps.Refused at kind) entry place now e moves = absurd cc
-place_rises steps.ReadFault entry place now e moves = absurd cc
+pub offset_rises : (step : TraceStep) (entry : EntryBuffer) (offset now : ℕ) → goes_on (records_step step) ≡ true → Moves trace (given_in entry) (records_step step) offset now → offset < now
+offset_rises steps.Entry entry offset now e moves = let moved = moves.0 in omega (arith, moved, text_some (entry_in entry), offset_stays offset)
+offset_rises steps.End entry offset now e moves = absurd cc
+offset_rises (steps.Refused at kind) entry offset now e moves = absurd cc
+offset_rises steps.ReadFault entry offset now e moves = absurd cc
 
-pub possible_stop : (step : TraceStep) (count : ℕ) → goes_on (records_step step) ≡ false → IsAuditCame (stop_at step count)
+pub possible_stop : (step : TraceStep) (count : ℕ) → goes_on (records_step step) ≡ false → IsAuditOutcome (stop_at step count)
 possible_stop steps.Entry count e = absurd cc
 possible_stop steps.End count e = tt
-possible_stop (steps.Refused place kind) count e = inl refl
+possible_stop (steps.Refused offset kind) count e = inl refl
 possible_stop steps.ReadFault count e = tt
 
 -- a read failed exactly where that is what it came to
 stop_failed : (step : TraceStep) (count : ℕ) → stop_at step count ≡ Failed faults.Read → step ≡ steps.ReadFault
 stop_failed steps.Entry count e = absurd cc
 stop_failed steps.End count e = absurd cc
-stop_failed (steps.Refused place kind) count e = absurd cc
+stop_failed (steps.Refused offset kind) count e = absurd cc
 stop_failed steps.ReadFault count e = refl
 
-pub stop_cause : (step : TraceStep) (count : ℕ) (came : Came) (a b : ℕ) → came ≡ stop_at step count → HasCause a b (step ≡ steps.ReadFault) → HasCause a b (came ≡ Failed faults.Read)
-stop_cause step count came a b is cause = cause_as a b cause (λ e. stop_failed step count (sym is ∙ e)) (λ e. is ∙ ap (λ (s : TraceStep). stop_at s count) e)
+pub stop_cause : (step : TraceStep) (count : ℕ) (outcome : OutcomeView) (a b : ℕ) → outcome ≡ stop_at step count → HasCause a b (step ≡ steps.ReadFault) → HasCause a b (outcome ≡ Failed faults.Read)
+stop_cause step count outcome a b is cause = cause_as a b cause (λ e. stop_failed step count (sym is ∙ e)) (λ e. is ∙ ap (λ (s : TraceStep). stop_at s count) e)
 
-some_came : (a b : Came) → Some a ≡ Some b → a ≡ b
-some_came a b e = cc
+some_outcome : (a b : OutcomeView) → Some a ≡ Some b → a ≡ b
+some_outcome a b e = cc
 
-pub some_cause : (came : Came) (a b : ℕ) → HasCause a b (came ≡ Failed faults.Read) → HasCause a b (Some came ≡ Some (Failed faults.Read))
-some_cause came a b cause = cause_as a b cause (λ e. some_came came (Failed faults.Read) e) (λ e. ap (λ (c : Came). Some c) e)
+pub some_cause : (outcome : OutcomeView) (a b : ℕ) → HasCause a b (outcome ≡ Failed faults.Read) → HasCause a b (Some outcome ≡ Some (Failed faults.Read))
+some_cause outcome a b cause = cause_as a b cause (λ e. some_outcome outcome (Failed faults.Read) e) (λ e. ap (λ (c : OutcomeView). Some c) e)
 
 no_fault : (step : TraceStep) → goes_on (records_step step) ≡ true → step ≡ steps.ReadFault → ⊥
 no_fault steps.Entry e is = absurd cc
 no_fault steps.End e is = absurd cc
-no_fault (steps.Refused place kind) e is = absurd cc
+no_fault (steps.Refused offset kind) e is = absurd cc
 no_fault steps.ReadFault e is = absurd cc
 
-none_came : (came : Came) → ◌≡◌ {A = Option Came} None (Some came) → ⊥
-none_came came e = absurd cc
+none_outcome : (outcome : OutcomeView) → ◌≡◌ {A = Option OutcomeView} None (Some outcome) → ⊥
+none_outcome outcome e = absurd cc
 
-pub going_cause : (step : TraceStep) (a b : ℕ) → goes_on (records_step step) ≡ true → HasCause a b (step ≡ steps.ReadFault) → HasCause a b (◌≡◌ {A = Option Came} None (Some (Failed faults.Read)))
-going_cause step a b going cause = cause_as a b cause (λ e. absurd (none_came (Failed faults.Read) e)) (λ e. absurd (no_fault step going e))
+pub going_cause : (step : TraceStep) (a b : ℕ) → goes_on (records_step step) ≡ true → HasCause a b (step ≡ steps.ReadFault) → HasCause a b (◌≡◌ {A = Option OutcomeView} None (Some (Failed faults.Read)))
+going_cause step a b going cause = cause_as a b cause (λ e. absurd (none_outcome (Failed faults.Read) e)) (λ e. absurd (no_fault step going e))
 
 -- ---- the next entry
 
@@ -123,7 +123,7 @@ module _ (cfg : ℕ → Config) (bytes : List ℕ) where
         (given_taken trace trace_is bytes None reader.head [] 0 bytes (entry_in entry) reader.place (ahead reader left) (none_taken trace trace_is bytes) gives moves reads);
   }
   start_at state reader left steps.End entry k going gives moves reads placed head config stands = absurd cc
-  start_at state reader left (steps.Refused place kind) entry k going gives moves reads placed head config stands = absurd cc
+  start_at state reader left (steps.Refused offset kind) entry k going gives moves reads placed head config stands = absurd cc
   start_at state reader left steps.ReadFault entry k going gives moves reads placed head config stands = absurd cc
 
   -- so memory is wanting only where there is an entry
@@ -133,7 +133,7 @@ module _ (cfg : ℕ → Config) (bytes : List ℕ) where
       has_entry cfg bytes k (entry_in entry) reader.place gives.0 (subst (λ (o : Option ℕ). IsTaken trace bytes o (entry_in entry ∷ []) reader.place gives.0) head
       (given_taken trace trace_is bytes None reader.head [] 0 bytes (entry_in entry) reader.place (ahead reader left) (none_taken trace trace_is bytes) gives moves reads))
   start_has reader left steps.End entry k going gives moves reads head = absurd cc
-  start_has reader left (steps.Refused place kind) entry k going gives moves reads head = absurd cc
+  start_has reader left (steps.Refused offset kind) entry k going gives moves reads head = absurd cc
   start_has reader left steps.ReadFault entry k going gives moves reads head = absurd cc
 
   -- what a first step says of the bytes
@@ -142,27 +142,27 @@ module _ (cfg : ℕ → Config) (bytes : List ℕ) where
     moves : MovesHead trace 0 None new.place new.head
     reads : ReadsHead trace 0 bytes new.place new.head
 
-  module _ (old new : Progress ℕ) (left now : Option (List ℕ)) (step : TraceStep) (entry : EntryBuffer) (none : pending old ≡ []) (place : old.place ≡ 0) (head : old.head ≡ None) (told : left ≡ Some bytes)
+  module _ (old new : Progress ℕ) (left now : Option (List ℕ)) (step : TraceStep) (entry : EntryBuffer) (none : pending old ≡ []) (offset : old.place ≡ 0) (head : old.head ≡ None) (told : left ≡ Some bytes)
       (gives : (rest : List ℕ) → ahead old left ≡ Some rest → Gives trace (λ fault. fault) (given_in entry) (records_step step) old.place rest new.place (ahead new now)) (moves : MovesHead trace old.place old.head new.place new.head)
       (reads : (rest : List ℕ) → ahead old left ≡ Some rest → ReadsHead trace old.place rest new.place new.head) where
     is_first : IsFirst new now step entry
     is_first =
         let ahead_is : ahead old left ≡ Some bytes = ap (λ (p : List ℕ). after_bytes p left) none ∙ ap (after_bytes []) told in
         record {
-          gives = subst (λ (p : ℕ). Gives trace (λ fault. fault) (given_in entry) (records_step step) p bytes new.place (ahead new now)) place (gives bytes ahead_is);
-          moves = subst (λ (h : Option ℕ). MovesHead trace 0 h new.place new.head) head (subst (λ (p : ℕ). MovesHead trace p old.head new.place new.head) place moves);
-          reads = subst (λ (p : ℕ). ReadsHead trace p bytes new.place new.head) place (reads bytes ahead_is);
+          gives = subst (λ (p : ℕ). Gives trace (λ fault. fault) (given_in entry) (records_step step) p bytes new.place (ahead new now)) offset (gives bytes ahead_is);
+          moves = subst (λ (h : Option ℕ). MovesHead trace 0 h new.place new.head) head (subst (λ (p : ℕ). MovesHead trace p old.head new.place new.head) offset moves);
+          reads = subst (λ (p : ℕ). ReadsHead trace p bytes new.place new.head) offset (reads bytes ahead_is);
         }
 
     -- it gave no entry
-    pub first_stops : (came : Came) → goes_on (records_step step) ≡ false → came ≡ stop_at step 0 → (step ≡ steps.ReadFault → AwaitsAt trace new.place (pending new)) → AuditsBytes cfg bytes now came
-    first_stops came stopped is cut =
-        subst (λ (c : Came). AuditsBytes cfg bytes now c) (sym is) (start_stops cfg bytes step entry new now stopped is_first.gives is_first.moves is_first.reads cut)
+    pub first_stops : (outcome : OutcomeView) → goes_on (records_step step) ≡ false → outcome ≡ stop_at step 0 → (step ≡ steps.ReadFault → AwaitsAt trace new.place (pending new)) → AuditsBytes cfg bytes now outcome
+    first_stops outcome stopped is cut =
+        subst (λ (c : OutcomeView). AuditsBytes cfg bytes now c) (sym is) (start_stops cfg bytes step entry new now stopped is_first.gives is_first.moves is_first.reads cut)
 
     -- it gave one
     pub first_at : (state : State) (n : ℕ) → goes_on (records_step step) ≡ true → Moves trace (given_in entry) (records_step step) old.place new.place → n ≡ unwrap_or new.head 0 → state.config ≡ cfg n → Stands state [] → IsAt cfg bytes state new now (entry_in entry)
     first_at state n going moved counted config stands =
-        let rises = place_rises step entry old.place new.place going moved in
+        let rises = offset_rises step entry old.place new.place going moved in
         let some : 0 < new.place = omega (arith, rises) in
         let known = is_first.moves.read refl some in
         let same : n ≡ known.0 = counted ∙ ap (λ (h : Option ℕ). unwrap_or h 0) known.1 in
@@ -171,7 +171,7 @@ module _ (cfg : ℕ → Config) (bytes : List ℕ) where
     -- so memory is wanting only where there is one
     pub first_has : goes_on (records_step step) ≡ true → Moves trace (given_in entry) (records_step step) old.place new.place → HasEntry bytes
     first_has going moved =
-        let rises = place_rises step entry old.place new.place going moved in
+        let rises = offset_rises step entry old.place new.place going moved in
         let some : 0 < new.place = omega (arith, rises) in
         let known = is_first.moves.read refl some in
         start_has new now step entry known.0 going is_first.gives is_first.moves is_first.reads known.1
@@ -195,16 +195,16 @@ module _ (cfg : ℕ → Config) (bytes : List ℕ) where
             (given_taken trace trace_is bytes (Some b.ingests) new.head b.judged old.place b.rest (entry_in entry) new.place (ahead new now) b.taken gives known reads);
       }
   read_at count state old new left now steps.End entry going b gives moves reads rises = absurd cc
-  read_at count state old new left now (steps.Refused place kind) entry going b gives moves reads rises = absurd cc
+  read_at count state old new left now (steps.Refused offset kind) entry going b gives moves reads rises = absurd cc
   read_at count state old new left now steps.ReadFault entry going b gives moves reads rises = absurd cc
 
   -- there is no other entry
-  pub read_stops : (count : ℕ) (state : State) (old new : Progress ℕ) (left now : Option (List ℕ)) (step : TraceStep) (entry : EntryBuffer) (came : Came) → goes_on (records_step step) ≡ false → came ≡ stop_at step count → (b : IsBehind cfg bytes count state old left) → Gives trace (λ fault. fault) (given_in entry) (records_step step) old.place b.rest new.place (ahead new now) → MovesHead trace old.place old.head new.place new.head → ReadsHead trace old.place b.rest new.place new.head
-      → (step ≡ steps.ReadFault → AwaitsAt trace new.place (pending new)) → AuditsBytes cfg bytes now came
-  read_stops count state old new left now step entry came none is b gives moves reads cut =
+  pub read_stops : (count : ℕ) (state : State) (old new : Progress ℕ) (left now : Option (List ℕ)) (step : TraceStep) (entry : EntryBuffer) (outcome : OutcomeView) → goes_on (records_step step) ≡ false → outcome ≡ stop_at step count → (b : IsBehind cfg bytes count state old left) → Gives trace (λ fault. fault) (given_in entry) (records_step step) old.place b.rest new.place (ahead new now) → MovesHead trace old.place old.head new.place new.head → ReadsHead trace old.place b.rest new.place new.head
+      → (step ≡ steps.ReadFault → AwaitsAt trace new.place (pending new)) → AuditsBytes cfg bytes now outcome
+  read_stops count state old new left now step entry outcome none is b gives moves reads cut =
       let known = subst (λ (o : Option ℕ). MovesHead trace old.place o new.place new.head) b.head_is moves in
       let legal : IsLegal (cfg b.ingests) b.judged = subst (λ (c : Config). IsLegal c b.judged) b.config_is b.stands.legal in
-      subst (λ (c : Came). AuditsBytes cfg bytes now c) (sym (is ∙ ap (stop_at step) b.counted))
+      subst (λ (c : OutcomeView). AuditsBytes cfg bytes now c) (sym (is ∙ ap (stop_at step) b.counted))
       (stops cfg bytes b.ingests b.judged old.place b.rest b.taken step entry new now none b.placed legal gives known reads cut)
 
   -- ---- the entry that is judged

@@ -3,8 +3,8 @@ use Rattle.std.specs.Prelude.{ℕ, ℤ, List, [], ◌∷◌, codes}
 use Rattle.tesla_commit.specs.Parts.{Parts}
 use Rattle.tesla_desk.specs.Outside.{Opening, OfSource}
 use Rattle.tesla_fitting.specs.declared.config.Config.{Config}
-use Rattle.tesla_front.specs.Forms.{AreSpelled, LagIs, NameIs, PlacesAre, WordIs}
-use Rattle.tesla_front.specs.declared.words.Places.{Places}
+use Rattle.tesla_front.specs.Forms.{AreSpelled, LagIs, NameIs, LimitsAre, WordIs}
+use Rattle.tesla_front.specs.declared.words.PacketLimits.{PacketLimits}
 use Rattle.tesla_run_audit.specs.declared.arguments.Arguments.{Arguments}
 
 -- its words
@@ -15,12 +15,12 @@ usage = codes "audit SETUP LAG CAPACITY TRACE"
 pub record AuditArguments : Type 0 where
   pub setup : List ℕ
   pub lag : ℤ
-  pub places : Places
+  pub limits : PacketLimits
   pub trace : List ℕ
 
 -- what the words that were read ask for
 abbrev pub arguments_of : Arguments → AuditArguments
-arguments_of words = record { setup = words.setup.now; lag = words.lag; places = words.places; trace = words.trace.now }
+arguments_of words = record { setup = words.setup.now; lag = words.lag; limits = words.limits; trace = words.trace.now }
 
 -- its files, in the order in which they are opened
 abbrev pub files_of_audit : AuditArguments → List Opening
@@ -28,9 +28,9 @@ files_of_audit arguments = OfSource arguments.setup ∷ OfSource arguments.trace
 
 -- the words are the form 'audit SETUP LAG CAPACITY TRACE'; the names may be the same
 abbrev pub IsAudit : AuditArguments → List (List ℕ) → Type 0
-IsAudit it = AreSpelled (WordIs (codes "audit") ∷ NameIs it.setup ∷ LagIs it.lag ∷ PlacesAre it.places ∷ NameIs it.trace ∷ [])
+IsAudit it = AreSpelled (WordIs (codes "audit") ∷ NameIs it.setup ∷ LagIs it.lag ∷ LimitsAre it.limits ∷ NameIs it.trace ∷ [])
 
 -- the configuration of a receiver of such words, with so many ingests
 abbrev pub config_of : AuditArguments → Parts → ℕ → Config
 config_of arguments setup ingests =
-    record { setup = setup; lag = arguments.lag; capacity = arguments.places.capacity; quota = arguments.places.quota; ingests = ingests }
+    record { setup = setup; lag = arguments.lag; capacity = arguments.limits.capacity; quota = arguments.limits.quota; ingests = ingests }

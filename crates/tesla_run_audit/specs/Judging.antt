@@ -2,7 +2,7 @@
 use Rattle.std.specs.Prelude.{◌≡◌, ℕ, ◌<◌, ◌≤◌, true, Option, Some, None, Result, List, [], ◌∷◌, ◌++◌, length, codes}
 use Rattle.arrayvec.specs.ArrayString.{ArrayString}
 use Rattle.tesla_fitting.specs.declared.config.Config.{Config}
-use Rattle.tesla_front.specs.Came.{Came, Done, Usage, Refused, Failed, came_of}
+use Rattle.tesla_front.specs.OutcomeView.{OutcomeView, Done, Usage, Refused, Failed, result_view}
 use Rattle.tesla_front.specs.Lines.{count_line}
 use Rattle.tesla_front.specs.Refusal.{refused_line}
 use Rattle.tesla_front.specs.declared.fault.Fault.TheVariants as faults
@@ -47,7 +47,7 @@ pub record IsAt (cfg : ℕ → Config) (bytes : List ℕ) (state : State) (reade
 -- a step came to an entry more, or to the end of the audit
 abbrev pub StepsTo : (ℕ → Config) → List ℕ → Option (Result ArrayString Stop) → State → Progress ℕ → Option (List ℕ) → Entry → Type 0
 StepsTo cfg bytes None state reader left next = IsAt cfg bytes state reader left next
-StepsTo cfg bytes (Some came) state reader left next = AuditsBytes cfg bytes left (came_of came)
+StepsTo cfg bytes (Some outcome) state reader left next = AuditsBytes cfg bytes left (result_view outcome)
 
 -- the reader took an entry
 pub record GoesUp (old new : Progress ℕ) : Type 0 where
@@ -56,8 +56,8 @@ pub record GoesUp (old new : Progress ℕ) : Type 0 where
   pub going : new.going ≡ true
 
 -- what a step without an entry comes to behind so many that are right
-abbrev pub stop_at : TraceStep → ℕ → Came
+abbrev pub stop_at : TraceStep → ℕ → OutcomeView
 stop_at steps.Entry entries = Usage
 stop_at steps.End entries = Done (count_line (codes "legal") entries)
-stop_at (steps.Refused place kind) entries = Refused 3 (refused_line (codes "trace") place (kind_name kind))
+stop_at (steps.Refused offset kind) entries = Refused 3 (refused_line (codes "trace") offset (kind_name kind))
 stop_at steps.ReadFault entries = Failed faults.Read

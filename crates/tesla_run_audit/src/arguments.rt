@@ -2,7 +2,7 @@
 
 ghost use Rattle.std.specs.Prelude.{◌≤◌};
 
-use tesla_front::Places;
+use tesla_front::PacketLimits;
 
 /// What the words `audit SETUP LAG CAPACITY TRACE` ask for.
 #[derive(Clone, Copy, Debug)]
@@ -12,10 +12,10 @@ pub struct Arguments<'a> {
     /// How many microseconds the sender's clock is ahead of the receiver's at most (RFC 4082, section 3.3: `D_t`).
     pub lag: i64,
     /// How many packets the receiver holds at most.
-    pub places: Places,
+    pub limits: PacketLimits,
     /// The name of the file of the trace.
     pub trace: &'a str,
-    ghost some: { 1 ≤ places.quota },
-    ghost within: { places.quota ≤ places.capacity },
-    ghost most: { places.capacity ≤ 65536 },
+    ghost some: { 1 ≤ limits.quota },
+    ghost within: { limits.quota ≤ limits.capacity },
+    ghost most: { limits.capacity ≤ 65536 },
 }

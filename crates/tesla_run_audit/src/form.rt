@@ -4,7 +4,7 @@ ghost use Rattle.std.specs.Prelude.{◌≡◌, Some, IfSome, map, string_bytes, 
 ghost use Rattle.tesla_run_audit.specs.Arguments.{AuditArguments, IsAudit, arguments_of};
 
 use crate::arguments::Arguments;
-use tesla_front::{FormText, Name, Places, words_in};
+use tesla_front::{FormText, Name, PacketLimits, words_in};
 
 /// The form of `audit`.
 pub const AUDIT: FormText = FormText {
@@ -27,12 +27,12 @@ pub fn arguments_in(words: &[String]) -> Option<Arguments<'_>>
     // What is spelled so is found.
     ensures only { (arguments : AuditArguments) → IsAudit arguments (map string_bytes words.now) → option_map arguments_of result ≡ Some arguments }
 {
-    let found = words_in::<(Name<'_>, (i64, (Places, (Name<'_>, ()))))>("audit", words);
+    let found = words_in::<(Name<'_>, (i64, (PacketLimits, (Name<'_>, ()))))>("audit", words);
     match &found {
-        Some((setup, (lag, (places, (trace, ()))))) => Some(Arguments {
+        Some((setup, (lag, (limits, (trace, ()))))) => Some(Arguments {
             setup: setup.as_str(),
             lag: *lag,
-            places: *places,
+            limits: *limits,
             trace: trace.as_str(),
         }),
         None => None,

@@ -4,7 +4,7 @@ ghost use Rattle.std.specs.Prelude.{◌≡◌, ◌+◌, ◌<◌, ◌≤◌, [], 
 ghost use Rattle.std.specs.Option.{option_map};
 ghost use Rattle.tesla_desk.specs.Faults.{HasCause};
 ghost use Rattle.tesla_fitting.specs.declared.config.Config.{Config};
-ghost use Rattle.tesla_front.specs.Came.{Failed, came_of};
+ghost use Rattle.tesla_front.specs.OutcomeView.{Failed, result_view};
 ghost use Rattle.tesla_front.specs.declared.fault.Fault.TheVariants as faults;
 ghost use Rattle.tesla_receiver.specs.declared.history.Entry.{Entry};
 ghost use Rattle.tesla_receiver.specs.Stands.{Stands};
@@ -13,7 +13,7 @@ ghost use Rattle.tesla_records.specs.Steps.{goes_on};
 ghost use Rattle.tesla_trace.specs.Entries.{IsEntry, entry_in};
 ghost use Rattle.tesla_audit.specs.Steps.{records_step};
 ghost use Rattle.tesla_run_audit.specs.Arguments.{arguments_of, config_of};
-ghost use Rattle.tesla_run_audit.specs.Audit.{AuditsBetween, AuditsBytes, IsAuditCame};
+ghost use Rattle.tesla_run_audit.specs.Audit.{AuditsBetween, AuditsBytes, IsAuditOutcome};
 ghost use Rattle.tesla_run_audit.specs.Judging.{GoesUp, IsAt, IsBehind, StepsTo, stop_at};
 
 use crate::arguments::Arguments;
@@ -46,8 +46,8 @@ pub fn audit_trace<S: Source>(
     arguments: &Arguments<'_>,
     source: &mut S,
 ) -> Result<Lines, Stop>
-    ensures audits { AuditsBetween (config_of (arguments_of arguments.now) setup) (S.left source.old) (S.left source.new) (came_of result) }
-    ensures cause { HasCause (S.faults source.old) (S.faults source.new) (came_of result ≡ Failed faults.Read) }
+    ensures audits { AuditsBetween (config_of (arguments_of arguments.now) setup) (S.left source.old) (S.left source.new) (result_view result) }
+    ensures cause { HasCause (S.faults source.old) (S.faults source.new) (result_view result ≡ Failed faults.Read) }
     ensures name { S.name source.new ≡ S.name source.old }
 {
     let mut reader = TraceReader::new();
@@ -78,8 +78,8 @@ fn open(
     ensures stands { IfOk result (λ r. Stands r []) }
 {
     let lag = arguments.lag;
-    let places = arguments.places;
-    Receiver::open(alloc, setup, lag, places.capacity, places.quota, ingests)
+    let limits = arguments.limits;
+    Receiver::open(alloc, setup, lag, limits.capacity, limits.quota, ingests)
 }
 
 // Judges a trace by a new receiver, with a ledger for its evaluations of HMAC. The place holds the first entry.
@@ -97,9 +97,9 @@ fn judge_from<L: Ledger, S: Source>(
     requires entry { IsEntry entry }
     requires going { reader.going ≡ true }
     requires limited { reader.place ≤ limit }
-    ensures audits { (cfg : ℕ → Config) (bytes : List ℕ) → IsAt cfg bytes receiver reader (S.left source.old) (entry_in entry) → AuditsBytes cfg bytes (S.left source.new) (came_of result) }
-    ensures possible { IsAuditCame (came_of result) }
-    ensures cause { HasCause (S.faults source.old) (S.faults source.new) (came_of result ≡ Failed faults.Read) }
+    ensures audits { (cfg : ℕ → Config) (bytes : List ℕ) → IsAt cfg bytes receiver reader (S.left source.old) (entry_in entry) → AuditsBytes cfg bytes (S.left source.new) (result_view result) }
+    ensures possible { IsAuditOutcome (result_view result) }
+    ensures cause { HasCause (S.faults source.old) (S.faults source.new) (result_view result ≡ Failed faults.Read) }
     ensures name { S.name source.new ≡ S.name source.old }
 {
     let audit = Audit {
@@ -117,15 +117,15 @@ fn judge_all<L: Ledger, S: Source>(mut audit: Audit<L>, source: &mut S) -> Resul
     requires going { audit.reader.going ≡ true }
     requires calls { audit.auditor.calls ≡ 0 }
     requires limited { audit.reader.place ≤ limit }
-    ensures audits { (cfg : ℕ → Config) (bytes : List ℕ) → IsAt cfg bytes audit.auditor audit.reader (S.left source.old) (entry_in audit.entry) → AuditsBytes cfg bytes (S.left source.new) (came_of result) }
-    ensures possible { IsAuditCame (came_of result) }
-    ensures cause { HasCause (S.faults source.old) (S.faults source.new) (came_of result ≡ Failed faults.Read) }
+    ensures audits { (cfg : ℕ → Config) (bytes : List ℕ) → IsAt cfg bytes audit.auditor audit.reader (S.left source.old) (entry_in audit.entry) → AuditsBytes cfg bytes (S.left source.new) (result_view result) }
+    ensures possible { IsAuditOutcome (result_view result) }
+    ensures cause { HasCause (S.faults source.old) (S.faults source.new) (result_view result ≡ Failed faults.Read) }
     ensures name { S.name source.new ≡ S.name source.old }
 {
     loop {
         match audit.step(source) {
             None => {}
-            Some(came) => return came,
+            Some(outcome) => return outcome,
         }
     }
 }
@@ -140,8 +140,8 @@ impl<L: Ledger> Audit<L> {
         ensures rises { result ≡ None → GoesUp self.old.reader self.new.reader }
         ensures entry { result ≡ None → IsEntry self.new.entry }
         ensures calls { self.new.auditor.calls ≡ self.old.auditor.calls + 1 }
-        ensures possible { IfSome result (λ came. IsAuditCame (came_of came)) }
-        ensures cause { HasCause (S.faults source.old) (S.faults source.new) (option_map came_of result ≡ Some (Failed faults.Read)) }
+        ensures possible { IfSome result (λ outcome. IsAuditOutcome (result_view outcome)) }
+        ensures cause { HasCause (S.faults source.old) (S.faults source.new) (option_map result_view result ≡ Some (Failed faults.Read)) }
         ensures name { S.name source.new ≡ S.name source.old }
     {
         let number = self.auditor.entries();
@@ -158,8 +158,8 @@ impl<L: Ledger> Audit<L> {
         ensures rises { result ≡ None → GoesUp self.old.reader self.new.reader }
         ensures entry { result ≡ None → IsEntry self.new.entry }
         ensures auditor { self.new.auditor ≡ self.old.auditor }
-        ensures possible { IfSome result (λ came. IsAuditCame (came_of came)) }
-        ensures cause { HasCause (S.faults source.old) (S.faults source.new) (option_map came_of result ≡ Some (Failed faults.Read)) }
+        ensures possible { IfSome result (λ outcome. IsAuditOutcome (result_view outcome)) }
+        ensures cause { HasCause (S.faults source.old) (S.faults source.new) (option_map result_view result ≡ Some (Failed faults.Read)) }
         ensures name { S.name source.new ≡ S.name source.old }
     {
         let step = self.reader.next(source, &mut self.entry);
@@ -174,7 +174,7 @@ impl<L: Ledger> Audit<L> {
 // Where the entries of a trace end behind so many that are right.
 fn stop(step: TraceStep, entries: u64) -> Result<Lines, Stop>
     requires { goes_on (records_step step) ≡ false }
-    ensures { came_of result ≡ stop_at step entries }
+    ensures { result_view result ≡ stop_at step entries }
 {
     match step {
         TraceStep::End => Ok(legal(entries)),

@@ -1,12 +1,12 @@
 //! Laws about the command, as contracts of functions that do nothing else.
 
 ghost use Rattle.std.specs.Prelude.{◌≡◌, ◌⊎◌, ℕ, List, Bool, Ok, unwrap_or, length, codes};
-ghost use Rattle.tesla_base.specs.Front.{AreBytes};
+ghost use Rattle.tesla_base.specs.Prefix.{AreBytes};
 ghost use Rattle.tesla_commit.specs.Parsing.{judged};
 ghost use Rattle.tesla_commit.specs.Parts.{Parts};
 ghost use Rattle.tesla_desk.specs.Outside.{Told, Holds};
 ghost use Rattle.tesla_fitting.specs.declared.config.Config.{Config};
-ghost use Rattle.tesla_front.specs.Came.{Came, Done, Refused, Failed};
+ghost use Rattle.tesla_front.specs.OutcomeView.{OutcomeView, Done, Refused, Failed};
 ghost use Rattle.tesla_front.specs.Command.{Performs};
 ghost use Rattle.tesla_front.specs.Lines.{count_line};
 ghost use Rattle.tesla_front.specs.Run.{NothingFailed};
@@ -33,12 +33,12 @@ pub fn form() -> FormText
 /// A run of `audit` comes to its end. Where the desk tells a setup and a trace, and no count of faults rose, it comes to what
 /// the trace comes to under the setup, or to want of memory.
 pub fn completeness()
-    ensures { (arguments : AuditArguments) (old new : Told) (came : Came) (text bytes : List ℕ) (failed other : Bool) (setup : Parts) →
-        Performs audit arguments old new came →
+    ensures { (arguments : AuditArguments) (old new : Told) (outcome : OutcomeView) (text bytes : List ℕ) (failed other : Bool) (setup : Parts) →
+        Performs audit arguments old new outcome →
         old.page arguments.setup ≡ Holds text failed → judged text ≡ Ok setup →
         old.page arguments.trace ≡ Holds bytes other →
         NothingFailed old.faults new.faults →
-        (came ≡ audit_of (config_of arguments setup) bytes) ⊎ (came ≡ Failed faults.NoMemory) }
+        (outcome ≡ audit_of (config_of arguments setup) bytes) ⊎ (outcome ≡ Failed faults.NoMemory) }
 {}
 
 /// What a trace comes to under the configuration of a receiver, told the number of its ingests, which the head tells.

@@ -2,7 +2,7 @@
 
 ghost use Rattle.std.specs.Prelude.{◌≡◌, map, string_bytes};
 ghost use Rattle.tesla_desk.specs.Faults.{HasCause};
-ghost use Rattle.tesla_front.specs.Came.{Failed, came_of, outcome_came};
+ghost use Rattle.tesla_front.specs.OutcomeView.{Failed, result_view, outcome_view};
 ghost use Rattle.tesla_front.specs.Command.{Performs, RunsAs};
 ghost use Rattle.tesla_front.specs.Openings.{AreFiles};
 ghost use Rattle.tesla_front.specs.declared.fault.Fault.TheVariants as faults;
@@ -30,7 +30,7 @@ use tesla_front::{Fault, Lines, Outcome, Stop, outcome_of, setup_under};
 /// first, `Read` and `Open` exactly where the desk's count of that rose, `NoMemory` before any entry was judged. Nothing is
 /// written.
 pub fn run_audit<D: Desk>(alloc: Global, words: &[String], desk: &mut D) -> Outcome
-    ensures { RunsAs audit (map string_bytes words.now) (D.told desk.old) (D.told desk.new) (outcome_came result) }
+    ensures { RunsAs audit (map string_bytes words.now) (D.told desk.old) (D.told desk.new) (outcome_view result) }
 {
     match arguments_in(words) {
         Some(arguments) => outcome_of(perform(alloc, &arguments, desk)),
@@ -41,7 +41,7 @@ pub fn run_audit<D: Desk>(alloc: Global, words: &[String], desk: &mut D) -> Outc
 // Does what the words ask for.
 fn perform<D: Desk>(alloc: Global, arguments: &Arguments<'_>, desk: &mut D) -> Result<Lines, Stop>
     requires files { AreFiles (files_of_audit (arguments_of arguments.now)) }
-    ensures { Performs audit (arguments_of arguments.now) (D.told desk.old) (D.told desk.new) (came_of result) }
+    ensures { Performs audit (arguments_of arguments.now) (D.told desk.old) (D.told desk.new) (result_view result) }
 {
     match setup_under(alloc, arguments.setup, desk) {
         Ok(setup) => audit_file(alloc, setup, arguments, desk),
@@ -56,13 +56,13 @@ fn audit_file<D: Desk>(
     arguments: &Arguments<'_>,
     desk: &mut D,
 ) -> Result<Lines, Stop>
-    ensures { AuditsFile (config_of (arguments_of arguments.now) setup) arguments.now.trace.now (D.told desk.old) (D.told desk.new) (came_of result) }
+    ensures { AuditsFile (config_of (arguments_of arguments.now) setup) arguments.now.trace.now (D.told desk.old) (D.told desk.new) (result_view result) }
 {
     match desk.open_source(arguments.trace) {
         Ok(mut source) => {
-            let came = audit_trace(alloc, setup, arguments, &mut source);
+            let outcome = audit_trace(alloc, setup, arguments, &mut source);
             desk.close_source(source);
-            came
+            outcome
         }
         Err(refusal) => Err(Stop::Failed(Fault::from(refusal))),
     }

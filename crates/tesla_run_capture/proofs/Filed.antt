@@ -63,11 +63,11 @@ recorded_all recorder count left later before after written mid kept failed most
 
 -- what was gathered isn't written
 pub recorded_lost : (recorder : Recorder) (left later : Option (List Letter)) (before after : Option Ticking) (written mid kept : Option (List ℕ)) (failed : ℕ) → recorder.size ≤ limit → recorder.gatherer.length ≤ 8192 → HearsOn recorder left later before after written mid → AppendsPrefix mid kept (gathered recorder.gatherer) → Records (Err faults.Write) left later before after written kept failed
-recorded_lost recorder left later before after written mid kept failed most within on front = record {
+recorded_lost recorder left later before after written mid kept failed most within on prefix = record {
   heard = on.heard;
   hears = on.hears;
   fits = omega (arith, most, on.keeps.size, text_size on.heard);
-  comes = breaks_gathered written mid kept (gathered recorder.gatherer) (pieces_of on.heard) on.keeps.gathers front (omega (arith, gathered_most recorder within));
+  comes = breaks_gathered written mid kept (gathered recorder.gatherer) (pieces_of on.heard) on.keeps.gathers prefix (omega (arith, gathered_most recorder within));
 }
 
 failed_by : (whole : Bool) (recorder : Recorder) (heard : List Heard) (later : Option (List Letter)) (written kept : Option (List ℕ)) (failed : ℕ) → (whole ≡ true → (failed ≡ 0) × (kept ≡ with_bytes written (pieces_of heard))) → (whole ≡ false → (0 < failed) × BreaksOff (pieces_of heard) written kept) → ComesTo (Err faults.Read) heard (pieces_of heard) later written kept failed
@@ -76,13 +76,13 @@ failed_by false recorder heard later written kept failed all some = inr (some re
 
 -- the link failed, and what was gathered was written, but where a write failed too
 pub recorded_failed : (whole : Bool) (recorder : Recorder) (left later : Option (List Letter)) (before after : Option Ticking) (written mid kept : Option (List ℕ)) (failed : ℕ) → recorder.size ≤ limit → recorder.gatherer.length ≤ 8192 → HearsOn recorder left later before after written mid → (whole ≡ true → kept ≡ with_bytes mid (gathered recorder.gatherer)) → AppendsPrefix mid kept (gathered recorder.gatherer) → (whole ≡ true → failed ≡ 0) → (whole ≡ false → 0 < failed) → Records (Err faults.Read) left later before after written kept failed
-recorded_failed whole recorder left later before after written mid kept failed most within on wrote front none some = record {
+recorded_failed whole recorder left later before after written mid kept failed most within on wrote prefix none some = record {
   heard = on.heard;
   hears = on.hears;
   fits = omega (arith, most, on.keeps.size, text_size on.heard);
   comes = failed_by whole recorder on.heard later written kept failed
       (λ is. (none is, gathers_written written mid kept (gathered recorder.gatherer) (pieces_of on.heard) on.keeps.gathers (wrote is)))
-      (λ is. (some is, breaks_gathered written mid kept (gathered recorder.gatherer) (pieces_of on.heard) on.keeps.gathers front (omega (arith, gathered_most recorder within))));
+      (λ is. (some is, breaks_gathered written mid kept (gathered recorder.gatherer) (pieces_of on.heard) on.keeps.gathers prefix (omega (arith, gathered_most recorder within))));
 }
 
 -- a count that rose from 0 isn't 0
@@ -102,11 +102,11 @@ recorded_last left later before after written kept failed last = record {
 
 breaks_after : (first text : List ℕ) (before mid now : Option (List ℕ)) → mid ≡ with_bytes before first → BreaksOff text mid now → BreaksOff (first ++ text) before now
 breaks_after first text before mid now wrote breaks = record {
-  front = (
-    length first + breaks.front.0,
+  prefix = (
+    length first + breaks.prefix.0,
     record {
-      fits = omega (arith, breaks.front.1.fits, length-append first text);
-      written = breaks.front.1.written ∙ ap (λ w. with_bytes w (take breaks.front.0 text)) wrote ∙ with_bytes_twice before first (take breaks.front.0 text) ∙ ap (λ bytes. with_bytes before bytes) (sym (take-append-add first text breaks.front.0));
+      fits = omega (arith, breaks.prefix.1.fits, length-append first text);
+      written = breaks.prefix.1.written ∙ ap (λ w. with_bytes w (take breaks.prefix.0 text)) wrote ∙ with_bytes_twice before first (take breaks.prefix.0 text) ∙ ap (λ bytes. with_bytes before bytes) (sym (take-append-add first text breaks.prefix.0));
     },
   );
   few = omega (arith, breaks.few, length-append first text);
@@ -140,12 +140,12 @@ filed result left later readings made before after written mid kept failed clock
 
 -- the head wasn't written
 pub filed_nothing : (left : Option (List Letter)) (readings : Option (ℕ → List ℕ)) (made : Option ℕ) (written kept : Option (List ℕ)) (failed : ℕ) → AppendsPrefix written kept head → RecordsFile (Err faults.Write) left left readings made written kept failed
-filed_nothing left readings made written kept failed front = record {
+filed_nothing left readings made written kept failed prefix = record {
   heard = [];
   taken = [];
   left_is = letters_none left;
   heard_are = refl;
   clock = read_where [] readings made (clock_told readings made) (omega arith) refl;
   is_capture = record { limits = tt; spelled = refl; fits = omega arith };
-  comes = record { front = front; few = omega arith };
+  comes = record { prefix = prefix; few = omega arith };
 }

@@ -46,7 +46,7 @@ pub hears_more : (heard : List Heard) (one : Heard) (left now later : Option (Li
 hears_more heard one left now later before then after hears next ticks is = record {
   taken = hears.taken ++ letters.Datagram one.bytes ∷ [];
   left_is = hears.left_is ∙ ap (λ (l : Option (List Letter)). after_letters hears.taken l) next ∙ letters_twice later hears.taken (letters.Datagram one.bytes ∷ []);
-  heard_are = flat_map-append datagram_in hears.taken (letters.Datagram one.bytes ∷ []) ∙ ap (λ (front : List (List ℕ)). front ++ one.bytes ∷ []) hears.heard_are ∙ sym (map-append bytes_of heard (one ∷ []));
+  heard_are = flat_map-append datagram_in hears.taken (letters.Datagram one.bytes ∷ []) ∙ ap (λ (prefix : List (List ℕ)). prefix ++ one.bytes ∷ []) hears.heard_are ∙ sym (map-append bytes_of heard (one ∷ []));
   gives = subst (λ (rs : List ℕ). Gives rs before after) (sym (map-append reading_of heard (one ∷ []))) (gives_more (map reading_of heard) before then after one.reading hears.gives ticks);
   limits = all_more heard one hears.limits is;
 }

@@ -40,38 +40,38 @@ pub gathers_two : (before mid now : Option (List ℕ)) (held more rest a b : Lis
 gathers_two before mid now held more rest a b first second =
     subst (λ (t : List ℕ). Gathers before now rest t) (append_assoc held a b) (gathers_both before mid now more rest (held ++ a) b first second)
 
--- where the second wasn't put, a front of what is held and of both was written
+-- where the second wasn't put, a prefix of what is held and of both was written
 pub prefix_two : (before mid now : Option (List ℕ)) (held more a b : List ℕ) → Gathers before mid more (held ++ a) → AppendsPrefix mid now more → AppendsPrefix before now (held ++ (a ++ b))
-prefix_two before mid now held more a b first front =
+prefix_two before mid now held more a b first prefix =
     subst (λ (t : List ℕ). AppendsPrefix before now t) (append_assoc held a b)
-    (prefix_longer before now (held ++ a) b (subst (λ (t : List ℕ). AppendsPrefix before now t) (sym first.both) (prefix_after before mid now first.done more first.written front)))
+    (prefix_longer before now (held ++ a) b (subst (λ (t : List ℕ). AppendsPrefix before now t) (sym first.both) (prefix_after before mid now first.done more first.written prefix)))
 
 -- what is gathered was written
 pub gathers_written : (before mid now : Option (List ℕ)) (held text : List ℕ) → Gathers before mid held text → now ≡ with_bytes mid held → now ≡ with_bytes before text
 gathers_written before mid now held text gathers wrote =
     with_more before mid now gathers.done held gathers.written wrote ∙ ap (λ (t : List ℕ). with_bytes before t) (sym gathers.both)
 
--- a front of what is gathered and of more was written
+-- a prefix of what is gathered and of more was written
 pub breaks_behind : (before mid now : Option (List ℕ)) (held text more : List ℕ) → Gathers before mid held text → AppendsPrefix mid now (held ++ more) → length held + length more ≤ held_most → BreaksOff (text ++ more) before now
-breaks_behind before mid now held text more gathers front few =
+breaks_behind before mid now held text more gathers prefix few =
     let whole : gathers.done ++ (held ++ more) ≡ text ++ more = sym (append_assoc gathers.done held more) ∙ ap (λ (t : List ℕ). t ++ more) (sym gathers.both) in
     let size = length-append gathers.done (held ++ more) in
     let behind = length-append held more in
     subst (λ (t : List ℕ). BreaksOff t before now) whole (record {
-      front = (
-        length gathers.done + front.0,
+      prefix = (
+        length gathers.done + prefix.0,
         record {
-          fits = omega (arith, front.1.fits, size);
-          written = front.1.written ∙ ap (λ w. with_bytes w (take front.0 (held ++ more))) gathers.written ∙ with_bytes_twice before gathers.done (take front.0 (held ++ more)) ∙ ap (λ bytes. with_bytes before bytes) (sym (take-append-add gathers.done (held ++ more) front.0));
+          fits = omega (arith, prefix.1.fits, size);
+          written = prefix.1.written ∙ ap (λ w. with_bytes w (take prefix.0 (held ++ more))) gathers.written ∙ with_bytes_twice before gathers.done (take prefix.0 (held ++ more)) ∙ ap (λ bytes. with_bytes before bytes) (sym (take-append-add gathers.done (held ++ more) prefix.0));
         },
       );
       few = omega (arith, size, behind, few);
     })
 
 pub breaks_gathered : (before mid now : Option (List ℕ)) (held text : List ℕ) → Gathers before mid held text → AppendsPrefix mid now held → length held ≤ held_most → BreaksOff text before now
-breaks_gathered before mid now held text gathers front few =
+breaks_gathered before mid now held text gathers prefix few =
     subst (λ (t : List ℕ). BreaksOff t before now) (append-nil text)
-    (breaks_behind before mid now held text [] gathers (subst (λ (t : List ℕ). AppendsPrefix mid now t) (sym (append-nil held)) front) (omega (arith, few)))
+    (breaks_behind before mid now held text [] gathers (subst (λ (t : List ℕ). AppendsPrefix mid now t) (sym (append-nil held)) prefix) (omega (arith, few)))
 
 -- ---- a recorder
 
@@ -109,7 +109,7 @@ hears_lost bytes old new left now later before then after written mid kept short
       heard = on.heard ++ one ∷ [];
       hears = hears_more on.heard one left now later before then after on.hears next puts.ticks puts.limits;
       fits = omega (arith, room, short, on.keeps.size, ap (λ (t : List ℕ). length t) pieces, length-append (pieces_of on.heard) (piece_of one), piece_size one);
-      breaks = subst (λ (t : List ℕ). BreaksOff t written kept) (sym pieces) (breaks_behind written mid kept (gathered old.gatherer) (pieces_of on.heard) (piece_of one) on.keeps.gathers (puts.front refl) (omega (arith, held, piece_size one, short)));
+      breaks = subst (λ (t : List ℕ). BreaksOff t written kept) (sym pieces) (breaks_behind written mid kept (gathered old.gatherer) (pieces_of on.heard) (piece_of one) on.keeps.gathers (puts.prefix refl) (omega (arith, held, piece_size one, short)));
     }
 
 -- a quiet more, and what was gathered is written
@@ -126,9 +126,9 @@ hears_rest old new left now later before after written mid kept on next wrote em
 
 -- a quiet more, and what was gathered isn't written
 pub hears_broken : (old : Recorder) (left now later : Option (List Letter)) (before after : Option Ticking) (written mid kept : Option (List ℕ)) → old.gatherer.length ≤ 8192 → old.size ≤ limit → HearsOn old left now before after written mid → now ≡ after_letters (letters.Quiet ∷ []) later → AppendsPrefix mid kept (gathered old.gatherer) → HearsLast left later before after written kept
-hears_broken old left now later before after written mid kept within most on next front = record {
+hears_broken old left now later before after written mid kept within most on next prefix = record {
   heard = on.heard;
   hears = hears_quiet on.heard left now later before after on.hears next;
   fits = omega (arith, most, on.keeps.size);
-  breaks = breaks_gathered written mid kept (gathered old.gatherer) (pieces_of on.heard) on.keeps.gathers front (omega (arith, gathered_most old within));
+  breaks = breaks_gathered written mid kept (gathered old.gatherer) (pieces_of on.heard) on.keeps.gathers prefix (omega (arith, gathered_most old within));
 }

@@ -11,10 +11,10 @@ use Rattle.tesla_front.specs.Files.{HasFailed}
 use Rattle.tesla_front.specs.declared.fault.Fault.{Fault}
 use Rattle.tesla_front.specs.declared.fault.Fault.TheVariants as faults
 use Rattle.tesla_run_capture.specs.Arguments.{CaptureArguments}
-use Rattle.tesla_run_capture.specs.Capture.{Captures, EndsAs, HoldsFront, HoldsWhole, LeavesNone, LeftWhere, captured_line}
+use Rattle.tesla_run_capture.specs.Capture.{Captures, EndsAs, HoldsCapturePrefix, HoldsWhole, LeavesNone, LeftWhere, captured_line}
 use Rattle.tesla_run_capture.specs.Heard.{BreaksOff, Heard, IsFull, bytes_of, text_of}
 use Rattle.tesla_run_capture.specs.Recording.{ComesTo, RecordsFile}
-use Rattle.tesla_run_capture.specs.Steps.{came_with}
+use Rattle.tesla_run_capture.specs.Steps.{outcome_with}
 
 -- ---- letters
 
@@ -44,14 +44,14 @@ whole_page text None kept failed empty none wrote = subst (λ (k : Option (List 
 whole_page text (Some bytes) kept failed empty none wrote =
     subst (λ (k : Option (List ℕ)). HoldsWhole text (page_of k failed)) (sym wrote) (ap (λ (b : List ℕ). b ++ text) empty, ap (λ (n : ℕ). nat_lt 0 n) none)
 
-front_page : (text : List ℕ) (written kept : Option (List ℕ)) (failed : ℕ) → IfSome written (λ bytes. bytes ≡ []) → 0 < failed → BreaksOff text written kept → HoldsFront text (page_of kept failed)
-front_page text None kept failed empty some breaks = subst (λ (k : Option (List ℕ)). HoldsFront text (page_of k failed)) (sym breaks.front.1.written) tt
-front_page text (Some bytes) kept failed empty some breaks =
-    let n = breaks.front.0 in
-    let front : bytes ++ take n text ≡ take n text = ap (λ (b : List ℕ). b ++ take n text) empty in
-    let size : length (take n text) ≡ n = length-take-le n text breaks.front.1.fits in
-    subst (λ (k : Option (List ℕ)). HoldsFront text (page_of k failed)) (sym breaks.front.1.written)
-    (record { front = (n, front); few = omega (arith, breaks.few, size, ap (λ (b : List ℕ). length b) front) }, grind (arith, nat_tests, some))
+prefix_page : (text : List ℕ) (written kept : Option (List ℕ)) (failed : ℕ) → IfSome written (λ bytes. bytes ≡ []) → 0 < failed → BreaksOff text written kept → HoldsCapturePrefix text (page_of kept failed)
+prefix_page text None kept failed empty some breaks = subst (λ (k : Option (List ℕ)). HoldsCapturePrefix text (page_of k failed)) (sym breaks.prefix.1.written) tt
+prefix_page text (Some bytes) kept failed empty some breaks =
+    let n = breaks.prefix.0 in
+    let prefix : bytes ++ take n text ≡ take n text = ap (λ (b : List ℕ). b ++ take n text) empty in
+    let size : length (take n text) ≡ n = length-take-le n text breaks.prefix.1.fits in
+    subst (λ (k : Option (List ℕ)). HoldsCapturePrefix text (page_of k failed)) (sym breaks.prefix.1.written)
+    (record { prefix = (n, prefix); few = omega (arith, breaks.few, size, ap (λ (b : List ℕ). length b) prefix) }, grind (arith, nat_tests, some))
 
 -- a sink on which a write failed has failed
 pub failed_page : (kept : Option (List ℕ)) (failed : ℕ) → 0 < failed → HasFailed (page_of kept failed)
@@ -64,24 +64,24 @@ some_failed : (failed : ℕ) → (0 < failed) ⊎ (2 ^ 64 - 1 ≤ 0) → 0 < fai
 some_failed failed (inl some) = some
 some_failed failed (inr full) = absurd (omega (arith, full))
 
-ends_as : (result : Result ℕ Fault) (heard : List Heard) (later : Option (List Letter)) (written kept : Option (List ℕ)) (missed failed : ℕ) → IfSome written (λ bytes. bytes ≡ []) → HasCauseBeside ((result ≡ Err faults.Read) × (0 < failed)) 0 failed (result ≡ Err faults.Write) → ComesTo result heard (text_of heard) later written kept failed → EndsAs heard (remainder_of later missed) (page_of kept failed) (came_with result)
+ends_as : (result : Result ℕ Fault) (heard : List Heard) (later : Option (List Letter)) (written kept : Option (List ℕ)) (missed failed : ℕ) → IfSome written (λ bytes. bytes ≡ []) → HasCauseBeside ((result ≡ Err faults.Read) × (0 < failed)) 0 failed (result ≡ Err faults.Write) → ComesTo result heard (text_of heard) later written kept failed → EndsAs heard (remainder_of later missed) (page_of kept failed) (outcome_with result)
 ends_as (Ok count) heard later written kept missed failed empty write comes =
     let none : failed ≡ 0 = write.still (λ e. absurd cc) (λ hidden. let e = hidden.0 in absurd cc) in
     (ap captured_line comes.0, whole_page (text_of heard) written kept failed empty none comes.1, over_left (length (text_of heard)) later missed comes.2)
 ends_as (Err faults.Read) heard later written kept missed failed empty write (inl all) = inl (whole_page (text_of heard) written kept failed empty all.0 all.1)
-ends_as (Err faults.Read) heard later written kept missed failed empty write (inr some) = inr (front_page (text_of heard) written kept failed empty some.0 some.1)
-ends_as (Err faults.Write) heard later written kept missed failed empty write comes = front_page (text_of heard) written kept failed empty (some_failed failed (write.rose refl)) comes
+ends_as (Err faults.Read) heard later written kept missed failed empty write (inr some) = inr (prefix_page (text_of heard) written kept failed empty some.0 some.1)
+ends_as (Err faults.Write) heard later written kept missed failed empty write comes = prefix_page (text_of heard) written kept failed empty (some_failed failed (write.rose refl)) comes
 ends_as (Err faults.NoMemory) heard later written kept missed failed empty write comes = absurd comes
 ends_as (Err faults.Open) heard later written kept missed failed empty write comes = absurd comes
 
 -- what was recorded is what the desk tells
 pub captures : (arguments : CaptureArguments) (before now : Live) (out : Page) (result : Result ℕ Fault) (left later : Option (List Letter)) (written kept : Option (List ℕ)) (missed failed : ℕ) → OpenedLink (before.wire arguments.link) left → IfSome written (λ bytes. bytes ≡ []) → now.left arguments.link ≡ remainder_of later missed → out ≡ page_of kept failed
-    → RecordsFile result left later before.readings before.made written kept failed → HasCauseBeside ((result ≡ Err faults.Read) × (0 < failed)) 0 failed (result ≡ Err faults.Write) → Captures arguments before now out (came_with result)
+    → RecordsFile result left later before.readings before.made written kept failed → HasCauseBeside ((result ≡ Err faults.Read) × (0 < failed)) 0 failed (result ≡ Err faults.Write) → Captures arguments before now out (outcome_with result)
 captures arguments before now out result left later written kept missed failed opened empty rest page records write = record {
   heard = records.heard;
   link = subst (λ (r : Option Remainder). LeftWhere records.heard (before.wire arguments.link) r) (sym rest) (left_where records.heard records.taken (before.wire arguments.link) left later missed opened records.left_is records.heard_are);
   clock = records.clock;
   is_capture = records.is_capture;
-  ends = subst (λ (r : Option Remainder). EndsAs records.heard r out (came_with result)) (sym rest)
-      (subst (λ (p : Page). EndsAs records.heard (remainder_of later missed) p (came_with result)) (sym page) (ends_as result records.heard later written kept missed failed empty write records.comes));
+  ends = subst (λ (r : Option Remainder). EndsAs records.heard r out (outcome_with result)) (sym rest)
+      (subst (λ (p : Page). EndsAs records.heard (remainder_of later missed) p (outcome_with result)) (sym page) (ends_as result records.heard later written kept missed failed empty write records.comes));
 }

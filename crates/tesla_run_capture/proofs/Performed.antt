@@ -9,7 +9,7 @@ use Rattle.tesla_desk.specs.declared.desk.OpenRefusal.TheVariants as refusals
 use Rattle.tesla_desk.specs.declared.link.Letter.{Letter}
 use Rattle.tesla_desk.proofs.Told.{leaves_all}
 use Rattle.tesla_desk.proofs.Counts.{causes_as, causes_closed, causes_opening, causes_plain, causes_then, counts_stay}
-use Rattle.tesla_front.specs.Came.{Came, Failed}
+use Rattle.tesla_front.specs.OutcomeView.{OutcomeView, Failed}
 use Rattle.tesla_front.specs.Command.{Performs}
 use Rattle.tesla_front.specs.Fault.{unopened}
 use Rattle.tesla_front.specs.Files.{HasFailed}
@@ -21,7 +21,7 @@ use Rattle.tesla_run_capture.specs.Arguments.{CaptureArguments, IsCaptureForm, f
 use Rattle.tesla_run_capture.specs.Capture.{Captures, TouchesLink, capture}
 use Rattle.tesla_run_capture.specs.Heard.{Heard, text_of}
 use Rattle.tesla_run_capture.specs.Recording.{ComesTo, RecordsFile}
-use Rattle.tesla_run_capture.specs.Steps.{MakesSome, RunsOpened, came_with}
+use Rattle.tesla_run_capture.specs.Steps.{MakesSome, RunsOpened, outcome_with}
 use Rattle.tesla_run_capture.proofs.Paged.{captures, failed_page}
 
 -- none of the files is the console
@@ -133,7 +133,7 @@ performs_unfiled {A} {B} arguments it refusal fault name left missed before mid 
 
 -- ---- both were opened
 
-fault_of : (result : Result ℕ Fault) (fault : Fault) → came_with result ≡ Failed fault → result ≡ Err fault
+fault_of : (result : Result ℕ Fault) (fault : Fault) → outcome_with result ≡ Failed fault → result ≡ Err fault
 fault_of (Ok count) fault e = absurd cc
 fault_of (Err other) fault e = cc
 
@@ -144,19 +144,19 @@ no_open (Err faults.Write) heard text later written kept failed comes e = absurd
 no_open (Err faults.NoMemory) heard text later written kept failed comes e = absurd comes
 no_open (Err faults.Open) heard text later written kept failed comes e = absurd comes
 
-module _ (arguments : CaptureArguments) (left : Option (List Letter)) (written : Option (List ℕ)) (before opened now : Told) (came : Came) (runs : RunsOpened arguments.link arguments.out left written opened now came) where
+module _ (arguments : CaptureArguments) (left : Option (List Letter)) (written : Option (List ℕ)) (before opened now : Told) (outcome : OutcomeView) (runs : RunsOpened arguments.link arguments.out left written opened now outcome) where
   made_faults : runs.made.faults ≡ opened.faults
   made_faults = ap (λ (t : Told). t.faults) runs.makes.0
 
   -- the counts rise for what the recording came to
-  opened_counts : HasCausesBeside ((came ≡ Failed faults.Read) × AnyFailed (files_of_capture arguments) now) runs.made.faults now.faults (came ≡ Failed faults.Read) (came ≡ Failed faults.Write) (came ≡ Failed faults.Open)
+  opened_counts : HasCausesBeside ((outcome ≡ Failed faults.Read) × AnyFailed (files_of_capture arguments) now) runs.made.faults now.faults (outcome ≡ Failed faults.Read) (outcome ≡ Failed faults.Write) (outcome ≡ Failed faults.Open)
   opened_counts =
       let closed : now.faults ≡ after_sink (after_source runs.made.faults runs.missed) runs.failed = runs.link_closed.counts ∙ ap (λ (f : Faults). after_source f runs.missed) runs.sink_closed.counts in
       let none : runs.result ≡ Err faults.Open → ⊥ = no_open runs.result runs.records.heard (text_of runs.records.heard) runs.later written runs.kept runs.failed runs.records.comes in
       let counted = causes_closed runs.made.faults (after_source runs.made.faults runs.missed) now.faults runs.missed runs.failed refl closed runs.read runs.write none in
       let page : now.page arguments.out ≡ page_of runs.kept runs.failed = runs.link_closed.pages arguments.out ∙ runs.sink_closed.own in
-      let from : (fault : Fault) → came ≡ Failed fault → runs.result ≡ Err fault = λ fault e. fault_of runs.result fault (sym runs.came_is ∙ e) in
-      let to : (fault : Fault) → runs.result ≡ Err fault → came ≡ Failed fault = λ fault e. runs.came_is ∙ ap came_with e in
+      let from : (fault : Fault) → outcome ≡ Failed fault → runs.result ≡ Err fault = λ fault e. fault_of runs.result fault (sym runs.outcome_is ∙ e) in
+      let to : (fault : Fault) → runs.result ≡ Err fault → outcome ≡ Failed fault = λ fault e. runs.outcome_is ∙ ap outcome_with e in
       causes_as runs.made.faults now.faults counted
       (λ hidden. (to faults.Read hidden.0, inl (subst HasFailed (sym page) (failed_page runs.kept runs.failed hidden.1))))
       (from faults.Read) (to faults.Read) (from faults.Write) (to faults.Write) (from faults.Open) (to faults.Open)
@@ -181,16 +181,16 @@ module _ (arguments : CaptureArguments) (left : Option (List Letter)) (written :
       }
 
   -- what was recorded is what is told
-  opened_captures : opened.live ≡ before.live → OpenedLink (before.live.wire arguments.link) left → IfSome written (λ bytes. bytes ≡ []) → Captures arguments before.live now.live (now.page arguments.out) came
+  opened_captures : opened.live ≡ before.live → OpenedLink (before.live.wire arguments.link) left → IfSome written (λ bytes. bytes ≡ []) → Captures arguments before.live now.live (now.page arguments.out) outcome
   opened_captures same letters empty =
       let page : now.page arguments.out ≡ page_of runs.kept runs.failed = runs.link_closed.pages arguments.out ∙ runs.sink_closed.own in
       let records : RecordsFile runs.result left runs.later before.live.readings before.live.made written runs.kept runs.failed =
       subst (λ (l : Live). RecordsFile runs.result left runs.later l.readings l.made written runs.kept runs.failed) same runs.records in
-      subst (λ (c : Came). Captures arguments before.live now.live (now.page arguments.out) c) (sym runs.came_is)
+      subst (λ (c : OutcomeView). Captures arguments before.live now.live (now.page arguments.out) c) (sym runs.outcome_is)
       (captures arguments before.live now.live (now.page arguments.out) runs.result left runs.later written runs.kept runs.missed runs.failed letters empty runs.link_closed.own page records runs.write)
 
   -- both were opened, what the link brought was recorded, and both were closed
-  performs_both : {A B : Type 0} (it : A) (other : B) (mid : Told) → AreFiles (files_of_capture arguments) → OpenedLink (before.live.wire arguments.link) left → IfSome written (λ bytes. bytes ≡ []) → OpensLink {A = A} arguments.link (Ok it) before mid → OpensSink {A = B} arguments.out (Ok other) mid opened → Performs (capture before.live now.live) arguments before now came
+  performs_both : {A B : Type 0} (it : A) (other : B) (mid : Told) → AreFiles (files_of_capture arguments) → OpenedLink (before.live.wire arguments.link) left → IfSome written (λ bytes. bytes ≡ []) → OpensLink {A = A} arguments.link (Ok it) before mid → OpensSink {A = B} arguments.out (Ok other) mid opened → Performs (capture before.live now.live) arguments before now outcome
   performs_both {A} {B} it other mid named letters empty link sink =
       let live : opened.live ≡ before.live = sink.live ∙ link.live in
       let first : mid.faults ≡ before.faults = counts_stay before.faults mid.faults link.counts (λ e. absurd cc) in
@@ -204,11 +204,11 @@ module _ (arguments : CaptureArguments) (left : Option (List Letter)) (written :
       }
 
 -- what was so of the open link and sink, and of their closings under their names
-pub runs_opened : (link link_now out out_now : List ℕ) (left later : Option (List Letter)) (written kept : Option (List ℕ)) (fresh missed failed : ℕ) (old made between new : Told) (result : Result ℕ Fault) (came : Came) → link_now ≡ link → out_now ≡ out → fresh ≡ 0 → came ≡ came_with result → RecordsFile result left later old.live.readings old.live.made written kept failed
-    → HasCause fresh missed (result ≡ Err faults.Read) → HasCauseBeside ((result ≡ Err faults.Read) × (0 < failed)) 0 failed (result ≡ Err faults.Write) → MakesSome old made → ClosesSink out_now kept failed made between → ClosesLink link_now later missed between new → RunsOpened link out left written old new came
-runs_opened link link_now out out_now left later written kept fresh missed failed old made between new result came own file none is records read write makes sink_closed link_closed = record {
+pub runs_opened : (link link_now out out_now : List ℕ) (left later : Option (List Letter)) (written kept : Option (List ℕ)) (fresh missed failed : ℕ) (old made between new : Told) (result : Result ℕ Fault) (outcome : OutcomeView) → link_now ≡ link → out_now ≡ out → fresh ≡ 0 → outcome ≡ outcome_with result → RecordsFile result left later old.live.readings old.live.made written kept failed
+    → HasCause fresh missed (result ≡ Err faults.Read) → HasCauseBeside ((result ≡ Err faults.Read) × (0 < failed)) 0 failed (result ≡ Err faults.Write) → MakesSome old made → ClosesSink out_now kept failed made between → ClosesLink link_now later missed between new → RunsOpened link out left written old new outcome
+runs_opened link link_now out out_now left later written kept fresh missed failed old made between new result outcome own file none is records read write makes sink_closed link_closed = record {
   result = result;
-  came_is = is;
+  outcome_is = is;
   later = later;
   kept = kept;
   missed = missed;
@@ -223,7 +223,7 @@ runs_opened link link_now out out_now left later written kept fresh missed faile
   link_closed = subst (λ (n : List ℕ). ClosesLink n later missed between new) own link_closed;
 }
 
-pub performs_opened : {A B : Type 0} (arguments : CaptureArguments) (it : A) (other : B) (link out : List ℕ) (left : Option (List Letter)) (written : Option (List ℕ)) (before mid opened now : Told) (came : Came) → AreFiles (files_of_capture arguments) → link ≡ arguments.link → out ≡ arguments.out → OpenedLink (before.live.wire arguments.link) left → IfSome written (λ bytes. bytes ≡ []) → OpensLink {A = A} arguments.link (Ok it) before mid → OpensSink {A = B} arguments.out (Ok other) mid opened → RunsOpened link out left written opened now came → Performs (capture before.live now.live) arguments before now came
-performs_opened {A} {B} arguments it other link out left written before mid opened now came named own file letters empty first second runs =
-    let both : RunsOpened arguments.link arguments.out left written opened now came = subst (λ (n : List ℕ). RunsOpened n arguments.out left written opened now came) own (subst (λ (n : List ℕ). RunsOpened link n left written opened now came) file runs) in
-    performs_both arguments left written before opened now came both {A = A} {B = B} it other mid named letters empty first second
+pub performs_opened : {A B : Type 0} (arguments : CaptureArguments) (it : A) (other : B) (link out : List ℕ) (left : Option (List Letter)) (written : Option (List ℕ)) (before mid opened now : Told) (outcome : OutcomeView) → AreFiles (files_of_capture arguments) → link ≡ arguments.link → out ≡ arguments.out → OpenedLink (before.live.wire arguments.link) left → IfSome written (λ bytes. bytes ≡ []) → OpensLink {A = A} arguments.link (Ok it) before mid → OpensSink {A = B} arguments.out (Ok other) mid opened → RunsOpened link out left written opened now outcome → Performs (capture before.live now.live) arguments before now outcome
+performs_opened {A} {B} arguments it other link out left written before mid opened now outcome named own file letters empty first second runs =
+    let both : RunsOpened arguments.link arguments.out left written opened now outcome = subst (λ (n : List ℕ). RunsOpened n arguments.out left written opened now outcome) own (subst (λ (n : List ℕ). RunsOpened link n left written opened now outcome) file runs) in
+    performs_both arguments left written before opened now outcome both {A = A} {B = B} it other mid named letters empty first second

@@ -7,7 +7,7 @@ use Rattle.tesla_desk.specs.Links.{datagrams}
 use Rattle.tesla_desk.specs.Live.{Live, Wire, UntoldWire, AbsentWire, HoldsWire, Remainder, LeavesAll}
 use Rattle.tesla_desk.specs.Outside.{Page, Untold, Absent, Holds}
 use Rattle.tesla_desk.specs.declared.link.Letter.{Letter}
-use Rattle.tesla_front.specs.Came.{Came, Done, Failed}
+use Rattle.tesla_front.specs.OutcomeView.{OutcomeView, Done, Failed}
 use Rattle.tesla_front.specs.Command.{Command}
 use Rattle.tesla_front.specs.Files.{IsPrefix}
 use Rattle.tesla_front.specs.Lines.{count_line}
@@ -23,10 +23,10 @@ captured_line count = count_line (codes "captured") count
 -- ---- nothing was received
 
 -- the link or the file of the capture wasn't opened, or there was no memory: the file is as before
-pub record Stops (arguments : CaptureArguments) (before now : Live) (out out_now : File) (came : Came) : Type 0 where
+pub record Stops (arguments : CaptureArguments) (before now : Live) (out out_now : File) (outcome : OutcomeView) : Type 0 where
   pub unheard : (now.left arguments.link ≡ before.left arguments.link) ⊎ LeavesAll (before.wire arguments.link) (now.left arguments.link)
   pub unwritten : out_now.page ≡ out.page
-  pub cause : (came ≡ Failed faults.Open) ⊎ (came ≡ Failed faults.NoMemory)
+  pub cause : (outcome ≡ Failed faults.Open) ⊎ (outcome ≡ Failed faults.NoMemory)
 
 -- ---- what was heard
 
@@ -44,9 +44,9 @@ LeftWhere heard UntoldWire remainder = Unit {0}
 
 -- ---- what was written
 
--- a front of the capture, but for so many bytes at most
-pub record IsFront (text bytes : List ℕ) : Type 0 where
-  pub front : IsPrefix text bytes
+-- a prefix of the capture, but for so many bytes at most
+pub record IsPrefixOf (text bytes : List ℕ) : Type 0 where
+  pub prefix : IsPrefix text bytes
   pub few : length text ≤ length bytes + held_most
 
 -- the file, where it is told, holds the capture, and no write failed
@@ -55,11 +55,11 @@ HoldsWhole text Untold = Unit {0}
 HoldsWhole text Absent = ⊥
 HoldsWhole text (Holds bytes failed) = (bytes ≡ text) × (failed ≡ false)
 
--- the file, where it is told, holds a front of the capture, and a write failed
-abbrev pub HoldsFront : List ℕ → Page → Type 0
-HoldsFront text Untold = Unit {0}
-HoldsFront text Absent = ⊥
-HoldsFront text (Holds bytes failed) = IsFront text bytes × (failed ≡ true)
+-- the file, where it is told, holds a prefix of the capture, and a write failed
+abbrev pub HoldsCapturePrefix : List ℕ → Page → Type 0
+HoldsCapturePrefix text Untold = Unit {0}
+HoldsCapturePrefix text Absent = ⊥
+HoldsCapturePrefix text (Holds bytes failed) = IsPrefixOf text bytes × (failed ≡ true)
 
 -- no letter is left of the link, where that is told
 abbrev pub LeavesNone : Option Remainder → Type 0
@@ -67,20 +67,20 @@ LeavesNone None = Unit {0}
 LeavesNone (Some remainder) = remainder.letters ≡ []
 
 -- how it ends: all letters left the link or the capture is full, and all is written; the link failed, and all is written, but where a write failed too; or a write failed
-abbrev pub EndsAs : List Heard → Option Remainder → Page → Came → Type 0
+abbrev pub EndsAs : List Heard → Option Remainder → Page → OutcomeView → Type 0
 EndsAs heard remainder out (Done lines) = (lines ≡ captured_line (length heard)) × HoldsWhole (text_of heard) out × (LeavesNone remainder ⊎ IsFull (length (text_of heard)))
-EndsAs heard remainder out (Failed faults.Read) = HoldsWhole (text_of heard) out ⊎ HoldsFront (text_of heard) out
-EndsAs heard remainder out (Failed faults.Write) = HoldsFront (text_of heard) out
+EndsAs heard remainder out (Failed faults.Read) = HoldsWhole (text_of heard) out ⊎ HoldsCapturePrefix (text_of heard) out
+EndsAs heard remainder out (Failed faults.Write) = HoldsCapturePrefix (text_of heard) out
 EndsAs heard remainder out _ = ⊥
 
 -- the datagrams of the link were recorded
-pub record Captures (arguments : CaptureArguments) (before now : Live) (out : Page) (came : Came) : Type 0 where
+pub record Captures (arguments : CaptureArguments) (before now : Live) (out : Page) (outcome : OutcomeView) : Type 0 where
   pub heard : List Heard
   pub link : LeftWhere heard (before.wire arguments.link) (now.left arguments.link)
   pub clock : ReadWhere heard before.readings before.made
   -- they make a capture in its grammar, which has an arrival and a take of each
   pub is_capture : IsCapture (text_of heard) (records_of heard)
-  pub ends : EndsAs heard (now.left arguments.link) out came
+  pub ends : EndsAs heard (now.left arguments.link) out outcome
 
 -- ---- the command
 
@@ -93,10 +93,10 @@ pub record TouchesLink (link : List ℕ) (before now : Live) : Type 0 where
   pub made : (now.made ≡ before.made) ⊎ (now.made ≡ option_map raised before.made)
 
 -- what the run does: nothing was received; or both were opened, and what the link brought was recorded
-abbrev pub DoesCapture : Live → Live → CaptureArguments → ℕ → List File → List File → Came → Type 0
-DoesCapture before now arguments opened (link ∷ out ∷ []) (link_now ∷ out_now ∷ []) came =
-    TouchesLink arguments.link before now × (Stops arguments before now out out_now came ⊎ ((opened ≡ 2) × Captures arguments before now out_now.page came))
-DoesCapture before now arguments opened files files_now came = ⊥
+abbrev pub DoesCapture : Live → Live → CaptureArguments → ℕ → List File → List File → OutcomeView → Type 0
+DoesCapture before now arguments opened (link ∷ out ∷ []) (link_now ∷ out_now ∷ []) outcome =
+    TouchesLink arguments.link before now × (Stops arguments before now out out_now outcome ⊎ ((opened ≡ 2) × Captures arguments before now out_now.page outcome))
+DoesCapture before now arguments opened files files_now outcome = ⊥
 
 -- the command, told what the desk has of links and clocks before and afterwards: its words, its files and what it does
 abbrev pub capture : Live → Live → Command

@@ -51,10 +51,10 @@ IsFull size = limit - longest < size
 abbrev pub held_most : ℕ
 held_most = 8192 + longest
 
--- a front of a text was written, but for so many bytes at most
+-- a prefix of a text was written, but for so many bytes at most
 pub record BreaksOff (text : List ℕ) (before now : Option (List ℕ)) : Type 0 where
-  pub front : AppendsPrefix before now text
-  pub few : length text ≤ front.0 + held_most
+  pub prefix : AppendsPrefix before now text
+  pub few : length text ≤ prefix.0 + held_most
 
 -- what was heard has, in order, the first readings of the next clock, where the desk tells readings
 abbrev pub ReadWhere : List Heard → Option (ℕ → List ℕ) → Option ℕ → Type 0

@@ -24,7 +24,7 @@ pub record Hears (heard : List Heard) (left later : Option (List Letter)) (befor
   pub gives : Gives (map reading_of heard) before after
   pub limits : AllByRecursion IsHeard heard
 
--- the records of one datagram were put behind those gathered, with one reading of the clock, or a front of these was written
+-- the records of one datagram were put behind those gathered, with one reading of the clock, or a prefix of these was written
 pub record Puts (bytes : List ℕ) (old new : Recorder) (written kept : Option (List ℕ)) (before after : Option Ticking) (whole : Bool) : Type 0 where
   pub reading : ℕ
   pub ticks : Ticks before after reading
@@ -32,9 +32,9 @@ pub record Puts (bytes : List ℕ) (old new : Recorder) (written kept : Option (
   pub put : whole ≡ true → Gathers written kept (gathered new.gatherer) (gathered old.gatherer ++ piece_of (record { reading = reading; bytes = bytes }))
   pub count : whole ≡ true → new.count ≡ old.count + 1
   pub size : whole ≡ true → new.size ≡ old.size + (12 + length bytes)
-  pub front : whole ≡ false → AppendsPrefix written kept (gathered old.gatherer ++ piece_of (record { reading = reading; bytes = bytes }))
+  pub prefix : whole ≡ false → AppendsPrefix written kept (gathered old.gatherer ++ piece_of (record { reading = reading; bytes = bytes }))
 
--- a recorder has this of what was heard: a front of its records was written, and the rest is gathered
+-- a recorder has this of what was heard: a prefix of its records was written, and the rest is gathered
 pub record Keeps (heard : List Heard) (recorder : Recorder) (written kept : Option (List ℕ)) : Type 0 where
   pub gathers : Gathers written kept (gathered recorder.gatherer) (pieces_of heard)
   pub count : recorder.count ≡ length heard

@@ -2,13 +2,13 @@
 
 ghost use Rattle.std.specs.Prelude.{◌≡◌, ◌<◌, [], Err, IfSome, map, string_bytes};
 ghost use Rattle.tesla_desk.specs.Faults.{HasCause, HasCauseBeside};
-ghost use Rattle.tesla_front.specs.Came.{outcome_came};
+ghost use Rattle.tesla_front.specs.OutcomeView.{outcome_view};
 ghost use Rattle.tesla_front.specs.Command.{Performs, RunsAs};
 ghost use Rattle.tesla_front.specs.Openings.{AreFiles};
 ghost use Rattle.tesla_run_capture.specs.Arguments.{arguments_of, files_of_capture};
 ghost use Rattle.tesla_run_capture.specs.Capture.{capture};
 ghost use Rattle.tesla_run_capture.specs.Recording.{RecordsFile};
-ghost use Rattle.tesla_run_capture.specs.Steps.{MakesSome, RunsOpened, came_with};
+ghost use Rattle.tesla_run_capture.specs.Steps.{MakesSome, RunsOpened, outcome_with};
 
 use crate::form::{Arguments, arguments_in};
 use crate::recording::record_link;
@@ -23,10 +23,10 @@ use tesla_front::{Fault, Lines, Outcome, add_count};
 /// `Done` with the line of how many datagrams there were: LINK has ended, or CAPTURE may have no room for another. `Usage`
 /// exactly where the words are no form, and then nothing was opened. `Failed` with what went wrong first, `Read`, `Write`
 /// and `Open` only where the desk's count of that rose: after a failed LINK what came before is written, unless a write
-/// failed too, and after a failed write CAPTURE holds a front of it. It waits for the link, and takes no memory but for the
+/// failed too, and after a failed write CAPTURE holds a prefix of it. It waits for the link, and takes no memory but for the
 /// openings.
 pub fn run_capture<R: Wait, D: Desk>(rt: &R, words: &[String], desk: &mut D) -> Outcome
-    ensures { RunsAs (capture (D.told desk.old).live (D.told desk.new).live) (map string_bytes words.now) (D.told desk.old) (D.told desk.new) (outcome_came result) }
+    ensures { RunsAs (capture (D.told desk.old).live (D.told desk.new).live) (map string_bytes words.now) (D.told desk.old) (D.told desk.new) (outcome_view result) }
 {
     match arguments_in(words) {
         Some(arguments) => perform(rt, &arguments, desk),
@@ -37,7 +37,7 @@ pub fn run_capture<R: Wait, D: Desk>(rt: &R, words: &[String], desk: &mut D) -> 
 // Does what the words ask for.
 fn perform<R: Wait, D: Desk>(rt: &R, arguments: &Arguments<'_>, desk: &mut D) -> Outcome
     requires files { AreFiles (files_of_capture (arguments_of arguments.now)) }
-    ensures { Performs (capture (D.told desk.old).live (D.told desk.new).live) (arguments_of arguments.now) (D.told desk.old) (D.told desk.new) (outcome_came result) }
+    ensures { Performs (capture (D.told desk.old).live (D.told desk.new).live) (arguments_of arguments.now) (D.told desk.old) (D.told desk.new) (outcome_view result) }
 {
     match desk.open_link(arguments.link) {
         Ok(link) => match desk.open_sink(arguments.out) {
@@ -60,12 +60,12 @@ fn run_opened<R: Wait, D: Desk>(
 ) -> Outcome
     requires link { D.Wire.faults link ≡ 0 }
     requires sink { D.Out.faults sink ≡ 0 }
-    ensures { RunsOpened (D.Wire.name link) (D.Out.name sink) (D.Wire.left link) (D.Out.written sink) (D.told desk.old) (D.told desk.new) (outcome_came result) }
+    ensures { RunsOpened (D.Wire.name link) (D.Out.name sink) (D.Wire.left link) (D.Out.written sink) (D.told desk.old) (D.told desk.new) (outcome_view result) }
 {
-    let came = record_opened(rt, &mut link, &mut sink, desk);
+    let outcome = record_opened(rt, &mut link, &mut sink, desk);
     desk.close_sink(sink);
     desk.close_link(link);
-    told(came)
+    outcome_of(outcome)
 }
 
 // Writes the head of the capture, and records the link behind it, with a new clock.
@@ -90,10 +90,10 @@ fn record_opened<R: Wait, D: Desk>(
 }
 
 // What a recording comes to, with the line that tells how many datagrams there were.
-fn told(came: Result<u64, Fault>) -> Outcome
-    ensures { outcome_came result ≡ came_with came }
+fn outcome_of(outcome: Result<u64, Fault>) -> Outcome
+    ensures { outcome_view result ≡ outcome_with outcome }
 {
-    match came {
+    match outcome {
         Ok(count) => {
             let mut lines = Lines::new();
             add_count(&mut lines, "captured", count);

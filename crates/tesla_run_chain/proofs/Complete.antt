@@ -4,7 +4,7 @@ use Rattle.tesla_base.specs.declared.names.Key.{Key}
 use Rattle.tesla_commit.specs.Parts.{Parts}
 use Rattle.tesla_seeds.specs.declared.refusal.SeedsKind.{SeedsKind}
 use Rattle.tesla_desk.specs.Outside.{Page, Holds, Told}
-use Rattle.tesla_front.specs.Came.{Came, Done, Refused, Failed}
+use Rattle.tesla_front.specs.OutcomeView.{OutcomeView, Done, Refused, Failed}
 use Rattle.tesla_front.specs.Command.{Performs}
 use Rattle.tesla_front.specs.Files.{HoldsWhere}
 use Rattle.tesla_front.specs.Openings.{File, file_told}
@@ -23,27 +23,27 @@ refused_never count text seeds status line found (inl why) = let no : ◌≡◌ 
 refused_never count text seeds status line found (inr memory) = cc
 
 -- where seeds are told, there are none only where something went wrong outside
-lacking_ends : (count : ℕ) (page : Page) (came : Came) (text : List ℕ) (failed : Bool) (seeds : List Key) → page ≡ Holds text failed → IsSeedsText count text seeds → IsNoSeeds count page came → (fault : Fault) × (came ≡ Failed fault)
+lacking_ends : (count : ℕ) (page : Page) (outcome : OutcomeView) (text : List ℕ) (failed : Bool) (seeds : List Key) → page ≡ Holds text failed → IsSeedsText count text seeds → IsNoSeeds count page outcome → (fault : Fault) × (outcome ≡ Failed fault)
 lacking_ends count page (Failed fault) text failed seeds is found why = (fault, refl)
 lacking_ends count page (Refused status line) text failed seeds is found why =
     absurd (refused_never count text seeds status line found (subst (λ (p : Page). HoldsWhere p (λ t. IsNoSeedsText count t (Refused status line))) is why))
 lacking_ends count page _ text failed seeds is found why = absurd why
 
 -- a setup that was made is written, or something went wrong outside
-writing_ends : (setup : Parts) (count : ℕ) (before after : Page) (came : Came) → length setup.rows ≡ count → WritesSetup setup before after came → (came ≡ Done (chains_line count)) ⊎ ((fault : Fault) × (came ≡ Failed fault))
+writing_ends : (setup : Parts) (count : ℕ) (before after : Page) (outcome : OutcomeView) → length setup.rows ≡ count → WritesSetup setup before after outcome → (outcome ≡ Done (chains_line count)) ⊎ ((fault : Fault) × (outcome ≡ Failed fault))
 writing_ends setup count before after (Done lines) same writes = inl (ap Done (writes.0 ∙ ap chains_line same))
 writing_ends setup count before after (Failed fault) same writes = inr (fault, refl)
 writing_ends setup count before after _ same writes = absurd writes
 
-chain_ends : (arguments : ChainArguments) (opened : ℕ) (secret out read written : File) (came : Came) (text : List ℕ) (failed : Bool) (seeds : List Key) → secret.page ≡ Holds text failed → IsSeedsText (length arguments.delays) text seeds → DoesChain arguments opened (secret ∷ out ∷ []) (read ∷ written ∷ []) came → (came ≡ Done (chains_line (length arguments.delays))) ⊎ ((fault : Fault) × (came ≡ Failed fault))
-chain_ends arguments opened secret out read written came text failed seeds page found (inl lacks) = inr (lacking_ends (length arguments.delays) secret.page came text failed seeds page found lacks.why)
-chain_ends arguments opened secret out read written came text failed seeds page found (inr makes) =
-    writing_ends (setup_made arguments makes.seeds) (length arguments.delays) out.page written.page came (rows_count arguments.times.last arguments.delays makes.seeds makes.count) makes.writes
+chain_ends : (arguments : ChainArguments) (opened : ℕ) (secret out read written : File) (outcome : OutcomeView) (text : List ℕ) (failed : Bool) (seeds : List Key) → secret.page ≡ Holds text failed → IsSeedsText (length arguments.delays) text seeds → DoesChain arguments opened (secret ∷ out ∷ []) (read ∷ written ∷ []) outcome → (outcome ≡ Done (chains_line (length arguments.delays))) ⊎ ((fault : Fault) × (outcome ≡ Failed fault))
+chain_ends arguments opened secret out read written outcome text failed seeds page found (inl lacks) = inr (lacking_ends (length arguments.delays) secret.page outcome text failed seeds page found lacks.why)
+chain_ends arguments opened secret out read written outcome text failed seeds page found (inr makes) =
+    writing_ends (setup_made arguments makes.seeds) (length arguments.delays) out.page written.page outcome (rows_count arguments.times.last arguments.delays makes.seeds makes.count) makes.writes
 
 -- a run of chain or chain2 comes to the number of chains, or to want of memory
-pub complete : (arguments : ChainArguments) (old new : Told) (came : Came) (text : List ℕ) (failed : Bool) (seeds : List Key) → Performs chain arguments old new came → old.page arguments.secret ≡ Holds text failed → IsSeedsText (length arguments.delays) text seeds → NothingFailed old.faults new.faults → (came ≡ Done (chains_line (length arguments.delays))) ⊎ (came ≡ Failed faults.NoMemory)
-complete arguments old new came text failed seeds performs page found none =
-    elim (chain_ends arguments performs.opened (file_told old arguments.secret) (file_told old arguments.out) (file_told new arguments.secret) (file_told new arguments.out) came text failed seeds page found performs.does) [
+pub complete : (arguments : ChainArguments) (old new : Told) (outcome : OutcomeView) (text : List ℕ) (failed : Bool) (seeds : List Key) → Performs chain arguments old new outcome → old.page arguments.secret ≡ Holds text failed → IsSeedsText (length arguments.delays) text seeds → NothingFailed old.faults new.faults → (outcome ≡ Done (chains_line (length arguments.delays))) ⊎ (outcome ≡ Failed faults.NoMemory)
+complete arguments old new outcome text failed seeds performs page found none =
+    elim (chain_ends arguments performs.opened (file_told old arguments.secret) (file_told old arguments.out) (file_told new arguments.secret) (file_told new arguments.out) outcome text failed seeds page found performs.does) [
       | inl done ↦ inl done
-      | inr fault ↦ inr (memory_alone old.faults new.faults came fault.0 performs.counts none fault.1)
+      | inr fault ↦ inr (memory_alone old.faults new.faults outcome fault.0 performs.counts none fault.1)
     ]

@@ -5,7 +5,7 @@ use Rattle.tesla_commit.specs.Parts.{Parts}
 use Rattle.tesla_commit.specs.SetupText.{IsSetup, setup_text}
 use Rattle.tesla_commit.specs.declared.chain_row.ChainRow.{ChainRow}
 use Rattle.tesla_desk.specs.Outside.{Page}
-use Rattle.tesla_front.specs.Came.{Came, Done, Failed}
+use Rattle.tesla_front.specs.OutcomeView.{OutcomeView, Done, Failed}
 use Rattle.tesla_front.specs.Command.{Command}
 use Rattle.tesla_front.specs.Files.{HoldsWhere, HasFailed, IsPrefix}
 use Rattle.tesla_front.specs.Lines.{count_line}
@@ -35,7 +35,7 @@ abbrev pub chains_line : ℕ → List ℕ
 chains_line count = count_line (codes "chains") count
 
 -- what writing a setup comes to, with the page of SETUP-OUT before and afterwards
-abbrev pub WritesSetup : Parts → Page → Page → Came → Type 0
+abbrev pub WritesSetup : Parts → Page → Page → OutcomeView → Type 0
 WritesSetup setup before after (Done lines) = (lines ≡ chains_line (length setup.rows)) × HoldsWhere after (λ written. IsSetup written setup)
 WritesSetup setup before after (Failed faults.Write) = HoldsWhere after (IsPrefix (setup_text setup)) × HasFailed after
 -- memory is wanting only before SETUP-OUT is opened
@@ -44,22 +44,22 @@ WritesSetup setup before after (Failed faults.Open) = after ≡ before
 WritesSetup setup before after _ = ⊥
 
 -- there are no such seeds in SECRET, and SETUP-OUT wasn't asked for
-pub record LacksSeeds (arguments : ChainArguments) (opened : ℕ) (secret : Page) (came : Came) : Type 0 where
+pub record LacksSeeds (arguments : ChainArguments) (opened : ℕ) (secret : Page) (outcome : OutcomeView) : Type 0 where
   pub alone : opened ≤ 1
-  pub why : IsNoSeeds (length arguments.delays) secret came
+  pub why : IsNoSeeds (length arguments.delays) secret outcome
 
 -- from the seeds in SECRET the setup was made, and then written
-pub record MakesSetup (arguments : ChainArguments) (secret before after : Page) (came : Came) : Type 0 where
+pub record MakesSetup (arguments : ChainArguments) (secret before after : Page) (outcome : OutcomeView) : Type 0 where
   pub seeds : List Key
   pub count : length seeds ≡ length arguments.delays
   pub found : IsSeedsIn (length arguments.delays) secret seeds
-  pub writes : WritesSetup (setup_made arguments seeds) before after came
+  pub writes : WritesSetup (setup_made arguments seeds) before after outcome
 
 -- a run of the command, of which so many files were asked to be opened, with what is told of SECRET and SETUP-OUT before and after it, and what it came to
-abbrev pub DoesChain : ChainArguments → ℕ → List File → List File → Came → Type 0
-DoesChain arguments opened (secret ∷ out ∷ []) (read ∷ written ∷ []) came =
-    LacksSeeds arguments opened secret.page came ⊎ MakesSetup arguments secret.page out.page written.page came
-DoesChain arguments opened before after came = ⊥
+abbrev pub DoesChain : ChainArguments → ℕ → List File → List File → OutcomeView → Type 0
+DoesChain arguments opened (secret ∷ out ∷ []) (read ∷ written ∷ []) outcome =
+    LacksSeeds arguments opened secret.page outcome ⊎ MakesSetup arguments secret.page out.page written.page outcome
+DoesChain arguments opened before after outcome = ⊥
 
 -- the command: chain and chain2, the version is among what the words ask for
 abbrev pub chain : Command

@@ -3,7 +3,7 @@
 ghost use Rattle.std.specs.Prelude.{◌≡◌, ◌⊎◌, ℕ, List, Bool, length, map};
 ghost use Rattle.tesla_base.specs.declared.names.Key.{Key};
 ghost use Rattle.tesla_desk.specs.Outside.{Told, Holds};
-ghost use Rattle.tesla_front.specs.Came.{Came, Done, Failed};
+ghost use Rattle.tesla_front.specs.OutcomeView.{OutcomeView, Done, Failed};
 ghost use Rattle.tesla_front.specs.Command.{Performs};
 ghost use Rattle.tesla_front.specs.Run.{NothingFailed};
 ghost use Rattle.tesla_front.specs.Seeds.{IsSeedsText};
@@ -25,9 +25,9 @@ pub fn forms() -> [FormText; 2]
 /// A run of `chain` or `chain2` comes to its end. Where the desk tells the seeds that are wanted, and no count of faults
 /// rose, it came to the number of the chains, or to want of memory.
 pub fn completeness()
-    ensures { (arguments : ChainArguments) (old new : Told) (came : Came) (text : List ℕ) (failed : Bool) (seeds : List Key) →
-        Performs chain arguments old new came →
+    ensures { (arguments : ChainArguments) (old new : Told) (outcome : OutcomeView) (text : List ℕ) (failed : Bool) (seeds : List Key) →
+        Performs chain arguments old new outcome →
         old.page arguments.secret ≡ Holds text failed → IsSeedsText (length arguments.delays) text seeds →
         NothingFailed old.faults new.faults →
-        (came ≡ Done (chains_line (length arguments.delays))) ⊎ (came ≡ Failed faults.NoMemory) }
+        (outcome ≡ Done (chains_line (length arguments.delays))) ⊎ (outcome ≡ Failed faults.NoMemory) }
 {}

@@ -2,7 +2,7 @@
 
 ghost use Rattle.std.specs.Prelude.{◌≡◌, [], ◌∷◌, length, map, string_bytes};
 ghost use Rattle.tesla_desk.specs.Outside.{OfSink};
-ghost use Rattle.tesla_front.specs.Came.{came_of, outcome_came};
+ghost use Rattle.tesla_front.specs.OutcomeView.{result_view, outcome_view};
 ghost use Rattle.tesla_front.specs.Command.{Performs, RunsAs};
 ghost use Rattle.tesla_front.specs.Openings.{AreFiles, OpensSome};
 ghost use Rattle.tesla_front.specs.Refusal.{StopCauses};
@@ -27,7 +27,7 @@ use tesla_seeds::Seeds;
 /// `Write` and `Open` exactly where the desk's count of that rose: behind a failed write SETUP-OUT holds a prefix of the
 /// setup, and else it is as before. So there is no memory only before SETUP-OUT was opened.
 pub fn run_chain<D: Desk>(alloc: Global, words: &[String], desk: &mut D) -> Outcome
-    ensures { RunsAs chain (map string_bytes words.now) (D.told desk.old) (D.told desk.new) (outcome_came result) }
+    ensures { RunsAs chain (map string_bytes words.now) (D.told desk.old) (D.told desk.new) (outcome_view result) }
 {
     match arguments_in(words) {
         Some(arguments) => outcome_of(perform(alloc, &arguments, desk)),
@@ -38,7 +38,7 @@ pub fn run_chain<D: Desk>(alloc: Global, words: &[String], desk: &mut D) -> Outc
 // Does what the words ask for.
 fn perform<D: Desk>(alloc: Global, arguments: &Arguments<'_>, desk: &mut D) -> Result<Lines, Stop>
     requires files { AreFiles (files_of_chain (arguments_of arguments.now)) }
-    ensures { Performs chain (arguments_of arguments.now) (D.told desk.old) (D.told desk.new) (came_of result) }
+    ensures { Performs chain (arguments_of arguments.now) (D.told desk.old) (D.told desk.new) (result_view result) }
 {
     let count = arguments.delays.len() as u8;
     let seeds = seeds_under(alloc, arguments.secret, count, desk)?;
@@ -53,7 +53,7 @@ fn write_made<D: Desk>(
     desk: &mut D,
 ) -> Result<Lines, Stop>
     requires { length seeds.now ≡ length arguments.now.delays.items }
-    ensures writes { WritesSetup (setup_made (arguments_of arguments.now) seeds.now) ((D.told desk.old).page arguments.now.out.now) ((D.told desk.new).page arguments.now.out.now) (came_of result) }
+    ensures writes { WritesSetup (setup_made (arguments_of arguments.now) seeds.now) ((D.told desk.old).page arguments.now.out.now) ((D.told desk.new).page arguments.now.out.now) (result_view result) }
     ensures opens { OpensSome (OfSink arguments.now.out.now ∷ []) (D.told desk.old) (D.told desk.new) }
     ensures causes { StopCauses result (D.told desk.old).faults (D.told desk.new).faults }
 {

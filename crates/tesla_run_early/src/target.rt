@@ -117,7 +117,7 @@ impl Target for EarlyTarget {
     fn form() -> Form {
         Form {
             name: "early",
-            capacity: Capacity::Places,
+            capacity: Capacity::PacketLimits,
         }
     }
 

@@ -4,38 +4,38 @@ use Rattle.std.specs.List.{list_all, list_any}
 use Rattle.tesla_desk.specs.Faults.{HasCause}
 use Rattle.tesla_desk.specs.Live.{remainder_of}
 use Rattle.tesla_desk.specs.declared.link.Letter.{Letter}
-use Rattle.tesla_feed.specs.Fed.{Feeding, counts_of, is_all_told}
+use Rattle.tesla_feed.specs.Fed.{Feeding, counts_of, is_all_disclosed}
 use Rattle.tesla_feed.specs.Feed.{has_failed}
 use Rattle.tesla_feed.specs.declared.counts.FeedCounts.{FeedCounts}
-use Rattle.tesla_front.specs.Came.{Failed}
+use Rattle.tesla_front.specs.OutcomeView.{Failed}
 use Rattle.tesla_front.specs.declared.fault.Fault.TheVariants as faults
 use Rattle.tesla_relay.proofs.Links.{broken_left, ended_left}
 use Rattle.tesla_run_feed.specs.Feeding.{EndsAs, HaveAllFailed, IsUnbroken}
-use Rattle.tesla_run_feed.specs.Lines.{came_by, lines_of}
+use Rattle.tesla_run_feed.specs.Lines.{outcome_by, lines_of}
 use Rattle.tesla_sender.specs.Made.{Stream}
 
 -- ---- what it comes to
 
-pub read_end : (link_failed post_failed : Bool) (counts : FeedCounts) → came_by link_failed post_failed counts ≡ Failed faults.Read → link_failed ≡ true
+pub read_end : (link_failed post_failed : Bool) (counts : FeedCounts) → outcome_by link_failed post_failed counts ≡ Failed faults.Read → link_failed ≡ true
 read_end true post_failed counts e = refl
 read_end false true counts e = absurd cc
 read_end false false counts e = absurd cc
 
-pub end_read : (link_failed post_failed : Bool) (counts : FeedCounts) → link_failed ≡ true → came_by link_failed post_failed counts ≡ Failed faults.Read
+pub end_read : (link_failed post_failed : Bool) (counts : FeedCounts) → link_failed ≡ true → outcome_by link_failed post_failed counts ≡ Failed faults.Read
 end_read true post_failed counts e = refl
 end_read false post_failed counts e = absurd cc
 
-pub write_failed : (link_failed post_failed : Bool) (counts : FeedCounts) → came_by link_failed post_failed counts ≡ Failed faults.Write → post_failed ≡ true
+pub write_failed : (link_failed post_failed : Bool) (counts : FeedCounts) → outcome_by link_failed post_failed counts ≡ Failed faults.Write → post_failed ≡ true
 write_failed true post_failed counts e = absurd cc
 write_failed false true counts e = refl
 write_failed false false counts e = absurd cc
 
-pub failed_either : (link_failed post_failed : Bool) (counts : FeedCounts) → post_failed ≡ true → (came_by link_failed post_failed counts ≡ Failed faults.Read) ⊎ (came_by link_failed post_failed counts ≡ Failed faults.Write)
+pub failed_either : (link_failed post_failed : Bool) (counts : FeedCounts) → post_failed ≡ true → (outcome_by link_failed post_failed counts ≡ Failed faults.Read) ⊎ (outcome_by link_failed post_failed counts ≡ Failed faults.Write)
 failed_either true post_failed counts e = inl refl
 failed_either false true counts e = inr refl
 failed_either false false counts e = absurd cc
 
-pub no_open : (link_failed post_failed : Bool) (counts : FeedCounts) → came_by link_failed post_failed counts ≡ Failed faults.Open → ⊥
+pub no_open : (link_failed post_failed : Bool) (counts : FeedCounts) → outcome_by link_failed post_failed counts ≡ Failed faults.Open → ⊥
 no_open true post_failed counts e = absurd cc
 no_open false true counts e = absurd cc
 no_open false false counts e = absurd cc
@@ -54,18 +54,18 @@ not_all [] some none = absurd (omega (arith, some))
 not_all (true ∷ others) some none = absurd cc
 not_all (false ∷ others) some none = refl
 
-told_unless : {Told : Type 0} (failed : List Bool) (all : Bool) → list_all has_failed failed ≡ all → (list_all has_failed failed ≡ false → Told) → HaveAllFailed failed ⊎ Told
-told_unless failed true is told = inl is
-told_unless failed false is told = inr (told is)
+disclosed_unless : {Told : Type 0} (failed : List Bool) (all : Bool) → list_all has_failed failed ≡ all → (list_all has_failed failed ≡ false → Told) → HaveAllFailed failed ⊎ Told
+disclosed_unless failed true is told = inl is
+disclosed_unless failed false is told = inr (told is)
 
 -- how it ends, told which failed
-pub ends_by : (stream : Stream) (link_failed post_failed : Bool) (counts : FeedCounts) (made : Feeding) (failed : List Bool) (later : Option (List Letter)) (missed : ℕ) → HasCause 0 missed (link_failed ≡ true) → 1 ≤ length failed → (list_all has_failed failed ≡ false → is_all_told stream made.log ≡ true) → (list_all has_failed failed ≡ false → link_failed ≡ false → IfSome later (λ rest. rest ≡ [])) → counts ≡ counts_of made → post_failed ≡ list_any has_failed failed
-    → EndsAs stream (remainder_of later missed) made failed (came_by link_failed post_failed counts)
+pub ends_by : (stream : Stream) (link_failed post_failed : Bool) (counts : FeedCounts) (made : Feeding) (failed : List Bool) (later : Option (List Letter)) (missed : ℕ) → HasCause 0 missed (link_failed ≡ true) → 1 ≤ length failed → (list_all has_failed failed ≡ false → is_all_disclosed stream made.log ≡ true) → (list_all has_failed failed ≡ false → link_failed ≡ false → IfSome later (λ rest. rest ≡ [])) → counts ≡ counts_of made → post_failed ≡ list_any has_failed failed
+    → EndsAs stream (remainder_of later missed) made failed (outcome_by link_failed post_failed counts)
 ends_by stream true post_failed counts made failed later missed cause some told ended counts_are any =
-    (broken_left later missed (cause.rose refl), told_unless failed (list_all has_failed failed) refl told)
+    (broken_left later missed (cause.rose refl), disclosed_unless failed (list_all has_failed failed) refl told)
 ends_by stream false true counts made failed later missed cause some told ended counts_are any =
     let sound : missed ≡ 0 = cause.still (λ e. absurd cc) in
-    (sym any, unbroken_left later missed sound, told_unless failed (list_all has_failed failed) refl (λ not. (told not, ended_left later missed (ended not refl) sound)))
+    (sym any, unbroken_left later missed sound, disclosed_unless failed (list_all has_failed failed) refl (λ not. (told not, ended_left later missed (ended not refl) sound)))
 ends_by stream false false counts made failed later missed cause some told ended counts_are any =
     let not = not_all failed some (sym any) in
     (ap lines_of counts_are, sym any, told not, ended_left later missed (ended not refl) (cause.still (λ e. absurd cc)))

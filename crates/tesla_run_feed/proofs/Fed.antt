@@ -13,7 +13,7 @@ use Rattle.tesla_desk.proofs.Counts.{cause_none, causes_plain, causes_source, ca
 use Rattle.tesla_feed.specs.Fed.{datagrams_of, has_ended, reading_of}
 use Rattle.tesla_feed.specs.Feed.{OpensAt, events_of, letter_of}
 use Rattle.tesla_feed.specs.declared.feeding.FeedEnd.{FeedEnd}
-use Rattle.tesla_front.specs.Came.{Came, Failed}
+use Rattle.tesla_front.specs.OutcomeView.{OutcomeView, Failed}
 use Rattle.tesla_front.specs.Fault.{unopened}
 use Rattle.tesla_front.specs.Openings.{AnyFailed, Opens}
 use Rattle.tesla_front.specs.declared.fault.Fault.{Fault}
@@ -31,13 +31,13 @@ use Rattle.tesla_relay.proofs.Clocks.{clock_alone, clock_made, clock_opens, read
 use Rattle.tesla_relay.proofs.Links.{left_where, link_tried}
 use Rattle.tesla_relay.proofs.Mails.{faulty_told, unsent_on}
 use Rattle.tesla_relay.proofs.Openings.{none_of_opened, opens_new, opens_still, refused_not_all}
-use Rattle.tesla_relay.proofs.Stopped.{came_cause, memory_counts, not_all_counts}
+use Rattle.tesla_relay.proofs.Stopped.{outcome_cause, memory_counts, not_all_counts}
 use Rattle.tesla_run_feed.specs.Arguments.{FeedArguments, IsFeedForm, live_files}
 use Rattle.tesla_run_feed.specs.Feeding.{EndsAs, FeedsLink, FindsOver, SendPosts, Stops, TouchesLive}
-use Rattle.tesla_run_feed.specs.Lines.{came_with, stream_over}
+use Rattle.tesla_run_feed.specs.Lines.{outcome_with, stream_over}
 use Rattle.tesla_run_feed.specs.Steps.{FeedsFiles, FeedsPosts, RunsLinked, TriesToFeed}
 use Rattle.tesla_run_feed.proofs.Ended.{end_read, ends_by, failed_either, no_open, read_end, write_failed}
-use Rattle.tesla_run_feed.proofs.Mailed.{each_told, faulty_marked, marked_faulty, names_kept, sends_posts}
+use Rattle.tesla_run_feed.proofs.Mailed.{each_reported, faulty_marked, marked_faulty, names_kept, sends_posts}
 use Rattle.tesla_sender.specs.Made.{Stream}
 
 -- ---- nothing was opened
@@ -50,8 +50,8 @@ touches_nothing link posts before now same = record {
   readings = ap (λ (l : Live). l.readings) same;
 }
 
-stops_nothing : (arguments : FeedArguments) (before now : Live) (came : Came) → now ≡ before → (came ≡ Failed faults.Open) ⊎ (came ≡ Failed faults.NoMemory) → Stops arguments before now came
-stops_nothing arguments before now came same cause = record {
+stops_nothing : (arguments : FeedArguments) (before now : Live) (outcome : OutcomeView) → now ≡ before → (outcome ≡ Failed faults.Open) ⊎ (outcome ≡ Failed faults.NoMemory) → Stops arguments before now outcome
+stops_nothing arguments before now outcome same cause = record {
   unheard = inl (ap (λ (l : Live). l.left arguments.link) same);
   unsent = λ name. inl (ap (λ (l : Live). l.mail name) same);
   made = inl (ap (λ (l : Live). l.made) same);
@@ -78,7 +78,7 @@ fed_unlinked {A} stream arguments refusal fault before now is tried =
       opened = it.0;
       opens = it.1;
       touches = touches_nothing arguments.link arguments.posts before.live now.live tried.live;
-      does = inl (stops_nothing arguments before.live now.live (Failed (unopened refusal)) tried.live (came_cause (unopened refusal) not_all.cause));
+      does = inl (stops_nothing arguments before.live now.live (Failed (unopened refusal)) tried.live (outcome_cause (unopened refusal) not_all.cause));
       counts = not_all_counts (unopened refusal) before now not_all;
     })
 
@@ -176,7 +176,7 @@ module _ (stream : Stream) (arguments : FeedArguments) (left : Option (List Lett
       over = over;
       unheard = all_unheard unheard;
       unsent = λ name. link_closed.mails name ∙ closes.others name (over_none name) ∙ ap (λ (l : Live). l.mail name) (at_first over_live);
-      came_is = refl;
+      outcome_is = refl;
     }
 
     fed_over : FeedsFiles stream arguments before now stream_over
@@ -212,7 +212,7 @@ module _ (stream : Stream) (arguments : FeedArguments) (left : Option (List Lett
             unheard = inr (all_unheard unheard);
             unsent = refused_unsent;
             made = inr (all_made refused_to.live);
-            cause = came_cause fault not_all.cause;
+            cause = outcome_cause fault not_all.cause;
           });
           counts = subst (λ (f : Faults). HasCausesBeside hidden before.faults f (Failed fault ≡ Failed faults.Read) (Failed fault ≡ Failed faults.Write) (Failed fault ≡ Failed faults.Open)) (sym (all_faults unheard refused_to.fresh)) counts;
         }
@@ -254,17 +254,17 @@ module _ (stream : Stream) (arguments : FeedArguments) (left : Option (List Lett
     fed_some =
         let feeds = fed.feeds in
         let size : length feeds.failed ≡ length arguments.posts =
-        each_told (datagrams_of stream feeds.made.log) fresh posts feeds.failed feeds.posts_are
+        each_reported (datagrams_of stream feeds.made.log) fresh posts feeds.failed feeds.posts_are
         ∙ sym (length-map posts post_name) ∙ ap (λ (ns : List (List ℕ)). length ns) fed_names in
         subst (λ (n : ℕ). 1 ≤ n) (sym size) some
 
-    fed_ends : EndsAs stream (now.live.left arguments.link) fed.feeds.made fed.feeds.failed (came_with end)
+    fed_ends : EndsAs stream (now.live.left arguments.link) fed.feeds.made fed.feeds.failed (outcome_with end)
     fed_ends =
         let feeds = fed.feeds in
-        subst (λ (r : Option Remainder). EndsAs stream r feeds.made feeds.failed (came_with end)) (sym link_closed.own)
-        (ends_by stream end.link_failed end.post_failed end.counts feeds.made feeds.failed later missed link_read fed_some feeds.told feeds.ended feeds.counts feeds.some_failed)
+        subst (λ (r : Option Remainder). EndsAs stream r feeds.made feeds.failed (outcome_with end)) (sym link_closed.own)
+        (ends_by stream end.link_failed end.post_failed end.counts feeds.made feeds.failed later missed link_read fed_some feeds.keys_disclosed feeds.ended feeds.counts feeds.some_failed)
 
-    fed_feeds : FeedsLink arguments stream before.live now.live (came_with end)
+    fed_feeds : FeedsLink arguments stream before.live now.live (outcome_with end)
     fed_feeds =
         let feeds = fed.feeds in
         record {
@@ -293,27 +293,27 @@ module _ (stream : Stream) (arguments : FeedArguments) (left : Option (List Lett
     fed_faults : tried.faults ≡ before.faults
     fed_faults = (fed_to.whole refl).counts ∙ clock_counts
 
-    fed_faulty : AnyFaulty posts → (came_with end ≡ Failed faults.Read) ⊎ (came_with end ≡ Failed faults.Write)
+    fed_faulty : AnyFaulty posts → (outcome_with end ≡ Failed faults.Read) ⊎ (outcome_with end ≡ Failed faults.Write)
     fed_faulty faulty =
         let feeds = fed.feeds in
         failed_either end.link_failed end.post_failed end.counts
         (feeds.some_failed ∙ faulty_marked (datagrams_of stream feeds.made.log) fresh posts feeds.failed fed_to.fresh feeds.posts_are faulty)
 
-    fed_failed : came_with end ≡ Failed faults.Write → AnyFaulty posts
+    fed_failed : outcome_with end ≡ Failed faults.Write → AnyFaulty posts
     fed_failed e =
         let feeds = fed.feeds in
         marked_faulty (datagrams_of stream feeds.made.log) fresh posts feeds.failed fed_to.fresh feeds.posts_are (sym feeds.some_failed ∙ write_failed end.link_failed end.post_failed end.counts e)
 
     -- the count of reads rose where the link failed, and that of writes where a post did
-    fed_causes : HasCausesBeside ((came_with end ≡ Failed faults.Read) × AnyFailed (live_files arguments) now) tried.faults now.faults (came_with end ≡ Failed faults.Read) (came_with end ≡ Failed faults.Write) (came_with end ≡ Failed faults.Open)
+    fed_causes : HasCausesBeside ((outcome_with end ≡ Failed faults.Read) × AnyFailed (live_files arguments) now) tried.faults now.faults (outcome_with end ≡ Failed faults.Read) (outcome_with end ≡ Failed faults.Write) (outcome_with end ≡ Failed faults.Open)
     fed_causes =
-        let source = causes_source {read = came_with end ≡ Failed faults.Read} {write = ⊥} {opening = ⊥} closed.faults now.faults missed link_closed.counts link_read
+        let source = causes_source {read = outcome_with end ≡ Failed faults.Read} {write = ⊥} {opening = ⊥} closed.faults now.faults missed link_closed.counts link_read
         (λ e. read_end end.link_failed end.post_failed end.counts e) (λ e. end_read end.link_failed end.post_failed end.counts e) (λ never. never) (λ never. never) in
         let writes : now.faults.writes ≡ closed.faults.writes = ap (λ (f : Faults). f.writes) link_closed.counts in
         let openings : now.faults.openings ≡ tried.faults.openings = ap (λ (f : Faults). f.openings) link_closed.counts ∙ closes.openings in
         let cause : HasCause tried.faults.writes now.faults.writes (AnyFaulty posts) = subst (λ (n : ℕ). HasCause tried.faults.writes n (AnyFaulty posts)) (sym writes) closes.writes in
         record {
-          reads = subst (λ (n : ℕ). HasCause n now.faults.reads (came_with end ≡ Failed faults.Read)) closes.reads source.reads;
+          reads = subst (λ (n : ℕ). HasCause n now.faults.reads (outcome_with end ≡ Failed faults.Read)) closes.reads source.reads;
           writes = record {
             stays = cause.stays;
             rose = λ e. cause.rose (fed_failed e);
@@ -326,7 +326,7 @@ module _ (stream : Stream) (arguments : FeedArguments) (left : Option (List Lett
           openings = cause_none tried.faults.openings now.faults.openings openings (λ e. no_open end.link_failed end.post_failed end.counts e);
         }
 
-    fed_all : FeedsFiles stream arguments before now (came_with end)
+    fed_all : FeedsFiles stream arguments before now (outcome_with end)
     fed_all =
         record {
           opened = suc fed_to.opened;
@@ -339,29 +339,29 @@ module _ (stream : Stream) (arguments : FeedArguments) (left : Option (List Lett
 -- ---- what was tried, and closed
 
 fed_tried : (stream : Stream) (arguments : FeedArguments) (left : Option (List Letter)) (before linked now : Told) (link_opened : OpenedLink (before.live.wire arguments.link) left) (link_live : linked.live ≡ before.live) (link_counts : linked.faults ≡ before.faults) (link_opens : Opens (OfLink arguments.link ∷ []) 1 before linked) (posts : List PostSeen) (tried closed : Told) (later : Option (List Letter)) (missed : ℕ)
-    (posts_closed : ClosesPosts posts tried closed) (link_closed : ClosesLink arguments.link later missed closed now) (some : 1 ≤ length arguments.posts) (distinct : AreDistinct arguments.posts) (came : Came) → TriesToFeed stream arguments.posts left later 0 missed linked tried posts came → FeedsFiles stream arguments before now came
-fed_tried stream arguments left before linked now link_opened link_live link_counts link_opens posts tried closed later missed posts_closed link_closed some distinct came (inl (inl ends, left_is, missed_is)) =
+    (posts_closed : ClosesPosts posts tried closed) (link_closed : ClosesLink arguments.link later missed closed now) (some : 1 ≤ length arguments.posts) (distinct : AreDistinct arguments.posts) (outcome : OutcomeView) → TriesToFeed stream arguments.posts left later 0 missed linked tried posts outcome → FeedsFiles stream arguments before now outcome
+fed_tried stream arguments left before linked now link_opened link_live link_counts link_opens posts tried closed later missed posts_closed link_closed some distinct outcome (inl (inl ends, left_is, missed_is)) =
     let opens = ends.opens.opens in
     let makes = ends.opens.makes in
     let at = opens_at_first stream arguments left before linked tried now link_opened link_live link_counts link_opens ends.ticking makes posts tried closed later missed posts_closed link_closed opens.0 opens.1 in
-    subst (λ (c : Came). FeedsFiles stream arguments before now c) (sym ends.came_is)
+    subst (λ (c : OutcomeView). FeedsFiles stream arguments before now c) (sym ends.outcome_is)
     (fed_over stream arguments left before linked tried now link_opened link_live link_counts link_opens ends.ticking makes posts tried closed later missed posts_closed link_closed opens.0 at opens.2 ends.none refl (left_is, missed_is))
-fed_tried stream arguments left before linked now link_opened link_live link_counts link_opens posts tried closed later missed posts_closed link_closed some distinct came (inl (inr refuses, left_is, missed_is)) =
-    subst (λ (c : Came). FeedsFiles stream arguments before now c) (sym refuses.came_is)
+fed_tried stream arguments left before linked now link_opened link_live link_counts link_opens posts tried closed later missed posts_closed link_closed some distinct outcome (inl (inr refuses, left_is, missed_is)) =
+    subst (λ (c : OutcomeView). FeedsFiles stream arguments before now c) (sym refuses.outcome_is)
     (fed_refused stream arguments left before linked refuses.opens.clocked now link_opened link_live link_counts link_opens refuses.ticking refuses.opens.opens.makes posts tried closed later missed posts_closed link_closed refuses.fault refuses.opens.posts_open (left_is, missed_is))
-fed_tried stream arguments left before linked now link_opened link_live link_counts link_opens posts tried closed later missed posts_closed link_closed some distinct came (inr feeds) =
+fed_tried stream arguments left before linked now link_opened link_live link_counts link_opens posts tried closed later missed posts_closed link_closed some distinct outcome (inr feeds) =
     let opens = feeds.opens.opens.opens in
     let makes = feeds.opens.opens.makes in
     let opening = feeds.feed.opening in
     let at = opens_at_first stream arguments left before linked feeds.opens.clocked now link_opened link_live link_counts link_opens feeds.ticking makes posts tried closed later missed posts_closed link_closed opening opens.0 in
-    subst (λ (c : Came). FeedsFiles stream arguments before now c) (sym feeds.came_is)
+    subst (λ (c : OutcomeView). FeedsFiles stream arguments before now c) (sym feeds.outcome_is)
     (fed_all stream arguments left before linked feeds.opens.clocked now link_opened link_live link_counts link_opens feeds.ticking makes posts tried closed later missed posts_closed link_closed some distinct opening at opens.1 feeds.fresh feeds.opens.posts_open feeds.end
     (subst (λ (s : Stream). FeedsPosts s opening feeds.end left later feeds.ticking feeds.fresh posts) opens.2 feeds.fed) feeds.read)
 
 -- the link was opened, what follows was tried, and all was closed
-pub fed_linked : {A : Type 0} (stream : Stream) (arguments : FeedArguments) (words : List (List ℕ)) (it : A) (name : List ℕ) (names : List (List ℕ)) (left : Option (List Letter)) (before linked now : Told) (came : Came) → IsFeedForm arguments words → name ≡ arguments.link → names ≡ arguments.posts → OpenedLink (before.live.wire arguments.link) left → OpensLink {A = A} arguments.link (Ok it) before linked → RunsLinked stream names name left linked now came → FeedsFiles stream arguments before now came
-fed_linked {A} stream arguments words it name names left before linked now came is own posts_are opened opens runs =
-    let tries = subst (λ (ns : List (List ℕ)). TriesToFeed stream ns left runs.later 0 runs.missed linked runs.tried runs.posts came) posts_are runs.tries in
+pub fed_linked : {A : Type 0} (stream : Stream) (arguments : FeedArguments) (words : List (List ℕ)) (it : A) (name : List ℕ) (names : List (List ℕ)) (left : Option (List Letter)) (before linked now : Told) (outcome : OutcomeView) → IsFeedForm arguments words → name ≡ arguments.link → names ≡ arguments.posts → OpenedLink (before.live.wire arguments.link) left → OpensLink {A = A} arguments.link (Ok it) before linked → RunsLinked stream names name left linked now outcome → FeedsFiles stream arguments before now outcome
+fed_linked {A} stream arguments words it name names left before linked now outcome is own posts_are opened opens runs =
+    let tries = subst (λ (ns : List (List ℕ)). TriesToFeed stream ns left runs.later 0 runs.missed linked runs.tried runs.posts outcome) posts_are runs.tries in
     let link_closed = subst (λ (n : List ℕ). ClosesLink n runs.later runs.missed runs.closed now) own runs.link_closed in
     let first = opens_first (OfLink arguments.link) [] before linked opens.asked (λ n none. opens.pages n) (λ n none. opens.lefts n) in
-    fed_tried stream arguments left before linked now opened opens.live (counts_stay before.faults linked.faults opens.counts (λ e. absurd cc)) first runs.posts runs.tried runs.closed runs.later runs.missed runs.posts_closed link_closed is.spelled.rest.rest.rest.rest.first.some is.spelled.rest.rest.rest.rest.first.distinct came tries
+    fed_tried stream arguments left before linked now opened opens.live (counts_stay before.faults linked.faults opens.counts (λ e. absurd cc)) first runs.posts runs.tried runs.closed runs.later runs.missed runs.posts_closed link_closed is.spelled.rest.rest.rest.rest.first.some is.spelled.rest.rest.rest.rest.first.distinct outcome tries

@@ -44,13 +44,13 @@ names_kept datagrams (old ∷ opened) (post ∷ posts) (failed ∷ others) (one,
     ap (λ n. n ∷ map post_name posts) one.name ∙ ap (λ ns. old.name ∷ ns) (names_kept datagrams opened posts others more)
 
 -- of each it is told whether it failed
-pub each_told : (datagrams : List (List ℕ)) (opened posts : List PostSeen) (failed : List Bool) → fed.SendPosts datagrams opened posts failed → length failed ≡ length posts
-each_told datagrams [] [] [] sends = refl
-each_told datagrams [] [] (one ∷ others) sends = absurd sends
-each_told datagrams [] (post ∷ posts) failed sends = absurd sends
-each_told datagrams (old ∷ opened) [] failed sends = absurd sends
-each_told datagrams (old ∷ opened) (post ∷ posts) [] sends = absurd sends
-each_told datagrams (old ∷ opened) (post ∷ posts) (failed ∷ others) (one, more) = ap suc (each_told datagrams opened posts others more)
+pub each_reported : (datagrams : List (List ℕ)) (opened posts : List PostSeen) (failed : List Bool) → fed.SendPosts datagrams opened posts failed → length failed ≡ length posts
+each_reported datagrams [] [] [] sends = refl
+each_reported datagrams [] [] (one ∷ others) sends = absurd sends
+each_reported datagrams [] (post ∷ posts) failed sends = absurd sends
+each_reported datagrams (old ∷ opened) [] failed sends = absurd sends
+each_reported datagrams (old ∷ opened) (post ∷ posts) [] sends = absurd sends
+each_reported datagrams (old ∷ opened) (post ∷ posts) (failed ∷ others) (one, more) = ap suc (each_reported datagrams opened posts others more)
 
 -- ---- failed posts
 

@@ -4,9 +4,9 @@ use Rattle.std.specs.List.{AllByRecursion, list_all, list_any}
 use Rattle.std.specs.Option.{option_map}
 use Rattle.tesla_desk.specs.Faults.{raised}
 use Rattle.tesla_desk.specs.Live.{Live, Remainder, LeavesAll, Mail}
-use Rattle.tesla_feed.specs.Fed.{Feeding, counts_of, datagrams_of, fed, first_interval, has_begun, has_ended, is_all_told, is_unread, reading_of}
-use Rattle.tesla_feed.specs.Feed.{AreNeeded, Heard, came_of, events_of, has_failed, letter_of}
-use Rattle.tesla_front.specs.Came.{Came, Done, Failed}
+use Rattle.tesla_feed.specs.Fed.{Feeding, counts_of, datagrams_of, fed, first_interval, has_begun, has_ended, is_all_disclosed, is_unread, reading_of}
+use Rattle.tesla_feed.specs.Feed.{AreNeeded, Heard, received_of, events_of, has_failed, letter_of}
+use Rattle.tesla_front.specs.OutcomeView.{OutcomeView, Done, Failed}
 use Rattle.tesla_front.specs.Command.{Command}
 use Rattle.tesla_front.specs.Openings.{File}
 use Rattle.tesla_front.specs.declared.fault.Fault.TheVariants as faults
@@ -23,14 +23,14 @@ use Rattle.tesla_sender.specs.Made.{Stream}
 -- ---- nothing was fed
 
 -- the link or a post wasn't opened, or there was no memory: no letter left the link, no post sent anything, and at most the next clock was made
-pub record Stops (arguments : FeedArguments) (before now : Live) (came : Came) : Type 0 where
+pub record Stops (arguments : FeedArguments) (before now : Live) (outcome : OutcomeView) : Type 0 where
   pub unheard : (now.left arguments.link ≡ before.left arguments.link) ⊎ LeavesAll (before.wire arguments.link) (now.left arguments.link)
   pub unsent : (name : List ℕ) → (now.mail name ≡ before.mail name) ⊎ IsUnsent (now.mail name)
   pub made : (now.made ≡ before.made) ⊎ (now.made ≡ option_map raised before.made)
-  pub cause : (came ≡ Failed faults.Open) ⊎ (came ≡ Failed faults.NoMemory)
+  pub cause : (outcome ≡ Failed faults.Open) ⊎ (outcome ≡ Failed faults.NoMemory)
 
 -- the link was opened, and by the next clock the stream was over: no letter left the link, the mail under each name is as before, and the setup is refused
-pub record FindsOver (arguments : FeedArguments) (stream : Stream) (before now : Live) (came : Came) : Type 0 where
+pub record FindsOver (arguments : FeedArguments) (stream : Stream) (before now : Live) (outcome : OutcomeView) : Type 0 where
   -- the readings of that clock: those before it could be read, and that of the opening
   pub unread : List ℕ
   pub opening : ℕ
@@ -42,11 +42,11 @@ pub record FindsOver (arguments : FeedArguments) (stream : Stream) (before now :
   pub over : has_ended stream opening ≡ true
   pub unheard : LeavesAll (before.wire arguments.link) (now.left arguments.link)
   pub unsent : (name : List ℕ) → now.mail name ≡ before.mail name
-  pub came_is : came ≡ stream_over
+  pub outcome_is : outcome ≡ stream_over
 
 -- ---- the posts
 
--- a post sent these datagrams, in order and each once; where it failed, a front of them
+-- a post sent these datagrams, in order and each once; where it failed, a prefix of them
 pub record SendsPost (datagrams : List (List ℕ)) (mail : Mail) (failed : Bool) : Type 0 where
   pub sends : ℕ
   pub many : IsSentCount datagrams failed sends
@@ -69,21 +69,21 @@ IsUnbroken (Some remainder) = remainder.failed ≡ false
 abbrev pub HaveAllFailed : List Bool → Type 0
 HaveAllFailed failed = list_all has_failed failed ≡ true
 
--- the key of the last message's interval was told on every chain
-abbrev pub IsAllTold : Stream → Feeding → Type 0
-IsAllTold stream made = is_all_told stream made.log ≡ true
+-- the key of the last message's interval was disclosed on every chain
+abbrev pub IsAllDisclosed : Stream → Feeding → Type 0
+IsAllDisclosed stream made = is_all_disclosed stream made.log ≡ true
 
 -- how it ends. The link has ended and no post failed: the lines tell the counts. Or the link failed, or else a post did. In each case all is told before, unless all posts failed
-abbrev pub EndsAs : Stream → Option Remainder → Feeding → List Bool → Came → Type 0
-EndsAs stream remainder made failed (Done text) = (text ≡ lines_of (counts_of made)) × (list_any has_failed failed ≡ false) × IsAllTold stream made × HasEnded remainder
-EndsAs stream remainder made failed (Failed faults.Read) = HasBroken remainder × (HaveAllFailed failed ⊎ IsAllTold stream made)
-EndsAs stream remainder made failed (Failed faults.Write) = (list_any has_failed failed ≡ true) × IsUnbroken remainder × (HaveAllFailed failed ⊎ (IsAllTold stream made × HasEnded remainder))
+abbrev pub EndsAs : Stream → Option Remainder → Feeding → List Bool → OutcomeView → Type 0
+EndsAs stream remainder made failed (Done text) = (text ≡ lines_of (counts_of made)) × (list_any has_failed failed ≡ false) × IsAllDisclosed stream made × HasEnded remainder
+EndsAs stream remainder made failed (Failed faults.Read) = HasBroken remainder × (HaveAllFailed failed ⊎ IsAllDisclosed stream made)
+EndsAs stream remainder made failed (Failed faults.Write) = (list_any has_failed failed ≡ true) × IsUnbroken remainder × (HaveAllFailed failed ⊎ (IsAllDisclosed stream made × HasEnded remainder))
 EndsAs stream remainder made failed _ = ⊥
 
 -- ---- a run
 
 -- what came over the link was fed to the posts by the sender of the stream
-pub record FeedsLink (arguments : FeedArguments) (stream : Stream) (before now : Live) (came : Came) : Type 0 where
+pub record FeedsLink (arguments : FeedArguments) (stream : Stream) (before now : Live) (outcome : OutcomeView) : Type 0 where
   -- the readings of the next clock: those before it could be read, that of the opening, those before the first interval had begun, the first one then, and one for each event
   pub unread : List ℕ
   pub opening : ℕ
@@ -106,23 +106,23 @@ pub record FeedsLink (arguments : FeedArguments) (stream : Stream) (before now :
   pub failed : List Bool
   pub posts : SendPosts (datagrams_of stream made.log) arguments.posts now failed
   -- why it rested behind the link, and how it ends
-  pub needed : AreNeeded stream (first_interval stream.setup.times opening) (fed stream opening (map came_of heard)) rests
-  pub ends : EndsAs stream (now.left arguments.link) made failed came
+  pub needed : AreNeeded stream (first_interval stream.setup.times opening) (fed stream opening (map received_of heard)) rests
+  pub ends : EndsAs stream (now.left arguments.link) made failed outcome
 
 -- what is done with a sender of the stream, told how many files were asked to be opened: nothing was fed, or the link was the last of them and the stream was over, or all were opened, and the link was fed to the posts
-abbrev pub FeedsOrStops : FeedArguments → Stream → ℕ → Live → Live → Came → Type 0
-FeedsOrStops arguments stream opened before now came =
-    Stops arguments before now came
-    ⊎ ((opened ≡ 3) × FindsOver arguments stream before now came)
-    ⊎ ((opened ≡ 3 + length arguments.posts) × FeedsLink arguments stream before now came)
+abbrev pub FeedsOrStops : FeedArguments → Stream → ℕ → Live → Live → OutcomeView → Type 0
+FeedsOrStops arguments stream opened before now outcome =
+    Stops arguments before now outcome
+    ⊎ ((opened ≡ 3) × FindsOver arguments stream before now outcome)
+    ⊎ ((opened ≡ 3 + length arguments.posts) × FeedsLink arguments stream before now outcome)
 
 -- ---- the command
 
 -- the link was fed by the sender of a setup and seeds, or nothing was
-pub record FeedsWith (arguments : FeedArguments) (setup secret : File) (before now : Live) (opened : ℕ) (came : Came) : Type 0 where
+pub record FeedsWith (arguments : FeedArguments) (setup secret : File) (before now : Live) (opened : ℕ) (outcome : OutcomeView) : Type 0 where
   pub stream : Stream
   pub is : IsStreamIn setup secret stream
-  pub does : FeedsOrStops arguments stream opened before now came
+  pub does : FeedsOrStops arguments stream opened before now outcome
 
 -- what is told of links, posts and clocks is as before, but for what is left of this link, the mail of these posts and how many clocks were made
 pub record TouchesLive (link : List ℕ) (posts : List (List ℕ)) (before now : Live) : Type 0 where
@@ -132,11 +132,11 @@ pub record TouchesLive (link : List ℕ) (posts : List (List ℕ)) (before now :
   pub readings : now.readings ≡ before.readings
 
 -- what the run does, told the files in the order of the words: there is no sender, or what follows was done with it
-abbrev pub DoesFeed : Live → Live → FeedArguments → ℕ → List File → List File → Came → Type 0
-DoesFeed before now arguments opened (setup ∷ secret ∷ files) files_now came =
+abbrev pub DoesFeed : Live → Live → FeedArguments → ℕ → List File → List File → OutcomeView → Type 0
+DoesFeed before now arguments opened (setup ∷ secret ∷ files) files_now outcome =
     TouchesLive arguments.link arguments.posts before now
-    × ((LacksSender setup secret opened came × (now ≡ before)) ⊎ FeedsWith arguments setup secret before now opened came)
-DoesFeed before now arguments opened files files_now came = ⊥
+    × ((LacksSender setup secret opened outcome × (now ≡ before)) ⊎ FeedsWith arguments setup secret before now opened outcome)
+DoesFeed before now arguments opened files files_now outcome = ⊥
 
 -- the command, told what the desk has of links, posts and clocks before and afterwards: its words, its files and what it does
 abbrev pub feed : Live → Live → Command

@@ -2,7 +2,7 @@
 use Rattle.std.specs.Prelude.{ℕ, Bool, true, false, List, ◌++◌, codes}
 use Rattle.tesla_feed.specs.declared.counts.FeedCounts.{FeedCounts}
 use Rattle.tesla_feed.specs.declared.feeding.FeedEnd.{FeedEnd}
-use Rattle.tesla_front.specs.Came.{Came, Done, Failed, Refused}
+use Rattle.tesla_front.specs.OutcomeView.{OutcomeView, Done, Failed, Refused}
 use Rattle.tesla_front.specs.Lines.{count_line}
 use Rattle.tesla_front.specs.Refusal.{refused_line}
 use Rattle.tesla_front.specs.declared.fault.Fault.TheVariants as faults
@@ -26,15 +26,15 @@ abbrev pub lines_of : FeedCounts → List ℕ
 lines_of counts = sent_lines counts ++ refused_lines counts ++ unread_line counts
 
 -- what a feed came to, told whether the link failed and whether a post did
-abbrev pub came_by : Bool → Bool → FeedCounts → Came
-came_by true post_failed counts = Failed faults.Read
-came_by false true counts = Failed faults.Write
-came_by false false counts = Done (lines_of counts)
+abbrev pub outcome_by : Bool → Bool → FeedCounts → OutcomeView
+outcome_by true post_failed counts = Failed faults.Read
+outcome_by false true counts = Failed faults.Write
+outcome_by false false counts = Done (lines_of counts)
 
 -- what a feed came to: a failed link, else a failed post, else the lines
-abbrev pub came_with : FeedEnd → Came
-came_with end = came_by end.link_failed end.post_failed end.counts
+abbrev pub outcome_with : FeedEnd → OutcomeView
+outcome_with end = outcome_by end.link_failed end.post_failed end.counts
 
 -- what a stream that is over when its feed is opened comes to: its setup is refused
-abbrev pub stream_over : Came
+abbrev pub stream_over : OutcomeView
 stream_over = Refused 2 (refused_line (codes "setup") 0 (codes "Over"))

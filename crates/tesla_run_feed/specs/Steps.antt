@@ -8,7 +8,7 @@ use Rattle.tesla_desk.specs.declared.link.Letter.{Letter}
 use Rattle.tesla_feed.specs.Feed.{Feeds, OpensFeed}
 use Rattle.tesla_feed.specs.declared.feeding.FeedEnd.{FeedEnd}
 use Rattle.tesla_feed.specs.declared.opening.OpenFeed.{OpenFeed}
-use Rattle.tesla_front.specs.Came.{Came, Failed}
+use Rattle.tesla_front.specs.OutcomeView.{OutcomeView, Failed}
 use Rattle.tesla_front.specs.Openings.{AnyFailed, Opens}
 use Rattle.tesla_front.specs.declared.fault.Fault.{Fault}
 use Rattle.tesla_front.specs.declared.fault.Fault.TheVariants as faults
@@ -16,7 +16,7 @@ use Rattle.tesla_relay.specs.Opening.{ClosesPosts, OpensPosts}
 use Rattle.tesla_relay.specs.Posts.{PostSeen}
 use Rattle.tesla_run_feed.specs.Arguments.{FeedArguments, live_files}
 use Rattle.tesla_run_feed.specs.Feeding.{FeedsOrStops, TouchesLive}
-use Rattle.tesla_run_feed.specs.Lines.{came_with, stream_over}
+use Rattle.tesla_run_feed.specs.Lines.{outcome_with, stream_over}
 use Rattle.tesla_sender.specs.Made.{Stream}
 
 -- ---- the opening
@@ -33,23 +33,23 @@ pub record OpensFeeding (stream : Stream) (names : List (List ℕ)) (feed : Open
   pub posts_open : OpensPosts names clocked now [] posts result
 
 -- the stream was over: no post was opened
-pub record StopsOver (stream : Stream) (posts : List PostSeen) (before now : Told) (came : Came) : Type 0 where
+pub record StopsOver (stream : Stream) (posts : List PostSeen) (before now : Told) (outcome : OutcomeView) : Type 0 where
   pub ticking : Option Ticking
   pub opens : OpensByClock stream None ticking before now
   pub none : posts ≡ []
-  pub came_is : came ≡ stream_over
+  pub outcome_is : outcome ≡ stream_over
 
 -- the opening of a post was refused
-pub record RefusesPost (stream : Stream) (names : List (List ℕ)) (posts : List PostSeen) (before now : Told) (came : Came) : Type 0 where
+pub record RefusesPost (stream : Stream) (names : List (List ℕ)) (posts : List PostSeen) (before now : Told) (outcome : OutcomeView) : Type 0 where
   pub feed : OpenFeed
   pub ticking : Option Ticking
   pub fault : Fault
   pub opens : OpensFeeding stream names feed ticking posts (Err fault) before now
-  pub came_is : came ≡ Failed fault
+  pub outcome_is : outcome ≡ Failed fault
 
 -- not all was opened
-abbrev pub OpensNoFeeding : Stream → List (List ℕ) → List PostSeen → Told → Told → Came → Type 0
-OpensNoFeeding stream names posts before now came = StopsOver stream posts before now came ⊎ RefusesPost stream names posts before now came
+abbrev pub OpensNoFeeding : Stream → List (List ℕ) → List PostSeen → Told → Told → OutcomeView → Type 0
+OpensNoFeeding stream names posts before now outcome = StopsOver stream posts before now outcome ⊎ RefusesPost stream names posts before now outcome
 
 -- ---- the link and the posts
 
@@ -59,7 +59,7 @@ pub record FeedsPosts (stream : Stream) (opening : ℕ) (end : FeedEnd) (left la
   pub feeds : Feeds stream opening end left later ticking after posts posts_now
 
 -- all was opened, and the link was fed to the posts
-pub record FeedsOpen (stream : Stream) (names : List (List ℕ)) (left later : Option (List Letter)) (missed missed_now : ℕ) (before now : Told) (posts : List PostSeen) (came : Came) : Type 0 where
+pub record FeedsOpen (stream : Stream) (names : List (List ℕ)) (left later : Option (List Letter)) (missed missed_now : ℕ) (before now : Told) (posts : List PostSeen) (outcome : OutcomeView) : Type 0 where
   pub feed : OpenFeed
   pub ticking : Option Ticking
   pub fresh : List PostSeen
@@ -67,21 +67,21 @@ pub record FeedsOpen (stream : Stream) (names : List (List ℕ)) (left later : O
   pub end : FeedEnd
   pub fed : FeedsPosts feed.sender.stream feed.opening end left later ticking fresh posts
   pub read : HasCause missed missed_now (end.link_failed ≡ true)
-  pub came_is : came ≡ came_with end
+  pub outcome_is : outcome ≡ outcome_with end
 
 -- that, or not all was opened, and the link is as before
-abbrev pub TriesToFeed : Stream → List (List ℕ) → Option (List Letter) → Option (List Letter) → ℕ → ℕ → Told → Told → List PostSeen → Came → Type 0
-TriesToFeed stream names left later missed missed_now before now posts came =
-    (OpensNoFeeding stream names posts before now came × (later ≡ left) × (missed_now ≡ missed)) ⊎ FeedsOpen stream names left later missed missed_now before now posts came
+abbrev pub TriesToFeed : Stream → List (List ℕ) → Option (List Letter) → Option (List Letter) → ℕ → ℕ → Told → Told → List PostSeen → OutcomeView → Type 0
+TriesToFeed stream names left later missed missed_now before now posts outcome =
+    (OpensNoFeeding stream names posts before now outcome × (later ≡ left) × (missed_now ≡ missed)) ⊎ FeedsOpen stream names left later missed missed_now before now posts outcome
 
 -- and then all was closed, the posts first
-pub record RunsLinked (stream : Stream) (names : List (List ℕ)) (link : List ℕ) (left : Option (List Letter)) (old new : Told) (came : Came) : Type 0 where
+pub record RunsLinked (stream : Stream) (names : List (List ℕ)) (link : List ℕ) (left : Option (List Letter)) (old new : Told) (outcome : OutcomeView) : Type 0 where
   pub later : Option (List Letter)
   -- so often a call of the link failed
   pub missed : ℕ
   pub posts : List PostSeen
   pub tried : Told
-  pub tries : TriesToFeed stream names left later 0 missed old tried posts came
+  pub tries : TriesToFeed stream names left later 0 missed old tried posts outcome
   pub closed : Told
   pub posts_closed : ClosesPosts posts tried closed
   pub link_closed : ClosesLink link later missed closed new
@@ -89,14 +89,14 @@ pub record RunsLinked (stream : Stream) (names : List (List ℕ)) (link : List �
 -- ---- the files
 
 -- each failure raised its count, and no other count rose; only behind a failed link a post may have failed too
-abbrev pub Counts : FeedArguments → Faults → Told → Came → Type 0
-Counts arguments before new came =
-    HasCausesBeside ((came ≡ Failed faults.Read) × AnyFailed (live_files arguments) new) before new.faults (came ≡ Failed faults.Read) (came ≡ Failed faults.Write) (came ≡ Failed faults.Open)
+abbrev pub Counts : FeedArguments → Faults → Told → OutcomeView → Type 0
+Counts arguments before new outcome =
+    HasCausesBeside ((outcome ≡ Failed faults.Read) × AnyFailed (live_files arguments) new) before new.faults (outcome ≡ Failed faults.Read) (outcome ≡ Failed faults.Write) (outcome ≡ Failed faults.Open)
 
 -- with a sender of the stream the link was fed to the posts, after it was opened and then they were
-pub record FeedsFiles (stream : Stream) (arguments : FeedArguments) (old new : Told) (came : Came) : Type 0 where
+pub record FeedsFiles (stream : Stream) (arguments : FeedArguments) (old new : Told) (outcome : OutcomeView) : Type 0 where
   pub opened : ℕ
   pub opens : Opens (live_files arguments) opened old new
   pub touches : TouchesLive arguments.link arguments.posts old.live new.live
-  pub does : FeedsOrStops arguments stream (suc (suc opened)) old.live new.live came
-  pub counts : Counts arguments old.faults new came
+  pub does : FeedsOrStops arguments stream (suc (suc opened)) old.live new.live outcome
+  pub counts : Counts arguments old.faults new outcome

@@ -1,8 +1,8 @@
 //! The lines that tell what a feed came to.
 
 ghost use Rattle.std.specs.Prelude.{◌≡◌};
-ghost use Rattle.tesla_front.specs.Came.{came_of, stop_came};
-ghost use Rattle.tesla_run_feed.specs.Lines.{came_with, lines_of, stream_over};
+ghost use Rattle.tesla_front.specs.OutcomeView.{result_view, stop_view};
+ghost use Rattle.tesla_run_feed.specs.Lines.{outcome_with, lines_of, stream_over};
 
 use tesla_feed::{FeedCounts, FeedEnd};
 use tesla_front::{Fault, Lines, Stop, add_count, refused};
@@ -26,7 +26,7 @@ fn lines_of(counts: FeedCounts) -> Lines
 /// What a feed came to: `Failed` with `Read` where the link failed, else with `Write` where a post did, and else the lines
 /// of the counts. It takes no memory.
 pub fn lines_after(end: FeedEnd) -> Result<Lines, Stop>
-    ensures { came_of result ≡ came_with end }
+    ensures { result_view result ≡ outcome_with end }
 {
     if end.link_failed {
         return Err(Stop::Failed(Fault::Read));
@@ -39,7 +39,7 @@ pub fn lines_after(end: FeedEnd) -> Result<Lines, Stop>
 
 /// What a stream that is over when its feed is opened comes to: `Refused` as a setup. It takes no memory.
 pub fn stream_over() -> Stop
-    ensures { stop_came result ≡ stream_over }
+    ensures { stop_view result ≡ stream_over }
 {
     Stop::Refused(refused(2, "setup", 0, "Over"))
 }

@@ -2,7 +2,7 @@
 
 ghost use Rattle.std.specs.Prelude.{◌≡◌, ◌<◌, ◌≤◌, [], IfErr, IfOk, List, Ok, false, length, map, true, vec_capacity};
 ghost use Rattle.tesla_desk.specs.Faults.{HasCause};
-ghost use Rattle.tesla_front.specs.Came.{stop_came};
+ghost use Rattle.tesla_front.specs.OutcomeView.{stop_view};
 ghost use Rattle.tesla_relay.specs.Opening.{name_of};
 ghost use Rattle.tesla_relay.specs.Posts.{PostSeen};
 ghost use Rattle.tesla_sender.specs.Stands.{Stands};
@@ -47,7 +47,7 @@ pub fn open_ready<R: Wait, D: Desk>(
     ensures lasts { IfOk result (λ ready. Stands ready.opened.sender [] × (has_ended ready.opened.sender.stream ready.opened.opening ≡ false)) }
     ensures size { IfOk result (λ ready. length posts.new.items ≡ length names.now) }
     ensures refused { let seen : List D.Port → List PostSeen = λ posts. map (λ post. record { name = D.Port.name post; sent = D.Port.sent post; faults = D.Port.faults post }) posts in
-        IfErr result (λ stop. OpensNoFeeding sender.stream (map name_of names.now) (seen posts.new.items) (D.told desk.old) (D.told desk.new) (stop_came stop)) }
+        IfErr result (λ stop. OpensNoFeeding sender.stream (map name_of names.now) (seen posts.new.items) (D.told desk.old) (D.told desk.new) (stop_view stop)) }
 {
     let mut clock = desk.clock();
     let mut gate = desk.gate();

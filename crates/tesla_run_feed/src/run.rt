@@ -1,7 +1,7 @@
 //! A run of the command `feed`.
 
 ghost use Rattle.std.specs.Prelude.{◌≡◌, ◌≤◌, ℕ, [], List, length, map, string_bytes, vec_capacity};
-ghost use Rattle.tesla_front.specs.Came.{came_of, outcome_came};
+ghost use Rattle.tesla_front.specs.OutcomeView.{result_view, outcome_view};
 ghost use Rattle.tesla_front.specs.Command.{Performs, RunsAs};
 ghost use Rattle.tesla_relay.specs.Opening.{name_of};
 ghost use Rattle.tesla_sender.specs.Stands.{Stands};
@@ -38,7 +38,7 @@ use tesla_sender::Sender;
 /// failed, and LINK didn't; with `Open` or `NoMemory`: nothing was fed. `Read`, `Write` and `Open` come only where the
 /// desk's count of that rose. It waits for the clock and for LINK.
 pub fn run_feed<R: Wait, D: Desk>(rt: &R, alloc: Global, words: &[String], desk: &mut D) -> Outcome
-    ensures { RunsAs (feed (D.told desk.old).live (D.told desk.new).live) (map string_bytes words.now) (D.told desk.old) (D.told desk.new) (outcome_came result) }
+    ensures { RunsAs (feed (D.told desk.old).live (D.told desk.new).live) (map string_bytes words.now) (D.told desk.old) (D.told desk.new) (outcome_view result) }
 {
     match arguments_in(words) {
         Some(arguments) => outcome_of(perform(rt, alloc, &arguments, desk)),
@@ -54,7 +54,7 @@ fn perform<R: Wait, D: Desk>(
     desk: &mut D,
 ) -> Result<Lines, Stop>
     requires form { (spelled : List (List ℕ)) × IsFeedForm (arguments_of arguments.now) spelled }
-    ensures { Performs (feed (D.told desk.old).live (D.told desk.new).live) (arguments_of arguments.now) (D.told desk.old) (D.told desk.new) (came_of result) }
+    ensures { Performs (feed (D.told desk.old).live (D.told desk.new).live) (arguments_of arguments.now) (D.told desk.old) (D.told desk.new) (result_view result) }
 {
     let sender = open_sender(alloc, arguments.setup, arguments.secret, desk)?;
     feed_files(rt, alloc, sender, arguments, desk)
@@ -70,7 +70,7 @@ fn feed_files<R: Wait, D: Desk>(
 ) -> Result<Lines, Stop>
     requires form { (spelled : List (List ℕ)) × IsFeedForm (arguments_of arguments.now) spelled }
     requires sender { Stands sender [] }
-    ensures { FeedsFiles sender.stream (arguments_of arguments.now) (D.told desk.old) (D.told desk.new) (came_of result) }
+    ensures { FeedsFiles sender.stream (arguments_of arguments.now) (D.told desk.old) (D.told desk.new) (result_view result) }
 {
     let Ok(posts) = Vec::with_capacity(alloc, arguments.posts.len()) else {
         return Err(Stop::Failed(Fault::NoMemory));
@@ -98,13 +98,13 @@ fn run_linked<R: Wait, D: Desk>(
     requires fresh { D.Wire.faults link ≡ 0 }
     requires empty { posts.items ≡ [] }
     requires room { length names.now ≤ vec_capacity posts }
-    ensures { RunsLinked sender.stream (map name_of names.now) (D.Wire.name link) (D.Wire.left link) (D.told desk.old) (D.told desk.new) (came_of result) }
+    ensures { RunsLinked sender.stream (map name_of names.now) (D.Wire.name link) (D.Wire.left link) (D.told desk.old) (D.told desk.new) (result_view result) }
 {
-    let came = try_to_feed(rt, sender, names, &mut link, desk, &mut posts);
+    let outcome = try_to_feed(rt, sender, names, &mut link, desk, &mut posts);
     close_posts(desk, &mut posts);
     posts.destroy_empty();
     desk.close_link(link);
-    came
+    outcome
 }
 
 // Opens a feed and the posts, and feeds an open link to them.
@@ -120,7 +120,7 @@ fn try_to_feed<R: Wait, D: Desk>(
     requires few { length names.now ≤ 32 }
     requires empty { posts.old.items ≡ [] }
     requires room { length names.now ≤ vec_capacity posts.old }
-    ensures tries { TriesToFeed sender.stream (map name_of names.now) (D.Wire.left link.old) (D.Wire.left link.new) (D.Wire.faults link.old) (D.Wire.faults link.new) (D.told desk.old) (D.told desk.new) (map (λ post. record { name = D.Port.name post; sent = D.Port.sent post; faults = D.Port.faults post }) posts.new.items) (came_of result) }
+    ensures tries { TriesToFeed sender.stream (map name_of names.now) (D.Wire.left link.old) (D.Wire.left link.new) (D.Wire.faults link.old) (D.Wire.faults link.new) (D.told desk.old) (D.told desk.new) (map (λ post. record { name = D.Port.name post; sent = D.Port.sent post; faults = D.Port.faults post }) posts.new.items) (result_view result) }
     ensures name { D.Wire.name link.new ≡ D.Wire.name link.old }
 {
     let ready = open_ready(rt, sender, names, desk, posts)?;

@@ -1,8 +1,8 @@
 //! What the texts of an ask, a reply and a key come to.
 
 ghost use Rattle.std.specs.Prelude.{◌≡◌, ◌<◌};
-ghost use Rattle.tesla_front.specs.Came.{came_of};
-ghost use Rattle.tesla_run_lag.specs.Lag.{asked_came, lag_came, keyed_came, replied_came};
+ghost use Rattle.tesla_front.specs.OutcomeView.{result_view};
+ghost use Rattle.tesla_run_lag.specs.Lag.{asked_outcome, lag_outcome, keyed_outcome, replied_outcome};
 ghost use Rattle.tesla_sync.specs.Reply.{reply_judged};
 
 use crate::lines::{lag_line, refused_reply, too_large};
@@ -26,7 +26,7 @@ fn time_in<L: Ledger>(reply: &[u8], key: &Key, t_r: u64, blank: Blank) -> Result
 
 // The lag that a reply under the key comes to.
 fn lag_in(drift: u32, reply: &[u8], key: &Key, t_r: u64) -> Result<Lines, Stop>
-    ensures { came_of result ≡ replied_came drift t_r (reply_judged reply.now key.now t_r) }
+    ensures { result_view result ≡ replied_outcome drift t_r (reply_judged reply.now key.now t_r) }
 {
     match time_in::<Brand>(reply, key, t_r, Blank::new(1)) {
         Ok(t_s) => match lag_of(t_s, t_r, drift) {
@@ -39,9 +39,9 @@ fn lag_in(drift: u32, reply: &[u8], key: &Key, t_r: u64) -> Result<Lines, Stop>
 
 /// What the drift and the texts come to: the lag, or the first refusal. The ask is judged first, then the key, then the
 /// reply, then the lag. It takes no memory.
-#[tactic(auto, unfolding(crate::specs::Lag::lag_came))]
+#[tactic(auto, unfolding(crate::specs::Lag::lag_outcome))]
 pub fn judge(drift: u32, texts: &Texts) -> Result<Lines, Stop>
-    ensures { came_of result ≡ lag_came drift texts.now.ask.items texts.now.reply.items texts.now.key.items }
+    ensures { result_view result ≡ lag_outcome drift texts.now.ask.items texts.now.reply.items texts.now.key.items }
 {
     let Some(t_r) = read_ask(texts.ask.as_slice()) else {
         return Err(Stop::Refused(refused(3, "ask", 0, "BadAsk")));

@@ -1,7 +1,7 @@
 //! A run of `lag`.
 
 ghost use Rattle.std.specs.Prelude.{map, string_bytes};
-ghost use Rattle.tesla_front.specs.Came.{came_of, outcome_came};
+ghost use Rattle.tesla_front.specs.OutcomeView.{result_view, outcome_view};
 ghost use Rattle.tesla_front.specs.Command.{Performs, RunsAs};
 ghost use Rattle.tesla_front.specs.Openings.{AreFiles};
 ghost use Rattle.tesla_run_lag.specs.Arguments.{arguments_of, files_of_lag};
@@ -22,7 +22,7 @@ use tesla_front::{Lines, Outcome, Stop, outcome_of};
 /// 3); the reply is malformed, has a bad tag or is to another ask (10); the lag leaves 64 bits with a sign (9). `Failed`
 /// with what went wrong first, `Read` and `Open` exactly where the desk's count of that rose. Nothing is written.
 pub fn run_lag<D: Desk>(alloc: Global, words: &[String], desk: &mut D) -> Outcome
-    ensures { RunsAs lag (map string_bytes words.now) (D.told desk.old) (D.told desk.new) (outcome_came result) }
+    ensures { RunsAs lag (map string_bytes words.now) (D.told desk.old) (D.told desk.new) (outcome_view result) }
 {
     match arguments_in(words) {
         Some(arguments) => outcome_of(perform(alloc, &arguments, desk)),
@@ -33,7 +33,7 @@ pub fn run_lag<D: Desk>(alloc: Global, words: &[String], desk: &mut D) -> Outcom
 // Does what the words ask for.
 fn perform<D: Desk>(alloc: Global, arguments: &Arguments<'_>, desk: &mut D) -> Result<Lines, Stop>
     requires files { AreFiles (files_of_lag (arguments_of arguments.now)) }
-    ensures { Performs lag (arguments_of arguments.now) (D.told desk.old) (D.told desk.new) (came_of result) }
+    ensures { Performs lag (arguments_of arguments.now) (D.told desk.old) (D.told desk.new) (result_view result) }
 {
     match read_texts(alloc, arguments, desk) {
         Ok(texts) => judge(arguments.drift, &texts),

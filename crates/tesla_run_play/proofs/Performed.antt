@@ -6,7 +6,7 @@ use Rattle.tesla_desk.specs.Live.{Live}
 use Rattle.tesla_desk.specs.Outside.{ClosesSource, Holds, OfPost, OfSource, Opened, OpensSource, Page, Told, Untold, Absent}
 use Rattle.tesla_desk.specs.declared.desk.OpenRefusal.{OpenRefusal}
 use Rattle.tesla_desk.proofs.Counts.{cause_none, causes_both, causes_plain, causes_source, causes_then, counts_stay}
-use Rattle.tesla_front.specs.Came.{Came, Failed}
+use Rattle.tesla_front.specs.OutcomeView.{OutcomeView, Failed}
 use Rattle.tesla_front.specs.Command.{Performs}
 use Rattle.tesla_front.specs.Fault.{unopened}
 use Rattle.tesla_front.specs.Files.{HoldsWhere}
@@ -27,9 +27,9 @@ use Rattle.tesla_relay.proofs.Closings.{closes_to, fresh_counts, fresh_mails}
 use Rattle.tesla_relay.proofs.Clocks.{clock_alone, clock_made, clock_opens, live_alone, read_where}
 use Rattle.tesla_relay.proofs.Mails.{unsent_on}
 use Rattle.tesla_relay.proofs.Openings.{none_of_opened, opens_new, opens_still, post_files, refused_not_all}
-use Rattle.tesla_relay.proofs.Stopped.{came_cause, memory_counts, not_all_counts}
+use Rattle.tesla_relay.proofs.Stopped.{outcome_cause, memory_counts, not_all_counts}
 use Rattle.tesla_run_play.specs.Arguments.{PlayArguments, IsPlayForm, files_of_play}
-use Rattle.tesla_run_play.specs.Playing.{PostsHold, TouchesPosts, came_with, play}
+use Rattle.tesla_run_play.specs.Playing.{PostsHold, TouchesPosts, outcome_with, play}
 use Rattle.tesla_run_play.specs.Steps.{OpensAndPlays, PlaysOpen, Refuses, RunsOpened}
 use Rattle.tesla_run_play.proofs.Sent.{end_faulty, faulty_end, names_stay, posts_hold}
 
@@ -76,7 +76,7 @@ performs_unopened {A} arguments words refusal fault before now is fault_is tried
           unread = inl (tried.lefts arguments.capture);
           unsent = λ name. inl (ap (λ (l : Live). l.mail name) tried.live);
           made = ap (λ (l : Live). l.made) tried.live;
-          cause = came_cause (unopened refusal) not_all.cause;
+          cause = outcome_cause (unopened refusal) not_all.cause;
         }),
       );
       counts = not_all_counts (unopened refusal) before now not_all;
@@ -94,29 +94,29 @@ file_where end Untold left later now played opened same file = tt
 file_where end Absent left later now played opened same file = opened
 file_where end (Holds bytes failed) left later now played opened same file = subst (λ (l : Option (List ℕ)). FileTo end bytes l played) (sym same) (file bytes opened)
 
-ends_read : (end : PlayEnd) → came_with end ≡ Failed faults.Read → end ≡ ends.ReadFault
+ends_read : (end : PlayEnd) → outcome_with end ≡ Failed faults.Read → end ≡ ends.ReadFault
 ends_read (ends.Ended sent) e = absurd cc
-ends_read (ends.Refused place kind) e = absurd cc
+ends_read (ends.Refused offset kind) e = absurd cc
 ends_read ends.ReadFault e = refl
 ends_read ends.PostFault e = absurd cc
 
-ends_write : (end : PlayEnd) → came_with end ≡ Failed faults.Write → end ≡ ends.PostFault
+ends_write : (end : PlayEnd) → outcome_with end ≡ Failed faults.Write → end ≡ ends.PostFault
 ends_write (ends.Ended sent) e = absurd cc
-ends_write (ends.Refused place kind) e = absurd cc
+ends_write (ends.Refused offset kind) e = absurd cc
 ends_write ends.ReadFault e = absurd cc
 ends_write ends.PostFault e = refl
 
-ends_open : (end : PlayEnd) → came_with end ≡ Failed faults.Open → ⊥
+ends_open : (end : PlayEnd) → outcome_with end ≡ Failed faults.Open → ⊥
 ends_open (ends.Ended sent) e = absurd cc
-ends_open (ends.Refused place kind) e = absurd cc
+ends_open (ends.Refused offset kind) e = absurd cc
 ends_open ends.ReadFault e = absurd cc
 ends_open ends.PostFault e = absurd cc
 
-either_read : (end : PlayEnd) → ⊥ ⊎ (came_with end ≡ Failed faults.Read) → came_with end ≡ Failed faults.Read
+either_read : (end : PlayEnd) → ⊥ ⊎ (outcome_with end ≡ Failed faults.Read) → outcome_with end ≡ Failed faults.Read
 either_read end (inl never) = absurd never
 either_read end (inr read) = read
 
-either_write : (posts : List PostSeen) (end : PlayEnd) → (AnyFaulty posts → came_with end ≡ Failed faults.Write) → AnyFaulty posts ⊎ ⊥ → came_with end ≡ Failed faults.Write
+either_write : (posts : List PostSeen) (end : PlayEnd) → (AnyFaulty posts → outcome_with end ≡ Failed faults.Write) → AnyFaulty posts ⊎ ⊥ → outcome_with end ≡ Failed faults.Write
 either_write posts end write (inl failed) = write failed
 either_write posts end write (inr never) = absurd never
 
@@ -153,7 +153,7 @@ module _ (arguments : PlayArguments) (words : List (List ℕ)) (left : Option (L
 
   -- ---- a post wasn't opened
 
-  module _ (posts_closed : ClosesPosts posts tried closed) (came : Came) (refuses : Refuses arguments.posts left later 0 missed mid tried posts came) where
+  module _ (posts_closed : ClosesPosts posts tried closed) (outcome : OutcomeView) (refuses : Refuses arguments.posts left later 0 missed mid tried posts outcome) where
     refused_to : OpensTo arguments.posts posts mid tried (Err refuses.fault)
     refused_to = opens_new arguments.posts mid tried posts (Err refuses.fault) refuses.opens
 
@@ -168,12 +168,12 @@ module _ (arguments : PlayArguments) (words : List (List ℕ)) (left : Option (L
     refused_faults : now.faults ≡ tried.faults
     refused_faults = fresh_closed refuses.same.1 ∙ fresh_counts posts tried closed refused_to.fresh closes
 
-    pub performs_refused : Performs (play before.live now.live) arguments before now came
+    pub performs_refused : Performs (play before.live now.live) arguments before now outcome
     performs_refused =
         let fault = refuses.fault in
         let not_all = refused_to.refused fault refl in
         let counts = causes_then before.faults mid.faults tried.faults source_counts (not_all_counts {hidden = (Failed fault ≡ Failed faults.Read) × AnyFailed (files_of_play arguments) now} fault mid tried not_all) in
-        subst (λ (c : Came). Performs (play before.live now.live) arguments before now c) (sym refuses.came_is) (record {
+        subst (λ (c : OutcomeView). Performs (play before.live now.live) arguments before now c) (sym refuses.outcome_is) (record {
           named = are_files arguments words is;
           opened = suc refused_to.opened;
           opens = all_opens refused_to.opened refused_to.opens;
@@ -183,7 +183,7 @@ module _ (arguments : PlayArguments) (words : List (List ℕ)) (left : Option (L
               unread = inr (left_where (before.page arguments.capture) left (now.left arguments.capture) opened (source_closed.own ∙ refuses.same.0));
               unsent = refused_unsent;
               made = all_made ∙ ap (λ (l : Live). l.made) refused_live;
-              cause = came_cause fault not_all.cause;
+              cause = outcome_cause fault not_all.cause;
             }),
           );
           counts = subst (λ (f : Faults). HasCausesBeside ((Failed fault ≡ Failed faults.Read) × AnyFailed (files_of_play arguments) now) before.faults f (Failed fault ≡ Failed faults.Read) (Failed fault ≡ Failed faults.Write) (Failed fault ≡ Failed faults.Open)) (sym refused_faults) counts;
@@ -191,7 +191,7 @@ module _ (arguments : PlayArguments) (words : List (List ℕ)) (left : Option (L
 
   -- ---- all were opened
 
-  module _ (came : Came) (open_plays : PlaysOpen arguments.posts left later 0 missed mid tried posts came) where
+  module _ (outcome : OutcomeView) (open_plays : PlaysOpen arguments.posts left later 0 missed mid tried posts outcome) where
     played_to : OpensTo arguments.posts open_plays.fresh mid open_plays.opened (Ok tt)
     played_to = opens_new arguments.posts mid open_plays.opened open_plays.fresh (Ok tt) open_plays.opens
 
@@ -226,7 +226,7 @@ module _ (arguments : PlayArguments) (words : List (List ℕ)) (left : Option (L
     played_faults : tried.faults ≡ before.faults
     played_faults = ap (λ (t : Told). t.faults) open_plays.made.makes.same ∙ (played_to.whole refl).counts ∙ source_counts
 
-    played_causes : HasCauses tried.faults now.faults (came_with open_plays.end ≡ Failed faults.Read) (came_with open_plays.end ≡ Failed faults.Write) (came_with open_plays.end ≡ Failed faults.Open)
+    played_causes : HasCauses tried.faults now.faults (outcome_with open_plays.end ≡ Failed faults.Read) (outcome_with open_plays.end ≡ Failed faults.Write) (outcome_with open_plays.end ≡ Failed faults.Open)
     played_causes =
         let end = open_plays.end in
         let sent = map bytes_of open_plays.made.plays.played in
@@ -235,17 +235,17 @@ module _ (arguments : PlayArguments) (words : List (List ℕ)) (left : Option (L
           writes = closes.writes;
           openings = cause_none tried.faults.openings closed.faults.openings closes.openings (λ never. never);
         } in
-        let then : HasCauses closed.faults now.faults (came_with end ≡ Failed faults.Read) ⊥ ⊥ =
-        causes_source {write = ⊥} {opening = ⊥} closed.faults now.faults missed source_closed.counts open_plays.read (ends_read end) (λ e. ap came_with e) (λ never. never) (λ never. never) in
+        let then : HasCauses closed.faults now.faults (outcome_with end ≡ Failed faults.Read) ⊥ ⊥ =
+        causes_source {write = ⊥} {opening = ⊥} closed.faults now.faults missed source_closed.counts open_plays.read (ends_read end) (λ e. ap outcome_with e) (λ never. never) (λ never. never) in
         causes_both tried.faults closed.faults now.faults first then
         (λ e. inr e) (λ which. either_read end which)
         (λ e. inl (end_faulty end sent open_plays.fresh posts played_to.fresh open_plays.made.plays.posts_are (ends_write end e)))
-        (λ which. either_write posts end (λ failed. ap came_with (faulty_end end sent open_plays.fresh posts played_to.fresh open_plays.made.plays.posts_are failed)) which)
+        (λ which. either_write posts end (λ failed. ap outcome_with (faulty_end end sent open_plays.fresh posts played_to.fresh open_plays.made.plays.posts_are failed)) which)
         (λ e. absurd (ends_open end e)) (λ which. absurd (neither which))
 
-    pub performs_played : Performs (play before.live now.live) arguments before now came
+    pub performs_played : Performs (play before.live now.live) arguments before now outcome
     performs_played =
-        subst (λ (c : Came). Performs (play before.live now.live) arguments before now c) (sym open_plays.came_is) (record {
+        subst (λ (c : OutcomeView). Performs (play before.live now.live) arguments before now c) (sym open_plays.outcome_is) (record {
           named = are_files arguments words is;
           opened = suc played_to.opened;
           opens = all_opens played_to.opened (clock_opens mid open_plays.opened tried open_plays.made.makes (map OfPost arguments.posts) played_to.opened played_to.opens);
@@ -255,7 +255,7 @@ module _ (arguments : PlayArguments) (words : List (List ℕ)) (left : Option (L
               ap suc (played_to.whole refl).all,
               record {
                 end = open_plays.end;
-                came_is = refl;
+                outcome_is = refl;
                 played = open_plays.made.plays.played;
                 limits = open_plays.made.plays.limits;
                 readings = open_plays.made.plays.readings;
@@ -272,16 +272,16 @@ module _ (arguments : PlayArguments) (words : List (List ℕ)) (left : Option (L
         })
 
 performs_tried : (arguments : PlayArguments) (words : List (List ℕ)) (left : Option (List ℕ)) (before mid now : Told) (is : IsPlayForm arguments words) (opened : Opened (before.page arguments.capture) left) (source_live : mid.live ≡ before.live) (source_counts : mid.faults ≡ before.faults) (source_opens : Opens (OfSource arguments.capture ∷ []) 1 before mid) (posts : List PostSeen) (tried closed : Told) (later : Option (List ℕ)) (missed : ℕ)
-    (posts_closed : ClosesPosts posts tried closed) (source_closed : ClosesSource arguments.capture later missed closed now) (came : Came) → OpensAndPlays arguments.posts left later 0 missed mid tried posts came → Performs (play before.live now.live) arguments before now came
-performs_tried arguments words left before mid now is opened source_live source_counts source_opens posts tried closed later missed posts_closed source_closed came (inl refuses) =
-    performs_refused arguments words left before mid now is opened source_live source_counts source_opens posts tried closed later missed (closes_to posts tried closed posts_closed) source_closed posts_closed came refuses
-performs_tried arguments words left before mid now is opened source_live source_counts source_opens posts tried closed later missed posts_closed source_closed came (inr open_plays) =
-    performs_played arguments words left before mid now is opened source_live source_counts source_opens posts tried closed later missed (closes_to posts tried closed posts_closed) source_closed came open_plays
+    (posts_closed : ClosesPosts posts tried closed) (source_closed : ClosesSource arguments.capture later missed closed now) (outcome : OutcomeView) → OpensAndPlays arguments.posts left later 0 missed mid tried posts outcome → Performs (play before.live now.live) arguments before now outcome
+performs_tried arguments words left before mid now is opened source_live source_counts source_opens posts tried closed later missed posts_closed source_closed outcome (inl refuses) =
+    performs_refused arguments words left before mid now is opened source_live source_counts source_opens posts tried closed later missed (closes_to posts tried closed posts_closed) source_closed posts_closed outcome refuses
+performs_tried arguments words left before mid now is opened source_live source_counts source_opens posts tried closed later missed posts_closed source_closed outcome (inr open_plays) =
+    performs_played arguments words left before mid now is opened source_live source_counts source_opens posts tried closed later missed (closes_to posts tried closed posts_closed) source_closed outcome open_plays
 
 -- the capture was opened, and then the posts were, and all was closed
-pub performs_opened : {A : Type 0} (arguments : PlayArguments) (words : List (List ℕ)) (it : A) (name : List ℕ) (names : List (List ℕ)) (left : Option (List ℕ)) (before mid now : Told) (came : Came) → IsPlayForm arguments words → name ≡ arguments.capture → names ≡ arguments.posts → Opened (before.page arguments.capture) left → OpensSource {A = A} arguments.capture (Ok it) before mid → RunsOpened names name left mid now came → Performs (play before.live now.live) arguments before now came
-performs_opened {A} arguments words it name names left before mid now came is own posts_are opened opens runs =
-    let tries = subst (λ (ns : List (List ℕ)). OpensAndPlays ns left runs.later 0 runs.missed mid runs.tried runs.posts came) posts_are runs.tries in
+pub performs_opened : {A : Type 0} (arguments : PlayArguments) (words : List (List ℕ)) (it : A) (name : List ℕ) (names : List (List ℕ)) (left : Option (List ℕ)) (before mid now : Told) (outcome : OutcomeView) → IsPlayForm arguments words → name ≡ arguments.capture → names ≡ arguments.posts → Opened (before.page arguments.capture) left → OpensSource {A = A} arguments.capture (Ok it) before mid → RunsOpened names name left mid now outcome → Performs (play before.live now.live) arguments before now outcome
+performs_opened {A} arguments words it name names left before mid now outcome is own posts_are opened opens runs =
+    let tries = subst (λ (ns : List (List ℕ)). OpensAndPlays ns left runs.later 0 runs.missed mid runs.tried runs.posts outcome) posts_are runs.tries in
     let source_closed = subst (λ (n : List ℕ). ClosesSource n runs.later runs.missed runs.closed now) own runs.source_closed in
     let first = opens_first (OfSource arguments.capture) [] before mid opens.asked (λ n none. opens.pages n) (λ n none. opens.lefts n) in
-    performs_tried arguments words left before mid now is opened opens.live (counts_stay before.faults mid.faults opens.counts (λ e. absurd cc)) first runs.posts runs.tried runs.closed runs.later runs.missed runs.posts_closed source_closed came tries
+    performs_tried arguments words left before mid now is opened opens.live (counts_stay before.faults mid.faults opens.counts (λ e. absurd cc)) first runs.posts runs.tried runs.closed runs.later runs.missed runs.posts_closed source_closed outcome tries

@@ -10,7 +10,7 @@ use Rattle.tesla_relay.proofs.Sends.{sent_twice}
 use Rattle.tesla_relay.specs.Closed.{AnyFaulty, HasMails, HoldsSent}
 use Rattle.tesla_relay.specs.Opened.{AreFresh, post_name}
 use Rattle.tesla_relay.specs.Posts.{PostSeen, with_datagrams}
-use Rattle.tesla_relay.proofs.Mails.{holds_sent, rose_told, some_rose}
+use Rattle.tesla_relay.proofs.Mails.{holds_sent, rose_reported, some_rose}
 use Rattle.tesla_run_play.specs.Playing.{BreaksAt, HaveSent, PostsHold}
 
 -- ---- names
@@ -33,9 +33,9 @@ names_all datagrams fresh posts sent = ap (map post_name) sent ∙ names_sent fr
 -- the posts keep their names
 pub names_stay : (end : PlayEnd) (datagrams : List (List ℕ)) (fresh posts : List PostSeen) → PostsTo end datagrams fresh posts → map post_name posts ≡ map post_name fresh
 names_stay (Ended sent) datagrams fresh posts to = names_all datagrams fresh posts to
-names_stay (Refused place kind) datagrams fresh posts to = names_all datagrams fresh posts to
+names_stay (Refused offset kind) datagrams fresh posts to = names_all datagrams fresh posts to
 names_stay ReadFault datagrams fresh posts to = names_all datagrams fresh posts to
-names_stay PostFault datagrams fresh posts to = names_broken to.last (map (having_sent to.front) fresh) posts to.breaks ∙ names_sent fresh to.front
+names_stay PostFault datagrams fresh posts to = names_broken to.last (map (having_sent to.prefix) fresh) posts to.breaks ∙ names_sent fresh to.prefix
 
 -- ---- mail
 
@@ -50,21 +50,21 @@ have_sent (post ∷ posts) datagrams told (own, others) (mail, mails) =
     (subst (λ (m : Mail). HoldsSent datagrams false m) (sym mail) (sent_mail post.sent post.faults datagrams own.0 own.1), have_sent posts datagrams told others mails)
 
 -- one failed
-breaks_at : (fresh posts : List PostSeen) (front : List (List ℕ)) (last : List ℕ) (told : Told) → AreFresh fresh → plays.BreaksAt last (map (having_sent front) fresh) posts → HasMails posts told → BreaksAt front last (map post_name fresh) told.live
-breaks_at [] posts front last told are_fresh broken mails = absurd broken
-breaks_at (post ∷ fresh) [] front last told are_fresh broken mails = absurd broken
-breaks_at (post ∷ fresh) (now ∷ posts) front last told (own, others) (inl (sent, broken)) (mail, mails) =
-    let told_so : told.live.mail post.name ≡ mail_of (with_datagrams (with_datagrams post.sent front) (last ∷ [])) post.faults = subst (λ (p : PostSeen). told.live.mail p.name ≡ mail_of p.sent p.faults) sent mail in
-    let told_is : told.live.mail post.name ≡ mail_of (with_datagrams post.sent (front ++ last ∷ [])) post.faults = told_so ∙ ap (λ (s : Option (List (List ℕ))). mail_of s post.faults) (sent_twice post.sent front (last ∷ [])) in
+breaks_at : (fresh posts : List PostSeen) (prefix : List (List ℕ)) (last : List ℕ) (told : Told) → AreFresh fresh → plays.BreaksAt last (map (having_sent prefix) fresh) posts → HasMails posts told → BreaksAt prefix last (map post_name fresh) told.live
+breaks_at [] posts prefix last told are_fresh broken mails = absurd broken
+breaks_at (post ∷ fresh) [] prefix last told are_fresh broken mails = absurd broken
+breaks_at (post ∷ fresh) (now ∷ posts) prefix last told (own, others) (inl (sent, broken)) (mail, mails) =
+    let told_so : told.live.mail post.name ≡ mail_of (with_datagrams (with_datagrams post.sent prefix) (last ∷ [])) post.faults = subst (λ (p : PostSeen). told.live.mail p.name ≡ mail_of p.sent p.faults) sent mail in
+    let told_is : told.live.mail post.name ≡ mail_of (with_datagrams post.sent (prefix ++ last ∷ [])) post.faults = told_so ∙ ap (λ (s : Option (List (List ℕ))). mail_of s post.faults) (sent_twice post.sent prefix (last ∷ [])) in
     inl (
-      subst (λ (m : Mail). HoldsSent (front ++ last ∷ []) false m) (sym told_is) (sent_mail post.sent post.faults (front ++ last ∷ []) own.0 own.1),
-      breaks_at fresh posts front last told others broken mails,
+      subst (λ (m : Mail). HoldsSent (prefix ++ last ∷ []) false m) (sym told_is) (sent_mail post.sent post.faults (prefix ++ last ∷ []) own.0 own.1),
+      breaks_at fresh posts prefix last told others broken mails,
     )
-breaks_at (post ∷ fresh) (now ∷ posts) front last told (own, others) (inr (fails, same)) (mail, mails) =
+breaks_at (post ∷ fresh) (now ∷ posts) prefix last told (own, others) (inr (fails, same)) (mail, mails) =
     let told_is : told.live.mail post.name ≡ mail_of now.sent now.faults = ap told.live.mail (sym fails.name) ∙ mail in
     inr (
-      subst (λ (m : Mail). HoldsSent front true m) (sym told_is) (holds_sent post.sent now.sent front now.faults true own.0 fails.sent (rose_told post.faults now.faults own.1 fails.rose)),
-      have_sent fresh front told others (subst (λ (ps : List PostSeen). HasMails ps told) same mails),
+      subst (λ (m : Mail). HoldsSent prefix true m) (sym told_is) (holds_sent post.sent now.sent prefix now.faults true own.0 fails.sent (rose_reported post.faults now.faults own.1 fails.rose)),
+      have_sent fresh prefix told others (subst (λ (ps : List PostSeen). HasMails ps told) same mails),
     )
 
 all_sent : (datagrams : List (List ℕ)) (fresh posts : List PostSeen) (told : Told) → AreFresh fresh → posts ≡ map (having_sent datagrams) fresh → HasMails posts told → HaveSent datagrams (map post_name fresh) told.live
@@ -73,13 +73,13 @@ all_sent datagrams fresh posts told are_fresh sent mails = have_sent fresh datag
 -- what each post sent is told once they are closed
 pub posts_hold : (end : PlayEnd) (datagrams : List (List ℕ)) (fresh posts : List PostSeen) (told : Told) → AreFresh fresh → PostsTo end datagrams fresh posts → HasMails posts told → PostsHold end datagrams (map post_name fresh) told.live
 posts_hold (Ended sent) datagrams fresh posts told are_fresh to mails = all_sent datagrams fresh posts told are_fresh to mails
-posts_hold (Refused place kind) datagrams fresh posts told are_fresh to mails = all_sent datagrams fresh posts told are_fresh to mails
+posts_hold (Refused offset kind) datagrams fresh posts told are_fresh to mails = all_sent datagrams fresh posts told are_fresh to mails
 posts_hold ReadFault datagrams fresh posts told are_fresh to mails = all_sent datagrams fresh posts told are_fresh to mails
 posts_hold PostFault datagrams fresh posts told are_fresh to mails = record {
-  front = to.front;
+  prefix = to.prefix;
   last = to.last;
   datagrams_are = to.datagrams_are;
-  breaks = breaks_at fresh posts to.front to.last told are_fresh to.breaks mails;
+  breaks = breaks_at fresh posts to.prefix to.last told are_fresh to.breaks mails;
 }
 
 -- ---- faults
@@ -89,11 +89,11 @@ none_faulty [] datagrams fresh failed = failed
 none_faulty (post ∷ posts) datagrams (own, others) (inl some) = absurd (let none : post.faults ≡ 0 = own.1 in omega (arith, some, none))
 none_faulty (post ∷ posts) datagrams (own, others) (inr other) = none_faulty posts datagrams others other
 
-one_faulty : (fresh posts : List PostSeen) (front : List (List ℕ)) (last : List ℕ) → AreFresh fresh → plays.BreaksAt last (map (having_sent front) fresh) posts → AnyFaulty posts
-one_faulty [] posts front last are_fresh broken = absurd broken
-one_faulty (post ∷ fresh) [] front last are_fresh broken = absurd broken
-one_faulty (post ∷ fresh) (now ∷ posts) front last (own, others) (inl (sent, broken)) = inr (one_faulty fresh posts front last others broken)
-one_faulty (post ∷ fresh) (now ∷ posts) front last (own, others) (inr (fails, same)) = inl (some_rose post.faults now.faults own.1 fails.rose)
+one_faulty : (fresh posts : List PostSeen) (prefix : List (List ℕ)) (last : List ℕ) → AreFresh fresh → plays.BreaksAt last (map (having_sent prefix) fresh) posts → AnyFaulty posts
+one_faulty [] posts prefix last are_fresh broken = absurd broken
+one_faulty (post ∷ fresh) [] prefix last are_fresh broken = absurd broken
+one_faulty (post ∷ fresh) (now ∷ posts) prefix last (own, others) (inl (sent, broken)) = inr (one_faulty fresh posts prefix last others broken)
+one_faulty (post ∷ fresh) (now ∷ posts) prefix last (own, others) (inr (fails, same)) = inl (some_rose post.faults now.faults own.1 fails.rose)
 
 no_faulty : (datagrams : List (List ℕ)) (fresh posts : List PostSeen) → AreFresh fresh → posts ≡ map (having_sent datagrams) fresh → AnyFaulty posts → ⊥
 no_faulty datagrams fresh posts are_fresh sent failed = none_faulty fresh datagrams are_fresh (subst AnyFaulty sent failed)
@@ -101,12 +101,12 @@ no_faulty datagrams fresh posts are_fresh sent failed = none_faulty fresh datagr
 -- a post failed exactly where that is answered
 pub faulty_end : (end : PlayEnd) (datagrams : List (List ℕ)) (fresh posts : List PostSeen) → AreFresh fresh → PostsTo end datagrams fresh posts → AnyFaulty posts → end ≡ PostFault
 faulty_end (Ended sent) datagrams fresh posts are_fresh to failed = absurd (no_faulty datagrams fresh posts are_fresh to failed)
-faulty_end (Refused place kind) datagrams fresh posts are_fresh to failed = absurd (no_faulty datagrams fresh posts are_fresh to failed)
+faulty_end (Refused offset kind) datagrams fresh posts are_fresh to failed = absurd (no_faulty datagrams fresh posts are_fresh to failed)
 faulty_end ReadFault datagrams fresh posts are_fresh to failed = absurd (no_faulty datagrams fresh posts are_fresh to failed)
 faulty_end PostFault datagrams fresh posts are_fresh to failed = refl
 
 pub end_faulty : (end : PlayEnd) (datagrams : List (List ℕ)) (fresh posts : List PostSeen) → AreFresh fresh → PostsTo end datagrams fresh posts → end ≡ PostFault → AnyFaulty posts
 end_faulty (Ended sent) datagrams fresh posts are_fresh to is = absurd cc
-end_faulty (Refused place kind) datagrams fresh posts are_fresh to is = absurd cc
+end_faulty (Refused offset kind) datagrams fresh posts are_fresh to is = absurd cc
 end_faulty ReadFault datagrams fresh posts are_fresh to is = absurd cc
-end_faulty PostFault datagrams fresh posts are_fresh to is = one_faulty fresh posts to.front to.last are_fresh to.breaks
+end_faulty PostFault datagrams fresh posts are_fresh to is = one_faulty fresh posts to.prefix to.last are_fresh to.breaks

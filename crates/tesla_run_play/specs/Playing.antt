@@ -5,7 +5,7 @@ use Rattle.std.specs.Option.{option_map}
 use Rattle.tesla_capture.specs.Names.{kind_name}
 use Rattle.tesla_desk.specs.Faults.{raised}
 use Rattle.tesla_desk.specs.Live.{Live}
-use Rattle.tesla_front.specs.Came.{Came, Done, Failed, Refused}
+use Rattle.tesla_front.specs.OutcomeView.{OutcomeView, Done, Failed, Refused}
 use Rattle.tesla_front.specs.Command.{Command}
 use Rattle.tesla_front.specs.Files.{HoldsWhere}
 use Rattle.tesla_front.specs.Lines.{count_line}
@@ -25,20 +25,20 @@ abbrev pub played_line : ℕ → List ℕ
 played_line count = count_line (codes "played") count
 
 -- what a play comes to: the line that tells how many arrivals there were, the first place of the capture that is refused, or a failed read or post
-abbrev pub came_with : PlayEnd → Came
-came_with (ends.Ended sent) = Done (played_line sent)
-came_with (ends.Refused place kind) = Refused 3 (refused_line (codes "capture") place (kind_name kind))
-came_with ends.ReadFault = Failed faults.Read
-came_with ends.PostFault = Failed faults.Write
+abbrev pub outcome_with : PlayEnd → OutcomeView
+outcome_with (ends.Ended sent) = Done (played_line sent)
+outcome_with (ends.Refused offset kind) = Refused 3 (refused_line (codes "capture") offset (kind_name kind))
+outcome_with ends.ReadFault = Failed faults.Read
+outcome_with ends.PostFault = Failed faults.Write
 
 -- ---- nothing was played
 
 -- the capture or a post wasn't opened, or there was no memory: nothing was read, no post sent anything, and no clock was made
-pub record Stops (before now : Live) (capture capture_now : File) (came : Came) : Type 0 where
+pub record Stops (before now : Live) (capture capture_now : File) (outcome : OutcomeView) : Type 0 where
   pub unread : (capture_now.left ≡ capture.left) ⊎ HoldsWhere capture.page (λ bytes. capture_now.left ≡ Some bytes)
   pub unsent : (name : List ℕ) → (now.mail name ≡ before.mail name) ⊎ IsUnsent (now.mail name)
   pub made : now.made ≡ before.made
-  pub cause : (came ≡ Failed faults.Open) ⊎ (came ≡ Failed faults.NoMemory)
+  pub cause : (outcome ≡ Failed faults.Open) ⊎ (outcome ≡ Failed faults.NoMemory)
 
 -- ---- the posts
 
@@ -48,30 +48,30 @@ HaveSent datagrams [] now = Unit {0}
 HaveSent datagrams (name ∷ names) now = HoldsSent datagrams false (now.mail name) × HaveSent datagrams names now
 
 -- the posts before the one that failed sent the last datagram too, that one and those behind it didn't
-abbrev pub BreaksAt : (front : List (List ℕ)) (last : List ℕ) → List (List ℕ) → Live → Type 0
-BreaksAt front last [] now = ⊥
-BreaksAt front last (name ∷ names) now = (HoldsSent (front ++ last ∷ []) false (now.mail name) × BreaksAt front last names now) ⊎ (HoldsSent front true (now.mail name) × HaveSent front names now)
+abbrev pub BreaksAt : (prefix : List (List ℕ)) (last : List ℕ) → List (List ℕ) → Live → Type 0
+BreaksAt prefix last [] now = ⊥
+BreaksAt prefix last (name ∷ names) now = (HoldsSent (prefix ++ last ∷ []) false (now.mail name) × BreaksAt prefix last names now) ⊎ (HoldsSent prefix true (now.mail name) × HaveSent prefix names now)
 
 -- a post failed at the last of these datagrams
 pub record BreaksOff (datagrams names : List (List ℕ)) (now : Live) : Type 0 where
-  pub front : List (List ℕ)
+  pub prefix : List (List ℕ)
   pub last : List ℕ
-  pub datagrams_are : datagrams ≡ front ++ last ∷ []
-  pub breaks : BreaksAt front last names now
+  pub datagrams_are : datagrams ≡ prefix ++ last ∷ []
+  pub breaks : BreaksAt prefix last names now
 
 -- what was sent under these names: all of the datagrams, in order and each once, unless a post failed
 abbrev pub PostsHold : PlayEnd → List (List ℕ) → List (List ℕ) → Live → Type 0
 PostsHold (ends.Ended sent) datagrams names now = HaveSent datagrams names now
-PostsHold (ends.Refused place kind) datagrams names now = HaveSent datagrams names now
+PostsHold (ends.Refused offset kind) datagrams names now = HaveSent datagrams names now
 PostsHold ends.ReadFault datagrams names now = HaveSent datagrams names now
 PostsHold ends.PostFault datagrams names now = BreaksOff datagrams names now
 
 -- ---- a run
 
 -- the arrivals of the capture were played to the posts
-pub record PlaysFile (arguments : PlayArguments) (before now : Live) (capture capture_now : File) (came : Came) : Type 0 where
+pub record PlaysFile (arguments : PlayArguments) (before now : Live) (capture capture_now : File) (outcome : OutcomeView) : Type 0 where
   pub end : PlayEnd
-  pub came_is : came ≡ came_with end
+  pub outcome_is : outcome ≡ outcome_with end
   pub played : List Played
   pub limits : AllByRecursion IsPlayed played
   -- when: each arrival took the next readings that were below its own, and one that was not
@@ -95,10 +95,10 @@ pub record TouchesPosts (posts : List (List ℕ)) (before now : Live) : Type 0 w
   pub readings : now.readings ≡ before.readings
 
 -- what the run does: nothing was played; or all were opened, and the capture was played
-abbrev pub DoesPlay : Live → Live → PlayArguments → ℕ → List File → List File → Came → Type 0
-DoesPlay before now arguments opened (capture ∷ posts) (capture_now ∷ posts_now) came =
-    TouchesPosts arguments.posts before now × (Stops before now capture capture_now came ⊎ ((opened ≡ suc (length arguments.posts)) × PlaysFile arguments before now capture capture_now came))
-DoesPlay before now arguments opened files files_now came = ⊥
+abbrev pub DoesPlay : Live → Live → PlayArguments → ℕ → List File → List File → OutcomeView → Type 0
+DoesPlay before now arguments opened (capture ∷ posts) (capture_now ∷ posts_now) outcome =
+    TouchesPosts arguments.posts before now × (Stops before now capture capture_now outcome ⊎ ((opened ≡ suc (length arguments.posts)) × PlaysFile arguments before now capture capture_now outcome))
+DoesPlay before now arguments opened files files_now outcome = ⊥
 
 -- the command, told what the desk has of posts and clocks before and afterwards: its words, its files and what it does
 abbrev pub play : Live → Live → Command

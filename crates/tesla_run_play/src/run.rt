@@ -2,12 +2,12 @@
 
 ghost use Rattle.std.specs.Prelude.{◌≡◌, ◌≤◌, ℕ, [], List, length, map, string_bytes, vec_capacity};
 ghost use Rattle.tesla_desk.specs.Faults.{HasCause};
-ghost use Rattle.tesla_front.specs.Came.{outcome_came};
+ghost use Rattle.tesla_front.specs.OutcomeView.{outcome_view};
 ghost use Rattle.tesla_front.specs.Command.{Performs, RunsAs};
 ghost use Rattle.tesla_relay.specs.Opening.{name_of};
 ghost use Rattle.tesla_relay.specs.Posts.{PostSeen};
 ghost use Rattle.tesla_run_play.specs.Arguments.{IsPlayForm, arguments_of};
-ghost use Rattle.tesla_run_play.specs.Playing.{came_with, play};
+ghost use Rattle.tesla_run_play.specs.Playing.{outcome_with, play};
 ghost use Rattle.tesla_run_play.specs.Steps.{OpensAndPlays, PlaysMade, RunsOpened};
 
 use crate::form::{Arguments, arguments_in};
@@ -26,7 +26,7 @@ use tesla_relay::{PlayEnd, close_posts, open_posts, play};
 /// opened. `Failed` with what went wrong first, `Read`, `Write` and `Open` only where the desk's count of that rose: after a
 /// failed read, or a post that failed, nothing is sent. It waits for the clock.
 pub fn run_play<R: Wait, D: Desk>(rt: &R, alloc: Global, words: &[String], desk: &mut D) -> Outcome
-    ensures { RunsAs (play (D.told desk.old).live (D.told desk.new).live) (map string_bytes words.now) (D.told desk.old) (D.told desk.new) (outcome_came result) }
+    ensures { RunsAs (play (D.told desk.old).live (D.told desk.new).live) (map string_bytes words.now) (D.told desk.old) (D.told desk.new) (outcome_view result) }
 {
     match arguments_in(words) {
         Some(arguments) => perform(rt, alloc, &arguments, desk),
@@ -42,7 +42,7 @@ fn perform<R: Wait, D: Desk>(
     desk: &mut D,
 ) -> Outcome
     requires form { (spelled : List (List ℕ)) × IsPlayForm (arguments_of arguments.now) spelled }
-    ensures { Performs (play (D.told desk.old).live (D.told desk.new).live) (arguments_of arguments.now) (D.told desk.old) (D.told desk.new) (outcome_came result) }
+    ensures { Performs (play (D.told desk.old).live (D.told desk.new).live) (arguments_of arguments.now) (D.told desk.old) (D.told desk.new) (outcome_view result) }
 {
     let Ok(posts) = Vec::with_capacity(alloc, arguments.posts.len()) else {
         return Outcome::Failed(Fault::NoMemory);
@@ -67,7 +67,7 @@ fn run_opened<R: Wait, D: Desk>(
     requires fresh { D.In.faults source ≡ 0 }
     requires empty { posts.items ≡ [] }
     requires room { length names.now ≤ vec_capacity posts }
-    ensures { RunsOpened (map name_of names.now) (D.In.name source) (D.In.left source) (D.told desk.old) (D.told desk.new) (outcome_came result) }
+    ensures { RunsOpened (map name_of names.now) (D.In.name source) (D.In.left source) (D.told desk.old) (D.told desk.new) (outcome_view result) }
 {
     let outcome = open_and_play(rt, names, &mut source, desk, &mut posts);
     close_posts(desk, &mut posts);
@@ -86,11 +86,11 @@ fn open_and_play<R: Wait, D: Desk>(
 ) -> Outcome
     requires empty { posts.old.items ≡ [] }
     requires room { length names.now ≤ vec_capacity posts.old }
-    ensures plays { OpensAndPlays (map name_of names.now) (D.In.left source.old) (D.In.left source.new) (D.In.faults source.old) (D.In.faults source.new) (D.told desk.old) (D.told desk.new) (map (λ post. record { name = D.Port.name post; sent = D.Port.sent post; faults = D.Port.faults post }) posts.new.items) (outcome_came result) }
+    ensures plays { OpensAndPlays (map name_of names.now) (D.In.left source.old) (D.In.left source.new) (D.In.faults source.old) (D.In.faults source.new) (D.told desk.old) (D.told desk.new) (map (λ post. record { name = D.Port.name post; sent = D.Port.sent post; faults = D.Port.faults post }) posts.new.items) (outcome_view result) }
     ensures name { D.In.name source.new ≡ D.In.name source.old }
 {
     match open_posts(desk, names, posts) {
-        Ok(()) => told(play_made(rt, source, desk, posts)),
+        Ok(()) => outcome_of(play_made(rt, source, desk, posts)),
         Err(fault) => Outcome::Failed(fault),
     }
 }
@@ -113,8 +113,8 @@ fn play_made<R: Wait, D: Desk>(
 }
 
 // What a play comes to.
-fn told(end: PlayEnd) -> Outcome
-    ensures { outcome_came result ≡ came_with end }
+fn outcome_of(end: PlayEnd) -> Outcome
+    ensures { outcome_view result ≡ outcome_with end }
 {
     match end {
         PlayEnd::Ended { sent } => {

@@ -5,14 +5,14 @@ use Rattle.std.proofs.lemmas.List.{length-append, take_all}
 use Rattle.tesla_desk.specs.Faults.{CountsOpening, HasCause, HasCauses}
 use Rattle.tesla_desk.specs.Outside.{Holds, MakesClock, OfSink, Opening, Page, Told, page_of}
 use Rattle.tesla_desk.proofs.Counts.{cause_none, causes_sink, counts_stay}
-use Rattle.tesla_front.specs.Came.{Came, Failed}
+use Rattle.tesla_front.specs.OutcomeView.{OutcomeView, Failed}
 use Rattle.tesla_front.specs.Files.{HasFailed}
 use Rattle.tesla_front.specs.Openings.{AnyFailed, AreFiles, IsAmong, Opens, files_told}
 use Rattle.tesla_front.specs.Words.{IsName}
 use Rattle.tesla_front.specs.declared.fault.Fault.{Fault}
 use Rattle.tesla_front.specs.declared.fault.Fault.TheVariants as faults
 use Rattle.tesla_front.proofs.Openings.{opens_first}
-use Rattle.tesla_front.proofs.Told.{rose_some}
+use Rattle.tesla_front.proofs.Reported.{rose_some}
 use Rattle.tesla_receiver.specs.declared.history.Entry.{Entry}
 use Rattle.tesla_session.specs.Wanted.{WantedSink, opening_for, sinks_wanted, wanted_for}
 use Rattle.tesla_session.proofs.Counted.{has_failed, refused_counts}
@@ -21,7 +21,7 @@ use Rattle.tesla_session.proofs.Opened.{refused_opens, refused_pages}
 use Rattle.tesla_run_receive.specs.Arguments.{AreOthers}
 use Rattle.tesla_run_receive.specs.Output.{TellsFailed}
 use Rattle.tesla_run_receive.specs.Running.{EndsBehind, OpensBehind, RefusesBehind, with_behind}
-use Rattle.tesla_run_receive.proofs.Outputs.{among_back, among_front, among_opened, are_files_more, failed_back, failed_front, failed_still, none_wanted, opens_front, opens_more, sink_after, sinks_same}
+use Rattle.tesla_run_receive.proofs.Outputs.{among_back, among_prefix, among_opened, are_files_more, failed_back, failed_prefix, failed_still, none_wanted, opens_prefix, opens_more, sink_after, sinks_same}
 
 -- the output is no other file of the words
 abbrev pub IsApart : Option (List ℕ) → List (List ℕ) → Type 0
@@ -46,10 +46,10 @@ made_stays : (before now : Told) → (now ≡ before) ⊎ MakesClock before now 
 made_stays before now (inl same) = subst (λ (t : Told). Stays before t) (sym same) (record { pages = λ name. refl; lefts = λ name. refl; faults = refl; openings = refl })
 made_stays before now (inr made) = subst (λ (t : Told). Stays before t) (sym made.same) (record { pages = λ name. refl; lefts = λ name. refl; faults = refl; openings = refl })
 
--- a front of the other files was opened
-pub front_opened : (files : List Opening) (output : Option (List ℕ)) (opened : ℕ) (before now : Told) → opened ≤ length files → Opens files opened before now → Opens (with_behind files output) opened before now
-front_opened files None opened before now few opens = opens
-front_opened files (Some output) opened before now few opens = opens_front files (OfSink output ∷ []) opened before now few opens
+-- a prefix of the other files was opened
+pub prefix_opened : (files : List Opening) (output : Option (List ℕ)) (opened : ℕ) (before now : Told) → opened ≤ length files → Opens files opened before now → Opens (with_behind files output) opened before now
+prefix_opened files None opened before now few opens = opens
+prefix_opened files (Some output) opened before now few opens = opens_prefix files (OfSink output ∷ []) opened before now few opens
 
 -- all were opened, and no count rose
 pub all_opened : (files : List Opening) (output : Option (List ℕ)) (before mid now : Told) → Opens files (length files) before mid → OpensBehind output mid now
@@ -69,7 +69,7 @@ pub among_all : (opening : Opening) (files : List Opening) (output : Option (Lis
 among_all opening files None among = subst (λ (os : List Opening). IsAmong opening os) (sym (take_all (length files) files (omega arith))) among
 among_all opening files (Some output) among =
     let behind : List Opening = OfSink output ∷ [] in
-    subst (λ (os : List Opening). IsAmong opening os) (sym (take_all (length (files ++ behind)) (files ++ behind) (omega arith))) (among_front opening files behind among)
+    subst (λ (os : List Opening). IsAmong opening os) (sym (take_all (length (files ++ behind)) (files ++ behind) (omega arith))) (among_prefix opening files behind among)
 
 -- behind the other files, which were all opened, an opening was refused
 pub record RefusedBehind (files : List Opening) (output : Option (List ℕ)) (before mid tried : Told) (fault : Fault) : Type 0 where
@@ -97,33 +97,33 @@ refused_behind files (Some output) before mid tried fault first refuses =
 
 -- ---- the end
 
-tells_by : (count : ℕ) (failed : Bool) (came : Came) (bytes : List ℕ) (test : Bool) → nat_lt 0 count ≡ test → HasCause 0 count (failed ≡ true) → (failed ≡ true → (came ≡ Failed faults.Read) ⊎ (came ≡ Failed faults.Write)) → TellsFailed (Holds bytes test) came
-tells_by count failed came bytes false none cause told = tt
-tells_by count true came bytes true some cause told = told refl
-tells_by count false came bytes true some cause told = absurd (let none : count ≡ 0 = cause.still (λ e. absurd cc) in grind (arith, nat_tests, some, none))
+tells_by : (count : ℕ) (failed : Bool) (outcome : OutcomeView) (bytes : List ℕ) (test : Bool) → nat_lt 0 count ≡ test → HasCause 0 count (failed ≡ true) → (failed ≡ true → (outcome ≡ Failed faults.Read) ⊎ (outcome ≡ Failed faults.Write)) → TellsFailed (Holds bytes test) outcome
+tells_by count failed outcome bytes false none cause told = tt
+tells_by count true outcome bytes true some cause told = told refl
+tells_by count false outcome bytes true some cause told = absurd (let none : count ≡ 0 = cause.still (λ e. absurd cc) in grind (arith, nat_tests, some, none))
 
-tells_failed : (written : Option (List ℕ)) (count : ℕ) (failed : Bool) (came : Came) → HasCause 0 count (failed ≡ true) → (failed ≡ true → (came ≡ Failed faults.Read) ⊎ (came ≡ Failed faults.Write)) → TellsFailed (page_of written count) came
-tells_failed None count failed came cause told = tt
-tells_failed (Some bytes) count failed came cause told = tells_by count failed came bytes (nat_lt 0 count) refl cause told
+tells_failed : (written : Option (List ℕ)) (count : ℕ) (failed : Bool) (outcome : OutcomeView) → HasCause 0 count (failed ≡ true) → (failed ≡ true → (outcome ≡ Failed faults.Read) ⊎ (outcome ≡ Failed faults.Write)) → TellsFailed (page_of written count) outcome
+tells_failed None count failed outcome cause told = tt
+tells_failed (Some bytes) count failed outcome cause told = tells_by count failed outcome bytes (nat_lt 0 count) refl cause told
 
 -- what the page of the output holds
-abbrev pub BehindHolds : (List Entry → Page → Type 0) → Option (List ℕ) → List Entry → Told → Came → Type 0
-BehindHolds Holding None history now came = Unit {0}
-BehindHolds Holding (Some output) history now came = Holding history (now.page output) × TellsFailed (now.page output) came
+abbrev pub BehindHolds : (List Entry → Page → Type 0) → Option (List ℕ) → List Entry → Told → OutcomeView → Type 0
+BehindHolds Holding None history now outcome = Unit {0}
+BehindHolds Holding (Some output) history now outcome = Holding history (now.page output) × TellsFailed (now.page output) outcome
 
 -- what the end of the output leaves of the other files, and what is told of it
-pub record Ends (Holding : List Entry → Page → Type 0) (output : Option (List ℕ)) (links sinks : List (List ℕ)) (history : List Entry) (closed now : Told) (failed : Bool) (came : Came) : Type 0 where
+pub record Ends (Holding : List Entry → Page → Type 0) (output : Option (List ℕ)) (links sinks : List (List ℕ)) (history : List Entry) (closed now : Told) (failed : Bool) (outcome : OutcomeView) : Type 0 where
   pub live : now.live ≡ closed.live
   pub sinks_same : files_told now (map opening_for (sinks_wanted 0 sinks)) ≡ files_told closed (map opening_for (sinks_wanted 0 sinks))
   pub own : HasCauses closed.faults now.faults ⊥ (failed ≡ true) ⊥
   pub own_failed : failed ≡ true → AnyFailed (with_behind (map opening_for (wanted_for links sinks)) output) now
   pub still_failed : AnyFailed (map opening_for (wanted_for links sinks)) closed → AnyFailed (with_behind (map opening_for (wanted_for links sinks)) output) now
   pub opens : (before : Told) → (let files = with_behind (map opening_for (wanted_for links sinks)) output in Opens files (length files) before closed → Opens files (length files) before now)
-  pub holds : BehindHolds Holding output history now came
+  pub holds : BehindHolds Holding output history now outcome
 
-pub ends_behind : (Holding : List Entry → Page → Type 0) (output : Option (List ℕ)) (links sinks : List (List ℕ)) (history : List Entry) (closed now : Told) (failed : Bool) (came : Came)
-    → IsApart output sinks → EndsBehind Holding output history closed now failed → (failed ≡ true → (came ≡ Failed faults.Read) ⊎ (came ≡ Failed faults.Write)) → Ends Holding output links sinks history closed now failed came
-ends_behind Holding None links sinks history closed now failed came apart (same, none) told =
+pub ends_behind : (Holding : List Entry → Page → Type 0) (output : Option (List ℕ)) (links sinks : List (List ℕ)) (history : List Entry) (closed now : Told) (failed : Bool) (outcome : OutcomeView)
+    → IsApart output sinks → EndsBehind Holding output history closed now failed → (failed ≡ true → (outcome ≡ Failed faults.Read) ⊎ (outcome ≡ Failed faults.Write)) → Ends Holding output links sinks history closed now failed outcome
+ends_behind Holding None links sinks history closed now failed outcome apart (same, none) told =
     let files : List Opening = map opening_for (wanted_for links sinks) in
     let never : failed ≡ true → ⊥ = λ is. absurd (let clash : true ≡ false = sym is ∙ none in cc) in
     record {
@@ -139,7 +139,7 @@ ends_behind Holding None links sinks history closed now failed came apart (same,
       opens = λ before opens. subst (λ (t : Told). Opens files (length files) before t) (sym same) opens;
       holds = tt;
     }
-ends_behind Holding (Some output) links sinks history closed now failed came apart it told =
+ends_behind Holding (Some output) links sinks history closed now failed outcome apart it told =
     let files : List Opening = map opening_for (wanted_for links sinks) in
     let behind : List Opening = OfSink output ∷ [] in
     record {
@@ -147,12 +147,12 @@ ends_behind Holding (Some output) links sinks history closed now failed came apa
       sinks_same = sinks_same 0 output sinks closed now apart.1 it.closes.pages it.closes.lefts;
       own = causes_sink closed.faults now.faults it.faults it.closes.counts it.cause (λ e. e) (λ e. e) (λ e. e) (λ e. e);
       own_failed = λ is. failed_back files behind now (inl (subst (λ (page : Page). HasFailed page) (sym it.closes.own) (has_failed it.written it.faults (rose_some 0 it.faults refl (it.cause.rose is)))));
-      still_failed = λ any. failed_front files behind now (failed_still files closed now
+      still_failed = λ any. failed_prefix files behind now (failed_still files closed now
           (λ name among. it.closes.pages name (λ same. none_wanted 0 0 output links sinks apart.1 (subst (λ (n : List ℕ). IsAmong (OfSink n) files) same among))) it.closes.live any);
       opens = λ before opens. sink_after (files ++ behind) (length (files ++ behind)) output it.written it.faults before closed now opens
           (subst (λ (os : List Opening). IsAmong (OfSink output) os) (sym (take_all (length (files ++ behind)) (files ++ behind) (omega arith))) (among_back (OfSink output) files behind (inl refl))) it.closes;
       holds = (
         subst (λ (page : Page). Holding history page) (sym it.closes.own) it.holds,
-        subst (λ (page : Page). TellsFailed page came) (sym it.closes.own) (tells_failed it.written it.faults failed came it.cause told),
+        subst (λ (page : Page). TellsFailed page outcome) (sym it.closes.own) (tells_failed it.written it.faults failed outcome it.cause told),
       );
     }

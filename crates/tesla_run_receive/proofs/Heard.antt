@@ -12,7 +12,7 @@ use Rattle.tesla_receiver.specs.declared.history.Arrival.{Arrival}
 use Rattle.tesla_receiver.specs.declared.history.Entry.{Entry}
 use Rattle.tesla_receiver.specs.declared.history.Entry.TheVariants.{Arrived, Ended}
 use Rattle.tesla_shared.specs.Whole.{arrivals_by, link_calls}
-use Rattle.tesla_shared.specs.Workers.{AreNext, Came, Gave, bytes_of, reading_of}
+use Rattle.tesla_shared.specs.Workers.{AreNext, HaveArrived, Gave, bytes_of, reading_of}
 use Rattle.tesla_shared.specs.declared.ingesting.LinkEnd.{LinkEnd}
 use Rattle.tesla_shared.specs.declared.ingesting.LinkEnd.TheVariants as link_ends
 use Rattle.tesla_turn.specs.Held.{left_of}
@@ -54,12 +54,12 @@ link_all most size faults link_ends.Ended later cause ended spent none few = end
 link_all most size faults link_ends.Failed later cause ended spent none few = absurd (fails_not faults cause none refl)
 link_all most size faults link_ends.Spent later cause ended spent none few = let many = spent refl in absurd (omega (arith, many, few))
 
-left_told : (ingest faults : ℕ) (letters : List Letter) (left later : Option (List Letter)) (arrivals : List Arrival) (history : List Entry) → left ≡ Some letters → Came arrivals left later → arrivals_by ingest history ≡ arrivals
+left_told : (ingest faults : ℕ) (letters : List Letter) (left later : Option (List Letter)) (arrivals : List Arrival) (history : List Entry) → left ≡ Some letters → HaveArrived arrivals left later → arrivals_by ingest history ≡ arrivals
     → (nat_lt 0 faults ≡ false → entries_of_ingest ingest history < calls_most → IfSome later (λ rest. rest ≡ [])) → LeftWhere ingest (HoldsWire letters) (remainder_of later faults) history
-left_told ingest faults letters left None arrivals history told came same all = absurd (let no : Some letters ≡ None = sym told ∙ came.1 in cc)
-left_told ingest faults letters left (Some rest) arrivals history told came same all =
-    let both : Some letters ≡ Some (came.0 ++ rest) = sym told ∙ came.1 in
-    record { taken = came.0; letters_are = cc; arrivals = ap (map bytes_of) same ∙ sym came.2; all = all }
+left_told ingest faults letters left None arrivals history told arrived same all = absurd (let no : Some letters ≡ None = sym told ∙ arrived.1 in cc)
+left_told ingest faults letters left (Some rest) arrivals history told arrived same all =
+    let both : Some letters ≡ Some (arrived.0 ++ rest) = sym told ∙ arrived.1 in
+    record { taken = arrived.0; letters_are = cc; arrivals = ap (map bytes_of) same ∙ sym arrived.2; all = all }
 
 module _ {C : Type 0} where
   -- how many entries a link made
@@ -73,7 +73,7 @@ module _ {C : Type 0} where
   left_where ingest UntoldWire readings clock work history did same = tt
   left_where ingest AbsentWire readings clock work history did same = absurd did.letters
   left_where ingest (HoldsWire letters) readings clock work history did same =
-      left_told ingest work.seen.faults letters did.left work.seen.left work.arrivals history did.letters did.hears.came same
+      left_told ingest work.seen.faults letters did.left work.seen.left work.arrivals history did.letters did.hears.arrived same
       (link_all calls_most (entries_of_ingest ingest history) work.seen.faults work.seen.end work.seen.left did.cause did.ended (link_entries calls_most ingest (HoldsWire letters) readings clock work history did same))
 
 -- ---- readings

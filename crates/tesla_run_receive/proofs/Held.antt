@@ -56,7 +56,7 @@ records_over : (others : List Reply) → records (others ++ Over ∷ []) ≡ rec
 records_over others = flat_map-append record_in others (Over ∷ []) ∙ append-nil (records others)
 
 -- a sink that didn't fail holds all records
-all_written : (faults : ℕ) (end : SinkEnd) (answers : List Reply) (written later : Option (List ℕ)) (bytes : List ℕ) → HasCause 0 faults (end ≡ sink_ends.Failed) → nat_lt 0 faults ≡ false → IfSome written (λ front. front ≡ []) → Writes end answers written later → later ≡ Some bytes → bytes ≡ records answers
+all_written : (faults : ℕ) (end : SinkEnd) (answers : List Reply) (written later : Option (List ℕ)) (bytes : List ℕ) → HasCause 0 faults (end ≡ sink_ends.Failed) → nat_lt 0 faults ≡ false → IfSome written (λ prefix. prefix ≡ []) → Writes end answers written later → later ≡ Some bytes → bytes ≡ records answers
 all_written faults sink_ends.Spent answers written later bytes cause none empty writes told = first_written written later (records answers) bytes empty writes.1 told
 all_written faults sink_ends.Failed answers written later bytes cause none empty writes told = absurd (fails_not faults cause none refl)
 all_written faults sink_ends.Over answers written later bytes cause none empty (others, are, goes, last) told =
@@ -67,16 +67,16 @@ no_fault : {P : Type 0} (faults : ℕ) → HasCause 0 faults P → nat_lt 0 faul
 no_fault faults cause some not = let none = cause.still not in absurd (grind (arith, nat_tests, some, none))
 
 -- one that failed holds all but for the last, or the end of that
-breaks_off : (faults : ℕ) (end : SinkEnd) (answers : List Reply) (written later : Option (List ℕ)) (bytes : List ℕ) → HasCause 0 faults (end ≡ sink_ends.Failed) → nat_lt 0 faults ≡ true → IfSome written (λ front. front ≡ []) → Writes end answers written later → later ≡ Some bytes → BreaksOff answers bytes
+breaks_off : (faults : ℕ) (end : SinkEnd) (answers : List Reply) (written later : Option (List ℕ)) (bytes : List ℕ) → HasCause 0 faults (end ≡ sink_ends.Failed) → nat_lt 0 faults ≡ true → IfSome written (λ prefix. prefix ≡ []) → Writes end answers written later → later ≡ Some bytes → BreaksOff answers bytes
 breaks_off faults sink_ends.Spent answers written later bytes cause some empty writes told = absurd (no_fault faults cause some (λ e. absurd cc))
 breaks_off faults sink_ends.Over answers written later bytes cause some empty writes told = absurd (no_fault faults cause some (λ e. absurd cc))
-breaks_off faults sink_ends.Failed answers written later bytes cause some empty (others, last, are, goes, front) told = record {
+breaks_off faults sink_ends.Failed answers written later bytes cause some empty (others, last, are, goes, prefix) told = record {
   others = others;
   last = last;
   answers_are = are;
-  front = take front.0 (record_in last);
-  front_is = (front.0, refl);
-  written_is = first_written written later (records others ++ take front.0 (record_in last)) bytes empty (front.1.written ∙ with_bytes_twice written (records others) (take front.0 (record_in last))) told;
+  prefix = take prefix.0 (record_in last);
+  prefix_is = (prefix.0, refl);
+  written_is = first_written written later (records others ++ take prefix.0 (record_in last)) bytes empty (prefix.1.written ∙ with_bytes_twice written (records others) (take prefix.0 (record_in last))) told;
 }
 
 module _ {C : Type 0} where

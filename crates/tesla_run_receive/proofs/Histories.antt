@@ -9,7 +9,7 @@ use Rattle.tesla_desk.specs.Faults.{raised}
 use Rattle.tesla_desk.specs.Live.{Wire}
 use Rattle.tesla_desk.specs.Outside.{Told}
 use Rattle.tesla_fitting.specs.declared.config.Config.{Config}
-use Rattle.tesla_front.specs.Came.{Came}
+use Rattle.tesla_front.specs.OutcomeView.{OutcomeView}
 use Rattle.tesla_front.specs.Openings.{File, files_told}
 use Rattle.tesla_front.specs.Setup.{IsSetupIn}
 use Rattle.tesla_front.specs.Names.{AreDistinct}
@@ -31,7 +31,7 @@ use Rattle.tesla_turn.specs.History.{entries}
 use Rattle.tesla_session.specs.Wanted.{Wanted, links_wanted, opening_for, sinks_wanted}
 use Rattle.tesla_run_receive.specs.Arguments.{ReceiveArguments, IsReceive, workers_wanted}
 use Rattle.tesla_run_receive.specs.Receive.{EndsAs, HasSpent, HeardLinks, HeldSinks, Receives, clock_after, config_of}
-use Rattle.tesla_session.specs.Session.{PassSeen, Seen, ClosesWorkers, OpensWorkers, RanSession, RunWorkers, calls_most, came_by, drained_failed, drained_spent, ended_spent, has_spent, link_failed, sink_failed, stop_by}
+use Rattle.tesla_session.specs.Session.{PassSeen, Seen, ClosesWorkers, OpensWorkers, RanSession, RunWorkers, calls_most, outcome_by, drained_failed, drained_spent, ended_spent, has_spent, link_failed, sink_failed, stop_by}
 use Rattle.tesla_session.proofs.Made.{LinkWork, LinksDid, SinkWork, SinksDid, are_workers, calls_made, closes_both, closes_passes, link_arrivals, link_name, link_seen, links_work, not_joined, opens_both, opens_passes, run_as_many, run_both, run_numbered, sink_answers, sink_name, sink_seen, sinks_work}
 use Rattle.tesla_run_receive.proofs.Heard.{AreArrivals, LinksClosed, are_arrivals, heard_links, link_entries, links_closed, links_leave_pages}
 use Rattle.tesla_run_receive.proofs.Held.{AllReplies, SinksClosed, all_replies, closed_same, held_sinks, outs_told, over_told, sink_entries, sinks_closed}
@@ -118,20 +118,20 @@ module _ {C : Type 0} where
     whole : IsWhole cfg (map link_arrivals links) (map sink_answers sinks) history
     legal : IsLegal cfg history
 
-  works_of : (arguments : ReceiveArguments) (config : Config) (cfg : C) (before opened running now : Told) (end : Ended Entry) (stop : Option Came) → AreDistinct arguments.links → AreDistinct arguments.sinks → (it : RanSession (workers_wanted arguments) cfg before opened running now end stop) → IsLegal config (entries end.history)
+  works_of : (arguments : ReceiveArguments) (config : Config) (cfg : C) (before opened running now : Told) (end : Ended Entry) (stop : Option OutcomeView) → AreDistinct arguments.links → AreDistinct arguments.sinks → (it : RanSession (workers_wanted arguments) cfg before opened running now end stop) → IsLegal config (entries end.history)
       → Works arguments config before now it.ran.done (entries end.history)
   works_of arguments config cfg before opened running now end stop apart apart_sinks it legal =
       let ran = it.ran in
       let start : PassSeen C = first_pass it.turn cfg (suc (length (workers_wanted arguments))) calls_most in
       let both = opens_both (links_wanted 0 arguments.links) (sinks_wanted 0 arguments.sinks) before opened start it.first it.workers it.opens in
-      let run = run_both both.front both.back ran.done (subst (λ (ws : List (Seen C)). RunWorkers ws ran.done) both.workers_are ran.runs) in
-      let closed = closes_both run.front_done run.back_done running now it.first ran.later (subst (λ (ds : List (Seen C)). ClosesWorkers ds running now it.first ran.later) run.done_are ran.closes) in
-      let links = links_work calls_most 0 arguments.links before both.mid start both.middle both.front run.front_done both.opens_front run.runs_front refl in
-      let calls : both.middle.calls ≡ calls_most = (opens_passes (links_wanted 0 arguments.links) before both.mid start both.middle both.front both.opens_front).calls in
+      let run = run_both both.prefix both.back ran.done (subst (λ (ws : List (Seen C)). RunWorkers ws ran.done) both.workers_are ran.runs) in
+      let closed = closes_both run.prefix_done run.back_done running now it.first ran.later (subst (λ (ds : List (Seen C)). ClosesWorkers ds running now it.first ran.later) run.done_are ran.closes) in
+      let links = links_work calls_most 0 arguments.links before both.mid start both.middle both.prefix run.prefix_done both.opens_prefix run.runs_prefix refl in
+      let calls : both.middle.calls ≡ calls_most = (opens_passes (links_wanted 0 arguments.links) before both.mid start both.middle both.prefix both.opens_prefix).calls in
       let sinks = sinks_work calls_most 0 arguments.sinks both.mid opened both.middle it.first both.back run.back_done both.opens_back run.runs_back calls in
-      let are : ran.done ≡ map link_seen links.works ++ map sink_seen sinks.works = run.done_are ∙ ap (λ (front : List (Seen C)). front ++ run.back_done) links.done_are ∙ ap (λ (back : List (Seen C)). map link_seen links.works ++ back) sinks.done_are in
+      let are : ran.done ≡ map link_seen links.works ++ map sink_seen sinks.works = run.done_are ∙ ap (λ (prefix : List (Seen C)). prefix ++ run.back_done) links.done_are ∙ ap (λ (back : List (Seen C)). map link_seen links.works ++ back) sinks.done_are in
       let passes = passes_joined (workers_wanted arguments) before opened running now it.turn cfg it.first ran.later it.workers ran.done it.opens ran.runs ran.closes in
-      let closes_links = subst (λ (ds : List (Seen C)). ClosesWorkers ds closed.mid now closed.middle ran.later) links.done_are closed.closes_front in
+      let closes_links = subst (λ (ds : List (Seen C)). ClosesWorkers ds closed.mid now closed.middle ran.later) links.done_are closed.closes_prefix in
       let closes_sinks = subst (λ (ds : List (Seen C)). ClosesWorkers ds running closed.mid it.first closed.middle) sinks.done_are closed.closes_back in record {
         links = links.works;
         sinks = sinks.works;
@@ -207,7 +207,7 @@ module _ {C : Type 0} where
 
 -- what it comes to, by cases of why the workers came to no end
 ends_as : (arguments : ReceiveArguments) (cfg : Config) (history : List Entry) (read write spent : Bool) → (spent ≡ true → HasSpent (length arguments.links) (length arguments.sinks) history)
-    → (write ≡ false → spent ≡ false → given_in history ≡ length (released cfg (arrivals_in history))) → EndsAs arguments cfg history (came_by (stop_by read write spent) (report_text (report_of history)))
+    → (write ≡ false → spent ≡ false → given_in history ≡ length (released cfg (arrivals_in history))) → EndsAs arguments cfg history (outcome_by (stop_by read write spent) (report_text (report_of history)))
 ends_as arguments cfg history true write spent has given = tt
 ends_as arguments cfg history false true spent has given = tt
 ends_as arguments cfg history false false true has given = (refl, refl, has refl)
@@ -215,11 +215,11 @@ ends_as arguments cfg history false false false has given = (refl, given refl re
 
 module _ {C : Type 0} where
   -- where all workers were opened, one legal history was made of the links, and the sinks hold what it gives. It comes to a failed write where a sink failed at the least
-  pub receives : (arguments : ReceiveArguments) (words : List (List ℕ)) (parts : Parts) (setup : File) (cfg : C) (before opened running now : Told) (end : Ended Entry) (stop : Option Came) (write : Bool) (last : Option (Ended Entry)) (came : Came) → IsReceive arguments words
+  pub receives : (arguments : ReceiveArguments) (words : List (List ℕ)) (parts : Parts) (setup : File) (cfg : C) (before opened running now : Told) (end : Ended Entry) (stop : Option OutcomeView) (write : Bool) (last : Option (Ended Entry)) (outcome : OutcomeView) → IsReceive arguments words
       → (it : RanSession (workers_wanted arguments) cfg before opened running now end stop) → IsLegal (config_of arguments parts) (entries end.history) → IsSetupIn setup.page parts → last ≡ Some end → (write ≡ false → list_any sink_failed it.ran.done ≡ false)
-      → came ≡ came_by (stop_by (list_any link_failed it.ran.done) write (list_any has_spent it.ran.done)) (report_text (report_of (entries end.history)))
-      → Receives arguments before.live now.live last setup (drop (length arguments.links) (files_told now (map opening_for (workers_wanted arguments)))) came
-  receives arguments words parts setup cfg before opened running now end stop write last came is it legal found last_is wrote came_is =
+      → outcome ≡ outcome_by (stop_by (list_any link_failed it.ran.done) write (list_any has_spent it.ran.done)) (report_text (report_of (entries end.history)))
+      → Receives arguments before.live now.live last setup (drop (length arguments.links) (files_told now (map opening_for (workers_wanted arguments)))) outcome
+  receives arguments words parts setup cfg before opened running now end stop write last outcome is it legal found last_is wrote outcome_is =
       let config : Config = config_of arguments parts in
       let history : List Entry = entries end.history in
       let works = works_of arguments config cfg before opened running now end stop is.links_are.distinct is.sinks_are.distinct it legal in record {
@@ -233,7 +233,7 @@ module _ {C : Type 0} where
         heard = heard arguments config before now it.ran.done history works;
         held = subst (λ (outs : List File). HeldSinks 0 outs history) (sym (outs_told arguments now)) (held arguments config before now it.ran.done history works);
         ended = ended arguments config before now it.ran.done history works;
-        came_is = subst (EndsAs arguments config history) (sym came_is)
+        outcome_is = subst (EndsAs arguments config history) (sym outcome_is)
             (ends_as arguments config history (list_any link_failed it.ran.done) write (list_any has_spent it.ran.done)
             (spent arguments config before now it.ran.done history works)
             (λ none clear. all_given arguments config before now it.ran.done history works is.sinks_are.some refl (wrote none) clear));

@@ -12,10 +12,10 @@ use Rattle.tesla_run_receive.specs.Receive.{UnwrittenSinks}
 
 -- ---- among
 
-pub among_front : (opening : Opening) (files others : List Opening) → IsAmong opening files → IsAmong opening (files ++ others)
-among_front opening [] others among = absurd among
-among_front opening (file ∷ files) others (inl same) = inl same
-among_front opening (file ∷ files) others (inr among) = inr (among_front opening files others among)
+pub among_prefix : (opening : Opening) (files others : List Opening) → IsAmong opening files → IsAmong opening (files ++ others)
+among_prefix opening [] others among = absurd among
+among_prefix opening (file ∷ files) others (inl same) = inl same
+among_prefix opening (file ∷ files) others (inr among) = inr (among_prefix opening files others among)
 
 pub among_back : (opening : Opening) (files others : List Opening) → IsAmong opening others → IsAmong opening (files ++ others)
 among_back opening [] others among = among
@@ -42,9 +42,9 @@ openings_twice : (told : Option (List Opening)) (a b : List Opening) → with_op
 openings_twice None a b = refl
 openings_twice (Some before) a b = ap (λ (os : List Opening). Some os) (append_assoc before a b)
 
--- a front of some files was opened, before others
-pub opens_front : (files others : List Opening) (opened : ℕ) (before now : Told) → opened ≤ length files → Opens files opened before now → Opens (files ++ others) opened before now
-opens_front files others opened before now few opens =
+-- a prefix of some files was opened, before others
+pub opens_prefix : (files others : List Opening) (opened : ℕ) (before now : Told) → opened ≤ length files → Opens files opened before now → Opens (files ++ others) opened before now
+opens_prefix files others opened before now few opens =
     let same : take opened (files ++ others) ≡ take opened files = take-append-le opened files others few in record {
       asked = opens.asked ∙ ap (λ (os : List Opening). with_openings before.openings os) (sym same);
       pages = λ name none. opens.pages name (λ among. none (subst (λ (os : List Opening). IsAmong (OfSink name) os) (sym same) among));
@@ -58,14 +58,14 @@ opens_more files others opened before mid now first opens =
     let same : take (length files + opened) (files ++ others) ≡ files ++ take opened others = take-append-add files others opened in record {
       asked = opens.asked ∙ ap (λ (told : Option (List Opening)). with_openings told (take opened others)) (first.asked ∙ ap (λ (os : List Opening). with_openings before.openings os) whole) ∙ openings_twice before.openings files (take opened others) ∙ ap (λ (os : List Opening). with_openings before.openings os) (sym same);
       pages = λ name none. opens.pages name (λ among. none (subst (λ (os : List Opening). IsAmong (OfSink name) os) (sym same) (among_back (OfSink name) files (take opened others) among)))
-          ∙ first.pages name (λ among. none (subst (λ (os : List Opening). IsAmong (OfSink name) os) (sym same) (among_front (OfSink name) files (take opened others) (subst (λ (os : List Opening). IsAmong (OfSink name) os) whole among))));
+          ∙ first.pages name (λ among. none (subst (λ (os : List Opening). IsAmong (OfSink name) os) (sym same) (among_prefix (OfSink name) files (take opened others) (subst (λ (os : List Opening). IsAmong (OfSink name) os) whole among))));
       lefts = λ name none. opens.lefts name (λ among. none (subst (λ (os : List Opening). IsAmong (OfSource name) os) (sym same) (among_back (OfSource name) files (take opened others) among)))
-          ∙ first.lefts name (λ among. none (subst (λ (os : List Opening). IsAmong (OfSource name) os) (sym same) (among_front (OfSource name) files (take opened others) (subst (λ (os : List Opening). IsAmong (OfSource name) os) whole among))));
+          ∙ first.lefts name (λ among. none (subst (λ (os : List Opening). IsAmong (OfSource name) os) (sym same) (among_prefix (OfSource name) files (take opened others) (subst (λ (os : List Opening). IsAmong (OfSource name) os) whole among))));
     }
 
 -- the files are among those that were opened
 pub among_opened : (opening : Opening) (files others : List Opening) (opened : ℕ) → IsAmong opening files → IsAmong opening (take (length files + opened) (files ++ others))
-among_opened opening files others opened among = subst (λ (os : List Opening). IsAmong opening os) (sym (take-append-add files others opened)) (among_front opening files (take opened others) among)
+among_opened opening files others opened among = subst (λ (os : List Opening). IsAmong opening os) (sym (take-append-add files others opened)) (among_prefix opening files (take opened others) among)
 
 -- behind openings a sink among the files was closed
 pub sink_after : (files : List Opening) (opened : ℕ) (name : List ℕ) (written : Option (List ℕ)) (faults : ℕ) (before mid now : Told) → Opens files opened before mid → IsAmong (OfSink name) (take opened files) → ClosesSink name written faults mid now → Opens files opened before now
@@ -123,14 +123,14 @@ failed_still (OfPost name ∷ files) before now same live (inr other) = inr (fai
 failed_still (OfSink name ∷ files) before now same live (inl own) = inl (subst (λ (p : Page). HasFailed p) (sym (same name (inl refl))) own)
 failed_still (OfSink name ∷ files) before now same live (inr other) = inr (failed_still files before now (λ n among. same n (inr among)) live other)
 
-pub failed_front : (files others : List Opening) (now : Told) → AnyFailed files now → AnyFailed (files ++ others) now
-failed_front [] others now failed = absurd failed
-failed_front (OfSource name ∷ files) others now failed = failed_front files others now failed
-failed_front (OfLink name ∷ files) others now failed = failed_front files others now failed
-failed_front (OfPost name ∷ files) others now (inl own) = inl own
-failed_front (OfPost name ∷ files) others now (inr other) = inr (failed_front files others now other)
-failed_front (OfSink name ∷ files) others now (inl own) = inl own
-failed_front (OfSink name ∷ files) others now (inr other) = inr (failed_front files others now other)
+pub failed_prefix : (files others : List Opening) (now : Told) → AnyFailed files now → AnyFailed (files ++ others) now
+failed_prefix [] others now failed = absurd failed
+failed_prefix (OfSource name ∷ files) others now failed = failed_prefix files others now failed
+failed_prefix (OfLink name ∷ files) others now failed = failed_prefix files others now failed
+failed_prefix (OfPost name ∷ files) others now (inl own) = inl own
+failed_prefix (OfPost name ∷ files) others now (inr other) = inr (failed_prefix files others now other)
+failed_prefix (OfSink name ∷ files) others now (inl own) = inl own
+failed_prefix (OfSink name ∷ files) others now (inr other) = inr (failed_prefix files others now other)
 
 pub failed_back : (files others : List Opening) (now : Told) → AnyFailed others now → AnyFailed (files ++ others) now
 failed_back [] others now failed = failed

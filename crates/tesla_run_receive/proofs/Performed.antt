@@ -9,7 +9,7 @@ use Rattle.tesla_desk.specs.Live.{Live, LeavesAll}
 use Rattle.tesla_desk.specs.Outside.{Told, Opening, OfSource, OfSink, Page}
 use Rattle.tesla_desk.proofs.Counts.{cause_none, causes_both, causes_none, causes_then}
 use Rattle.tesla_fitting.specs.declared.config.Config.{Config}
-use Rattle.tesla_front.specs.Came.{Came, Failed, stop_came}
+use Rattle.tesla_front.specs.OutcomeView.{OutcomeView, Failed, stop_view}
 use Rattle.tesla_front.specs.Command.{Performs}
 use Rattle.tesla_front.specs.Files.{IsUnwritten}
 use Rattle.tesla_front.specs.Names.{AreListNames}
@@ -24,9 +24,9 @@ use Rattle.tesla_front.proofs.Openings.{opens_none, opens_some, opens_then}
 use Rattle.tesla_receiver.specs.Report.{report_of}
 use Rattle.tesla_receiver.specs.declared.history.Entry.{Entry}
 use Rattle.tesla_run_replay.specs.ReportText.{report_text}
-use Rattle.tesla_session.specs.Session.{RanSession, RefusedSession, came_by, has_spent, link_failed, sink_failed, stop_by}
+use Rattle.tesla_session.specs.Session.{RanSession, RefusedSession, outcome_by, has_spent, link_failed, sink_failed, stop_by}
 use Rattle.tesla_session.specs.Wanted.{Wanted, links_wanted, opening_for, sinks_wanted}
-use Rattle.tesla_session.proofs.Counted.{apart_wanted, counts_came, counts_came_none, counts_opened, counts_ran, counts_refused, counts_unrun}
+use Rattle.tesla_session.proofs.Counted.{apart_wanted, counts_outcome, counts_outcome_none, counts_opened, counts_ran, counts_refused, counts_unrun}
 use Rattle.tesla_session.proofs.Fresh.{refused_fault, unheard_links, unwritten_pages}
 use Rattle.tesla_session.proofs.Opened.{closes_after, opening_of, openings_are, opens_files, opens_refused_session, runs_openings}
 use Rattle.tesla_state.specs.State.{State}
@@ -37,7 +37,7 @@ use Rattle.tesla_run_receive.specs.Output.{WithOutput, OutputHolds, with_output}
 use Rattle.tesla_run_receive.specs.OutputArguments.{OutputArguments}
 use Rattle.tesla_run_receive.specs.Receive.{Receives, UnheardLinks, config_of, receive}
 use Rattle.tesla_run_receive.specs.Running.{Ran, RefusedOutput, RunsStation, Unopened, with_behind}
-use Rattle.tesla_run_receive.proofs.Behind.{BehindHolds, IsApart, all_opened, among_all, are_files_behind, ends_behind, front_opened, refused_behind}
+use Rattle.tesla_run_receive.proofs.Behind.{BehindHolds, IsApart, all_opened, among_all, are_files_behind, ends_behind, prefix_opened, refused_behind}
 use Rattle.tesla_run_receive.proofs.Held as holding
 use Rattle.tesla_run_receive.proofs.Histories.{receives}
 use Rattle.tesla_run_receive.proofs.Outputs.{outs_told, output_told, sinks_told, unwritten_behind}
@@ -55,17 +55,17 @@ are_wanted ingest releaser (name ∷ names) sinks (own, links_named) named = (ow
 -- ---- what it came to
 
 -- what it came to, told why the workers came to no end and which text is told else
-pub came_told : (came : Came) (stop own : Option Came) (text told : List ℕ) → came ≡ came_by stop text → stop ≡ own → text ≡ told → came ≡ came_by own told
-came_told came stop own text told came_is stops texts = came_is ∙ ap (λ (t : List ℕ). came_by stop t) texts ∙ ap (λ (s : Option Came). came_by s told) stops
+pub outcome_as : (outcome : OutcomeView) (stop own : Option OutcomeView) (text told : List ℕ) → outcome ≡ outcome_by stop text → stop ≡ own → text ≡ told → outcome ≡ outcome_by own told
+outcome_as outcome stop own text told outcome_is stops texts = outcome_is ∙ ap (λ (t : List ℕ). outcome_by stop t) texts ∙ ap (λ (s : Option OutcomeView). outcome_by s told) stops
 
 -- where the output failed, it came to a failed read or a failed write
-came_failed : (text : List ℕ) (read write spent failed : Bool) (came : Came) → came ≡ came_by (stop_by read (write || failed) spent) text → failed ≡ true → (came ≡ Failed faults.Read) ⊎ (came ≡ Failed faults.Write)
-came_failed text true true spent failed came is some = inl is
-came_failed text true false spent true came is some = inl is
-came_failed text true false spent false came is some = absurd cc
-came_failed text false true spent failed came is some = inr is
-came_failed text false false spent true came is some = inr is
-came_failed text false false spent false came is some = absurd cc
+outcome_failed : (text : List ℕ) (read write spent failed : Bool) (outcome : OutcomeView) → outcome ≡ outcome_by (stop_by read (write || failed) spent) text → failed ≡ true → (outcome ≡ Failed faults.Read) ⊎ (outcome ≡ Failed faults.Write)
+outcome_failed text true true spent failed outcome is some = inl is
+outcome_failed text true false spent true outcome is some = inl is
+outcome_failed text true false spent false outcome is some = absurd cc
+outcome_failed text false true spent failed outcome is some = inr is
+outcome_failed text false false spent true outcome is some = inr is
+outcome_failed text false false spent false outcome is some = absurd cc
 
 either : (a b : Bool) → (a || b) ≡ true → (a ≡ true) ⊎ (b ≡ true)
 either true b is = inl refl
@@ -83,26 +83,26 @@ unheard_names [] before now all = tt
 unheard_names (name ∷ names) before now all = (all name, unheard_names names before now all)
 
 -- nothing was received, nor written
-record Unreceived (received : ReceiveArguments) (opened : ℕ) (before now : Told) (last : Option (Ended Entry)) (came : Came) : Type 0 where
+record Unreceived (received : ReceiveArguments) (opened : ℕ) (before now : Told) (last : Option (Ended Entry)) (outcome : OutcomeView) : Type 0 where
   none : last ≡ None
   unheard : UnheardLinks received.links before.live now.live
   unwritten : (name : List ℕ) → (now.page name ≡ before.page name) ⊎ IsUnwritten (now.page name)
-  cause : (IsNoSetup (before.page received.setup) came × (opened ≤ 1)) ⊎ (came ≡ Failed faults.Open) ⊎ (came ≡ Failed faults.NoMemory)
+  cause : (IsNoSetup (before.page received.setup) outcome × (opened ≤ 1)) ⊎ (outcome ≡ Failed faults.Open) ⊎ (outcome ≡ Failed faults.NoMemory)
 
 -- a history was received, and the output holds what is said of it
-record Received (Holds : List Entry → Page → Type 0) (output : Option (List ℕ)) (received : ReceiveArguments) (before now : Told) (last : Option (Ended Entry)) (came : Came) : Type 0 where
-  receives : Receives received before.live now.live last (file_told before received.setup) (files_told now (map opening_for (sinks_wanted 0 received.sinks))) came
+record Received (Holds : List Entry → Page → Type 0) (output : Option (List ℕ)) (received : ReceiveArguments) (before now : Told) (last : Option (Ended Entry)) (outcome : OutcomeView) : Type 0 where
+  receives : Receives received before.live now.live last (file_told before received.setup) (files_told now (map opening_for (sinks_wanted 0 received.sinks))) outcome
   end : Ended Entry
   last_is : last ≡ Some end
-  holds : BehindHolds Holds output (entries end.history) now came
+  holds : BehindHolds Holds output (entries end.history) now outcome
 
 -- a live run, whatever the files of its command are called
-pub record Lives (Holds : List Entry → Page → Type 0) (output : Option (List ℕ)) (received : ReceiveArguments) (before now : Told) (last : Option (Ended Entry)) (came : Came) : Type 0 where
+pub record Lives (Holds : List Entry → Page → Type 0) (output : Option (List ℕ)) (received : ReceiveArguments) (before now : Told) (last : Option (Ended Entry)) (outcome : OutcomeView) : Type 0 where
   named : AreFiles (with_behind (files_of_receive received) output)
   opened : ℕ
   opens : Opens (with_behind (files_of_receive received) output) opened before now
-  does : Unreceived received opened before now last came ⊎ ((opened ≡ length (with_behind (files_of_receive received) output)) × Received Holds output received before now last came)
-  counts : HasCausesBeside ((came ≡ Failed faults.Read) × AnyFailed (with_behind (files_of_receive received) output) now) before.faults now.faults (came ≡ Failed faults.Read) (came ≡ Failed faults.Write) (came ≡ Failed faults.Open)
+  does : Unreceived received opened before now last outcome ⊎ ((opened ≡ length (with_behind (files_of_receive received) output)) × Received Holds output received before now last outcome)
+  counts : HasCausesBeside ((outcome ≡ Failed faults.Read) × AnyFailed (with_behind (files_of_receive received) output) now) before.faults now.faults (outcome ≡ Failed faults.Read) (outcome ≡ Failed faults.Write) (outcome ≡ Failed faults.Open)
 
 -- the setup stands before the other files
 behind_setup : (received : ReceiveArguments) (output : Option (List ℕ)) → with_behind (files_of_receive received) output ≡ OfSource received.setup ∷ with_behind (map opening_for (workers_wanted received)) output
@@ -111,8 +111,8 @@ behind_setup received (Some output) = refl
 
 -- there was no setup
 pub lives_none : (Holds : List Entry → Page → Type 0) (output : Option (List ℕ)) (received : ReceiveArguments) (words : List (List ℕ)) (before now : Told) (last : Option (Ended Entry)) (stop : Stop) → IsReceive received words → IsApart output received.sinks
-    → OpensSome (OfSource received.setup ∷ []) before now → ((name : List ℕ) → now.page name ≡ before.page name) → now.live ≡ before.live → IsNoSetup (before.page received.setup) (stop_came stop) → StopCauses {A = State} (Err stop) before.faults now.faults → last ≡ None
-    → Lives Holds output received before now last (stop_came stop)
+    → OpensSome (OfSource received.setup ∷ []) before now → ((name : List ℕ) → now.page name ≡ before.page name) → now.live ≡ before.live → IsNoSetup (before.page received.setup) (stop_view stop) → StopCauses {A = State} (Err stop) before.faults now.faults → last ≡ None
+    → Lives Holds output received before now last (stop_view stop)
 lives_none Holds output received words before now last stop is apart some pages live why causes none =
     let it = opens_some (OfSource received.setup) (with_behind (map opening_for (workers_wanted received)) output) before now some in
     record {
@@ -129,7 +129,7 @@ lives_none Holds output received words before now last stop is apart some pages 
     }
 
 -- the setup was read, and then the workers and the output were opened, or not all were
-module _ (Holds : List Entry → Page → Type 0) (output : Option (List ℕ)) (received : ReceiveArguments) (words : List (List ℕ)) (parts : Parts) {C : Type 0} (cfg : C) (before read now : Told) (last : Option (Ended Entry)) (came : Came)
+module _ (Holds : List Entry → Page → Type 0) (output : Option (List ℕ)) (received : ReceiveArguments) (words : List (List ℕ)) (parts : Parts) {C : Type 0} (cfg : C) (before read now : Told) (last : Option (Ended Entry)) (outcome : OutcomeView)
     (is : IsReceive received words) (apart : IsApart output received.sinks) (pages : (name : List ℕ) → read.page name ≡ before.page name) (live : read.live ≡ before.live) (found : IsSetupIn (before.page received.setup) parts) where
   abbrev Files : List Opening
   Files = map opening_for (workers_wanted received)
@@ -140,12 +140,12 @@ module _ (Holds : List Entry → Page → Type 0) (output : Option (List ℕ)) (
   -- so many of the files behind the setup were opened, and what came of it, and which counts rose
   record Comes (n : ℕ) : Type 0 where
     opens : Opens Whole n read now
-    does : Unreceived received (suc n) before now last came ⊎ ((n ≡ length Whole) × Received Holds output received before now last came)
-    counts : HasCausesBeside ((came ≡ Failed faults.Read) × AnyFailed Whole now) read.faults now.faults (came ≡ Failed faults.Read) (came ≡ Failed faults.Write) (came ≡ Failed faults.Open)
+    does : Unreceived received (suc n) before now last outcome ⊎ ((n ≡ length Whole) × Received Holds output received before now last outcome)
+    counts : HasCausesBeside ((outcome ≡ Failed faults.Read) × AnyFailed Whole now) read.faults now.faults (outcome ≡ Failed faults.Read) (outcome ≡ Failed faults.Write) (outcome ≡ Failed faults.Open)
 
-  stops : (n : ℕ) → last ≡ None → ((name : List ℕ) → (now.live.left name ≡ read.live.left name) ⊎ LeavesAll (read.live.wire name) (now.live.left name)) → ((name : List ℕ) → (now.page name ≡ read.page name) ⊎ IsUnwritten (now.page name)) → (fault : Fault) → came ≡ Failed fault → (fault ≡ faults.Open) ⊎ (fault ≡ faults.NoMemory)
-      → Unreceived received (suc n) before now last came
-  stops n none unheard unwritten fault came_is why = record {
+  stops : (n : ℕ) → last ≡ None → ((name : List ℕ) → (now.live.left name ≡ read.live.left name) ⊎ LeavesAll (read.live.wire name) (now.live.left name)) → ((name : List ℕ) → (now.page name ≡ read.page name) ⊎ IsUnwritten (now.page name)) → (fault : Fault) → outcome ≡ Failed fault → (fault ≡ faults.Open) ⊎ (fault ≡ faults.NoMemory)
+      → Unreceived received (suc n) before now last outcome
+  stops n none unheard unwritten fault outcome_is why = record {
     none = none;
     unheard = unheard_names received.links before.live now.live (subst (λ (l : Live). (name : List ℕ) → (now.live.left name ≡ l.left name) ⊎ LeavesAll (l.wire name) (now.live.left name)) live unheard);
     unwritten = λ name. elim (unwritten name) [
@@ -153,41 +153,41 @@ module _ (Holds : List Entry → Page → Type 0) (output : Option (List ℕ)) (
       | inr empty ↦ inr empty
     ];
     cause = elim why [
-      | inl open_fault ↦ inr (inl (came_is ∙ ap (λ (f : Fault). Failed f) open_fault))
-      | inr memory ↦ inr (inr (came_is ∙ ap (λ (f : Fault). Failed f) memory))
+      | inl open_fault ↦ inr (inl (outcome_is ∙ ap (λ (f : Fault). Failed f) open_fault))
+      | inr memory ↦ inr (inr (outcome_is ∙ ap (λ (f : Fault). Failed f) memory))
     ];
   }
 
-  came_unopened : Unopened read now last came → Comes 0
-  came_unopened unopened =
+  outcome_unopened : Unopened read now last outcome → Comes 0
+  outcome_unopened unopened =
       let same = unopened.same in record {
         opens = opens_none Whole read now (ap (λ (t : Told). t.openings) same) (λ name. ap (λ (t : Told). t.page name) same) (λ name. ap (λ (t : Told). t.left name) same);
-        does = inl (stops 0 unopened.none (λ name. inl (ap (λ (t : Told). t.live.left name) same)) (λ name. inl (ap (λ (t : Told). t.page name) same)) faults.NoMemory unopened.came_is (inr refl));
-        counts = counts_came_none Whole now read.faults now.faults came faults.NoMemory unopened.came_is (record {
+        does = inl (stops 0 unopened.none (λ name. inl (ap (λ (t : Told). t.live.left name) same)) (λ name. inl (ap (λ (t : Told). t.page name) same)) faults.NoMemory unopened.outcome_is (inr refl));
+        counts = counts_outcome_none Whole now read.faults now.faults outcome faults.NoMemory unopened.outcome_is (record {
           reads = ap (λ (t : Told). t.faults.reads) same;
           writes = ap (λ (t : Told). t.faults.writes) same;
           openings = cause_none read.faults.openings now.faults.openings (ap (λ (t : Told). t.faults.openings) same) (λ e. absurd cc);
         }) (inr refl);
       }
 
-  came_refused_session : (fault : Fault) → RefusedSession (workers_wanted received) cfg read now fault → last ≡ None → came ≡ Failed fault → (n : ℕ) × Comes n
-  came_refused_session fault it none came_is =
+  outcome_refused_session : (fault : Fault) → RefusedSession (workers_wanted received) cfg read now fault → last ≡ None → outcome ≡ Failed fault → (n : ℕ) × Comes n
+  outcome_refused_session fault it none outcome_is =
       let wanted = workers_wanted received in
       let some = opens_refused_session wanted cfg read now fault it in
       let why = refused_fault wanted read it.mid _ it.first it.workers (Err fault) fault it.opens refl in (
         some.0,
         record {
-          opens = front_opened Files output some.0 read now some.1 some.2;
+          opens = prefix_opened Files output some.0 read now some.1 some.2;
           does = inl (stops some.0 none
               (unheard_links wanted read it.mid it.mid now _ it.first it.later it.workers (Err fault) it.opens refl it.closes)
               (unwritten_pages wanted read it.mid it.mid now _ it.first it.later it.workers (Err fault) it.opens (λ name. refl) it.closes)
-              fault came_is why);
-          counts = counts_came_none Whole now read.faults now.faults came fault came_is (counts_refused wanted cfg read now fault it) why;
+              fault outcome_is why);
+          counts = counts_outcome_none Whole now read.faults now.faults outcome fault outcome_is (counts_refused wanted cfg read now fault it) why;
         },
       )
 
-  came_ran : Ran Holds output (config_of received parts) (workers_wanted received) cfg read now last came → Comes (length Whole)
-  came_ran it =
+  outcome_ran : Ran Holds output (config_of received parts) (workers_wanted received) cfg read now last outcome → Comes (length Whole)
+  outcome_ran it =
       let wanted = workers_wanted received in
       let t = it.runs in
       let history : List Entry = entries t.end.history in
@@ -200,35 +200,35 @@ module _ (Holds : List Entry → Page → Type 0) (output : Option (List ℕ)) (
       let all = all_opened Files output read it.opened it.running (opens_files wanted cfg read it.opened it.turn it.first it.workers it.opens) it.behind in
       let names : map opening_of t.ran.done ≡ Files = runs_openings it.workers t.ran.done t.ran.runs ∙ openings_are wanted read it.opened _ it.first it.workers (Ok tt) refl it.opens in
       let counts = counts_ran wanted cfg read it.opened it.running t.closed t.end t.stop (apart_wanted 0 0 received.links received.sinks is.sinks_are.distinct) session in
-      let ends = ends_behind Holds output received.links received.sinks history t.closed now t.failed came apart t.ends (came_failed text reads wrote spent t.failed came t.came_is) in
+      let ends = ends_behind Holds output received.links received.sinks history t.closed now t.failed outcome apart t.ends (outcome_failed text reads wrote spent t.failed outcome t.outcome_is) in
       let closed : HasCauses it.running.faults now.faults (reads ≡ true) ((wrote || t.failed) ≡ true) ⊥ =
       causes_both it.running.faults t.closed.faults now.faults counts.closes ends.own (λ e. inl e) (λ e. elim e [ inl is ↦ is | inr never ↦ absurd never ]) (either wrote t.failed) (from_either wrote t.failed) (λ e. absurd e) (λ e. elim e [ inl never ↦ never | inr never ↦ never ]) in
-      let got : Receives received read.live t.closed.live last (file_told before received.setup) (drop (length received.links) (files_told t.closed Files)) came =
-      receives received words parts (file_told before received.setup) cfg read it.opened it.running t.closed t.end t.stop (wrote || t.failed) last came is session t.legal found t.last_is (λ none. (or_parts wrote t.failed none).0) t.came_is in
+      let got : Receives received read.live t.closed.live last (file_told before received.setup) (drop (length received.links) (files_told t.closed Files)) outcome =
+      receives received words parts (file_told before received.setup) cfg read it.opened it.running t.closed t.end t.stop (wrote || t.failed) last outcome is session t.legal found t.last_is (λ none. (or_parts wrote t.failed none).0) t.outcome_is in
       let outs : drop (length received.links) (files_told t.closed Files) ≡ files_told now (map opening_for (sinks_wanted 0 received.sinks)) = holding.outs_told received t.closed ∙ sym ends.sinks_same in
       record {
         opens = ends.opens read (closes_after Whole (length Whole) t.ran.done read it.running t.closed it.first t.ran.later all.0 (λ name among. among_all (OfSink name) Files output (subst (λ (os : List Opening). IsAmong (OfSink name) os) names among)) t.ran.closes);
         does = inr (
           refl,
           record {
-            receives = subst (λ (l : Live). Receives received l now.live last (file_told before received.setup) (files_told now (map opening_for (sinks_wanted 0 received.sinks))) came) live
-                (subst (λ (l : Live). Receives received read.live l last (file_told before received.setup) (files_told now (map opening_for (sinks_wanted 0 received.sinks))) came) (sym ends.live)
-                (subst (λ (fs : List File). Receives received read.live t.closed.live last (file_told before received.setup) fs came) outs got));
+            receives = subst (λ (l : Live). Receives received l now.live last (file_told before received.setup) (files_told now (map opening_for (sinks_wanted 0 received.sinks))) outcome) live
+                (subst (λ (l : Live). Receives received read.live l last (file_told before received.setup) (files_told now (map opening_for (sinks_wanted 0 received.sinks))) outcome) (sym ends.live)
+                (subst (λ (fs : List File). Receives received read.live t.closed.live last (file_told before received.setup) fs outcome) outs got));
             end = t.end;
             last_is = t.last_is;
             holds = ends.holds;
           },
         );
         counts = causes_then read.faults it.opened.faults now.faults opened (causes_then it.opened.faults it.running.faults now.faults all.1
-            (counts_came Whole now it.running.faults now.faults text reads (wrote || t.failed) spent came t.came_is closed
+            (counts_outcome Whole now it.running.faults now.faults text reads (wrote || t.failed) spent outcome t.outcome_is closed
             (λ some. elim (either wrote t.failed some) [
               | inl sink ↦ ends.still_failed (counts.failed sink)
               | inr own ↦ ends.own_failed own
             ])));
       }
 
-  came_refused_output : (fault : Fault) → RefusedOutput (workers_wanted received) cfg output read now fault → last ≡ None → came ≡ Failed fault → (n : ℕ) × Comes n
-  came_refused_output fault it none came_is =
+  outcome_refused_output : (fault : Fault) → RefusedOutput (workers_wanted received) cfg output read now fault → last ≡ None → outcome ≡ Failed fault → (n : ℕ) × Comes n
+  outcome_refused_output fault it none outcome_is =
       let wanted = workers_wanted received in
       let names : map opening_of it.workers ≡ Files = openings_are wanted read it.opened _ it.first it.workers (Ok tt) refl it.opens in
       let opened : it.opened.faults ≡ read.faults = counts_opened wanted cfg read it.opened it.turn it.first it.workers it.opens in
@@ -240,24 +240,24 @@ module _ (Holds : List Entry → Page → Type 0) (output : Option (List ℕ)) (
           does = inl (stops tried.number none
               (unheard_links wanted read it.opened it.tried now _ it.first it.later it.workers (Ok tt) it.opens tried.live it.closes)
               (unwritten_pages wanted read it.opened it.tried now _ it.first it.later it.workers (Ok tt) it.opens tried.pages it.closes)
-              fault came_is tried.why);
+              fault outcome_is tried.why);
           counts = causes_then read.faults it.opened.faults now.faults opened
-              (subst (λ f. HasCausesBeside ((came ≡ Failed faults.Read) × AnyFailed Whole now) it.opened.faults f (came ≡ Failed faults.Read) (came ≡ Failed faults.Write) (came ≡ Failed faults.Open)) (sym closed)
-              (counts_came_none Whole now it.opened.faults it.tried.faults came fault came_is tried.counts tried.why));
+              (subst (λ f. HasCausesBeside ((outcome ≡ Failed faults.Read) × AnyFailed Whole now) it.opened.faults f (outcome ≡ Failed faults.Read) (outcome ≡ Failed faults.Write) (outcome ≡ Failed faults.Open)) (sym closed)
+              (counts_outcome_none Whole now it.opened.faults it.tried.faults outcome fault outcome_is tried.counts tried.why));
         },
       )
 
-  came_of : RunsStation Holds output (config_of received parts) (workers_wanted received) cfg read now last came → (n : ℕ) × Comes n
-  came_of (inl unopened) = (0, came_unopened unopened)
-  came_of (inr (inl it)) = elim it.refused [
-    | inl session ↦ came_refused_session it.fault session it.none it.came_is
-    | inr own ↦ came_refused_output it.fault own it.none it.came_is
+  result_view : RunsStation Holds output (config_of received parts) (workers_wanted received) cfg read now last outcome → (n : ℕ) × Comes n
+  result_view (inl unopened) = (0, outcome_unopened unopened)
+  result_view (inr (inl it)) = elim it.refused [
+    | inl session ↦ outcome_refused_session it.fault session it.none it.outcome_is
+    | inr own ↦ outcome_refused_output it.fault own it.none it.outcome_is
   ]
-  came_of (inr (inr ran)) = (length Whole, came_ran ran)
+  result_view (inr (inr ran)) = (length Whole, outcome_ran ran)
 
-  pub lives_run : (state : State) → Opens (OfSource received.setup ∷ []) 1 before read → StopCauses {A = State} (Ok state) before.faults read.faults → RunsStation Holds output (config_of received parts) (workers_wanted received) cfg read now last came → Lives Holds output received before now last came
+  pub lives_run : (state : State) → Opens (OfSource received.setup ∷ []) 1 before read → StopCauses {A = State} (Ok state) before.faults read.faults → RunsStation Holds output (config_of received parts) (workers_wanted received) cfg read now last outcome → Lives Holds output received before now last outcome
   lives_run state opened causes runs =
-      let it = came_of runs in
+      let it = result_view runs in
       let whole = sym (behind_setup received output) in
       record {
         named = are_files_behind (files_of_receive received) output received.sinks (is.setup.file, are_wanted 0 0 received.links received.sinks is.links_are.each is.sinks_are.each) apart;
@@ -268,19 +268,19 @@ module _ (Holds : List Entry → Page → Type 0) (output : Option (List ℕ)) (
           | inr all ↦ inr (ap suc all.0 ∙ ap length whole, all.1)
         ];
         counts = causes_then before.faults read.faults now.faults (causes_none before.faults read.faults causes (λ e. absurd cc) (λ e. absurd cc) (λ e. absurd cc))
-            (subst (λ (fs : List Opening). HasCausesBeside ((came ≡ Failed faults.Read) × AnyFailed fs now) read.faults now.faults (came ≡ Failed faults.Read) (came ≡ Failed faults.Write) (came ≡ Failed faults.Open)) whole it.1.counts);
+            (subst (λ (fs : List Opening). HasCausesBeside ((outcome ≡ Failed faults.Read) × AnyFailed fs now) read.faults now.faults (outcome ≡ Failed faults.Read) (outcome ≡ Failed faults.Write) (outcome ≡ Failed faults.Open)) whole it.1.counts);
       }
 
 -- the same run, told the configuration of its receiver otherwise
-pub runs_as : {C : Type 0} (Holds : List Entry → Page → Type 0) (output : Option (List ℕ)) (config own : Config) (wanted : List Wanted) (cfg : C) (before now : Told) (last : Option (Ended Entry)) (came : Came)
-    → config ≡ own → RunsStation Holds output config wanted cfg before now last came → RunsStation Holds output own wanted cfg before now last came
-runs_as Holds output config own wanted cfg before now last came same runs = subst (λ (one : Config). RunsStation Holds output one wanted cfg before now last came) same runs
+pub runs_as : {C : Type 0} (Holds : List Entry → Page → Type 0) (output : Option (List ℕ)) (config own : Config) (wanted : List Wanted) (cfg : C) (before now : Told) (last : Option (Ended Entry)) (outcome : OutcomeView)
+    → config ≡ own → RunsStation Holds output config wanted cfg before now last outcome → RunsStation Holds output own wanted cfg before now last outcome
+runs_as Holds output config own wanted cfg before now last outcome same runs = subst (λ (one : Config). RunsStation Holds output one wanted cfg before now last outcome) same runs
 
 -- ---- the commands
 
 -- a live run with no output is one of receive
-pub performs_receive : (Holds : List Entry → Page → Type 0) (arguments : ReceiveArguments) (before now : Told) (last : Option (Ended Entry)) (came : Came) → Lives Holds None arguments before now last came → Performs (receive before.live now.live last) arguments before now came
-performs_receive Holds arguments before now last came it = record {
+pub performs_receive : (Holds : List Entry → Page → Type 0) (arguments : ReceiveArguments) (before now : Told) (last : Option (Ended Entry)) (outcome : OutcomeView) → Lives Holds None arguments before now last outcome → Performs (receive before.live now.live last) arguments before now outcome
+performs_receive Holds arguments before now last outcome it = record {
   named = it.named;
   opened = it.opened;
   opens = it.opens;
@@ -293,15 +293,15 @@ performs_receive Holds arguments before now last came it = record {
     })
     | inr (opened, all) ↦ inr (
       opened ∙ ap suc (length-map (workers_wanted arguments) opening_for),
-      subst (λ (fs : List File). Receives arguments before.live now.live last (file_told before arguments.setup) fs came) (sym (holding.outs_told arguments now)) all.receives,
+      subst (λ (fs : List File). Receives arguments before.live now.live last (file_told before arguments.setup) fs outcome) (sym (holding.outs_told arguments now)) all.receives,
     )
   ];
   counts = it.counts;
 }
 
 -- a live run with an output is one of a command with one output more
-pub performs_with : (form : WithOutput) (arguments : OutputArguments) (before now : Told) (last : Option (Ended Entry)) (came : Came) → Lives (form.Holds arguments) (Some arguments.output) arguments.receive before now last came → Performs (with_output form before.live now.live last) arguments before now came
-performs_with form arguments before now last came it =
+pub performs_with : (form : WithOutput) (arguments : OutputArguments) (before now : Told) (last : Option (Ended Entry)) (outcome : OutcomeView) → Lives (form.Holds arguments) (Some arguments.output) arguments.receive before now last outcome → Performs (with_output form before.live now.live last) arguments before now outcome
+performs_with form arguments before now last outcome it =
     let received : ReceiveArguments = arguments.receive in
     let files : List Opening = map opening_for (workers_wanted received) in
     let behind : List Opening = OfSink arguments.output ∷ [] in
@@ -321,9 +321,9 @@ performs_with form arguments before now last came it =
         })
         | inr (opened, all) ↦ inr (
           opened ∙ ap suc (length-append files behind ∙ omega (arith, length-map (workers_wanted received) opening_for)),
-          subst (λ (fs : List File). Receives received before.live now.live last (file_told before received.setup) fs came) (sym sinks) all.receives,
-          subst (λ (fs : List File). OutputHolds (form.Holds arguments) last fs came) (sym own)
-              (subst (λ (l : Option (Ended Entry)). OutputHolds (form.Holds arguments) l (file_told now arguments.output ∷ []) came) (sym all.last_is) all.holds),
+          subst (λ (fs : List File). Receives received before.live now.live last (file_told before received.setup) fs outcome) (sym sinks) all.receives,
+          subst (λ (fs : List File). OutputHolds (form.Holds arguments) last fs outcome) (sym own)
+              (subst (λ (l : Option (Ended Entry)). OutputHolds (form.Holds arguments) l (file_told now arguments.output ∷ []) outcome) (sym all.last_is) all.holds),
         )
       ];
       counts = it.counts;

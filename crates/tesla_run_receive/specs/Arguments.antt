@@ -3,8 +3,8 @@ use Rattle.std.specs.Prelude.{◌≡◌, ◌≢◌, ℕ, ℤ, List, [], ◌∷�
 use Rattle.std.specs.Fmt.{signed_decimal}
 use Rattle.std.specs.Int.{w64}
 use Rattle.tesla_desk.specs.Outside.{Opening, OfSource}
-use Rattle.tesla_front.specs.Words.{IsName, ArePlaces}
-use Rattle.tesla_front.specs.declared.words.Places.{Places}
+use Rattle.tesla_front.specs.Words.{IsName, ArePacketLimits}
+use Rattle.tesla_front.specs.declared.words.PacketLimits.{PacketLimits}
 use Rattle.tesla_front.specs.Names.{AreNames}
 use Rattle.tesla_session.specs.Wanted.{Wanted, opening_for, wanted_for}
 use Rattle.tesla_run_receive.specs.declared.arguments.Arguments.{Arguments}
@@ -13,14 +13,14 @@ use Rattle.tesla_run_receive.specs.declared.arguments.Arguments.{Arguments}
 pub record ReceiveArguments : Type 0 where
   pub setup : List ℕ
   pub lag : ℤ
-  pub places : Places
+  pub limits : PacketLimits
   pub links : List (List ℕ)
   pub sinks : List (List ℕ)
 
 -- what the words that were read ask for
 abbrev pub arguments_of : Arguments → ReceiveArguments
 arguments_of words =
-    record { setup = words.setup.now; lag = words.lag; places = words.places; links = words.links; sinks = words.sinks }
+    record { setup = words.setup.now; lag = words.lag; limits = words.limits; links = words.links; sinks = words.sinks }
 
 -- none of the names is this one
 abbrev pub AreOthers : List ℕ → List (List ℕ) → Type 0
@@ -34,7 +34,7 @@ pub record IsReceive (arguments : ReceiveArguments) (words : List (List ℕ)) : 
   pub sinks : List ℕ
   pub spelled : words ≡ codes "receive" ∷ arguments.setup ∷ signed_decimal arguments.lag ∷ capacity ∷ links ∷ sinks ∷ []
   pub lag : FitsSigned w64 arguments.lag
-  pub places : ArePlaces capacity arguments.places
+  pub limits : ArePacketLimits capacity arguments.limits
   pub setup : IsName arguments.setup
   pub links_are : AreNames links arguments.links
   pub sinks_are : AreNames sinks arguments.sinks

@@ -2,7 +2,7 @@
 use Rattle.std.specs.Prelude.{◌≡◌, ◌⊎◌, ℕ, suc, true, List, [], ◌∷◌, ◌++◌, length, take, drop, Option, Some}
 use Rattle.tesla_desk.specs.Live.{Live}
 use Rattle.tesla_desk.specs.Outside.{Opening, OfSink, Page, Holds}
-use Rattle.tesla_front.specs.Came.{Came, Failed}
+use Rattle.tesla_front.specs.OutcomeView.{OutcomeView, Failed}
 use Rattle.tesla_front.specs.Command.{Command}
 use Rattle.tesla_front.specs.Openings.{File}
 use Rattle.tesla_front.specs.declared.fault.Fault.TheVariants.{Read, Write}
@@ -19,27 +19,27 @@ pub record WithOutput : Type 1 where
   pub Holds : OutputArguments → List Entry → Page → Type 0
 
 -- where the output failed, a link or an output is told to have failed
-abbrev pub TellsFailed : Page → Came → Type 0
-TellsFailed (Holds bytes true) came = (came ≡ Failed Read) ⊎ (came ≡ Failed Write)
-TellsFailed _ came = Unit {0}
+abbrev pub TellsFailed : Page → OutcomeView → Type 0
+TellsFailed (Holds bytes true) outcome = (outcome ≡ Failed Read) ⊎ (outcome ≡ Failed Write)
+TellsFailed _ outcome = Unit {0}
 
 -- what is opened, in order: the setup, the links, the sinks and the output
 abbrev pub files_with : ReceiveArguments → List ℕ → List Opening
 files_with arguments output = files_of_receive arguments ++ OfSink output ∷ []
 
 -- the output, as the only file behind the sinks, told the history that was made
-abbrev pub OutputHolds : (List Entry → Page → Type 0) → Option (Ended Entry) → List File → Came → Type 0
-OutputHolds Told (Some end) (output ∷ []) came = Told (entries end.history) output.page × TellsFailed output.page came
-OutputHolds Told _ _ came = ⊥
+abbrev pub OutputHolds : (List Entry → Page → Type 0) → Option (Ended Entry) → List File → OutcomeView → Type 0
+OutputHolds Told (Some end) (output ∷ []) outcome = Told (entries end.history) output.page × TellsFailed output.page outcome
+OutputHolds Told _ _ outcome = ⊥
 
 -- what the run does: nothing was received, nor written to an output; or all was opened, a history was received, and the output holds what the form says of it
-abbrev pub DoesWith : ReceiveArguments → (List Entry → Page → Type 0) → Live → Live → Option (Ended Entry) → ℕ → List File → List File → Came → Type 0
-DoesWith arguments Told before now last opened (setup ∷ files) (setup_now ∷ files_now) came =
-    Stops arguments opened before now last setup (drop (length arguments.links) files) (drop (length arguments.links) files_now) came
+abbrev pub DoesWith : ReceiveArguments → (List Entry → Page → Type 0) → Live → Live → Option (Ended Entry) → ℕ → List File → List File → OutcomeView → Type 0
+DoesWith arguments Told before now last opened (setup ∷ files) (setup_now ∷ files_now) outcome =
+    Stops arguments opened before now last setup (drop (length arguments.links) files) (drop (length arguments.links) files_now) outcome
     ⊎ ((opened ≡ suc (suc (length (workers_wanted arguments))))
-    × Receives arguments before now last setup (take (length arguments.sinks) (drop (length arguments.links) files_now)) came
-    × OutputHolds Told last (drop (length arguments.sinks) (drop (length arguments.links) files_now)) came)
-DoesWith arguments Told before now last opened files files_now came = ⊥
+    × Receives arguments before now last setup (take (length arguments.sinks) (drop (length arguments.links) files_now)) outcome
+    × OutputHolds Told last (drop (length arguments.sinks) (drop (length arguments.links) files_now)) outcome)
+DoesWith arguments Told before now last opened files files_now outcome = ⊥
 
 -- the command of a form, told what the desk has of links and clocks before and afterwards, and the end of the turn where there was one: its words, its files and what it does
 abbrev pub with_output : WithOutput → Live → Live → Option (Ended Entry) → Command

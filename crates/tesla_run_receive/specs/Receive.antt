@@ -9,7 +9,7 @@ use Rattle.tesla_desk.specs.Live.{Live, Wire, UntoldWire, AbsentWire, HoldsWire,
 use Rattle.tesla_desk.specs.Outside.{Page, Untold, Absent, Holds}
 use Rattle.tesla_desk.specs.declared.link.Letter.{Letter}
 use Rattle.tesla_fitting.specs.declared.config.Config.{Config}
-use Rattle.tesla_front.specs.Came.{Came, Done, Refused, Failed}
+use Rattle.tesla_front.specs.OutcomeView.{OutcomeView, Done, Refused, Failed}
 use Rattle.tesla_front.specs.Command.{Command}
 use Rattle.tesla_front.specs.Files.{IsPrefix, IsUnwritten}
 use Rattle.tesla_front.specs.Openings.{File}
@@ -33,7 +33,7 @@ use Rattle.tesla_session.specs.Session.{calls_most, spent_line}
 -- the configuration of the receiver: that of the words, with an ingest for each link
 abbrev pub config_of : ReceiveArguments → Parts → Config
 config_of arguments setup =
-    record { setup = setup; lag = arguments.lag; capacity = arguments.places.capacity; quota = arguments.places.quota; ingests = length arguments.links }
+    record { setup = setup; lag = arguments.lag; capacity = arguments.limits.capacity; quota = arguments.limits.quota; ingests = length arguments.links }
 
 -- ---- links
 
@@ -78,9 +78,9 @@ pub record BreaksOff (answers : List Reply) (written : List ℕ) : Type 0 where
   pub others : List Reply
   pub last : Reply
   pub answers_are : answers ≡ others ++ last ∷ []
-  pub front : List ℕ
-  pub front_is : IsPrefix (record_in last) front
-  pub written_is : written ≡ records others ++ front
+  pub prefix : List ℕ
+  pub prefix_is : IsPrefix (record_in last) prefix
+  pub written_is : written ≡ records others ++ prefix
 
 abbrev pub HoldsRecords : ℕ → List Entry → Page → Type 0
 HoldsRecords releaser history Untold = Unit {0}
@@ -106,7 +106,7 @@ pub record HasSpent (links sinks : ℕ) (history : List Entry) : Type 0 where
   pub spent : ((number < links) × (calls_most ≤ entries_of_ingest number history)) ⊎ ((number < sinks) × (calls_most ≤ length (replies_by number history)))
 
 -- what it comes to: the report, where all that is released was given; a link or a sink that failed; or calls that were spent
-abbrev pub EndsAs : ReceiveArguments → Config → List Entry → Came → Type 0
+abbrev pub EndsAs : ReceiveArguments → Config → List Entry → OutcomeView → Type 0
 EndsAs arguments cfg history (Done text) = (text ≡ report_text (report_of history)) × (given_in history ≡ length (released cfg (arrivals_in history)))
 EndsAs arguments cfg history (Failed faults.Read) = Unit {0}
 EndsAs arguments cfg history (Failed faults.Write) = Unit {0}
@@ -114,7 +114,7 @@ EndsAs arguments cfg history (Refused status line) = (status ≡ 11) × (line �
 EndsAs arguments cfg history _ = ⊥
 
 -- under the setup one legal history was made of the links, and the sinks hold what it gives
-pub record Receives (arguments : ReceiveArguments) (before now : Live) (last : Option (Ended Entry)) (setup : File) (outs : List File) (came : Came) : Type 0 where
+pub record Receives (arguments : ReceiveArguments) (before now : Live) (last : Option (Ended Entry)) (setup : File) (outs : List File) (outcome : OutcomeView) : Type 0 where
   pub parts : Parts
   pub found : IsSetupIn setup.page parts
   pub end : Ended Entry
@@ -126,7 +126,7 @@ pub record Receives (arguments : ReceiveArguments) (before now : Live) (last : O
   pub heard : HeardLinks 0 arguments.links before now (entries end.history)
   pub held : HeldSinks 0 outs (entries end.history)
   pub ended : (ingest : ℕ) → ingest < length arguments.links → has_end (entries end.history) ingest ≡ true
-  pub came_is : EndsAs arguments (config_of arguments parts) (entries end.history) came
+  pub outcome_is : EndsAs arguments (config_of arguments parts) (entries end.history) outcome
 
 -- ---- nothing was received
 
@@ -142,18 +142,18 @@ UnwrittenSinks (before ∷ befores) [] = ⊥
 UnwrittenSinks (before ∷ befores) (out ∷ outs) = ((out.page ≡ before.page) ⊎ IsUnwritten out.page) × UnwrittenSinks befores outs
 
 -- there was no setup, and nothing else was opened; an opening was refused, or there was no memory
-pub record Stops (arguments : ReceiveArguments) (opened : ℕ) (before now : Live) (last : Option (Ended Entry)) (setup : File) (outs outs_now : List File) (came : Came) : Type 0 where
+pub record Stops (arguments : ReceiveArguments) (opened : ℕ) (before now : Live) (last : Option (Ended Entry)) (setup : File) (outs outs_now : List File) (outcome : OutcomeView) : Type 0 where
   pub none : last ≡ None
   pub unheard : UnheardLinks arguments.links before now
   pub unwritten : UnwrittenSinks outs outs_now
-  pub cause : (IsNoSetup setup.page came × (opened ≤ 1)) ⊎ (came ≡ Failed faults.Open) ⊎ (came ≡ Failed faults.NoMemory)
+  pub cause : (IsNoSetup setup.page outcome × (opened ≤ 1)) ⊎ (outcome ≡ Failed faults.Open) ⊎ (outcome ≡ Failed faults.NoMemory)
 
 -- what the run does: nothing was received; or all was opened, and a history was received
-abbrev pub DoesReceive : Live → Live → Option (Ended Entry) → ReceiveArguments → ℕ → List File → List File → Came → Type 0
-DoesReceive before now last arguments opened (setup ∷ files) (setup_now ∷ files_now) came =
-    Stops arguments opened before now last setup (drop (length arguments.links) files) (drop (length arguments.links) files_now) came
-    ⊎ ((opened ≡ suc (length (workers_wanted arguments))) × Receives arguments before now last setup (drop (length arguments.links) files_now) came)
-DoesReceive before now last arguments opened files files_now came = ⊥
+abbrev pub DoesReceive : Live → Live → Option (Ended Entry) → ReceiveArguments → ℕ → List File → List File → OutcomeView → Type 0
+DoesReceive before now last arguments opened (setup ∷ files) (setup_now ∷ files_now) outcome =
+    Stops arguments opened before now last setup (drop (length arguments.links) files) (drop (length arguments.links) files_now) outcome
+    ⊎ ((opened ≡ suc (length (workers_wanted arguments))) × Receives arguments before now last setup (drop (length arguments.links) files_now) outcome)
+DoesReceive before now last arguments opened files files_now outcome = ⊥
 
 -- the command, told what the desk has of links and clocks before and afterwards, and the end of the turn where there was one: its words, its files and what it does
 abbrev pub receive : Live → Live → Option (Ended Entry) → Command

@@ -4,14 +4,14 @@ use Rattle.std.specs.List.{list_any}
 use Rattle.tesla_desk.specs.Faults.{HasCause}
 use Rattle.tesla_desk.specs.Outside.{Told, Opening, OfSink, Page, OpensSink, ClosesSink, MakesClock, page_of}
 use Rattle.tesla_fitting.specs.declared.config.Config.{Config}
-use Rattle.tesla_front.specs.Came.{Came, Failed}
+use Rattle.tesla_front.specs.OutcomeView.{OutcomeView, Failed}
 use Rattle.tesla_front.specs.declared.fault.Fault.{Fault}
 use Rattle.tesla_front.specs.declared.fault.Fault.TheVariants.{NoMemory}
 use Rattle.tesla_receiver.specs.History.{IsLegal}
 use Rattle.tesla_receiver.specs.Report.{report_of}
 use Rattle.tesla_receiver.specs.declared.history.Entry.{Entry}
 use Rattle.tesla_run_replay.specs.ReportText.{report_text}
-use Rattle.tesla_session.specs.Session.{ClosesWorkers, OpensAll, PassSeen, RefusedSession, RefusesWorker, RunsOpened, Seen, came_by, has_spent, link_failed, sink_failed, stop_by}
+use Rattle.tesla_session.specs.Session.{ClosesWorkers, OpensAll, PassSeen, RefusedSession, RefusesWorker, RunsOpened, Seen, outcome_by, has_spent, link_failed, sink_failed, stop_by}
 use Rattle.tesla_session.specs.Wanted.{Wanted, WantedSink}
 use Rattle.tesla_turn.specs.Held.{Ended, TurnId}
 use Rattle.tesla_turn.specs.History.{entries}
@@ -48,10 +48,10 @@ EndsBehind Holds (Some output) history before now failed = EndsOutput Holds outp
 -- ---- a run
 
 -- there was no memory, and nothing was opened
-pub record Unopened (before now : Told) (last : Option (Ended Entry)) (came : Came) : Type 0 where
+pub record Unopened (before now : Told) (last : Option (Ended Entry)) (outcome : OutcomeView) : Type 0 where
   pub same : now ≡ before
   pub none : last ≡ None
-  pub came_is : came ≡ Failed NoMemory
+  pub outcome_is : outcome ≡ Failed NoMemory
 
 module _ {C : Type 0} where
   -- the opening of the output was refused, and the workers were closed
@@ -67,26 +67,26 @@ module _ {C : Type 0} where
     pub closes : ClosesWorkers workers tried now first later
 
   -- the opening of a link, of a sink or of the output was refused, and what was opened before was closed
-  pub record Refused (wanted : List Wanted) (cfg : C) (output : Option (List ℕ)) (before now : Told) (last : Option (Ended Entry)) (came : Came) : Type 0 where
+  pub record Refused (wanted : List Wanted) (cfg : C) (output : Option (List ℕ)) (before now : Told) (last : Option (Ended Entry)) (outcome : OutcomeView) : Type 0 where
     pub fault : Fault
     pub refused : RefusedSession wanted cfg before now fault ⊎ RefusedOutput wanted cfg output before now fault
     pub none : last ≡ None
-    pub came_is : came ≡ Failed fault
+    pub outcome_is : outcome ≡ Failed fault
 
   -- workers that are opened did their work and were closed, and then the output was: one legal history was made, and the report is its own
-  pub record RunsBegun (Holds : List Entry → Page → Type 0) (output : Option (List ℕ)) (config : Config) (first : PassSeen C) (workers : List (Seen C)) (running now : Told) (last : Option (Ended Entry)) (came : Came) : Type 0 where
+  pub record RunsBegun (Holds : List Entry → Page → Type 0) (output : Option (List ℕ)) (config : Config) (first : PassSeen C) (workers : List (Seen C)) (running now : Told) (last : Option (Ended Entry)) (outcome : OutcomeView) : Type 0 where
     pub closed : Told
     pub end : Ended Entry
-    pub stop : Option Came
+    pub stop : Option OutcomeView
     pub ran : RunsOpened first workers running closed end stop
     pub failed : Bool
     pub ends : EndsBehind Holds output (entries end.history) closed now failed
     pub last_is : last ≡ Some end
     pub legal : IsLegal config (entries end.history)
-    pub came_is : came ≡ came_by (stop_by (list_any link_failed ran.done) (list_any sink_failed ran.done || failed) (list_any has_spent ran.done)) (report_text (report_of (entries end.history)))
+    pub outcome_is : outcome ≡ outcome_by (stop_by (list_any link_failed ran.done) (list_any sink_failed ran.done || failed) (list_any has_spent ran.done)) (report_text (report_of (entries end.history)))
 
   -- all was opened, and the workers did their work
-  pub record Ran (Holds : List Entry → Page → Type 0) (output : Option (List ℕ)) (config : Config) (wanted : List Wanted) (cfg : C) (before now : Told) (last : Option (Ended Entry)) (came : Came) : Type 0 where
+  pub record Ran (Holds : List Entry → Page → Type 0) (output : Option (List ℕ)) (config : Config) (wanted : List Wanted) (cfg : C) (before now : Told) (last : Option (Ended Entry)) (outcome : OutcomeView) : Type 0 where
     pub turn : TurnId
     pub first : PassSeen C
     pub workers : List (Seen C)
@@ -94,9 +94,9 @@ module _ {C : Type 0} where
     pub opens : OpensAll wanted cfg before opened turn first workers
     pub running : Told
     pub behind : OpensBehind output opened running
-    pub runs : RunsBegun Holds output config first workers running now last came
+    pub runs : RunsBegun Holds output config first workers running now last outcome
 
   -- what a run comes to, told what the output then holds of the history, the configuration of the receiver and that of the station
-  abbrev pub RunsStation : (List Entry → Page → Type 0) → Option (List ℕ) → Config → List Wanted → C → Told → Told → Option (Ended Entry) → Came → Type 0
-  RunsStation Holds output config wanted cfg before now last came =
-      Unopened before now last came ⊎ Refused wanted cfg output before now last came ⊎ Ran Holds output config wanted cfg before now last came
+  abbrev pub RunsStation : (List Entry → Page → Type 0) → Option (List ℕ) → Config → List Wanted → C → Told → Told → Option (Ended Entry) → OutcomeView → Type 0
+  RunsStation Holds output config wanted cfg before now last outcome =
+      Unopened before now last outcome ⊎ Refused wanted cfg output before now last outcome ⊎ Ran Holds output config wanted cfg before now last outcome

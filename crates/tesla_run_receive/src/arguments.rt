@@ -2,7 +2,7 @@
 
 ghost use Rattle.std.specs.Prelude.{◌≤◌};
 
-use tesla_front::{Names, Places};
+use tesla_front::{Names, PacketLimits};
 
 /// What the words `receive SETUP LAG CAPACITY LINKS SINKS` ask for.
 #[derive(Drop)]
@@ -12,12 +12,12 @@ pub struct Arguments<'a> {
     /// How many microseconds the sender's clock is ahead of the receiver's at most (RFC 4082, section 3.3: `D_t`).
     pub lag: i64,
     /// How many packets the receiver holds at most.
-    pub places: Places,
+    pub limits: PacketLimits,
     /// The names of the links, 1 to 32.
     pub links: Names<'a>,
     /// The names of the sinks, 1 to 32.
     pub sinks: Names<'a>,
-    ghost some: { 1 ≤ places.quota },
-    ghost within: { places.quota ≤ places.capacity },
-    ghost most: { places.capacity ≤ 65536 },
+    ghost some: { 1 ≤ limits.quota },
+    ghost within: { limits.quota ≤ limits.capacity },
+    ghost most: { limits.capacity ≤ 65536 },
 }

@@ -2,9 +2,9 @@
 
 ghost use Rattle.std.specs.Prelude.{◌≡◌, ◌||◌, Bool, not};
 ghost use Rattle.std.specs.Option.{option_map};
-ghost use Rattle.tesla_front.specs.Came.{came_of, stop_came};
+ghost use Rattle.tesla_front.specs.OutcomeView.{result_view, stop_view};
 ghost use Rattle.tesla_run_replay.specs.ReportText.{report_text};
-ghost use Rattle.tesla_session.specs.Session.{came_by, stop_by};
+ghost use Rattle.tesla_session.specs.Session.{outcome_by, stop_by};
 
 use tesla_front::{Fault, Lines, Stop};
 use tesla_receiver::Report;
@@ -13,7 +13,7 @@ use tesla_run_replay::report_lines;
 /// Why the run came to no end, where the output was written or failed: a link that failed comes first, and a failed write before
 /// calls that were spent.
 pub(crate) fn stop_with(stop: Option<Stop>, written: bool) -> Option<Stop>
-    ensures { (read write spent : Bool) → option_map stop_came stop ≡ stop_by read write spent → option_map stop_came result ≡ stop_by read (write || not written) spent }
+    ensures { (read write spent : Bool) → option_map stop_view stop ≡ stop_by read write spent → option_map stop_view result ≡ stop_by read (write || not written) spent }
 {
     if written {
         return stop;
@@ -26,7 +26,7 @@ pub(crate) fn stop_with(stop: Option<Stop>, written: bool) -> Option<Stop>
 
 /// What workers that ended so come to, told the counts.
 pub(crate) fn ended(stop: Option<Stop>, report: &Report) -> Result<Lines, Stop>
-    ensures { came_of result ≡ came_by (option_map stop_came stop) (report_text report.now) }
+    ensures { result_view result ≡ outcome_by (option_map stop_view stop) (report_text report.now) }
 {
     match stop {
         Some(stop) => Err(stop),

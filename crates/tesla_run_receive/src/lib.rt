@@ -16,7 +16,7 @@ mod words;
 pub use arguments::Arguments;
 pub use extra::{Extra, Idle};
 pub use forms::RECEIVE;
-pub use live::{Came, run_station};
+pub use live::{StationResult, run_station};
 pub use output_arguments::OutputWords;
 pub use output_form::{Form, Order};
 pub use output_words::output_words_in;

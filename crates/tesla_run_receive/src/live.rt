@@ -2,7 +2,7 @@
 
 ghost use Rattle.std.specs.Prelude.{◌≡◌, ◌≤◌, ◌+◌, [], List, Some, length, vec_capacity};
 ghost use Rattle.tesla_desk.specs.Outside.{Told};
-ghost use Rattle.tesla_front.specs.Came.{came_of};
+ghost use Rattle.tesla_front.specs.OutcomeView.{result_view};
 ghost use Rattle.tesla_receiver.specs.History.{IsLegal};
 ghost use Rattle.tesla_receiver.specs.Report.{report_of};
 ghost use Rattle.tesla_receiver.specs.declared.history.Entry.{Entry};
@@ -26,7 +26,7 @@ use tesla_shared::Station;
 use tesla_turn::Last;
 
 /// What a live run comes to, with the whole history where there is one.
-pub type Came<V> = (Result<Lines, Stop>, Option<Last<V>>);
+pub type StationResult<V> = (Result<Lines, Stop>, Option<Last<V>>);
 
 /// Runs the workers that the words ask for over a station with no history. All memory is taken; then the links are opened in
 /// order, each with the next clock, the sinks, and what is beside the workers. It waits for the links.
@@ -37,11 +37,11 @@ pub fn run_station<R: Threads + Wait + Sync, D: Desk, V: Station + Send, E: Extr
     station: V,
     extra: E,
     desk: &mut D,
-) -> Came<V>
+) -> StationResult<V>
     requires few { AreFew (arguments_of arguments.now) }
     requires stands { V.stands station [] }
     requires fits { E.fits extra (V.config station) }
-    ensures { RunsStation (E.holds extra) (E.output extra) (V.receiver (V.config station)) (workers_wanted (arguments_of arguments.now)) (V.config station) (D.told desk.old) (D.told desk.new) result.1 (came_of result.0) }
+    ensures { RunsStation (E.holds extra) (E.output extra) (V.receiver (V.config station)) (workers_wanted (arguments_of arguments.now)) (V.config station) (D.told desk.old) (D.told desk.new) result.1 (result_view result.0) }
 {
     match prepared(alloc, station, &arguments.links, &arguments.sinks) {
         Ok(session) => run_session(rt, arguments, session, extra, desk),
@@ -56,13 +56,13 @@ fn run_session<R: Threads + Wait + Sync, D: Desk, V: Station + Send, E: Extra<D,
     session: Session<D, V>,
     extra: E,
     desk: &mut D,
-) -> Came<V>
+) -> StationResult<V>
     requires few { AreFew (arguments_of arguments.now) }
     requires links { (session.links.items ≡ []) × (length arguments.now.links ≤ vec_capacity session.links) }
     requires sinks { (session.sinks.items ≡ []) × (length arguments.now.sinks ≤ vec_capacity session.sinks) }
     requires first { (cfg : V.Config) × (session.first ≡ first_pass session.turn cfg (1 + length arguments.now.links + length arguments.now.sinks) calls_most) × E.fits extra cfg }
     ensures { (cfg : V.Config) → session.first ≡ first_pass session.turn cfg (1 + length arguments.now.links + length arguments.now.sinks) calls_most → E.fits extra cfg →
-        RunsStation (E.holds extra) (E.output extra) (V.receiver cfg) (workers_wanted (arguments_of arguments.now)) cfg (D.told desk.old) (D.told desk.new) result.1 (came_of result.0) }
+        RunsStation (E.holds extra) (E.output extra) (V.receiver cfg) (workers_wanted (arguments_of arguments.now)) cfg (D.told desk.old) (D.told desk.new) result.1 (result_view result.0) }
 {
     match open_session(&arguments.links, &arguments.sinks, session, desk) {
         Ok(session) => run_behind(rt, session, extra, desk),
@@ -76,10 +76,10 @@ fn run_behind<R: Threads + Wait + Sync, D: Desk, V: Station + Send, E: Extra<D, 
     session: Session<D, V>,
     extra: E,
     desk: &mut D,
-) -> Came<V>
+) -> StationResult<V>
     requires { (wanted : List Wanted) × (cfg : V.Config) × (before : Told) × OpensAll wanted cfg before (D.told desk.old) session.turn session.first (workers_of session.links.items session.sinks.items) × E.fits extra cfg }
     ensures { (wanted : List Wanted) (cfg : V.Config) (before : Told) → OpensAll wanted cfg before (D.told desk.old) session.turn session.first (workers_of session.links.items session.sinks.items) → E.fits extra cfg →
-        RunsStation (E.holds extra) (E.output extra) (V.receiver cfg) wanted cfg before (D.told desk.new) result.1 (came_of result.0) }
+        RunsStation (E.holds extra) (E.output extra) (V.receiver cfg) wanted cfg before (D.told desk.new) result.1 (result_view result.0) }
 {
     match extra.begin(desk) {
         Ok(beside) => run_begun::<R, D, V, E>(rt, session, beside, desk),
@@ -104,10 +104,10 @@ fn run_begun<R: Threads + Wait + Sync, D: Desk, V: Station + Send, E: Extra<D, V
     session: Session<D, V>,
     mut beside: E::Begun,
     desk: &mut D,
-) -> Came<V>
+) -> StationResult<V>
     requires opened { (wanted : List Wanted) × (cfg : V.Config) × (before : Told) × (now : Told) × (extra : E) × OpensAll wanted cfg before now session.turn session.first (workers_of session.links.items session.sinks.items) × E.is_begun extra cfg beside }
     ensures { (cfg : V.Config) (extra : E) → session.first.config ≡ Some cfg → E.is_begun extra cfg beside →
-        RunsBegun (E.holds extra) (E.output extra) (V.receiver cfg) session.first (workers_of session.links.items session.sinks.items) (D.told desk.old) (D.told desk.new) result.1 (came_of result.0) }
+        RunsBegun (E.holds extra) (E.output extra) (V.receiver cfg) session.first (workers_of session.links.items session.sinks.items) (D.told desk.old) (D.told desk.new) result.1 (result_view result.0) }
 {
     let Ran {
         stop,

@@ -3,7 +3,7 @@
 ghost use Rattle.std.specs.Prelude.{◌≡◌, [], ◌∷◌, ℕ, List, None, IfErr, IfOk, map, string_bytes};
 ghost use Rattle.tesla_commit.specs.Parts.{Parts};
 ghost use Rattle.tesla_desk.specs.Outside.{OfSource};
-ghost use Rattle.tesla_front.specs.Came.{Usage, came_of, outcome_came, stop_came};
+ghost use Rattle.tesla_front.specs.OutcomeView.{Usage, result_view, outcome_view, stop_view};
 ghost use Rattle.tesla_front.specs.Command.{Performs, RunsAs};
 ghost use Rattle.tesla_front.specs.Openings.{Opens, OpensSome};
 ghost use Rattle.tesla_front.specs.Refusal.{StopCauses};
@@ -14,7 +14,7 @@ ghost use Rattle.tesla_run_receive.specs.Receive.{config_of, receive};
 
 use crate::arguments::Arguments;
 use crate::extra::NoExtra;
-use crate::live::{Came, run_station};
+use crate::live::{StationResult, run_station};
 use crate::words::arguments_in;
 use std::alloc::Global;
 use std::sync::Wait;
@@ -37,14 +37,14 @@ pub fn run_receive<R: Threads + Wait + Sync, D: Desk>(
     words: &[String],
     desk: &mut D,
 ) -> LiveRun<Last<Receiver>>
-    ensures runs { RunsAs (receive (D.told desk.old).live (D.told desk.new).live result.last) (map string_bytes words.now) (D.told desk.old) (D.told desk.new) (outcome_came result.outcome) }
-    ensures none { outcome_came result.outcome ≡ Usage → result.last ≡ None }
+    ensures runs { RunsAs (receive (D.told desk.old).live (D.told desk.new).live result.last) (map string_bytes words.now) (D.told desk.old) (D.told desk.new) (outcome_view result.outcome) }
+    ensures none { outcome_view result.outcome ≡ Usage → result.last ≡ None }
 {
     match arguments_in(words) {
         Some(arguments) => {
-            let (came, last) = perform(rt, alloc, &arguments, desk);
+            let (outcome, last) = perform(rt, alloc, &arguments, desk);
             LiveRun {
-                outcome: outcome_of(came),
+                outcome: outcome_of(outcome),
                 last,
             }
         }
@@ -58,9 +58,9 @@ fn perform<R: Threads + Wait + Sync, D: Desk>(
     alloc: Global,
     arguments: &Arguments<'_>,
     desk: &mut D,
-) -> Came<Receiver>
+) -> StationResult<Receiver>
     requires form { (spelled : List (List ℕ)) × IsReceive (arguments_of arguments.now) spelled }
-    ensures { Performs (receive (D.told desk.old).live (D.told desk.new).live result.1) (arguments_of arguments.now) (D.told desk.old) (D.told desk.new) (came_of result.0) }
+    ensures { Performs (receive (D.told desk.old).live (D.told desk.new).live result.1) (arguments_of arguments.now) (D.told desk.old) (D.told desk.new) (result_view result.0) }
 {
     match receiver_under(alloc, arguments, desk) {
         Ok(receiver) => run_station(rt, alloc, arguments, receiver, NoExtra, desk),
@@ -78,13 +78,13 @@ fn new_receiver(
     ensures stands { IfOk result (λ receiver. Stands receiver []) }
     ensures config { IfOk result (λ receiver. receiver.config ≡ config_of (arguments_of arguments.now) setup) }
 {
-    let places = arguments.places;
+    let limits = arguments.limits;
     Receiver::open(
         alloc,
         setup,
         arguments.lag,
-        places.capacity,
-        places.quota,
+        limits.capacity,
+        limits.quota,
         arguments.links.len() as u8,
     )
 }
@@ -99,7 +99,7 @@ pub fn receiver_under<D: Desk>(
     requires few { AreFew (arguments_of arguments.now) }
     ensures stands { IfOk result (λ receiver. Stands receiver []) }
     ensures found { IfOk result (λ receiver. (setup : Parts) × IsSetupIn ((D.told desk.old).page arguments.now.setup.now) setup × (receiver.config ≡ config_of (arguments_of arguments.now) setup)) }
-    ensures refused { IfErr result (λ stop. IsNoSetup ((D.told desk.old).page arguments.now.setup.now) (stop_came stop)) }
+    ensures refused { IfErr result (λ stop. IsNoSetup ((D.told desk.old).page arguments.now.setup.now) (stop_view stop)) }
     ensures opened { IfOk result (λ _. Opens (OfSource arguments.now.setup.now ∷ []) 1 (D.told desk.old) (D.told desk.new)) }
     ensures opens { OpensSome (OfSource arguments.now.setup.now ∷ []) (D.told desk.old) (D.told desk.new) }
     ensures pages { (n : List ℕ) → (D.told desk.new).page n ≡ (D.told desk.old).page n }

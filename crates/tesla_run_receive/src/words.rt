@@ -6,7 +6,7 @@ ghost use Rattle.tesla_session.specs.Session.{name_of};
 
 use crate::arguments::Arguments;
 use tesla_base::read_signed;
-use tesla_front::{is_name, places_in, read_names};
+use tesla_front::{is_name, limits_in, read_names};
 
 /// The name of the command.
 const NAME: &str = "receive";
@@ -44,7 +44,7 @@ pub fn read_words<'a>(
     let Ok(lag) = read_signed(lag) else {
         return None;
     };
-    let Some(places) = places_in(capacity) else {
+    let Some(limits) = limits_in(capacity) else {
         return None;
     };
     let Some(links) = read_names(links) else {
@@ -59,7 +59,7 @@ pub fn read_words<'a>(
     Some(Arguments {
         setup,
         lag,
-        places,
+        limits,
         links,
         sinks,
     })

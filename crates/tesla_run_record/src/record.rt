@@ -2,7 +2,7 @@
 
 ghost use Rattle.std.specs.Prelude.{◌≡◌, ◌≤◌, [], ℕ, List, Some, None, map, string_bytes};
 ghost use Rattle.tesla_fitting.specs.declared.config.Config.{Config};
-ghost use Rattle.tesla_front.specs.Came.{Usage, came_of, outcome_came};
+ghost use Rattle.tesla_front.specs.OutcomeView.{Usage, result_view, outcome_view};
 ghost use Rattle.tesla_front.specs.Command.{Performs, RunsAs};
 ghost use Rattle.tesla_receiver.specs.Stands.{Stands};
 ghost use Rattle.tesla_recorder.specs.declared.recorded.RecordedConfig.{RecordedConfig};
@@ -21,7 +21,7 @@ use tesla_desk::Desk;
 use tesla_front::{Fault, LiveRun, Outcome, Stop, outcome_of, without_history};
 use tesla_receiver::Receiver;
 use tesla_recorder::Recorded;
-use tesla_run_receive::{Came, OutputWords, output_words_in, receiver_under, run_station};
+use tesla_run_receive::{OutputWords, StationResult, output_words_in, receiver_under, run_station};
 use tesla_turn::Last;
 
 /// Runs the words as those of `record`.
@@ -35,14 +35,14 @@ pub fn run_record<R: Threads + Wait + Sync, D: Desk>(
     words: &[String],
     desk: &mut D,
 ) -> LiveRun<Last<Recorded>>
-    ensures runs { RunsAs (recording (D.told desk.old).live (D.told desk.new).live result.last) (map string_bytes words.now) (D.told desk.old) (D.told desk.new) (outcome_came result.outcome) }
-    ensures none { outcome_came result.outcome ≡ Usage → result.last ≡ None }
+    ensures runs { RunsAs (recording (D.told desk.old).live (D.told desk.new).live result.last) (map string_bytes words.now) (D.told desk.old) (D.told desk.new) (outcome_view result.outcome) }
+    ensures none { outcome_view result.outcome ≡ Usage → result.last ≡ None }
 {
     match output_words_in(&WORDS, words) {
         Some(arguments) => {
-            let (came, last) = perform(rt, alloc, &arguments, desk);
+            let (outcome, last) = perform(rt, alloc, &arguments, desk);
             LiveRun {
-                outcome: outcome_of(came),
+                outcome: outcome_of(outcome),
                 last,
             }
         }
@@ -56,9 +56,9 @@ fn perform<R: Threads + Wait + Sync, D: Desk>(
     alloc: Global,
     arguments: &OutputWords<'_>,
     desk: &mut D,
-) -> Came<Recorded>
+) -> StationResult<Recorded>
     requires form { (spelled : List (List ℕ)) × IsRecord (arguments_of arguments.now) spelled }
-    ensures { Performs (recording (D.told desk.old).live (D.told desk.new).live result.1) (arguments_of arguments.now) (D.told desk.old) (D.told desk.new) (came_of result.0) }
+    ensures { Performs (recording (D.told desk.old).live (D.told desk.new).live result.1) (arguments_of arguments.now) (D.told desk.old) (D.told desk.new) (result_view result.0) }
 {
     match receiver_under(alloc, &arguments.receive, desk) {
         Ok(receiver) => run_recorded(rt, alloc, arguments, receiver, desk),
@@ -73,11 +73,11 @@ fn run_recorded<R: Threads + Wait + Sync, D: Desk>(
     arguments: &OutputWords<'_>,
     receiver: Receiver,
     desk: &mut D,
-) -> Came<Recorded>
+) -> StationResult<Recorded>
     requires few { AreFew (arguments_of arguments.now).receive }
     requires keep { arguments.now.number ≤ 4096 }
     requires stands { Stands receiver [] }
-    ensures { (cfg : RecordedConfig Config) × RunsStation (HoldsTail arguments.now.number) (Some arguments.now.output.now) receiver.config (workers_wanted (arguments_of arguments.now).receive) cfg (D.told desk.old) (D.told desk.new) result.1 (came_of result.0) }
+    ensures { (cfg : RecordedConfig Config) × RunsStation (HoldsTail arguments.now.number) (Some arguments.now.output.now) receiver.config (workers_wanted (arguments_of arguments.now).receive) cfg (D.told desk.old) (D.told desk.new) result.1 (result_view result.0) }
 {
     let Ok(recorded) = Recorded::open(alloc, receiver, arguments.number) else {
         return (Err(Stop::Failed(Fault::NoMemory)), None);

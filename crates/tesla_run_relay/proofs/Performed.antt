@@ -9,7 +9,7 @@ use Rattle.tesla_desk.specs.declared.desk.OpenRefusal.{OpenRefusal}
 use Rattle.tesla_desk.specs.declared.link.Letter.{Letter}
 use Rattle.tesla_desk.proofs.Told.{leaves_all}
 use Rattle.tesla_desk.proofs.Counts.{cause_none, causes_source, causes_then, counts_stay}
-use Rattle.tesla_front.specs.Came.{Came, Failed}
+use Rattle.tesla_front.specs.OutcomeView.{OutcomeView, Failed}
 use Rattle.tesla_front.specs.Command.{Performs}
 use Rattle.tesla_front.specs.Fault.{unopened}
 use Rattle.tesla_front.specs.Openings.{AnyFailed, AreFiles, Opens}
@@ -25,12 +25,12 @@ use Rattle.tesla_relay.proofs.Closings.{closes_to, fresh_counts, fresh_mails, ma
 use Rattle.tesla_relay.proofs.Links.{broken_left, ended_left, left_where, link_tried}
 use Rattle.tesla_relay.proofs.Mails.{faulty_told, unsent_on}
 use Rattle.tesla_relay.proofs.Openings.{none_of_opened, opens_still, opens_to, post_files, refused_not_all}
-use Rattle.tesla_relay.proofs.Stopped.{came_cause, memory_counts, not_all_counts}
+use Rattle.tesla_relay.proofs.Stopped.{outcome_cause, memory_counts, not_all_counts}
 use Rattle.tesla_relay.specs.declared.relayed.PostCount.{PostCount}
 use Rattle.tesla_relay.specs.declared.relayed.RelayEnd.{RelayEnd}
 use Rattle.tesla_relay.specs.declared.relayed.RelayEnd.TheVariants as ends
 use Rattle.tesla_run_relay.specs.Arguments.{IsRelayForm, RelayArguments, files_of_relay}
-use Rattle.tesla_run_relay.specs.Lines.{came_of_posts, came_with, has_failed}
+use Rattle.tesla_run_relay.specs.Lines.{outcome_of_posts, outcome_with, has_failed}
 use Rattle.tesla_run_relay.specs.Relay.{EndsAs, RelaysLink, SendPosts, Stops, TouchesPosts, relay}
 use Rattle.tesla_run_relay.specs.Steps.{RunsLinked, RunsNothing, RunsRelay}
 use Rattle.tesla_run_relay.proofs.Mailed.{counted_faulty, faulty_counted, names_kept, sends_posts}
@@ -54,8 +54,8 @@ touches_nothing link posts before now same = record {
   clocks = (ap (λ (l : Live). l.readings) same, ap (λ (l : Live). l.made) same);
 }
 
-stops_nothing : (arguments : RelayArguments) (before now : Live) (came : Came) → now ≡ before → (came ≡ Failed faults.Open) ⊎ (came ≡ Failed faults.NoMemory) → Stops arguments before now came
-stops_nothing arguments before now came same cause = record {
+stops_nothing : (arguments : RelayArguments) (before now : Live) (outcome : OutcomeView) → now ≡ before → (outcome ≡ Failed faults.Open) ⊎ (outcome ≡ Failed faults.NoMemory) → Stops arguments before now outcome
+stops_nothing arguments before now outcome same cause = record {
   unheard = inl (ap (λ (l : Live). l.left arguments.link) same);
   unsent = λ name. inl (ap (λ (l : Live). l.mail name) same);
   cause = cause;
@@ -81,47 +81,47 @@ performs_unlinked {A} arguments words refusal fault before now form is tried =
       named = are_files arguments words form;
       opened = it.0;
       opens = it.1;
-      does = (touches_nothing arguments.link arguments.posts before.live now.live tried.live, inl (stops_nothing arguments before.live now.live (Failed (unopened refusal)) tried.live (came_cause (unopened refusal) not_all.cause)));
+      does = (touches_nothing arguments.link arguments.posts before.live now.live tried.live, inl (stops_nothing arguments before.live now.live (Failed (unopened refusal)) tried.live (outcome_cause (unopened refusal) not_all.cause)));
       counts = not_all_counts (unopened refusal) before now not_all;
     })
 
 -- ---- what a relay comes to
 
-no_such : (failed : Bool) (counts : List PostCount) (fault : Fault) → (fault ≡ faults.Write → ⊥) → came_of_posts failed counts ≡ Failed fault → ⊥
+no_such : (failed : Bool) (counts : List PostCount) (fault : Fault) → (fault ≡ faults.Write → ⊥) → outcome_of_posts failed counts ≡ Failed fault → ⊥
 no_such true counts fault other e = other (let same : faults.Write ≡ fault = cc in sym same)
 no_such false counts fault other e = absurd cc
 
-write_by : (failed : Bool) (counts : List PostCount) → came_of_posts failed counts ≡ Failed faults.Write → failed ≡ true
+write_by : (failed : Bool) (counts : List PostCount) → outcome_of_posts failed counts ≡ Failed faults.Write → failed ≡ true
 write_by true counts e = refl
 write_by false counts e = absurd cc
 
-read_end : (end : RelayEnd) (counts : List PostCount) → came_with end counts ≡ Failed faults.Read → end ≡ ends.Failed
+read_end : (end : RelayEnd) (counts : List PostCount) → outcome_with end counts ≡ Failed faults.Read → end ≡ ends.Failed
 read_end ends.Failed counts e = refl
 read_end ends.Ended counts e = absurd (no_such (list_any has_failed counts) counts faults.Read (λ f. absurd cc) e)
 
-end_read : (end : RelayEnd) (counts : List PostCount) → end ≡ ends.Failed → came_with end counts ≡ Failed faults.Read
+end_read : (end : RelayEnd) (counts : List PostCount) → end ≡ ends.Failed → outcome_with end counts ≡ Failed faults.Read
 end_read ends.Failed counts e = refl
 end_read ends.Ended counts e = absurd cc
 
-write_failed : (end : RelayEnd) (counts : List PostCount) → came_with end counts ≡ Failed faults.Write → list_any has_failed counts ≡ true
+write_failed : (end : RelayEnd) (counts : List PostCount) → outcome_with end counts ≡ Failed faults.Write → list_any has_failed counts ≡ true
 write_failed ends.Failed counts e = absurd cc
 write_failed ends.Ended counts e = write_by (list_any has_failed counts) counts e
 
-failed_either : (end : RelayEnd) (counts : List PostCount) → list_any has_failed counts ≡ true → (came_with end counts ≡ Failed faults.Read) ⊎ (came_with end counts ≡ Failed faults.Write)
+failed_either : (end : RelayEnd) (counts : List PostCount) → list_any has_failed counts ≡ true → (outcome_with end counts ≡ Failed faults.Read) ⊎ (outcome_with end counts ≡ Failed faults.Write)
 failed_either ends.Failed counts any = inl refl
-failed_either ends.Ended counts any = inr (ap (λ (b : Bool). came_of_posts b counts) any)
+failed_either ends.Ended counts any = inr (ap (λ (b : Bool). outcome_of_posts b counts) any)
 
-no_open : (end : RelayEnd) (counts : List PostCount) → came_with end counts ≡ Failed faults.Open → ⊥
+no_open : (end : RelayEnd) (counts : List PostCount) → outcome_with end counts ≡ Failed faults.Open → ⊥
 no_open ends.Failed counts e = absurd cc
 no_open ends.Ended counts e = no_such (list_any has_failed counts) counts faults.Open (λ f. absurd cc) e
 
 -- ---- how it ends
 
-ends_posts : (failed : Bool) (counts : List PostCount) (remainder : Option Remainder) → list_any has_failed counts ≡ failed → HasEnded remainder → EndsAs remainder counts (came_of_posts failed counts)
+ends_posts : (failed : Bool) (counts : List PostCount) (remainder : Option Remainder) → list_any has_failed counts ≡ failed → HasEnded remainder → EndsAs remainder counts (outcome_of_posts failed counts)
 ends_posts true counts remainder is ended = (is, ended)
 ends_posts false counts remainder is ended = (refl, is, ended)
 
-ends_as : (end : RelayEnd) (counts : List PostCount) (later : Option (List Letter)) (missed : ℕ) → HasCause 0 missed (end ≡ ends.Failed) → (end ≡ ends.Ended → IfSome later (λ rest. rest ≡ [])) → EndsAs (remainder_of later missed) counts (came_with end counts)
+ends_as : (end : RelayEnd) (counts : List PostCount) (later : Option (List Letter)) (missed : ℕ) → HasCause 0 missed (end ≡ ends.Failed) → (end ≡ ends.Ended → IfSome later (λ rest. rest ≡ [])) → EndsAs (remainder_of later missed) counts (outcome_with end counts)
 ends_as ends.Failed counts later missed cause over = broken_left later missed (cause.rose refl)
 ends_as ends.Ended counts later missed cause over = ends_posts (list_any has_failed counts) counts (remainder_of later missed) refl (ended_left later missed (over refl) (cause.still (λ e. absurd cc)))
 
@@ -155,13 +155,13 @@ nothing_cause : (names : List (List ℕ)) (posts : List PostSeen) (result : Resu
 nothing_cause names posts result fault linked mid to (inl refused) = (to.refused fault refused).cause
 nothing_cause names posts result fault linked mid to (inr (whole, is)) = inr is
 
-performs_nothing : {A : Type 0} (arguments : RelayArguments) (words : List (List ℕ)) (it : A) (left later : Option (List Letter)) (missed : ℕ) (before linked mid closed now : Told) (posts : List PostSeen) (came : Came) → IsRelayForm arguments words → OpenedLink (before.live.wire arguments.link) left → OpensLink {A = A} arguments.link (Ok it) before linked → RunsNothing arguments.posts left later 0 missed linked mid posts came → ((name : List ℕ) → (closed.live.mail name ≡ mid.live.mail name) ⊎ IsUnsent (closed.live.mail name)) → closed.faults ≡ mid.faults → ClosesTo posts mid closed → ClosesLink arguments.link later missed closed now → Performs (relay before.live now.live) arguments before now came
-performs_nothing {A} arguments words it left later missed before linked mid closed now posts came form letters opens runs unsent still closes close =
+performs_nothing : {A : Type 0} (arguments : RelayArguments) (words : List (List ℕ)) (it : A) (left later : Option (List Letter)) (missed : ℕ) (before linked mid closed now : Told) (posts : List PostSeen) (outcome : OutcomeView) → IsRelayForm arguments words → OpenedLink (before.live.wire arguments.link) left → OpensLink {A = A} arguments.link (Ok it) before linked → RunsNothing arguments.posts left later 0 missed linked mid posts outcome → ((name : List ℕ) → (closed.live.mail name ≡ mid.live.mail name) ⊎ IsUnsent (closed.live.mail name)) → closed.faults ≡ mid.faults → ClosesTo posts mid closed → ClosesLink arguments.link later missed closed now → Performs (relay before.live now.live) arguments before now outcome
+performs_nothing {A} arguments words it left later missed before linked mid closed now posts outcome form letters opens runs unsent still closes close =
     let to = opens_to arguments.posts linked mid posts runs.result runs.opens in
     let cause = nothing_cause arguments.posts posts runs.result runs.fault linked mid to runs.why in
     let first : linked.faults ≡ before.faults = counts_stay before.faults linked.faults opens.counts (λ e. absurd cc) in
     let last : now.faults ≡ mid.faults = close.counts ∙ ap (λ (n : ℕ). after_source closed.faults n) runs.missed_is ∙ still in
-    subst (λ (c : Came). Performs (relay before.live now.live) arguments before now c) (sym runs.came_is) (record {
+    subst (λ (c : OutcomeView). Performs (relay before.live now.live) arguments before now c) (sym runs.outcome_is) (record {
       named = are_files arguments words form;
       opened = suc to.opened;
       opens = linked_opens {A = A} arguments.link arguments.posts it later missed posts posts runs.result before linked mid closed now opens to closes close;
@@ -173,7 +173,7 @@ performs_nothing {A} arguments words it left later missed before linked mid clos
               (subst (λ (l : Option (List Letter)). LeavesAll (before.live.wire arguments.link) (remainder_of l missed)) (sym runs.left_is) (leaves_all (before.live.wire arguments.link) left missed letters runs.missed_is)));
           unsent = λ name. unsent_on before.live now.live closed.live name (close.mails name)
               (subst (λ (l : Live). (closed.live.mail name ≡ l.mail name) ⊎ IsUnsent (closed.live.mail name)) (to.live ∙ opens.live) (unsent name));
-          cause = came_cause runs.fault cause;
+          cause = outcome_cause runs.fault cause;
         }),
       );
       counts = subst (λ (f : Faults). HasCausesBeside ((Failed runs.fault ≡ Failed faults.Read) × AnyFailed (files_of_relay arguments) now) before.faults f (Failed runs.fault ≡ Failed faults.Read) (Failed runs.fault ≡ Failed faults.Write) (Failed runs.fault ≡ Failed faults.Open)) (sym last)
@@ -182,13 +182,13 @@ performs_nothing {A} arguments words it left later missed before linked mid clos
 
 -- ---- the link was relayed
 
-relayed_counts : (capacity : ℕ) (names : List (List ℕ)) (link : List ℕ) (left later : Option (List Letter)) (missed : ℕ) (linked mid closed now : Told) (posts : List PostSeen) (came : Came) (runs : RunsRelay capacity names left later 0 missed linked mid posts came) → OpensTo names runs.opened linked mid (Ok tt) → HasMails posts now → map post_name posts ≡ names → ClosesTo posts mid closed → ClosesLink link later missed closed now
-    → HasCausesBeside ((came ≡ Failed faults.Read) × AnyFailed (OfLink link ∷ map OfPost names) now) linked.faults now.faults (came ≡ Failed faults.Read) (came ≡ Failed faults.Write) (came ≡ Failed faults.Open)
-relayed_counts capacity names link left later missed linked mid closed now posts came runs to mails named closes close =
+relayed_counts : (capacity : ℕ) (names : List (List ℕ)) (link : List ℕ) (left later : Option (List Letter)) (missed : ℕ) (linked mid closed now : Told) (posts : List PostSeen) (outcome : OutcomeView) (runs : RunsRelay capacity names left later 0 missed linked mid posts outcome) → OpensTo names runs.opened linked mid (Ok tt) → HasMails posts now → map post_name posts ≡ names → ClosesTo posts mid closed → ClosesLink link later missed closed now
+    → HasCausesBeside ((outcome ≡ Failed faults.Read) × AnyFailed (OfLink link ∷ map OfPost names) now) linked.faults now.faults (outcome ≡ Failed faults.Read) (outcome ≡ Failed faults.Write) (outcome ≡ Failed faults.Open)
+relayed_counts capacity names link left later missed linked mid closed now posts outcome runs to mails named closes close =
     let before : mid.faults ≡ linked.faults = (to.whole refl).counts in
-    let from : (fault : Fault) → came ≡ Failed fault → came_with runs.end runs.counts ≡ Failed fault = λ fault e. sym runs.came_is ∙ e in
-    let back : (fault : Fault) → came_with runs.end runs.counts ≡ Failed fault → came ≡ Failed fault = λ fault e. runs.came_is ∙ e in
-    let source = causes_source {read = came ≡ Failed faults.Read} {write = ⊥} {opening = ⊥} closed.faults now.faults missed close.counts runs.read
+    let from : (fault : Fault) → outcome ≡ Failed fault → outcome_with runs.end runs.counts ≡ Failed fault = λ fault e. sym runs.outcome_is ∙ e in
+    let back : (fault : Fault) → outcome_with runs.end runs.counts ≡ Failed fault → outcome ≡ Failed fault = λ fault e. runs.outcome_is ∙ e in
+    let source = causes_source {read = outcome ≡ Failed faults.Read} {write = ⊥} {opening = ⊥} closed.faults now.faults missed close.counts runs.read
     (λ e. read_end runs.end runs.counts (from faults.Read e)) (λ e. back faults.Read (end_read runs.end runs.counts e)) (λ never. never) (λ never. never) in
     let reads : closed.faults.reads ≡ linked.faults.reads = closes.reads ∙ ap (λ (f : Faults). f.reads) before in
     let writes : now.faults.writes ≡ closed.faults.writes = ap (λ (f : Faults). f.writes) close.counts in
@@ -197,7 +197,7 @@ relayed_counts capacity names link left later missed linked mid closed now posts
     let cause : HasCause linked.faults.writes now.faults.writes (AnyFaulty posts) =
     subst (λ (n : ℕ). HasCause n now.faults.writes (AnyFaulty posts)) writes_before (subst (λ (n : ℕ). HasCause mid.faults.writes n (AnyFaulty posts)) (sym writes) closes.writes) in
     record {
-      reads = subst (λ (n : ℕ). HasCause n now.faults.reads (came ≡ Failed faults.Read)) reads source.reads;
+      reads = subst (λ (n : ℕ). HasCause n now.faults.reads (outcome ≡ Failed faults.Read)) reads source.reads;
       writes = record {
         stays = cause.stays;
         rose = λ e. cause.rose (counted_faulty capacity (datagrams runs.relays.taken) runs.opened posts runs.counts to.fresh runs.relays.posts (write_failed runs.end runs.counts (from faults.Write e)));
@@ -210,18 +210,18 @@ relayed_counts capacity names link left later missed linked mid closed now posts
       openings = cause_none linked.faults.openings now.faults.openings openings (λ e. no_open runs.end runs.counts (from faults.Open e));
     }
 
-relayed_link : (arguments : RelayArguments) (left later : Option (List Letter)) (missed : ℕ) (before now : Live) (linked mid told : Told) (posts : List PostSeen) (came : Came) (runs : RunsRelay arguments.capacity arguments.posts left later 0 missed linked mid posts came) → OpenedLink (before.wire arguments.link) left → SendPosts arguments.capacity (datagrams runs.relays.taken) arguments.posts now runs.counts → now.left arguments.link ≡ remainder_of later missed → RelaysLink arguments before now came
-relayed_link arguments left later missed before now linked mid told posts came runs letters sent rest = record {
+relayed_link : (arguments : RelayArguments) (left later : Option (List Letter)) (missed : ℕ) (before now : Live) (linked mid told : Told) (posts : List PostSeen) (outcome : OutcomeView) (runs : RunsRelay arguments.capacity arguments.posts left later 0 missed linked mid posts outcome) → OpenedLink (before.wire arguments.link) left → SendPosts arguments.capacity (datagrams runs.relays.taken) arguments.posts now runs.counts → now.left arguments.link ≡ remainder_of later missed → RelaysLink arguments before now outcome
+relayed_link arguments left later missed before now linked mid told posts outcome runs letters sent rest = record {
   taken = runs.relays.taken;
   link = subst (λ (r : Option Remainder). LeftWhere runs.relays.taken (before.wire arguments.link) r) (sym rest) (left_where runs.relays.taken (before.wire arguments.link) left later missed letters runs.relays.left_is);
   counts = runs.counts;
   posts = sent;
-  ends = subst (λ (r : Option Remainder). EndsAs r runs.counts came) (sym rest)
-      (subst (λ (c : Came). EndsAs (remainder_of later missed) runs.counts c) (sym runs.came_is) (ends_as runs.end runs.counts later missed runs.read runs.relays.ended));
+  ends = subst (λ (r : Option Remainder). EndsAs r runs.counts outcome) (sym rest)
+      (subst (λ (c : OutcomeView). EndsAs (remainder_of later missed) runs.counts c) (sym runs.outcome_is) (ends_as runs.end runs.counts later missed runs.read runs.relays.ended));
 }
 
-performs_relayed : {A : Type 0} (arguments : RelayArguments) (words : List (List ℕ)) (it : A) (left later : Option (List Letter)) (missed : ℕ) (before linked mid closed now : Told) (posts : List PostSeen) (came : Came) → IsRelayForm arguments words → OpenedLink (before.live.wire arguments.link) left → OpensLink {A = A} arguments.link (Ok it) before linked → RunsRelay arguments.capacity arguments.posts left later 0 missed linked mid posts came → ClosesTo posts mid closed → ClosesLink arguments.link later missed closed now → Performs (relay before.live now.live) arguments before now came
-performs_relayed {A} arguments words it left later missed before linked mid closed now posts came form letters opens runs closes close =
+performs_relayed : {A : Type 0} (arguments : RelayArguments) (words : List (List ℕ)) (it : A) (left later : Option (List Letter)) (missed : ℕ) (before linked mid closed now : Told) (posts : List PostSeen) (outcome : OutcomeView) → IsRelayForm arguments words → OpenedLink (before.live.wire arguments.link) left → OpensLink {A = A} arguments.link (Ok it) before linked → RunsRelay arguments.capacity arguments.posts left later 0 missed linked mid posts outcome → ClosesTo posts mid closed → ClosesLink arguments.link later missed closed now → Performs (relay before.live now.live) arguments before now outcome
+performs_relayed {A} arguments words it left later missed before linked mid closed now posts outcome form letters opens runs closes close =
     let to = opens_to arguments.posts linked mid runs.opened (Ok tt) runs.opens in
     let named : map post_name posts ≡ arguments.posts = names_kept arguments.capacity (datagrams runs.relays.taken) runs.opened posts runs.counts runs.relays.posts ∙ (to.whole refl).names_are in
     let mails : HasMails posts now = mails_same posts closed now close.mails (closes.mails (subst AreDistinct (sym named) form.spelled.rest.rest.rest.first.distinct)) in
@@ -235,20 +235,20 @@ performs_relayed {A} arguments words it left later missed before linked mid clos
       does = (
         linked_touches {A = A} arguments.link arguments.posts it later missed runs.opened posts (Ok tt) before linked mid closed now
             (λ name none. subst (λ (names : List (List ℕ)). IsNoneOf name names) (sym named) none) opens to closes close,
-        inr (ap suc (to.whole refl).all, relayed_link arguments left later missed before.live now.live linked mid now posts came runs letters sent close.own),
+        inr (ap suc (to.whole refl).all, relayed_link arguments left later missed before.live now.live linked mid now posts outcome runs letters sent close.own),
       );
-      counts = causes_then before.faults linked.faults now.faults first (relayed_counts arguments.capacity arguments.posts arguments.link left later missed linked mid closed now posts came runs to mails named closes close);
+      counts = causes_then before.faults linked.faults now.faults first (relayed_counts arguments.capacity arguments.posts arguments.link left later missed linked mid closed now posts outcome runs to mails named closes close);
     }
 
 -- the link was opened, something or nothing was relayed, and all was closed
-pub performs_linked : {A : Type 0} (arguments : RelayArguments) (words : List (List ℕ)) (it : A) (link : List ℕ) (left : Option (List Letter)) (before linked now : Told) (came : Came) → IsRelayForm arguments words → link ≡ arguments.link → OpenedLink (before.live.wire arguments.link) left → OpensLink {A = A} arguments.link (Ok it) before linked → RunsLinked arguments.capacity arguments.posts link left linked now came → Performs (relay before.live now.live) arguments before now came
-performs_linked {A} arguments words it link left before linked now came form own letters opens runs =
+pub performs_linked : {A : Type 0} (arguments : RelayArguments) (words : List (List ℕ)) (it : A) (link : List ℕ) (left : Option (List Letter)) (before linked now : Told) (outcome : OutcomeView) → IsRelayForm arguments words → link ≡ arguments.link → OpenedLink (before.live.wire arguments.link) left → OpensLink {A = A} arguments.link (Ok it) before linked → RunsLinked arguments.capacity arguments.posts link left linked now outcome → Performs (relay before.live now.live) arguments before now outcome
+performs_linked {A} arguments words it link left before linked now outcome form own letters opens runs =
     let closes = closes_to runs.posts runs.mid runs.closed runs.closes_posts in
     let close : ClosesLink arguments.link runs.later runs.missed runs.closed now = subst (λ (n : List ℕ). ClosesLink n runs.later runs.missed runs.closed now) own runs.closes_link in
     elim runs.runs [
       | inl nothing ↦
           let to = opens_to arguments.posts linked runs.mid runs.posts nothing.result nothing.opens in
-          performs_nothing {A = A} arguments words it left runs.later runs.missed before linked runs.mid runs.closed now runs.posts came form letters opens nothing
+          performs_nothing {A = A} arguments words it left runs.later runs.missed before linked runs.mid runs.closed now runs.posts outcome form letters opens nothing
           (fresh_mails runs.posts runs.mid runs.closed to.fresh runs.closes_posts) (fresh_counts runs.posts runs.mid runs.closed to.fresh closes) closes close
-      | inr relays ↦ performs_relayed {A = A} arguments words it left runs.later runs.missed before linked runs.mid runs.closed now runs.posts came form letters opens relays closes close
+      | inr relays ↦ performs_relayed {A = A} arguments words it left runs.later runs.missed before linked runs.mid runs.closed now runs.posts outcome form letters opens relays closes close
     ]

@@ -5,7 +5,7 @@ use Rattle.tesla_desk.specs.Faults.{HasCause}
 use Rattle.tesla_desk.specs.Links.{datagrams}
 use Rattle.tesla_desk.specs.Outside.{Told}
 use Rattle.tesla_desk.specs.declared.link.Letter.{Letter}
-use Rattle.tesla_front.specs.Came.{Came}
+use Rattle.tesla_front.specs.OutcomeView.{OutcomeView}
 use Rattle.tesla_relay.specs.Opening.{OpensEach, OpensPosts}
 use Rattle.tesla_relay.specs.Posts.{PostSeen}
 use Rattle.tesla_relay.proofs.Openings.{opened_each, opened_size}
@@ -14,7 +14,7 @@ use Rattle.tesla_relay.specs.Relay.{Relays}
 use Rattle.tesla_relay.specs.declared.relayed.PostCount.{PostCount}
 use Rattle.tesla_relay.specs.declared.relayed.RelayEnd.{RelayEnd}
 use Rattle.tesla_relay.specs.declared.relayed.RelayEnd.TheVariants as ends
-use Rattle.tesla_run_relay.specs.Lines.{came_with}
+use Rattle.tesla_run_relay.specs.Lines.{outcome_with}
 use Rattle.tesla_run_relay.specs.Steps.{RunsPosts}
 
 module _ {P : Type 0} (seen : P → PostSeen) (names wanted : List (List ℕ)) (before mid : Told) (old : List PostSeen) (posts : List P) where
@@ -35,8 +35,8 @@ module _ {P : Type 0} (seen : P → PostSeen) (names wanted : List (List ℕ)) (
         number_is ∙ sym (opened_wanted is opens none) ∙ sym (length-map posts seen)
         ∙ sym (each_counted capacity (datagrams relays.taken) (map seen posts) (map seen news) counts relays.posts)
 
-    pub runs_relay : (fresh missed : ℕ) (now : Told) (came : Came) → names ≡ wanted → OpensPosts names before mid old (map seen posts) (Ok tt) → old ≡ [] → now ≡ mid → HasCause fresh missed (end ≡ ends.Failed) → came ≡ came_with end counts → RunsPosts capacity wanted left later fresh missed before now (map seen news) came
-    runs_relay fresh missed now came is opens none same cause came_is = inr (record {
+    pub runs_relay : (fresh missed : ℕ) (now : Told) (outcome : OutcomeView) → names ≡ wanted → OpensPosts names before mid old (map seen posts) (Ok tt) → old ≡ [] → now ≡ mid → HasCause fresh missed (end ≡ ends.Failed) → outcome ≡ outcome_with end counts → RunsPosts capacity wanted left later fresh missed before now (map seen news) outcome
+    runs_relay fresh missed now outcome is opens none same cause outcome_is = inr (record {
       opened = map seen posts;
       opens = subst (λ (t : Told). OpensEach wanted before t (map seen posts) (Ok tt)) (sym same)
           (subst (λ (ns : List (List ℕ)). OpensEach ns before mid (map seen posts) (Ok tt)) is (opened_each seen names before mid old posts opens none));
@@ -44,5 +44,5 @@ module _ {P : Type 0} (seen : P → PostSeen) (names wanted : List (List ℕ)) (
       counts = counts;
       relays = relays;
       read = cause;
-      came_is = came_is;
+      outcome_is = outcome_is;
     })

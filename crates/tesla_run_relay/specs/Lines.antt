@@ -1,7 +1,7 @@
 -- The lines that tell what a relay came to.
 use Rattle.std.specs.Prelude.{ℕ, suc, Bool, true, false, List, [], ◌∷◌, ◌++◌, codes, decimal}
 use Rattle.std.specs.List.{list_any}
-use Rattle.tesla_front.specs.Came.{Came, Done, Failed}
+use Rattle.tesla_front.specs.OutcomeView.{OutcomeView, Done, Failed}
 use Rattle.tesla_front.specs.declared.fault.Fault.TheVariants as faults
 use Rattle.tesla_relay.specs.declared.relayed.PostCount.{PostCount}
 use Rattle.tesla_relay.specs.declared.relayed.RelayEnd.{RelayEnd}
@@ -22,11 +22,11 @@ abbrev pub has_failed : PostCount → Bool
 has_failed count = count.failed
 
 -- where the link came to its end: the lines, or a failed post
-abbrev pub came_of_posts : Bool → List PostCount → Came
-came_of_posts true counts = Failed faults.Write
-came_of_posts false counts = Done (lines_from 0 counts)
+abbrev pub outcome_of_posts : Bool → List PostCount → OutcomeView
+outcome_of_posts true counts = Failed faults.Write
+outcome_of_posts false counts = Done (lines_from 0 counts)
 
 -- what a relay came to: a failed link, else a failed post, else the lines
-abbrev pub came_with : RelayEnd → List PostCount → Came
-came_with ends.Failed counts = Failed faults.Read
-came_with ends.Ended counts = came_of_posts (list_any has_failed counts) counts
+abbrev pub outcome_with : RelayEnd → List PostCount → OutcomeView
+outcome_with ends.Failed counts = Failed faults.Read
+outcome_with ends.Ended counts = outcome_of_posts (list_any has_failed counts) counts

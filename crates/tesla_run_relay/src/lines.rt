@@ -3,8 +3,8 @@
 ghost use Rattle.std.specs.Prelude.{◌≡◌, ◌+◌, ◌-◌, ◌*◌, ◌<◌, ◌≤◌, ◌++◌, drop, length};
 ghost use Rattle.std.specs.List.{list_any};
 ghost use Rattle.arrayvec.specs.ArrayString.{array_string_len};
-ghost use Rattle.tesla_front.specs.Came.{outcome_came};
-ghost use Rattle.tesla_run_relay.specs.Lines.{came_with, has_failed, lines_from, post_line};
+ghost use Rattle.tesla_front.specs.OutcomeView.{outcome_view};
+ghost use Rattle.tesla_run_relay.specs.Lines.{outcome_with, has_failed, lines_from, post_line};
 
 use itoa::Buffer;
 use tesla_front::{Fault, Lines, Outcome};
@@ -62,7 +62,7 @@ fn any_failed(k: u8, posts: u8, relayed: &Relayed) -> bool
 pub fn outcome_of(relayed: &Relayed, posts: u8) -> Outcome
     requires posts { posts ≡ length relayed.now.counts.items }
     requires few { posts ≤ 32 }
-    ensures { outcome_came result ≡ came_with relayed.now.end relayed.now.counts.items }
+    ensures { outcome_view result ≡ outcome_with relayed.now.end relayed.now.counts.items }
 {
     match relayed.end {
         RelayEnd::Failed => Outcome::Failed(Fault::Read),

@@ -2,7 +2,7 @@
 
 ghost use Rattle.std.specs.Prelude.{◌≡◌, ◌≤◌, [], ℕ, List, IfOk, MatchResult, OnErr, length, map, string_bytes, vec_capacity};
 ghost use Rattle.tesla_desk.specs.Faults.{HasCause};
-ghost use Rattle.tesla_front.specs.Came.{outcome_came};
+ghost use Rattle.tesla_front.specs.OutcomeView.{outcome_view};
 ghost use Rattle.tesla_front.specs.Command.{Performs, RunsAs};
 ghost use Rattle.tesla_relay.specs.Posts.{PostSeen};
 ghost use Rattle.tesla_relay.specs.Relay.{Relays};
@@ -37,7 +37,7 @@ pub fn run_relay<R: Threads + Wait + Sync, D: Desk>(
     words: &[String],
     desk: &mut D,
 ) -> Outcome
-    ensures { RunsAs (relay (D.told desk.old).live (D.told desk.new).live) (map string_bytes words.now) (D.told desk.old) (D.told desk.new) (outcome_came result) }
+    ensures { RunsAs (relay (D.told desk.old).live (D.told desk.new).live) (map string_bytes words.now) (D.told desk.old) (D.told desk.new) (outcome_view result) }
 {
     match arguments_in(words) {
         Some(arguments) => perform(rt, alloc, &arguments, desk),
@@ -53,7 +53,7 @@ fn perform<R: Threads + Wait + Sync, D: Desk>(
     desk: &mut D,
 ) -> Outcome
     requires form { (spelled : List (List ℕ)) × IsRelayForm (arguments_of arguments.now) spelled }
-    ensures { Performs (relay (D.told desk.old).live (D.told desk.new).live) (arguments_of arguments.now) (D.told desk.old) (D.told desk.new) (outcome_came result) }
+    ensures { Performs (relay (D.told desk.old).live (D.told desk.new).live) (arguments_of arguments.now) (D.told desk.old) (D.told desk.new) (outcome_view result) }
 {
     let Ok(room) = room_for(alloc, arguments.posts.len()) else {
         return Outcome::Failed(Fault::NoMemory);
@@ -105,7 +105,7 @@ fn run_linked<R: Threads + Wait + Sync, D: Desk>(
     requires posts { (room.posts.items ≡ []) × (length arguments.now.posts ≤ vec_capacity room.posts) }
     requires gates { (room.gates.items ≡ []) × (length arguments.now.posts ≤ vec_capacity room.gates) }
     requires fresh { D.Wire.faults link ≡ 0 }
-    ensures { RunsLinked arguments.now.capacity arguments.now.posts (D.Wire.name link) (D.Wire.left link) (D.told desk.old) (D.told desk.new) (outcome_came result) }
+    ensures { RunsLinked arguments.now.capacity arguments.now.posts (D.Wire.name link) (D.Wire.left link) (D.told desk.old) (D.told desk.new) (outcome_view result) }
 {
     let outcome = run_posts(rt, alloc, arguments, &mut room, &mut link, desk);
     close_posts(desk, &mut room.posts);
@@ -126,7 +126,7 @@ fn run_posts<R: Threads + Wait + Sync, D: Desk>(
     requires some { (1 ≤ length arguments.now.posts) × (length arguments.now.posts ≤ 32) }
     requires posts { (room.old.posts.items ≡ []) × (length arguments.now.posts ≤ vec_capacity room.old.posts) }
     requires gates { (room.old.gates.items ≡ []) × (length arguments.now.posts ≤ vec_capacity room.old.gates) }
-    ensures runs { RunsPosts arguments.now.capacity arguments.now.posts (D.Wire.left link.old) (D.Wire.left link.new) (D.Wire.faults link.old) (D.Wire.faults link.new) (D.told desk.old) (D.told desk.new) (map (λ post. record { name = D.Port.name post; sent = D.Port.sent post; faults = D.Port.faults post }) room.new.posts.items) (outcome_came result) }
+    ensures runs { RunsPosts arguments.now.capacity arguments.now.posts (D.Wire.left link.old) (D.Wire.left link.new) (D.Wire.faults link.old) (D.Wire.faults link.new) (D.told desk.old) (D.told desk.new) (map (λ post. record { name = D.Port.name post; sent = D.Port.sent post; faults = D.Port.faults post }) room.new.posts.items) (outcome_view result) }
     ensures name { D.Wire.name link.new ≡ D.Wire.name link.old }
 {
     match open_posts(desk, arguments.posts.as_slice(), &mut room.posts) {

@@ -4,7 +4,7 @@ use Rattle.tesla_capture.specs.Capture.{Record}
 use Rattle.tesla_capture.specs.Outline.{outline_of}
 use Rattle.tesla_capture.specs.declared.record.RecordKind.{RecordKind}
 use Rattle.tesla_fitting.specs.declared.config.Config.{Config}
-use Rattle.tesla_front.specs.Came.{Done}
+use Rattle.tesla_front.specs.OutcomeView.{Done}
 use Rattle.tesla_receiver.specs.declared.history.Entry.{Entry}
 use Rattle.tesla_receiver.specs.History.{Event, Takes, Ends, entry_of}
 use Rattle.tesla_receiver.specs.Events.{after_events, waiting_in}
@@ -13,7 +13,7 @@ use Rattle.tesla_replay.specs.Played.{played}
 use Rattle.tesla_state.specs.Releases.{each_after}
 use Rattle.tesla_convert.specs.Meaning.{SaysSame}
 use Rattle.tesla_run_replay.specs.Playing.{HistoryRule, end_by_rule, events_in, events_text, meaning_by, meaning_of, receiver_by, rule_by, text_by_rule, with_end}
-use Rattle.tesla_run_replay.specs.Under.{end_told}
+use Rattle.tesla_run_replay.specs.Under.{end_outcome}
 
 -- told what the events make, a text of histories that grows by what is written with each entry, and the histories that records play
 module _ {E : Type 0} (by : HistoryRule E) (one : (events : List Event) (event : Event) → by.after (events ++ event ∷ []) ≡ by.after events ++ by.entry (by.after events) event ∷ [])
@@ -33,21 +33,21 @@ module _ {E : Type 0} (by : HistoryRule E) (one : (events : List Event) (event :
   text_is : (events : List Event) → events_text (rule_by by) events ≡ text (by.after events)
   text_is events = ap (λ (t : List ℕ). t ++ events_text (rule_by by) events) (sym none) ∙ sym (text_after [] events)
 
-  module _ (plays : List Record → Bool → List E) (front : (records : List Record) → by.after (events_in records) ≡ plays records false) (whole : (records : List Record) → by.after (with_end (rule_by by) (events_in records)) ≡ plays records true) where
-    end_same : (fault : Option (ℕ × RecordKind)) (records : List Record) → end_by_rule (rule_by by) fault records ≡ end_told fault (by.tells (plays records (is_none fault)))
+  module _ (plays : List Record → Bool → List E) (prefix : (records : List Record) → by.after (events_in records) ≡ plays records false) (whole : (records : List Record) → by.after (with_end (rule_by by) (events_in records)) ≡ plays records true) where
+    end_same : (fault : Option (ℕ × RecordKind)) (records : List Record) → end_by_rule (rule_by by) fault records ≡ end_outcome fault (by.tells (plays records (is_none fault)))
     end_same None records = ap (λ (h : List E). Done (by.tells h)) (whole records)
     end_same (Some fault) records = refl
 
     text_same : (fault : Option (ℕ × RecordKind)) (records : List Record) → text_by_rule (rule_by by) fault records ≡ text (plays records (is_none fault))
     text_same None records = text_is (with_end (rule_by by) (events_in records)) ∙ ap text (whole records)
-    text_same (Some fault) records = text_is (events_in records) ∙ ap text (front records)
+    text_same (Some fault) records = text_is (events_in records) ∙ ap text (prefix records)
 
     -- what is said by the rule is said by the histories
     pub says_histories : (may_want : Bool) (May : Type 0) → (may_want ≡ true → May) → SaysSame (meaning_by may_want (rule_by by)) (meaning_of plays by.tells (λ h. by.begins ++ text h) May)
     says_histories may_want May may = record {
       comes = λ bytes. end_same (outline_of bytes).fault (outline_of bytes).records;
       makes = λ bytes. ap (λ (t : List ℕ). by.begins ++ t) (text_same (outline_of bytes).fault (outline_of bytes).records);
-      so_far = λ read. ap (λ (t : List ℕ). by.begins ++ t) (text_is (events_in (outline_of read).records) ∙ ap text (front (outline_of read).records));
+      so_far = λ read. ap (λ (t : List ℕ). by.begins ++ t) (text_is (events_in (outline_of read).records) ∙ ap text (prefix (outline_of read).records));
       unrefused = λ read none. none;
       may = may;
     }

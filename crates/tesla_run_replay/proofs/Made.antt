@@ -19,11 +19,11 @@ text_twice : (a b : List ℕ) (m : Made RecordKind) → with_text a (with_text b
 text_twice a b m = ap (λ (t : List ℕ). let it : Made RecordKind = record { text = t; refused = m.refused } in it) (sym (append_assoc a b m.text))
 
 -- no record is refused, so what is made of records is what their events write, and what stands behind them
-made_all : (rule : EventRule) (behind : Behind RecordKind) (place : ℕ) (before records : List Record)
-    → made_of capture RecordKind (record_rule rule) behind place before records ≡ with_text (each_after rule.adds (events_in before) (events_in records)) (made_behind capture RecordKind (record_rule rule) behind (before ++ records))
-made_all rule behind place before [] = ap (made_behind capture RecordKind (record_rule rule) behind) (sym (append-nil before))
-made_all rule behind place before (first ∷ records) =
-    ap (with_text (rule.adds (events_in before) (event_in first))) (made_all rule behind (place + length (record_text first)) (before ++ first ∷ []) records
+made_all : (rule : EventRule) (behind : Behind RecordKind) (offset : ℕ) (before records : List Record)
+    → made_of capture RecordKind (record_rule rule) behind offset before records ≡ with_text (each_after rule.adds (events_in before) (events_in records)) (made_behind capture RecordKind (record_rule rule) behind (before ++ records))
+made_all rule behind offset before [] = ap (made_behind capture RecordKind (record_rule rule) behind) (sym (append-nil before))
+made_all rule behind offset before (first ∷ records) =
+    ap (with_text (rule.adds (events_in before) (event_in first))) (made_all rule behind (offset + length (record_text first)) (before ++ first ∷ []) records
     ∙ ap (λ (es : List Event). with_text (each_after rule.adds es (events_in records)) (made_behind capture RecordKind (record_rule rule) behind ((before ++ first ∷ []) ++ records))) (one_event before first)
     ∙ ap (λ (rs : List Record). with_text (each_after rule.adds (events_in before ++ event_in first ∷ []) (events_in records)) (made_behind capture RecordKind (record_rule rule) behind rs)) (append_assoc before (first ∷ []) records))
     ∙ text_twice (rule.adds (events_in before) (event_in first)) (each_after rule.adds (events_in before ++ event_in first ∷ []) (events_in records)) (made_behind capture RecordKind (record_rule rule) behind (before ++ first ∷ records))

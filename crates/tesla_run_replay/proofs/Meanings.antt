@@ -9,7 +9,7 @@ use Rattle.tesla_replay.specs.Records.{record_in, records_of}
 use Rattle.tesla_replay.proofs.Playing.{played_all}
 use Rattle.tesla_replay.proofs.Records.{records_more}
 use Rattle.tesla_convert.specs.Meaning.{SaysSame}
-use Rattle.tesla_run_replay.specs.Playing.{meaning_by, report_told, rule_of}
+use Rattle.tesla_run_replay.specs.Playing.{meaning_by, history_report, rule_of}
 use Rattle.tesla_run_replay.specs.Replay.{meaning, text_by}
 use Rattle.tesla_run_replay.proofs.Histories.{says_received}
 
@@ -20,7 +20,7 @@ all_released cfg (Some fault) records = refl
 
 says_released : (cfg : Config) → SaysSame (meaning_by false (rule_of cfg)) (meaning cfg)
 says_released cfg =
-    let it = says_received cfg [] (λ h e. record_in 0 e) report_told (records_of 0) refl (records_more 0) in
+    let it = says_received cfg [] (λ h e. record_in 0 e) history_report (records_of 0) refl (records_more 0) in
     record { comes = it.comes; makes = λ bytes. it.makes bytes ∙ all_released cfg (outline_of bytes).fault (outline_of bytes).records; so_far = it.so_far; unrefused = it.unrefused; may = it.may }
 
 -- what is said by the rule of a receiver of such a configuration is said by its histories

@@ -8,7 +8,7 @@ use Rattle.tesla_commit.specs.declared.refusal.SetupKind.{SetupKind}
 use Rattle.tesla_fitting.specs.declared.config.Config.{Config}
 use Rattle.tesla_desk.specs.Outside.{Page, Untold, Absent, Holds, Told, OfSource, OfSink}
 use Rattle.tesla_desk.proofs.Counts.{causes_none, causes_then}
-use Rattle.tesla_front.specs.Came.{Came, Done, Usage, Refused, Failed, stop_came}
+use Rattle.tesla_front.specs.OutcomeView.{OutcomeView, Done, Usage, Refused, Failed, stop_view}
 use Rattle.tesla_front.specs.Command.{Performs}
 use Rattle.tesla_front.specs.Files.{HoldsWhere}
 use Rattle.tesla_front.specs.Openings.{AreFiles, File, Opens, OpensSome, file_told}
@@ -24,7 +24,7 @@ use Rattle.tesla_convert.specs.Files.{ClosesBoth, ConvertsFiles}
 use Rattle.tesla_convert.specs.Meaning.{Converts, HoldsNothing, IsUnread, Meaning}
 use Rattle.tesla_convert.proofs.Unread.{unread_behind}
 use Rattle.tesla_run_replay.specs.Arguments.{AreNames, PlayedArguments, files_of}
-use Rattle.tesla_run_replay.specs.Under.{DoesUnder, PlayedCommand, command_of, config_of, end_told}
+use Rattle.tesla_run_replay.specs.Under.{DoesUnder, PlayedCommand, command_of, config_of, end_outcome}
 
 -- none of the files is the console
 pub are_files : (arguments : PlayedArguments) → AreNames arguments.setup arguments.capture arguments.out → AreFiles (files_of arguments)
@@ -44,15 +44,15 @@ unread_unless opened input left never (inr may) = absurd (never may)
 
 module _ (played : PlayedCommand) (arguments : PlayedArguments) (named : AreNames arguments.setup arguments.capture arguments.out) where
   -- there was no setup
-  pub setup_none : (before now : Told) (stop : Stop) → OpensSome (OfSource arguments.setup ∷ []) before now → IsNoSetup (before.page arguments.setup) (stop_came stop) → StopCauses {A = Parts} (Err stop) before.faults now.faults → Performs (command_of played) arguments before now (stop_came stop)
+  pub setup_none : (before now : Told) (stop : Stop) → OpensSome (OfSource arguments.setup ∷ []) before now → IsNoSetup (before.page arguments.setup) (stop_view stop) → StopCauses {A = Parts} (Err stop) before.faults now.faults → Performs (command_of played) arguments before now (stop_view stop)
   setup_none before now stop some why causes =
       let it = opens_some (OfSource arguments.setup) (OfSource arguments.capture ∷ OfSink arguments.out ∷ []) before now some in
       record { named = are_files arguments named; opened = it.0; opens = it.2; does = inl (record { alone = it.1; why = why }); counts = counts_stopped stop before.faults now.faults causes }
 
   -- the setup was read, and then the capture played
-  pub setup_read : (setup : Parts) (before mid now : Told) (came : Came) → Opens (OfSource arguments.setup ∷ []) 1 before mid → ((name : List ℕ) → mid.page name ≡ before.page name) → IsSetupIn (before.page arguments.setup) setup → StopCauses {A = Parts} (Ok setup) before.faults mid.faults
-      → ConvertsFiles (played.meaning (config_of arguments setup)) arguments.capture arguments.out mid now came → Performs (command_of played) arguments before now came
-  setup_read setup before mid now came opened pages found causes converts =
+  pub setup_read : (setup : Parts) (before mid now : Told) (outcome : OutcomeView) → Opens (OfSource arguments.setup ∷ []) 1 before mid → ((name : List ℕ) → mid.page name ≡ before.page name) → IsSetupIn (before.page arguments.setup) setup → StopCauses {A = Parts} (Ok setup) before.faults mid.faults
+      → ConvertsFiles (played.meaning (config_of arguments setup)) arguments.capture arguments.out mid now outcome → Performs (command_of played) arguments before now outcome
+  setup_read setup before mid now outcome opened pages found causes converts =
       let meaning = played.meaning (config_of arguments setup) in
       record {
         named = are_files arguments named;
@@ -61,8 +61,8 @@ module _ (played : PlayedCommand) (arguments : PlayedArguments) (named : AreName
         does = inr (record {
           parts = setup;
           found = found;
-          converts = subst (λ (p : Page). Converts meaning p (now.left arguments.capture) (before.page arguments.out) (now.page arguments.out) came) (pages arguments.capture)
-              (subst (λ (p : Page). Converts meaning (mid.page arguments.capture) (now.left arguments.capture) p (now.page arguments.out) came) (pages arguments.out) converts.converts);
+          converts = subst (λ (p : Page). Converts meaning p (now.left arguments.capture) (before.page arguments.out) (now.page arguments.out) outcome) (pages arguments.capture)
+              (subst (λ (p : Page). Converts meaning (mid.page arguments.capture) (now.left arguments.capture) p (now.page arguments.out) outcome) (pages arguments.out) converts.converts);
           unread = λ never e. subst (λ (p : Page). IsUnread 1 (suc converts.opened) p (now.left arguments.capture)) (pages arguments.capture)
               (unread_unless converts.opened (mid.page arguments.capture) (now.left arguments.capture) never (converts.unread e));
         });
@@ -77,7 +77,7 @@ never_refused text setup status line found (inl why) = let no : ◌≡◌ {A = R
 never_refused text setup status line found (inr memory) = cc
 
 -- where a setup is told, there is none only where something went wrong outside
-none_ends : (page : Page) (came : Came) (text : List ℕ) (failed : Bool) (setup : Parts) → page ≡ Holds text failed → judged text ≡ Ok setup → IsNoSetup page came → (fault : Fault) × (came ≡ Failed fault)
+none_ends : (page : Page) (outcome : OutcomeView) (text : List ℕ) (failed : Bool) (setup : Parts) → page ≡ Holds text failed → judged text ≡ Ok setup → IsNoSetup page outcome → (fault : Fault) × (outcome ≡ Failed fault)
 none_ends page (Failed fault) text failed setup is found why = (fault, refl)
 none_ends page (Refused status line) text failed setup is found why =
     absurd (never_refused text setup status line found (subst (λ (p : Page). HoldsWhere p (λ t. IsNoSetupText t (Refused status line))) is why))
@@ -90,34 +90,34 @@ one_setup Absent text failed setup other page found in_page = absurd cc
 one_setup (Holds held lost) text failed setup other page found in_page = let same : held ≡ text = cc in let both : Ok other ≡ Ok setup = sym in_page ∙ ap judged same ∙ found in cc
 
 -- a capture without a refused place comes to the lines that tell it
-whole_told : (fault : Option (ℕ × RecordKind)) (lines : List ℕ) → fault ≡ None → end_told fault lines ≡ Done lines
-whole_told None lines e = refl
-whole_told (Some fault) lines e = absurd cc
+whole_outcome : (fault : Option (ℕ × RecordKind)) (lines : List ℕ) → fault ≡ None → end_outcome fault lines ≡ Done lines
+whole_outcome None lines e = refl
+whole_outcome (Some fault) lines e = absurd cc
 
 -- a capture that comes to lines comes to them, or to a fault
-capture_ends : (meaning : Meaning) (capture before out : Page) (left : Option (List ℕ)) (came : Came) (bytes lines : List ℕ) (failed : Bool) → capture ≡ Holds bytes failed → meaning.comes bytes ≡ Done lines → Converts meaning capture left before out came → (came ≡ Done lines) ⊎ ((fault : Fault) × (came ≡ Failed fault))
+capture_ends : (meaning : Meaning) (capture before out : Page) (left : Option (List ℕ)) (outcome : OutcomeView) (bytes lines : List ℕ) (failed : Bool) → capture ≡ Holds bytes failed → meaning.comes bytes ≡ Done lines → Converts meaning capture left before out outcome → (outcome ≡ Done lines) ⊎ ((fault : Fault) × (outcome ≡ Failed fault))
 capture_ends meaning capture before out left (Done told) bytes lines failed page whole converts = inl (converts.end bytes failed page ∙ whole)
 capture_ends meaning capture before out left (Refused status line) bytes lines failed page whole converts = absurd (let no : Refused status line ≡ Done lines = converts.end bytes failed page ∙ whole in cc)
 capture_ends meaning capture before out left (Failed fault) bytes lines failed page whole converts = inr (fault, refl)
 capture_ends meaning capture before out left Usage bytes lines failed page whole converts = absurd converts
 
-under_ends : (meaning : Parts → Meaning) (opened : ℕ) (setup capture out read taken written : File) (came : Came) (text bytes lines : List ℕ) (failed other : Bool) (parts : Parts) → setup.page ≡ Holds text failed → judged text ≡ Ok parts → capture.page ≡ Holds bytes other → (meaning parts).comes bytes ≡ Done lines
-    → DoesUnder meaning opened (setup ∷ capture ∷ out ∷ []) (read ∷ taken ∷ written ∷ []) came → (came ≡ Done lines) ⊎ ((fault : Fault) × (came ≡ Failed fault))
-under_ends meaning opened setup capture out read taken written came text bytes lines failed other parts page found recorded whole (inl stops) = inr (none_ends setup.page came text failed parts page found stops.why)
-under_ends meaning opened setup capture out read taken written came text bytes lines failed other parts page found recorded whole (inr plays) =
+under_ends : (meaning : Parts → Meaning) (opened : ℕ) (setup capture out read taken written : File) (outcome : OutcomeView) (text bytes lines : List ℕ) (failed other : Bool) (parts : Parts) → setup.page ≡ Holds text failed → judged text ≡ Ok parts → capture.page ≡ Holds bytes other → (meaning parts).comes bytes ≡ Done lines
+    → DoesUnder meaning opened (setup ∷ capture ∷ out ∷ []) (read ∷ taken ∷ written ∷ []) outcome → (outcome ≡ Done lines) ⊎ ((fault : Fault) × (outcome ≡ Failed fault))
+under_ends meaning opened setup capture out read taken written outcome text bytes lines failed other parts page found recorded whole (inl stops) = inr (none_ends setup.page outcome text failed parts page found stops.why)
+under_ends meaning opened setup capture out read taken written outcome text bytes lines failed other parts page found recorded whole (inr plays) =
     let same : plays.parts ≡ parts = one_setup setup.page text failed parts plays.parts page found plays.found in
-    capture_ends (meaning plays.parts) capture.page out.page written.page taken.left came bytes lines other recorded (ap (λ (s : Parts). (meaning s).comes bytes) same ∙ whole) plays.converts
+    capture_ends (meaning plays.parts) capture.page out.page written.page taken.left outcome bytes lines other recorded (ap (λ (s : Parts). (meaning s).comes bytes) same ∙ whole) plays.converts
 
 -- a run over a setup and a capture without a refused place comes to the lines that tell it, or to want of memory
-pub complete_under : (played : PlayedCommand) (lines : Config → List ℕ → List ℕ) → ((cfg : Config) (bytes : List ℕ) → (played.meaning cfg).comes bytes ≡ end_told (outline_of bytes).fault (lines cfg bytes))
-    → (arguments : PlayedArguments) (old new : Told) (came : Came) (text bytes : List ℕ) (failed other : Bool) (setup : Parts) → Performs (command_of played) arguments old new came → old.page arguments.setup ≡ Holds text failed → judged text ≡ Ok setup → old.page arguments.capture ≡ Holds bytes other → (outline_of bytes).fault ≡ None → NothingFailed old.faults new.faults
-    → (came ≡ Done (lines (config_of arguments setup) bytes)) ⊎ (came ≡ Failed faults.NoMemory)
-complete_under played lines told arguments old new came text bytes failed other setup performs page found recorded whole none =
+pub complete_under : (played : PlayedCommand) (lines : Config → List ℕ → List ℕ) → ((cfg : Config) (bytes : List ℕ) → (played.meaning cfg).comes bytes ≡ end_outcome (outline_of bytes).fault (lines cfg bytes))
+    → (arguments : PlayedArguments) (old new : Told) (outcome : OutcomeView) (text bytes : List ℕ) (failed other : Bool) (setup : Parts) → Performs (command_of played) arguments old new outcome → old.page arguments.setup ≡ Holds text failed → judged text ≡ Ok setup → old.page arguments.capture ≡ Holds bytes other → (outline_of bytes).fault ≡ None → NothingFailed old.faults new.faults
+    → (outcome ≡ Done (lines (config_of arguments setup) bytes)) ⊎ (outcome ≡ Failed faults.NoMemory)
+complete_under played lines told arguments old new outcome text bytes failed other setup performs page found recorded whole none =
     let cfg = config_of arguments setup in
-    let done = told cfg bytes ∙ whole_told (outline_of bytes).fault (lines cfg bytes) whole in
-    elim (under_ends (λ parts. played.meaning (config_of arguments parts)) performs.opened (file_told old arguments.setup) (file_told old arguments.capture) (file_told old arguments.out) (file_told new arguments.setup) (file_told new arguments.capture) (file_told new arguments.out) came text bytes (lines cfg bytes) failed other setup page found recorded done performs.does) [
+    let done = told cfg bytes ∙ whole_outcome (outline_of bytes).fault (lines cfg bytes) whole in
+    elim (under_ends (λ parts. played.meaning (config_of arguments parts)) performs.opened (file_told old arguments.setup) (file_told old arguments.capture) (file_told old arguments.out) (file_told new arguments.setup) (file_told new arguments.capture) (file_told new arguments.out) outcome text bytes (lines cfg bytes) failed other setup page found recorded done performs.does) [
       | inl done ↦ inl done
-      | inr fault ↦ inr (memory_alone old.faults new.faults came fault.0 performs.counts none fault.1)
+      | inr fault ↦ inr (memory_alone old.faults new.faults outcome fault.0 performs.counts none fault.1)
     ]
 
 -- memory is wanting before the capture is read or not at all, where it can't be later

@@ -3,8 +3,8 @@ use Rattle.std.specs.Prelude.{◌≡◌, ◌≢◌, ℕ, ℤ, List, [], ◌∷�
 use Rattle.std.specs.Fmt.{signed_decimal}
 use Rattle.std.specs.Int.{w64}
 use Rattle.tesla_desk.specs.Outside.{Opening, OfSource, OfSink}
-use Rattle.tesla_front.specs.Words.{IsName, IsNumberWithin, ArePlaces}
-use Rattle.tesla_front.specs.declared.words.Places.{Places}
+use Rattle.tesla_front.specs.Words.{IsName, IsNumberWithin, ArePacketLimits}
+use Rattle.tesla_front.specs.declared.words.PacketLimits.{PacketLimits}
 use Rattle.tesla_run_replay.specs.declared.arguments.Arguments.{Arguments}
 use Rattle.tesla_run_replay.specs.declared.arguments.Capacity.{Capacity}
 use Rattle.tesla_run_replay.specs.declared.arguments.Capacity.TheVariants as capacities
@@ -20,13 +20,13 @@ abbrev pub form_of : Form → PlayedForm
 form_of form = record { name = form.name.now; capacity = form.capacity }
 
 -- the form of a command of that name whose CAPACITY may have a slash
-abbrev pub places_form : List ℕ → PlayedForm
-places_form name = record { name = name; capacity = capacities.Places }
+abbrev pub limits_form : List ℕ → PlayedForm
+limits_form name = record { name = name; capacity = capacities.PacketLimits }
 
 -- the word spells how many packets are held at most
-abbrev pub IsCapacity : Capacity → List ℕ → Places → Type 0
-IsCapacity capacities.Places word places = ArePlaces word places
-IsCapacity (capacities.Whole most) word places = IsNumberWithin 1 most word places.capacity × (places.quota ≡ places.capacity)
+abbrev pub IsCapacity : Capacity → List ℕ → PacketLimits → Type 0
+IsCapacity capacities.PacketLimits word limits = ArePacketLimits word limits
+IsCapacity (capacities.Whole most) word limits = IsNumberWithin 1 most word limits.capacity × (limits.quota ≡ limits.capacity)
 
 -- the names are names of files, and the output is neither of the inputs
 pub record AreNames (setup capture out : List ℕ) : Type 0 where
@@ -40,14 +40,14 @@ pub record AreNames (setup capture out : List ℕ) : Type 0 where
 pub record PlayedArguments : Type 0 where
   pub setup : List ℕ
   pub lag : ℤ
-  pub places : Places
+  pub limits : PacketLimits
   pub capture : List ℕ
   pub out : List ℕ
 
 -- what the words that were read ask for
 abbrev pub arguments_of : Arguments → PlayedArguments
 arguments_of words =
-    record { setup = words.names.setup.now; lag = words.lag; places = words.places; capture = words.names.capture.now; out = words.names.out.now }
+    record { setup = words.names.setup.now; lag = words.lag; limits = words.limits; capture = words.names.capture.now; out = words.names.out.now }
 
 -- its files, in the order in which they are opened
 abbrev pub files_of : PlayedArguments → List Opening
@@ -58,7 +58,7 @@ pub record IsPlayed (form : PlayedForm) (arguments : PlayedArguments) (words : L
   pub capacity : List ℕ
   pub spelled : words ≡ form.name ∷ arguments.setup ∷ signed_decimal arguments.lag ∷ capacity ∷ arguments.capture ∷ arguments.out ∷ []
   pub lag : FitsSigned w64 arguments.lag
-  pub places : IsCapacity form.capacity capacity arguments.places
+  pub limits : IsCapacity form.capacity capacity arguments.limits
   pub names : AreNames arguments.setup arguments.capture arguments.out
 
 -- what the words of replay ask for
@@ -67,4 +67,4 @@ ReplayArguments = PlayedArguments
 
 -- the words are the form 'replay SETUP LAG CAPACITY CAPTURE OUT'
 abbrev pub IsReplay : ReplayArguments → List (List ℕ) → Type 0
-IsReplay = IsPlayed (places_form (codes "replay"))
+IsReplay = IsPlayed (limits_form (codes "replay"))

@@ -5,7 +5,7 @@ use Rattle.tesla_capture.specs.Outline.{outline_of}
 use Rattle.tesla_capture.specs.Taken.{HoldsNoRefusal}
 use Rattle.tesla_capture.specs.declared.record.RecordKind.{RecordKind}
 use Rattle.tesla_fitting.specs.declared.config.Config.{Config}
-use Rattle.tesla_front.specs.Came.{Came}
+use Rattle.tesla_front.specs.OutcomeView.{OutcomeView}
 use Rattle.tesla_receiver.specs.History.{Event, Arrives, Takes, Ends, entry_of}
 use Rattle.tesla_replay.specs.Played.{event_in}
 use Rattle.tesla_receiver.specs.Events.{after_events, waiting_in}
@@ -16,7 +16,7 @@ use Rattle.tesla_state.specs.Releases.{each_after}
 use Rattle.tesla_convert.specs.Meaning.{Meaning}
 use Rattle.tesla_convert.specs.Rule.{Rule}
 use Rattle.tesla_run_replay.specs.ReportText.{report_text}
-use Rattle.tesla_run_replay.specs.Under.{end_told}
+use Rattle.tesla_run_replay.specs.Under.{end_outcome}
 use Rattle.tesla_run_replay.specs.declared.target.PlayedEvent.{PlayedEvent}
 use Rattle.tesla_run_replay.specs.declared.target.PlayedEvent.TheVariants as played
 
@@ -69,8 +69,8 @@ record_rule rule = record {
 }
 
 -- what playing a capture of these records comes to by such a rule where nothing fails: the lines that tell its events with the end, or the refused place
-abbrev pub end_by_rule : EventRule → Option (ℕ × RecordKind) → List Record → Came
-end_by_rule rule fault records = end_told fault (rule.tells (with_end rule (events_in records)))
+abbrev pub end_by_rule : EventRule → Option (ℕ × RecordKind) → List Record → OutcomeView
+end_by_rule rule fault records = end_outcome fault (rule.tells (with_end rule (events_in records)))
 
 -- what is written of its events, and where no place is refused of the end too
 abbrev pub text_by_rule : EventRule → Option (ℕ × RecordKind) → List Record → List ℕ
@@ -113,17 +113,17 @@ receiver_by cfg begins adds tells =
     record { after = after_events cfg []; entry = entry_of cfg; begins = begins; adds = adds; waiting = waiting_in cfg; tells = tells }
 
 -- the lines of the report of a history
-abbrev pub report_told : List Entry → List ℕ
-report_told history = report_text (report_of history)
+abbrev pub history_report : List Entry → List ℕ
+history_report history = report_text (report_of history)
 
 -- what a receiver of that configuration writes, the records of what its takes give, and tells, its report
 abbrev pub rule_of : Config → EventRule
-rule_of cfg = rule_by (receiver_by cfg [] (λ history entry. record_in 0 entry) report_told)
+rule_of cfg = rule_by (receiver_by cfg [] (λ history entry. record_in 0 entry) history_report)
 
 -- what a capture comes to, told which history its records play, with its end or without, and what is told and written of that, and whether memory may be wanting once records were played
 abbrev pub meaning_of : {H : Type 0} → (List Record → Bool → H) → (H → List ℕ) → (H → List ℕ) → Type 0 → Meaning
 meaning_of plays tells text May = record {
-  comes = λ bytes. end_told (outline_of bytes).fault (tells (plays (outline_of bytes).records (is_none (outline_of bytes).fault)));
+  comes = λ bytes. end_outcome (outline_of bytes).fault (tells (plays (outline_of bytes).records (is_none (outline_of bytes).fault)));
   makes = λ bytes. text (plays (outline_of bytes).records (is_none (outline_of bytes).fault));
   so_far = λ read. text (plays (outline_of read).records false);
   IsUnrefused = HoldsNoRefusal capture;

@@ -5,7 +5,7 @@ use Rattle.tesla_capture.specs.Outline.{outline_of}
 use Rattle.tesla_capture.specs.Taken.{HoldsNoRefusal}
 use Rattle.tesla_capture.specs.declared.record.RecordKind.{RecordKind}
 use Rattle.tesla_fitting.specs.declared.config.Config.{Config}
-use Rattle.tesla_front.specs.Came.{Came}
+use Rattle.tesla_front.specs.OutcomeView.{OutcomeView}
 use Rattle.tesla_front.specs.Command.{Command}
 use Rattle.tesla_receiver.specs.declared.history.Entry.{Entry}
 use Rattle.tesla_receiver.specs.History.{arrivals_in}
@@ -13,17 +13,17 @@ use Rattle.tesla_replay.specs.Played.{played}
 use Rattle.tesla_receiver.specs.Report.{report_of}
 use Rattle.tesla_replay.specs.Records.{records_of, released_text}
 use Rattle.tesla_convert.specs.Meaning.{Meaning}
-use Rattle.tesla_run_replay.specs.Arguments.{places_form}
+use Rattle.tesla_run_replay.specs.Arguments.{limits_form}
 use Rattle.tesla_run_replay.specs.ReportText.{report_text}
-use Rattle.tesla_run_replay.specs.Under.{PlayedCommand, command_of, end_told}
+use Rattle.tesla_run_replay.specs.Under.{PlayedCommand, command_of, end_outcome}
 
 -- the one history that a file plays: that of the records before its first refused place, and where there is none the end and takes up to the first that is over
 abbrev pub history_of : Config → List ℕ → List Entry
 history_of cfg bytes = played cfg (outline_of bytes).records (is_none (outline_of bytes).fault)
 
 -- what playing a file comes to where nothing fails: the report of its history, or the refused place
-abbrev pub end_of : Config → List ℕ → Came
-end_of cfg bytes = end_told (outline_of bytes).fault (report_text (report_of (history_of cfg bytes)))
+abbrev pub end_of : Config → List ℕ → OutcomeView
+end_of cfg bytes = end_outcome (outline_of bytes).fault (report_text (report_of (history_of cfg bytes)))
 
 -- what is written: the records of all that is released in the history, or where a place is refused the records of its takes
 abbrev pub text_by : Option (ℕ × RecordKind) → Config → List Entry → List ℕ
@@ -43,7 +43,7 @@ meaning cfg = record { comes = end_of cfg; makes = out_text cfg; so_far = text_s
 
 -- the command: its words, and what a capture comes to under a setup
 abbrev pub replayed : PlayedCommand
-replayed = record { form = places_form (codes "replay"); meaning = meaning }
+replayed = record { form = limits_form (codes "replay"); meaning = meaning }
 
 abbrev pub replay : Command
 replay = command_of replayed

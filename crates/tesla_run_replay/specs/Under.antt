@@ -4,7 +4,7 @@ use Rattle.tesla_capture.specs.Names.{kind_name}
 use Rattle.tesla_capture.specs.declared.record.RecordKind.{RecordKind}
 use Rattle.tesla_commit.specs.Parts.{Parts}
 use Rattle.tesla_fitting.specs.declared.config.Config.{Config}
-use Rattle.tesla_front.specs.Came.{Came, Done, Refused, Failed}
+use Rattle.tesla_front.specs.OutcomeView.{OutcomeView, Done, Refused, Failed}
 use Rattle.tesla_front.specs.Command.{Command}
 use Rattle.tesla_front.specs.Openings.{File}
 use Rattle.tesla_front.specs.Refusal.{refused_line}
@@ -21,26 +21,26 @@ pub record PlayedCommand : Type 1 where
 -- the configuration of a receiver of such words, with one ingest
 abbrev pub config_of : PlayedArguments → Parts → Config
 config_of arguments setup =
-    record { setup = setup; lag = arguments.lag; capacity = arguments.places.capacity; quota = arguments.places.quota; ingests = 1 }
+    record { setup = setup; lag = arguments.lag; capacity = arguments.limits.capacity; quota = arguments.limits.quota; ingests = 1 }
 
 -- what a capture of that refused place comes to where nothing fails: the lines that tell what was played, or the place
-abbrev pub end_told : Option (ℕ × RecordKind) → List ℕ → Came
-end_told None lines = Done lines
-end_told (Some fault) lines = Refused 3 (refused_line (codes "capture") fault.0 (kind_name fault.1))
+abbrev pub end_outcome : Option (ℕ × RecordKind) → List ℕ → OutcomeView
+end_outcome None lines = Done lines
+end_outcome (Some fault) lines = Refused 3 (refused_line (codes "capture") fault.0 (kind_name fault.1))
 
 -- under the setup the capture was played, told what there was of each file before, and of the capture and the output afterwards, and how many files were asked for, of which the setup is the first
-pub record PlaysUnder (meaning : Parts → Meaning) (setup capture capture_now out out_now : File) (opened : ℕ) (came : Came) : Type 0 where
+pub record PlaysUnder (meaning : Parts → Meaning) (setup capture capture_now out out_now : File) (opened : ℕ) (outcome : OutcomeView) : Type 0 where
   pub parts : Parts
   pub found : IsSetupIn setup.page parts
-  pub converts : Converts (meaning parts) capture.page capture_now.left out.page out_now.page came
+  pub converts : Converts (meaning parts) capture.page capture_now.left out.page out_now.page outcome
   -- memory is wanting only before the first byte of the capture is read, unless it may be wanting later
-  pub unread : ((meaning parts).MayWant → ⊥) → came ≡ Failed faults.NoMemory → IsUnread 1 opened capture.page capture_now.left
+  pub unread : ((meaning parts).MayWant → ⊥) → outcome ≡ Failed faults.NoMemory → IsUnread 1 opened capture.page capture_now.left
 
 -- what such a command does: there is no setup, or the capture was played under it
-abbrev pub DoesUnder : (Parts → Meaning) → ℕ → List File → List File → Came → Type 0
-DoesUnder meaning opened (setup ∷ capture ∷ out ∷ []) (setup_now ∷ capture_now ∷ out_now ∷ []) came =
-    StopsAtSetup setup opened came ⊎ PlaysUnder meaning setup capture capture_now out out_now opened came
-DoesUnder meaning opened before after came = ⊥
+abbrev pub DoesUnder : (Parts → Meaning) → ℕ → List File → List File → OutcomeView → Type 0
+DoesUnder meaning opened (setup ∷ capture ∷ out ∷ []) (setup_now ∷ capture_now ∷ out_now ∷ []) outcome =
+    StopsAtSetup setup opened outcome ⊎ PlaysUnder meaning setup capture capture_now out out_now opened outcome
+DoesUnder meaning opened before after outcome = ⊥
 
 -- the command: its words, its files and what it does
 abbrev pub command_of : PlayedCommand → Command

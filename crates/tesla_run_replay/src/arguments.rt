@@ -2,14 +2,14 @@
 
 ghost use Rattle.std.specs.Prelude.{◌≤◌};
 
-use tesla_front::Places;
+use tesla_front::PacketLimits;
 
 /// What the word CAPACITY of such a command may be.
 #[derive(Clone, Copy, Debug)]
 pub enum Capacity {
     /// A decimal from 1 to 65,536, or two with a slash between them of which the second is from 1 to the first: how many
     /// packets are held of all intervals, and of one.
-    Places,
+    PacketLimits,
     /// A decimal from 1 to `most`, which is both.
     Whole { most: u16 },
 }
@@ -42,8 +42,8 @@ pub struct Arguments<'a> {
     /// How many microseconds the sender's clock is ahead of the receiver's at most (RFC 4082, section 3.3: `D_t`).
     pub lag: i64,
     /// How many packets the receiver holds at most.
-    pub places: Places,
-    ghost some: { 1 ≤ places.quota },
-    ghost within: { places.quota ≤ places.capacity },
-    ghost most: { places.capacity ≤ 65536 },
+    pub limits: PacketLimits,
+    ghost some: { 1 ≤ limits.quota },
+    ghost within: { limits.quota ≤ limits.capacity },
+    ghost most: { limits.capacity ≤ 65536 },
 }

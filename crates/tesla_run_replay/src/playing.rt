@@ -2,7 +2,7 @@
 
 ghost use Rattle.std.specs.Prelude.{◌≡◌, ◌<◌, [], IfSome};
 ghost use Rattle.tesla_desk.specs.Faults.{HasCause, HasCauseBeside};
-ghost use Rattle.tesla_front.specs.Came.{Failed, came_of};
+ghost use Rattle.tesla_front.specs.OutcomeView.{Failed, result_view};
 ghost use Rattle.tesla_front.specs.declared.fault.Fault.TheVariants as faults;
 ghost use Rattle.tesla_convert.specs.Meaning.{ConvertsBetween};
 ghost use Rattle.tesla_run_replay.specs.Playing.{events_in, meaning_by, with_end};
@@ -39,21 +39,24 @@ pub fn play_target<L: ReplayLedger, T: Target + Drop, S: Source, O: Sink>(
     requires empty { IfSome (O.written out.old) (λ bytes. bytes ≡ []) }
     requires fresh { S.faults source.old ≡ 0 }
     requires sound { O.faults out.old ≡ 0 }
-    ensures plays { ConvertsBetween (meaning_by T.may_want (T.rule target)) (S.left source.old) (S.left source.new) (O.written out.new) (O.faults out.new) (came_of result) }
-    ensures reads { HasCause 0 (S.faults source.new) (came_of result ≡ Failed faults.Read) }
-    ensures writes { HasCauseBeside ((came_of result ≡ Failed faults.Read) × (0 < O.faults out.new)) 0 (O.faults out.new) (came_of result ≡ Failed faults.Write) }
+    ensures plays { ConvertsBetween (meaning_by T.may_want (T.rule target)) (S.left source.old) (S.left source.new) (O.written out.new) (O.faults out.new) (result_view result) }
+    ensures reads { HasCause 0 (S.faults source.new) (result_view result ≡ Failed faults.Read) }
+    ensures writes { HasCauseBeside ((result_view result ≡ Failed faults.Read) × (0 < O.faults out.new)) 0 (O.faults out.new) (result_view result ≡ Failed faults.Write) }
     ensures input { S.name source.new ≡ S.name source.old }
     ensures output { O.name out.new ≡ O.name out.old }
 {
     let steps = Steps::<L>::new(blank);
     let converter = ReplayConverter::new(target, steps);
     let (converter, ended) = Conversion::new(converter).convert(source, out);
-    told(ended, converter.target())
+    ending_result(ended, converter.target())
 }
 
 // What a conversion that ended so comes to.
-fn told<T: Target>(ended: Result<Ending<RecordKind>, Stopped>, target: &T) -> Result<Lines, Stop>
-    ensures { TellsEnd (T.rule target.now) (λ records. T.has target.now (with_end (T.rule target.now) (events_in records))) ended (came_of result) }
+fn ending_result<T: Target>(
+    ended: Result<Ending<RecordKind>, Stopped>,
+    target: &T,
+) -> Result<Lines, Stop>
+    ensures { TellsEnd (T.rule target.now) (λ records. T.has target.now (with_end (T.rule target.now) (events_in records))) ended (result_view result) }
 {
     match ended {
         Ok(Ending::End) => Ok(target.lines()),

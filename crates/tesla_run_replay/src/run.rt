@@ -2,7 +2,7 @@
 
 ghost use Rattle.std.specs.Prelude.{◌≡◌, ◌<◌, [], List, ℕ, IfSome, map, string_bytes};
 ghost use Rattle.tesla_desk.specs.Faults.{HasCause, HasCauseBeside};
-ghost use Rattle.tesla_front.specs.Came.{Failed, came_of, outcome_came};
+ghost use Rattle.tesla_front.specs.OutcomeView.{Failed, result_view, outcome_view};
 ghost use Rattle.tesla_front.specs.Command.{Performs, RunsAs};
 ghost use Rattle.tesla_front.specs.declared.fault.Fault.TheVariants as faults;
 ghost use Rattle.tesla_convert.specs.Files.{ConvertsFiles};
@@ -34,7 +34,7 @@ pub fn run_played<T: Target + Drop, D: Desk>(
     words: &[String],
     desk: &mut D,
 ) -> Outcome
-    ensures { RunsAs (command_of T.command) (map string_bytes words.now) (D.told desk.old) (D.told desk.new) (outcome_came result) }
+    ensures { RunsAs (command_of T.command) (map string_bytes words.now) (D.told desk.old) (D.told desk.new) (outcome_view result) }
 {
     let form = T::form();
     match arguments_in(&form, words) {
@@ -50,7 +50,7 @@ fn perform<T: Target + Drop, D: Desk>(
     desk: &mut D,
 ) -> Result<Lines, Stop>
     requires form { (words : List (List ℕ)) × IsPlayed T.command.form (arguments_of arguments.now) words }
-    ensures { Performs (command_of T.command) (arguments_of arguments.now) (D.told desk.old) (D.told desk.new) (came_of result) }
+    ensures { Performs (command_of T.command) (arguments_of arguments.now) (D.told desk.old) (D.told desk.new) (result_view result) }
 {
     match setup_under(alloc, arguments.names.setup, desk) {
         Ok(setup) => play_files::<T, D>(alloc, setup, arguments, desk),
@@ -65,12 +65,12 @@ fn play_files<T: Target + Drop, D: Desk>(
     arguments: &Arguments<'_>,
     desk: &mut D,
 ) -> Result<Lines, Stop>
-    requires capacity { (word : List ℕ) × IsCapacity T.command.form.capacity word arguments.now.places }
-    ensures { ConvertsFiles (T.command.meaning (config_of (arguments_of arguments.now) setup)) arguments.now.names.capture.now arguments.now.names.out.now (D.told desk.old) (D.told desk.new) (came_of result) }
+    requires capacity { (word : List ℕ) × IsCapacity T.command.form.capacity word arguments.now.limits }
+    ensures { ConvertsFiles (T.command.meaning (config_of (arguments_of arguments.now) setup)) arguments.now.names.capture.now arguments.now.names.out.now (D.told desk.old) (D.told desk.new) (result_view result) }
 {
     match open_files(arguments.names.capture, arguments.names.out, desk) {
         Ok((mut source, mut out)) => {
-            let came = play_open::<T, D::In, D::Out>(
+            let outcome = play_open::<T, D::In, D::Out>(
                 alloc,
                 setup,
                 arguments,
@@ -78,7 +78,7 @@ fn play_files<T: Target + Drop, D: Desk>(
                 &mut out,
             );
             close_files(source, out, desk);
-            came
+            outcome
         }
         Err(fault) => Err(Stop::Failed(fault)),
     }
@@ -96,13 +96,13 @@ fn play_open<T: Target + Drop, S: Source, O: Sink>(
     source: &mut S,
     out: &mut O,
 ) -> Result<Lines, Stop>
-    requires capacity { (word : List ℕ) × IsCapacity T.command.form.capacity word arguments.now.places }
+    requires capacity { (word : List ℕ) × IsCapacity T.command.form.capacity word arguments.now.limits }
     requires empty { IfSome (O.written out.old) (λ bytes. bytes ≡ []) }
     requires fresh { S.faults source.old ≡ 0 }
     requires sound { O.faults out.old ≡ 0 }
-    ensures plays { ConvertsBetween (T.command.meaning (config_of (arguments_of arguments.now) setup)) (S.left source.old) (S.left source.new) (O.written out.new) (O.faults out.new) (came_of result) }
-    ensures reads { HasCause 0 (S.faults source.new) (came_of result ≡ Failed faults.Read) }
-    ensures writes { HasCauseBeside ((came_of result ≡ Failed faults.Read) × (0 < O.faults out.new)) 0 (O.faults out.new) (came_of result ≡ Failed faults.Write) }
+    ensures plays { ConvertsBetween (T.command.meaning (config_of (arguments_of arguments.now) setup)) (S.left source.old) (S.left source.new) (O.written out.new) (O.faults out.new) (result_view result) }
+    ensures reads { HasCause 0 (S.faults source.new) (result_view result ≡ Failed faults.Read) }
+    ensures writes { HasCauseBeside ((result_view result ≡ Failed faults.Read) × (0 < O.faults out.new)) 0 (O.faults out.new) (result_view result ≡ Failed faults.Write) }
     ensures input { S.name source.new ≡ S.name source.old }
     ensures output { O.name out.new ≡ O.name out.old }
 {

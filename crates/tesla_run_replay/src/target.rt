@@ -60,7 +60,7 @@ pub trait Target {
     /// A target that has had no event, for what the words of the command ask for, under a setup. All memory is taken here,
     /// unless `may_want` is true.
     fn open(alloc: Global, arguments: &Arguments<'_>, setup: Setup) -> Result<Self, NoMemory>
-        requires capacity { (word : List ℕ) × IsCapacity command.form.capacity word arguments.now.places }
+        requires capacity { (word : List ℕ) × IsCapacity command.form.capacity word arguments.now.limits }
         ensures has { IfOk result (λ target. has target []) }
         ensures calls { IfOk result (λ target. calls target ≡ 0) }
         ensures means { IfOk result (λ target. SaysSame (meaning_by may_want (rule target)) (command.meaning (config_of (arguments_of arguments.now) setup))) };
@@ -128,13 +128,13 @@ pub fn open_receiver(
     ensures config { IfOk result (λ receiver. receiver.config ≡ config_of (arguments_of arguments.now) setup) }
     ensures stands { IfOk result (λ receiver. Stands receiver []) }
 {
-    let places = arguments.places;
+    let limits = arguments.limits;
     Receiver::open(
         alloc,
         setup,
         arguments.lag,
-        places.capacity,
-        places.quota,
+        limits.capacity,
+        limits.quota,
         1,
     )
 }
@@ -168,7 +168,7 @@ impl Target for ReceiverTarget {
     fn form() -> Form {
         Form {
             name: "replay",
-            capacity: Capacity::Places,
+            capacity: Capacity::PacketLimits,
         }
     }
 

@@ -1,12 +1,12 @@
 //! The words of a command that plays a capture under a setup.
 
 ghost use Rattle.std.specs.Prelude.{◌≡◌, ◌≤◌, [], ◌∷◌, Some, IfSome, true, false, map, string_bytes, option_map};
-ghost use Rattle.tesla_front.specs.declared.words.Places.{Places};
+ghost use Rattle.tesla_front.specs.declared.words.PacketLimits.{PacketLimits};
 ghost use Rattle.tesla_run_replay.specs.Arguments.{PlayedArguments, AreNames, IsCapacity, IsPlayed, arguments_of, form_of};
 
 use crate::arguments::{Arguments, Capacity, Form, Names};
 use tesla_base::read_signed;
-use tesla_front::{Places, is_name, number_in, places_in};
+use tesla_front::{PacketLimits, is_name, limits_in, number_in};
 
 // Whether the names are names of files, and the output's is none of the inputs'.
 fn are_names(setup: &str, capture: &str, out: &str) -> bool
@@ -29,20 +29,20 @@ fn are_names(setup: &str, capture: &str, out: &str) -> bool
 }
 
 // How many packets are held at most, as a word spells it. `None` exactly where it doesn't.
-fn capacity_in(capacity: Capacity, word: &[u8]) -> Option<Places>
-    ensures found { IfSome result (λ places. IsCapacity capacity word.now places) }
-    ensures only { (places : Places) → IsCapacity capacity word.now places → result ≡ Some places }
-    ensures some { IfSome result (λ places. 1 ≤ places.quota) }
-    ensures within { IfSome result (λ places. places.quota ≤ places.capacity) }
-    ensures most { IfSome result (λ places. places.capacity ≤ 65536) }
+fn capacity_in(capacity: Capacity, word: &[u8]) -> Option<PacketLimits>
+    ensures found { IfSome result (λ limits. IsCapacity capacity word.now limits) }
+    ensures only { (limits : PacketLimits) → IsCapacity capacity word.now limits → result ≡ Some limits }
+    ensures some { IfSome result (λ limits. 1 ≤ limits.quota) }
+    ensures within { IfSome result (λ limits. limits.quota ≤ limits.capacity) }
+    ensures most { IfSome result (λ limits. limits.capacity ≤ 65536) }
 {
     match capacity {
-        Capacity::Places => match places_in(word) {
-            Some(places) => Some(places),
+        Capacity::PacketLimits => match limits_in(word) {
+            Some(limits) => Some(limits),
             None => None,
         },
         Capacity::Whole { most } => match number_in(word, 1, u64::from(most)) {
-            Some(number) => Some(Places {
+            Some(number) => Some(PacketLimits {
                 capacity: number as u32,
                 quota: number as u32,
             }),
@@ -66,7 +66,7 @@ fn read_words<'a>(
     let Ok(lag) = read_signed(lag) else {
         return None;
     };
-    let Some(places) = capacity_in(form.capacity, capacity) else {
+    let Some(limits) = capacity_in(form.capacity, capacity) else {
         return None;
     };
     if !are_names(setup, capture, out) {
@@ -77,7 +77,7 @@ fn read_words<'a>(
         capture,
         out,
     };
-    Some(Arguments { names, lag, places })
+    Some(Arguments { names, lag, limits })
 }
 
 /// What the words of a command of this form ask for. `None` exactly where they are not of the form

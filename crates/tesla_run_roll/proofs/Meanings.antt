@@ -25,8 +25,8 @@ says_rolled cfg =
     (λ records. after_both cfg [] (events_in records) (Ends 0 ∷ replicate (suc (roll_waiting_in cfg (roll_after_events cfg [] (events_in records)))) (Takes 0))) true (Unit {0}) (λ e. tt)
 
 -- what is said by the rule of epochs of which one interval may fill one is said by their histories
-pub says_same : (arguments : PlayedArguments) (setup : Parts) (other : Config) → arguments.places.quota ≡ arguments.places.capacity
-    → other ≡ record { setup = setup; lag = arguments.lag; capacity = arguments.places.capacity; quota = arguments.places.capacity; ingests = 1 } → SaysSame (meaning_by true (roll_rule other)) (meaning (config_of arguments setup))
+pub says_same : (arguments : PlayedArguments) (setup : Parts) (other : Config) → arguments.limits.quota ≡ arguments.limits.capacity
+    → other ≡ record { setup = setup; lag = arguments.lag; capacity = arguments.limits.capacity; quota = arguments.limits.capacity; ingests = 1 } → SaysSame (meaning_by true (roll_rule other)) (meaning (config_of arguments setup))
 says_same arguments setup other whole same =
-    let config : ℕ → Config = λ quota. record { setup = setup; lag = arguments.lag; capacity = arguments.places.capacity; quota = quota; ingests = 1 } in
+    let config : ℕ → Config = λ quota. record { setup = setup; lag = arguments.lag; capacity = arguments.limits.capacity; quota = quota; ingests = 1 } in
     subst (λ (c : Config). SaysSame (meaning_by true (roll_rule c)) (meaning (config_of arguments setup))) (ap config whole ∙ sym same) (says_rolled (config_of arguments setup))

@@ -98,7 +98,7 @@ impl Target for RolloverTarget {
         arguments: &Arguments<'_>,
         setup: Setup,
     ) -> Result<RolloverTarget, NoMemory> {
-        match Rollover::open(alloc, setup, arguments.lag, arguments.places.capacity, 1) {
+        match Rollover::open(alloc, setup, arguments.lag, arguments.limits.capacity, 1) {
             Ok(rollover) => Ok(RolloverTarget {
                 alloc,
                 rollover,

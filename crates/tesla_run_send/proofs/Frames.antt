@@ -25,9 +25,9 @@ gathers_both before mid now held more rest a b first second = record {
 
 -- where the second wasn't put, a prefix of what is held and of both was written
 pub prefix_second : (before mid now : Option (List ℕ)) (held more a b : List ℕ) → Gathers before mid more (held ++ a) → AppendsPrefix mid now more → AppendsPrefix before now (held ++ (a ++ b))
-prefix_second before mid now held more a b first front =
+prefix_second before mid now held more a b first prefix =
     subst (λ (t : List ℕ). AppendsPrefix before now t) (append_assoc held a b)
-    (prefix_longer before now (held ++ a) b (subst (λ (t : List ℕ). AppendsPrefix before now t) (sym first.both) (prefix_after before mid now first.done more first.written front)))
+    (prefix_longer before now (held ++ a) b (subst (λ (t : List ℕ). AppendsPrefix before now t) (sym first.both) (prefix_after before mid now first.done more first.written prefix)))
 
 -- the bytes of a frame that was written at the front of the room
 text_is : (frame : Frame) (size : ℕ) (before now : List ℕ) → IsWritten frame size before now → take size now ≡ frame_text frame
@@ -36,10 +36,10 @@ text_is frame size before now written =
 
 -- the frame that was made was put
 pub carries_made : {E : Type 0} (answer : Result Frame E → Answer) → ((frame : Frame) → answer (Ok frame) ≡ Makes frame)
-    → (made : Result Frame E) (came : Converted ScriptKind) (first : Record) (log : List Call) (sender after : State) (size : ℕ) (room full : List ℕ) (count counted : ℕ) (before now : Option (List ℕ)) (held rest : List ℕ)
+    → (made : Result Frame E) (outcome : Converted ScriptKind) (first : Record) (log : List Call) (sender after : State) (size : ℕ) (room full : List ℕ) (count counted : ℕ) (before now : Option (List ℕ)) (held rest : List ℕ)
     → Answers {E = E} (Ok size) made room full → Stands sender (log ++ call_of first ∷ []) → after ≡ sender
-    → PutsFrame came (frame_records (reading_of first) (take size full)) count counted before now held rest
-    → CarriesOut came (answer made) first log after count counted before now held rest
+    → PutsFrame outcome (frame_records (reading_of first) (take size full)) count counted before now held rest
+    → CarriesOut outcome (answer made) first log after count counted before now held rest
 carries_made answer good (Ok frame) Whole first log sender after size room full count counted before now held rest written stands same puts =
     subst (λ (a : Answer). CarriesOut Whole a first log after count counted before now held rest) (sym (good frame)) (
       subst (λ (s : State). Stands s (log ++ call_of first ∷ [])) (sym same) stands,
@@ -50,4 +50,4 @@ carries_made answer good (Ok frame) WriteFault first log sender after size room 
     subst (λ (a : Answer). CarriesOut WriteFault a first log after count counted before now held rest) (sym (good frame))
     (subst (λ (bytes : List ℕ). PutsFrame WriteFault (frame_records (reading_of first) bytes) count counted before now held rest) (text_is frame size room full written) puts)
 carries_made answer good (Ok frame) NoMemory first log sender after size room full count counted before now held rest written stands same puts = absurd puts
-carries_made answer good (Err refusal) came first log sender after size room full count counted before now held rest written stands same puts = absurd written
+carries_made answer good (Err refusal) outcome first log sender after size room full count counted before now held rest written stands same puts = absurd written

@@ -7,7 +7,7 @@ use Rattle.tesla_convert.proofs.Unread.{unread_behind, unread_never}
 use Rattle.tesla_desk.specs.Faults.{HasCause, HasCauseBeside}
 use Rattle.tesla_desk.specs.Outside.{Page, Told, OfSource, OfSink}
 use Rattle.tesla_desk.proofs.Counts.{causes_plain, causes_then}
-use Rattle.tesla_front.specs.Came.{Came, Failed}
+use Rattle.tesla_front.specs.OutcomeView.{OutcomeView, Failed}
 use Rattle.tesla_front.specs.Command.{Performs}
 use Rattle.tesla_front.specs.Openings.{AreFiles}
 use Rattle.tesla_front.specs.declared.fault.Fault.{Fault}
@@ -25,8 +25,8 @@ are_files arguments words is = (is.spelled.rest.first.0.file, (is.spelled.rest.r
 
 -- ---- the script
 
-files_sent : (stream : Stream) (script out : List ℕ) (old new : Told) (came : Came) → ConvertsFiles (meaning stream) script out old new came → (came ≡ Failed faults.NoMemory → new.page out ≡ old.page out) → SendsFiles stream script out old new came
-files_sent stream script out old new came converts memory = record {
+files_sent : (stream : Stream) (script out : List ℕ) (old new : Told) (outcome : OutcomeView) → ConvertsFiles (meaning stream) script out old new outcome → (outcome ≡ Failed faults.NoMemory → new.page out ≡ old.page out) → SendsFiles stream script out old new outcome
+files_sent stream script out old new outcome converts memory = record {
   opened = converts.opened;
   opens = converts.opens;
   sends = record {
@@ -39,11 +39,11 @@ files_sent stream script out old new came converts memory = record {
 }
 
 -- both files were opened, the script was sent, and both were closed
-pub sent_closed : (stream : Stream) (script out input output : List ℕ) (before empty left written : Option (List ℕ)) (taken given : ℕ) (came : Came) (old mid new : Told) → input ≡ script → output ≡ out → OpensBoth script out before empty old mid → ConvertsBetween (meaning stream) before left written given came → (came ≡ Failed faults.NoMemory → ⊥)
-    → HasCause 0 taken (came ≡ Failed faults.Read) → HasCauseBeside ((came ≡ Failed faults.Read) × (0 < given)) 0 given (came ≡ Failed faults.Write) → ClosesBoth input output left written taken given mid new → SendsFiles stream script out old new came
-sent_closed stream script out input output before empty left written taken given came old mid new same own opens between memory reads writes closes =
-    files_sent stream script out old new came
-    (converts_closed (meaning stream) script out before empty left written taken given came old mid new opens between reads writes
+pub sent_closed : (stream : Stream) (script out input output : List ℕ) (before empty left written : Option (List ℕ)) (taken given : ℕ) (outcome : OutcomeView) (old mid new : Told) → input ≡ script → output ≡ out → OpensBoth script out before empty old mid → ConvertsBetween (meaning stream) before left written given outcome → (outcome ≡ Failed faults.NoMemory → ⊥)
+    → HasCause 0 taken (outcome ≡ Failed faults.Read) → HasCauseBeside ((outcome ≡ Failed faults.Read) × (0 < given)) 0 given (outcome ≡ Failed faults.Write) → ClosesBoth input output left written taken given mid new → SendsFiles stream script out old new outcome
+sent_closed stream script out input output before empty left written taken given outcome old mid new same own opens between memory reads writes closes =
+    files_sent stream script out old new outcome
+    (converts_closed (meaning stream) script out before empty left written taken given outcome old mid new opens between reads writes
     (subst (λ (n : List ℕ). ClosesBoth n out left written taken given mid new) same (subst (λ (n : List ℕ). ClosesBoth input n left written taken given mid new) own closes)))
     (λ e. absurd (memory e))
 
@@ -54,18 +54,18 @@ sent_unopened stream script out fault old new refused = files_sent stream script
 -- ---- the command
 
 -- there was no sender
-pub performs_unsent : (arguments : SendArguments) (before now : Told) (came : Came) → AreFiles (files_of_send arguments) → OpensNoSender arguments.setup arguments.secret came before now → Performs send arguments before now came
-performs_unsent arguments before now came named none = record {
+pub performs_unsent : (arguments : SendArguments) (before now : Told) (outcome : OutcomeView) → AreFiles (files_of_send arguments) → OpensNoSender arguments.setup arguments.secret outcome before now → Performs send arguments before now outcome
+performs_unsent arguments before now outcome named none = record {
   named = named;
   opened = none.opened;
-  opens = opens_no_more arguments.setup arguments.secret (OfSource arguments.script ∷ OfSink arguments.out ∷ []) came before now none;
+  opens = opens_no_more arguments.setup arguments.secret (OfSource arguments.script ∷ OfSink arguments.out ∷ []) outcome before now none;
   does = inl none.why;
   counts = causes_plain before.faults now.faults none.causes;
 }
 
 -- the sender was opened, and the script sent
-pub performs_sent : (arguments : SendArguments) (stream : Stream) (before mid now : Told) (came : Came) → AreFiles (files_of_send arguments) → OpensSender arguments.setup arguments.secret stream before mid → SendsFiles stream arguments.script arguments.out mid now came → Performs send arguments before now came
-performs_sent arguments stream before mid now came named opens sends =
+pub performs_sent : (arguments : SendArguments) (stream : Stream) (before mid now : Told) (outcome : OutcomeView) → AreFiles (files_of_send arguments) → OpensSender arguments.setup arguments.secret stream before mid → SendsFiles stream arguments.script arguments.out mid now outcome → Performs send arguments before now outcome
+performs_sent arguments stream before mid now outcome named opens sends =
     let script = arguments.script in
     let out = arguments.out in
     record {
@@ -76,8 +76,8 @@ performs_sent arguments stream before mid now came named opens sends =
         stream = stream;
         is = opens.is;
         sends = record {
-          converts = subst (λ (p : Page). Converts (meaning stream) p (now.left script) (before.page out) (now.page out) came) (opens.pages script)
-              (subst (λ (p : Page). Converts (meaning stream) (mid.page script) (now.left script) p (now.page out) came) (opens.pages out) sends.sends.converts);
+          converts = subst (λ (p : Page). Converts (meaning stream) p (now.left script) (before.page out) (now.page out) outcome) (opens.pages script)
+              (subst (λ (p : Page). Converts (meaning stream) (mid.page script) (now.left script) p (now.page out) outcome) (opens.pages out) sends.sends.converts);
           memory = λ e. sends.sends.memory e ∙ opens.pages out;
           unread = λ e. subst (λ (p : Page). IsUnread 2 (suc (suc sends.opened)) p (now.left script)) (opens.pages script) (sends.sends.unread e);
         };

@@ -52,9 +52,9 @@ sent_more answer first stream sender records count counted is same count_is stan
 pub gathers_nothing : (before now : Option (List ℕ)) (held rest : List ℕ) → now ≡ before → rest ≡ held → Gathers before now rest (held ++ [])
 gathers_nothing before now held rest written same = record { done = []; written = written ∙ appends_none before; both = append-nil held ∙ sym same }
 
-answers_by : (came : Converted ScriptKind) (answer : Answer) (first : Record) (stream : Stream) (sender : State) (records : List Record) (count counted : ℕ) (before now : Option (List ℕ)) (held rest : List ℕ)
+answers_by : (outcome : Converted ScriptKind) (answer : Answer) (first : Record) (stream : Stream) (sender : State) (records : List Record) (count counted : ℕ) (before now : Option (List ℕ)) (held rest : List ℕ)
     → answer_to stream (log_of stream records) first ≡ answer → sender.stream ≡ stream → count ≡ frames_of stream records
-    → CarriesOut came answer first (log_of stream records) sender count counted before now held rest → Answers script (rule_of stream) (λ (rs : List Record). HasSent stream sender counted rs) records first came before now held rest
+    → CarriesOut outcome answer first (log_of stream records) sender count counted before now held rest → Answers script (rule_of stream) (λ (rs : List Record). HasSent stream sender counted rs) records first outcome before now held rest
 answers_by converted.Whole (Makes frame) first stream sender records count counted before now held rest is same count_is does = (
   ap refusal_of is,
   sent_more (Makes frame) first stream sender records count counted is same count_is does.0 does.1.0,
@@ -78,14 +78,14 @@ answers_by converted.NoMemory MakesNone first stream sender records count counte
 answers_by converted.NoMemory (Refuses kind) first stream sender records count counted before now held rest is same count_is does = absurd does
 
 -- the answer to a record was carried out, behind the records that its sender was given before
-pub answers_record : (came : Converted ScriptKind) (given first : Record) (stream : Stream) (old sender : State) (records : List Record) (count counted : ℕ) (before now : Option (List ℕ)) (held rest : List ℕ)
-    → given ≡ first → HasSent stream old count records → sender.stream ≡ old.stream → ((log : List Call) → Stands old log → CarriesOut came (answer_to old.stream log first) first log sender count counted before now held rest)
-    → Answers script (rule_of stream) (λ (rs : List Record). HasSent stream sender counted rs) records given came before now held rest
-answers_record came given first stream old sender records count counted before now held rest is has same does =
-    let carries : CarriesOut came (answer_to stream (log_of stream records) first) first (log_of stream records) sender count counted before now held rest =
-    subst (λ (s : Stream). CarriesOut came (answer_to s (log_of stream records) first) first (log_of stream records) sender count counted before now held rest) has.of_stream (does (log_of stream records) has.stands) in
-    subst (λ (r : Record). Answers script (rule_of stream) (λ (rs : List Record). HasSent stream sender counted rs) records r came before now held rest) (sym is)
-    (answers_by came (answer_to stream (log_of stream records) first) first stream sender records count counted before now held rest refl (same ∙ has.of_stream) has.counted carries)
+pub answers_record : (outcome : Converted ScriptKind) (given first : Record) (stream : Stream) (old sender : State) (records : List Record) (count counted : ℕ) (before now : Option (List ℕ)) (held rest : List ℕ)
+    → given ≡ first → HasSent stream old count records → sender.stream ≡ old.stream → ((log : List Call) → Stands old log → CarriesOut outcome (answer_to old.stream log first) first log sender count counted before now held rest)
+    → Answers script (rule_of stream) (λ (rs : List Record). HasSent stream sender counted rs) records given outcome before now held rest
+answers_record outcome given first stream old sender records count counted before now held rest is has same does =
+    let carries : CarriesOut outcome (answer_to stream (log_of stream records) first) first (log_of stream records) sender count counted before now held rest =
+    subst (λ (s : Stream). CarriesOut outcome (answer_to s (log_of stream records) first) first (log_of stream records) sender count counted before now held rest) has.of_stream (does (log_of stream records) has.stands) in
+    subst (λ (r : Record). Answers script (rule_of stream) (λ (rs : List Record). HasSent stream sender counted rs) records r outcome before now held rest) (sym is)
+    (answers_by outcome (answer_to stream (log_of stream records) first) first stream sender records count counted before now held rest refl (same ∙ has.of_stream) has.counted carries)
 
 -- ---- all records
 
@@ -94,24 +94,24 @@ abbrev made_sending : Sending → Made ScriptKind
 made_sending s = record { text = flat_map captures.record_text (capture_of s.sent); refused = s.refused }
 
 -- what is made of a record, told what is made of those behind it
-first_made : (answer : Answer) (first : Record) (place : ℕ) (log : List Call) (others : List Call → Sending) (behind : Made ScriptKind) → behind ≡ made_sending (others (log_with answer first log)) → made_first (refusal_of answer) place (adds_by answer first) behind ≡ made_sending (sending_by answer first place log others)
-first_made (Makes frame) first place log others behind e =
+first_made : (answer : Answer) (first : Record) (offset : ℕ) (log : List Call) (others : List Call → Sending) (behind : Made ScriptKind) → behind ≡ made_sending (others (log_with answer first log)) → made_first (refusal_of answer) offset (adds_by answer first) behind ≡ made_sending (sending_by answer first offset log others)
+first_made (Makes frame) first offset log others behind e =
     let after : Sending = others (log ++ call_of first ∷ []) in
     let text : List ℕ = flat_map captures.record_text (capture_of after.sent) in
     ap (with_text (frame_records (reading_of first) (frame_text frame))) e
     ∙ ap (λ (t : List ℕ). let m : Made ScriptKind = record { text = t; refused = after.refused } in m) (append_assoc (captures.record_text (captures.Arrives (reading_of first) (frame_text frame))) (captures.record_text captures.Takes) text)
-first_made MakesNone first place log others behind e = e
-first_made (Refuses kind) first place log others behind e = refl
+first_made MakesNone first offset log others behind e = e
+first_made (Refuses kind) first offset log others behind e = refl
 
 -- what is made of records, of which the first stands at a place, behind others
 records_made : (stream : Stream) (behind : Behind ScriptKind) (end : Option (ℕ × ScriptKind)) → ((before : List Record) → made_behind script ScriptKind (rule_of stream) behind before ≡ record { text = []; refused = end })
-    → (place : ℕ) (before records : List Record) → made_of script ScriptKind (rule_of stream) behind place before records ≡ made_sending (sending_of stream end records place (log_of stream before))
-records_made stream behind end ends place before [] = ends before
-records_made stream behind end ends place before (first ∷ records) =
+    → (offset : ℕ) (before records : List Record) → made_of script ScriptKind (rule_of stream) behind offset before records ≡ made_sending (sending_of stream end records offset (log_of stream before))
+records_made stream behind end ends offset before [] = ends before
+records_made stream behind end ends offset before (first ∷ records) =
     let answer : Answer = answer_to stream (log_of stream before) first in
-    let others : List Call → Sending = sending_of stream end records (place + length (record_text first)) in
-    first_made answer first place (log_of stream before) others (made_of script ScriptKind (rule_of stream) behind (place + length (record_text first)) (before ++ first ∷ []) records)
-    (records_made stream behind end ends (place + length (record_text first)) (before ++ first ∷ []) records ∙ ap (λ (log : List Call). made_sending (others log)) (log_more stream [] before first))
+    let others : List Call → Sending = sending_of stream end records (offset + length (record_text first)) in
+    first_made answer first offset (log_of stream before) others (made_of script ScriptKind (rule_of stream) behind (offset + length (record_text first)) (before ++ first ∷ []) records)
+    (records_made stream behind end ends (offset + length (record_text first)) (before ++ first ∷ []) records ∙ ap (λ (log : List Call). made_sending (others log)) (log_more stream [] before first))
 
 -- what stands behind the records of a file
 file_ends : (stream : Stream) (fault : Option (ℕ × RecordKind)) (before : List Record) → made_behind script ScriptKind (rule_of stream) (behind_of script ScriptKind (rule_of stream) fault) before ≡ record { text = []; refused = end_of_file fault }
@@ -127,17 +127,17 @@ made_is stream bytes =
 pub so_far_is : (stream : Stream) (read : List ℕ) → made_so_far script ScriptKind (rule_of stream) read ≡ record { text = sent_text (sending_so_far stream read).sent; refused = (sending_so_far stream read).refused }
 so_far_is stream read = ap (with_text captures.head) (records_made stream Unread None (λ before. refl) 5 [] (outline_of script read).records)
 
-first_counted : (answer : Answer) (first : Record) (place : ℕ) (log : List Call) (others : List Call → Sending) (n : ℕ) → ((others (log_with answer first log)).refused ≡ None → n ≡ length (others (log_with answer first log)).sent)
-    → (sending_by answer first place log others).refused ≡ None → frames_in answer + n ≡ length (sending_by answer first place log others).sent
-first_counted (Makes frame) first place log others n counts none = let same : n ≡ length (others (log ++ call_of first ∷ [])).sent = counts none in omega (arith, same)
-first_counted MakesNone first place log others n counts none = let same : n ≡ length (others log).sent = counts none in omega (arith, same)
-first_counted (Refuses kind) first place log others n counts none = absurd cc
+first_counted : (answer : Answer) (first : Record) (offset : ℕ) (log : List Call) (others : List Call → Sending) (n : ℕ) → ((others (log_with answer first log)).refused ≡ None → n ≡ length (others (log_with answer first log)).sent)
+    → (sending_by answer first offset log others).refused ≡ None → frames_in answer + n ≡ length (sending_by answer first offset log others).sent
+first_counted (Makes frame) first offset log others n counts none = let same : n ≡ length (others (log ++ call_of first ∷ [])).sent = counts none in omega (arith, same)
+first_counted MakesNone first offset log others n counts none = let same : n ≡ length (others log).sent = counts none in omega (arith, same)
+first_counted (Refuses kind) first offset log others n counts none = absurd cc
 
 -- where no record is refused, these are the frames that are sent
-pub frames_counted : (stream : Stream) (end : Option (ℕ × ScriptKind)) (place : ℕ) (log : List Call) (records : List Record) → (sending_of stream end records place log).refused ≡ None → frames_behind stream log records ≡ length (sending_of stream end records place log).sent
-frames_counted stream end place log [] none = refl
-frames_counted stream end place log (first ∷ records) none =
+pub frames_counted : (stream : Stream) (end : Option (ℕ × ScriptKind)) (offset : ℕ) (log : List Call) (records : List Record) → (sending_of stream end records offset log).refused ≡ None → frames_behind stream log records ≡ length (sending_of stream end records offset log).sent
+frames_counted stream end offset log [] none = refl
+frames_counted stream end offset log (first ∷ records) none =
     let answer : Answer = answer_to stream log first in
     let after : List Call = log_with answer first log in
-    first_counted answer first place log (sending_of stream end records (place + length (record_text first))) (frames_behind stream after records)
-    (λ whole. frames_counted stream end (place + length (record_text first)) after records whole) none
+    first_counted answer first offset log (sending_of stream end records (offset + length (record_text first))) (frames_behind stream after records)
+    (λ whole. frames_counted stream end (offset + length (record_text first)) after records whole) none

@@ -7,7 +7,7 @@ use Rattle.tesla_commit.specs.Parts.{Parts}
 use Rattle.tesla_desk.specs.Faults.{Faults, HasCauses}
 use Rattle.tesla_desk.specs.Outside.{Opening, OfSource, Page, Told, with_openings}
 use Rattle.tesla_desk.proofs.Counts.{cause_none, causes_none}
-use Rattle.tesla_front.specs.Came.{Came, Refused, Failed, stop_came}
+use Rattle.tesla_front.specs.OutcomeView.{OutcomeView, Refused, Failed, stop_view}
 use Rattle.tesla_front.specs.Openings.{IsAmong, Opens, OpensSome, file_told}
 use Rattle.tesla_front.specs.Refusal.{StopCauses, refused_line}
 use Rattle.tesla_front.specs.Seeds.{IsNoSeeds, IsSeedsIn}
@@ -43,21 +43,21 @@ seed_is_wrong stream refusal number line status text made is told three spelled 
 )
 
 -- why no sender is opened is no fault but want of memory
-no_sender_fault : (stream : Stream) (came : Came) (fault : Fault) → IsNoSender stream came → (fault ≡ faults.NoMemory → ⊥) → came ≡ Failed fault → ⊥
-no_sender_fault stream came fault (inl (line, wrong, told)) other e = cc
-no_sender_fault stream came fault (inr told) other e = let memory : fault ≡ faults.NoMemory = cc in other memory
+no_sender_fault : (stream : Stream) (outcome : OutcomeView) (fault : Fault) → IsNoSender stream outcome → (fault ≡ faults.NoMemory → ⊥) → outcome ≡ Failed fault → ⊥
+no_sender_fault stream outcome fault (inl (line, wrong, told)) other e = cc
+no_sender_fault stream outcome fault (inr told) other e = let memory : fault ≡ faults.NoMemory = cc in other memory
 
 -- ---- no sender
 
 -- what a stop raised, whatever its call gives else
-stop_causes : {A : Type 0} (stop : Stop) (old new : Faults) → StopCauses {A = A} (Err stop) old new → HasCauses old new (stop_came stop ≡ Failed faults.Read) (stop_came stop ≡ Failed faults.Write) (stop_came stop ≡ Failed faults.Open)
+stop_causes : {A : Type 0} (stop : Stop) (old new : Faults) → StopCauses {A = A} (Err stop) old new → HasCauses old new (stop_view stop ≡ Failed faults.Read) (stop_view stop ≡ Failed faults.Write) (stop_view stop ≡ Failed faults.Open)
 stop_causes {A} stop old new causes =
     let beside = counts_stopped {hidden = ⊥} {A = A} stop old new causes in
     record { reads = beside.reads; writes = record { stays = beside.writes.stays; rose = beside.writes.rose; still = λ none. beside.writes.still none (λ never. never) }; openings = beside.openings }
 
 module _ (setup secret : List ℕ) (old : Told) where
   -- there was no setup
-  pub unset : (stop : Stop) (new : Told) → OpensSome (OfSource setup ∷ []) old new → new.live ≡ old.live → IsNoSetup (old.page setup) (stop_came stop) → StopCauses {A = Parts} (Err stop) old.faults new.faults → OpensNoSender setup secret (stop_came stop) old new
+  pub unset : (stop : Stop) (new : Told) → OpensSome (OfSource setup ∷ []) old new → new.live ≡ old.live → IsNoSetup (old.page setup) (stop_view stop) → StopCauses {A = Parts} (Err stop) old.faults new.faults → OpensNoSender setup secret (stop_view stop) old new
   unset stop new opens live why causes =
       let it = opens_some (OfSource setup) (OfSource secret ∷ []) old new opens in
       record { opened = it.0; few = omega (arith, it.1); opens = it.2; live = live; why = inl (record { alone = it.1; why = why }); causes = stop_causes stop old.faults new.faults causes }
@@ -68,7 +68,7 @@ module _ (setup secret : List ℕ) (old : Told) where
     set_counts = causes_none old.faults mid.faults still (λ e. absurd cc) (λ e. absurd cc) (λ e. absurd cc)
 
     -- there were no seeds
-    pub unseeded : (stop : Stop) (new : Told) → OpensSome (OfSource secret ∷ []) mid new → new.live ≡ mid.live → IsNoSeeds (length parts.rows) (mid.page secret) (stop_came stop) → StopCauses {A = List Key} (Err stop) mid.faults new.faults → OpensNoSender setup secret (stop_came stop) old new
+    pub unseeded : (stop : Stop) (new : Told) → OpensSome (OfSource secret ∷ []) mid new → new.live ≡ mid.live → IsNoSeeds (length parts.rows) (mid.page secret) (stop_view stop) → StopCauses {A = List Key} (Err stop) mid.faults new.faults → OpensNoSender setup secret (stop_view stop) old new
     unseeded stop new opens same why causes =
         let it = opens_some (OfSource secret) [] mid new opens in
         record {
@@ -76,8 +76,8 @@ module _ (setup secret : List ℕ) (old : Told) where
           few = omega (arith, it.1);
           opens = opens_then (OfSource setup) (OfSource secret ∷ []) it.0 old mid new first it.2;
           live = same ∙ live;
-          why = inr (inl (record { parts = parts; found = found; few = omega (arith, it.1); why = subst (λ (p : Page). IsNoSeeds (length parts.rows) p (stop_came stop)) (pages secret) why }));
-          causes = subst (λ (f : Faults). HasCauses f new.faults (stop_came stop ≡ Failed faults.Read) (stop_came stop ≡ Failed faults.Write) (stop_came stop ≡ Failed faults.Open)) set_counts (stop_causes stop mid.faults new.faults causes);
+          why = inr (inl (record { parts = parts; found = found; few = omega (arith, it.1); why = subst (λ (p : Page). IsNoSeeds (length parts.rows) p (stop_view stop)) (pages secret) why }));
+          causes = subst (λ (f : Faults). HasCauses f new.faults (stop_view stop ≡ Failed faults.Read) (stop_view stop ≡ Failed faults.Write) (stop_view stop ≡ Failed faults.Open)) set_counts (stop_causes stop mid.faults new.faults causes);
         }
 
     -- there were seeds
@@ -92,17 +92,17 @@ module _ (setup secret : List ℕ) (old : Told) where
       both_found = record { setup_found = found; count = count; seeds_found = subst (λ (p : Page). IsSeedsIn (length parts.rows) p seeds) (pages secret) seeds_found }
 
       -- but no sender with them
-      pub unopened : (came : Came) → IsNoSender (record { setup = parts; seeds = seeds }) came → OpensNoSender setup secret came old new
-      unopened came why = record {
+      pub unopened : (outcome : OutcomeView) → IsNoSender (record { setup = parts; seeds = seeds }) outcome → OpensNoSender setup secret outcome old new
+      unopened outcome why = record {
         opened = 2;
         few = omega arith;
         opens = both;
         live = same ∙ live;
         why = inr (inr (record { stream = record { setup = parts; seeds = seeds }; found = both_found; few = omega arith; why = why }));
         causes = record {
-          reads = cause_none old.faults.reads new.faults.reads (ap (λ (f : Faults). f.reads) both_counts) (no_sender_fault (record { setup = parts; seeds = seeds }) came faults.Read why (λ e. cc));
-          writes = cause_none old.faults.writes new.faults.writes (ap (λ (f : Faults). f.writes) both_counts) (no_sender_fault (record { setup = parts; seeds = seeds }) came faults.Write why (λ e. cc));
-          openings = cause_none old.faults.openings new.faults.openings (ap (λ (f : Faults). f.openings) both_counts) (no_sender_fault (record { setup = parts; seeds = seeds }) came faults.Open why (λ e. cc));
+          reads = cause_none old.faults.reads new.faults.reads (ap (λ (f : Faults). f.reads) both_counts) (no_sender_fault (record { setup = parts; seeds = seeds }) outcome faults.Read why (λ e. cc));
+          writes = cause_none old.faults.writes new.faults.writes (ap (λ (f : Faults). f.writes) both_counts) (no_sender_fault (record { setup = parts; seeds = seeds }) outcome faults.Write why (λ e. cc));
+          openings = cause_none old.faults.openings new.faults.openings (ap (λ (f : Faults). f.openings) both_counts) (no_sender_fault (record { setup = parts; seeds = seeds }) outcome faults.Open why (λ e. cc));
         };
       }
 
@@ -129,8 +129,8 @@ few_by first second files (suc (suc zero)) before now few opens = record { asked
 few_by first second files (suc (suc (suc n))) before now few opens = absurd (omega (arith, few))
 
 -- no file behind both was asked for
-pub opens_no_more : (setup secret : List ℕ) (files : List Opening) (came : Came) (before now : Told) → (none : OpensNoSender setup secret came before now) → Opens (OfSource setup ∷ OfSource secret ∷ files) none.opened before now
-opens_no_more setup secret files came before now none = few_by (OfSource setup) (OfSource secret) files none.opened before now none.few none.opens
+pub opens_no_more : (setup secret : List ℕ) (files : List Opening) (outcome : OutcomeView) (before now : Told) → (none : OpensNoSender setup secret outcome before now) → Opens (OfSource setup ∷ OfSource secret ∷ files) none.opened before now
+opens_no_more setup secret files outcome before now none = few_by (OfSource setup) (OfSource secret) files none.opened before now none.few none.opens
 
 both_alone : (opening first second : Opening) (others : List Opening) → (IsAmong opening (first ∷ second ∷ others) → ⊥) → IsAmong opening (first ∷ second ∷ []) → ⊥
 both_alone opening first second others none (inl same) = none (inl same)

@@ -70,17 +70,17 @@ pub record Sending : Type 0 where
 
 -- a record at a place, told what comes of the records behind it after some accepted calls
 abbrev pub sending_by : Answer → Record → ℕ → List Call → (List Call → Sending) → Sending
-sending_by (Makes frame) first place log others =
+sending_by (Makes frame) first offset log others =
     let after : Sending = others (log ++ call_of first ∷ []) in
     record { sent = record { reading = reading_of first; frame = frame } ∷ after.sent; refused = after.refused }
-sending_by MakesNone first place log others = others log
-sending_by (Refuses kind) first place log others = record { sent = []; refused = Some (place, kind) }
+sending_by MakesNone first offset log others = others log
+sending_by (Refuses kind) first offset log others = record { sent = []; refused = Some (offset, kind) }
 
 -- these records, of which the first stands at a place, after the calls that were accepted; behind them the file ends, or is refused
 abbrev pub sending_of : Stream → Option (ℕ × ScriptKind) → List Record → ℕ → List Call → Sending
-sending_of stream end [] place log = record { sent = []; refused = end }
-sending_of stream end (first ∷ records) place log =
-    sending_by (answer_to stream log first) first place log (sending_of stream end records (place + length (record_text first)))
+sending_of stream end [] offset log = record { sent = []; refused = end }
+sending_of stream end (first ∷ records) offset log =
+    sending_by (answer_to stream log first) first offset log (sending_of stream end records (offset + length (record_text first)))
 
 -- where the file itself is refused
 abbrev pub end_of_file : Option (ℕ × RecordKind) → Option (ℕ × ScriptKind)
@@ -89,7 +89,7 @@ end_of_file (Some fault) = Some (fault.0, script_kind_of fault.1)
 
 -- the records of an outline, of which the first stands at a place, after the calls that were accepted
 abbrev pub sending_in : Stream → List Call → ℕ → Outline Record → Sending
-sending_in stream log place outline = sending_of stream (end_of_file outline.fault) outline.records place log
+sending_in stream log offset outline = sending_of stream (end_of_file outline.fault) outline.records offset log
 
 -- a whole script: its records stand behind the head, and no call was accepted before
 abbrev pub sending : Stream → List ℕ → Sending

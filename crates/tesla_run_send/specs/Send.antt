@@ -4,7 +4,7 @@ use Rattle.tesla_capture.specs.Records.{outline_of}
 use Rattle.tesla_capture.specs.Script.{script}
 use Rattle.tesla_capture.specs.Taken.{HoldsNoRefusal}
 use Rattle.tesla_convert.specs.Meaning.{Converts, IsUnread, Meaning}
-use Rattle.tesla_front.specs.Came.{Came, Done, Refused, Failed}
+use Rattle.tesla_front.specs.OutcomeView.{OutcomeView, Done, Refused, Failed}
 use Rattle.tesla_front.specs.Command.{Command}
 use Rattle.tesla_front.specs.Lines.{count_line}
 use Rattle.tesla_front.specs.Openings.{File}
@@ -25,10 +25,10 @@ frames_line count = count_line (codes "frames") count
 
 -- the line that tells the place of a script that is refused, and the kind
 abbrev pub script_line : ℕ → ScriptKind → List ℕ
-script_line place kind = refused_line (codes "script") place (script_kind_name kind)
+script_line offset kind = refused_line (codes "script") offset (script_kind_name kind)
 
 -- what sending comes to where nothing fails: the number of the frames, or the refused place
-abbrev pub comes_by : Option (ℕ × ScriptKind) → List Sent → Came
+abbrev pub comes_by : Option (ℕ × ScriptKind) → List Sent → OutcomeView
 comes_by None sent = Done (frames_line (length sent))
 comes_by (Some refused) sent = Refused 3 (script_line refused.0 refused.1)
 
@@ -47,26 +47,26 @@ meaning stream = record {
 }
 
 -- what sending a script comes to, with what is told of both files before and afterwards, and how many files were asked for, of which the setup and the seeds are the first two
-pub record SendsScript (stream : Stream) (script out script_after out_after : File) (opened : ℕ) (came : Came) : Type 0 where
-  pub converts : Converts (meaning stream) script.page script_after.left out.page out_after.page came
+pub record SendsScript (stream : Stream) (script out script_after out_after : File) (opened : ℕ) (outcome : OutcomeView) : Type 0 where
+  pub converts : Converts (meaning stream) script.page script_after.left out.page out_after.page outcome
   -- memory is wanting only before the output is opened
-  pub memory : came ≡ Failed faults.NoMemory → out_after.page ≡ out.page
+  pub memory : outcome ≡ Failed faults.NoMemory → out_after.page ≡ out.page
   -- and before the first byte of the script is read
-  pub unread : came ≡ Failed faults.NoMemory → IsUnread 2 opened script.page script_after.left
+  pub unread : outcome ≡ Failed faults.NoMemory → IsUnread 2 opened script.page script_after.left
 
 -- ---- the command
 
 -- the script was sent by the sender of a setup and seeds
-pub record SendsWith (setup secret script out script_after out_after : File) (opened : ℕ) (came : Came) : Type 0 where
+pub record SendsWith (setup secret script out script_after out_after : File) (opened : ℕ) (outcome : OutcomeView) : Type 0 where
   pub stream : Stream
   pub is : IsStreamIn setup secret stream
-  pub sends : SendsScript stream script out script_after out_after opened came
+  pub sends : SendsScript stream script out script_after out_after opened outcome
 
 -- a run of the command, of which so many files were asked to be opened, with what is told of SETUP, SECRET, SCRIPT and CAPTURE before and after it, and what it came to
-abbrev pub DoesSend : SendArguments → ℕ → List File → List File → Came → Type 0
-DoesSend arguments opened (setup ∷ secret ∷ script ∷ out ∷ []) (setup_after ∷ secret_after ∷ script_after ∷ out_after ∷ []) came =
-    LacksSender setup secret opened came ⊎ SendsWith setup secret script out script_after out_after opened came
-DoesSend arguments opened before after came = ⊥
+abbrev pub DoesSend : SendArguments → ℕ → List File → List File → OutcomeView → Type 0
+DoesSend arguments opened (setup ∷ secret ∷ script ∷ out ∷ []) (setup_after ∷ secret_after ∷ script_after ∷ out_after ∷ []) outcome =
+    LacksSender setup secret opened outcome ⊎ SendsWith setup secret script out script_after out_after opened outcome
+DoesSend arguments opened before after outcome = ⊥
 
 -- the command
 abbrev pub send : Command

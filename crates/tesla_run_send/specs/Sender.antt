@@ -5,7 +5,7 @@ use Rattle.tesla_commit.specs.Parts.{Parts}
 use Rattle.tesla_convert.specs.Meaning.{StopsAtSetup}
 use Rattle.tesla_desk.specs.Faults.{HasCauses}
 use Rattle.tesla_desk.specs.Outside.{OfSource, Page, Told}
-use Rattle.tesla_front.specs.Came.{Came, Refused, Failed}
+use Rattle.tesla_front.specs.OutcomeView.{OutcomeView, Refused, Failed}
 use Rattle.tesla_front.specs.Openings.{File, Opens, file_told}
 use Rattle.tesla_front.specs.Refusal.{refused_line}
 use Rattle.tesla_front.specs.Seeds.{IsSeedsIn, IsNoSeeds}
@@ -21,12 +21,12 @@ abbrev pub wrong_line : Stream → Option ℕ
 wrong_line stream = option_map (λ (chain : Chain). chain.number + 2) (first_wrong (chains_of stream))
 
 -- what a wrong seed in this line comes to
-abbrev pub seed_refused : ℕ → Came
+abbrev pub seed_refused : ℕ → OutcomeView
 seed_refused line = Refused 3 (refused_line (codes "seeds") line (codes "WrongSeed"))
 
 -- why no sender of the stream is opened: a seed is wrong, or there was no memory
-abbrev pub IsNoSender : Stream → Came → Type 0
-IsNoSender stream came = ((line : ℕ) × (wrong_line stream ≡ Some line) × (came ≡ seed_refused line)) ⊎ (came ≡ Failed faults.NoMemory)
+abbrev pub IsNoSender : Stream → OutcomeView → Type 0
+IsNoSender stream outcome = ((line : ℕ) × (wrong_line stream ≡ Some line) × (outcome ≡ seed_refused line)) ⊎ (outcome ≡ Failed faults.NoMemory)
 
 -- ---- the files
 
@@ -37,22 +37,22 @@ pub record IsFoundIn (setup secret : Page) (stream : Stream) : Type 0 where
   pub seeds_found : IsSeedsIn (length stream.setup.rows) secret stream.seeds
 
 -- under the setup there are no seeds, and no file behind them was asked for
-pub record StopsAtSeeds (setup secret : Page) (opened : ℕ) (came : Came) : Type 0 where
+pub record StopsAtSeeds (setup secret : Page) (opened : ℕ) (outcome : OutcomeView) : Type 0 where
   pub parts : Parts
   pub found : IsSetupIn setup parts
   pub few : opened ≤ 2
-  pub why : IsNoSeeds (length parts.rows) secret came
+  pub why : IsNoSeeds (length parts.rows) secret outcome
 
 -- with the seeds that are found no sender is opened, and no file behind them was asked for
-pub record StopsAtSender (setup secret : Page) (opened : ℕ) (came : Came) : Type 0 where
+pub record StopsAtSender (setup secret : Page) (opened : ℕ) (outcome : OutcomeView) : Type 0 where
   pub stream : Stream
   pub found : IsFoundIn setup secret stream
   pub few : opened ≤ 2
-  pub why : IsNoSender stream came
+  pub why : IsNoSender stream outcome
 
 -- why there is no sender: there is no setup, there are no seeds under it, or no sender is opened with them
-abbrev pub LacksSender : File → File → ℕ → Came → Type 0
-LacksSender setup secret opened came = StopsAtSetup setup opened came ⊎ StopsAtSeeds setup.page secret.page opened came ⊎ StopsAtSender setup.page secret.page opened came
+abbrev pub LacksSender : File → File → ℕ → OutcomeView → Type 0
+LacksSender setup secret opened outcome = StopsAtSetup setup opened outcome ⊎ StopsAtSeeds setup.page secret.page opened outcome ⊎ StopsAtSender setup.page secret.page opened outcome
 
 -- the stream of a setup and its seeds, which are right
 pub record IsStreamIn (setup secret : File) (stream : Stream) : Type 0 where
@@ -70,10 +70,10 @@ pub record OpensSender (setup secret : List ℕ) (stream : Stream) (old new : To
   pub is : IsStreamIn (file_told old setup) (file_told old secret) stream
 
 -- there is no sender, so many of both were opened, and each failure raised its count
-pub record OpensNoSender (setup secret : List ℕ) (came : Came) (old new : Told) : Type 0 where
+pub record OpensNoSender (setup secret : List ℕ) (outcome : OutcomeView) (old new : Told) : Type 0 where
   pub opened : ℕ
   pub few : opened ≤ 2
   pub opens : Opens (OfSource setup ∷ OfSource secret ∷ []) opened old new
   pub live : new.live ≡ old.live
-  pub why : LacksSender (file_told old setup) (file_told old secret) opened came
-  pub causes : HasCauses old.faults new.faults (came ≡ Failed faults.Read) (came ≡ Failed faults.Write) (came ≡ Failed faults.Open)
+  pub why : LacksSender (file_told old setup) (file_told old secret) opened outcome
+  pub causes : HasCauses old.faults new.faults (outcome ≡ Failed faults.Read) (outcome ≡ Failed faults.Write) (outcome ≡ Failed faults.Open)

@@ -11,8 +11,8 @@ use Rattle.tesla_convert.specs.declared.converter.Converted.TheVariants as conve
 use Rattle.tesla_desk.specs.Faults.{Faults, HasCausesBeside}
 use Rattle.tesla_desk.specs.Outside.{Told, OfSource, OfSink, AppendsPrefix}
 use Rattle.tesla_frame.specs.Frame.{frame_text}
-use Rattle.tesla_front.specs.Came as cames
-use Rattle.tesla_front.specs.Came.{Came, Done, Failed}
+use Rattle.tesla_front.specs.OutcomeView as outcome_views
+use Rattle.tesla_front.specs.OutcomeView.{OutcomeView, Done, Failed}
 use Rattle.tesla_front.specs.Openings.{AnyFailed, Opens, file_told}
 use Rattle.tesla_front.specs.declared.fault.Fault.TheVariants as faults
 use Rattle.tesla_sender.specs.Made.{Call, Stream}
@@ -49,23 +49,23 @@ CarriesOut _ _ first log sender count counted before now held rest = ⊥
 -- ---- all records
 
 -- what sending came to, told how the records ended, and the count of frames
-abbrev pub came_with : Result (Ending ScriptKind) Stopped → ℕ → Came
-came_with (Ok End) count = Done (frames_line count)
-came_with (Ok (Refused place kind)) count = cames.Refused 3 (script_line place kind)
-came_with (Err stopped.Read) count = Failed faults.Read
-came_with (Err stopped.Write) count = Failed faults.Write
-came_with (Err stopped.Memory) count = Failed faults.NoMemory
+abbrev pub outcome_with : Result (Ending ScriptKind) Stopped → ℕ → OutcomeView
+outcome_with (Ok End) count = Done (frames_line count)
+outcome_with (Ok (Refused offset kind)) count = outcome_views.Refused 3 (script_line offset kind)
+outcome_with (Err stopped.Read) count = Failed faults.Read
+outcome_with (Err stopped.Write) count = Failed faults.Write
+outcome_with (Err stopped.Memory) count = Failed faults.NoMemory
 
 -- ---- the files
 
 -- each failure raised its count, and no other count rose; only behind a failed read the output may have failed too
-abbrev pub Counts : List ℕ → Told → Faults → Came → Type 0
-Counts out new before came =
-    HasCausesBeside ((came ≡ Failed faults.Read) × AnyFailed (OfSink out ∷ []) new) before new.faults (came ≡ Failed faults.Read) (came ≡ Failed faults.Write) (came ≡ Failed faults.Open)
+abbrev pub Counts : List ℕ → Told → Faults → OutcomeView → Type 0
+Counts out new before outcome =
+    HasCausesBeside ((outcome ≡ Failed faults.Read) × AnyFailed (OfSink out ∷ []) new) before new.faults (outcome ≡ Failed faults.Read) (outcome ≡ Failed faults.Write) (outcome ≡ Failed faults.Open)
 
 -- a script was sent, after it was opened and then the output, behind the setup and the seeds
-pub record SendsFiles (stream : Stream) (name out : List ℕ) (old new : Told) (came : Came) : Type 0 where
+pub record SendsFiles (stream : Stream) (name out : List ℕ) (old new : Told) (outcome : OutcomeView) : Type 0 where
   pub opened : ℕ
   pub opens : Opens (OfSource name ∷ OfSink out ∷ []) opened old new
-  pub sends : SendsScript stream (file_told old name) (file_told old out) (file_told new name) (file_told new out) (suc (suc opened)) came
-  pub counts : Counts out new old.faults came
+  pub sends : SendsScript stream (file_told old name) (file_told old out) (file_told new name) (file_told new out) (suc (suc opened)) outcome
+  pub counts : Counts out new old.faults outcome

@@ -4,7 +4,7 @@ ghost use Rattle.std.specs.Prelude.{◌≡◌, ◌⊎◌, ℕ, List, Bool, None,
 ghost use Rattle.tesla_base.specs.declared.names.Key.{Key};
 ghost use Rattle.tesla_commit.specs.Parts.{Parts};
 ghost use Rattle.tesla_desk.specs.Outside.{Told, Holds};
-ghost use Rattle.tesla_front.specs.Came.{Came, Done, Failed};
+ghost use Rattle.tesla_front.specs.OutcomeView.{OutcomeView, Done, Failed};
 ghost use Rattle.tesla_front.specs.Command.{Performs};
 ghost use Rattle.tesla_front.specs.Run.{NothingFailed};
 ghost use Rattle.tesla_front.specs.Seeds.{IsSeedsText};
@@ -30,12 +30,12 @@ pub fn form() -> FormText
 /// setup's key, and a script of which no record is refused, and no count of faults rose, it came to the number of the
 /// frames, or to want of memory.
 pub fn completeness()
-    ensures { (arguments : SendArguments) (old new : Told) (came : Came) (text secret bytes : List ℕ) (failed other last : Bool) (setup : Parts) (seeds : List Key) →
-        Performs send arguments old new came →
+    ensures { (arguments : SendArguments) (old new : Told) (outcome : OutcomeView) (text secret bytes : List ℕ) (failed other last : Bool) (setup : Parts) (seeds : List Key) →
+        Performs send arguments old new outcome →
         old.page arguments.setup ≡ Holds text failed → IsSetupText text setup →
         old.page arguments.secret ≡ Holds secret other → IsSeedsText (length setup.rows) secret seeds →
         wrong_line (record { setup = setup; seeds = seeds }) ≡ None →
         old.page arguments.script ≡ Holds bytes last → (sending (record { setup = setup; seeds = seeds }) bytes).refused ≡ None →
         NothingFailed old.faults new.faults →
-        (came ≡ Done (frames_line (length (sending (record { setup = setup; seeds = seeds }) bytes).sent))) ⊎ (came ≡ Failed faults.NoMemory) }
+        (outcome ≡ Done (frames_line (length (sending (record { setup = setup; seeds = seeds }) bytes).sent))) ⊎ (outcome ≡ Failed faults.NoMemory) }
 {}

@@ -1,7 +1,7 @@
 //! The sender of a setup and seeds that stand in two files, as it is opened.
 
 ghost use Rattle.std.specs.Prelude.{◌≡◌, ◌<◌, [], None, length, IfErr, IfOk};
-ghost use Rattle.tesla_front.specs.Came.{stop_came};
+ghost use Rattle.tesla_front.specs.OutcomeView.{stop_view};
 ghost use Rattle.tesla_sender.specs.Stands.{Stands};
 ghost use Rattle.tesla_run_send.specs.Sender.{IsNoSender, OpensNoSender, OpensSender, wrong_line};
 
@@ -28,7 +28,7 @@ pub fn open_sender<D: Desk>(
 ) -> Result<Sender, Stop>
     ensures opened { IfOk result (λ sender. OpensSender setup.now secret.now sender.stream (D.told desk.old) (D.told desk.new)) }
     ensures stands { IfOk result (λ sender. Stands sender []) }
-    ensures refused { IfErr result (λ stop. OpensNoSender setup.now secret.now (stop_came stop) (D.told desk.old) (D.told desk.new)) }
+    ensures refused { IfErr result (λ stop. OpensNoSender setup.now secret.now (stop_view stop) (D.told desk.old) (D.told desk.new)) }
 {
     let setup = setup_under(alloc, setup, desk)?;
     let seeds = seeds_under(alloc, secret, setup.count(), desk)?;
@@ -48,7 +48,7 @@ fn sender_of<L: Ledger>(
     requires count { length seeds.now ≡ length setup.rows }
     ensures stands { IfOk result (λ sender. Stands sender []) }
     ensures opened { IfOk result (λ sender. (sender.stream ≡ record { setup = setup; seeds = seeds.now }) × (wrong_line (record { setup = setup; seeds = seeds.now }) ≡ None)) }
-    ensures refused { IfErr result (λ stop. IsNoSender (record { setup = setup; seeds = seeds.now }) (stop_came stop)) }
+    ensures refused { IfErr result (λ stop. IsNoSender (record { setup = setup; seeds = seeds.now }) (stop_view stop)) }
 {
     let mut steps = Steps::<L>::new(blank);
     match Sender::open(alloc, setup, seeds, &mut steps) {

@@ -3,13 +3,13 @@
 ghost use Rattle.std.specs.Prelude.{◌≡◌, ◌<◌, [], map, string_bytes, IfSome};
 ghost use Rattle.tesla_convert.specs.Meaning.{ConvertsBetween};
 ghost use Rattle.tesla_desk.specs.Faults.{HasCause, HasCauseBeside};
-ghost use Rattle.tesla_front.specs.Came.{Failed, Refused, came_of, outcome_came, stop_came};
+ghost use Rattle.tesla_front.specs.OutcomeView.{Failed, Refused, result_view, outcome_view, stop_view};
 ghost use Rattle.tesla_front.specs.Command.{Performs, RunsAs};
 ghost use Rattle.tesla_front.specs.Openings.{AreFiles};
 ghost use Rattle.tesla_sender.specs.Stands.{Stands};
 ghost use Rattle.tesla_run_send.specs.Arguments.{arguments_of, files_of_send};
 ghost use Rattle.tesla_run_send.specs.Send.{frames_line, meaning, script_line, send};
-ghost use Rattle.tesla_run_send.specs.Steps.{SendsFiles, came_with};
+ghost use Rattle.tesla_run_send.specs.Steps.{SendsFiles, outcome_with};
 
 use crate::ScriptKind;
 use crate::converter::{SendConverter, SendLedger};
@@ -36,7 +36,7 @@ use tesla_sender::Sender;
 /// holds the frames of what was read, unless it failed too, and after a failed write a prefix of all. `NoMemory` comes
 /// only before CAPTURE is opened and before a byte of SCRIPT is read.
 pub fn run_send<D: Desk>(alloc: Global, words: &[String], desk: &mut D) -> Outcome
-    ensures { RunsAs send (map string_bytes words.now) (D.told desk.old) (D.told desk.new) (outcome_came result) }
+    ensures { RunsAs send (map string_bytes words.now) (D.told desk.old) (D.told desk.new) (outcome_view result) }
 {
     match arguments_in(words) {
         Some(arguments) => outcome_of(perform(alloc, &arguments, desk)),
@@ -47,7 +47,7 @@ pub fn run_send<D: Desk>(alloc: Global, words: &[String], desk: &mut D) -> Outco
 // Does what the words ask for.
 fn perform<D: Desk>(alloc: Global, arguments: &Arguments<'_>, desk: &mut D) -> Result<Lines, Stop>
     requires files { AreFiles (files_of_send (arguments_of arguments.now)) }
-    ensures { Performs send (arguments_of arguments.now) (D.told desk.old) (D.told desk.new) (came_of result) }
+    ensures { Performs send (arguments_of arguments.now) (D.told desk.old) (D.told desk.new) (result_view result) }
 {
     let sender = open_sender(alloc, arguments.setup, arguments.secret, desk)?;
     send_files::<Brand, D>(sender, Blank::new(1), arguments, desk)
@@ -65,14 +65,14 @@ fn send_files<L: SendLedger, D: Desk>(
     requires some { 0 < L.parts }
     requires stands { Stands sender [] }
     requires stream { sender.stream ≡ L.stream }
-    ensures { SendsFiles sender.stream arguments.now.script.now arguments.now.out.now (D.told desk.old) (D.told desk.new) (came_of result) }
+    ensures { SendsFiles sender.stream arguments.now.script.now arguments.now.out.now (D.told desk.old) (D.told desk.new) (result_view result) }
 {
     let steps = Steps::<L>::new(blank);
     match open_files(arguments.script, arguments.out, desk) {
         Ok((mut source, mut out)) => {
-            let came = send_between(sender, steps, &mut source, &mut out);
+            let outcome = send_between(sender, steps, &mut source, &mut out);
             close_files(source, out, desk);
-            came
+            outcome
         }
         Err(fault) => Err(Stop::Failed(fault)),
     }
@@ -90,11 +90,11 @@ fn send_between<L: SendLedger, S: Source, O: Sink>(
     requires empty { IfSome (O.written out.old) (λ bytes. bytes ≡ []) }
     requires fresh { S.faults source.old ≡ 0 }
     requires sound { O.faults out.old ≡ 0 }
-    ensures converts { ConvertsBetween (meaning sender.stream) (S.left source.old) (S.left source.new) (O.written out.new) (O.faults out.new) (came_of result) }
-    ensures memory { came_of result ≡ Failed Fault.NoMemory → ⊥ }
-    ensures opening { came_of result ≡ Failed Fault.Open → ⊥ }
-    ensures reads { HasCause 0 (S.faults source.new) (came_of result ≡ Failed Fault.Read) }
-    ensures writes { HasCauseBeside ((came_of result ≡ Failed Fault.Read) × (0 < O.faults out.new)) 0 (O.faults out.new) (came_of result ≡ Failed Fault.Write) }
+    ensures converts { ConvertsBetween (meaning sender.stream) (S.left source.old) (S.left source.new) (O.written out.new) (O.faults out.new) (result_view result) }
+    ensures memory { result_view result ≡ Failed Fault.NoMemory → ⊥ }
+    ensures opening { result_view result ≡ Failed Fault.Open → ⊥ }
+    ensures reads { HasCause 0 (S.faults source.new) (result_view result ≡ Failed Fault.Read) }
+    ensures writes { HasCauseBeside ((result_view result ≡ Failed Fault.Read) × (0 < O.faults out.new)) 0 (O.faults out.new) (result_view result ≡ Failed Fault.Write) }
     ensures input { S.name source.new ≡ S.name source.old }
     ensures output { O.name out.new ≡ O.name out.old }
 {
@@ -105,7 +105,7 @@ fn send_between<L: SendLedger, S: Source, O: Sink>(
 
 // What sending came to.
 fn lines_of(ended: Result<Ending<ScriptKind>, Stopped>, frames: u64) -> Result<Lines, Stop>
-    ensures { came_of result ≡ came_with ended frames }
+    ensures { result_view result ≡ outcome_with ended frames }
 {
     match ended {
         Ok(Ending::End) => Ok(frames_line(frames)),
@@ -127,7 +127,7 @@ fn frames_line(frames: u64) -> Lines
 
 // The refusal of a script at a place.
 fn script_refused(place: u64, kind: ScriptKind) -> Stop
-    ensures { stop_came result ≡ Refused 3 (script_line place kind) }
+    ensures { stop_view result ≡ Refused 3 (script_line place kind) }
 {
     Stop::Refused(refused(3, "script", place, kind.name()))
 }

@@ -6,7 +6,7 @@ use Rattle.tesla_desk.specs.declared.desk.OpenRefusal.{OpenRefusal}
 use Rattle.tesla_desk.specs.declared.desk.OpenRefusal.TheVariants as refused
 use Rattle.tesla_desk.proofs.Counts.{causes_opening, causes_plain, causes_source, causes_then, counts_stay}
 use Rattle.tesla_desk.proofs.Told.{appends_none}
-use Rattle.tesla_front.specs.Came.{Came, Done, Usage, Refused, Failed}
+use Rattle.tesla_front.specs.OutcomeView.{OutcomeView, Done, Usage, Refused, Failed}
 use Rattle.tesla_front.specs.Fault.{unopened}
 use Rattle.tesla_front.specs.Files.{HoldsWhere}
 use Rattle.tesla_front.specs.Openings.{AreFiles, Opens}
@@ -28,7 +28,7 @@ holds_where Absent before opened fact = opened
 holds_where (Holds bytes failed) before opened fact = fact bytes opened
 
 -- what was so of an open file is so of its page
-pages_shown : (input : Page) (before left : Option (List ℕ)) (lines : List ℕ) (came : Came) → Opened input before → ShowsBetween before left lines came → AsksFile 1 came × Shows input left lines came
+pages_shown : (input : Page) (before left : Option (List ℕ)) (lines : List ℕ) (outcome : OutcomeView) → Opened input before → ShowsBetween before left lines outcome → AsksFile 1 outcome × Shows input left lines outcome
 pages_shown input before left lines (Done summary) opened is = (refl, holds_where input before opened is)
 pages_shown input before left lines Usage opened is = absurd is
 pages_shown input before left lines (Refused status line) opened is = (refl, holds_where input before opened is)
@@ -37,11 +37,11 @@ pages_shown input before left lines (Failed faults.Write) opened is = absurd is
 pages_shown input before left lines (Failed faults.NoMemory) opened is = absurd is
 pages_shown input before left lines (Failed faults.Open) opened is = absurd is
 
-no_write : (before left : Option (List ℕ)) (lines : List ℕ) (came : Came) → ShowsBetween before left lines came → came ≡ Failed faults.Write → ⊥
-no_write before left lines came is e = subst (λ (c : Came). ShowsBetween before left lines c) e is
+no_write : (before left : Option (List ℕ)) (lines : List ℕ) (outcome : OutcomeView) → ShowsBetween before left lines outcome → outcome ≡ Failed faults.Write → ⊥
+no_write before left lines outcome is e = subst (λ (c : OutcomeView). ShowsBetween before left lines c) e is
 
-no_open : (before left : Option (List ℕ)) (lines : List ℕ) (came : Came) → ShowsBetween before left lines came → came ≡ Failed faults.Open → ⊥
-no_open before left lines came is e = subst (λ (c : Came). ShowsBetween before left lines c) e is
+no_open : (before left : Option (List ℕ)) (lines : List ℕ) (outcome : OutcomeView) → ShowsBetween before left lines outcome → outcome ≡ Failed faults.Open → ⊥
+no_open before left lines outcome is e = subst (λ (c : OutcomeView). ShowsBetween before left lines c) e is
 
 -- the file was opened, printed and closed
 pub performs_opened : {A : Type 0} (arguments : ShowArguments) (source : A) (printed : Printed) (name : List ℕ) (before left : Option (List ℕ)) (fresh reads : ℕ) (written now : Option (List ℕ)) (failed : ℕ) (old opened new : Told) → AreFiles (files_of_show arguments) → name ≡ arguments.trace → fresh ≡ 0
@@ -49,17 +49,17 @@ pub performs_opened : {A : Type 0} (arguments : ShowArguments) (source : A) (pri
 performs_opened {A} arguments source printed name before left fresh reads written now failed old opened new named name_is none opens_page opens prints closes =
     let same : opened.faults ≡ old.faults = counts_stay old.faults opened.faults opens.counts (λ e. absurd cc) in
     let own : new.left arguments.trace ≡ left = ap new.left (sym name_is) ∙ closes.own in
-    let cause : HasCause 0 reads (prints.came ≡ Failed faults.Read) = subst (λ (n : ℕ). HasCause n reads (prints.came ≡ Failed faults.Read)) none prints.reads_cause in
-    let it = pages_shown (old.page arguments.trace) before left prints.lines prints.came opens_page prints.shows in
+    let cause : HasCause 0 reads (prints.outcome ≡ Failed faults.Read) = subst (λ (n : ℕ). HasCause n reads (prints.outcome ≡ Failed faults.Read)) none prints.reads_cause in
+    let it = pages_shown (old.page arguments.trace) before left prints.lines prints.outcome opens_page prints.shows in
     record {
       named = named;
       opened = 1;
       opens = source_closed arguments.trace name source old opened new left reads name_is opens closes;
       lines = prints.lines;
-      came = prints.came;
-      does = (it.0, subst (λ (l : Option (List ℕ)). Shows (old.page arguments.trace) l prints.lines prints.came) (sym own) it.1);
+      outcome = prints.outcome;
+      does = (it.0, subst (λ (l : Option (List ℕ)). Shows (old.page arguments.trace) l prints.lines prints.outcome) (sym own) it.1);
       counts = causes_then old.faults opened.faults new.faults same
-          (causes_plain opened.faults new.faults (causes_source opened.faults new.faults reads closes.counts cause (λ e. e) (λ e. e) (no_write before left prints.lines prints.came prints.shows) (no_open before left prints.lines prints.came prints.shows)));
+          (causes_plain opened.faults new.faults (causes_source opened.faults new.faults reads closes.counts cause (λ e. e) (λ e. e) (no_write before left prints.lines prints.outcome prints.shows) (no_open before left prints.lines prints.outcome prints.shows)));
       prints = prints.prints;
     }
 
@@ -105,7 +105,7 @@ performs_unopened A arguments refusal fault written failed old new named none is
   opened = opened_by refusal;
   opens = opens_by A arguments.trace refusal old new opens;
   lines = [];
-  came = Failed (unopened refusal);
+  outcome = Failed (unopened refusal);
   does = (asks_by refusal, shows_by (old.page arguments.trace) (new.left arguments.trace) refusal);
   counts = causes_plain old.faults new.faults (causes_opening old.faults new.faults opens.counts (no_read refusal) (never_write refusal) (failed_open A refusal) (open_failed A refusal));
   prints = (ap (λ (f : Fault). Failed f) (sym is), none, appends_none written);

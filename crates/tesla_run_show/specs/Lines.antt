@@ -5,7 +5,7 @@ use Rattle.tesla_frame.specs.Frame.{Frame, Data, Disclosure}
 use Rattle.tesla_frame.specs.Reading.{frame_of}
 use Rattle.tesla_receiver.specs.declared.history.Entry.{Entry}
 use Rattle.tesla_receiver.specs.declared.history.Entry.TheVariants.{Arrived, Taken, Ended}
-use Rattle.tesla_audit.specs.Answers.{reply_told, verdict_told}
+use Rattle.tesla_audit.specs.Answers.{reply_words, verdict_words}
 
 -- the interval and the number of a message
 abbrev pub name_words : Name → List ℕ
@@ -20,8 +20,8 @@ frame_words (Some (Disclosure frame)) = codes "-"
 -- what is told of an entry
 abbrev pub entry_words : Entry → List ℕ
 entry_words (Arrived arrival) =
-    codes "arrival " ++ decimal arrival.ingest ++ codes " " ++ decimal arrival.reading ++ codes " " ++ verdict_told arrival.verdict ++ codes " " ++ frame_words (frame_of arrival.bytes)
-entry_words (Taken releaser reply) = codes "take " ++ decimal releaser ++ codes " " ++ reply_told reply
+    codes "arrival " ++ decimal arrival.ingest ++ codes " " ++ decimal arrival.reading ++ codes " " ++ verdict_words arrival.verdict ++ codes " " ++ frame_words (frame_of arrival.bytes)
+entry_words (Taken releaser reply) = codes "take " ++ decimal releaser ++ codes " " ++ reply_words reply
 entry_words (Ended ingest) = codes "end " ++ decimal ingest
 
 -- the line of the entry of this number

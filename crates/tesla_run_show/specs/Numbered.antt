@@ -20,14 +20,14 @@ module _ (G : Grammar) (line : ℕ → G.Record → List ℕ) (number : Option G
   file_lines bytes = outline_lines line number (outline_of G bytes)
 
   -- these first records of a file were listed by this text, and the rest of it isn't taken yet
-  pub record IsAt (bytes : List ℕ) (head : Option G.Head) (place count : ℕ) (ahead : Option (List ℕ)) (text : List ℕ) : Type 0 where
+  pub record IsAt (bytes : List ℕ) (head : Option G.Head) (offset count : ℕ) (ahead : Option (List ℕ)) (text : List ℕ) : Type 0 where
     pub records : List G.Record
     pub rest : List ℕ
     pub ahead_is : ahead ≡ Some rest
-    pub taken : IsTaken G bytes head records place rest
+    pub taken : IsTaken G bytes head records offset rest
     pub counted : length records ≡ count
-    pub fresh : place ≡ 0 → records ≡ []
-    pub told : 0 < place → (it : G.Head) × (head ≡ Some it)
+    pub fresh : offset ≡ 0 → records ≡ []
+    pub told : 0 < offset → (it : G.Head) × (head ≡ Some it)
     pub text_is : text ≡ numbered line (number head) records
 
   -- the file was listed up to its end, or to the first refused place

@@ -1,16 +1,16 @@
 -- What the command show prints, and what it does.
 use Rattle.std.specs.Prelude.{◌≡◌, ◌⊎◌, ℕ, Option, Some, None, List, [], ◌∷◌, ◌++◌, codes}
 use Rattle.tesla_desk.specs.Outside.{Page}
-use Rattle.tesla_front.specs.Came.{Came, Done, Refused, Failed}
+use Rattle.tesla_front.specs.OutcomeView.{OutcomeView, Done, Refused, Failed}
 use Rattle.tesla_front.specs.Files.{HoldsWhere}
 use Rattle.tesla_front.specs.Openings.{File}
 use Rattle.tesla_front.specs.Printing.{PrintingCommand}
 use Rattle.tesla_front.specs.Refusal.{refused_line}
 use Rattle.tesla_front.specs.declared.fault.Fault.TheVariants as faults
-use Rattle.tesla_records.specs.Records.{head_told, outline_of}
+use Rattle.tesla_records.specs.Records.{parsed_head, outline_of}
 use Rattle.tesla_records.specs.Taken.{HoldsNoRefusal}
 use Rattle.tesla_records.specs.declared.refusal.Refusal.{Refusal}
-use Rattle.tesla_trace.specs.Front.{head_front}
+use Rattle.tesla_trace.specs.Parsing.{parse_head}
 use Rattle.tesla_trace.specs.Grammar.{tail, trace}
 use Rattle.tesla_trace.specs.Names.{kind_name}
 use Rattle.tesla_trace.specs.declared.kind.EntryFault.{EntryFault}
@@ -41,20 +41,20 @@ fault_by None bytes = (outline_of tail bytes).fault
 
 -- the lines of the whole entries before the first refused place of a trace or a tail
 unfoldable pub show_text : List ℕ → List ℕ
-show_text bytes = text_by (head_told (head_front bytes)) bytes
+show_text bytes = text_by (parsed_head (parse_head bytes)) bytes
 
 -- what a place that is refused comes to
-abbrev pub refused_came : ℕ → TraceKind → Came
-refused_came place kind = Refused 3 (refused_line (codes "trace") place (kind_name kind))
+abbrev pub refused_outcome : ℕ → TraceKind → OutcomeView
+refused_outcome offset kind = Refused 3 (refused_line (codes "trace") offset (kind_name kind))
 
 -- what a file comes to, told its first refused place
-abbrev pub end_by : Option (ℕ × Refusal EntryFault) → Came
+abbrev pub end_by : Option (ℕ × Refusal EntryFault) → OutcomeView
 end_by None = Done []
-end_by (Some fault) = refused_came fault.0 (kind_of fault.1)
+end_by (Some fault) = refused_outcome fault.0 (kind_of fault.1)
 
 -- what a file comes to: its end, or the first refused place
-unfoldable pub show_end : List ℕ → Came
-show_end bytes = end_by (fault_by (head_told (head_front bytes)) bytes)
+unfoldable pub show_end : List ℕ → OutcomeView
+show_end bytes = end_by (fault_by (parsed_head (parse_head bytes)) bytes)
 
 -- no place of these bytes is refused, as of a trace or as of a tail
 abbrev pub IsUnrefused : List ℕ → Type 0
@@ -67,15 +67,15 @@ abbrev pub StopsBehind : List ℕ → Option (List ℕ) → List ℕ → Type 0
 StopsBehind bytes left lines = (read : List ℕ) × (rest : List ℕ) × (left ≡ Some rest) × (bytes ≡ read ++ rest) × IsUnrefused read × (lines ≡ show_text read)
 
 -- the file was read as far as it goes: these are its lines, and this is what it comes to
-abbrev pub ShowsAll : Page → List ℕ → Came → Type 0
-ShowsAll input lines came = HoldsWhere input (λ bytes. (lines ≡ show_text bytes) × (came ≡ show_end bytes))
+abbrev pub ShowsAll : Page → List ℕ → OutcomeView → Type 0
+ShowsAll input lines outcome = HoldsWhere input (λ bytes. (lines ≡ show_text bytes) × (outcome ≡ show_end bytes))
 
 -- a read failed
 abbrev pub ShowsSoFar : Page → Option (List ℕ) → List ℕ → Type 0
 ShowsSoFar input left lines = HoldsWhere input (λ bytes. StopsBehind bytes left lines)
 
 -- which lines the file has, and what it comes to behind them, told what was left of it; where it wasn't opened there are none
-abbrev pub Shows : Page → Option (List ℕ) → List ℕ → Came → Type 0
+abbrev pub Shows : Page → Option (List ℕ) → List ℕ → OutcomeView → Type 0
 Shows input left lines (Done summary) = ShowsAll input lines (Done summary)
 Shows input left lines (Refused status line) = ShowsAll input lines (Refused status line)
 Shows input left lines (Failed faults.Read) = ShowsSoFar input left lines
@@ -84,14 +84,14 @@ Shows input left lines (Failed faults.Open) = lines ≡ []
 Shows input left lines _ = ⊥
 
 -- where memory was wanting, the file wasn't opened; else it was asked for
-abbrev pub AsksFile : ℕ → Came → Type 0
+abbrev pub AsksFile : ℕ → OutcomeView → Type 0
 AsksFile opened (Failed faults.NoMemory) = opened ≡ 0
-AsksFile opened came = opened ≡ 1
+AsksFile opened outcome = opened ≡ 1
 
 -- a run of the command, with what is told of TRACE before it and afterwards
-abbrev pub DoesShow : ShowArguments → ℕ → List File → List File → List ℕ → Came → Type 0
-DoesShow arguments opened (before ∷ []) (after ∷ []) lines came = AsksFile opened came × Shows before.page after.left lines came
-DoesShow arguments opened before after lines came = ⊥
+abbrev pub DoesShow : ShowArguments → ℕ → List File → List File → List ℕ → OutcomeView → Type 0
+DoesShow arguments opened (before ∷ []) (after ∷ []) lines outcome = AsksFile opened outcome × Shows before.page after.left lines outcome
+DoesShow arguments opened before after lines outcome = ⊥
 
 -- the command
 abbrev pub show : PrintingCommand

@@ -68,7 +68,7 @@ impl EntryReader for TraceReader {
     ghost use Rattle.std.specs.Prelude.{◌≡◌, refl};
     ghost use Rattle.tesla_trace.specs.Grammar.{trace};
     ghost use Rattle.tesla_trace.proofs.TraceIs.{trace_is};
-    ghost use Rattle.tesla_audit.specs.Steps.{kind_of as kind_told};
+    ghost use Rattle.tesla_audit.specs.Steps.{kind_of as trace_kind};
     ghost use Rattle.tesla_run_show.specs.Lines.{entry_line};
     ghost use Rattle.tesla_run_show.specs.Show.{trace_first};
     ghost use Rattle.tesla_run_show.specs.Kinds.{kind_again};
@@ -83,7 +83,7 @@ impl EntryReader for TraceReader {
 
     ghost line = { entry_line };
 
-    ghost kind_of = { kind_told };
+    ghost kind_of = { trace_kind };
 
     ghost progress = { λ reader. reader };
 
@@ -106,7 +106,7 @@ impl EntryReader for TailReader {
     ghost use Rattle.std.specs.Prelude.{◌≡◌, refl};
     ghost use Rattle.tesla_trace.specs.Grammar.{tail};
     ghost use Rattle.tesla_trace.proofs.TraceIs.{tail_is};
-    ghost use Rattle.tesla_audit.specs.Steps.{kind_of as kind_told};
+    ghost use Rattle.tesla_audit.specs.Steps.{kind_of as trace_kind};
     ghost use Rattle.tesla_run_show.specs.Lines.{entry_line};
     ghost use Rattle.tesla_run_show.specs.Show.{tail_first};
     ghost use Rattle.tesla_run_show.specs.Kinds.{kind_again};
@@ -121,7 +121,7 @@ impl EntryReader for TailReader {
 
     ghost line = { entry_line };
 
-    ghost kind_of = { kind_told };
+    ghost kind_of = { trace_kind };
 
     ghost progress = { λ reader. reader };
 

@@ -2,8 +2,8 @@
 
 ghost use Rattle.std.specs.Prelude.{◌≡◌};
 ghost use Rattle.tesla_capture.specs.Gathering.{gathered};
-ghost use Rattle.tesla_front.specs.Came.{outcome_came};
-ghost use Rattle.tesla_run_show.specs.Steps.{Settles, SoundFor, came_listed, fault_listed};
+ghost use Rattle.tesla_front.specs.OutcomeView.{outcome_view};
+ghost use Rattle.tesla_run_show.specs.Steps.{Settles, SoundFor, outcome_listed, fault_listed};
 
 use crate::listing::Listed;
 use tesla_base::Kind;
@@ -13,7 +13,7 @@ use tesla_front::{Fault, Lines, Outcome, Printed, refused};
 
 // What listing comes to, where all lines are written.
 fn outcome_of(listed: Listed) -> Outcome
-    ensures { outcome_came result ≡ came_listed listed }
+    ensures { outcome_view result ≡ outcome_listed listed }
 {
     match listed {
         Listed::End => Outcome::Done(Lines::new()),

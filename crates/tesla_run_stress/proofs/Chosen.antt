@@ -3,7 +3,7 @@ use Rattle.std.proofs.Common.{◌≡◌, ◌∙◌, ℕ, ◌+◌, ◌*◌, ◌%�
 use Rattle.std.specs.Prelude.{◌==◌}
 use Rattle.std.proofs.lemmas.Bool.{eqb-true, le-ltb, lt-ltb, ne_eqb}
 use Rattle.tesla_capture.specs.Capture.{Record, Arrives}
-use Rattle.tesla_run_stress.specs.Load.{altered_at, arrival_of, arrivals_chosen, number_at, others_chosen, place_chosen, reading_chosen, reading_of}
+use Rattle.tesla_run_stress.specs.Load.{altered_at, arrival_of, arrivals_chosen, number_at, others_chosen, offset_chosen, reading_chosen, reading_of}
 
 pub number_first : (seed : ℕ) → number_at seed 0 ≡ seed
 unfolding number_at
@@ -14,17 +14,17 @@ unfolding number_at
 number_next seed k = rw add-one refl
 
 -- what comes behind a frame is not of its altered bytes
-others_by : (b : Bool) (choice k : ℕ) (text : List ℕ) (before : Option (List ℕ)) → (choice == 2) ≡ b → others_chosen choice k (altered_at (place_chosen choice k) text) before ≡ others_chosen choice k text before
+others_by : (b : Bool) (choice k : ℕ) (text : List ℕ) (before : Option (List ℕ)) → (choice == 2) ≡ b → others_chosen choice k (altered_at (offset_chosen choice k) text) before ≡ others_chosen choice k text before
 others_by true choice k text before is =
     let two : choice ≡ 2 = eqb-true choice 2 is in
-    subst (λ (c : ℕ). others_chosen c k (altered_at (place_chosen c k) text) before ≡ others_chosen c k text before) (sym two) refl
+    subst (λ (c : ℕ). others_chosen c k (altered_at (offset_chosen c k) text) before ≡ others_chosen c k text before) (sym two) refl
 others_by false choice k text before is = rw is refl
 
-pub others_same : (choice k : ℕ) (text : List ℕ) (before : Option (List ℕ)) → others_chosen choice k (altered_at (place_chosen choice k) text) before ≡ others_chosen choice k text before
+pub others_same : (choice k : ℕ) (text : List ℕ) (before : Option (List ℕ)) → others_chosen choice k (altered_at (offset_chosen choice k) text) before ≡ others_chosen choice k text before
 others_same choice k text before = others_by (choice == 2) choice k text before refl
 
 -- what comes of a message that isn't lost
-pub arrivals_are : (choice k : ℕ) (text : List ℕ) (before : Option (List ℕ)) → 2 ≤ choice → arrivals_chosen choice k text before ≡ Arrives (reading_chosen choice k) (altered_at (place_chosen choice k) text) ∷ others_chosen choice k text before
+pub arrivals_are : (choice k : ℕ) (text : List ℕ) (before : Option (List ℕ)) → 2 ≤ choice → arrivals_chosen choice k text before ≡ Arrives (reading_chosen choice k) (altered_at (offset_chosen choice k) text) ∷ others_chosen choice k text before
 arrivals_are choice k text before some = rw (le-ltb choice 2 some) refl
 
 pub arrivals_none : (choice k : ℕ) (text : List ℕ) (before : Option (List ℕ)) → choice < 2 → arrivals_chosen choice k text before ≡ []
@@ -40,10 +40,10 @@ pub others_none : (choice k : ℕ) (text : List ℕ) (before : Option (List ℕ)
 others_none choice k text before once new = rw (ne_eqb choice 2 once, ne_eqb choice 14 new) refl
 
 -- the arrivals, by what came first
-pub arrivals_from : (choice k reading : ℕ) (text came : List ℕ) (place : Option ℕ) (before : Option (List ℕ)) → 2 ≤ choice → reading ≡ reading_chosen choice k → place ≡ place_chosen choice k → came ≡ altered_at place text → (Arrives reading came ∷ []) ++ others_chosen choice k came before ≡ arrivals_chosen choice k text before
-arrivals_from choice k reading text came place before some reads at is =
-    let all : came ≡ altered_at (place_chosen choice k) text = is ∙ ap (λ (p : Option ℕ). altered_at p text) at in
-    ap (λ (r : ℕ). Arrives r came ∷ others_chosen choice k came before) reads
+pub arrivals_from : (choice k reading : ℕ) (text outcome : List ℕ) (offset : Option ℕ) (before : Option (List ℕ)) → 2 ≤ choice → reading ≡ reading_chosen choice k → offset ≡ offset_chosen choice k → outcome ≡ altered_at offset text → (Arrives reading outcome ∷ []) ++ others_chosen choice k outcome before ≡ arrivals_chosen choice k text before
+arrivals_from choice k reading text outcome offset before some reads at is =
+    let all : outcome ≡ altered_at (offset_chosen choice k) text = is ∙ ap (λ (p : Option ℕ). altered_at p text) at in
+    ap (λ (r : ℕ). Arrives r outcome ∷ others_chosen choice k outcome before) reads
     ∙ ap (λ (t : List ℕ). Arrives (reading_chosen choice k) t ∷ others_chosen choice k t before) all
-    ∙ ap (λ (l : List Record). Arrives (reading_chosen choice k) (altered_at (place_chosen choice k) text) ∷ l) (others_same choice k text before)
+    ∙ ap (λ (l : List Record). Arrives (reading_chosen choice k) (altered_at (offset_chosen choice k) text) ∷ l) (others_same choice k text before)
     ∙ sym (arrivals_are choice k text before some)

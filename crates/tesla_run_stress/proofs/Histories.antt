@@ -70,13 +70,13 @@ finished cfg records before ended taken waiting report was waits same ends takes
 range_more : (from n : ℕ) → range_with_len from (suc n) ≡ range_with_len from n ++ (from + n) ∷ []
 range_more from zero = ap (λ (k : ℕ). k ∷ []) (omega arith)
 range_more from (suc n) =
-    let place : from + 1 + n ≡ from + suc n = omega arith in
-    ap (λ (l : List ℕ). from ∷ l) (range_more (from + 1) n ∙ ap (λ (k : ℕ). range_with_len (from + 1) n ++ k ∷ []) place)
+    let offset : from + 1 + n ≡ from + suc n = omega arith in
+    ap (λ (l : List ℕ). from ∷ l) (range_more (from + 1) n ∙ ap (λ (k : ℕ). range_with_len (from + 1) n ++ k ∷ []) offset)
 
 pub numbers_more : (n : ℕ) → range_with_len 0 (n + 1) ≡ range_with_len 0 n ++ n ∷ []
 numbers_more n =
-    let place : 0 + n ≡ n = omega arith in
-    ap (range_with_len 0) (add-one n) ∙ range_more 0 n ∙ ap (λ (k : ℕ). range_with_len 0 n ++ k ∷ []) place
+    let offset : 0 + n ≡ n = omega arith in
+    ap (range_with_len 0) (add-one n) ∙ range_more 0 n ∙ ap (λ (k : ℕ). range_with_len 0 n ++ k ∷ []) offset
 
 pub records_none : (stream : Stream) (seed : ℕ) → records_to stream seed 0 ≡ []
 unfolding records_to

@@ -2,7 +2,7 @@
 use Rattle.std.proofs.Common.{◌≡◌, ◌≤◌, ◌<◌, inl, inr, ℕ, Option, Some, None, List, [], ◌∷◌, length, get_or, map, refl, sym, ap, arith, append-nil}
 use Rattle.tesla_desk.specs.Outside.{Opening, Told, with_openings}
 use Rattle.tesla_desk.proofs.Counts.{cause_none, cause_plain}
-use Rattle.tesla_front.specs.Came.{Came, Failed}
+use Rattle.tesla_front.specs.OutcomeView.{OutcomeView, Failed}
 use Rattle.tesla_front.specs.Command.{Performs}
 use Rattle.tesla_front.specs.declared.fault.Fault.{Fault}
 use Rattle.tesla_front.specs.declared.fault.Fault.TheVariants as faults
@@ -23,20 +23,20 @@ asked_none None = refl
 asked_none (Some openings) = ap (λ (l : List Opening). Some l) (sym (append-nil openings))
 
 -- it came to no fault but want of memory
-one_fault : (arguments : StressArguments) (came : Came) (fault : Fault) → IsReport arguments came → came ≡ Failed fault → fault ≡ faults.NoMemory
-one_fault arguments came fault (inl done) is = absurd cc
-one_fault arguments came fault (inr memory) is = cc
+one_fault : (arguments : StressArguments) (outcome : OutcomeView) (fault : Fault) → IsReport arguments outcome → outcome ≡ Failed fault → fault ≡ faults.NoMemory
+one_fault arguments outcome fault (inl done) is = absurd cc
+one_fault arguments outcome fault (inr memory) is = cc
 
 -- what was played is a run over a desk that wasn't touched
-pub performs : (arguments : StressArguments) (desk : Told) (came : Came) → IsReport arguments came → Performs stress arguments desk desk came
-performs arguments desk came is = record {
+pub performs : (arguments : StressArguments) (desk : Told) (outcome : OutcomeView) → IsReport arguments outcome → Performs stress arguments desk desk outcome
+performs arguments desk outcome is = record {
   named = tt;
   opened = 0;
   opens = record { asked = asked_none desk.openings; pages = λ name none. refl; lefts = λ name none. refl };
   does = is;
   counts = record {
-    reads = cause_none desk.faults.reads desk.faults.reads refl (λ e. absurd (let no = one_fault arguments came faults.Read is e in cc));
-    writes = cause_plain desk.faults.writes desk.faults.writes (cause_none desk.faults.writes desk.faults.writes refl (λ e. absurd (let no = one_fault arguments came faults.Write is e in cc)));
-    openings = cause_none desk.faults.openings desk.faults.openings refl (λ e. absurd (let no = one_fault arguments came faults.Open is e in cc));
+    reads = cause_none desk.faults.reads desk.faults.reads refl (λ e. absurd (let no = one_fault arguments outcome faults.Read is e in cc));
+    writes = cause_plain desk.faults.writes desk.faults.writes (cause_none desk.faults.writes desk.faults.writes refl (λ e. absurd (let no = one_fault arguments outcome faults.Write is e in cc)));
+    openings = cause_none desk.faults.openings desk.faults.openings refl (λ e. absurd (let no = one_fault arguments outcome faults.Open is e in cc));
   };
 }

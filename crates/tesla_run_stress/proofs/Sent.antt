@@ -11,7 +11,7 @@ use Rattle.tesla_frame.specs.Frame.{Frame, frame_text}
 use Rattle.tesla_sender.specs.declared.refusal.DiscloseRefusal.{DiscloseRefusal}
 use Rattle.tesla_sender.specs.declared.refusal.SendRefusal.{SendRefusal}
 use Rattle.tesla_sender.specs.Made.{Call, Message, Stream, any_due, chains_of, disclosed, disclosed_after, framed, interval_at, made_disclosure, made_message, message_frame, name_after}
-use Rattle.tesla_sender.specs.Stands.{Answers, IsWritten, State, Stands, log_after, name_next, number_at, sent_in, told_disclosure, told_message}
+use Rattle.tesla_sender.specs.Stands.{Answers, IsWritten, State, Stands, log_after, name_next, number_at, sent_in, returned_disclosure, returned_message}
 use Rattle.tesla_run_stress.specs.Base.{base_stream, base_times, last_of}
 use Rattle.tesla_run_stress.specs.Load.{call_of, disclosure_text, end_reading, log_of, message_text, payload_of, reading_of, text_of}
 use Rattle.tesla_run_stress.specs.Steps.{HasSent}
@@ -61,7 +61,7 @@ name_is count k reading payload sender within sent reads pays =
     ∙ name_from count k sender.latest sender.used within sent.latest sent.used
 
 -- it is not refused
-pub never_refused : (count k reading : ℕ) (payload : List ℕ) (sender : State) (refusal : SendRefusal) (before now : List ℕ) → k < count → HasSent count k sender → reading ≡ reading_of k → payload ≡ payload_of k → Answers (Err refusal) (told_message sender reading payload) before now → ⊥
+pub never_refused : (count k reading : ℕ) (payload : List ℕ) (sender : State) (refusal : SendRefusal) (before now : List ℕ) → k < count → HasSent count k sender → reading ≡ reading_of k → payload ≡ payload_of k → Answers (Err refusal) (returned_message sender reading payload) before now → ⊥
 never_refused count k reading payload sender refusal before now within sent reads pays answers =
     subst (λ (r : Result Name SendRefusal). Answers (Err refusal) (framed sender.stream payload r) before now) (name_is count k reading payload sender within sent reads pays) answers
 
@@ -72,7 +72,7 @@ short_written count name payload size before now eight written =
     omega (arith, short, written.length)
 
 -- its frame is short
-pub message_short : (count k reading : ℕ) (payload : List ℕ) (sender : State) (size : ℕ) (before now : List ℕ) → k < count → HasSent count k sender → reading ≡ reading_of k → payload ≡ payload_of k → Answers {E = SendRefusal} (Ok size) (told_message sender reading payload) before now → size ≤ 129
+pub message_short : (count k reading : ℕ) (payload : List ℕ) (sender : State) (size : ℕ) (before now : List ℕ) → k < count → HasSent count k sender → reading ≡ reading_of k → payload ≡ payload_of k → Answers {E = SendRefusal} (Ok size) (returned_message sender reading payload) before now → size ≤ 129
 message_short count k reading payload sender size before now within sent reads pays answers =
     let name : Name = record { interval = 1 + k / 10; number = number_at sender.latest sender.used (1 + k / 10) } in
     let written : IsWritten (message_frame sender.stream.setup (chains_of sender.stream) name payload) size before now =
@@ -150,7 +150,7 @@ disclosed_is count latest reading at reads =
     let after : nat_lt (interval_at times reading) latest ≡ false = le-ltb _ _ (omega (arith, i)) in
     rw (after, i, due_by (last_of count)) refl
 
-pub never_undisclosed : (count reading : ℕ) (sender : State) (refusal : DiscloseRefusal) (before now : List ℕ) → HasSent count count sender → reading ≡ end_reading (last_of count) → Answers (Err refusal) (told_disclosure sender reading) before now → ⊥
+pub never_undisclosed : (count reading : ℕ) (sender : State) (refusal : DiscloseRefusal) (before now : List ℕ) → HasSent count count sender → reading ≡ end_reading (last_of count) → Answers (Err refusal) (returned_disclosure sender reading) before now → ⊥
 never_undisclosed count reading sender refusal before now sent reads answers =
     let told : Answers (Err refusal) (disclosed (base_stream count) (disclosed_after (base_times (last_of count)) sender.latest (any_due (interval_at (base_times (last_of count)) reading) (chains_of (base_stream count))) reading)) before now =
     subst (λ (s : Stream). Answers (Err refusal) (disclosed s (disclosed_after s.setup.times sender.latest (any_due (interval_at s.setup.times reading) (chains_of s)) reading)) before now) sent.stream answers in

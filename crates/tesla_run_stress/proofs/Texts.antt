@@ -38,8 +38,8 @@ keep_append c xs ys =
     let within : a ≤ length xs = omega arith in
     let joined : drop a xs ++ ys ≡ drop a (xs ++ ys) = sym (drop-append-le a xs ys within) in
     let b = length (drop a (xs ++ ys)) - c in
-    let places : a + b ≡ length (xs ++ ys) - c = omega (arith, length-drop a (xs ++ ys), length-append xs ys) in
-    ap (λ zs. drop (length zs - c) zs) joined ∙ drop-drop b a (xs ++ ys) ∙ ap (λ k. drop k (xs ++ ys)) places
+    let lengths : a + b ≡ length (xs ++ ys) - c = omega (arith, length-drop a (xs ++ ys), length-append xs ys) in
+    ap (λ zs. drop (length zs - c) zs) joined ∙ drop-drop b a (xs ++ ys) ∙ ap (λ k. drop k (xs ++ ys)) lengths
 
 -- ---- the frames that are kept
 
@@ -98,10 +98,10 @@ given_back count k kept text given was gives =
       | inr many ↦
           let full : nat_lt (length kept.items) kept.capacity ≡ false = le-ltb _ _ (omega (arith, len, size, room, length-drop from (texts_to stream k))) in
           let first : given ≡ slice_get (kept.items ++ text ∷ []) 0 = rw full at gives in
-          let place : from + 0 ≡ k - 30 = omega arith in
+          let offset : from + 0 ≡ k - 30 = omega arith in
           first ∙ slice_get-append kept.items (text ∷ []) 0 (omega (arith, len, size, length-drop from (texts_to stream k)))
           ∙ ap (λ (l : List (List ℕ)). slice_get l 0) was.texts ∙ slice_get-drop from (texts_to stream k) 0
-          ∙ ap (slice_get (texts_to stream k)) place ∙ text_at stream k (k - 30) (omega arith) ∙ sym (rw (le-ltb k 30 many) refl)
+          ∙ ap (slice_get (texts_to stream k)) offset ∙ text_at stream k (k - 30) (omega arith) ∙ sym (rw (le-ltb k 30 many) refl)
     ]
 
 -- ---- how long a frame is

@@ -62,16 +62,16 @@ disclosure_text stream count = text_of (made_disclosure stream (log_of count) (e
 
 -- the byte at that place altered by exclusive or with 1
 abbrev pub altered : ℕ → List ℕ → List ℕ
-altered place text = slice_set text place (bit_xor (slice_index text place) 1)
+altered offset text = slice_set text offset (bit_xor (slice_index text offset) 1)
 
 -- the same, where there is such a place
 abbrev pub altered_at : Option ℕ → List ℕ → List ℕ
 altered_at None text = text
-altered_at (Some place) text = altered place text
+altered_at (Some offset) text = altered offset text
 
 -- which byte is altered: the payload's first, the version, the stream's last, or the first of a key
-abbrev pub place_chosen : ℕ → ℕ → Option ℕ
-place_chosen choice k =
+abbrev pub offset_chosen : ℕ → ℕ → Option ℕ
+offset_chosen choice k =
     if choice == 3 then Some 22
     else if choice == 4 then Some 4
     else if choice == 5 then Some 13
@@ -102,7 +102,7 @@ others_chosen choice k text before =
 abbrev pub arrivals_chosen : ℕ → ℕ → List ℕ → Option (List ℕ) → List Record
 arrivals_chosen choice k text before =
     if nat_lt choice 2 then []
-    else Arrives (reading_chosen choice k) (altered_at (place_chosen choice k) text) ∷ others_chosen choice k text before
+    else Arrives (reading_chosen choice k) (altered_at (offset_chosen choice k) text) ∷ others_chosen choice k text before
 
 -- the records of message k: its arrivals, and one take
 abbrev pub records_of : Stream → ℕ → ℕ → List Record

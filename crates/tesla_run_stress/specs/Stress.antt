@@ -1,6 +1,6 @@
 -- What the command stress does.
 use Rattle.std.specs.Prelude.{◌≡◌, ◌⊎◌, ℕ, true, List, []}
-use Rattle.tesla_front.specs.Came.{Came, Done, Failed}
+use Rattle.tesla_front.specs.OutcomeView.{OutcomeView, Done, Failed}
 use Rattle.tesla_front.specs.Command.{Command}
 use Rattle.tesla_front.specs.Openings.{File}
 use Rattle.tesla_front.specs.declared.fault.Fault.TheVariants as faults
@@ -17,13 +17,13 @@ abbrev pub history_of : StressArguments → List Entry
 history_of arguments = played (base_config arguments.count) (load (base_stream arguments.count) arguments.seed arguments.count) true
 
 -- it came to the report of that history, or to want of memory
-abbrev pub IsReport : StressArguments → Came → Type 0
-IsReport arguments came = (came ≡ Done (report_text (report_of (history_of arguments)))) ⊎ (came ≡ Failed faults.NoMemory)
+abbrev pub IsReport : StressArguments → OutcomeView → Type 0
+IsReport arguments outcome = (outcome ≡ Done (report_text (report_of (history_of arguments)))) ⊎ (outcome ≡ Failed faults.NoMemory)
 
 -- a run of the command, which has no files
-abbrev pub DoesStress : StressArguments → ℕ → List File → List File → Came → Type 0
-DoesStress arguments opened [] [] came = IsReport arguments came
-DoesStress arguments opened before after came = ⊥
+abbrev pub DoesStress : StressArguments → ℕ → List File → List File → OutcomeView → Type 0
+DoesStress arguments opened [] [] outcome = IsReport arguments outcome
+DoesStress arguments opened before after outcome = ⊥
 
 -- the command
 abbrev pub stress : Command

@@ -1,7 +1,7 @@
 //! The numbers of a load, and what they choose for a message.
 
 ghost use Rattle.std.specs.Prelude.{◌≡◌, ◌+◌, ◌*◌, ◌%◌, ◌^◌, ◌<◌, ◌≤◌};
-ghost use Rattle.tesla_run_stress.specs.Load.{end_reading, place_chosen, reading_chosen, reading_of};
+ghost use Rattle.tesla_run_stress.specs.Load.{end_reading, offset_chosen, reading_chosen, reading_of};
 
 /// The number that comes after this one.
 pub fn next_number(number: u32) -> u32
@@ -43,8 +43,8 @@ pub fn reading_chosen(choice: u32, k: u32) -> u64
 }
 
 /// The place of the byte that is altered in it. `None`: it comes as it was made.
-pub fn place_chosen(choice: u32, k: u32) -> Option<usize>
-    ensures { result ≡ place_chosen choice k }
+pub fn offset_chosen(choice: u32, k: u32) -> Option<usize>
+    ensures { result ≡ offset_chosen choice k }
 {
     match choice {
         3 => Some(22),

@@ -2,7 +2,7 @@
 
 ghost use Rattle.std.specs.Prelude.{◌≡◌, ◌⊎◌};
 ghost use Rattle.tesla_desk.specs.Outside.{Told};
-ghost use Rattle.tesla_front.specs.Came.{Came, Done, Failed};
+ghost use Rattle.tesla_front.specs.OutcomeView.{OutcomeView, Done, Failed};
 ghost use Rattle.tesla_front.specs.Command.{Performs};
 ghost use Rattle.tesla_front.specs.declared.fault.Fault.TheVariants as faults;
 ghost use Rattle.tesla_receiver.specs.Report.{report_of};
@@ -24,7 +24,7 @@ pub fn form() -> FormText
 /// A run of `stress` comes to its end: to the report of the one history that the load plays, or to want of memory. It
 /// leaves the desk as it was.
 pub fn completeness()
-    ensures comes { (arguments : StressArguments) (old new : Told) (came : Came) → Performs stress arguments old new came →
-        (came ≡ Done (report_text (report_of (history_of arguments)))) ⊎ (came ≡ Failed faults.NoMemory) }
-    ensures opens { (arguments : StressArguments) (old new : Told) (came : Came) → Performs stress arguments old new came → new.openings ≡ old.openings }
+    ensures comes { (arguments : StressArguments) (old new : Told) (outcome : OutcomeView) → Performs stress arguments old new outcome →
+        (outcome ≡ Done (report_text (report_of (history_of arguments)))) ⊎ (outcome ≡ Failed faults.NoMemory) }
+    ensures opens { (arguments : StressArguments) (old new : Told) (outcome : OutcomeView) → Performs stress arguments old new outcome → new.openings ≡ old.openings }
 {}

@@ -13,7 +13,7 @@ ghost use Rattle.tesla_receiver.specs.Stands.{Stands};
 ghost use Rattle.tesla_run_stress.specs.Load.{altered_at, arrival_of, arrivals_chosen, others_chosen};
 ghost use Rattle.tesla_run_stress.specs.Steps.{HasPlayed};
 
-use crate::choices::{place_chosen, reading_chosen, reading_of};
+use crate::choices::{offset_chosen, reading_chosen, reading_of};
 use crate::frames::FrameText;
 use std::sync::ledger::Ledger;
 use tesla_base::{MOST_PAYLOAD, Steps};
@@ -51,12 +51,12 @@ pub fn play_take(receiver: &mut Receiver, payload: &mut [u8; MOST_PAYLOAD])
 }
 
 // Alters the byte at a place by exclusive or with 1, where there is one.
-fn alter(frame: &mut [u8], place: Option<usize>)
-    ensures { frame.new ≡ altered_at place frame.old }
+fn alter(frame: &mut [u8], offset: Option<usize>)
+    ensures { frame.new ≡ altered_at offset frame.old }
 {
-    if let Some(place) = place {
-        if place < frame.len() {
-            frame[place] ^= 1;
+    if let Some(offset) = offset {
+        if offset < frame.len() {
+            frame[offset] ^= 1;
         }
     }
 }
@@ -116,7 +116,7 @@ pub fn play_arrivals<L: Ledger>(
     if choice < 2 {
         return;
     }
-    alter(frame, place_chosen(choice, k));
+    alter(frame, offset_chosen(choice, k));
     play_arrival(receiver, reading_chosen(choice, k), frame, steps);
     play_others(receiver, choice, k, frame, before, steps);
 }

@@ -1,7 +1,7 @@
 //! A run of `stress`.
 
 ghost use Rattle.std.specs.Prelude.{map, string_bytes};
-ghost use Rattle.tesla_front.specs.Came.{came_of, outcome_came};
+ghost use Rattle.tesla_front.specs.OutcomeView.{result_view, outcome_view};
 ghost use Rattle.tesla_front.specs.Command.{RunsAs};
 ghost use Rattle.tesla_run_stress.specs.Arguments.{arguments_of};
 ghost use Rattle.tesla_run_stress.specs.Stress.{IsReport, stress};
@@ -20,7 +20,7 @@ use tesla_run_replay::report_lines;
 /// `Done` with the lines of the receiver's report, once all was played. `Usage` exactly where the words are no form.
 /// `Failed` only for want of memory, and then before the first message.
 pub fn run_stress<D: Desk>(alloc: Global, words: &[String], desk: &mut D) -> Outcome
-    ensures { RunsAs stress (map string_bytes words.now) (D.told desk.old) (D.told desk.new) (outcome_came result) }
+    ensures { RunsAs stress (map string_bytes words.now) (D.told desk.old) (D.told desk.new) (outcome_view result) }
 {
     let _ = &desk;
     match arguments_in(words) {
@@ -31,7 +31,7 @@ pub fn run_stress<D: Desk>(alloc: Global, words: &[String], desk: &mut D) -> Out
 
 // Does what the words ask for.
 fn perform(alloc: Global, arguments: Arguments) -> Result<Lines, Stop>
-    ensures { IsReport (arguments_of arguments) (came_of result) }
+    ensures { IsReport (arguments_of arguments) (result_view result) }
 {
     match play_load(alloc, arguments.seed, arguments.count) {
         Ok(report) => Ok(report_lines(&report)),

@@ -5,7 +5,7 @@ use Rattle.tesla_fitting.specs.declared.config.Config.{Config}
 use Rattle.tesla_receiver.specs.declared.history.Entry.{Entry}
 use Rattle.tesla_convert.specs.Meaning.{SaysSame}
 use Rattle.tesla_trace.specs.Trace.{entry_text, trace_head}
-use Rattle.tesla_run_replay.specs.Playing.{meaning_by, report_told}
+use Rattle.tesla_run_replay.specs.Playing.{meaning_by, history_report}
 use Rattle.tesla_run_replay.proofs.Histories.{says_received}
 use Rattle.tesla_run_trace.specs.Trace.{meaning, trace_rule}
 
@@ -16,4 +16,4 @@ entries_more h e = flat_map-append entry_text h (e ∷ []) ∙ ap (λ (t : List 
 -- what is said by the rule of such a configuration is said by the histories
 pub says_same : (cfg other : Config) → other ≡ cfg → SaysSame (meaning_by false (trace_rule other)) (meaning cfg)
 says_same cfg other same =
-    subst (λ (c : Config). SaysSame (meaning_by false (trace_rule c)) (meaning cfg)) (sym same) (says_received cfg (trace_head 1) (λ h e. entry_text e) report_told (flat_map entry_text) refl entries_more)
+    subst (λ (c : Config). SaysSame (meaning_by false (trace_rule c)) (meaning cfg)) (sym same) (says_received cfg (trace_head 1) (λ h e. entry_text e) history_report (flat_map entry_text) refl entries_more)

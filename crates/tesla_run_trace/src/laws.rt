@@ -7,7 +7,7 @@ ghost use Rattle.tesla_commit.specs.Parts.{Parts};
 ghost use Rattle.tesla_convert.specs.Meaning.{Converts, HoldsNothing};
 ghost use Rattle.tesla_desk.specs.Outside.{Page, Told, Holds};
 ghost use Rattle.tesla_fitting.specs.declared.config.Config.{Config};
-ghost use Rattle.tesla_front.specs.Came.{Came, Done, Failed};
+ghost use Rattle.tesla_front.specs.OutcomeView.{OutcomeView, Done, Failed};
 ghost use Rattle.tesla_front.specs.Command.{Performs};
 ghost use Rattle.tesla_front.specs.Run.{NothingFailed};
 ghost use Rattle.tesla_front.specs.declared.fault.Fault.TheVariants as faults;
@@ -32,12 +32,12 @@ pub fn form() -> FormText
 /// A run of `trace` comes to its end. Where the desk tells a setup and a capture, and no count of faults rose, it comes to
 /// the report of the one history that the capture plays, or to want of memory.
 pub fn completeness()
-    ensures { (arguments : PlayedArguments) (old new : Told) (came : Came) (text bytes : List ℕ) (failed other : Bool) (setup : Parts) →
-        Performs trace arguments old new came →
+    ensures { (arguments : PlayedArguments) (old new : Told) (outcome : OutcomeView) (text bytes : List ℕ) (failed other : Bool) (setup : Parts) →
+        Performs trace arguments old new outcome →
         old.page arguments.setup ≡ Holds text failed → judged text ≡ Ok setup →
         old.page arguments.capture ≡ Holds bytes other → (outline_of bytes).fault ≡ None →
         NothingFailed old.faults new.faults →
-        (came ≡ Done (report_text (report_of (history_of (config_of arguments setup) bytes)))) ⊎ (came ≡ Failed faults.NoMemory) }
+        (outcome ≡ Done (report_text (report_of (history_of (config_of arguments setup) bytes)))) ⊎ (outcome ≡ Failed faults.NoMemory) }
 {}
 
 /// Memory is wanting before the capture is read or not at all: the output is as it was, or was opened and holds nothing.

@@ -43,7 +43,7 @@ impl Target for TraceTarget {
     fn form() -> Form {
         Form {
             name: "trace",
-            capacity: Capacity::Places,
+            capacity: Capacity::PacketLimits,
         }
     }
 

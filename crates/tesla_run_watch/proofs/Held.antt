@@ -16,7 +16,7 @@ holds_by history fresh written count failed bytes true some told writes = record
   lines = writes.lines;
   follow = writes.follow;
   ends = writes.ends;
-  front = (writes.prefix.0, first_written fresh written (take writes.prefix.0 (flat_map line_text writes.lines)) bytes writes.empty writes.prefix.1.written told);
+  prefix = (writes.prefix.0, first_written fresh written (take writes.prefix.0 (flat_map line_text writes.lines)) bytes writes.empty writes.prefix.1.written told);
 }
 
 pub holds_status : (history : List Entry) (fresh written : Option (List ℕ)) (count : ℕ) (failed : Bool) → WritesStatus history fresh written count failed → HoldsStatus history (page_of written count)

@@ -15,8 +15,8 @@ use Rattle.tesla_run_watch.specs.Written.{EndsWith, Notes, Puts, WritesStatus, r
 -- ---- text
 
 -- a text was put behind what there was, and then another
-pub text_then : (first now later front back : List ℕ) → now ≡ first ++ front → later ≡ now ++ back → later ≡ first ++ (front ++ back)
-text_then first now later front back once then = then ∙ ap (λ (bytes : List ℕ). bytes ++ back) once ∙ append_assoc first front back
+pub text_then : (first now later prefix back : List ℕ) → now ≡ first ++ prefix → later ≡ now ++ back → later ≡ first ++ (prefix ++ back)
+text_then first now later prefix back once then = then ∙ ap (λ (bytes : List ℕ). bytes ++ back) once ∙ append_assoc first prefix back
 
 -- ---- numbers that don't fall
 
@@ -86,7 +86,7 @@ module _ (earlier counts : List ℕ) (time : ℕ) (before old : Option (List ℕ
   follows falls = follow_more no_report noted.lines (line_at time counts) noted.follow refl (falls_behind earlier counts noted.lines noted.within falls)
 
   pub ends_more : (history : List Entry) → report_at counts ≡ report_of history → EndsWith lines_more history
-  ends_more history whole = record { front = noted.lines; last = line_at time counts; lines_are = refl; report_is = whole }
+  ends_more history whole = record { prefix = noted.lines; last = line_at time counts; lines_are = refl; report_is = whole }
 
   -- where nothing more was written, there is a prefix of them as there was
   pub prefix_still : AppendsPrefix before old (flat_map line_text lines_more)

@@ -23,7 +23,7 @@ pub record BreakOff (history : List Entry) (bytes : List ℕ) : Type 0 where
   pub lines : List StatusLine
   pub follow : Follow no_report lines
   pub ends : EndsWith lines history
-  pub front : IsPrefix (flat_map line_text lines) bytes
+  pub prefix : IsPrefix (flat_map line_text lines) bytes
 
 -- STATUS holds lines, in which no number falls, and the last has the numbers of the whole history's report. Where it failed it holds a prefix of such lines
 abbrev pub HoldsStatus : List Entry → Page → Type 0

@@ -31,9 +31,9 @@ pub record Puts (text : List ℕ) (written later : Option (List ℕ)) (faults co
 
 -- the last of these lines has the numbers of the report of a history
 pub record EndsWith (lines : List StatusLine) (history : List Entry) : Type 0 where
-  pub front : List StatusLine
+  pub prefix : List StatusLine
   pub last : StatusLine
-  pub lines_are : lines ≡ front ++ last ∷ []
+  pub lines_are : lines ≡ prefix ++ last ∷ []
   pub report_is : last.report ≡ report_of history
 
 -- what was written to STATUS, which was new, told the whole history: lines, of which the last has the numbers of its report, or where it failed a prefix of such lines

@@ -121,7 +121,7 @@ gathers_nothing : (before now : Option (List ℕ)) (held rest : List ℕ) → no
 gathers_nothing before now held rest written same = record { done = []; written = written ∙ appends_none before; both = append-nil held ∙ sym same }
 
 -- what came of a record is what the rule says
-pub answers_settled : (came settled : Converted WeaveKind) (setup : Parts) (namer : Naming) (plan : Planned) (records : List Record) (first : Record) (before now : Option (List ℕ)) (held rest : List ℕ) → Collects setup namer plan records first came → Settles came settled before now held rest
+pub answers_settled : (outcome settled : Converted WeaveKind) (setup : Parts) (namer : Naming) (plan : Planned) (records : List Record) (first : Record) (before now : Option (List ℕ)) (held rest : List ℕ) → Collects setup namer plan records first outcome → Settles outcome settled before now held rest
     → Answers script (rule_of setup) (λ (rs : List Record). HasCollected setup namer plan rs) records first settled before now held rest
 answers_settled Whole settled setup namer plan records first before now held rest taken does =
     subst (λ (c : Converted WeaveKind). Answers script (rule_of setup) (λ (rs : List Record). HasCollected setup namer plan rs) records first c before now held rest) (sym does.0)

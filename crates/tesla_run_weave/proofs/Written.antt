@@ -59,8 +59,8 @@ slot_put whole before mid now held more slots payloads k at next d within puts g
 
 -- a prefix of what is held was written
 pub puts_prefix : (whole : List ℕ) (before mid now : Option (List ℕ)) (held rest : List ℕ) → IsPutTo whole before mid held rest → AppendsPrefix mid now held → AppendsPrefix before now whole
-puts_prefix whole before mid now held rest puts front =
-    subst (λ (t : List ℕ). AppendsPrefix before now t) (sym puts.parts) (prefix_after before mid now puts.done (held ++ rest) puts.written (prefix_longer mid now held rest front))
+puts_prefix whole before mid now held rest puts prefix =
+    subst (λ (t : List ℕ). AppendsPrefix before now t) (sym puts.parts) (prefix_after before mid now puts.done (held ++ rest) puts.written (prefix_longer mid now held rest prefix))
 
 -- all records were put
 pub puts_all : (whole : List ℕ) (before now : Option (List ℕ)) (held : List ℕ) (slots : List Slot) (payloads : List (List ℕ)) (k at : ℕ) → length slots ≤ k → IsPutTo whole before now held (flat_map record_text (filled (drop k slots) (drop at payloads))) → Gathers before now held whole
@@ -81,12 +81,12 @@ gathers_then before mid now held more rest text first second = record {
 
 -- where not all of it was written, a prefix of both was
 pub prefix_then : (before mid now : Option (List ℕ)) (held more text : List ℕ) → Gathers before mid more held → AppendsPrefix mid now (more ++ text) → AppendsPrefix before now (held ++ text)
-prefix_then before mid now held more text first front =
-    subst (λ (t : List ℕ). AppendsPrefix before now t) (sym (ap (λ t. t ++ text) first.both ∙ append_assoc first.done more text)) (prefix_after before mid now first.done (more ++ text) first.written front)
+prefix_then before mid now held more text first prefix =
+    subst (λ (t : List ℕ). AppendsPrefix before now t) (sym (ap (λ t. t ++ text) first.both ∙ append_assoc first.done more text)) (prefix_after before mid now first.done (more ++ text) first.written prefix)
 
 pub prefix_of : (before mid now : Option (List ℕ)) (held more : List ℕ) → Gathers before mid more held → AppendsPrefix mid now more → AppendsPrefix before now held
-prefix_of before mid now held more first front =
-    subst (λ (t : List ℕ). AppendsPrefix before now t) (sym first.both) (prefix_after before mid now first.done more first.written front)
+prefix_of before mid now held more first prefix =
+    subst (λ (t : List ℕ). AppendsPrefix before now t) (sym first.both) (prefix_after before mid now first.done more first.written prefix)
 
 -- a call after which nothing failed before
 pub cause_on : {failed other : Type 0} (a b c : ℕ) → b ≡ a → HasCause b c failed → (other → failed) → (failed → other) → HasCause a c other

@@ -9,8 +9,8 @@ use Rattle.tesla_convert.specs.declared.converter.Converted.{Converted}
 use Rattle.tesla_convert.specs.declared.converter.Converted.TheVariants.{Whole, Refused, WriteFault, NoMemory}
 use Rattle.tesla_desk.specs.Faults.{HasCausesBeside}
 use Rattle.tesla_desk.specs.Outside.{AppendsPrefix, OfSink, OfSource, Page, Told, with_bytes}
-use Rattle.tesla_front.specs.Came as cames
-use Rattle.tesla_front.specs.Came.{Came, Failed, stop_came}
+use Rattle.tesla_front.specs.OutcomeView as outcome_views
+use Rattle.tesla_front.specs.OutcomeView.{OutcomeView, Failed, stop_view}
 use Rattle.tesla_front.specs.Files.{HoldsWhere}
 use Rattle.tesla_front.specs.Openings.{AnyFailed, Opens, file_told}
 use Rattle.tesla_front.specs.declared.fault.Fault.TheVariants as faults
@@ -62,7 +62,7 @@ abbrev pub Settles : Converted WeaveKind → Converted WeaveKind → Option (Lis
 Settles NoMemory NoMemory before now held rest = (now ≡ with_bytes before held) × (rest ≡ [])
 Settles NoMemory WriteFault before now held rest = AppendsPrefix before now held
 Settles NoMemory _ before now held rest = ⊥
-Settles came settled before now held rest = (settled ≡ came) × (now ≡ before) × (rest ≡ held)
+Settles outcome settled before now held rest = (settled ≡ outcome) × (now ≡ before) × (rest ≡ held)
 
 -- ---- a script that is read
 
@@ -76,25 +76,25 @@ abbrev pub IsReadIn : Parts → Page → Planned → Type 0
 IsReadIn setup page plan = HoldsWhere page (λ bytes. IsRead setup bytes plan)
 
 -- why nothing is kept of a script with these bytes
-abbrev pub IsNoText : Parts → List ℕ → Option (List ℕ) → Came → Type 0
-IsNoText setup bytes left (cames.Refused status line) = IsRefusedAt setup bytes (cames.Refused status line)
+abbrev pub IsNoText : Parts → List ℕ → Option (List ℕ) → OutcomeView → Type 0
+IsNoText setup bytes left (outcome_views.Refused status line) = IsRefusedAt setup bytes (outcome_views.Refused status line)
 IsNoText setup bytes left (Failed faults.Read) = StopsReading setup bytes left
 IsNoText setup bytes left _ = Unit {0}
 
 -- what reading a script with these bytes comes to, with what is left of it
 abbrev pub ReadsTo : Parts → List ℕ → Option (List ℕ) → Result Planned Stop → Type 0
 ReadsTo setup bytes left (Ok plan) = IsRead setup bytes plan
-ReadsTo setup bytes left (Err stop) = IsNoText setup bytes left (stop_came stop)
+ReadsTo setup bytes left (Err stop) = IsNoText setup bytes left (stop_view stop)
 
 -- reading a script that is open stops only at a refused place, at a failed read or for want of memory
-abbrev pub MayStop : Came → Type 0
-MayStop (cames.Refused status line) = Unit {0}
+abbrev pub MayStop : OutcomeView → Type 0
+MayStop (outcome_views.Refused status line) = Unit {0}
 MayStop (Failed faults.Read) = Unit {0}
 MayStop (Failed faults.NoMemory) = Unit {0}
 MayStop _ = ⊥
 
 abbrev pub IsReadSource : Result Planned Stop → Type 0
-IsReadSource result = IfErr result (λ stop. MayStop (stop_came stop))
+IsReadSource result = IfErr result (λ stop. MayStop (stop_view stop))
 
 -- ---- a script that is written
 
@@ -130,9 +130,9 @@ pub record OpensOut (name : List ℕ) (old new : Told) (wanting : Type 0) : Type
 -- ---- the files
 
 -- under a setup that was found and was opened before, the script was read, and then woven and written
-pub record WeavesFiles (arguments : WeaveArguments) (setup : Parts) (old new : Told) (came : Came) : Type 0 where
+pub record WeavesFiles (arguments : WeaveArguments) (setup : Parts) (old new : Told) (outcome : OutcomeView) : Type 0 where
   pub opened : ℕ
   pub opens : Opens (OfSource arguments.script ∷ OfSink arguments.out ∷ []) opened old new
-  pub does : StopsAtScript setup (file_told old arguments.script) (file_told new arguments.script) (old.page arguments.out) (new.page arguments.out) (suc opened) came
-      ⊎ WeavesScript setup arguments.gap (old.page arguments.script) (old.page arguments.out) (new.page arguments.out) (suc opened) came
-  pub counts : HasCausesBeside ((came ≡ Failed faults.Read) × AnyFailed (OfSink arguments.out ∷ []) new) old.faults new.faults (came ≡ Failed faults.Read) (came ≡ Failed faults.Write) (came ≡ Failed faults.Open)
+  pub does : StopsAtScript setup (file_told old arguments.script) (file_told new arguments.script) (old.page arguments.out) (new.page arguments.out) (suc opened) outcome
+      ⊎ WeavesScript setup arguments.gap (old.page arguments.script) (old.page arguments.out) (new.page arguments.out) (suc opened) outcome
+  pub counts : HasCausesBeside ((outcome ≡ Failed faults.Read) × AnyFailed (OfSink arguments.out ∷ []) new) old.faults new.faults (outcome ≡ Failed faults.Read) (outcome ≡ Failed faults.Write) (outcome ≡ Failed faults.Open)

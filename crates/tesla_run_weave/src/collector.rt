@@ -77,16 +77,16 @@ fn judge_disclosure(namer: &mut Namer, reading: u64) -> Result<bool, WeaveKind>
 
 // Where memory was wanting, what is gathered is written.
 fn settle<O: Sink>(
-    came: Converted<WeaveKind>,
+    outcome: Converted<WeaveKind>,
     gatherer: &mut Gatherer,
     out: &mut O,
 ) -> Converted<WeaveKind>
-    requires { came ≡ Converted.WriteFault → ⊥ }
-    ensures settles { Settles came result (O.written out.old) (O.written out.new) (gathered gatherer.old) (gathered gatherer.new) }
+    requires { outcome ≡ Converted.WriteFault → ⊥ }
+    ensures settles { Settles outcome result (O.written out.old) (O.written out.new) (gathered gatherer.old) (gathered gatherer.new) }
     ensures cause { HasCause (O.faults out.old) (O.faults out.new) (result ≡ Converted.WriteFault) }
     ensures name { O.name out.new ≡ O.name out.old }
 {
-    match came {
+    match outcome {
         Converted::NoMemory => {
             if gatherer.flush(out) {
                 Converted::NoMemory
@@ -94,7 +94,7 @@ fn settle<O: Sink>(
                 Converted::WriteFault
             }
         }
-        _ => came,
+        _ => outcome,
     }
 }
 
@@ -209,8 +209,8 @@ impl<U: Under> Converter for Collector<U> {
         gatherer: &mut Gatherer,
         out: &mut O,
     ) -> Converted<WeaveKind> {
-        let came = self.take(taken);
-        settle(came, gatherer, out)
+        let outcome = self.take(taken);
+        settle(outcome, gatherer, out)
     }
 
     fn finish<O: Sink>(&mut self, _: &mut Gatherer, _: &mut O) -> Result<(), Halt> {

@@ -3,7 +3,7 @@
 ghost use Rattle.std.specs.Prelude.{◌≡◌, [], ◌∷◌, ℕ, List, Some, Err, IfErr, IfOk};
 ghost use Rattle.tesla_desk.specs.Faults.{HasCause};
 ghost use Rattle.tesla_desk.specs.Outside.{OfSource};
-ghost use Rattle.tesla_front.specs.Came.{Refused, stop_came};
+ghost use Rattle.tesla_front.specs.OutcomeView.{Refused, stop_view};
 ghost use Rattle.tesla_front.specs.Openings.{Opens, OpensSome};
 ghost use Rattle.tesla_front.specs.Refusal.{StopCauses};
 ghost use Rattle.tesla_front.specs.declared.fault.Fault.TheVariants as faults;
@@ -27,7 +27,7 @@ use tesla_sender::Namer;
 
 // The refusal of a script at a place.
 fn script_refused(place: u64, kind: WeaveKind) -> Stop
-    ensures { stop_came result ≡ Refused 3 (script_line place kind) }
+    ensures { stop_view result ≡ Refused 3 (script_line place kind) }
 {
     Stop::Refused(refused(3, "script", place, kind.name()))
 }
@@ -77,7 +77,7 @@ pub fn read_script<D: Desk>(
     desk: &mut D,
 ) -> Result<Plan, Stop>
     ensures found { IfOk result (λ plan. IsReadIn setup ((D.told desk.old).page name.now) plan) }
-    ensures refused { IfErr result (λ stop. IsNoScript setup ((D.told desk.old).page name.now) ((D.told desk.new).left name.now) (stop_came stop)) }
+    ensures refused { IfErr result (λ stop. IsNoScript setup ((D.told desk.old).page name.now) ((D.told desk.new).left name.now) (stop_view stop)) }
     ensures opened { IfOk result (λ _. Opens (OfSource name.now ∷ []) 1 (D.told desk.old) (D.told desk.new)) }
     ensures opens { OpensSome (OfSource name.now ∷ []) (D.told desk.old) (D.told desk.new) }
     ensures pages { (n : List ℕ) → (D.told desk.new).page n ≡ (D.told desk.old).page n }

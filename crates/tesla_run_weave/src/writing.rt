@@ -6,7 +6,7 @@ ghost use Rattle.tesla_capture.specs.Gathering.{Gathers, gathered};
 ghost use Rattle.tesla_capture.specs.Script.{record_text, script_text};
 ghost use Rattle.tesla_desk.specs.Faults.{HasCause};
 ghost use Rattle.tesla_desk.specs.Outside.{AppendsPrefix, OfSink, with_bytes};
-ghost use Rattle.tesla_front.specs.Came.{Failed, came_of};
+ghost use Rattle.tesla_front.specs.OutcomeView.{Failed, result_view};
 ghost use Rattle.tesla_front.specs.Fault.{Causes};
 ghost use Rattle.tesla_front.specs.Files.{WritesFile};
 ghost use Rattle.tesla_front.specs.Refusal.{StopCauses};
@@ -161,8 +161,8 @@ pub fn write_woven<D: Desk>(
     desk: &mut D,
 ) -> Result<Lines, Stop>
     requires { 1 ≤ gap }
-    ensures writes { WritesWoven (plan_text gap plan) (length plan.bodies) ((D.told desk.old).page name.now) ((D.told desk.new).page name.now) 2 (came_of result) }
-    ensures opens { OpensOut name.now (D.told desk.old) (D.told desk.new) (came_of result ≡ Failed faults.NoMemory) }
+    ensures writes { WritesWoven (plan_text gap plan) (length plan.bodies) ((D.told desk.old).page name.now) ((D.told desk.new).page name.now) 2 (result_view result) }
+    ensures opens { OpensOut name.now (D.told desk.old) (D.told desk.new) (result_view result ≡ Failed faults.NoMemory) }
     ensures causes { StopCauses result (D.told desk.old).faults (D.told desk.new).faults }
 {
     let Plan {

@@ -23,17 +23,17 @@ pub nothing_before : (r : Result (List Key) (ℕ × SeedsKind)) → onto [] r �
 nothing_before (Ok seeds) = refl
 nothing_before (Err e) = refl
 
-pub keys_step : (number more left : ℕ) (front : List Key) (text rest : List (List ℕ)) (key : Key) → more ≡ left + 1 → first_seed text ≡ Ok (key, rest) → onto front (keys_judged number more text) ≡ onto (front ++ key ∷ []) (keys_judged (number + 1) left rest)
+pub keys_step : (number more left : ℕ) (prefix : List Key) (text rest : List (List ℕ)) (key : Key) → more ≡ left + 1 → first_seed text ≡ Ok (key, rest) → onto prefix (keys_judged number more text) ≡ onto (prefix ++ key ∷ []) (keys_judged (number + 1) left rest)
 unfolding keys_judged
-keys_step number zero left front text rest key one h = absurd (omega arith)
-keys_step number (suc more) left front text rest key one h =
+keys_step number zero left prefix text rest key one h = absurd (omega arith)
+keys_step number (suc more) left prefix text rest key one h =
     let same : left ≡ more = omega arith in
-    rw (same, h) (onto_first front key (keys_judged (number + 1) more rest))
+    rw (same, h) (onto_first prefix key (keys_judged (number + 1) more rest))
 
-pub keys_refused : (number more : ℕ) (front : List Key) (text : List (List ℕ)) (kind : SeedsKind) → 0 < more → first_seed text ≡ Err kind → onto front (keys_judged number more text) ≡ Err (number, kind)
+pub keys_refused : (number more : ℕ) (prefix : List Key) (text : List (List ℕ)) (kind : SeedsKind) → 0 < more → first_seed text ≡ Err kind → onto prefix (keys_judged number more text) ≡ Err (number, kind)
 unfolding keys_judged
-keys_refused number zero front text kind some h = absurd (omega arith)
-keys_refused number (suc more) front text kind some h = rw h refl
+keys_refused number zero prefix text kind some h = absurd (omega arith)
+keys_refused number (suc more) prefix text kind some h = rw h refl
 
 -- where nothing stands a text has ended
 nothing_ends : (text : List ℕ) → length text ≡ 0 → is_end (lines text) ≡ true
@@ -47,12 +47,12 @@ goes_on text (unended ∷ []) h some =
     rw same (grind (arith, nat_tests))
 goes_on text (line ∷ next ∷ others) h some = refl
 
-pub keys_over : (number more : ℕ) (front : List Key) (text : List ℕ) → more ≡ 0 → 0 < length text → onto front (keys_judged number more (lines text)) ≡ Err (number, WrongCount)
+pub keys_over : (number more : ℕ) (prefix : List Key) (text : List ℕ) → more ≡ 0 → 0 < length text → onto prefix (keys_judged number more (lines text)) ≡ Err (number, WrongCount)
 unfolding keys_judged
-keys_over number zero front text last some = rw (goes_on text (lines text) refl some) refl
-keys_over number (suc more) front text last some = absurd (omega arith)
+keys_over number zero prefix text last some = rw (goes_on text (lines text) refl some) refl
+keys_over number (suc more) prefix text last some = absurd (omega arith)
 
-pub keys_end : (number more : ℕ) (front : List Key) (text : List ℕ) → more ≡ 0 → length text ≡ 0 → onto front (keys_judged number more (lines text)) ≡ Ok front
+pub keys_end : (number more : ℕ) (prefix : List Key) (text : List ℕ) → more ≡ 0 → length text ≡ 0 → onto prefix (keys_judged number more (lines text)) ≡ Ok prefix
 unfolding keys_judged
-keys_end number zero front text last none = rw (nothing_ends text none) (ap Ok (append-nil front))
-keys_end number (suc more) front text last none = absurd (omega arith)
+keys_end number zero prefix text last none = rw (nothing_ends text none) (ap Ok (append-nil prefix))
+keys_end number (suc more) prefix text last none = absurd (omega arith)

@@ -43,8 +43,8 @@ wanted_again line [] some = absurd (omega arith)
 wanted_again line (next ∷ others) some = refl
 
 -- line 1 where it is not refused
-pub title_front : (text rest : List (List ℕ)) → after_title text ≡ Ok rest → (text ≡ seeds_title ∷ rest) × (0 < length rest)
-title_front text rest h =
+pub title_spelled : (text rest : List (List ℕ)) → after_title text ≡ Ok rest → (text ≡ seeds_title ∷ rest) × (0 < length rest)
+title_spelled text rest h =
     let w = bind_ok (wanted_line text) (λ title. cond (bytes_eq title.0 (codes "tesla-seeds 1")) (Ok title.1) (Err BadLine)) rest h in
     let t = test_given (bytes_eq w.0.0 (codes "tesla-seeds 1")) w.0.1 rest BadLine w.2 in
     let same : w.0.0 ≡ seeds_title = (bytes_eq-Decides w.0.0 (codes "tesla-seeds 1")).0 t.0 in
@@ -73,8 +73,8 @@ seed_bytes line word x said h =
     subst (λ (y : Key × List (List ℕ)). (line.0 ≡ seed_text y.0) × (line.1 ≡ y.1) × IsKey y.0) (ok_is {E = SeedsKind} made x (Ok made) refl b.2) (text, refl, record { whole = f.whole; bytes = f.fits })
 
 -- the line of a seed where it is not refused
-pub seed_front : (text : List (List ℕ)) (x : Key × List (List ℕ)) → first_seed text ≡ Ok x → (text ≡ seed_text x.0 ∷ x.1) × (0 < length x.1) × IsKey x.0
-seed_front text x h =
+pub seed_spelled : (text : List (List ℕ)) (x : Key × List (List ℕ)) → first_seed text ≡ Ok x → (text ≡ seed_text x.0 ∷ x.1) × (0 < length x.1) × IsKey x.0
+seed_spelled text x h =
     let line = bind_ok (wanted_line text) (λ line. seed_said line) x h in
     let word = bind_ok (or_kind BadLine (value_in (codes "seed") (words line.0.0))) (λ word. or_kind BadHex (hex_in 32 word) >>= λ bytes. Ok (record { 0 = bytes }, line.0.1)) x line.2 in
     let said = value_found (codes "seed") word.0 line.0.0 (kind_ok BadLine (value_in (codes "seed") (words line.0.0)) word.0 word.1) in
@@ -108,16 +108,16 @@ pub record AreSeeds (count : ℕ) (text : List (List ℕ)) (seeds : List Key) : 
   pub keys : AllByRecursion IsKey seeds
   pub spelled : text ≡ map seed_text seeds ++ [] ∷ []
 
-pub seeds_front : (number count : ℕ) (text : List (List ℕ)) (seeds : List Key) → keys_judged number count text ≡ Ok seeds → AreSeeds count text seeds
+pub seeds_spelled : (number count : ℕ) (text : List (List ℕ)) (seeds : List Key) → keys_judged number count text ≡ Ok seeds → AreSeeds count text seeds
 unfolding keys_judged
-seeds_front number zero text seeds h =
+seeds_spelled number zero text seeds h =
     let e = end_is text seeds number h in
     subst (λ (s : List Key). AreSeeds 0 text s) (sym e.1) (record { each = refl; keys = tt; spelled = e.0 })
-seeds_front number (suc more) text seeds h =
+seeds_spelled number (suc more) text seeds h =
     let seed = bind_ok (at number (first_seed text)) (λ seed. keys_judged (number + 1) more seed.1 >>= λ keys. Ok (seed.0 ∷ keys)) seeds h in
     let others = bind_ok (keys_judged (number + 1) more seed.0.1) (λ keys. Ok (seed.0.0 ∷ keys)) seeds seed.2 in
-    let one = seed_front text seed.0 (at_ok number (first_seed text) seed.0 seed.1) in
-    let behind = seeds_front (number + 1) more seed.0.1 others.0 others.1 in
+    let one = seed_spelled text seed.0 (at_ok number (first_seed text) seed.0 seed.1) in
+    let behind = seeds_spelled (number + 1) more seed.0.1 others.0 others.1 in
     let each = behind.each in
     let made : List Key = seed.0.0 ∷ others.0 in
     subst (λ (s : List Key). AreSeeds (suc more) text s) (ok_is {E = ℕ × SeedsKind} made seeds (Ok made) refl others.2)

@@ -18,7 +18,7 @@ use Rattle.tesla_commit.proofs.Refusals.{at_why, guard_err}
 use Rattle.tesla_commit.proofs.Refused.{value_taken, value_refused, hex_refused}
 use Rattle.tesla_commit.proofs.RowLaws.{onto, at_ok, ok_is}
 use Rattle.tesla_seeds.proofs.Judging.{keys_refused}
-use Rattle.tesla_seeds.proofs.Spelled.{never_given, kind_ok, going_on, title_front, title_taken, seed_said, seed_front, rest_some, seeds_behind}
+use Rattle.tesla_seeds.proofs.Spelled.{never_given, kind_ok, going_on, title_spelled, title_taken, seed_said, seed_spelled, rest_some, seeds_behind}
 use Rattle.tesla_commit.proofs.WordLaws.{has_first}
 
 abbrev no_line : SeedsKind → Result (List ℕ × List (List ℕ)) SeedsKind
@@ -110,14 +110,14 @@ record SeedStop (number wanted : ℕ) (text : List (List ℕ)) (e : ℕ × Seeds
 
 -- behind one that is not refused
 stop_later : (number more : ℕ) (text rest : List (List ℕ)) (seed : Key) (e : ℕ × SeedsKind) → IsKey seed → text ≡ seed_text seed ∷ rest → SeedStop (number + 1) more rest e → SeedStop number (suc more) text e
-stop_later number more text rest seed e whole front stop =
+stop_later number more text rest seed e whole prefix stop =
     let place = stop.place in
     record {
       seeds = seed ∷ stop.seeds;
       keys = (whole, stop.keys);
       place = omega arith;
       rest = stop.rest;
-      spelled = front ∙ ap (λ (r : List (List ℕ)). seed_text seed ∷ r) stop.spelled;
+      spelled = prefix ∙ ap (λ (r : List (List ℕ)). seed_text seed ∷ r) stop.spelled;
       why = elim stop.why [
         | inl short ↦ (let few = short.0 in inl (omega arith, short.1))
         | inr over ↦ (let all = over.0 in inr (omega arith, over.1))
@@ -145,7 +145,7 @@ seeds_stop number (suc more) text e some h =
     let place = a.0 in
     record { seeds = []; keys = tt; place = omega arith; rest = text; spelled = refl; why = inl (omega arith, seed_why text d.1 some a.1) })
     (λ seed ok d refused.
-    let one = seed_front text seed (at_ok number (first_seed text) seed ok) in
+    let one = seed_spelled text seed (at_ok number (first_seed text) seed ok) in
     by_steps (λ (k : ℕ × SeedsKind). SeedStop number (suc more) text k) (keys_judged (number + 1) more seed.1) (λ keys. Ok (seed.0 ∷ keys)) d
     (λ k end. stop_later number more text seed.1 seed.0 k one.2 one.0 (seeds_stop (number + 1) more seed.1 k one.1 end))
     (λ keys found k end. absurd cc)
@@ -169,7 +169,7 @@ seeds_refused text wanted number kind h =
           let a = at_why 1 (after_title (lines text)) d refused in
           subst (λ (n : ℕ). IsSeedsRefused text wanted n d.1) a.0 (short, title_why (lines text) d.1 some a.1))
           (λ rest ok d refused.
-          let title = title_front (lines text) rest (at_ok 1 (after_title (lines text)) rest ok) in
+          let title = title_spelled (lines text) rest (at_ok 1 (after_title (lines text)) rest ok) in
           let stop = seeds_stop 2 wanted rest d title.1 refused in
           let place = stop.place in
           let line : suc (suc (length stop.seeds)) ≡ d.0 = omega arith in
@@ -204,12 +204,12 @@ seed_line_refused WrongCount x why = absurd why
 seed_line_refused TooLong x why = absurd why
 
 -- a text that goes on is refused behind its seeds
-over_refused : (number : ℕ) (front : List Key) (kind : SeedsKind) (rest : List (List ℕ)) → GoesOn kind rest → onto front (keys_judged number 0 rest) ≡ Err (number, kind)
+over_refused : (number : ℕ) (prefix : List Key) (kind : SeedsKind) (rest : List (List ℕ)) → GoesOn kind rest → onto prefix (keys_judged number 0 rest) ≡ Err (number, kind)
 unfolding keys_judged
-over_refused number front kind [] h = let some = h.1 in absurd (omega arith)
-over_refused number front kind ([] ∷ []) h = absurd (h.2 refl)
-over_refused number front kind ((byte ∷ unended) ∷ []) h = rw (some_byte byte unended) (ap (λ (k : SeedsKind). Err (number, k)) (sym h.0))
-over_refused number front kind (line ∷ next ∷ others) h = ap (λ (k : SeedsKind). Err (number, k)) (sym h.0)
+over_refused number prefix kind [] h = let some = h.1 in absurd (omega arith)
+over_refused number prefix kind ([] ∷ []) h = absurd (h.2 refl)
+over_refused number prefix kind ((byte ∷ unended) ∷ []) h = rw (some_byte byte unended) (ap (λ (k : SeedsKind). Err (number, k)) (sym h.0))
+over_refused number prefix kind (line ∷ next ∷ others) h = ap (λ (k : SeedsKind). Err (number, k)) (sym h.0)
 
 -- a text never stops behind its end
 stops_some : (why : SeedsKind → List ℕ → Type 0) (kind : SeedsKind) (rest : List (List ℕ)) → StopsAtWanted why kind rest → 0 < length rest

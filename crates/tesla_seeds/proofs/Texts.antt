@@ -18,7 +18,7 @@ use Rattle.tesla_seeds.specs.declared.refusal.SeedsRefusal.TheVariants as refusa
 use Rattle.tesla_commit.proofs.Causes.{never}
 use Rattle.tesla_commit.proofs.Lengths.{hex_length, line_length}
 use Rattle.tesla_commit.proofs.RowLaws.{onto, bind_ok, guard_ok, at_ok, ok_is}
-use Rattle.tesla_seeds.proofs.Spelled.{title_front, title_taken, seeds_front, rest_some, seeds_behind}
+use Rattle.tesla_seeds.proofs.Spelled.{title_spelled, title_taken, seeds_spelled, rest_some, seeds_behind}
 use Rattle.tesla_commit.proofs.Spelled.{joined, line_then}
 use Rattle.tesla_commit.proofs.Spelling.{IsPlain, solid_from_test, plain_is, plain_line, lines_of, solid_hex}
 use Rattle.tesla_commit.proofs.WordLaws.{lines_of_nothing}
@@ -48,8 +48,8 @@ seeds_found count text seeds h =
     let g = guard_ok (ltb 4096 (length text)) (0, TooLong) (at 1 (after_title (lines text)) >>= λ rest. keys_judged 2 count rest) seeds h in
     let short : length text ≤ 4096 = grind (arith, nat_tests, g.0) in
     let a = bind_ok (at 1 (after_title (lines text))) (λ rest. keys_judged 2 count rest) seeds g.1 in
-    let title = title_front (lines text) a.0 (at_ok 1 (after_title (lines text)) a.0 a.1) in
-    let are = seeds_front 2 count a.0 seeds a.2 in
+    let title = title_spelled (lines text) a.0 (at_ok 1 (after_title (lines text)) a.0 a.1) in
+    let are = seeds_spelled 2 count a.0 seeds a.2 in
     record { each = are.each; keys = are.keys; text = text_of text seeds (title.0 ∙ ap (λ (r : List (List ℕ)). seeds_title ∷ r) are.spelled); short = short }
 
 -- ---- from bytes to lines

@@ -35,8 +35,8 @@ keep_append c xs ys =
     let within : a ≤ length xs = omega arith in
     let joined : drop a xs ++ ys ≡ drop a (xs ++ ys) = sym (drop-append-le a xs ys within) in
     let b = length (drop a (xs ++ ys)) - c in
-    let places : a + b ≡ length (xs ++ ys) - c = omega (arith, length-drop a (xs ++ ys), length-append xs ys) in
-    ap (λ zs. drop (length zs - c) zs) joined ∙ drop-drop b a (xs ++ ys) ∙ ap (λ k. drop k (xs ++ ys)) places
+    let lengths : a + b ≡ length (xs ++ ys) - c = omega (arith, length-drop a (xs ++ ys), length-append xs ys) in
+    ap (λ zs. drop (length zs - c) zs) joined ∙ drop-drop b a (xs ++ ys) ∙ ap (λ k. drop k (xs ++ ys)) lengths
 
 -- the last ones, where there are so many behind the others
 keep_behind : {A : Type 0} (c : ℕ) (xs ys : List A) → length ys ≡ c → keep_last c (xs ++ ys) ≡ ys

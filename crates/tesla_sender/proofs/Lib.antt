@@ -1,6 +1,6 @@
 pub mod Kept
 pub mod Costs
-pub mod Places
+pub mod Unwritten
 pub mod Tags
 pub mod Frames
 pub mod Logs

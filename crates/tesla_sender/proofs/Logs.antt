@@ -11,7 +11,7 @@ use Rattle.tesla_frame.specs.Frame.{Frame, frame_text}
 use Rattle.tesla_sender.specs.declared.refusal.DiscloseRefusal.{DiscloseRefusal}
 use Rattle.tesla_sender.specs.declared.refusal.SendRefusal.{SendRefusal}
 use Rattle.tesla_sender.specs.Made.{Call, Message, Disclose, Stream, any_due, chains_of, disclosed, disclosed_after, framed, interval_at, interval_in, is_message_of, latest_of, made_disclosure, made_message, messages_of, name_after, name_of}
-use Rattle.tesla_sender.specs.Stands.{Answers, AreAcceptedAfter, IsAccepted, IsWritten, Spells, Stands, State, gone_on, log_after, number_at, sent_in, told_disclosure, told_message}
+use Rattle.tesla_sender.specs.Stands.{Answers, AreAcceptedAfter, IsAccepted, IsWritten, Spells, Stands, State, gone_on, log_after, number_at, sent_in, returned_disclosure, returned_message}
 
 -- ---- what an accepted call tells
 
@@ -153,25 +153,25 @@ number_is sender log interval stands later =
     number_of_log sender.stream.setup.times sender.latest sender.used log interval (all_later sender.stream [] log stands.accepted) stands.latest stands.used later
 
 -- the answer to a message, by the state alone
-message_answer : (sender : State) (log : List Call) (reading : ℕ) (payload : List ℕ) → Stands sender log → made_message sender.stream log reading payload ≡ told_message sender reading payload
+message_answer : (sender : State) (log : List Call) (reading : ℕ) (payload : List ℕ) → Stands sender log → made_message sender.stream log reading payload ≡ returned_message sender reading payload
 unfolding made_message
 message_answer sender log reading payload stands =
     ap (framed sender.stream payload) (name_of_log sender.stream.setup.times sender.latest sender.used log reading payload (all_later sender.stream [] log stands.accepted) stands.latest stands.used)
 
-pub message_answered : (sender : State) (log : List Call) (reading : ℕ) (payload : List ℕ) (told : Result ℕ SendRefusal) (before now : List ℕ) → Stands sender log → Answers told (told_message sender reading payload) before now → Answers told (made_message sender.stream log reading payload) before now
-message_answered sender log reading payload told before now stands answer =
-    subst (λ made. Answers told made before now) (sym (message_answer sender log reading payload stands)) answer
+pub message_answered : (sender : State) (log : List Call) (reading : ℕ) (payload : List ℕ) (returned : Result ℕ SendRefusal) (before now : List ℕ) → Stands sender log → Answers returned (returned_message sender reading payload) before now → Answers returned (made_message sender.stream log reading payload) before now
+message_answered sender log reading payload returned before now stands answer =
+    subst (λ made. Answers returned made before now) (sym (message_answer sender log reading payload stands)) answer
 
 -- the answer to a disclosure
-disclosure_answer : (sender : State) (log : List Call) (reading : ℕ) → Stands sender log → made_disclosure sender.stream log reading ≡ told_disclosure sender reading
+disclosure_answer : (sender : State) (log : List Call) (reading : ℕ) → Stands sender log → made_disclosure sender.stream log reading ≡ returned_disclosure sender reading
 unfolding made_disclosure
 disclosure_answer sender log reading stands =
     let times = sender.stream.setup.times in
     ap (λ b. disclosed sender.stream (disclosed_after times b (any_due (interval_at times reading) (chains_of sender.stream)) reading)) (sym stands.latest)
 
-pub disclosure_answered : (sender : State) (log : List Call) (reading : ℕ) (told : Result ℕ DiscloseRefusal) (before now : List ℕ) → Stands sender log → Answers told (told_disclosure sender reading) before now → Answers told (made_disclosure sender.stream log reading) before now
-disclosure_answered sender log reading told before now stands answer =
-    subst (λ made. Answers told made before now) (sym (disclosure_answer sender log reading stands)) answer
+pub disclosure_answered : (sender : State) (log : List Call) (reading : ℕ) (returned : Result ℕ DiscloseRefusal) (before now : List ℕ) → Stands sender log → Answers returned (returned_disclosure sender reading) before now → Answers returned (made_disclosure sender.stream log reading) before now
+disclosure_answered sender log reading returned before now stands answer =
+    subst (λ made. Answers returned made before now) (sym (disclosure_answer sender log reading stands)) answer
 
 -- ---- the log after a call
 
@@ -205,14 +205,14 @@ disclosure_more sender log reading left stands ok =
     }
 
 -- what a sender stands for after a message, accepted or not
-pub message_stands : (sender after : State) (log : List Call) (reading : ℕ) (payload : List ℕ) (told : Result ℕ SendRefusal) (before now : List ℕ) (old new : ℕ) → Stands sender log → Answers told (told_message sender reading payload) before now → IfOk told (λ _. after ≡ sent_in sender (interval_at sender.stream.setup.times reading) after.left) → OnErr told ((after ≡ sender) × (now ≡ before) × (new ≡ old)) → Stands after (log_after log (Message reading payload) told)
+pub message_stands : (sender after : State) (log : List Call) (reading : ℕ) (payload : List ℕ) (returned : Result ℕ SendRefusal) (before now : List ℕ) (old new : ℕ) → Stands sender log → Answers returned (returned_message sender reading payload) before now → IfOk returned (λ _. after ≡ sent_in sender (interval_at sender.stream.setup.times reading) after.left) → OnErr returned ((after ≡ sender) × (now ≡ before) × (new ≡ old)) → Stands after (log_after log (Message reading payload) returned)
 message_stands sender after log reading payload (Ok size) before now old new stands answer sent same =
     let ok = answered_ok size (made_message sender.stream log reading payload) before now (message_answered sender log reading payload (Ok size) before now stands answer) in
     subst (λ s. Stands s (log ++ Message reading payload ∷ [])) (sym sent) (message_more sender log reading after.left payload stands ok)
 message_stands sender after log reading payload (Err refusal) before now old new stands answer sent same = subst (λ s. Stands s log) (sym same.0) stands
 
 -- the same of a disclosure
-pub disclosure_stands : (sender after : State) (log : List Call) (reading : ℕ) (told : Result ℕ DiscloseRefusal) (before now : List ℕ) (old new : ℕ) → Stands sender log → Answers told (told_disclosure sender reading) before now → IfOk told (λ _. after ≡ gone_on sender (interval_at sender.stream.setup.times reading) after.left) → OnErr told ((after ≡ sender) × (now ≡ before) × (new ≡ old)) → Stands after (log_after log (Disclose reading) told)
+pub disclosure_stands : (sender after : State) (log : List Call) (reading : ℕ) (returned : Result ℕ DiscloseRefusal) (before now : List ℕ) (old new : ℕ) → Stands sender log → Answers returned (returned_disclosure sender reading) before now → IfOk returned (λ _. after ≡ gone_on sender (interval_at sender.stream.setup.times reading) after.left) → OnErr returned ((after ≡ sender) × (now ≡ before) × (new ≡ old)) → Stands after (log_after log (Disclose reading) returned)
 disclosure_stands sender after log reading (Ok size) before now old new stands answer gone same =
     let ok = answered_ok size (made_disclosure sender.stream log reading) before now (disclosure_answered sender log reading (Ok size) before now stands answer) in
     subst (λ s. Stands s (log ++ Disclose reading ∷ [])) (sym gone) (disclosure_more sender log reading after.left stands ok)
@@ -220,12 +220,12 @@ disclosure_stands sender after log reading (Err refusal) before now old new stan
 
 -- ---- the frame that was written
 
-text_front : (frame : Frame) (size : ℕ) (before now : List ℕ) → IsWritten frame size before now → take size now ≡ frame_text frame
-text_front frame size before now written =
+text_prefix : (frame : Frame) (size : ℕ) (before now : List ℕ) → IsWritten frame size before now → take size now ≡ frame_text frame
+text_prefix frame size before now written =
     ap (λ k. take k now) written.length ∙ ap (take (length (frame_text frame))) written.text ∙ take-append_seam (frame_text frame) (drop (length (frame_text frame)) before)
 
 -- what was written spells the frame that was made
-pub spells_answered : {E : Type 0} (told : Result ℕ E) (made : Result Frame E) (before now : List ℕ) → Answers told made before now → Spells told made now
-spells_answered (Ok size) (Ok frame) before now written = record { limits = written.limits; spelled = text_front frame size before now written }
+pub spells_answered : {E : Type 0} (returned : Result ℕ E) (made : Result Frame E) (before now : List ℕ) → Answers returned made before now → Spells returned made now
+spells_answered (Ok size) (Ok frame) before now written = record { limits = written.limits; spelled = text_prefix frame size before now written }
 spells_answered (Ok size) (Err refusal) before now written = tt
 spells_answered (Err refusal) made before now written = tt

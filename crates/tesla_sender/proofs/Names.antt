@@ -58,12 +58,12 @@ due_here interval rows at row is due =
 
 -- ---- the answers of a namer
 
-pub message_named : (namer : Naming) (log : List Call) (reading : ℕ) (payload : List ℕ) (told : Result Name SendRefusal) → NamesAfter namer log → told ≡ named_next namer reading payload → told ≡ name_of namer.setup.times log reading payload
-message_named namer log reading payload told names is =
+pub message_named : (namer : Naming) (log : List Call) (reading : ℕ) (payload : List ℕ) (returned : Result Name SendRefusal) → NamesAfter namer log → returned ≡ named_next namer reading payload → returned ≡ name_of namer.setup.times log reading payload
+message_named namer log reading payload returned names is =
     is ∙ sym (name_of_log namer.setup.times namer.latest namer.used log reading payload (all_later namer.setup [] log names.named) names.latest names.used)
 
-pub disclosure_named : (namer : Naming) (log : List Call) (reading : ℕ) (told : Result (Unit {0}) DiscloseRefusal) → NamesAfter namer log → told ≡ accepted (disclosed_next namer reading) → told ≡ accepted (disclosed_of namer.setup log reading)
-disclosure_named namer log reading told names is =
+pub disclosure_named : (namer : Naming) (log : List Call) (reading : ℕ) (returned : Result (Unit {0}) DiscloseRefusal) → NamesAfter namer log → returned ≡ accepted (disclosed_next namer reading) → returned ≡ accepted (disclosed_of namer.setup log reading)
+disclosure_named namer log reading returned names is =
     let times = namer.setup.times in
     is ∙ ap (λ latest. accepted (disclosed_after times latest (rows_due (interval_at times reading) namer.setup.rows) reading)) names.latest
 
@@ -86,7 +86,7 @@ message_more namer log reading payload name names is =
       used = used ∙ ap (λ i. messages_of times i (log ++ call ∷ [])) at;
     }
 
-pub message_names : (before now : Naming) (log : List Call) (reading : ℕ) (payload : List ℕ) (told : Result Name SendRefusal) → NamesAfter before log → told ≡ named_next before reading payload → IfOk told (λ name. now ≡ named_in before name) → OnErr told (now ≡ before) → NamesAfter now (log_after log (Message reading payload) told)
+pub message_names : (before now : Naming) (log : List Call) (reading : ℕ) (payload : List ℕ) (returned : Result Name SendRefusal) → NamesAfter before log → returned ≡ named_next before reading payload → IfOk returned (λ name. now ≡ named_in before name) → OnErr returned (now ≡ before) → NamesAfter now (log_after log (Message reading payload) returned)
 message_names before now log reading payload (Ok name) names is after same =
     subst (λ namer. NamesAfter namer (log ++ Message reading payload ∷ [])) (sym after) (message_more before log reading payload name names (sym (message_named before log reading payload (Ok name) names is)))
 message_names before now log reading payload (Err refusal) names is after same = subst (λ namer. NamesAfter namer log) (sym same) names
@@ -107,7 +107,7 @@ interval_step true due r at interval s is = absurd cc
 interval_step false true r at interval s is = cc
 interval_step false false r at interval s is = absurd cc
 
-pub disclosure_names : (before now : Naming) (log : List Call) (reading : ℕ) (told : Result ℕ DiscloseRefusal) → NamesAfter before log → told ≡ disclosed_next before reading → IfOk told (λ interval. now ≡ disclosed_in before interval) → OnErr told (now ≡ before) → NamesAfter now (log_after log (Disclose reading) (accepted told))
+pub disclosure_names : (before now : Naming) (log : List Call) (reading : ℕ) (returned : Result ℕ DiscloseRefusal) → NamesAfter before log → returned ≡ disclosed_next before reading → IfOk returned (λ interval. now ≡ disclosed_in before interval) → OnErr returned (now ≡ before) → NamesAfter now (log_after log (Disclose reading) (accepted returned))
 disclosure_names before now log reading (Ok interval) names is after same =
     let times = before.setup.times in
     let of : disclosed_of before.setup log reading ≡ Ok interval = ap (λ latest. disclosed_after times latest (rows_due (interval_at times reading) before.setup.rows) reading) (sym names.latest) ∙ sym is in

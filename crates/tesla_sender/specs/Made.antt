@@ -129,16 +129,16 @@ abbrev pub due_rows : List Chain → ℕ → List KeyRow
 due_rows chains interval = flat_map (due_row interval) chains
 
 -- the index of the key of a chain that the frame of a call in the interval tells: that of `delay` intervals before, or the last one; 0 where it tells none
-abbrev pub index_told : ℕ → Chain → ℕ
-index_told interval chain = min (interval - chain.row.delay) chain.last
+abbrev pub index_disclosed : ℕ → Chain → ℕ
+index_disclosed interval chain = min (interval - chain.row.delay) chain.last
 
 -- on some chain a call in an interval tells a newer key than one in the interval `before`
 abbrev pub tells_newer : ℕ → ℕ → List Chain → Bool
-tells_newer before interval chains = list_any (λ chain. nat_lt (index_told before chain) (index_told interval chain)) chains
+tells_newer before interval chains = list_any (λ chain. nat_lt (index_disclosed before chain) (index_disclosed interval chain)) chains
 
 -- on every chain a call in an interval tells the key of index `index` or a newer one
 abbrev pub tells_all : ℕ → ℕ → List Chain → Bool
-tells_all index interval chains = list_all (λ chain. nat_le index (index_told interval chain)) chains
+tells_all index interval chains = list_all (λ chain. nat_le index (index_disclosed interval chain)) chains
 
 -- some chain has a key to disclose in the interval
 abbrev pub any_due : ℕ → List Chain → Bool

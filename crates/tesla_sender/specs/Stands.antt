@@ -31,8 +31,8 @@ name_next sender reading payload =
     name_after times sender.latest (number_at sender.latest sender.used (interval_at times reading)) reading payload
 
 -- the answer to a message
-abbrev pub told_message : State → ℕ → List ℕ → Result Frame SendRefusal
-told_message sender reading payload = framed sender.stream payload (name_next sender reading payload)
+abbrev pub returned_message : State → ℕ → List ℕ → Result Frame SendRefusal
+returned_message sender reading payload = framed sender.stream payload (name_next sender reading payload)
 
 -- the interval of a disclosure
 abbrev pub interval_next : State → ℕ → Result ℕ DiscloseRefusal
@@ -41,8 +41,8 @@ interval_next sender reading =
     disclosed_after times sender.latest (any_due (interval_at times reading) (chains_of sender.stream)) reading
 
 -- the answer to a disclosure
-abbrev pub told_disclosure : State → ℕ → Result Frame DiscloseRefusal
-told_disclosure sender reading = disclosed sender.stream (interval_next sender reading)
+abbrev pub returned_disclosure : State → ℕ → Result Frame DiscloseRefusal
+returned_disclosure sender reading = disclosed sender.stream (interval_next sender reading)
 
 -- the sender goes on to the interval, after which the keys still take at most `left` steps
 abbrev pub gone_on : State → ℕ → ℕ → State
@@ -96,12 +96,12 @@ pub record IsWritten (frame : Frame) (size : ℕ) (before now : List ℕ) : Type
 -- the answer is the frame, which is written, or the refusal
 abbrev pub Answers : {E : Type 0} → Result ℕ E → Result Frame E → List ℕ → List ℕ → Type 0
 Answers (Ok size) (Ok frame) before now = IsWritten frame size before now
-Answers (Err told) (Err refusal) before now = told ≡ refusal
+Answers (Err returned) (Err refusal) before now = returned ≡ refusal
 Answers (Ok size) (Err refusal) before now = ⊥
-Answers (Err told) (Ok frame) before now = ⊥
+Answers (Err returned) (Ok frame) before now = ⊥
 
 -- the bytes that were written spell the frame that was made, and it keeps its limits
 abbrev pub Spells : {E : Type 0} → Result ℕ E → Result Frame E → List ℕ → Type 0
 Spells (Ok size) (Ok frame) now = IsFrame (take size now) frame
 Spells (Ok size) (Err refusal) now = Unit {0}
-Spells (Err told) made now = Unit {0}
+Spells (Err returned) made now = Unit {0}

@@ -2,7 +2,7 @@
 
 ghost use Rattle.std.specs.Prelude.{◌≡◌, ◌+◌, ◌-◌, ◌*◌, length, ◌^◌, ◌<◌, ◌≤◌, nat_lt, option_to_list, IfOk, IfErr};
 ghost use Rattle.tesla_chain.specs.Cost.{W, bits};
-ghost use Rattle.tesla_sender.specs.Made.{key_of, key_due, due_row, index_told};
+ghost use Rattle.tesla_sender.specs.Made.{key_of, key_due, due_row, index_disclosed};
 ghost use Rattle.tesla_sender.specs.Chains.{HasKept, HasMade, IsFresh, IsRefusedFor, left_after, steps_to, tag_made};
 
 use crate::SenderRefusal;
@@ -230,8 +230,8 @@ impl SendingChain {
     }
 
     /// The index of the key that a call in the interval tells for the chain, 0 where it tells none.
-    pub fn index_told(&self, interval: u64) -> u64
-        ensures { result ≡ index_told interval self.now.chain }
+    pub fn index_disclosed(&self, interval: u64) -> u64
+        ensures { result ≡ index_disclosed interval self.now.chain }
     {
         interval
             .saturating_sub(u64::from(self.row.delay))

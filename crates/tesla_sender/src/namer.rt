@@ -68,7 +68,7 @@ impl Namer {
 
     // Names a message, by the interval and the number of the last calls.
     fn name_next(&mut self, reading: u64, payload: &[u8]) -> Result<Name, SendRefusal>
-        ensures told { result ≡ named_next self.old reading payload.now }
+        ensures returned { result ≡ named_next self.old reading payload.now }
         ensures after { IfOk result (λ name. self.new ≡ named_in self.old name) }
         ensures refused { OnErr result (self.new ≡ self.old) }
     {
@@ -88,7 +88,7 @@ impl Namer {
     /// The refusals are those of [`SendRefusal`], in its order, as [`crate::Sender::message`] has them. After a refusal
     /// nothing has changed.
     pub fn message(&mut self, reading: u64, payload: &[u8]) -> Result<Name, SendRefusal>
-        ensures told { result ≡ named_next self.old reading payload.now }
+        ensures returned { result ≡ named_next self.old reading payload.now }
         ensures after { IfOk result (λ name. self.new ≡ named_in self.old name) }
         ensures answer { (log : List Call) → NamesAfter self.old log → result ≡ name_of self.old.setup.times log reading payload.now }
         ensures names { (log : List Call) → NamesAfter self.old log → NamesAfter self.new (log_after log (Message reading payload.now) result) }
@@ -119,7 +119,7 @@ impl Namer {
 
     // Judges a disclosure, by the interval of the last call.
     fn disclose_next(&mut self, reading: u64) -> Result<u64, DiscloseRefusal>
-        ensures told { result ≡ disclosed_next self.old reading }
+        ensures returned { result ≡ disclosed_next self.old reading }
         ensures after { IfOk result (λ interval. self.new ≡ disclosed_in self.old interval) }
         ensures refused { OnErr result (self.new ≡ self.old) }
     {
@@ -137,7 +137,7 @@ impl Namer {
     /// The refusals are those of [`DiscloseRefusal`], in its order, as [`crate::Sender::disclose`] has them. After a
     /// refusal nothing has changed.
     pub fn disclose(&mut self, reading: u64) -> Result<(), DiscloseRefusal>
-        ensures told { result ≡ accepted (disclosed_next self.old reading) }
+        ensures returned { result ≡ accepted (disclosed_next self.old reading) }
         ensures answer { (log : List Call) → NamesAfter self.old log → result ≡ accepted (disclosed_of self.old.setup log reading) }
         ensures names { (log : List Call) → NamesAfter self.old log → NamesAfter self.new (log_after log (Disclose reading) result) }
         ensures setup { self.new.setup ≡ self.old.setup }

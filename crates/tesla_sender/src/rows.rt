@@ -128,7 +128,7 @@ pub fn tells_newer(chains: &[SendingChain], before: u64, interval: u64) -> bool
 {
     match chains {
         [chain, chains @ ..] => {
-            chain.index_told(before) < chain.index_told(interval)
+            chain.index_disclosed(before) < chain.index_disclosed(interval)
                 || tells_newer(chains, before, interval)
         }
         [] => false,
@@ -141,7 +141,7 @@ pub fn tells_all(chains: &[SendingChain], index: u64, interval: u64) -> bool
 {
     match chains {
         [chain, chains @ ..] => {
-            index <= chain.index_told(interval) && tells_all(chains, index, interval)
+            index <= chain.index_disclosed(interval) && tells_all(chains, index, interval)
         }
         [] => true,
     }

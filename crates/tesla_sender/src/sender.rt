@@ -6,7 +6,7 @@ ghost use Rattle.tesla_sender.specs.Made.{Call, Message, Disclose, any_due, chai
 ghost use Rattle.tesla_chain.specs.Cost.{W, bits};
 ghost use Rattle.tesla_sender.specs.Cost.{steps_between};
 ghost use Rattle.tesla_sender.specs.Opening.{IsRefusal, left_of, seeds_refused};
-ghost use Rattle.tesla_sender.specs.Stands.{Answers, IsWritten, Spells, Stands, gone_on, interval_next, log_after, name_next, sent_in, told_disclosure, told_message};
+ghost use Rattle.tesla_sender.specs.Stands.{Answers, IsWritten, Spells, Stands, gone_on, interval_next, log_after, name_next, sent_in, returned_disclosure, returned_message};
 
 use crate::chain::SendingChain;
 use crate::judging::{interval_at, judge_disclosure, judge_message};
@@ -205,7 +205,7 @@ impl Sender {
         into: &mut [u8; MOST_DATAGRAM],
         steps: &mut Steps<L>,
     ) -> Result<usize, SendRefusal>
-        ensures told { Answers result (told_message self.old reading payload.now) into.old into.new }
+        ensures returned { Answers result (returned_message self.old reading payload.now) into.old into.new }
         ensures after { IfOk result (λ _. self.new ≡ sent_in self.old (interval_at self.old.stream.setup.times reading) self.new.left) }
         ensures cost { steps.new + self.new.left ≤ steps.old + self.old.left + 2 * length self.old.stream.setup.rows }
         ensures call { steps.new ≤ steps.old + steps_between self.old.stream self.old.latest (interval_at self.old.stream.setup.times reading) + 2 * length self.old.stream.setup.rows }
@@ -237,7 +237,7 @@ impl Sender {
         into: &mut [u8; MOST_DATAGRAM],
         steps: &mut Steps<L>,
     ) -> Result<usize, SendRefusal>
-        ensures told { Answers result (told_message self.old reading payload.now) into.old into.new }
+        ensures returned { Answers result (returned_message self.old reading payload.now) into.old into.new }
         ensures after { IfOk result (λ _. self.new ≡ sent_in self.old (interval_at self.old.stream.setup.times reading) self.new.left) }
         ensures answer { (log : List Call) → Stands self.old log → Answers result (made_message self.old.stream log reading payload.now) into.old into.new }
         ensures spelled { (log : List Call) → Stands self.old log → Spells result (made_message self.old.stream log reading payload.now) into.new }
@@ -285,7 +285,7 @@ impl Sender {
         into: &mut [u8; MOST_DATAGRAM],
         steps: &mut Steps<L>,
     ) -> Result<usize, DiscloseRefusal>
-        ensures told { Answers result (told_disclosure self.old reading) into.old into.new }
+        ensures returned { Answers result (returned_disclosure self.old reading) into.old into.new }
         ensures after { IfOk result (λ _. self.new ≡ gone_on self.old (interval_at self.old.stream.setup.times reading) self.new.left) }
         ensures cost { steps.new + self.new.left ≤ steps.old + self.old.left }
         ensures call { steps.new ≤ steps.old + steps_between self.old.stream self.old.latest (interval_at self.old.stream.setup.times reading) }
@@ -314,7 +314,7 @@ impl Sender {
         into: &mut [u8; MOST_DATAGRAM],
         steps: &mut Steps<L>,
     ) -> Result<usize, DiscloseRefusal>
-        ensures told { Answers result (told_disclosure self.old reading) into.old into.new }
+        ensures returned { Answers result (returned_disclosure self.old reading) into.old into.new }
         ensures after { IfOk result (λ _. self.new ≡ gone_on self.old (interval_at self.old.stream.setup.times reading) self.new.left) }
         ensures answer { (log : List Call) → Stands self.old log → Answers result (made_disclosure self.old.stream log reading) into.old into.new }
         ensures spelled { (log : List Call) → Stands self.old log → Spells result (made_disclosure self.old.stream log reading) into.new }

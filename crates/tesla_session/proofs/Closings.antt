@@ -17,9 +17,9 @@ module _ {C : Type 0} where
   closes_seen seen (x ∷ xs) w before mid now first joined later closed joins rest = (rest.0, rest.1, closes_seen seen xs w before mid rest.0 first joined rest.1 closed joins rest.2, rest.3, rest.4)
 
   -- of workers of one turn those before the last, and the last, are of it
-  pub are_of_front : {X : Type 0} (seen : X → Seen C) (turn : TurnId) (xs : List X) (w : X) → AreOf turn (map seen (xs ++ w ∷ [])) → AreOf turn (map seen xs)
-  are_of_front seen turn [] w all = tt
-  are_of_front seen turn (x ∷ xs) w all = (all.0, are_of_front seen turn xs w all.1)
+  pub are_of_prefix : {X : Type 0} (seen : X → Seen C) (turn : TurnId) (xs : List X) (w : X) → AreOf turn (map seen (xs ++ w ∷ [])) → AreOf turn (map seen xs)
+  are_of_prefix seen turn [] w all = tt
+  are_of_prefix seen turn (x ∷ xs) w all = (all.0, are_of_prefix seen turn xs w all.1)
 
   pub are_of_last : {X : Type 0} (seen : X → Seen C) (turn : TurnId) (xs : List X) (w : X) → AreOf turn (map seen (xs ++ w ∷ [])) → (pass_of (seen w)).turn ≡ turn
   are_of_last seen turn [] w all = all.0

@@ -8,13 +8,13 @@ use Rattle.tesla_desk.specs.Outside.{Told, Page, Opening, OfSource, OfSink, OfLi
 use Rattle.tesla_desk.specs.declared.desk.OpenRefusal.{OpenRefusal}
 use Rattle.tesla_desk.specs.declared.desk.OpenRefusal.TheVariants as refusals
 use Rattle.tesla_desk.proofs.Counts.{cause_as, cause_none, causes_both, causes_opening, causes_plain, causes_sink, causes_source, counts_stay}
-use Rattle.tesla_front.specs.Came.{Came, Failed}
+use Rattle.tesla_front.specs.OutcomeView.{OutcomeView, Failed}
 use Rattle.tesla_front.specs.Fault.{unopened}
 use Rattle.tesla_front.specs.Files.{HasFailed}
 use Rattle.tesla_front.specs.Openings.{AnyFailed, IsAmong}
 use Rattle.tesla_front.specs.declared.fault.Fault.{Fault}
 use Rattle.tesla_front.specs.declared.fault.Fault.TheVariants as faults
-use Rattle.tesla_front.proofs.Told.{rose_some}
+use Rattle.tesla_front.proofs.Reported.{rose_some}
 use Rattle.tesla_front.specs.Names.{AreDistinct, IsNoneOf}
 use Rattle.tesla_receiver.specs.declared.history.Entry.{Entry}
 use Rattle.tesla_shared.specs.declared.draining.SinkEnd.{SinkEnd}
@@ -23,7 +23,7 @@ use Rattle.tesla_shared.specs.declared.ingesting.LinkEnd.{LinkEnd}
 use Rattle.tesla_shared.specs.declared.ingesting.LinkEnd.TheVariants as link_ends
 use Rattle.tesla_turn.specs.Held.{Ended, TurnId}
 use Rattle.tesla_session.specs.Wanted.{Wanted, WantedLink, WantedSink, links_wanted, sinks_wanted, opening_for}
-use Rattle.tesla_session.specs.Session.{PassSeen, Seen, SeenLink, SeenSink, OpensWorker, RefusesWorker, OpensWorkers, OpensAll, RunWorkers, ClosesWorkers, RefusedSession, RanSession, ended_failed, drained_failed, link_failed, sink_failed, stop_by, came_by}
+use Rattle.tesla_session.specs.Session.{PassSeen, Seen, SeenLink, SeenSink, OpensWorker, RefusesWorker, OpensWorkers, OpensAll, RunWorkers, ClosesWorkers, RefusedSession, RanSession, ended_failed, drained_failed, link_failed, sink_failed, stop_by, outcome_by}
 use Rattle.tesla_session.proofs.Opened.{opening_of, openings_are, runs_openings}
 use Rattle.tesla_session.proofs.Fresh.{AreFresh, fresh_workers}
 
@@ -219,37 +219,37 @@ module _ {C : Type 0} where
 -- ---- what a session came to
 
 module _ (text : List ℕ) where
-  read_from : (read write spent : Bool) → came_by (stop_by read write spent) text ≡ Failed faults.Read → read ≡ true
+  read_from : (read write spent : Bool) → outcome_by (stop_by read write spent) text ≡ Failed faults.Read → read ≡ true
   read_from true write spent e = refl
   read_from false true spent e = absurd cc
   read_from false false true e = absurd cc
   read_from false false false e = absurd cc
 
-  read_to : (read write spent : Bool) → read ≡ true → came_by (stop_by read write spent) text ≡ Failed faults.Read
+  read_to : (read write spent : Bool) → read ≡ true → outcome_by (stop_by read write spent) text ≡ Failed faults.Read
   read_to true write spent e = refl
   read_to false write spent e = absurd cc
 
-  write_from : (read write spent : Bool) → came_by (stop_by read write spent) text ≡ Failed faults.Write → write ≡ true
+  write_from : (read write spent : Bool) → outcome_by (stop_by read write spent) text ≡ Failed faults.Write → write ≡ true
   write_from true write spent e = absurd cc
   write_from false true spent e = refl
   write_from false false true e = absurd cc
   write_from false false false e = absurd cc
 
-  write_to : (read write spent : Bool) → write ≡ true → (came_by (stop_by read write spent) text ≡ Failed faults.Read) ⊎ (came_by (stop_by read write spent) text ≡ Failed faults.Write)
+  write_to : (read write spent : Bool) → write ≡ true → (outcome_by (stop_by read write spent) text ≡ Failed faults.Read) ⊎ (outcome_by (stop_by read write spent) text ≡ Failed faults.Write)
   write_to true write spent e = inl refl
   write_to false true spent e = inr refl
   write_to false false spent e = absurd cc
 
-  no_open : (read write spent : Bool) → came_by (stop_by read write spent) text ≡ Failed faults.Open → ⊥
+  no_open : (read write spent : Bool) → outcome_by (stop_by read write spent) text ≡ Failed faults.Open → ⊥
   no_open true write spent e = cc
   no_open false true spent e = cc
   no_open false false true e = cc
   no_open false false false e = cc
 
 -- each count rose for what workers came to, and for nothing else
-pub counts_came : (files : List Opening) (desk : Told) (before now : Faults) (text : List ℕ) (read write spent : Bool) (came : Came) → came ≡ came_by (stop_by read write spent) text → HasCauses before now (read ≡ true) (write ≡ true) ⊥ → (write ≡ true → AnyFailed files desk)
-    → HasCausesBeside ((came ≡ Failed faults.Read) × AnyFailed files desk) before now (came ≡ Failed faults.Read) (came ≡ Failed faults.Write) (came ≡ Failed faults.Open)
-counts_came files desk before now text read write spent came is counts any = record {
+pub counts_outcome : (files : List Opening) (desk : Told) (before now : Faults) (text : List ℕ) (read write spent : Bool) (outcome : OutcomeView) → outcome ≡ outcome_by (stop_by read write spent) text → HasCauses before now (read ≡ true) (write ≡ true) ⊥ → (write ≡ true → AnyFailed files desk)
+    → HasCausesBeside ((outcome ≡ Failed faults.Read) × AnyFailed files desk) before now (outcome ≡ Failed faults.Read) (outcome ≡ Failed faults.Write) (outcome ≡ Failed faults.Open)
+counts_outcome files desk before now text read write spent outcome is counts any = record {
   reads = cause_as before.reads now.reads counts.reads (λ e. read_from text read write spent (sym is ∙ e)) (λ failed. is ∙ read_to text read write spent failed);
   writes = record {
     stays = counts.writes.stays;
@@ -263,9 +263,9 @@ counts_came files desk before now text read write spent came is counts any = rec
 }
 
 -- an opening was refused, or there was no memory: what that raised
-pub counts_came_none : (files : List Opening) (desk : Told) (before now : Faults) (came : Came) (fault : Fault) → came ≡ Failed fault → CountsOpening before now (fault ≡ faults.Open) → (fault ≡ faults.Open) ⊎ (fault ≡ faults.NoMemory)
-    → HasCausesBeside ((came ≡ Failed faults.Read) × AnyFailed files desk) before now (came ≡ Failed faults.Read) (came ≡ Failed faults.Write) (came ≡ Failed faults.Open)
-counts_came_none files desk before now came fault is counts why =
+pub counts_outcome_none : (files : List Opening) (desk : Told) (before now : Faults) (outcome : OutcomeView) (fault : Fault) → outcome ≡ Failed fault → CountsOpening before now (fault ≡ faults.Open) → (fault ≡ faults.Open) ⊎ (fault ≡ faults.NoMemory)
+    → HasCausesBeside ((outcome ≡ Failed faults.Read) × AnyFailed files desk) before now (outcome ≡ Failed faults.Read) (outcome ≡ Failed faults.Write) (outcome ≡ Failed faults.Open)
+counts_outcome_none files desk before now outcome fault is counts why =
     causes_plain before now (causes_opening before now counts
     (λ e. elim why [ inl open_fault ↦ cc | inr memory ↦ cc ])
     (λ e. elim why [ inl open_fault ↦ cc | inr memory ↦ cc ])
@@ -301,7 +301,7 @@ module _ {C : Type 0} where
   counts_unrun wanted cfg before mid start now turn first later workers opens closes =
       closes_fresh before.live.wire workers start now first later (fresh_workers wanted before mid _ first workers (Ok tt) opens) closes
 
-  pub counts_ran : (wanted : List Wanted) (cfg : C) (before opened running now : Told) (end : Ended Entry) (stop : Option Came) → AreApart (map opening_for wanted) → (it : RanSession wanted cfg before opened running now end stop) → CountsRan (map opening_for wanted) (list_any link_failed it.ran.done) (list_any sink_failed it.ran.done) running now
+  pub counts_ran : (wanted : List Wanted) (cfg : C) (before opened running now : Told) (end : Ended Entry) (stop : Option OutcomeView) → AreApart (map opening_for wanted) → (it : RanSession wanted cfg before opened running now end stop) → CountsRan (map opening_for wanted) (list_any link_failed it.ran.done) (list_any sink_failed it.ran.done) running now
   counts_ran wanted cfg before opened running now end stop apart it =
       let fresh = fresh_workers wanted before opened _ it.first it.workers (Ok tt) it.opens in
       let counted = runs_counted before.live.wire it.workers it.ran.done fresh it.ran.runs in

@@ -33,61 +33,61 @@ module _ {C : Type 0} where
 
   -- the workers that were opened for two lists of them
   pub record OpensBoth (xs ys : List Wanted) (before now : Told) (first later : PassSeen C) (workers : List (Seen C)) : Type 0 where
-    pub front : List (Seen C)
+    pub prefix : List (Seen C)
     pub back : List (Seen C)
     pub mid : Told
     pub middle : PassSeen C
-    pub workers_are : workers ≡ front ++ back
-    pub opens_front : OpensWorkers xs before mid first middle front (Ok tt)
+    pub workers_are : workers ≡ prefix ++ back
+    pub opens_prefix : OpensWorkers xs before mid first middle prefix (Ok tt)
     pub opens_back : OpensWorkers ys mid now middle later back (Ok tt)
 
   pub opens_both : (xs ys : List Wanted) (before now : Told) (first later : PassSeen C) (workers : List (Seen C)) → OpensWorkers (xs ++ ys) before now first later workers (Ok tt) → OpensBoth xs ys before now first later workers
   opens_both [] ys before now first later workers opens =
-      record { front = []; back = workers; mid = before; middle = first; workers_are = refl; opens_front = (refl, refl, refl, refl); opens_back = opens }
+      record { prefix = []; back = workers; mid = before; middle = first; workers_are = refl; opens_prefix = (refl, refl, refl, refl); opens_back = opens }
   opens_both (x ∷ xs) ys before now first later workers (inl refused) = absurd (let no : Ok tt ≡ Err refused.0 = refused.4 in cc)
   opens_both (x ∷ xs) ys before now first later workers (inr (worker, rest, mid, middle, are, opens, others)) =
       let both = opens_both xs ys mid now middle later rest others in record {
-        front = worker ∷ both.front;
+        prefix = worker ∷ both.prefix;
         back = both.back;
         mid = both.mid;
         middle = both.middle;
         workers_are = are ∙ ap (λ (more : List (Seen C)). worker ∷ more) both.workers_are;
-        opens_front = inr (worker, both.front, mid, middle, refl, opens, both.opens_front);
+        opens_prefix = inr (worker, both.prefix, mid, middle, refl, opens, both.opens_prefix);
         opens_back = both.opens_back;
       }
 
   -- the work of two lists of workers
-  pub record RunBoth (front back done : List (Seen C)) : Type 0 where
-    pub front_done : List (Seen C)
+  pub record RunBoth (prefix back done : List (Seen C)) : Type 0 where
+    pub prefix_done : List (Seen C)
     pub back_done : List (Seen C)
-    pub done_are : done ≡ front_done ++ back_done
-    pub runs_front : RunWorkers front front_done
+    pub done_are : done ≡ prefix_done ++ back_done
+    pub runs_prefix : RunWorkers prefix prefix_done
     pub runs_back : RunWorkers back back_done
 
-  pub run_both : (front back done : List (Seen C)) → RunWorkers (front ++ back) done → RunBoth front back done
-  run_both [] back done runs = record { front_done = []; back_done = done; done_are = refl; runs_front = tt; runs_back = runs }
-  run_both (worker ∷ front) back [] runs = absurd runs
-  run_both (worker ∷ front) back (after ∷ done) runs =
-      let both = run_both front back done runs.1 in record {
-        front_done = after ∷ both.front_done;
+  pub run_both : (prefix back done : List (Seen C)) → RunWorkers (prefix ++ back) done → RunBoth prefix back done
+  run_both [] back done runs = record { prefix_done = []; back_done = done; done_are = refl; runs_prefix = tt; runs_back = runs }
+  run_both (worker ∷ prefix) back [] runs = absurd runs
+  run_both (worker ∷ prefix) back (after ∷ done) runs =
+      let both = run_both prefix back done runs.1 in record {
+        prefix_done = after ∷ both.prefix_done;
         back_done = both.back_done;
         done_are = ap (λ (more : List (Seen C)). after ∷ more) both.done_are;
-        runs_front = (runs.0, both.runs_front);
+        runs_prefix = (runs.0, both.runs_prefix);
         runs_back = both.runs_back;
       }
 
   -- the closings of two lists of workers: the back is closed first
-  pub record ClosesBoth (front back : List (Seen C)) (before now : Told) (first later : PassSeen C) : Type 0 where
+  pub record ClosesBoth (prefix back : List (Seen C)) (before now : Told) (first later : PassSeen C) : Type 0 where
     pub mid : Told
     pub middle : PassSeen C
     pub closes_back : ClosesWorkers back before mid first middle
-    pub closes_front : ClosesWorkers front mid now middle later
+    pub closes_prefix : ClosesWorkers prefix mid now middle later
 
-  pub closes_both : (front back : List (Seen C)) (before now : Told) (first later : PassSeen C) → ClosesWorkers (front ++ back) before now first later → ClosesBoth front back before now first later
-  closes_both [] back before now first later closes = record { mid = now; middle = later; closes_back = closes; closes_front = (refl, refl) }
-  closes_both (worker ∷ front) back before now first later (mid, middle, closes, close, later_is) =
-      let both = closes_both front back before mid first middle closes in
-      record { mid = both.mid; middle = both.middle; closes_back = both.closes_back; closes_front = (mid, middle, both.closes_front, close, later_is) }
+  pub closes_both : (prefix back : List (Seen C)) (before now : Told) (first later : PassSeen C) → ClosesWorkers (prefix ++ back) before now first later → ClosesBoth prefix back before now first later
+  closes_both [] back before now first later closes = record { mid = now; middle = later; closes_back = closes; closes_prefix = (refl, refl) }
+  closes_both (worker ∷ prefix) back before now first later (mid, middle, closes, close, later_is) =
+      let both = closes_both prefix back before mid first middle closes in
+      record { mid = both.mid; middle = both.middle; closes_back = both.closes_back; closes_prefix = (mid, middle, both.closes_prefix, close, later_is) }
 
   -- ---- passes
 
@@ -138,7 +138,7 @@ module _ {C : Type 0} where
       let count : length middle.joined ≡ suc (length first.joined) = ap length joined ∙ one_longer first.joined None in
       subst (OpensPasses first later) (sym are) (record {
         numbered = (ap (λ (p : PassSeen C). p.number) split.pass_is, subst (λ (n : ℕ). AreNumbered n rest) count passes.numbered);
-        joined = passes.joined ∙ ap (λ (front : List (Option (List Entry))). front ++ map not_joined rest) joined ∙ append_assoc first.joined (None ∷ []) (map not_joined rest);
+        joined = passes.joined ∙ ap (λ (prefix : List (Option (List Entry))). prefix ++ map not_joined rest) joined ∙ append_assoc first.joined (None ∷ []) (map not_joined rest);
         made = passes.made ∙ ap (λ (p : PassSeen C). p.made) split.later_is;
         calls = passes.calls ∙ ap (λ (p : PassSeen C). p.calls) split.later_is;
       })
@@ -162,26 +162,26 @@ module _ {C : Type 0} where
   run_as_many (worker ∷ workers) [] runs = absurd runs
   run_as_many (worker ∷ workers) (after ∷ done) runs = ap (λ (more : List (Option (List Entry))). None ∷ more) (run_as_many workers done runs.1)
 
-put_behind : {A : Type 0} (front rest : List A) (x y : A) (n : ℕ) → n ≡ length front → slice_set (front ++ x ∷ rest) n y ≡ front ++ y ∷ rest
+put_behind : {A : Type 0} (prefix rest : List A) (x y : A) (n : ℕ) → n ≡ length prefix → slice_set (prefix ++ x ∷ rest) n y ≡ prefix ++ y ∷ rest
 put_behind [] rest x y zero e = refl
 put_behind [] rest x y (suc n) e = absurd (omega (arith, e))
-put_behind (z ∷ front) rest x y zero e = absurd (omega (arith, e))
-put_behind (z ∷ front) rest x y (suc n) e = ap (λ zs. z ∷ zs) (put_behind front rest x y n (omega (arith, e)))
+put_behind (z ∷ prefix) rest x y zero e = absurd (omega (arith, e))
+put_behind (z ∷ prefix) rest x y (suc n) e = ap (λ zs. z ∷ zs) (put_behind prefix rest x y n (omega (arith, e)))
 
 module _ {C : Type 0} where
   -- the closings set the calls of each
-  pub record ClosesPasses (front : List (Option (List Entry))) (first later : PassSeen C) (done : List (Seen C)) : Type 0 where
-    pub joined : later.joined ≡ front ++ map calls_made done
+  pub record ClosesPasses (prefix : List (Option (List Entry))) (first later : PassSeen C) (done : List (Seen C)) : Type 0 where
+    pub joined : later.joined ≡ prefix ++ map calls_made done
     pub made : later.made ≡ first.made
 
-  pub closes_passes : (done : List (Seen C)) (front : List (Option (List Entry))) (before now : Told) (first later : PassSeen C) → ClosesWorkers done before now first later → AreNumbered (length front) done → first.joined ≡ front ++ map not_joined done → ClosesPasses front first later done
-  closes_passes [] front before now first later (same, later_is) numbered joined = record { joined = ap (λ (p : PassSeen C). p.joined) later_is ∙ joined; made = ap (λ (p : PassSeen C). p.made) later_is }
-  closes_passes (worker ∷ done) front before now first later (mid, middle, closes, close, later_is) numbered joined =
-      let others = closes_passes done (front ++ None ∷ []) before mid first middle closes (subst (λ (n : ℕ). AreNumbered n done) (sym (one_longer front None)) numbered.1) (joined ∙ sym (append_assoc front (None ∷ []) (map not_joined done))) in
-      let joined' : middle.joined ≡ front ++ None ∷ map calls_made done = others.joined ∙ append_assoc front (None ∷ []) (map calls_made done) in record {
+  pub closes_passes : (done : List (Seen C)) (prefix : List (Option (List Entry))) (before now : Told) (first later : PassSeen C) → ClosesWorkers done before now first later → AreNumbered (length prefix) done → first.joined ≡ prefix ++ map not_joined done → ClosesPasses prefix first later done
+  closes_passes [] prefix before now first later (same, later_is) numbered joined = record { joined = ap (λ (p : PassSeen C). p.joined) later_is ∙ joined; made = ap (λ (p : PassSeen C). p.made) later_is }
+  closes_passes (worker ∷ done) prefix before now first later (mid, middle, closes, close, later_is) numbered joined =
+      let others = closes_passes done (prefix ++ None ∷ []) before mid first middle closes (subst (λ (n : ℕ). AreNumbered n done) (sym (one_longer prefix None)) numbered.1) (joined ∙ sym (append_assoc prefix (None ∷ []) (map not_joined done))) in
+      let joined' : middle.joined ≡ prefix ++ None ∷ map calls_made done = others.joined ∙ append_assoc prefix (None ∷ []) (map calls_made done) in record {
         joined = ap (λ (p : PassSeen C). p.joined) later_is
             ∙ ap (λ (xs : List (Option (List Entry))). slice_set xs (pass_of worker).number (calls_made worker)) joined'
-            ∙ put_behind front (map calls_made done) None (calls_made worker) (pass_of worker).number numbered.0;
+            ∙ put_behind prefix (map calls_made done) None (calls_made worker) (pass_of worker).number numbered.0;
         made = ap (λ (p : PassSeen C). p.made) later_is ∙ others.made;
       }
 

@@ -197,7 +197,7 @@ module _ {C : Type 0} where
 
   -- ---- sessions
 
-  -- an opening was refused: a front of what is wanted was opened
+  -- an opening was refused: a prefix of what is wanted was opened
   pub opens_refused_session : (wanted : List Wanted) (cfg : C) (before now : Told) (fault : Fault) → RefusedSession wanted cfg before now fault → OpensSome (map opening_for wanted) before now
   opens_refused_session wanted cfg before now fault refused =
       let opens = opens_workers wanted before refused.mid _ refused.first refused.workers (Err fault) refused.opens in

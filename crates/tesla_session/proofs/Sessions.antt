@@ -130,17 +130,17 @@ module _ {C : Type 0} where
 
   -- ---- of both kinds
 
-  pub of_front : (turn : TurnId) (workers others : List (Seen C)) → AreOf turn (workers ++ others) → AreOf turn workers
-  of_front turn [] others are = tt
-  of_front turn (worker ∷ workers) others are = (are.0, of_front turn workers others are.1)
+  pub of_prefix : (turn : TurnId) (workers others : List (Seen C)) → AreOf turn (workers ++ others) → AreOf turn workers
+  of_prefix turn [] others are = tt
+  of_prefix turn (worker ∷ workers) others are = (are.0, of_prefix turn workers others are.1)
 
   pub of_back : (turn : TurnId) (workers others : List (Seen C)) → AreOf turn (workers ++ others) → AreOf turn others
   of_back turn [] others are = are
   of_back turn (worker ∷ workers) others are = of_back turn workers others are.1
 
-  pub left_front : (workers others : List (Seen C)) → HaveCalls (workers ++ others) → HaveCalls workers
-  left_front [] others have = tt
-  left_front (worker ∷ workers) others have = (have.0, left_front workers others have.1)
+  pub left_prefix : (workers others : List (Seen C)) → HaveCalls (workers ++ others) → HaveCalls workers
+  left_prefix [] others have = tt
+  left_prefix (worker ∷ workers) others have = (have.0, left_prefix workers others have.1)
 
   -- as many workers come out of a run as went in
   pub runs_length : (befores afters : List (Seen C)) → RunWorkers befores afters → length afters ≡ length befores

@@ -8,7 +8,7 @@ use Rattle.tesla_desk.specs.Live.{OpenedLink, clock_told}
 use Rattle.tesla_desk.specs.Outside.{Told, OpensLink, OpensSink, ClosesLink, ClosesSink, MakesClock}
 use Rattle.tesla_desk.specs.declared.desk.OpenRefusal.{OpenRefusal}
 use Rattle.tesla_desk.specs.declared.link.Letter.{Letter}
-use Rattle.tesla_front.specs.Came.{Came, Done, Refused, Failed}
+use Rattle.tesla_front.specs.OutcomeView.{OutcomeView, Done, Refused, Failed}
 use Rattle.tesla_front.specs.Fault.{unopened}
 use Rattle.tesla_front.specs.declared.fault.Fault.{Fault}
 use Rattle.tesla_front.specs.declared.fault.Fault.TheVariants.{Read, Write}
@@ -91,16 +91,16 @@ is_sink_end sink_ends.Spent sink_ends.Spent = true
 is_sink_end _ _ = false
 
 -- why the workers came to no end: a link failed, or else a sink, or else calls were spent
-abbrev pub stop_by : Bool → Bool → Bool → Option Came
+abbrev pub stop_by : Bool → Bool → Bool → Option OutcomeView
 stop_by true write spent = Some (Failed Read)
 stop_by false true spent = Some (Failed Write)
 stop_by false false true = Some (Refused 11 spent_line)
 stop_by false false false = None
 
 -- what workers come to: why they came to no end, or this text is told
-abbrev pub came_by : Option Came → List ℕ → Came
-came_by (Some stop) text = stop
-came_by None text = Done text
+abbrev pub outcome_by : Option OutcomeView → List ℕ → OutcomeView
+outcome_by (Some stop) text = stop
+outcome_by None text = Done text
 
 -- the bytes of a name
 abbrev pub name_of : Bor (List ℕ) → List ℕ
@@ -249,7 +249,7 @@ module _ {C : Type 0} where
   abbrev pub workers_of : List (LinkSeen C) → List (SinkSeen C) → List (Seen C)
   workers_of links sinks = map SeenLink links ++ map SeenSink sinks
 
-  abbrev pub stop_of : List (Seen C) → Option Came
+  abbrev pub stop_of : List (Seen C) → Option OutcomeView
   stop_of workers = stop_by (list_any link_failed workers) (list_any sink_failed workers) (list_any has_spent workers)
 
   -- ---- one run of the workers
@@ -259,7 +259,7 @@ module _ {C : Type 0} where
   OpensAll wanted cfg before now turn first workers = OpensWorkers wanted before now (first_pass turn cfg (suc (length wanted)) calls_most) first workers (Ok tt)
 
   -- workers that are opened did their work and were closed, and then the turn was: of its history each pass has its calls
-  pub record RunsOpened (first : PassSeen C) (workers : List (Seen C)) (before now : Told) (end : Ended Entry) (stop : Option Came) : Type 0 where
+  pub record RunsOpened (first : PassSeen C) (workers : List (Seen C)) (before now : Told) (end : Ended Entry) (stop : Option OutcomeView) : Type 0 where
     pub later : PassSeen C
     pub done : List (Seen C)
     pub runs : RunWorkers workers done
@@ -269,7 +269,7 @@ module _ {C : Type 0} where
     pub stop_is : stop ≡ stop_of done
 
   -- all workers were opened, did their work and were closed, told the desk before the openings and behind them, and before the closings and behind them
-  pub record RanSession (wanted : List Wanted) (cfg : C) (before opened running now : Told) (end : Ended Entry) (stop : Option Came) : Type 0 where
+  pub record RanSession (wanted : List Wanted) (cfg : C) (before opened running now : Told) (end : Ended Entry) (stop : Option OutcomeView) : Type 0 where
     pub turn : TurnId
     pub first : PassSeen C
     pub workers : List (Seen C)

@@ -3,7 +3,7 @@
 ghost use Rattle.std.specs.Prelude.{◌≡◌, ◌≤◌, ◌+◌, [], List, Ok, Err, Some, IfOk, length, map, vec_capacity};
 ghost use Rattle.std.specs.Option.{option_map};
 ghost use Rattle.tesla_desk.specs.Outside.{Told};
-ghost use Rattle.tesla_front.specs.Came.{stop_came};
+ghost use Rattle.tesla_front.specs.OutcomeView.{stop_view};
 ghost use Rattle.tesla_turn.specs.Held.{first_pass};
 ghost use Rattle.tesla_turn.specs.History.{entries};
 ghost use Rattle.tesla_session.specs.Wanted.{Wanted, wanted_for};
@@ -135,7 +135,7 @@ fn run_all<R: Threads + Wait + Sync, D: Desk, V: Station + Send, B: Beside + Sen
     requires own { AreOf session.old.turn (workers_of session.old.links.items session.old.sinks.items) }
     requires left { HaveCalls (workers_of session.old.links.items session.old.sinks.items) }
     ensures runs { RunWorkers (workers_of session.old.links.items session.old.sinks.items) (workers_of session.new.links.items session.new.sinks.items) }
-    ensures stop { option_map stop_came result ≡ stop_of (workers_of session.new.links.items session.new.sinks.items) }
+    ensures stop { option_map stop_view result ≡ stop_of (workers_of session.new.links.items session.new.sinks.items) }
     ensures same { (session.new.turn ≡ session.old.turn) × (session.new.first ≡ session.old.first) }
     ensures beside { B.did beside.old beside.new }
 {
@@ -187,7 +187,7 @@ pub fn run_opened<R: Threads + Wait + Sync, D: Desk, V: Station + Send, B: Besid
     desk: &mut D,
 ) -> Ran<V>
     requires { (wanted : List Wanted) × (cfg : V.Config) × (before : Told) × (now : Told) × OpensAll wanted cfg before now session.turn session.first (workers_of session.links.items session.sinks.items) }
-    ensures runs { RunsOpened session.first (workers_of session.links.items session.sinks.items) (D.told desk.old) (D.told desk.new) result.last (option_map stop_came result.stop) }
+    ensures runs { RunsOpened session.first (workers_of session.links.items session.sinks.items) (D.told desk.old) (D.told desk.new) result.last (option_map stop_view result.stop) }
     ensures stands { V.stands result.station (entries result.last.history) }
     ensures config { session.first.config ≡ Some (V.config result.station) }
     ensures beside { B.did beside.old beside.new }

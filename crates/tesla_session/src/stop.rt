@@ -2,7 +2,7 @@
 
 ghost use Rattle.std.specs.Prelude.{◌≡◌, ◌||◌};
 ghost use Rattle.std.specs.Option.{option_map};
-ghost use Rattle.tesla_front.specs.Came.{stop_came};
+ghost use Rattle.tesla_front.specs.OutcomeView.{stop_view};
 ghost use Rattle.tesla_session.specs.Session.{spent_line, any_link_ended, any_sink_ended, stop_by, stop_of, workers_of};
 
 use crate::worker::{LinkWorker, SinkWorker};
@@ -50,7 +50,7 @@ fn spent() -> Refusal
 
 // What comes of a link that failed, or else of a sink that did, or else of calls that were spent.
 fn stop_where(read: bool, write: bool, link_spent: bool, sink_spent: bool) -> Option<Stop>
-    ensures { option_map stop_came result ≡ stop_by read write (link_spent || sink_spent) }
+    ensures { option_map stop_view result ≡ stop_by read write (link_spent || sink_spent) }
 {
     if read {
         return Some(Stop::Failed(Fault::Read));
@@ -69,7 +69,7 @@ pub fn stop_in<V: Station, K: Link, C: Clock, S: Sink, G: Gate>(
     links: &[LinkWorker<V, K, C, G>],
     sinks: &[SinkWorker<V, S, G>],
 ) -> Option<Stop>
-    ensures { option_map stop_came result ≡ stop_of (workers_of links.now sinks.now) }
+    ensures { option_map stop_view result ≡ stop_of (workers_of links.now sinks.now) }
 {
     let read = any_link(links, LinkEnd::Failed);
     let write = any_sink(sinks, SinkEnd::Failed);

@@ -12,7 +12,7 @@ use Rattle.tesla_desk.specs.declared.link.Letter.{Letter}
 use Rattle.tesla_desk.specs.declared.link.Letter.TheVariants as letters
 use Rattle.tesla_desk.specs.Clocks.{Ticking, next_reading, ticked, Ticks}
 use Rattle.tesla_desk.specs.Links.{datagram_in, datagrams, after_letters}
-use Rattle.tesla_shared.specs.Workers.{bytes_of, reading_of, is_of, Came, AreNext, Gave, HearsOne, HearsAll, Ingests}
+use Rattle.tesla_shared.specs.Workers.{bytes_of, reading_of, is_of, HaveArrived, AreNext, Gave, HearsOne, HearsAll, Ingests}
 
 -- items that are taken one after another
 pub letters_twice : (left : Option (List Letter)) (a b : List Letter) → after_letters a (after_letters b left) ≡ after_letters (a ++ b) left
@@ -38,7 +38,7 @@ gave_more readings (Some before) (Some now) None reading gave ticks =
 gave_more readings before None (Some after) reading gave ticks = absurd ticks
 gave_more readings None (Some now) (Some after) reading gave ticks = absurd gave
 gave_more readings (Some before) (Some now) (Some after) reading gave ticks = (
-  ap (λ (z : Ticking). z.given) ticks.0 ∙ ap (λ (front : List ℕ). front ++ next_reading now.ahead ∷ []) gave.0 ∙ append_assoc before.given readings (next_reading now.ahead ∷ []) ∙ ap (λ (r : ℕ). before.given ++ (readings ++ r ∷ [])) (sym ticks.1),
+  ap (λ (z : Ticking). z.given) ticks.0 ∙ ap (λ (prefix : List ℕ). prefix ++ next_reading now.ahead ∷ []) gave.0 ∙ append_assoc before.given readings (next_reading now.ahead ∷ []) ∙ ap (λ (r : ℕ). before.given ++ (readings ++ r ∷ [])) (sym ticks.1),
   next_more readings before now after reading gave.1 ticks.0 ticks.1,
 )
 
@@ -48,11 +48,11 @@ gave_none None = tt
 gave_none (Some before) = (sym (append-nil before.given), refl)
 
 -- items more, of which each datagram is an arrival
-came_more : (arrivals more : List Arrival) (taken : List Letter) (left now later : Option (List Letter)) → Came arrivals left now → now ≡ after_letters taken later → datagrams taken ≡ map bytes_of more → Came (arrivals ++ more) left later
-came_more arrivals more taken left now later came next same = (
-  came.0 ++ taken,
-  came.1 ∙ ap (after_letters came.0) next ∙ letters_twice later came.0 taken,
-  flat_map-append datagram_in came.0 taken ∙ ap (λ (front : List (List ℕ)). front ++ datagrams taken) came.2 ∙ ap (λ (back : List (List ℕ)). map bytes_of arrivals ++ back) same ∙ sym (map-append bytes_of arrivals more),
+arrived_more : (arrivals more : List Arrival) (taken : List Letter) (left now later : Option (List Letter)) → HaveArrived arrivals left now → now ≡ after_letters taken later → datagrams taken ≡ map bytes_of more → HaveArrived (arrivals ++ more) left later
+arrived_more arrivals more taken left now later arrived next same = (
+  arrived.0 ++ taken,
+  arrived.1 ∙ ap (after_letters arrived.0) next ∙ letters_twice later arrived.0 taken,
+  flat_map-append datagram_in arrived.0 taken ∙ ap (λ (prefix : List (List ℕ)). prefix ++ datagrams taken) arrived.2 ∙ ap (λ (back : List (List ℕ)). map bytes_of arrivals ++ back) same ∙ sym (map-append bytes_of arrivals more),
 )
 
 is_own : (ingest : ℕ) (arrival : Arrival) → arrival.ingest ≡ ingest → list_all (is_of ingest) (arrival ∷ []) ≡ true
@@ -62,7 +62,7 @@ is_own ingest arrival same = grind (arith, eq-eqb arrival.ingest ingest same)
 pub hears_none : (ingest : ℕ) (made : List Entry) (left : Option (List Letter)) (before : Option Ticking) → HearsAll ingest made made left left before before
 hears_none ingest made left before = record {
   arrivals = [];
-  hears = record { numbered = refl; came = ([], letters_none left, refl); gave = gave_none before };
+  hears = record { numbered = refl; arrived = ([], letters_none left, refl); gave = gave_none before };
   made_are = sym (append-nil made);
 }
 
@@ -73,7 +73,7 @@ hears_more ingest bytes made mid now left rest later before then after all next 
       arrivals = all.arrivals ++ more;
       hears = record {
         numbered = list_all_both (is_of ingest) all.arrivals more all.hears.numbered (is_own ingest one.arrival one.numbered);
-        came = came_more all.arrivals more (letters.Datagram bytes ∷ []) left rest later all.hears.came next (ap (λ (b : List ℕ). b ∷ []) (sym one.bytes_are));
+        arrived = arrived_more all.arrivals more (letters.Datagram bytes ∷ []) left rest later all.hears.arrived next (ap (λ (b : List ℕ). b ∷ []) (sym one.bytes_are));
         gave = subst (λ (rs : List ℕ). Gave rs before after) (sym (map-append reading_of all.arrivals more)) (gave_more (map reading_of all.arrivals) before then after one.arrival.reading all.hears.gave one.ticks);
       };
       made_are = one.made_is ∙ ap (λ (es : List Entry). es ++ Arrived one.arrival ∷ []) all.made_are ∙ append_assoc made (map Arrived all.arrivals) (Arrived one.arrival ∷ []) ∙ ap (λ (es : List Entry). made ++ es) (sym (map-append Arrived all.arrivals more));
@@ -85,7 +85,7 @@ hears_quiet ingest made now left rest later before after all next = record {
   arrivals = all.arrivals;
   hears = record {
     numbered = all.hears.numbered;
-    came = subst (λ (arrivals : List Arrival). Came arrivals left later) (append-nil all.arrivals) (came_more all.arrivals [] (letters.Quiet ∷ []) left rest later all.hears.came next refl);
+    arrived = subst (λ (arrivals : List Arrival). HaveArrived arrivals left later) (append-nil all.arrivals) (arrived_more all.arrivals [] (letters.Quiet ∷ []) left rest later all.hears.arrived next refl);
     gave = all.hears.gave;
   };
   made_are = all.made_are;

@@ -257,22 +257,22 @@ over_at r (Taken releaser reply) has = of_own (releaser == r) refl has
     of_own false e has' = absurd (omega (arith, has'.1))
 
 -- a legal history answers a take after the entries before it
-legal_here : (cfg : Config) (before front : List Entry) (e : Entry) (back : List Entry) → IsLegalAfter cfg before (front ++ e ∷ back) → e ≡ entry_of cfg (before ++ front) (event_of e)
+legal_here : (cfg : Config) (before prefix : List Entry) (e : Entry) (back : List Entry) → IsLegalAfter cfg before (prefix ++ e ∷ back) → e ≡ entry_of cfg (before ++ prefix) (event_of e)
 legal_here cfg before [] e back l = l.0 ∙ ap (λ (h : List Entry). entry_of cfg h (event_of e)) (sym (append-nil before))
-legal_here cfg before (x ∷ front) e back l = legal_here cfg (before ++ x ∷ []) front e back l.1 ∙ ap (λ (h : List Entry). entry_of cfg h (event_of e)) (append_assoc before (x ∷ []) front)
+legal_here cfg before (x ∷ prefix) e back l = legal_here cfg (before ++ x ∷ []) prefix e back l.1 ∙ ap (λ (h : List Entry). entry_of cfg h (event_of e)) (append_assoc before (x ∷ []) prefix)
 
 -- what is known of a history up to a take that was answered Over
-record AtOver (cfg : Config) (front : List Entry) : Type 0 where
-  none : length (released cfg (arrivals_in front)) ≤ given_in front
-  ended : (k : ℕ) → k < cfg.ingests → has_end front k ≡ true
+record AtOver (cfg : Config) (prefix : List Entry) : Type 0 where
+  none : length (released cfg (arrivals_in prefix)) ≤ given_in prefix
+  ended : (k : ℕ) → k < cfg.ingests → has_end prefix k ≡ true
 
-at_over : (cfg : Config) (front : List Entry) → reply_to cfg front ≡ Over → AtOver cfg front
+at_over : (cfg : Config) (prefix : List Entry) → reply_to cfg prefix ≡ Over → AtOver cfg prefix
 unfolding reply_to
-at_over cfg front over =
+at_over cfg prefix over =
     let all : List ℕ = range_with_len 0 cfg.ingests in
-    let means = over_means cfg (arrivals_in front) (given_in front) (list_all (has_end front) all) over in record {
+    let means = over_means cfg (arrivals_in prefix) (given_in prefix) (list_all (has_end prefix) all) over in record {
       none = means.0;
-      ended = λ k low. ⊎_elim (λ yes. yes) (λ no. let clash : true ≡ false = sym means.1 ∙ not_all_numbers (has_end front) cfg.ingests k low no in absurd cc) (cases_Bool (has_end front k));
+      ended = λ k low. ⊎_elim (λ yes. yes) (λ no. let clash : true ≡ false = sym means.1 ∙ not_all_numbers (has_end prefix) cfg.ingests k low no in absurd cc) (cases_Bool (has_end prefix k));
     }
 
 -- where no ingest that may have an arrival has one, there is none
@@ -285,42 +285,42 @@ no_arrivals n m (Arrived a ∷ es) of none =
 no_arrivals n m (Taken releaser reply ∷ es) of none = no_arrivals n m es (and_parts (ltb releaser m) (list_all (is_of_workers n m) es) of).1 none
 no_arrivals n m (Ended ingest ∷ es) of none = no_arrivals n m es (and_parts (ltb ingest n) (list_all (is_of_workers n m) es) of).1 none
 
-module _ (links : List (List Arrival)) (sinks : List (List Reply)) (front rest : List Entry) (made : MadeBy links sinks (front ++ rest)) where
+module _ (links : List (List Arrival)) (sinks : List (List Reply)) (prefix rest : List Entry) (made : MadeBy links sinks (prefix ++ rest)) where
   -- behind the end of its ingest a link made no call
-  nothing_behind : (k : ℕ) → k < length links → has_end front k ≡ true → arrivals_by k rest ≡ []
+  nothing_behind : (k : ℕ) → k < length links → has_end prefix k ≡ true → arrivals_by k rest ≡ []
   nothing_behind k low ended =
       let here : Entry → Bool = λ e. pass_of (length links) e == suc k in
-      let both : filter here front ++ filter here rest ≡ link_calls k (get_or links k []) = sym (filter-append here front rest) ∙ made.link k low in
-      let some : list_any (ends k) (filter here front) ≡ true = list_any-filter here (ends k) (end_elsewhere (length links) k) front ∙ ended in
-      let empty : filter here rest ≡ [] = last_alone (ends k) (filter here front) (filter here rest) (map Arrived (get_or links k [])) (Ended k) both (no_end k (get_or links k [])) some in
+      let both : filter here prefix ++ filter here rest ≡ link_calls k (get_or links k []) = sym (filter-append here prefix rest) ∙ made.link k low in
+      let some : list_any (ends k) (filter here prefix) ≡ true = list_any-filter here (ends k) (end_elsewhere (length links) k) prefix ∙ ended in
+      let empty : filter here rest ≡ [] = last_alone (ends k) (filter here prefix) (filter here rest) (map Arrived (get_or links k [])) (Ended k) both (no_end k (get_or links k [])) some in
       sym (flat_map-filter here (arrival_by k) (arrival_elsewhere (length links) k) rest) ∙ ap (arrivals_by k) empty
 
   -- where all ingests have ended, nothing arrives behind
-  same_arrivals : ((k : ℕ) → k < length links → has_end front k ≡ true) → arrivals_in (front ++ rest) ≡ arrivals_in front
+  same_arrivals : ((k : ℕ) → k < length links → has_end prefix k ≡ true) → arrivals_in (prefix ++ rest) ≡ arrivals_in prefix
   same_arrivals ended =
-      let of = and_parts (list_all (is_of_workers (length links) (length sinks)) front) (list_all (is_of_workers (length links) (length sinks)) rest)
-      (sym (list_all-append (is_of_workers (length links) (length sinks)) front rest) ∙ made.workers) in
-      flat_map-append arrival_in front rest
-      ∙ ap (λ xs. arrivals_in front ++ xs) (no_arrivals (length links) (length sinks) rest of.1 (λ k low. nothing_behind k low (ended k low)))
-      ∙ append-nil (arrivals_in front)
+      let of = and_parts (list_all (is_of_workers (length links) (length sinks)) prefix) (list_all (is_of_workers (length links) (length sinks)) rest)
+      (sym (list_all-append (is_of_workers (length links) (length sinks)) prefix rest) ∙ made.workers) in
+      flat_map-append arrival_in prefix rest
+      ∙ ap (λ xs. arrivals_in prefix ++ xs) (no_arrivals (length links) (length sinks) rest of.1 (λ k low. nothing_behind k low (ended k low)))
+      ∙ append-nil (arrivals_in prefix)
 
   -- so what was released up to there is all, and all of it was given
-  all_given : (cfg : Config) → cfg.ingests ≡ length links → IsLegal cfg (front ++ rest) → AtOver cfg front → given_in (front ++ rest) ≡ length (released cfg (arrivals_in (front ++ rest)))
+  all_given : (cfg : Config) → cfg.ingests ≡ length links → IsLegal cfg (prefix ++ rest) → AtOver cfg prefix → given_in (prefix ++ rest) ≡ length (released cfg (arrivals_in (prefix ++ rest)))
   all_given cfg ingests legal over =
-      let same : length (released cfg (arrivals_in (front ++ rest))) ≡ length (released cfg (arrivals_in front)) = ap (λ xs. length (released cfg xs)) (same_arrivals (λ k low. over.ended k (omega arith))) in
-      omega (arith, same, over.none, given_rises front rest, given_fits cfg (front ++ rest) legal)
+      let same : length (released cfg (arrivals_in (prefix ++ rest))) ≡ length (released cfg (arrivals_in prefix)) = ap (λ xs. length (released cfg xs)) (same_arrivals (λ k low. over.ended k (omega arith))) in
+      omega (arith, same, over.none, given_rises prefix rest, given_fits cfg (prefix ++ rest) legal)
 
 complete : (cfg : Config) (links : List (List Arrival)) (sinks : List (List Reply)) (es : List Entry) → MadeBy links sinks es → cfg.ingests ≡ length links → IsLegal cfg es → (r : ℕ) → Contains (get_or sinks r []) Over → given_in es ≡ length (released cfg (arrivals_in es))
 complete cfg links sinks es made ingests legal r has =
     let at = given_at (reply_by r) es Over (subst (λ (replies : List Reply). Contains replies Over) (sym (replies_are links sinks es made r)) has) in
     let over : at.at ≡ Taken r Over = over_at r at.at at.gives in
     let rest : List Entry = Taken r Over ∷ at.back in
-    let whole : es ≡ at.front ++ rest = at.whole ∙ ap (λ (e : Entry). at.front ++ e ∷ at.back) over in
-    let legal' : IsLegal cfg (at.front ++ rest) = subst (IsLegal cfg) whole legal in
-    let answer : Taken r Over ≡ Taken r (reply_to cfg at.front) = legal_here cfg [] at.front (Taken r Over) at.back legal' in
-    let reply : reply_to cfg at.front ≡ Over = cc in
+    let whole : es ≡ at.prefix ++ rest = at.whole ∙ ap (λ (e : Entry). at.prefix ++ e ∷ at.back) over in
+    let legal' : IsLegal cfg (at.prefix ++ rest) = subst (IsLegal cfg) whole legal in
+    let answer : Taken r Over ≡ Taken r (reply_to cfg at.prefix) = legal_here cfg [] at.prefix (Taken r Over) at.back legal' in
+    let reply : reply_to cfg at.prefix ≡ Over = cc in
     subst (λ (h : List Entry). given_in h ≡ length (released cfg (arrivals_in h))) (sym whole)
-    (all_given links sinks at.front rest (subst (MadeBy links sinks) whole made) cfg ingests legal' (at_over cfg at.front reply))
+    (all_given links sinks at.prefix rest (subst (MadeBy links sinks) whole made) cfg ingests legal' (at_over cfg at.prefix reply))
 
 -- ---- the whole
 

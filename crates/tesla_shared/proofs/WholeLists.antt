@@ -123,15 +123,15 @@ module _ {A : Type 0} where
 
 -- an element of which the function gives the value, with what is before and behind it
 pub record GivenAt {A B : Type 0} (f : A → List B) (xs : List A) (y : B) : Type 0 where
-  pub front : List A
+  pub prefix : List A
   pub at : A
   pub back : List A
-  pub whole : xs ≡ front ++ at ∷ back
+  pub whole : xs ≡ prefix ++ at ∷ back
   pub gives : Contains (f at) y
 
 pub given_at : {A B : Type 0} (f : A → List B) (xs : List A) (y : B) → Contains (flat_map f xs) y → GivenAt f xs y
 given_at f [] y has = absurd (omega (arith, has.1))
 given_at f (x ∷ xs) y has = ⊎_elim
-    (λ here. record { front = []; at = x; back = xs; whole = refl; gives = here })
-    (λ later. let next = given_at f xs y later in record { front = x ∷ next.front; at = next.at; back = next.back; whole = ap (λ ys. x ∷ ys) next.whole; gives = next.gives })
+    (λ here. record { prefix = []; at = x; back = xs; whole = refl; gives = here })
+    (λ later. let next = given_at f xs y later in record { prefix = x ∷ next.prefix; at = next.at; back = next.back; whole = ap (λ ys. x ∷ ys) next.whole; gives = next.gives })
     (Contains-append_cases (f x) (flat_map f xs) y has)

@@ -25,8 +25,8 @@ abbrev pub is_of : ℕ → Arrival → Bool
 is_of ingest arrival = arrival.ingest == ingest
 
 -- letters left the link, where it tells them, and each datagram among them is one arrival, with its bytes
-abbrev pub Came : List Arrival → Option (List Letter) → Option (List Letter) → Type 0
-Came arrivals left later = (taken : List Letter) × (left ≡ after_letters taken later) × (datagrams taken ≡ map bytes_of arrivals)
+abbrev pub HaveArrived : List Arrival → Option (List Letter) → Option (List Letter) → Type 0
+HaveArrived arrivals left later = (taken : List Letter) × (left ≡ after_letters taken later) × (datagrams taken ≡ map bytes_of arrivals)
 
 -- each of these readings is the next that the clock gives
 abbrev pub AreNext : List ℕ → Ticking → Ticking → Type 0
@@ -43,7 +43,7 @@ Gave readings (Some before) (Some after) = (after.given ≡ before.given ++ read
 -- each datagram that left the link is one arrival of the ingest, with one reading of the clock
 pub record Hears (ingest : ℕ) (arrivals : List Arrival) (left later : Option (List Letter)) (before after : Option Ticking) : Type 0 where
   pub numbered : list_all (is_of ingest) arrivals ≡ true
-  pub came : Came arrivals left later
+  pub arrived : HaveArrived arrivals left later
   pub gave : Gave (map reading_of arrivals) before after
 
 -- one arrival of these bytes, with one reading of the clock

@@ -93,15 +93,15 @@ rows_fit s bound frame f h is =
     (fits_rows (not (number_of (version_in (Data f)) == number_of s.config.setup.version)) (f.name.interval == 0) (nat_lt s.config.setup.times.last f.name.interval) (length f.rows == length s.config.setup.rows) (not (f.tag_length == s.config.setup.tag_length))
     (list_any (λ (p : ℕ × TagRow). is_early s.config f.name.interval p.0 p.1.key) (enumerate_from 0 f.rows)) fit)
 
-take_front : (n : ℕ) (ys zs : List Tip) → length ys ≡ n → take n (ys ++ zs) ≡ ys
-take_front zero [] zs h = refl
-take_front zero (y ∷ ys) zs h = absurd (omega (arith, h))
-take_front (suc n) [] zs h = absurd (omega (arith, h))
-take_front (suc n) (y ∷ ys) zs h = ap (λ rs. y ∷ rs) (take_front n ys zs (omega (arith, h)))
+take_prefix : (n : ℕ) (ys zs : List Tip) → length ys ≡ n → take n (ys ++ zs) ≡ ys
+take_prefix zero [] zs h = refl
+take_prefix zero (y ∷ ys) zs h = absurd (omega (arith, h))
+take_prefix (suc n) [] zs h = absurd (omega (arith, h))
+take_prefix (suc n) (y ∷ ys) zs h = ap (λ rs. y ∷ rs) (take_prefix n ys zs (omega (arith, h)))
 
 -- the newest keys are written back whole
 tips_back : (n : ℕ) (now xs ys : List Tip) → length now ≡ n → length ys ≡ length now → take n (ys ++ drop (length ys) xs) ≡ ys
-tips_back n now xs ys long same = take_front n ys (drop (length ys) xs) (same ∙ long)
+tips_back n now xs ys long same = take_prefix n ys (drop (length ys) xs) (same ∙ long)
 
 -- keys that are taken from slices of the tables are taken from the tables
 module _ {n : ℕ} {slice tips : List Tip} (later : List Tip) (whole : slice ≡ tips) (long : length slice ≡ n) (same : length later ≡ length slice) where

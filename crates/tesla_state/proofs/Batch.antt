@@ -1,4 +1,4 @@
--- A batch of proved packets in order of arrival: each stands in a place of its own.
+-- A batch of proved packets in order of arrival: each stands in a slot of its own.
 use Rattle.std.proofs.Common.{◌≡◌, ℕ, ◌<◌, Bool, true, false, ◌&&◌, ◌||◌, List, [], ◌∷◌, map, refl, sym, ap, ◌∙◌, arith, ◌==◌}
 use Rattle.std.specs.Prelude.{not, All}
 use Rattle.std.specs.List.{list_any, list_all}
@@ -14,7 +14,7 @@ use Rattle.tesla_state.specs.Gathering as gathering
 use Rattle.tesla_walks.specs.Proved.{RiseBy, release_in}
 use Rattle.tesla_walks.specs.Proved as proofs
 use Rattle.tesla_walks.specs.Holding.{Holding}
-use Rattle.tesla_state.specs.Stored.{Placed, place_of, holding_at, order_of, stands_at, is_proved_by, AreProved, place_proved}
+use Rattle.tesla_state.specs.Stored.{Placed, slot_of, holding_at, order_of, stands_at, is_proved_by, AreProved, slot_proved}
 use Rattle.tesla_state.proofs.Stored.{not_both}
 
 above_all : (n : ℕ) (xs : List Placed) → All (λ (y : Holding). n < y.order) (map holding_at xs) → is_in n (map order_of xs) ≡ false
@@ -37,7 +37,7 @@ above_numbers n (q ∷ qs) h =
     let here : n < q.release.place = All-head (λ (r : Release). n < r.place) q.release (map release_in qs) h in
     or_from (q.release.place == n) (is_in n (map number_of qs)) (ne_eqb q.release.place n (λ e. omega arith)) (above_numbers n qs (All-tail (λ (r : Release). n < r.place) q.release (map release_in qs) h))
 
-pub numbers_differ : (qs : List Proved) → RiseBy proofs.place_of (map release_in qs) → Distinct (map number_of qs)
+pub numbers_differ : (qs : List Proved) → RiseBy proofs.arrival_number (map release_in qs) → Distinct (map number_of qs)
 numbers_differ [] h = tt
 numbers_differ (q ∷ qs) h = (above_numbers q.release.place qs h.0, numbers_differ qs h.1)
 
@@ -48,28 +48,28 @@ order_is : (q : Proved) (x : Placed) → ours q x ≡ true → x.holding.order �
 order_is q x h =
     eqb-true x.holding.order q.release.place (and_parts (x.holding.order == q.release.place) (x.holding.name.interval == q.release.name.interval && x.holding.name.number == q.release.name.number) (and_parts (not x.holding.released) (x.holding.order == q.release.place && (x.holding.name.interval == q.release.name.interval && x.holding.name.number == q.release.name.number)) h).1).0
 
--- two that are proved in one place have one number
-one_number : (q r : Proved) (held : List Placed) → Distinct (map place_of held) → list_any (is_proved_by q) held ≡ true → list_any (is_proved_by r) held ≡ true → r.place.0 ≡ q.place.0 → (r.release.place == q.release.place) ≡ false → ⊥
+-- two that are proved in one slot have one number
+one_number : (q r : Proved) (held : List Placed) → Distinct (map slot_of held) → list_any (is_proved_by q) held ≡ true → list_any (is_proved_by r) held ≡ true → r.place.0 ≡ q.place.0 → (r.release.place == q.release.place) ≡ false → ⊥
 one_number q r held d hq hr same other =
     not_both q.place.0 (ours q) (ours r)
     (λ x a b. both_ways (r.release.place == q.release.place) other (eq-eqb r.release.place q.release.place (sym (order_is r x b) ∙ order_is q x a)))
     held d hq (ap (λ (n : ℕ). list_any (λ x. stands_at n x && ours r x) held) (sym same) ∙ hr)
 
-place_apart : (q : Proved) (qs : List Proved) (held : List Placed) → Distinct (map place_of held) → list_any (is_proved_by q) held ≡ true → AreProved held qs → is_in q.release.place (map number_of qs) ≡ false → is_in q.place.0 (map place_proved qs) ≡ false
-place_apart q [] held d hq h none = refl
-place_apart q (r ∷ rs) held d hq h none =
+slot_apart : (q : Proved) (qs : List Proved) (held : List Placed) → Distinct (map slot_of held) → list_any (is_proved_by q) held ≡ true → AreProved held qs → is_in q.release.place (map number_of qs) ≡ false → is_in q.place.0 (map slot_proved qs) ≡ false
+slot_apart q [] held d hq h none = refl
+slot_apart q (r ∷ rs) held d hq h none =
     let parts = and_parts (list_any (is_proved_by r) held) (list_all (λ k. list_any (is_proved_by k) held) rs) h in
     let first : (r.release.place == q.release.place) ≡ false = false_from_ne_true (r.release.place == q.release.place) (λ e. both_ways (is_in q.release.place (map number_of (r ∷ rs))) none (or_left (r.release.place == q.release.place) (is_in q.release.place (map number_of rs)) e)) in
     let rest : is_in q.release.place (map number_of rs) ≡ false = sym (ap (λ t. t || is_in q.release.place (map number_of rs)) first) ∙ none in
-    or_from (r.place.0 == q.place.0) (is_in q.place.0 (map place_proved rs))
+    or_from (r.place.0 == q.place.0) (is_in q.place.0 (map slot_proved rs))
     (false_from_ne_true (r.place.0 == q.place.0) (λ e. one_number q r held d hq parts.0 (eqb-true r.place.0 q.place.0 e) first))
-    (place_apart q rs held d hq parts.1 rest)
+    (slot_apart q rs held d hq parts.1 rest)
 
-pub places_differ : (qs : List Proved) (held : List Placed) → Distinct (map place_of held) → AreProved held qs → Distinct (map number_of qs) → Distinct (map place_proved qs)
-places_differ [] held d h e = tt
-places_differ (q ∷ qs) held d h e =
+pub slots_differ : (qs : List Proved) (held : List Placed) → Distinct (map slot_of held) → AreProved held qs → Distinct (map number_of qs) → Distinct (map slot_proved qs)
+slots_differ [] held d h e = tt
+slots_differ (q ∷ qs) held d h e =
     let parts = and_parts (list_any (is_proved_by q) held) (list_all (λ k. list_any (is_proved_by k) held) qs) h in
-    (place_apart q qs held d parts.0 parts.1 e.0, places_differ qs held d parts.1 e.1)
+    (slot_apart q qs held d parts.0 parts.1 e.0, slots_differ qs held d parts.1 e.1)
 
 pub proved_permuted : (held : List Placed) (xs ys : List Proved) → IsPermutation xs ys → AreProved held xs → AreProved held ys
 proved_permuted held xs ys e h =

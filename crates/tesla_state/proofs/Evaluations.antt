@@ -25,7 +25,7 @@ use Rattle.tesla_walks.specs.Holding.{Holding}
 use Rattle.tesla_state.specs.State.{State}
 use Rattle.tesla_state.specs.Steps.{bound_at, in_interval, is_named_so, judged_taken, safe_by, new_rows, refused}
 use Rattle.tesla_walks.specs.Tips.{fails, is_newer, tip_at}
-use Rattle.tesla_state.specs.Stored.{Placed, place_of, holding_at, stands_at, is_of, is_unreleased_of}
+use Rattle.tesla_state.specs.Stored.{Placed, slot_of, holding_at, stands_at, is_of, is_unreleased_of}
 use Rattle.tesla_walks.specs.Walking.{Walking, rows_of, left, tried, tries, pairs}
 use Rattle.tesla_state.proofs.Sweeping.{comes}
 use Rattle.tesla_state.proofs.TriedIntervals.{Trying, take_all, take_next}
@@ -63,12 +63,12 @@ sum_unreleased number none (x ∷ xs) i = unreleased_step number x (is_of i x) x
 
 module _ (cfg : Config) (tips : List Tip) (begun : List Walking) (held : List Placed) (i n : ℕ) where
   -- one packet more was tried
-  pub tried_cost : (walks later : List Walking) (place : Place) (before batch : List Proved) (start now after : ℕ) → Distinct (map place_of held) → Trying cfg tips begun walks held i n (Some place) before batch
+  pub tried_cost : (walks later : List Walking) (slot : Place) (before batch : List Proved) (start now after : ℕ) → Distinct (map slot_of held) → Trying cfg tips begun walks held i n (Some slot) before batch
       → now + left tips walks ≤ start + left tips begun + 2 * pairs cfg tips (rows_of begun) (map holding_at (take n (filter (is_unreleased_of i) held)))
-      → ((x : Placed) → find (stands_at place.0) held ≡ Some x → after + left tips later ≤ now + left tips walks + 2 * tries cfg tips (rows_of walks) x.holding)
+      → ((x : Placed) → find (stands_at slot.0) held ≡ Some x → after + left tips later ≤ now + left tips walks + 2 * tries cfg tips (rows_of walks) x.holding)
       → after + left tips later ≤ start + left tips begun + 2 * pairs cfg tips (rows_of begun) (map holding_at (take (n + 1) (filter (is_unreleased_of i) held)))
-  tried_cost walks later place before batch start now after d s so_far cost =
-      let c = comes true i n held place d s.next in
+  tried_cost walks later slot before batch start now after d s so_far cost =
+      let c = comes true i n held slot d s.next in
       let one = subst (λ (rows : List KeyRow). after + left tips later ≤ now + left tips walks + 2 * tries cfg tips rows c.packet.holding) s.rows (cost c.packet c.found) in
       steps_more (start + left tips begun) (now + left tips walks) (after + left tips later) (pairs cfg tips (rows_of begun) (map holding_at (take n (filter (is_unreleased_of i) held)))) (tries cfg tips (rows_of begun) c.packet.holding)
       (pairs cfg tips (rows_of begun) (map holding_at (take (n + 1) (filter (is_unreleased_of i) held)))) so_far one

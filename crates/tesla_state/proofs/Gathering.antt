@@ -16,7 +16,7 @@ use Rattle.tesla_fitting.specs.Config.{chains}
 use Rattle.tesla_fitting.specs.Rows.{is_of}
 use Rattle.tesla_walks.specs.Holding.{Holding}
 use Rattle.tesla_state.specs.Steps.{batch_of, in_interval}
-use Rattle.tesla_walks.specs.Proved.{is_proof_of, matches, proof_of, proves_on, released_on, RiseBy, place_of}
+use Rattle.tesla_walks.specs.Proved.{is_proof_of, matches, proof_of, proves_on, released_on, RiseBy, arrival_number}
 use Rattle.tesla_walks.specs.Tips.{tip_at}
 use Rattle.tesla_clock.specs.Safe.{has_chain}
 use Rattle.tesla_walks.proofs.Tried.{skips_proof}
@@ -30,8 +30,8 @@ permuted : {A : Type 0} (xs ys zs : List A) → ys ≡ zs → IsPermutation xs y
 permuted {A = A} xs ys zs e h = subst (λ (l : List A). IsPermutation xs l) e h
 
 -- the front of the second part goes before the first
-to_front : {A : Type 0} (us fs vs : List A) → IsPermutation (fs ++ (us ++ vs)) (us ++ (fs ++ vs))
-to_front {A = A} us fs vs =
+to_prefix : {A : Type 0} (us fs vs : List A) → IsPermutation (fs ++ (us ++ vs)) (us ++ (fs ++ vs))
+to_prefix {A = A} us fs vs =
     let moved : IsPermutation ((fs ++ us) ++ vs) ((us ++ fs) ++ vs) = IsPermutation-append_left vs (fs ++ us) (us ++ fs) (IsPermutation-append_comm fs us) in
     subst (λ (l : List A). IsPermutation l (us ++ (fs ++ vs))) (append_assoc fs us vs) (permuted ((fs ++ us) ++ vs) ((us ++ fs) ++ vs) (us ++ (fs ++ vs)) (append_assoc us fs vs) moved)
 
@@ -53,7 +53,7 @@ module _ {X A : Type 0} (f : X → List A) where
   part_step true false true one both other x rs ps qs h =
       IsPermutation-trans (f x ++ flat_map f rs) (f x ++ (flat_map f ps ++ flat_map f qs)) (flat_map f ps ++ (f x ++ flat_map f qs))
       (IsPermutation-append_right (f x) (flat_map f rs) (flat_map f ps ++ flat_map f qs) h)
-      (to_front (flat_map f ps) (f x) (flat_map f qs))
+      (to_prefix (flat_map f ps) (f x) (flat_map f qs))
   part_step true false false one both other x rs ps qs h = let e : false ≡ true = other refl refl in absurd (cc)
   part_step false true qx one both other x rs ps qs h = let e : false ≡ true = (one refl).0 in absurd (cc)
   part_step false false true one both other x rs ps qs h = let e : false ≡ true = both refl in absurd (cc)
@@ -188,8 +188,8 @@ own_unless : (taken : Bool) (item : Holding) (told : Option ℕ) → (cond taken
 own_unless true item told = inl refl
 own_unless false item told = own_release item told
 
--- a packet's release is told its place
-pub gives_own : (cfg : Config) (tips : List Tip) (new : List KeyRow) → GivesOwn order_of place_of (proof_of cfg tips new)
+-- a packet's release is told its slot
+pub gives_own : (cfg : Config) (tips : List Tip) (new : List KeyRow) → GivesOwn order_of arrival_number (proof_of cfg tips new)
 gives_own cfg tips new item = own_unless item.released item (find (proves_on cfg tips new item) (chains cfg))
 
 no_chain : (p : ℕ → Bool) → ((c : ℕ) → p c ≡ false) → (xs : List ℕ) → find p xs ≡ None
@@ -221,9 +221,9 @@ proved_not true true any h = h refl
 proved_not true false any h = refl
 proved_not false newer any h = refl
 
-nothing_told : (b : Bool) (item : Holding) (told : Option ℕ) → told ≡ None → cond b [] (released_on item told) ≡ []
-nothing_told true item told e = refl
-nothing_told false item told e = ap (released_on item) e
+nothing_proving : (b : Bool) (item : Holding) (told : Option ℕ) → told ≡ None → cond b [] (released_on item told) ≡ []
+nothing_proving true item told e = refl
+nothing_proving false item told e = ap (released_on item) e
 
 -- new keys prove nothing of an interval that they aren't the first to reach
 pub unreached_unproved : (cfg : Config) (tips : List Tip) (new : List KeyRow) (item : Holding) → is_reached (index_in tips) new item.name.interval ≡ false → proof_of cfg tips new item ≡ []
@@ -232,11 +232,11 @@ unreached_unproved cfg tips new item unreached =
     no_chain (proves_on cfg tips new item)
     (λ c. proved_not (has_chain item.chains c) (nat_lt (tip_at tips c).index item.name.interval) (list_any (is_proof_of cfg item c) new)
     (λ newer. rows_prove_not cfg tips item c newer new unreached)) (chains cfg) in
-    nothing_told item.released item (find (proves_on cfg tips new item) (chains cfg)) none
+    nothing_proving item.released item (find (proves_on cfg tips new item) (chains cfg)) none
 
--- the places of the batch rise
-pub batch_rises : (cfg : Config) (tips : List Tip) (new : List KeyRow) (held : List Holding) → RiseBy order_of held → RiseBy place_of (batch_of cfg tips new held)
-batch_rises cfg tips new held rise = gives_rising order_of place_of (proof_of cfg tips new) (gives_own cfg tips new) held rise
+-- the slots of the batch rise
+pub batch_rises : (cfg : Config) (tips : List Tip) (new : List KeyRow) (held : List Holding) → RiseBy order_of held → RiseBy arrival_number (batch_of cfg tips new held)
+batch_rises cfg tips new held rise = gives_rising order_of arrival_number (proof_of cfg tips new) (gives_own cfg tips new) held rise
 
 -- a part of a list counts for no more than the list
 pub sum_filter : {A : Type 0} (number : A → ℕ) (p : A → Bool) (xs : List A) → sum_by number (filter p xs) ≤ sum_by number xs

@@ -24,7 +24,7 @@ use Rattle.tesla_walks.specs.Holding.{Holding}
 use Rattle.tesla_state.specs.declared.reach.Reach.{Reach}
 use Rattle.tesla_state.specs.Steps.{is_let_go, is_over, is_passed, marked, kept_after, batch_of, released_of}
 use Rattle.tesla_walks.specs.Proved.{proof_of, proves_on, released_on}
-use Rattle.tesla_state.specs.Stored.{Placed, place_of, holding_at, order_of, after_batch, is_idle, in_span, in_reach, AreNeeded}
+use Rattle.tesla_state.specs.Stored.{Placed, slot_of, holding_at, order_of, after_batch, is_idle, in_span, in_reach, AreNeeded}
 use Rattle.tesla_state.proofs.Gathering.{unreached_unproved}
 use Rattle.tesla_state.proofs.UnreachedIntervals.{outside_unreached, reached_by}
 use Rattle.tesla_state.proofs.ReleasedPackets.{flat_same_in, eq_turn}
@@ -291,24 +291,24 @@ module _ (cfg : Config) (tips later : List Tip) (rows : List KeyRow) where
   pub released_none : (held : List Placed) → held ≡ [] → released_of (map holding_at held) (batch_of cfg tips rows (map holding_at held)) ≡ []
   released_none held none = ap (λ (hs : List Placed). released_of (map holding_at hs) (batch_of cfg tips rows (map holding_at hs))) none
 
--- ---- places stay apart
+-- ---- slots stay apart
 
-in_cond : (n : ℕ) (t : Bool) (y : Placed) (rest : List Placed) → (y.place == n) ≡ false → is_in n (map place_of rest) ≡ false → is_in n (map place_of (cond t [] (y ∷ []) ++ rest)) ≡ false
+in_cond : (n : ℕ) (t : Bool) (y : Placed) (rest : List Placed) → (y.place == n) ≡ false → is_in n (map slot_of rest) ≡ false → is_in n (map slot_of (cond t [] (y ∷ []) ++ rest)) ≡ false
 in_cond n true y rest first h = h
-in_cond n false y rest first h = or_from (y.place == n) (is_in n (map place_of rest)) first h
+in_cond n false y rest first h = or_from (y.place == n) (is_in n (map slot_of rest)) first h
 
-none_after : (n : ℕ) (batch now : List Release) (held : List Placed) → is_in n (map place_of held) ≡ false → is_in n (map place_of (flat_map (after_batch batch now) held)) ≡ false
+none_after : (n : ℕ) (batch now : List Release) (held : List Placed) → is_in n (map slot_of held) ≡ false → is_in n (map slot_of (flat_map (after_batch batch now) held)) ≡ false
 none_after n batch now [] h = refl
 none_after n batch now (x ∷ xs) h =
-    let first : (x.place == n) ≡ false = false_from_ne_true (x.place == n) (λ e. both_ways (is_in n (map place_of (x ∷ xs))) h (or_left (x.place == n) (is_in n (map place_of xs)) e)) in
-    let rest : is_in n (map place_of xs) ≡ false = sym (ap (λ t. t || is_in n (map place_of xs)) first) ∙ h in
+    let first : (x.place == n) ≡ false = false_from_ne_true (x.place == n) (λ e. both_ways (is_in n (map slot_of (x ∷ xs))) h (or_left (x.place == n) (is_in n (map slot_of xs)) e)) in
+    let rest : is_in n (map slot_of xs) ≡ false = sym (ap (λ t. t || is_in n (map slot_of xs)) first) ∙ h in
     in_cond n (list_any (is_at x.holding.order) batch && not (list_any (is_at x.holding.order) now)) (record x { holding = marked now x.holding }) (flat_map (after_batch batch now) xs) first (none_after n batch now xs rest)
 
-apart_cond : (t : Bool) (y : Placed) (rest : List Placed) → is_in y.place (map place_of rest) ≡ false → Distinct (map place_of rest) → Distinct (map place_of (cond t [] (y ∷ []) ++ rest))
+apart_cond : (t : Bool) (y : Placed) (rest : List Placed) → is_in y.place (map slot_of rest) ≡ false → Distinct (map slot_of rest) → Distinct (map slot_of (cond t [] (y ∷ []) ++ rest))
 apart_cond true y rest none d = d
 apart_cond false y rest none d = (none, d)
 
-pub apart_after : (batch now : List Release) (held : List Placed) → Distinct (map place_of held) → Distinct (map place_of (flat_map (after_batch batch now) held))
+pub apart_after : (batch now : List Release) (held : List Placed) → Distinct (map slot_of held) → Distinct (map slot_of (flat_map (after_batch batch now) held))
 apart_after batch now [] d = tt
 apart_after batch now (x ∷ xs) d =
     apart_cond (list_any (is_at x.holding.order) batch && not (list_any (is_at x.holding.order) now)) (record x { holding = marked now x.holding }) (flat_map (after_batch batch now) xs) (none_after x.place batch now xs d.0) (apart_after batch now xs d.1)

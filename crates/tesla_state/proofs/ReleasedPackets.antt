@@ -15,10 +15,10 @@ use Rattle.tesla_walks.specs.declared.ordering.Proved.{Proved}
 use Rattle.tesla_walks.specs.declared.release.Release.{Release}
 use Rattle.tesla_state.specs.Releases.{is_at, each_after, has_name, unless_named}
 use Rattle.tesla_state.specs.Steps.{as_release, is_released, released_of, is_named_so, marked}
-use Rattle.tesla_state.specs.Stored.{Placed, Stored, place_of, holding_at, stands_at, is_proved_by, with_released, without, release_of, is_named, after_batch, AreProved, place_proved, order_of, settled_if, released_if, held_then}
+use Rattle.tesla_state.specs.Stored.{Placed, Stored, slot_of, holding_at, stands_at, is_proved_by, with_released, without, release_of, is_named, after_batch, AreProved, slot_proved, order_of, settled_if, released_if, held_then}
 use Rattle.tesla_state.proofs.Named.{same_name}
 use Rattle.tesla_state.proofs.Marked.{any_mapped, any_filtered, map_mapped}
-use Rattle.tesla_state.proofs.Stored.{released_place, distinct_kept, proved_rests, rests_stands}
+use Rattle.tesla_state.proofs.Stored.{released_slot, distinct_kept, proved_rests, rests_stands}
 
 -- ---- one after the other
 
@@ -50,46 +50,46 @@ one_stays : (b : Bool) (p q : Proved) (held : List Placed) → (q.place.0 == p.p
 one_stays true p q held other = any_filtered (is_proved_by q) (λ x. not (stands_at p.place.0 x)) (proved_kept p q other) held
 one_stays false p q held other = any_mapped (is_proved_by q) (is_proved_by q) (with_released p.place.0) (λ x. proved_marked_at p q (stands_at p.place.0 x) x refl other) held
 
-pub rest_proved : (b : Bool) (p : Proved) (ps : List Proved) (held : List Placed) → is_in p.place.0 (map place_proved ps) ≡ false → AreProved held ps → AreProved (settled_if b held p) ps
+pub rest_proved : (b : Bool) (p : Proved) (ps : List Proved) (held : List Placed) → is_in p.place.0 (map slot_proved ps) ≡ false → AreProved held ps → AreProved (settled_if b held p) ps
 rest_proved b p [] held none h = refl
 rest_proved b p (q ∷ qs) held none h =
-    let first : (q.place.0 == p.place.0) ≡ false = false_from_ne_true (q.place.0 == p.place.0) (λ e. both_ways (is_in p.place.0 (map place_proved (q ∷ qs))) none (or_left (q.place.0 == p.place.0) (is_in p.place.0 (map place_proved qs)) e)) in
-    let rest : is_in p.place.0 (map place_proved qs) ≡ false = sym (ap (λ t. t || is_in p.place.0 (map place_proved qs)) first) ∙ none in
+    let first : (q.place.0 == p.place.0) ≡ false = false_from_ne_true (q.place.0 == p.place.0) (λ e. both_ways (is_in p.place.0 (map slot_proved (q ∷ qs))) none (or_left (q.place.0 == p.place.0) (is_in p.place.0 (map slot_proved qs)) e)) in
+    let rest : is_in p.place.0 (map slot_proved qs) ≡ false = sym (ap (λ t. t || is_in p.place.0 (map slot_proved qs)) first) ∙ none in
     let parts = and_parts (list_any (is_proved_by q) held) (list_all (λ k. list_any (is_proved_by k) held) qs) h in
     and_from (list_any (is_proved_by q) (settled_if b held p)) (list_all (λ k. list_any (is_proved_by k) (settled_if b held p)) qs)
     (one_stays b p q held first ∙ parts.0) (rest_proved b p qs held rest parts.1)
 
-distinct_if : (b : Bool) (p : Proved) (held : List Placed) → Distinct (map place_of held) → Distinct (map place_of (settled_if b held p))
+distinct_if : (b : Bool) (p : Proved) (held : List Placed) → Distinct (map slot_of held) → Distinct (map slot_of (settled_if b held p))
 distinct_if true p held d = distinct_kept (λ x. not (stands_at p.place.0 x)) held d
-distinct_if false p held d = subst Distinct (sym (map_mapped place_of (with_released p.place.0) place_of (released_place p.place.0) held)) d
+distinct_if false p held d = subst Distinct (sym (map_mapped slot_of (with_released p.place.0) slot_of (released_slot p.place.0) held)) d
 
--- ---- each place has one packet
+-- ---- each slot has one packet
 
-none_there : (p : ℕ) (f : Placed → Bool) (held : List Placed) → is_in p (map place_of held) ≡ false → list_all (λ x. not (stands_at p x) || f x) held ≡ true
+none_there : (p : ℕ) (f : Placed → Bool) (held : List Placed) → is_in p (map slot_of held) ≡ false → list_all (λ x. not (stands_at p x) || f x) held ≡ true
 none_there p f [] h = refl
 none_there p f (x ∷ xs) h =
-    let first : (x.place == p) ≡ false = false_from_ne_true (x.place == p) (λ e. both_ways (is_in p (map place_of (x ∷ xs))) h (or_left (x.place == p) (is_in p (map place_of xs)) e)) in
-    let rest : is_in p (map place_of xs) ≡ false = sym (ap (λ t. t || is_in p (map place_of xs)) first) ∙ h in
+    let first : (x.place == p) ≡ false = false_from_ne_true (x.place == p) (λ e. both_ways (is_in p (map slot_of (x ∷ xs))) h (or_left (x.place == p) (is_in p (map slot_of xs)) e)) in
+    let rest : is_in p (map slot_of xs) ≡ false = sym (ap (λ t. t || is_in p (map slot_of xs)) first) ∙ h in
     and_from (not (stands_at p x) || f x) (list_all (λ y. not (stands_at p y) || f y) xs) (ap (λ t. not t || f x) first) (none_there p f xs rest)
 
-is_there : (p : ℕ) (f : Placed → Bool) (held : List Placed) → list_any (λ x. stands_at p x && f x) held ≡ true → is_in p (map place_of held) ≡ true
+is_there : (p : ℕ) (f : Placed → Bool) (held : List Placed) → list_any (λ x. stands_at p x && f x) held ≡ true → is_in p (map slot_of held) ≡ true
 is_there p f [] h = absurd (cc)
 is_there p f (x ∷ xs) h =
     ⊎_elim
-    (λ e. or_left (x.place == p) (is_in p (map place_of xs)) (and_parts (x.place == p) (f x) e).0)
-    (λ e. or_right (x.place == p) (is_in p (map place_of xs)) (is_there p f xs e))
+    (λ e. or_left (x.place == p) (is_in p (map slot_of xs)) (and_parts (x.place == p) (f x) e).0)
+    (λ e. or_right (x.place == p) (is_in p (map slot_of xs)) (is_there p f xs e))
     (or_cases (stands_at p x && f x) (list_any (λ y. stands_at p y && f y) xs) h)
 
--- what one packet in a place passes, each there passes
-pub only_at : (p : ℕ) (f : Placed → Bool) (held : List Placed) → Distinct (map place_of held) → list_any (λ x. stands_at p x && f x) held ≡ true → list_all (λ x. not (stands_at p x) || f x) held ≡ true
+-- what one packet in a slot passes, each there passes
+pub only_at : (p : ℕ) (f : Placed → Bool) (held : List Placed) → Distinct (map slot_of held) → list_any (λ x. stands_at p x && f x) held ≡ true → list_all (λ x. not (stands_at p x) || f x) held ≡ true
 only_at p f [] d h = refl
 only_at p f (x ∷ xs) d h =
     ⊎_elim
     (λ e. let parts = and_parts (stands_at p x) (f x) e in
     and_from (not (stands_at p x) || f x) (list_all (λ y. not (stands_at p y) || f y) xs) (or_right (not (stands_at p x)) (f x) parts.1)
-    (none_there p f xs (ap (λ (n : ℕ). is_in n (map place_of xs)) (sym (eqb-true x.place p parts.0)) ∙ d.0)))
+    (none_there p f xs (ap (λ (n : ℕ). is_in n (map slot_of xs)) (sym (eqb-true x.place p parts.0)) ∙ d.0)))
     (λ e. and_from (not (stands_at p x) || f x) (list_all (λ y. not (stands_at p y) || f y) xs)
-    (or_left (not (stands_at p x)) (f x) (not_from_false (stands_at p x) (false_from_ne_true (stands_at p x) (λ k. both_ways (is_in x.place (map place_of xs)) d.0 (ap (λ (n : ℕ). is_in n (map place_of xs)) (eqb-true x.place p k) ∙ is_there p f xs e)))))
+    (or_left (not (stands_at p x)) (f x) (not_from_false (stands_at p x) (false_from_ne_true (stands_at p x) (λ k. both_ways (is_in x.place (map slot_of xs)) d.0 (ap (λ (n : ℕ). is_in n (map slot_of xs)) (eqb-true x.place p k) ∙ is_there p f xs e)))))
     (only_at p f xs d.1 e))
     (or_cases (stands_at p x && f x) (list_any (λ y. stands_at p y && f y) xs) h)
 
@@ -173,7 +173,7 @@ weaker_there p n x h =
     (or_cases (not (stands_at p.place.0 x)) (is_of_release p x) h)
 
 -- the names after one is settled
-agree_then : (p : Proved) (before : List Release) (held : List Placed) → Distinct (map place_of held) → list_any (is_proved_by p) held ≡ true → Agree before held → Agree (before ++ p.release ∷ []) (held_then held p)
+agree_then : (p : Proved) (before : List Release) (held : List Placed) → Distinct (map slot_of held) → list_any (is_proved_by p) held ≡ true → Agree before held → Agree (before ++ p.release ∷ []) (held_then held p)
 agree_then p before held d h agree n =
     let there = only_at p.place.0 (is_of_release p) held d h in
     let a : Bool = list_any (has_name n) before in
@@ -194,7 +194,7 @@ map_if true p rest = refl
 map_if false p rest = refl
 
 -- the first of each name is released
-pub out_released : (batch : List Proved) (before : List Release) (held : List Placed) → Distinct (map place_of held) → AreProved held batch → Distinct (map place_proved batch) → Agree before held → map release_of (out_of held batch) ≡ each_after unless_named before (map release_of batch)
+pub out_released : (batch : List Proved) (before : List Release) (held : List Placed) → Distinct (map slot_of held) → AreProved held batch → Distinct (map slot_proved batch) → Agree before held → map release_of (out_of held batch) ≡ each_after unless_named before (map release_of batch)
 out_released [] before held d h e agree = refl
 out_released (p ∷ ps) before held d h e agree =
     let parts = and_parts (list_any (is_proved_by p) held) (list_all (λ k. list_any (is_proved_by k) held) ps) h in
@@ -207,12 +207,12 @@ out_released (p ∷ ps) before held d h e agree =
 -- ---- what stays
 
 abbrev pub any_there : Placed → List Proved → Bool
-any_there x batch = is_in x.place (map place_proved batch)
+any_there x batch = is_in x.place (map slot_proved batch)
 
 abbrev released_now : Placed → Placed
 released_now x = record x { holding = record x.holding { released = true } }
 
--- a packet once the batch is settled, by its place
+-- a packet once the batch is settled, by its slot
 abbrev pub settled_by : List Proved → List Proved → Placed → List Placed
 settled_by batch out x = if any_there x batch && not (any_there x out) then [] else (if any_there x out then released_now x else x) ∷ []
 
@@ -232,29 +232,29 @@ flat_unit : (xs : List Placed) → flat_map (λ x. x ∷ []) xs ≡ xs
 flat_unit [] = refl
 flat_unit (x ∷ xs) = ap (λ ys. x ∷ ys) (flat_unit xs)
 
-none_if : (n : ℕ) (t : Bool) (p : Proved) (rest : List Proved) → (p.place.0 == n) ≡ false → is_in n (map place_proved rest) ≡ false → is_in n (map place_proved (released_if t p ++ rest)) ≡ false
+none_if : (n : ℕ) (t : Bool) (p : Proved) (rest : List Proved) → (p.place.0 == n) ≡ false → is_in n (map slot_proved rest) ≡ false → is_in n (map slot_proved (released_if t p ++ rest)) ≡ false
 none_if n true p rest first h = h
-none_if n false p rest first h = ap (λ t. t || is_in n (map place_proved rest)) first ∙ h
+none_if n false p rest first h = ap (λ t. t || is_in n (map slot_proved rest)) first ∙ h
 
-none_out : (n : ℕ) (batch : List Proved) (held : List Placed) → is_in n (map place_proved batch) ≡ false → is_in n (map place_proved (out_of held batch)) ≡ false
+none_out : (n : ℕ) (batch : List Proved) (held : List Placed) → is_in n (map slot_proved batch) ≡ false → is_in n (map slot_proved (out_of held batch)) ≡ false
 none_out n [] held h = refl
 none_out n (p ∷ ps) held h =
-    let first : (p.place.0 == n) ≡ false = false_from_ne_true (p.place.0 == n) (λ e. both_ways (is_in n (map place_proved (p ∷ ps))) h (or_left (p.place.0 == n) (is_in n (map place_proved ps)) e)) in
-    let rest : is_in n (map place_proved ps) ≡ false = sym (ap (λ t. t || is_in n (map place_proved ps)) first) ∙ h in
+    let first : (p.place.0 == n) ≡ false = false_from_ne_true (p.place.0 == n) (λ e. both_ways (is_in n (map slot_proved (p ∷ ps))) h (or_left (p.place.0 == n) (is_in n (map slot_proved ps)) e)) in
+    let rest : is_in n (map slot_proved ps) ≡ false = sym (ap (λ t. t || is_in n (map slot_proved ps)) first) ∙ h in
     none_if n (is_named held p.release.name) p (out_of (held_then held p) ps) first (none_out n ps (held_then held p) rest)
 
--- a packet in another place, or in that of the first of the batch
-gone_there : (p : Proved) (ps out : List Proved) (x : Placed) (b : Bool) → (p.place.0 == x.place) ≡ b → is_in p.place.0 (map place_proved ps) ≡ false → is_in p.place.0 (map place_proved out) ≡ false → cond (not b) (settled_by ps out x) [] ≡ settled_by (p ∷ ps) out x
+-- a packet in another slot, or in that of the first of the batch
+gone_there : (p : Proved) (ps out : List Proved) (x : Placed) (b : Bool) → (p.place.0 == x.place) ≡ b → is_in p.place.0 (map slot_proved ps) ≡ false → is_in p.place.0 (map slot_proved out) ≡ false → cond (not b) (settled_by ps out x) [] ≡ settled_by (p ∷ ps) out x
 gone_there p ps out x true e none unheard =
-    let none_here : any_there x out ≡ false = ap (λ (n : ℕ). is_in n (map place_proved out)) (sym (eqb-true p.place.0 x.place e)) ∙ unheard in
+    let none_here : any_there x out ≡ false = ap (λ (n : ℕ). is_in n (map slot_proved out)) (sym (eqb-true p.place.0 x.place e)) ∙ unheard in
     sym (ap (λ t. cond ((t || any_there x ps) && not (any_there x out)) [] (cond (any_there x out) (released_now x) x ∷ [])) e
     ∙ ap (λ t. cond (not t) [] (cond t (released_now x) x ∷ [])) none_here)
 gone_there p ps out x false e none unheard = sym (ap (λ t. cond ((t || any_there x ps) && not (any_there x out)) [] (cond (any_there x out) (released_now x) x ∷ [])) e)
 
-marked_there : (p : Proved) (ps out : List Proved) (x : Placed) (b : Bool) → (p.place.0 == x.place) ≡ b → is_in p.place.0 (map place_proved ps) ≡ false → is_in p.place.0 (map place_proved out) ≡ false → settled_by ps out (cond b (released_now x) x) ≡ settled_by (p ∷ ps) (p ∷ out) x
+marked_there : (p : Proved) (ps out : List Proved) (x : Placed) (b : Bool) → (p.place.0 == x.place) ≡ b → is_in p.place.0 (map slot_proved ps) ≡ false → is_in p.place.0 (map slot_proved out) ≡ false → settled_by ps out (cond b (released_now x) x) ≡ settled_by (p ∷ ps) (p ∷ out) x
 marked_there p ps out x true e none unheard =
-    let none_here : any_there x out ≡ false = ap (λ (n : ℕ). is_in n (map place_proved out)) (sym (eqb-true p.place.0 x.place e)) ∙ unheard in
-    let none_left : any_there x ps ≡ false = ap (λ (n : ℕ). is_in n (map place_proved ps)) (sym (eqb-true p.place.0 x.place e)) ∙ none in
+    let none_here : any_there x out ≡ false = ap (λ (n : ℕ). is_in n (map slot_proved out)) (sym (eqb-true p.place.0 x.place e)) ∙ unheard in
+    let none_left : any_there x ps ≡ false = ap (λ (n : ℕ). is_in n (map slot_proved ps)) (sym (eqb-true p.place.0 x.place e)) ∙ none in
     ap (λ t. cond (t && not (any_there x out)) [] (cond (any_there x out) (released_now x) (released_now x) ∷ [])) none_left
     ∙ ap (λ t. cond t (released_now x) (released_now x) ∷ []) none_here
     ∙ sym (ap (λ t. cond ((t || any_there x ps) && not (t || any_there x out)) [] (cond (t || any_there x out) (released_now x) x ∷ [])) e)
@@ -264,7 +264,7 @@ marked_there p ps out x false e none unheard =
 pub eq_turn : (a b : ℕ) → (a == b) ≡ (b == a)
 eq_turn a b = ⊎_elim (λ e. e ∙ sym (eq-eqb b a (sym (eqb-true a b e)))) (λ e. e ∙ sym (ne_eqb b a (λ k. both_ways (a == b) e (eq-eqb a b (sym k))))) (cases_Bool (a == b))
 
-kept_if : (t : Bool) (p : Proved) (ps out : List Proved) (held : List Placed) → is_in p.place.0 (map place_proved ps) ≡ false → is_in p.place.0 (map place_proved out) ≡ false → flat_map (settled_by ps out) (settled_if t held p) ≡ flat_map (settled_by (p ∷ ps) (released_if t p ++ out)) held
+kept_if : (t : Bool) (p : Proved) (ps out : List Proved) (held : List Placed) → is_in p.place.0 (map slot_proved ps) ≡ false → is_in p.place.0 (map slot_proved out) ≡ false → flat_map (settled_by ps out) (settled_if t held p) ≡ flat_map (settled_by (p ∷ ps) (released_if t p ++ out)) held
 kept_if true p ps out held none unheard =
     flat_filtered (settled_by ps out) (λ x. not (stands_at p.place.0 x)) held
     ∙ flat_same (λ x. cond (not (stands_at p.place.0 x)) (settled_by ps out x) []) (settled_by (p ∷ ps) out) (λ x. gone_there p ps out x (stands_at p.place.0 x) (eq_turn p.place.0 x.place) none unheard) held
@@ -272,7 +272,7 @@ kept_if false p ps out held none unheard =
     flat_map-map (settled_by ps out) (with_released p.place.0) held
     ∙ flat_same (λ x. settled_by ps out (with_released p.place.0 x)) (settled_by (p ∷ ps) (p ∷ out)) (λ x. marked_there p ps out x (stands_at p.place.0 x) (eq_turn p.place.0 x.place) none unheard) held
 
-pub held_settled : (batch : List Proved) (held : List Placed) → Distinct (map place_proved batch) → held_all held batch ≡ flat_map (settled_by batch (out_of held batch)) held
+pub held_settled : (batch : List Proved) (held : List Placed) → Distinct (map slot_proved batch) → held_all held batch ≡ flat_map (settled_by batch (out_of held batch)) held
 held_settled [] held e = sym (flat_unit held)
 held_settled (p ∷ ps) held e =
     let t : Bool = is_named held p.release.name in
@@ -304,10 +304,10 @@ tell_false q x a b = ap (λ t. same_bool t (q.release.place == x.holding.order))
 tell_true : (q : Proved) (x : Placed) → (x.place == q.place.0) ≡ true → (x.holding.order == q.release.place) ≡ true → tell_same q x ≡ true
 tell_true q x a b = ap (λ t. same_bool t (q.release.place == x.holding.order)) (eq_turn q.place.0 x.place ∙ a) ∙ ap (λ t. same_bool true t) (eq_turn q.release.place x.holding.order ∙ b)
 
-tell_none : (q : Proved) (held : List Placed) → is_in q.place.0 (map place_of held) ≡ false → is_in q.release.place (map order_of held) ≡ false → list_all (tell_same q) held ≡ true
+tell_none : (q : Proved) (held : List Placed) → is_in q.place.0 (map slot_of held) ≡ false → is_in q.release.place (map order_of held) ≡ false → list_all (tell_same q) held ≡ true
 tell_none q [] a b = refl
 tell_none q (x ∷ xs) a b =
-    let u = not_in_head q.place.0 x.place (map place_of xs) a in
+    let u = not_in_head q.place.0 x.place (map slot_of xs) a in
     let v = not_in_head q.release.place x.holding.order (map order_of xs) b in
     and_from (tell_same q x) (list_all (tell_same q) xs) (tell_false q x u.0 v.0) (tell_none q xs u.1 v.1)
 
@@ -323,16 +323,16 @@ has_order q (x ∷ xs) h =
     (λ e. or_right (x.holding.order == q.release.place) (is_in q.release.place (map order_of xs)) (has_order q xs e))
     (or_cases (is_proved_by q x) (list_any (is_proved_by q) xs) h)
 
-tell_all : (q : Proved) (held : List Placed) → Distinct (map place_of held) → Distinct (map order_of held) → list_any (is_proved_by q) held ≡ true → list_all (tell_same q) held ≡ true
+tell_all : (q : Proved) (held : List Placed) → Distinct (map slot_of held) → Distinct (map order_of held) → list_any (is_proved_by q) held ≡ true → list_all (tell_same q) held ≡ true
 tell_all q [] d o h = refl
 tell_all q (x ∷ xs) d o h =
     ⊎_elim
     (λ e. let parts = and_parts (stands_at q.place.0 x) (is_of_release q x) e in
     let order = order_there q x parts.1 in
     and_from (tell_same q x) (list_all (tell_same q) xs) (tell_true q x parts.0 order)
-    (tell_none q xs (ap (λ (n : ℕ). is_in n (map place_of xs)) (sym (eqb-true x.place q.place.0 parts.0)) ∙ d.0) (ap (λ (n : ℕ). is_in n (map order_of xs)) (sym (eqb-true x.holding.order q.release.place order)) ∙ o.0)))
+    (tell_none q xs (ap (λ (n : ℕ). is_in n (map slot_of xs)) (sym (eqb-true x.place q.place.0 parts.0)) ∙ d.0) (ap (λ (n : ℕ). is_in n (map order_of xs)) (sym (eqb-true x.holding.order q.release.place order)) ∙ o.0)))
     (λ e. and_from (tell_same q x) (list_all (tell_same q) xs)
-    (tell_false q x (head_other q.place.0 x.place (map place_of xs) d.0 (is_there q.place.0 (is_of_release q) xs e)) (head_other q.release.place x.holding.order (map order_of xs) o.0 (has_order q xs e)))
+    (tell_false q x (head_other q.place.0 x.place (map slot_of xs) d.0 (is_there q.place.0 (is_of_release q) xs e)) (head_other q.release.place x.holding.order (map order_of xs) o.0 (has_order q xs e)))
     (tell_all q xs d.1 o.1 e))
     (or_cases (is_proved_by q x) (list_any (is_proved_by q) xs) h)
 
@@ -343,7 +343,7 @@ all_swap f xs (y ∷ ys) h =
     (list_all_weaker (λ a. list_all (f a) (y ∷ ys)) (λ a. f a y) xs (λ a e. (and_parts (f a y) (list_all (f a) ys) e).0) h)
     (all_swap f xs ys (list_all_weaker (λ a. list_all (f a) (y ∷ ys)) (λ a. list_all (f a) ys) xs (λ a e. (and_parts (f a y) (list_all (f a) ys) e).1) h))
 
-all_tell : (batch : List Proved) (held : List Placed) → Distinct (map place_of held) → Distinct (map order_of held) → AreProved held batch → list_all (λ x. list_all (λ q. tell_same q x) batch) held ≡ true
+all_tell : (batch : List Proved) (held : List Placed) → Distinct (map slot_of held) → Distinct (map order_of held) → AreProved held batch → list_all (λ x. list_all (λ q. tell_same q x) batch) held ≡ true
 all_tell batch held d o h = all_swap tell_same batch held (list_all_weaker (λ q. list_any (is_proved_by q) held) (λ q. list_all (tell_same q) held) batch (λ q e. tell_all q held d o e) h)
 
 any_tell : (x : Placed) (batch : List Proved) → list_all (λ q. tell_same q x) batch ≡ true → any_there x batch ≡ list_any (is_at x.holding.order) (map release_of batch)
@@ -398,10 +398,10 @@ agree_first held n =
 
 -- ---- all of a batch
 
-pub waiting_all : (batch : List Proved) (held : List Placed) → Distinct (map place_of held) → AreProved held batch → Distinct (map place_proved batch) → map release_of (out_of held batch) ≡ released_of (map holding_at held) (map release_of batch)
+pub waiting_all : (batch : List Proved) (held : List Placed) → Distinct (map slot_of held) → AreProved held batch → Distinct (map slot_proved batch) → map release_of (out_of held batch) ≡ released_of (map holding_at held) (map release_of batch)
 waiting_all batch held d h e = out_released batch (map as_release (filter is_released (map holding_at held))) held d h e (agree_first held)
 
-pub held_all_is : (batch : List Proved) (held : List Placed) → Distinct (map place_of held) → Distinct (map order_of held) → AreProved held batch → Distinct (map place_proved batch) → held_all held batch ≡ flat_map (after_batch (map release_of batch) (released_of (map holding_at held) (map release_of batch))) held
+pub held_all_is : (batch : List Proved) (held : List Placed) → Distinct (map slot_of held) → Distinct (map order_of held) → AreProved held batch → Distinct (map slot_proved batch) → held_all held batch ≡ flat_map (after_batch (map release_of batch) (released_of (map holding_at held) (map release_of batch))) held
 held_all_is batch held d o h e =
     held_settled batch held e
     ∙ flat_same_in (settled_by batch (out_of held batch)) (after_batch (map release_of batch) (map release_of (out_of held batch))) (λ x. list_all (λ q. tell_same q x) batch)
@@ -422,7 +422,7 @@ pub record Settling (old new : Stored) (batch : List Proved) (n : ℕ) : Type 0 
   pub held : held_all new.held (drop n batch) ≡ held_all old.held batch
   pub waiting : new.waiting ++ map release_of (out_of new.held (drop n batch)) ≡ old.waiting ++ map release_of (out_of old.held batch)
   pub proved : AreProved new.held (drop n batch)
-  pub places : Distinct (map place_proved (drop n batch))
+  pub slots : Distinct (map slot_proved (drop n batch))
 
 pub settling_more : (old new next : Stored) (batch : List Proved) (n : ℕ) (p : Proved) → Settling old new batch n → n < length batch → p ≡ get_or batch n p → next.capacity ≡ new.capacity → next.reserved ≡ new.reserved → next.chains ≡ new.chains → next.given ≡ new.given → next.held ≡ held_then new.held p → next.waiting ≡ new.waiting ++ map release_of (released_if (is_named new.held p.release.name) p) → Settling old next batch (n + 1)
 settling_more old new next batch n p s within is capacity reserved chains given held waiting =
@@ -431,7 +431,7 @@ settling_more old new next batch n p s within is capacity reserved chains given 
     let next_is : suc n ≡ n + 1 = omega arith in
     let parts : drop n batch ≡ p ∷ rest = drop-cons batch n p within ∙ ap (λ q. q ∷ drop (suc n) batch) (sym is) ∙ ap (λ (k : ℕ). p ∷ drop k batch) next_is in
     let proved = and_parts (list_any (is_proved_by p) new.held) (list_all (λ k. list_any (is_proved_by k) new.held) rest) (ap (λ qs. list_all (λ k. list_any (is_proved_by k) new.held) qs) (sym parts) ∙ s.proved) in
-    let places = subst (λ qs. Distinct (map place_proved qs)) parts s.places in
+    let slots = subst (λ qs. Distinct (map slot_proved qs)) parts s.slots in
     record {
       within = omega arith;
       capacity = capacity ∙ s.capacity;
@@ -445,8 +445,8 @@ settling_more old new next batch n p s within is capacity reserved chains given 
           ∙ ap (λ rs. new.waiting ++ rs) (sym (map-append_released (released_if t p) (out_of (held_then new.held p) rest)))
           ∙ ap (λ qs. new.waiting ++ map release_of (out_of new.held qs)) (sym parts)
           ∙ s.waiting;
-      proved = ap (λ h. list_all (λ k. list_any (is_proved_by k) h) rest) held ∙ rest_proved t p rest new.held places.0 proved.1;
-      places = places.1;
+      proved = ap (λ h. list_all (λ k. list_any (is_proved_by k) h) rest) held ∙ rest_proved t p rest new.held slots.0 proved.1;
+      slots = slots.1;
     }
 
 pub next_proved : (old new : Stored) (batch : List Proved) (n : ℕ) (p : Proved) → Settling old new batch n → n < length batch → p ≡ get_or batch n p → list_any (is_proved_by p) new.held ≡ true
@@ -454,8 +454,8 @@ next_proved old new batch n p s within is =
     let parts : drop n batch ≡ p ∷ drop (suc n) batch = drop-cons batch n p within ∙ ap (λ q. q ∷ drop (suc n) batch) (sym is) in
     (and_parts (list_any (is_proved_by p) new.held) (list_all (λ k. list_any (is_proved_by k) new.held) (drop (suc n) batch)) (ap (λ qs. list_all (λ k. list_any (is_proved_by k) new.held) qs) (sym parts) ∙ s.proved)).0
 
-pub settling_none : (old : Stored) (batch : List Proved) → AreProved old.held batch → Distinct (map place_proved batch) → Settling old old batch 0
-settling_none old batch h e = record { within = omega arith; capacity = refl; reserved = refl; chains = refl; given = refl; held = refl; waiting = refl; proved = h; places = e }
+pub settling_none : (old : Stored) (batch : List Proved) → AreProved old.held batch → Distinct (map slot_proved batch) → Settling old old batch 0
+settling_none old batch h e = record { within = omega arith; capacity = refl; reserved = refl; chains = refl; given = refl; held = refl; waiting = refl; proved = h; slots = e }
 
 pub settling_all : (old new : Stored) (batch : List Proved) (n : ℕ) → Settling old new batch n → length batch ≤ n → (new.held ≡ held_all old.held batch) × (new.waiting ≡ old.waiting ++ map release_of (out_of old.held batch))
 settling_all old new batch n s h =

@@ -1,4 +1,4 @@
--- Packets in their places, through a mark or a removal.
+-- Packets in their slots, through a mark or a removal.
 use Rattle.std.proofs.Common.{◌≡◌, ℕ, ◌+◌, ◌<◌, ◌≤◌, Bool, true, false, cond, ◌&&◌, ◌||◌, List, [], ◌∷◌, ◌++◌, length, map, take, Option, Some, None, refl, sym, ap, subst, ⊎_elim, ◌∙◌, arith, ◌==◌}
 use Rattle.std.specs.Prelude.{not, find, option_map, All}
 use Rattle.std.specs.List.{list_any, list_all, filter}
@@ -23,60 +23,60 @@ use Rattle.tesla_walks.specs.declared.ordering.Proved.{Proved}
 use Rattle.tesla_walks.specs.declared.release.Release.{Release}
 use Rattle.tesla_walks.specs.ItemShown.{holding_in, IsFilled, IsItem}
 use Rattle.tesla_walks.specs.Holding.{Holding}
-use Rattle.tesla_state.specs.Stored.{Placed, placed_in, place_of, stands_at, release_by, release_in, waits, waits_at, rests_at, is_sound, is_proved_by, with_released, without, place_in, IsStored, IsStore, IsItemOf, is_of, first_place, next_place, is_unreleased_at, is_unreleased_of, next_unreleased}
+use Rattle.tesla_state.specs.Stored.{Placed, placed_in, slot_of, stands_at, release_by, release_in, waits, waits_at, rests_at, is_sound, is_proved_by, with_released, without, slot_in, IsStored, IsStore, IsItemOf, is_of, first_slot, next_slot, is_unreleased_at, is_unreleased_of, next_unreleased}
 use Rattle.tesla_state.proofs.Marked.{any_mapped, all_mapped, map_mapped, find_mapped, any_filtered, find_filtered, any_with_all, any_weaker}
 
--- ---- places that differ
+-- ---- slots that differ
 
-at_place : (p : ℕ) (f : Placed → Bool) (held : List Placed) → list_any (λ x. stands_at p x && f x) held ≡ true → is_in p (map place_of held) ≡ true
-at_place p f [] h = absurd (cc)
-at_place p f (x ∷ xs) h =
+at_slot : (p : ℕ) (f : Placed → Bool) (held : List Placed) → list_any (λ x. stands_at p x && f x) held ≡ true → is_in p (map slot_of held) ≡ true
+at_slot p f [] h = absurd (cc)
+at_slot p f (x ∷ xs) h =
     ⊎_elim
-    (λ e. or_left (x.place == p) (is_in p (map place_of xs)) (and_parts (x.place == p) (f x) e).0)
-    (λ e. or_right (x.place == p) (is_in p (map place_of xs)) (at_place p f xs e))
+    (λ e. or_left (x.place == p) (is_in p (map slot_of xs)) (and_parts (x.place == p) (f x) e).0)
+    (λ e. or_right (x.place == p) (is_in p (map slot_of xs)) (at_slot p f xs e))
     (or_cases (stands_at p x && f x) (list_any (λ y. stands_at p y && f y) xs) h)
 
-apart : (p : ℕ) (x : Placed) (xs : List Placed) → is_in x.place (map place_of xs) ≡ false → (x.place == p) ≡ true → is_in p (map place_of xs) ≡ true → ⊥
+apart : (p : ℕ) (x : Placed) (xs : List Placed) → is_in x.place (map slot_of xs) ≡ false → (x.place == p) ≡ true → is_in p (map slot_of xs) ≡ true → ⊥
 apart p x xs none here there =
-    both_ways (is_in x.place (map place_of xs)) none (ap (λ (n : ℕ). is_in n (map place_of xs)) (eqb-true x.place p here) ∙ there)
+    both_ways (is_in x.place (map slot_of xs)) none (ap (λ (n : ℕ). is_in n (map slot_of xs)) (eqb-true x.place p here) ∙ there)
 
--- one place doesn't have packets of two kinds
-pub not_both : (p : ℕ) (f g : Placed → Bool) → ((x : Placed) → f x ≡ true → g x ≡ true → ⊥) → (held : List Placed) → Distinct (map place_of held) → list_any (λ x. stands_at p x && f x) held ≡ true → list_any (λ x. stands_at p x && g x) held ≡ true → ⊥
+-- one slot doesn't have packets of two kinds
+pub not_both : (p : ℕ) (f g : Placed → Bool) → ((x : Placed) → f x ≡ true → g x ≡ true → ⊥) → (held : List Placed) → Distinct (map slot_of held) → list_any (λ x. stands_at p x && f x) held ≡ true → list_any (λ x. stands_at p x && g x) held ≡ true → ⊥
 not_both p f g clash [] d a b = absurd (cc)
 not_both p f g clash (x ∷ xs) d a b =
     ⊎_elim
     (λ e. let u = and_parts (stands_at p x) (f x) e in
     ⊎_elim
     (λ k. clash x u.1 (and_parts (stands_at p x) (g x) k).1)
-    (λ k. apart p x xs d.0 u.0 (at_place p g xs k))
+    (λ k. apart p x xs d.0 u.0 (at_slot p g xs k))
     (or_cases (stands_at p x && g x) (list_any (λ y. stands_at p y && g y) xs) b))
     (λ e. ⊎_elim
-    (λ k. apart p x xs d.0 (and_parts (stands_at p x) (g x) k).0 (at_place p f xs e))
+    (λ k. apart p x xs d.0 (and_parts (stands_at p x) (g x) k).0 (at_slot p f xs e))
     (λ k. not_both p f g clash xs d.1 e k)
     (or_cases (stands_at p x && g x) (list_any (λ y. stands_at p y && g y) xs) b))
     (or_cases (stands_at p x && f x) (list_any (λ y. stands_at p y && f y) xs) a)
 
-in_kept : (n : ℕ) (keep : Placed → Bool) (held : List Placed) → is_in n (map place_of held) ≡ false → is_in n (map place_of (filter keep held)) ≡ false
+in_kept : (n : ℕ) (keep : Placed → Bool) (held : List Placed) → is_in n (map slot_of held) ≡ false → is_in n (map slot_of (filter keep held)) ≡ false
 in_kept n keep [] h = refl
 in_kept n keep (x ∷ xs) h =
-    let first : (x.place == n) ≡ false = false_from_ne_true (x.place == n) (λ e. both_ways (is_in n (map place_of (x ∷ xs))) h (or_left (x.place == n) (is_in n (map place_of xs)) e)) in
-    let rest : is_in n (map place_of xs) ≡ false = sym (ap (λ t. t || is_in n (map place_of xs)) first) ∙ h in
+    let first : (x.place == n) ≡ false = false_from_ne_true (x.place == n) (λ e. both_ways (is_in n (map slot_of (x ∷ xs))) h (or_left (x.place == n) (is_in n (map slot_of xs)) e)) in
+    let rest : is_in n (map slot_of xs) ≡ false = sym (ap (λ t. t || is_in n (map slot_of xs)) first) ∙ h in
     ⊎_elim
-    (λ e. ap (λ t. is_in n (map place_of (cond t (x ∷ filter keep xs) (filter keep xs)))) e ∙ ap (λ t. t || is_in n (map place_of (filter keep xs))) first ∙ in_kept n keep xs rest)
-    (λ e. ap (λ t. is_in n (map place_of (cond t (x ∷ filter keep xs) (filter keep xs)))) e ∙ in_kept n keep xs rest)
+    (λ e. ap (λ t. is_in n (map slot_of (cond t (x ∷ filter keep xs) (filter keep xs)))) e ∙ ap (λ t. t || is_in n (map slot_of (filter keep xs))) first ∙ in_kept n keep xs rest)
+    (λ e. ap (λ t. is_in n (map slot_of (cond t (x ∷ filter keep xs) (filter keep xs)))) e ∙ in_kept n keep xs rest)
     (cases_Bool (keep x))
 
-pub distinct_kept : (keep : Placed → Bool) (held : List Placed) → Distinct (map place_of held) → Distinct (map place_of (filter keep held))
+pub distinct_kept : (keep : Placed → Bool) (held : List Placed) → Distinct (map slot_of held) → Distinct (map slot_of (filter keep held))
 distinct_kept keep [] d = tt
 distinct_kept keep (x ∷ xs) d =
     ⊎_elim
-    (λ e. subst (λ t. Distinct (map place_of (cond t (x ∷ filter keep xs) (filter keep xs)))) (sym e) (in_kept x.place keep xs d.0, distinct_kept keep xs d.1))
-    (λ e. subst (λ t. Distinct (map place_of (cond t (x ∷ filter keep xs) (filter keep xs)))) (sym e) (distinct_kept keep xs d.1))
+    (λ e. subst (λ t. Distinct (map slot_of (cond t (x ∷ filter keep xs) (filter keep xs)))) (sym e) (in_kept x.place keep xs d.0, distinct_kept keep xs d.1))
+    (λ e. subst (λ t. Distinct (map slot_of (cond t (x ∷ filter keep xs) (filter keep xs)))) (sym e) (distinct_kept keep xs d.1))
     (cases_Bool (keep x))
 
--- so many places that differ, of packets that are held, are as many packets at most
-other_place : (p q : ℕ) → (q == p) ≡ false → (x : Placed) → not (stands_at p x) ≡ false → stands_at q x ≡ false
-other_place p q other x h =
+-- so many slots that differ, of packets that are held, are as many packets at most
+other_slot : (p q : ℕ) → (q == p) ≡ false → (x : Placed) → not (stands_at p x) ≡ false → stands_at q x ≡ false
+other_slot p q other x h =
     ne_eqb x.place q (λ e. both_ways (q == p) other (eq-eqb q p (sym e ∙ eqb-true x.place p (not-false (x.place == p) h))))
 
 pub shorter : (p : ℕ) (held : List Placed) → length (without p held) ≤ length held
@@ -104,36 +104,36 @@ others_stand p (q ∷ qs) held none h =
     let rest : is_in p qs ≡ false = sym (ap (λ t. t || is_in p qs) first) ∙ none in
     let parts = and_parts (list_any (stands_at q) held) (list_all (λ k. list_any (stands_at k) held) qs) h in
     and_from (list_any (stands_at q) (without p held)) (list_all (λ k. list_any (stands_at k) (without p held)) qs)
-    (any_filtered (stands_at q) (λ x. not (stands_at p x)) (other_place p q first) held ∙ parts.0)
+    (any_filtered (stands_at q) (λ x. not (stands_at p x)) (other_slot p q first) held ∙ parts.0)
     (others_stand p qs held rest parts.1)
 
-pub few_places : (ps : List ℕ) (held : List Placed) → Distinct ps → list_all (λ q. list_any (stands_at q) held) ps ≡ true → length ps ≤ length held
-few_places [] held d h = omega arith
-few_places (p ∷ ps) held d h =
+pub few_slots : (ps : List ℕ) (held : List Placed) → Distinct ps → list_all (λ q. list_any (stands_at q) held) ps ≡ true → length ps ≤ length held
+few_slots [] held d h = omega arith
+few_slots (p ∷ ps) held d h =
     let parts = and_parts (list_any (stands_at p) held) (list_all (λ k. list_any (stands_at k) held) ps) h in
     let less = one_less p held parts.0 in
-    let rest = few_places ps (without p held) d.1 (others_stand p ps held d.0 parts.1) in
+    let rest = few_slots ps (without p held) d.1 (others_stand p ps held d.0 parts.1) in
     omega arith
 
 -- ---- what waits
 
--- the place of a packet that doesn't wait isn't among those that wait
-pub rests_apart : (p : ℕ) (held : List Placed) (waiting : List Waiting) → Distinct (map place_of held) → list_any (rests_at p) held ≡ true → list_all (λ entry. list_any (waits_at entry.place.0) held) waiting ≡ true → is_in p (map place_in waiting) ≡ false
+-- the slot of a packet that doesn't wait isn't among those that wait
+pub rests_apart : (p : ℕ) (held : List Placed) (waiting : List Waiting) → Distinct (map slot_of held) → list_any (rests_at p) held ≡ true → list_all (λ entry. list_any (waits_at entry.place.0) held) waiting ≡ true → is_in p (map slot_in waiting) ≡ false
 rests_apart p held [] d r h = refl
 rests_apart p held (w ∷ ws) d r h =
     let parts = and_parts (list_any (waits_at w.place.0) held) (list_all (λ entry. list_any (waits_at entry.place.0) held) ws) h in
     let first : (w.place.0 == p) ≡ false = false_from_ne_true (w.place.0 == p) (λ e.
     not_both p (λ x. not (waits x)) waits (λ x a b. both_ways (waits x) (not-true (waits x) a) b) held d r
     (ap (λ (n : ℕ). list_any (waits_at n) held) (sym (eqb-true w.place.0 p e)) ∙ parts.0)) in
-    ap (λ t. t || is_in p (map place_in ws)) first ∙ rests_apart p held ws d r parts.1
+    ap (λ t. t || is_in p (map slot_in ws)) first ∙ rests_apart p held ws d r parts.1
 
 -- a packet that is released counts among those that wait
-pub releases_kept : (p : ℕ) (held : List Placed) (waiting : List Waiting) → is_in p (map place_in waiting) ≡ false → map (release_in (without p held)) waiting ≡ map (release_in held) waiting
+pub releases_kept : (p : ℕ) (held : List Placed) (waiting : List Waiting) → is_in p (map slot_in waiting) ≡ false → map (release_in (without p held)) waiting ≡ map (release_in held) waiting
 releases_kept p held [] none = refl
 releases_kept p held (w ∷ ws) none =
-    let first : (w.place.0 == p) ≡ false = false_from_ne_true (w.place.0 == p) (λ e. both_ways (is_in p (map place_in (w ∷ ws))) none (or_left (w.place.0 == p) (is_in p (map place_in ws)) e)) in
-    let rest : is_in p (map place_in ws) ≡ false = sym (ap (λ t. t || is_in p (map place_in ws)) first) ∙ none in
-    ap (λ o. release_by w.chain o ∷ map (release_in (without p held)) ws) (find_filtered (stands_at w.place.0) (λ x. not (stands_at p x)) (other_place p w.place.0 first) held)
+    let first : (w.place.0 == p) ≡ false = false_from_ne_true (w.place.0 == p) (λ e. both_ways (is_in p (map slot_in (w ∷ ws))) none (or_left (w.place.0 == p) (is_in p (map slot_in ws)) e)) in
+    let rest : is_in p (map slot_in ws) ≡ false = sym (ap (λ t. t || is_in p (map slot_in ws)) first) ∙ none in
+    ap (λ o. release_by w.chain o ∷ map (release_in (without p held)) ws) (find_filtered (stands_at w.place.0) (λ x. not (stands_at p x)) (other_slot p w.place.0 first) held)
     ∙ ap (λ rs. release_in held w ∷ rs) (releases_kept p held ws rest)
 
 release_marked : (chain : ℕ) (m : Placed → Placed) → ((x : Placed) → release_by chain (Some (m x)) ≡ release_by chain (Some x)) → (o : Option Placed) → release_by chain (option_map m o) ≡ release_by chain o
@@ -151,11 +151,11 @@ found_marked q m same (x ∷ xs) =
     ∙ found_step (x.place == q) m x (find (stands_at q) xs)
 
 pub releases_marked : (m : Placed → Placed) → ((x : Placed) → (m x).place ≡ x.place) → ((chain : ℕ) (x : Placed) → release_by chain (Some (m x)) ≡ release_by chain (Some x)) → (held : List Placed) (waiting : List Waiting) → map (release_in (map m held)) waiting ≡ map (release_in held) waiting
-releases_marked m place same held [] = refl
-releases_marked m place same held (w ∷ ws) =
-    ap (λ o. release_by w.chain o ∷ map (release_in (map m held)) ws) (found_marked w.place.0 m place held)
+releases_marked m slot same held [] = refl
+releases_marked m slot same held (w ∷ ws) =
+    ap (λ o. release_by w.chain o ∷ map (release_in (map m held)) ws) (found_marked w.place.0 m slot held)
     ∙ ap (λ r. r ∷ map (release_in (map m held)) ws) (release_marked w.chain m (same w.chain) (find (stands_at w.place.0) held))
-    ∙ ap (λ rs. release_in held w ∷ rs) (releases_marked m place same held ws)
+    ∙ ap (λ rs. release_in held w ∷ rs) (releases_marked m slot same held ws)
 
 -- ---- what is shown of a buffer's items
 
@@ -176,18 +176,18 @@ released_shown chains p held =
 
 -- ---- the invariant, through each change
 
-pub live_kept : (p : ℕ) (held : List Placed) (waiting : List Waiting) → is_in p (map place_in waiting) ≡ false → list_all (λ entry. list_any (waits_at entry.place.0) held) waiting ≡ true → list_all (λ entry. list_any (waits_at entry.place.0) (without p held)) waiting ≡ true
+pub live_kept : (p : ℕ) (held : List Placed) (waiting : List Waiting) → is_in p (map slot_in waiting) ≡ false → list_all (λ entry. list_any (waits_at entry.place.0) held) waiting ≡ true → list_all (λ entry. list_any (waits_at entry.place.0) (without p held)) waiting ≡ true
 live_kept p held [] none h = refl
 live_kept p held (w ∷ ws) none h =
-    let first : (w.place.0 == p) ≡ false = false_from_ne_true (w.place.0 == p) (λ e. both_ways (is_in p (map place_in (w ∷ ws))) none (or_left (w.place.0 == p) (is_in p (map place_in ws)) e)) in
-    let rest : is_in p (map place_in ws) ≡ false = sym (ap (λ t. t || is_in p (map place_in ws)) first) ∙ none in
+    let first : (w.place.0 == p) ≡ false = false_from_ne_true (w.place.0 == p) (λ e. both_ways (is_in p (map slot_in (w ∷ ws))) none (or_left (w.place.0 == p) (is_in p (map slot_in ws)) e)) in
+    let rest : is_in p (map slot_in ws) ≡ false = sym (ap (λ t. t || is_in p (map slot_in ws)) first) ∙ none in
     let parts = and_parts (list_any (waits_at w.place.0) held) (list_all (λ entry. list_any (waits_at entry.place.0) held) ws) h in
     and_from (list_any (waits_at w.place.0) (without p held)) (list_all (λ entry. list_any (waits_at entry.place.0) (without p held)) ws)
-    (any_filtered (waits_at w.place.0) (λ x. not (stands_at p x)) (λ x e. and_left (stands_at w.place.0 x) (waits x) (other_place p w.place.0 first x e)) held ∙ parts.0)
+    (any_filtered (waits_at w.place.0) (λ x. not (stands_at p x)) (λ x e. and_left (stands_at w.place.0 x) (waits x) (other_slot p w.place.0 first x e)) held ∙ parts.0)
     (live_kept p held ws rest parts.1)
 
 -- a packet goes that no entry waits for
-pub gone_stored : (capacity room p : ℕ) (held : List Placed) (waiting : List Waiting) → IsStored capacity room held waiting → is_in p (map place_in waiting) ≡ false → IsStored capacity room (without p held) waiting
+pub gone_stored : (capacity room p : ℕ) (held : List Placed) (waiting : List Waiting) → IsStored capacity room held waiting → is_in p (map slot_in waiting) ≡ false → IsStored capacity room (without p held) waiting
 gone_stored capacity room p held waiting s none = record {
   few = s.few;
   fits = (let fewer = shorter p held in let fits = s.fits in omega arith);
@@ -217,12 +217,12 @@ distinct_pushed p (x ∷ xs) d h =
     let rest : is_in p xs ≡ false = sym (ap (λ t. t || is_in p xs) first) ∙ h in
     (in_pushed x p xs d.0 (ne_eqb p x (λ e. both_ways (x == p) first (eq-eqb x p (sym e)))), distinct_pushed p xs d.1 rest)
 
-marked_place : (b : Bool) (x : Placed) → (cond b (record x { holding = record x.holding { released = true } }) x).place ≡ x.place
-marked_place true x = refl
-marked_place false x = refl
+marked_slot : (b : Bool) (x : Placed) → (cond b (record x { holding = record x.holding { released = true } }) x).place ≡ x.place
+marked_slot true x = refl
+marked_slot false x = refl
 
-pub released_place : (p : ℕ) (x : Placed) → (with_released p x).place ≡ x.place
-released_place p x = marked_place (x.place == p) x
+pub released_slot : (p : ℕ) (x : Placed) → (with_released p x).place ≡ x.place
+released_slot p x = marked_slot (x.place == p) x
 
 marked_release : (chain : ℕ) (b : Bool) (x : Placed) → release_by chain (Some (cond b (record x { holding = record x.holding { released = true } }) x)) ≡ release_by chain (Some x)
 marked_release chain true x = refl
@@ -267,9 +267,9 @@ proved_rests proved held h = any_weaker (is_proved_by proved) (rests_at proved.p
 pub rests_stands : (p : ℕ) (held : List Placed) → list_any (rests_at p) held ≡ true → list_any (stands_at p) held ≡ true
 rests_stands p held h = any_weaker (rests_at p) (stands_at p) (λ x e. (and_parts (stands_at p x) (not (waits x)) e).0) held h
 
-map-append_places : (waiting : List Waiting) (w : Waiting) → map place_in (waiting ++ w ∷ []) ≡ map place_in waiting ++ w.place.0 ∷ []
-map-append_places [] w = refl
-map-append_places (x ∷ xs) w = ap (λ ys. x.place.0 ∷ ys) (map-append_places xs w)
+map-append_slots : (waiting : List Waiting) (w : Waiting) → map slot_in (waiting ++ w ∷ []) ≡ map slot_in waiting ++ w.place.0 ∷ []
+map-append_slots [] w = refl
+map-append_slots (x ∷ xs) w = ap (λ ys. x.place.0 ∷ ys) (map-append_slots xs w)
 
 pub length-marked : (m : Placed → Placed) (held : List Placed) → length (map m held) ≡ length held
 length-marked m [] = refl
@@ -279,14 +279,14 @@ pub released_stored : (capacity room : ℕ) (proved : Proved) (w : Waiting) (hel
 released_stored capacity room proved w held waiting here s h =
     let p : ℕ = proved.place.0 in
     let m : Placed → Placed = with_released p in
-    let new : is_in w.place.0 (map place_in waiting) ≡ false = ap (λ (n : ℕ). is_in n (map place_in waiting)) here ∙ rests_apart p held waiting s.distinct (proved_rests proved held h) s.live in
+    let new : is_in w.place.0 (map slot_in waiting) ≡ false = ap (λ (n : ℕ). is_in n (map slot_in waiting)) here ∙ rests_apart p held waiting s.distinct (proved_rests proved held h) s.live in
     record {
       few = s.few;
       fits = (let long = length-marked m held in let fits = s.fits in omega arith);
       same = s.same;
-      distinct = subst Distinct (sym (map_mapped place_of m place_of (released_place p) held)) s.distinct;
+      distinct = subst Distinct (sym (map_mapped slot_of m slot_of (released_slot p) held)) s.distinct;
       sound = all_marked is_sound is_sound m (λ x e. marked_sound (x.place == p) x e) held s.sound;
-      once = subst Distinct (sym (map-append_places waiting w)) (distinct_pushed w.place.0 (map place_in waiting) s.once new);
+      once = subst Distinct (sym (map-append_slots waiting w)) (distinct_pushed w.place.0 (map slot_in waiting) s.once new);
       live = list_all_both (λ entry. list_any (waits_at entry.place.0) (map m held)) waiting (w ∷ [])
           (list_all_weaker (λ entry. list_any (waits_at entry.place.0) held) (λ entry. list_any (waits_at entry.place.0) (map m held)) waiting
           (λ entry e. any_marked (waits_at entry.place.0) (waits_at entry.place.0) m (λ x k. marked_waits entry.place.0 (x.place == p) x k) held e) s.live)
@@ -296,31 +296,31 @@ released_stored capacity room proved w held waiting here s h =
           (any_with_all (is_proved_by proved) is_sound (untaken_at p) (untaken proved) held h s.sound)) refl);
     }
 
-length-places : (waiting : List Waiting) → length (map place_in waiting) ≡ length waiting
-length-places [] = refl
-length-places (x ∷ xs) = let rest = length-places xs in omega arith
+length-slots : (waiting : List Waiting) → length (map slot_in waiting) ≡ length waiting
+length-slots [] = refl
+length-slots (x ∷ xs) = let rest = length-slots xs in omega arith
 
-all_places : (held : List Placed) (waiting : List Waiting) → list_all (λ entry. list_any (waits_at entry.place.0) held) waiting ≡ true → list_all (λ q. list_any (stands_at q) held) (map place_in waiting) ≡ true
-all_places held [] h = refl
-all_places held (w ∷ ws) h =
+all_slots : (held : List Placed) (waiting : List Waiting) → list_all (λ entry. list_any (waits_at entry.place.0) held) waiting ≡ true → list_all (λ q. list_any (stands_at q) held) (map slot_in waiting) ≡ true
+all_slots held [] h = refl
+all_slots held (w ∷ ws) h =
     let parts = and_parts (list_any (waits_at w.place.0) held) (list_all (λ entry. list_any (waits_at entry.place.0) held) ws) h in
-    and_from (list_any (stands_at w.place.0) held) (list_all (λ q. list_any (stands_at q) held) (map place_in ws))
-    (any_weaker (waits_at w.place.0) (stands_at w.place.0) (λ x e. (and_parts (stands_at w.place.0 x) (waits x) e).0) held parts.0) (all_places held ws parts.1)
+    and_from (list_any (stands_at w.place.0) held) (list_all (λ q. list_any (stands_at q) held) (map slot_in ws))
+    (any_weaker (waits_at w.place.0) (stands_at w.place.0) (λ x e. (and_parts (stands_at w.place.0 x) (waits x) e).0) held parts.0) (all_slots held ws parts.1)
 
 -- one more can wait than those that do, where a packet doesn't
 pub room_for : (capacity room p : ℕ) (held : List Placed) (waiting : List Waiting) → IsStored capacity room held waiting → list_any (rests_at p) held ≡ true → length waiting < room
 room_for capacity room p held waiting s h =
-    let places : List ℕ = map place_in waiting in
-    let stand : list_all (λ q. list_any (stands_at q) held) places ≡ true =
-    all_places held waiting s.live in
-    let few : length (p ∷ places) ≤ length held = few_places (p ∷ places) held (rests_apart p held waiting s.distinct h s.live, s.once)
-    (and_from (list_any (stands_at p) held) (list_all (λ q. list_any (stands_at q) held) places) (rests_stands p held h) stand) in
-    let long : length places ≡ length waiting = length-places waiting in
+    let slots : List ℕ = map slot_in waiting in
+    let stand : list_all (λ q. list_any (stands_at q) held) slots ≡ true =
+    all_slots held waiting s.live in
+    let few : length (p ∷ slots) ≤ length held = few_slots (p ∷ slots) held (rests_apart p held waiting s.distinct h s.live, s.once)
+    (and_from (list_any (stands_at p) held) (list_all (λ q. list_any (stands_at q) held) slots) (rests_stands p held h) stand) in
+    let long : length slots ≡ length waiting = length-slots waiting in
     let fits = s.fits in
     let same = s.same in
     omega arith
 
--- the packet that is proved is found in its place
+-- the packet that is proved is found in its slot
 abbrev release_of_parts : ℕ → ℕ → ℕ → ℕ → Release
 release_of_parts o i n c = record { place = o; name = record { interval = i; number = n }; chain = record { 0 = c } }
 
@@ -339,12 +339,12 @@ proved_here proved x h =
 stands_proved : (proved : Proved) (x : Placed) → is_proved_by proved x ≡ true → stands_at proved.place.0 x ≡ true
 stands_proved proved x h = (and_parts (stands_at proved.place.0 x) (not x.holding.released && (x.holding.order == proved.release.place && (x.holding.name.interval == proved.release.name.interval && x.holding.name.number == proved.release.name.number))) h).0
 
-pub proved_found : (proved : Proved) (held : List Placed) → Distinct (map place_of held) → list_any (is_proved_by proved) held ≡ true → release_by proved.release.chain.0 (find (stands_at proved.place.0) held) ≡ proved.release
+pub proved_found : (proved : Proved) (held : List Placed) → Distinct (map slot_of held) → list_any (is_proved_by proved) held ≡ true → release_by proved.release.chain.0 (find (stands_at proved.place.0) held) ≡ proved.release
 proved_found proved [] d h = absurd (cc)
 proved_found proved (x ∷ xs) d h =
     ⊎_elim
     (λ e. ap (λ t. release_by proved.release.chain.0 (cond t (Some x) (find (stands_at proved.place.0) xs))) (stands_proved proved x e) ∙ proved_here proved x e)
-    (λ e. let none : stands_at proved.place.0 x ≡ false = false_from_ne_true (stands_at proved.place.0 x) (λ k. apart proved.place.0 x xs d.0 k (at_place proved.place.0 (λ y. not (waits y)) xs (proved_rests proved xs e))) in
+    (λ e. let none : stands_at proved.place.0 x ≡ false = false_from_ne_true (stands_at proved.place.0 x) (λ k. apart proved.place.0 x xs d.0 k (at_slot proved.place.0 (λ y. not (waits y)) xs (proved_rests proved xs e))) in
     ap (λ t. release_by proved.release.chain.0 (cond t (Some x) (find (stands_at proved.place.0) xs))) none ∙ proved_found proved xs d.1 e)
     (or_cases (is_proved_by proved x) (list_any (is_proved_by proved) xs) h)
 
@@ -352,9 +352,9 @@ map-append_releases : (f : Waiting → Release) (waiting : List Waiting) (w : Wa
 map-append_releases f [] w = refl
 map-append_releases f (x ∷ xs) w = ap (λ ys. f x ∷ ys) (map-append_releases f xs w)
 
-pub released_waiting : (proved : Proved) (w : Waiting) (held : List Placed) (waiting : List Waiting) → w ≡ record { place = proved.place; chain = proved.release.chain.0 } → Distinct (map place_of held) → list_any (is_proved_by proved) held ≡ true → map (release_in (map (with_released proved.place.0) held)) (waiting ++ w ∷ []) ≡ map (release_in held) waiting ++ proved.release ∷ []
+pub released_waiting : (proved : Proved) (w : Waiting) (held : List Placed) (waiting : List Waiting) → w ≡ record { place = proved.place; chain = proved.release.chain.0 } → Distinct (map slot_of held) → list_any (is_proved_by proved) held ≡ true → map (release_in (map (with_released proved.place.0) held)) (waiting ++ w ∷ []) ≡ map (release_in held) waiting ++ proved.release ∷ []
 released_waiting proved w held waiting is d h =
-    releases_marked (with_released proved.place.0) (released_place proved.place.0) (released_release proved.place.0) held (waiting ++ w ∷ [])
+    releases_marked (with_released proved.place.0) (released_slot proved.place.0) (released_release proved.place.0) held (waiting ++ w ∷ [])
     ∙ map-append_releases (release_in held) waiting w
     ∙ ap (λ r. map (release_in held) waiting ++ r ∷ []) (ap (release_in held) is ∙ proved_found proved held d h)
 
@@ -397,27 +397,27 @@ found_passes P f (y ∷ ys) x all h =
     (λ e. found_passes P f ys x (All-tail P y ys all) (sym (ap (λ t. cond t (Some y) (find f ys)) e) ∙ h))
     (cases_Bool (f y))
 
-pub firsts_shown : (chains : ℕ) (held : List Held) → first_place (map (placed_in chains) held) ≡ buffer.first_place held
+pub firsts_shown : (chains : ℕ) (held : List Held) → first_slot (map (placed_in chains) held) ≡ buffer.first_slot held
 firsts_shown chains [] = refl
 firsts_shown chains (x ∷ xs) = refl
 
-pub first_shown : (chains interval : ℕ) (held : List Held) → first_place (filter (is_of interval) (map (placed_in chains) held)) ≡ buffer.first_place (filter (buffer.is_of interval) held)
-first_shown chains interval held = ap first_place (filter-map (is_of interval) (placed_in chains) held) ∙ firsts_shown chains (filter (buffer.is_of interval) held)
+pub first_shown : (chains interval : ℕ) (held : List Held) → first_slot (filter (is_of interval) (map (placed_in chains) held)) ≡ buffer.first_slot (filter (buffer.is_of interval) held)
+first_shown chains interval held = ap first_slot (filter-map (is_of interval) (placed_in chains) held) ∙ firsts_shown chains (filter (buffer.is_of interval) held)
 
-pub next_shown : (chains p : ℕ) (held : List Held) → next_place p (map (placed_in chains) held) ≡ buffer.next_place p held
+pub next_shown : (chains p : ℕ) (held : List Held) → next_slot p (map (placed_in chains) held) ≡ buffer.next_slot p held
 next_shown chains p [] = refl
 next_shown chains p (x ∷ xs) =
-    ap (λ o. cond (x.place == p) o (next_place p (map (placed_in chains) xs))) (first_shown chains x.item.name.interval xs)
-    ∙ ap (λ o. cond (x.place == p) (buffer.first_place (filter (buffer.is_of x.item.name.interval) xs)) o) (next_shown chains p xs)
+    ap (λ o. cond (x.place == p) o (next_slot p (map (placed_in chains) xs))) (first_shown chains x.item.name.interval xs)
+    ∙ ap (λ o. cond (x.place == p) (buffer.first_slot (filter (buffer.is_of x.item.name.interval) xs)) o) (next_shown chains p xs)
 
-pub first_unreleased_shown : (chains interval : ℕ) (held : List Held) → first_place (filter (is_unreleased_of interval) (map (placed_in chains) held)) ≡ buffer.first_place (filter (buffer.is_unreleased_of interval) held)
-first_unreleased_shown chains interval held = ap first_place (filter-map (is_unreleased_of interval) (placed_in chains) held) ∙ firsts_shown chains (filter (buffer.is_unreleased_of interval) held)
+pub first_unreleased_shown : (chains interval : ℕ) (held : List Held) → first_slot (filter (is_unreleased_of interval) (map (placed_in chains) held)) ≡ buffer.first_slot (filter (buffer.is_unreleased_of interval) held)
+first_unreleased_shown chains interval held = ap first_slot (filter-map (is_unreleased_of interval) (placed_in chains) held) ∙ firsts_shown chains (filter (buffer.is_unreleased_of interval) held)
 
 pub next_unreleased_shown : (chains p : ℕ) (held : List Held) → next_unreleased p (map (placed_in chains) held) ≡ buffer.next_unreleased p held
 next_unreleased_shown chains p [] = refl
 next_unreleased_shown chains p (x ∷ xs) =
     ap (λ o. cond (x.place == p) o (next_unreleased p (map (placed_in chains) xs))) (first_unreleased_shown chains x.item.name.interval xs)
-    ∙ ap (λ o. cond (x.place == p) (buffer.first_place (filter (buffer.is_unreleased_of x.item.name.interval) xs)) o) (next_unreleased_shown chains p xs)
+    ∙ ap (λ o. cond (x.place == p) (buffer.first_slot (filter (buffer.is_unreleased_of x.item.name.interval) xs)) o) (next_unreleased_shown chains p xs)
 
 pub any_unreleased_shown : (chains p : ℕ) (held : List Held) → list_any (buffer.is_unreleased_at p) held ≡ list_any (is_unreleased_at p) (map (placed_in chains) held)
 any_unreleased_shown chains p held = sym (any_mapped (is_unreleased_at p) (buffer.is_unreleased_at p) (placed_in chains) (λ y. refl) held)
@@ -458,7 +458,7 @@ pushed_stored capacity room held x waiting s fits vacant sound = record {
   few = s.few;
   fits = (let more = length-pushed held x in omega arith);
   same = s.same;
-  distinct = subst Distinct (sym (map-pushed place_of held x)) (distinct_pushed x.place (map place_of held) s.distinct (any_mapped (λ n. n == x.place) (stands_at x.place) place_of (λ y. refl) held ∙ vacant));
+  distinct = subst Distinct (sym (map-pushed slot_of held x)) (distinct_pushed x.place (map slot_of held) s.distinct (any_mapped (λ n. n == x.place) (stands_at x.place) slot_of (λ y. refl) held ∙ vacant));
   sound = list_all_both is_sound held (x ∷ []) s.sound (and_from (is_sound x) true sound refl);
   once = s.once;
   live = live_pushed held x waiting s.live;

@@ -19,7 +19,7 @@ use Rattle.tesla_base.proofs.Lists.{list_all_weaker, drop_suc}
 use Rattle.tesla_base.proofs.Filtered.{filter_both, filter_same}
 use Rattle.tesla_base.proofs.Members.{head_other}
 use Rattle.tesla_state.proofs.Marked.{any_weaker}
-use Rattle.tesla_state.specs.Stored.{Placed, Stored, place_of, stands_at, waits, without, is_of, is_unreleased_at, is_unreleased_of, rests_at, first_place, next_place, next_unreleased, is_idle, in_span}
+use Rattle.tesla_state.specs.Stored.{Placed, Stored, slot_of, stands_at, waits, without, is_of, is_unreleased_at, is_unreleased_of, rests_at, first_slot, next_slot, next_unreleased, is_idle, in_span}
 
 -- the packets of an interval, or those of them alone that aren't released
 abbrev pub picks : Bool → ℕ → Placed → Bool
@@ -28,16 +28,16 @@ picks false interval x = is_of interval x
 
 -- the next of them
 abbrev pub nexts : Bool → ℕ → List Placed → Option Place
-nexts true place held = next_unreleased place held
-nexts false place held = next_place place held
+nexts true slot held = next_unreleased slot held
+nexts false slot held = next_slot slot held
 
 pub picked_of : (u : Bool) (i : ℕ) (x : Placed) → picks u i x ≡ true → x.holding.name.interval ≡ i
 picked_of true i x e = eqb-true x.holding.name.interval i (and_parts (is_of i x) (not x.holding.released) e).0
 picked_of false i x e = eqb-true x.holding.name.interval i e
 
-nexts_cons : (u : Bool) (place : ℕ) (x : Placed) (xs : List Placed) → nexts u place (x ∷ xs) ≡ cond (stands_at place x) (first_place (filter (picks u x.holding.name.interval) xs)) (nexts u place xs)
-nexts_cons true place x xs = refl
-nexts_cons false place x xs = refl
+nexts_cons : (u : Bool) (slot : ℕ) (x : Placed) (xs : List Placed) → nexts u slot (x ∷ xs) ≡ cond (stands_at slot x) (first_slot (filter (picks u x.holding.name.interval) xs)) (nexts u slot xs)
+nexts_cons true slot x xs = refl
+nexts_cons false slot x xs = refl
 
 -- what is held after the first so many packets of an interval were looked at, and let go where they pass a test
 pub swept : Bool → ℕ → (Placed → Bool) → ℕ → List Placed → List Placed
@@ -60,64 +60,64 @@ nothing (suc n) y rest h = cc
 
 -- the packet that comes next: it is found, the one behind it, and what stays once it was looked at
 pub record Next (u : Bool) (i : ℕ) (over : Placed → Bool) (n : ℕ) (held : List Placed) (y : Placed) (rest : List Placed) : Type 0 where
-  pub there : is_in y.place (map place_of held) ≡ true
+  pub there : is_in y.place (map slot_of held) ≡ true
   pub of : picks u i y ≡ true
   pub found : find (stands_at y.place) (swept u i over n held) ≡ Some y
-  pub next : nexts u y.place (swept u i over n held) ≡ first_place rest
+  pub next : nexts u y.place (swept u i over n held) ≡ first_slot rest
   pub more : swept u i over (suc n) held ≡ cond (over y) (without y.place (swept u i over n held)) (swept u i over n held)
 
 found_past : (x y : Placed) (s : List Placed) → (x.place == y.place) ≡ false → find (stands_at y.place) s ≡ Some y → find (stands_at y.place) (x ∷ s) ≡ Some y
 found_past x y s none h = ap (λ t. cond t (Some x) (find (stands_at y.place) s)) none ∙ h
 
-next_past : (u : Bool) (x y : Placed) (s rest : List Placed) → (x.place == y.place) ≡ false → nexts u y.place s ≡ first_place rest → nexts u y.place (x ∷ s) ≡ first_place rest
+next_past : (u : Bool) (x y : Placed) (s rest : List Placed) → (x.place == y.place) ≡ false → nexts u y.place s ≡ first_slot rest → nexts u y.place (x ∷ s) ≡ first_slot rest
 next_past u x y s rest none h =
-    nexts_cons u y.place x s ∙ ap (λ t. cond t (first_place (filter (picks u x.holding.name.interval) s)) (nexts u y.place s)) none ∙ h
+    nexts_cons u y.place x s ∙ ap (λ t. cond t (first_slot (filter (picks u x.holding.name.interval) s)) (nexts u y.place s)) none ∙ h
 
 more_past : (x y : Placed) (b : Bool) (s t : List Placed) → (x.place == y.place) ≡ false → t ≡ cond b (without y.place s) s → x ∷ t ≡ cond b (without y.place (x ∷ s)) (x ∷ s)
 more_past x y true s t none h = ap (λ r. x ∷ r) h ∙ sym (ap (λ u. cond (not u) (x ∷ without y.place s) (without y.place s)) none)
 more_past x y false s t none h = ap (λ r. x ∷ r) h
 
-pub none_without : (p : ℕ) (held : List Placed) → is_in p (map place_of held) ≡ false → without p held ≡ held
+pub none_without : (p : ℕ) (held : List Placed) → is_in p (map slot_of held) ≡ false → without p held ≡ held
 none_without p [] h = refl
 none_without p (x ∷ xs) h =
-    let first : (x.place == p) ≡ false = false_from_ne_true (x.place == p) (λ e. both_ways (is_in p (map place_of (x ∷ xs))) h (or_left (x.place == p) (is_in p (map place_of xs)) e)) in
-    let rest : is_in p (map place_of xs) ≡ false = sym (ap (λ t. t || is_in p (map place_of xs)) first) ∙ h in
+    let first : (x.place == p) ≡ false = false_from_ne_true (x.place == p) (λ e. both_ways (is_in p (map slot_of (x ∷ xs))) h (or_left (x.place == p) (is_in p (map slot_of xs)) e)) in
+    let rest : is_in p (map slot_of xs) ≡ false = sym (ap (λ t. t || is_in p (map slot_of xs)) first) ∙ h in
     ap (λ t. cond (not t) (x ∷ without p xs) (without p xs)) first ∙ ap (λ r. x ∷ r) (none_without p xs rest)
 
 -- the first of the interval stands at the head
-next_head : (u : Bool) (i : ℕ) (over : Placed → Bool) (x : Placed) (xs : List Placed) → is_in x.place (map place_of xs) ≡ false → picks u i x ≡ true → Next u i over 0 (x ∷ xs) x (filter (picks u i) xs)
+next_head : (u : Bool) (i : ℕ) (over : Placed → Bool) (x : Placed) (xs : List Placed) → is_in x.place (map slot_of xs) ≡ false → picks u i x ≡ true → Next u i over 0 (x ∷ xs) x (filter (picks u i) xs)
 unfolding swept
 next_head u i over x xs none e =
     let here : (x.place == x.place) ≡ true = eq-eqb x.place x.place refl in
     record {
-      there = or_left (x.place == x.place) (is_in x.place (map place_of xs)) here;
+      there = or_left (x.place == x.place) (is_in x.place (map slot_of xs)) here;
       of = e;
       found = ap (λ t. cond t (Some x) (find (stands_at x.place) xs)) here;
-      next = nexts_cons u x.place x xs ∙ ap (λ t. cond t (first_place (filter (picks u x.holding.name.interval) xs)) (nexts u x.place xs)) here
-          ∙ ap (λ (k : ℕ). first_place (filter (picks u k) xs)) (picked_of u i x e);
+      next = nexts_cons u x.place x xs ∙ ap (λ t. cond t (first_slot (filter (picks u x.holding.name.interval) xs)) (nexts u x.place xs)) here
+          ∙ ap (λ (k : ℕ). first_slot (filter (picks u k) xs)) (picked_of u i x e);
       more = ap (λ t. cond t (cond (over x) xs (x ∷ xs)) (x ∷ swept u i over 1 xs)) e
           ∙ ap (λ r. cond (over x) r (x ∷ xs)) (sym (ap (λ t. cond (not t) (x ∷ without x.place xs) (without x.place xs)) here ∙ none_without x.place xs none));
     }
 
 -- the head was looked at
-next_looked : (u : Bool) (i : ℕ) (over : Placed → Bool) (m : ℕ) (x : Placed) (xs : List Placed) (y : Placed) (rest : List Placed) (b : Bool) → over x ≡ b → is_in x.place (map place_of xs) ≡ false → picks u i x ≡ true → Next u i over m xs y rest → Next u i over (suc m) (x ∷ xs) y rest
+next_looked : (u : Bool) (i : ℕ) (over : Placed → Bool) (m : ℕ) (x : Placed) (xs : List Placed) (y : Placed) (rest : List Placed) (b : Bool) → over x ≡ b → is_in x.place (map slot_of xs) ≡ false → picks u i x ≡ true → Next u i over m xs y rest → Next u i over (suc m) (x ∷ xs) y rest
 unfolding swept
 next_looked u i over m x xs y rest true o none e r =
     let now : swept u i over (suc m) (x ∷ xs) ≡ swept u i over m xs = ap (λ t. cond t (cond (over x) (swept u i over m xs) (x ∷ swept u i over m xs)) (x ∷ swept u i over (suc m) xs)) e ∙ ap (λ t. cond t (swept u i over m xs) (x ∷ swept u i over m xs)) o in
     let then : swept u i over (suc (suc m)) (x ∷ xs) ≡ swept u i over (suc m) xs = ap (λ t. cond t (cond (over x) (swept u i over (suc m) xs) (x ∷ swept u i over (suc m) xs)) (x ∷ swept u i over (suc (suc m)) xs)) e ∙ ap (λ t. cond t (swept u i over (suc m) xs) (x ∷ swept u i over (suc m) xs)) o in
     record {
-      there = or_right (x.place == y.place) (is_in y.place (map place_of xs)) r.there;
+      there = or_right (x.place == y.place) (is_in y.place (map slot_of xs)) r.there;
       of = r.of;
       found = ap (find (stands_at y.place)) now ∙ r.found;
       next = ap (nexts u y.place) now ∙ r.next;
       more = then ∙ r.more ∙ ap (λ s. cond (over y) (without y.place s) s) (sym now);
     }
 next_looked u i over m x xs y rest false o none e r =
-    let other : (x.place == y.place) ≡ false = head_other y.place x.place (map place_of xs) none r.there in
+    let other : (x.place == y.place) ≡ false = head_other y.place x.place (map slot_of xs) none r.there in
     let now : swept u i over (suc m) (x ∷ xs) ≡ x ∷ swept u i over m xs = ap (λ t. cond t (cond (over x) (swept u i over m xs) (x ∷ swept u i over m xs)) (x ∷ swept u i over (suc m) xs)) e ∙ ap (λ t. cond t (swept u i over m xs) (x ∷ swept u i over m xs)) o in
     let then : swept u i over (suc (suc m)) (x ∷ xs) ≡ x ∷ swept u i over (suc m) xs = ap (λ t. cond t (cond (over x) (swept u i over (suc m) xs) (x ∷ swept u i over (suc m) xs)) (x ∷ swept u i over (suc (suc m)) xs)) e ∙ ap (λ t. cond t (swept u i over (suc m) xs) (x ∷ swept u i over (suc m) xs)) o in
     record {
-      there = or_right (x.place == y.place) (is_in y.place (map place_of xs)) r.there;
+      there = or_right (x.place == y.place) (is_in y.place (map slot_of xs)) r.there;
       of = r.of;
       found = ap (find (stands_at y.place)) now ∙ found_past x y (swept u i over m xs) other r.found;
       next = ap (nexts u y.place) now ∙ next_past u x y (swept u i over m xs) rest other r.next;
@@ -130,19 +130,19 @@ swept_other u i over zero x xs e = refl
 swept_other u i over (suc n) x xs e = ap (λ t. cond t (cond (over x) (swept u i over n xs) (x ∷ swept u i over n xs)) (x ∷ swept u i over (suc n) xs)) e
 
 -- the head is of another interval
-next_other : (u : Bool) (i : ℕ) (over : Placed → Bool) (n : ℕ) (x : Placed) (xs : List Placed) (y : Placed) (rest : List Placed) → is_in x.place (map place_of xs) ≡ false → picks u i x ≡ false → Next u i over n xs y rest → Next u i over n (x ∷ xs) y rest
+next_other : (u : Bool) (i : ℕ) (over : Placed → Bool) (n : ℕ) (x : Placed) (xs : List Placed) (y : Placed) (rest : List Placed) → is_in x.place (map slot_of xs) ≡ false → picks u i x ≡ false → Next u i over n xs y rest → Next u i over n (x ∷ xs) y rest
 next_other u i over n x xs y rest none e r =
-    let other : (x.place == y.place) ≡ false = head_other y.place x.place (map place_of xs) none r.there in
+    let other : (x.place == y.place) ≡ false = head_other y.place x.place (map slot_of xs) none r.there in
     let now : swept u i over n (x ∷ xs) ≡ x ∷ swept u i over n xs = swept_other u i over n x xs e in
     record {
-      there = or_right (x.place == y.place) (is_in y.place (map place_of xs)) r.there;
+      there = or_right (x.place == y.place) (is_in y.place (map slot_of xs)) r.there;
       of = r.of;
       found = ap (find (stands_at y.place)) now ∙ found_past x y (swept u i over n xs) other r.found;
       next = ap (nexts u y.place) now ∙ next_past u x y (swept u i over n xs) rest other r.next;
       more = swept_other u i over (suc n) x xs e ∙ more_past x y (over y) (swept u i over n xs) (swept u i over (suc n) xs) other r.more ∙ ap (λ s. cond (over y) (without y.place s) s) (sym now);
     }
 
-pub next_is : (u : Bool) (i : ℕ) (over : Placed → Bool) (n : ℕ) (held : List Placed) (y : Placed) (rest : List Placed) → Distinct (map place_of held) → drop n (filter (picks u i) held) ≡ y ∷ rest → Next u i over n held y rest
+pub next_is : (u : Bool) (i : ℕ) (over : Placed → Bool) (n : ℕ) (held : List Placed) (y : Placed) (rest : List Placed) → Distinct (map slot_of held) → drop n (filter (picks u i) held) ≡ y ∷ rest → Next u i over n held y rest
 next_is u i over n [] y rest d h = absurd (nothing n y rest h)
 next_is u i over zero (x ∷ xs) y rest d h =
     ⊎_elim
@@ -187,7 +187,7 @@ swept_all u i over (suc m) (x ∷ xs) h =
 
 -- ---- a walk through an interval
 
--- so many packets of the interval were looked at; this is the place of the next
+-- so many packets of the interval were looked at; this is the slot of the next
 pub record Sweeping (old new : Stored) (u : Bool) (i : ℕ) (over : Placed → Bool) (n : ℕ) (at : Option Place) : Type 0 where
   pub capacity : new.capacity ≡ old.capacity
   pub reserved : new.reserved ≡ old.reserved
@@ -195,25 +195,25 @@ pub record Sweeping (old new : Stored) (u : Bool) (i : ℕ) (over : Placed → B
   pub waiting : new.waiting ≡ old.waiting
   pub given : new.given ≡ old.given
   pub held : new.held ≡ swept u i over n old.held
-  pub next : at ≡ first_place (drop n (filter (picks u i) old.held))
+  pub next : at ≡ first_slot (drop n (filter (picks u i) old.held))
 
-pub sweeping_none : (old : Stored) (u : Bool) (i : ℕ) (over : Placed → Bool) (o : Option Place) → o ≡ first_place (filter (picks u i) old.held) → Sweeping old old u i over 0 o
+pub sweeping_none : (old : Stored) (u : Bool) (i : ℕ) (over : Placed → Bool) (o : Option Place) → o ≡ first_slot (filter (picks u i) old.held) → Sweeping old old u i over 0 o
 unfolding swept
 sweeping_none old u i over o h = record { capacity = refl; reserved = refl; chains = refl; waiting = refl; given = refl; held = refl; next = h }
 
-first_none : (xs : List Placed) → first_place xs ≡ None → xs ≡ []
+first_none : (xs : List Placed) → first_slot xs ≡ None → xs ≡ []
 first_none [] h = refl
 first_none (x ∷ xs) h = absurd (cc)
 
-pub record FirstOf (xs : List Placed) (place : Place) : Type 0 where
+pub record FirstOf (xs : List Placed) (slot : Place) : Type 0 where
   pub first : Placed
   pub rest : List Placed
   pub is : xs ≡ first ∷ rest
-  pub place_is : place.0 ≡ first.place
+  pub slot_is : slot.0 ≡ first.place
 
-pub first_some : (xs : List Placed) (place : Place) → first_place xs ≡ Some place → FirstOf xs place
-first_some [] place h = absurd (cc)
-first_some (x ∷ xs) place h = record { first = x; rest = xs; is = refl; place_is = (let same : record { 0 = x.place } ≡ place = cc in sym (ap (λ (p : Place). p.0) same)) }
+pub first_some : (xs : List Placed) (slot : Place) → first_slot xs ≡ Some slot → FirstOf xs slot
+first_some [] slot h = absurd (cc)
+first_some (x ∷ xs) slot h = record { first = x; rest = xs; is = refl; slot_is = (let same : record { 0 = x.place } ≡ slot = cc in sym (ap (λ (p : Place). p.0) same)) }
 
 pub swept_through : (old new : Stored) (u : Bool) (i : ℕ) (over : Placed → Bool) (n : ℕ) (next : Option Place) → Sweeping old new u i over n next → next ≡ None → new.held ≡ filter (λ x. not (picks u i x && over x)) old.held
 swept_through old new u i over n next s none =
@@ -222,22 +222,22 @@ swept_through old new u i over n next s none =
 pub swept_long : (old new : Stored) (u : Bool) (i : ℕ) (over : Placed → Bool) (n : ℕ) (next : Option Place) → Sweeping old new u i over n next → length (filter (picks u i) old.held) ≤ n → new.held ≡ filter (λ x. not (picks u i x && over x)) old.held
 swept_long old new u i over n next s all = s.held ∙ swept_all u i over n old.held (drop_of_length-le (filter (picks u i) old.held) all)
 
-pub next_at : (old new : Stored) (u : Bool) (i : ℕ) (over : Placed → Bool) (n : ℕ) (place : Place) → Sweeping old new u i over n (Some place) → FirstOf (drop n (filter (picks u i) old.held)) place
-next_at old new u i over n place s = first_some (drop n (filter (picks u i) old.held)) place (sym s.next)
+pub next_at : (old new : Stored) (u : Bool) (i : ℕ) (over : Placed → Bool) (n : ℕ) (slot : Place) → Sweeping old new u i over n (Some slot) → FirstOf (drop n (filter (picks u i) old.held)) slot
+next_at old new u i over n slot s = first_some (drop n (filter (picks u i) old.held)) slot (sym s.next)
 
-pub found_next : (old new : Stored) (u : Bool) (i : ℕ) (over : Placed → Bool) (n : ℕ) (place : Place) → Distinct (map place_of old.held) → (s : Sweeping old new u i over n (Some place)) → find (stands_at place.0) new.held ≡ Some (next_at old new u i over n place s).first
-found_next old new u i over n place d s =
-    let f = next_at old new u i over n place s in
-    ap (find (stands_at place.0)) s.held ∙ ap (λ (p : ℕ). find (stands_at p) (swept u i over n old.held)) f.place_is
+pub found_next : (old new : Stored) (u : Bool) (i : ℕ) (over : Placed → Bool) (n : ℕ) (slot : Place) → Distinct (map slot_of old.held) → (s : Sweeping old new u i over n (Some slot)) → find (stands_at slot.0) new.held ≡ Some (next_at old new u i over n slot s).first
+found_next old new u i over n slot d s =
+    let f = next_at old new u i over n slot s in
+    ap (find (stands_at slot.0)) s.held ∙ ap (λ (p : ℕ). find (stands_at p) (swept u i over n old.held)) f.slot_is
     ∙ (next_is u i over n old.held f.first f.rest d f.is).found
 
 -- it is one of those that are picked
-pub found_picked : (old new : Stored) (u : Bool) (i : ℕ) (over : Placed → Bool) (n : ℕ) (place : Place) → Distinct (map place_of old.held) → (s : Sweeping old new u i over n (Some place)) → picks u i (next_at old new u i over n place s).first ≡ true
-found_picked old new u i over n place d s = let f = next_at old new u i over n place s in (next_is u i over n old.held f.first f.rest d f.is).of
+pub found_picked : (old new : Stored) (u : Bool) (i : ℕ) (over : Placed → Bool) (n : ℕ) (slot : Place) → Distinct (map slot_of old.held) → (s : Sweeping old new u i over n (Some slot)) → picks u i (next_at old new u i over n slot s).first ≡ true
+found_picked old new u i over n slot d s = let f = next_at old new u i over n slot s in (next_is u i over n old.held f.first f.rest d f.is).of
 
-pub sweeping_more : (old new then : Stored) (u : Bool) (i : ℕ) (over : Placed → Bool) (n : ℕ) (place : Place) (next : Option Place) → Distinct (map place_of old.held) → Sweeping old new u i over n (Some place) → next ≡ nexts u place.0 new.held → then.capacity ≡ new.capacity → then.reserved ≡ new.reserved → then.chains ≡ new.chains → then.waiting ≡ new.waiting → then.given ≡ new.given → ((x : Placed) → find (stands_at place.0) new.held ≡ Some x → then.held ≡ cond (over x) (without place.0 new.held) new.held) → Sweeping old then u i over (n + 1) next
-sweeping_more old new then u i over n place next d s e capacity reserved chains waiting given held =
-    let f = next_at old new u i over n place s in
+pub sweeping_more : (old new then : Stored) (u : Bool) (i : ℕ) (over : Placed → Bool) (n : ℕ) (slot : Place) (next : Option Place) → Distinct (map slot_of old.held) → Sweeping old new u i over n (Some slot) → next ≡ nexts u slot.0 new.held → then.capacity ≡ new.capacity → then.reserved ≡ new.reserved → then.chains ≡ new.chains → then.waiting ≡ new.waiting → then.given ≡ new.given → ((x : Placed) → find (stands_at slot.0) new.held ≡ Some x → then.held ≡ cond (over x) (without slot.0 new.held) new.held) → Sweeping old then u i over (n + 1) next
+sweeping_more old new then u i over n slot next d s e capacity reserved chains waiting given held =
+    let f = next_at old new u i over n slot s in
     let r = next_is u i over n old.held f.first f.rest d f.is in
     let count : suc n ≡ n + 1 = omega arith in
     record {
@@ -246,12 +246,12 @@ sweeping_more old new then u i over n place next d s e capacity reserved chains 
       chains = chains ∙ s.chains;
       waiting = waiting ∙ s.waiting;
       given = given ∙ s.given;
-      held = held f.first (found_next old new u i over n place d s)
-          ∙ ap (λ (p : ℕ). cond (over f.first) (without p new.held) new.held) f.place_is
+      held = held f.first (found_next old new u i over n slot d s)
+          ∙ ap (λ (p : ℕ). cond (over f.first) (without p new.held) new.held) f.slot_is
           ∙ ap (λ h. cond (over f.first) (without f.first.place h) h) s.held
           ∙ sym r.more ∙ ap (λ (k : ℕ). swept u i over k old.held) count;
-      next = e ∙ ap (nexts u place.0) s.held ∙ ap (λ (p : ℕ). nexts u p (swept u i over n old.held)) f.place_is ∙ r.next
-          ∙ ap first_place (sym (drop_suc (filter (picks u i) old.held) n f.first f.rest f.is)) ∙ ap (λ (k : ℕ). first_place (drop k (filter (picks u i) old.held))) count;
+      next = e ∙ ap (nexts u slot.0) s.held ∙ ap (λ (p : ℕ). nexts u p (swept u i over n old.held)) f.slot_is ∙ r.next
+          ∙ ap first_slot (sym (drop_suc (filter (picks u i) old.held) n f.first f.rest f.is)) ∙ ap (λ (k : ℕ). first_slot (drop k (filter (picks u i) old.held))) count;
     }
 
 pub found_stands : (p : ℕ) (f : Placed → Bool) (x : Placed) (held : List Placed) → find (stands_at p) held ≡ Some x → f x ≡ true → list_any (λ y. stands_at p y && f y) held ≡ true
@@ -453,17 +453,17 @@ swept_never u i (suc n) (x ∷ xs) =
     (cases_Bool (picks u i x))
 
 -- the packet that comes next, where nothing is let go
-pub record Comes (u : Bool) (i n : ℕ) (held : List Placed) (place : Place) : Type 0 where
+pub record Comes (u : Bool) (i n : ℕ) (held : List Placed) (slot : Place) : Type 0 where
   pub packet : Placed
   pub behind : List Placed
   pub is : drop n (filter (picks u i) held) ≡ packet ∷ behind
   pub of : picks u i packet ≡ true
-  pub found : find (stands_at place.0) held ≡ Some packet
-  pub next : nexts u place.0 held ≡ first_place (drop (n + 1) (filter (picks u i) held))
+  pub found : find (stands_at slot.0) held ≡ Some packet
+  pub next : nexts u slot.0 held ≡ first_slot (drop (n + 1) (filter (picks u i) held))
 
-pub comes : (u : Bool) (i n : ℕ) (held : List Placed) (place : Place) → Distinct (map place_of held) → Some place ≡ first_place (drop n (filter (picks u i) held)) → Comes u i n held place
-comes u i n held place d h =
-    let f = first_some (drop n (filter (picks u i) held)) place (sym h) in
+pub comes : (u : Bool) (i n : ℕ) (held : List Placed) (slot : Place) → Distinct (map slot_of held) → Some slot ≡ first_slot (drop n (filter (picks u i) held)) → Comes u i n held slot
+comes u i n held slot d h =
+    let f = first_some (drop n (filter (picks u i) held)) slot (sym h) in
     let r = next_is u i never n held f.first f.rest d f.is in
     let count : suc n ≡ n + 1 = omega arith in
     record {
@@ -471,7 +471,7 @@ comes u i n held place d h =
       behind = f.rest;
       is = f.is;
       of = r.of;
-      found = ap (λ (p : ℕ). find (stands_at p) held) f.place_is ∙ ap (find (stands_at f.first.place)) (sym (swept_never u i n held)) ∙ r.found;
-      next = ap (λ (p : ℕ). nexts u p held) f.place_is ∙ ap (nexts u f.first.place) (sym (swept_never u i n held)) ∙ r.next
-          ∙ ap first_place (sym (drop_suc (filter (picks u i) held) n f.first f.rest f.is)) ∙ ap (λ (k : ℕ). first_place (drop k (filter (picks u i) held))) count;
+      found = ap (λ (p : ℕ). find (stands_at p) held) f.slot_is ∙ ap (find (stands_at f.first.place)) (sym (swept_never u i n held)) ∙ r.found;
+      next = ap (λ (p : ℕ). nexts u p held) f.slot_is ∙ ap (nexts u f.first.place) (sym (swept_never u i n held)) ∙ r.next
+          ∙ ap first_slot (sym (drop_suc (filter (picks u i) held) n f.first f.rest f.is)) ∙ ap (λ (k : ℕ). first_slot (drop k (filter (picks u i) held))) count;
     }

@@ -11,7 +11,7 @@ use Rattle.tesla_buffer.specs.declared.item.Fate.TheVariants.{Gone, Taken}
 use Rattle.tesla_base.specs.Members.{is_in, Distinct}
 use Rattle.tesla_base.proofs.Members.{head_other}
 use Rattle.tesla_release.specs.declared.queue.Waiting.{Waiting}
-use Rattle.tesla_state.specs.Stored.{Placed, placed_in, place_of, place_in, order_of, stands_at, release_by, release_in, waits, waits_at, is_sound, with_taken, without, IsStored, IsStore, IsItemOf}
+use Rattle.tesla_state.specs.Stored.{Placed, placed_in, slot_of, slot_in, order_of, stands_at, release_by, release_in, waits, waits_at, is_sound, with_taken, without, IsStored, IsStore, IsItemOf}
 use Rattle.tesla_state.proofs.Marked.{any_weaker, any_mapped, map_mapped}
 use Rattle.tesla_state.proofs.ReleasedPackets.{only_at}
 use Rattle.tesla_state.proofs.Stored.{any_shown, gone_stored, length-marked, releases_kept, releases_marked, without_shown}
@@ -26,12 +26,12 @@ first_waiting (x ∷ xs) w h = let same : x ≡ w = cc in ap (λ y. y ∷ xs) sa
 abbrev taken_now : Placed → Placed
 taken_now x = record x { holding = record x.holding { taken = true } }
 
-mark_place : (b : Bool) (x : Placed) → (cond b (taken_now x) x).place ≡ x.place
-mark_place true x = refl
-mark_place false x = refl
+mark_slot : (b : Bool) (x : Placed) → (cond b (taken_now x) x).place ≡ x.place
+mark_slot true x = refl
+mark_slot false x = refl
 
-taken_place : (p : ℕ) (x : Placed) → (with_taken p x).place ≡ x.place
-taken_place p x = mark_place (x.place == p) x
+taken_slot : (p : ℕ) (x : Placed) → (with_taken p x).place ≡ x.place
+taken_slot p x = mark_slot (x.place == p) x
 
 mark_release : (chain : ℕ) (b : Bool) (x : Placed) → release_by chain (Some (cond b (taken_now x) x)) ≡ release_by chain (Some x)
 mark_release chain true x = refl
@@ -85,22 +85,22 @@ waits_marked p q true x e other =
     ap (λ t. t && waits (taken_now x)) none ∙ sym (ap (λ t. t && waits x) none)
 waits_marked p q false x e other = refl
 
-live_marked : (p : ℕ) (held : List Placed) (ws : List Waiting) → is_in p (map place_in ws) ≡ false → list_all (λ entry. list_any (waits_at entry.place.0) held) ws ≡ true → list_all (λ entry. list_any (waits_at entry.place.0) (map (with_taken p) held)) ws ≡ true
+live_marked : (p : ℕ) (held : List Placed) (ws : List Waiting) → is_in p (map slot_in ws) ≡ false → list_all (λ entry. list_any (waits_at entry.place.0) held) ws ≡ true → list_all (λ entry. list_any (waits_at entry.place.0) (map (with_taken p) held)) ws ≡ true
 live_marked p held [] none h = refl
 live_marked p held (w ∷ ws) none h =
-    let first : (w.place.0 == p) ≡ false = false_from_ne_true (w.place.0 == p) (λ e. both_ways (is_in p (map place_in (w ∷ ws))) none (or_left (w.place.0 == p) (is_in p (map place_in ws)) e)) in
-    let rest : is_in p (map place_in ws) ≡ false = sym (ap (λ t. t || is_in p (map place_in ws)) first) ∙ none in
+    let first : (w.place.0 == p) ≡ false = false_from_ne_true (w.place.0 == p) (λ e. both_ways (is_in p (map slot_in (w ∷ ws))) none (or_left (w.place.0 == p) (is_in p (map slot_in ws)) e)) in
+    let rest : is_in p (map slot_in ws) ≡ false = sym (ap (λ t. t || is_in p (map slot_in ws)) first) ∙ none in
     let parts = and_parts (list_any (waits_at w.place.0) held) (list_all (λ entry. list_any (waits_at entry.place.0) held) ws) h in
     and_from (list_any (waits_at w.place.0) (map (with_taken p) held)) (list_all (λ entry. list_any (waits_at entry.place.0) (map (with_taken p) held)) ws)
     (any_mapped (waits_at w.place.0) (waits_at w.place.0) (with_taken p) (λ x. waits_marked p w.place.0 (stands_at p x) x refl first) held ∙ parts.0)
     (live_marked p held ws rest parts.1)
 
-marked_stored : (capacity room p : ℕ) (held : List Placed) (ws : List Waiting) → IsStored capacity room held ws → is_in p (map place_in ws) ≡ false → list_any (waits_at p) held ≡ true → IsStored capacity room (map (with_taken p) held) ws
+marked_stored : (capacity room p : ℕ) (held : List Placed) (ws : List Waiting) → IsStored capacity room held ws → is_in p (map slot_in ws) ≡ false → list_any (waits_at p) held ≡ true → IsStored capacity room (map (with_taken p) held) ws
 marked_stored capacity room p held ws s none h = record {
   few = s.few;
   fits = (let long = length-marked (with_taken p) held in let fits = s.fits in omega arith);
   same = s.same;
-  distinct = subst Distinct (sym (map_mapped place_of (with_taken p) place_of (taken_place p) held)) s.distinct;
+  distinct = subst Distinct (sym (map_mapped slot_of (with_taken p) slot_of (taken_slot p) held)) s.distinct;
   sound = sound_marked p held (only_at p waits held s.distinct h) s.sound;
   once = s.once;
   live = live_marked p held ws none s.live;
@@ -135,15 +135,15 @@ pub settled_shown : (chains p : ℕ) (b : Bool) (held : List Held) → map (plac
 settled_shown chains p true held = without_shown chains p held
 settled_shown chains p false held = taken_shown chains p held
 
-pub releases_taken : (b : Bool) (p : ℕ) (held : List Placed) (ws : List Waiting) → is_in p (map place_in ws) ≡ false → map (release_in (settled_taken b p held)) ws ≡ map (release_in held) ws
+pub releases_taken : (b : Bool) (p : ℕ) (held : List Placed) (ws : List Waiting) → is_in p (map slot_in ws) ≡ false → map (release_in (settled_taken b p held)) ws ≡ map (release_in held) ws
 releases_taken true p held ws none = releases_kept p held ws none
-releases_taken false p held ws none = releases_marked (with_taken p) (taken_place p) (taken_release p) held ws
+releases_taken false p held ws none = releases_marked (with_taken p) (taken_slot p) (taken_release p) held ws
 
-none_taken : (p : ℕ) (held : List Placed) → is_in p (map place_of held) ≡ false → map (with_taken p) held ≡ held
+none_taken : (p : ℕ) (held : List Placed) → is_in p (map slot_of held) ≡ false → map (with_taken p) held ≡ held
 none_taken p [] h = refl
 none_taken p (x ∷ xs) h =
-    let first : (x.place == p) ≡ false = false_from_ne_true (x.place == p) (λ e. both_ways (is_in p (map place_of (x ∷ xs))) h (or_left (x.place == p) (is_in p (map place_of xs)) e)) in
-    let rest : is_in p (map place_of xs) ≡ false = sym (ap (λ t. t || is_in p (map place_of xs)) first) ∙ h in
+    let first : (x.place == p) ≡ false = false_from_ne_true (x.place == p) (λ e. both_ways (is_in p (map slot_of (x ∷ xs))) h (or_left (x.place == p) (is_in p (map slot_of xs)) e)) in
+    let rest : is_in p (map slot_of xs) ≡ false = sym (ap (λ t. t || is_in p (map slot_of xs)) first) ∙ h in
     ap (λ t. cond t (taken_now x) x ∷ map (with_taken p) xs) first ∙ ap (λ r. x ∷ r) (none_taken p xs rest)
 
 abbrev by_order : (Placed → Bool) → ℕ → Placed → List Placed
@@ -167,7 +167,7 @@ order_stands p y (x ∷ xs) h =
     (cases_Bool (stands_at p x))
 
 -- where it stands first
-here_taken : (g : Placed → Bool) (b : Bool) (p : ℕ) (x : Placed) (xs : List Placed) → g x ≡ b → stands_at p x ≡ true → is_in p (map place_of xs) ≡ false → is_in x.holding.order (map order_of xs) ≡ false → settled_taken b p (x ∷ xs) ≡ flat_map (by_order g x.holding.order) (x ∷ xs)
+here_taken : (g : Placed → Bool) (b : Bool) (p : ℕ) (x : Placed) (xs : List Placed) → g x ≡ b → stands_at p x ≡ true → is_in p (map slot_of xs) ≡ false → is_in x.holding.order (map order_of xs) ≡ false → settled_taken b p (x ∷ xs) ≡ flat_map (by_order g x.holding.order) (x ∷ xs)
 here_taken g true p x xs o e none unheard =
     ap (λ t. cond (not t) (x ∷ without p xs) (without p xs)) e ∙ none_without p xs none
     ∙ sym (ap (λ t. cond t (cond (g x) [] (taken_now x ∷ [])) (x ∷ []) ++ flat_map (by_order g x.holding.order) xs) (eq-eqb x.holding.order x.holding.order refl)
@@ -181,21 +181,21 @@ past_taken : (b : Bool) (p : ℕ) (x : Placed) (xs : List Placed) → stands_at 
 past_taken true p x xs e = ap (λ t. cond (not t) (x ∷ without p xs) (without p xs)) e
 past_taken false p x xs e = ap (λ t. cond t (taken_now x) x ∷ map (with_taken p) xs) e
 
-pub taken_by_order : (g : Placed → Bool) (p : ℕ) (y : Placed) (held : List Placed) → Distinct (map place_of held) → Distinct (map order_of held) → find (stands_at p) held ≡ Some y → settled_taken (g y) p held ≡ flat_map (by_order g y.holding.order) held
+pub taken_by_order : (g : Placed → Bool) (p : ℕ) (y : Placed) (held : List Placed) → Distinct (map slot_of held) → Distinct (map order_of held) → find (stands_at p) held ≡ Some y → settled_taken (g y) p held ≡ flat_map (by_order g y.holding.order) held
 taken_by_order g p y [] d o h = absurd (cc)
 taken_by_order g p y (x ∷ xs) d o h =
     ⊎_elim
     (λ e. let found : Some x ≡ Some y = sym (ap (λ t. cond t (Some x) (find (stands_at p) xs)) e) ∙ h in
     let same : x ≡ y = cc in
     subst (λ (z : Placed). settled_taken (g z) p (x ∷ xs) ≡ flat_map (by_order g z.holding.order) (x ∷ xs)) same
-    (here_taken g (g x) p x xs refl e (ap (λ (n : ℕ). is_in n (map place_of xs)) (sym (eqb-true x.place p e)) ∙ d.0) o.0))
+    (here_taken g (g x) p x xs refl e (ap (λ (n : ℕ). is_in n (map slot_of xs)) (sym (eqb-true x.place p e)) ∙ d.0) o.0))
     (λ e. let later = sym (ap (λ t. cond t (Some x) (find (stands_at p) xs)) e) ∙ h in
     let other : (x.holding.order == y.holding.order) ≡ false = head_other y.holding.order x.holding.order (map order_of xs) o.0 (order_stands p y xs later) in
     past_taken (g y) p x xs e ∙ ap (λ r. x ∷ r) (taken_by_order g p y xs d.1 o.1 later)
     ∙ sym (ap (λ t. cond t (cond (g x) [] (taken_now x ∷ [])) (x ∷ []) ++ flat_map (by_order g y.holding.order) xs) other))
     (cases_Bool (stands_at p x))
 
--- what stands in a place is found by its number
+-- what stands in a slot is found by its number
 pub found_by_order : (p : ℕ) (y : Placed) (held : List Placed) → Distinct (map order_of held) → find (stands_at p) held ≡ Some y → find (λ (x : Placed). x.holding.order == y.holding.order) held ≡ Some y
 found_by_order p y [] o h = absurd (cc)
 found_by_order p y (x ∷ xs) o h =
@@ -207,7 +207,7 @@ found_by_order p y (x ∷ xs) o h =
     ap (λ t. cond t (Some x) (find (λ (z : Placed). z.holding.order == y.holding.order) xs)) (head_other y.holding.order x.holding.order (map order_of xs) o.0 (order_stands p y xs later)) ∙ found_by_order p y xs o.1 later)
     (cases_Bool (stands_at p x))
 
-pub live_place : (capacity room chains : ℕ) (held : List Held) (w : Waiting) (ws : List Waiting) → IsStore capacity room chains held (w ∷ ws) → list_any (buffer.is_at w.place.0) held ≡ true
-live_place capacity room chains held w ws s =
+pub live_slot : (capacity room chains : ℕ) (held : List Held) (w : Waiting) (ws : List Waiting) → IsStore capacity room chains held (w ∷ ws) → list_any (buffer.is_at w.place.0) held ≡ true
+live_slot capacity room chains held w ws s =
     any_shown chains w.place.0 held
     ∙ any_weaker (waits_at w.place.0) (stands_at w.place.0) (λ x e. (and_parts (stands_at w.place.0 x) (waits x) e).0) (map (placed_in chains) held) (first_live capacity room (map (placed_in chains) held) w ws s.stored)

@@ -25,7 +25,7 @@ use Rattle.tesla_walks.specs.Offered.{IsOfChains}
 use Rattle.tesla_walks.specs.Proved.{release_in, proof_of, proves_on, released_on}
 use Rattle.tesla_walks.specs.Holding.{Holding}
 use Rattle.tesla_state.specs.Steps.{batch_of, in_interval}
-use Rattle.tesla_state.specs.Stored.{Placed, place_of, holding_at, stands_at, is_of, is_unreleased_of, is_proved_by, first_place, next_unreleased, AreProved}
+use Rattle.tesla_state.specs.Stored.{Placed, slot_of, holding_at, stands_at, is_of, is_unreleased_of, is_proved_by, first_slot, next_unreleased, AreProved}
 use Rattle.tesla_walks.specs.Walking.{Walking, rows_of, IsAbove, left, tries, pairs}
 use Rattle.tesla_state.proofs.Gathering.{is_past, nothing_given, only_those, past_parts, past_sum, same_given, sum_ones, unreached_unproved}
 use Rattle.tesla_state.proofs.UnreachedIntervals.{highest_by, outside_unreached, reached_by}
@@ -57,9 +57,9 @@ is_ours x p h =
     (and_from (x.holding.name.interval == p.release.name.interval) (x.holding.name.number == p.release.name.number)
     (eq-eqb x.holding.name.interval p.release.name.interval (ap (λ (n : Name). n.interval) h.name)) (eq-eqb x.holding.name.number p.release.name.number (ap (λ (n : Name). n.number) h.name))))
 
-pub one_proved : (cfg : Config) (tips : List Tip) (new : List KeyRow) (held : List Placed) (place : Place) (x : Placed) (o : Option Proved) → find (stands_at place.0) held ≡ Some x → map release_in (option_to_list o) ≡ proof_of cfg tips new x.holding → IfSome o (λ p. p.place ≡ place) → AreProved held (option_to_list o)
-one_proved cfg tips new held place x None found is here = refl
-one_proved cfg tips new held place x (Some p) found is here =
+pub one_proved : (cfg : Config) (tips : List Tip) (new : List KeyRow) (held : List Placed) (slot : Place) (x : Placed) (o : Option Proved) → find (stands_at slot.0) held ≡ Some x → map release_in (option_to_list o) ≡ proof_of cfg tips new x.holding → IfSome o (λ p. p.place ≡ slot) → AreProved held (option_to_list o)
+one_proved cfg tips new held slot x None found is here = refl
+one_proved cfg tips new held slot x (Some p) found is here =
     let of : IsOf x.holding p.release = of_proof cfg tips new x.holding p.release x.holding.released refl is in
     let at : find (stands_at p.place.0) held ≡ Some x = ap (λ (k : Place). find (stands_at k.0) held) here ∙ found in
     and_from (list_any (is_proved_by p) held) true
@@ -71,9 +71,9 @@ map-released (x ∷ xs) ys = ap (λ rs. x.release ∷ rs) (map-released xs ys)
 
 -- ---- a walk through an interval
 
--- so many packets of the interval that aren't released were tried; this is the place of the next
+-- so many packets of the interval that aren't released were tried; this is the slot of the next
 pub record Trying (cfg : Config) (tips : List Tip) (begun walks : List Walking) (held : List Placed) (i n : ℕ) (at : Option Place) (before batch : List Proved) : Type 0 where
-  pub next : at ≡ first_place (drop n (filter (is_unreleased_of i) held))
+  pub next : at ≡ first_slot (drop n (filter (is_unreleased_of i) held))
   pub rows : rows_of walks ≡ rows_of begun
   pub above : All (IsAbove i) walks
   pub releases : map release_in batch ≡ map release_in before ++ flat_map (λ (x : Placed). proof_of cfg tips (rows_of begun) x.holding) (take n (filter (is_unreleased_of i) held))
@@ -81,7 +81,7 @@ pub record Trying (cfg : Config) (tips : List Tip) (begun walks : List Walking) 
   pub long : length batch ≤ length before + n
   pub within : n ≤ length (filter (is_unreleased_of i) held)
 
-pub trying_none : (cfg : Config) (tips : List Tip) (walks : List Walking) (held : List Placed) (i : ℕ) (at : Option Place) (batch : List Proved) → at ≡ first_place (filter (is_unreleased_of i) held) → All (IsAbove i) walks → Trying cfg tips walks walks held i 0 at batch batch
+pub trying_none : (cfg : Config) (tips : List Tip) (walks : List Walking) (held : List Placed) (i : ℕ) (at : Option Place) (batch : List Proved) → at ≡ first_slot (filter (is_unreleased_of i) held) → All (IsAbove i) walks → Trying cfg tips walks walks held i 0 at batch batch
 trying_none cfg tips walks held i at batch h above = record {
   next = h;
   rows = refl;
@@ -98,27 +98,27 @@ take_next (suc n) [] y rest h = absurd (cc)
 take_next zero (x ∷ xs) y rest h = let same : x ≡ y = cc in (ap (λ z. z ∷ []) same, omega arith)
 take_next (suc n) (x ∷ xs) y rest h = let r = take_next n xs y rest h in (ap (λ ys. x ∷ ys) r.0, omega (arith, r.1))
 
-pub tried_place : (cfg : Config) (tips : List Tip) (begun walks : List Walking) (held : List Placed) (i n : ℕ) (place : Place) (before batch : List Proved) → Distinct (map place_of held) → Trying cfg tips begun walks held i n (Some place) before batch → Comes true i n held place
-tried_place cfg tips begun walks held i n place before batch d s = comes true i n held place d s.next
+pub tried_slot : (cfg : Config) (tips : List Tip) (begun walks : List Walking) (held : List Placed) (i n : ℕ) (slot : Place) (before batch : List Proved) → Distinct (map slot_of held) → Trying cfg tips begun walks held i n (Some slot) before batch → Comes true i n held slot
+tried_slot cfg tips begun walks held i n slot before batch d s = comes true i n held slot d s.next
 
 -- the packet there is of the interval
-pub above_there : (cfg : Config) (tips : List Tip) (begun walks : List Walking) (held : List Placed) (i n : ℕ) (place : Place) (before batch : List Proved) → Distinct (map place_of held) → Trying cfg tips begun walks held i n (Some place) before batch → (x : Placed) → find (stands_at place.0) held ≡ Some x → All (IsAbove x.holding.name.interval) walks
-above_there cfg tips begun walks held i n place before batch d s x h =
-    let c = comes true i n held place d s.next in
+pub above_there : (cfg : Config) (tips : List Tip) (begun walks : List Walking) (held : List Placed) (i n : ℕ) (slot : Place) (before batch : List Proved) → Distinct (map slot_of held) → Trying cfg tips begun walks held i n (Some slot) before batch → (x : Placed) → find (stands_at slot.0) held ≡ Some x → All (IsAbove x.holding.name.interval) walks
+above_there cfg tips begun walks held i n slot before batch d s x h =
+    let c = comes true i n held slot d s.next in
     let found : Some c.packet ≡ Some x = sym c.found ∙ h in
     let same : c.packet ≡ x = cc in
     subst (λ (k : ℕ). All (IsAbove k) walks) (sym (ap (λ (y : Placed). y.holding.name.interval) (sym same) ∙ picked_of true i c.packet c.of)) s.above
 
-pub room_there : (cfg : Config) (tips : List Tip) (begun walks : List Walking) (held : List Placed) (i n room : ℕ) (place : Place) (before batch : List Proved) → Distinct (map place_of held) → Trying cfg tips begun walks held i n (Some place) before batch → length before + length (filter (is_unreleased_of i) held) ≤ room → length batch < room
-room_there cfg tips begun walks held i n room place before batch d s h =
-    let c = comes true i n held place d s.next in
+pub room_there : (cfg : Config) (tips : List Tip) (begun walks : List Walking) (held : List Placed) (i n room : ℕ) (slot : Place) (before batch : List Proved) → Distinct (map slot_of held) → Trying cfg tips begun walks held i n (Some slot) before batch → length before + length (filter (is_unreleased_of i) held) ≤ room → length batch < room
+room_there cfg tips begun walks held i n room slot before batch d s h =
+    let c = comes true i n held slot d s.next in
     let more = (take_next n (filter (is_unreleased_of i) held) c.packet c.behind c.is).1 in
     let long = s.long in
     omega arith
 
-pub trying_more : (cfg : Config) (tips : List Tip) (begun walks later : List Walking) (held : List Placed) (i n : ℕ) (place : Place) (next : Option Place) (before batch more : List Proved) → Distinct (map place_of held) → Trying cfg tips begun walks held i n (Some place) before batch → next ≡ next_unreleased place.0 held → rows_of later ≡ rows_of walks → ((x : Placed) → find (stands_at place.0) held ≡ Some x → All (IsAbove x.holding.name.interval) later) → ((x : Placed) → find (stands_at place.0) held ≡ Some x → map release_in more ≡ map release_in batch ++ proof_of cfg tips (rows_of walks) x.holding) → (AreProved held batch → AreProved held more) → length more ≤ length batch + 1 → Trying cfg tips begun later held i (n + 1) next before more
-trying_more cfg tips begun walks later held i n place next before batch more d s e rows above releases proved long =
-    let c = comes true i n held place d s.next in
+pub trying_more : (cfg : Config) (tips : List Tip) (begun walks later : List Walking) (held : List Placed) (i n : ℕ) (slot : Place) (next : Option Place) (before batch more : List Proved) → Distinct (map slot_of held) → Trying cfg tips begun walks held i n (Some slot) before batch → next ≡ next_unreleased slot.0 held → rows_of later ≡ rows_of walks → ((x : Placed) → find (stands_at slot.0) held ≡ Some x → All (IsAbove x.holding.name.interval) later) → ((x : Placed) → find (stands_at slot.0) held ≡ Some x → map release_in more ≡ map release_in batch ++ proof_of cfg tips (rows_of walks) x.holding) → (AreProved held batch → AreProved held more) → length more ≤ length batch + 1 → Trying cfg tips begun later held i (n + 1) next before more
+trying_more cfg tips begun walks later held i n slot next before batch more d s e rows above releases proved long =
+    let c = comes true i n held slot d s.next in
     let taken = take_next n (filter (is_unreleased_of i) held) c.packet c.behind c.is in
     let count : suc n ≡ n + 1 = omega arith in
     let f : Placed → List Release = λ (x : Placed). proof_of cfg tips (rows_of begun) x.holding in
@@ -143,7 +143,7 @@ take_all (suc n) [] h = refl
 take_all zero (x ∷ xs) h = absurd (cc)
 take_all (suc n) (x ∷ xs) h = ap (λ ys. x ∷ ys) (take_all n xs h)
 
-no_first : (xs : List Placed) → first_place xs ≡ None → xs ≡ []
+no_first : (xs : List Placed) → first_slot xs ≡ None → xs ≡ []
 no_first [] h = refl
 no_first (x ∷ xs) h = absurd (cc)
 
@@ -189,7 +189,7 @@ unreleased_few (x ∷ xs) i =
 
 -- ---- a walk down the intervals that are reached
 
--- the packets of an interval count as many with their places
+-- the packets of an interval count as many with their slots
 turn_length : (held : List Placed) (i : ℕ) → length (filter (in_interval i) (map holding_at held)) ≡ length (filter (is_of i) held)
 turn_length held i = ap length (filter-map (in_interval i) holding_at held) ∙ length-map (filter (is_of i) held) holding_at
 

@@ -1,4 +1,4 @@
--- Lists of releases: their places, their names, and the heads of their records.
+-- Lists of releases: their slots, their names, and the heads of their records.
 use Rattle.std.specs.Prelude.{ℕ, Bool, ◌&&◌, List, [], ◌∷◌, ◌++◌, length, ◌==◌, if◌then◌else◌}
 use Rattle.std.specs.List.{list_any}
 use Rattle.tesla_base.specs.declared.names.Name.{Name}
@@ -11,7 +11,7 @@ each_after f before [] = []
 each_after f before (x ∷ xs) = f before x ++ each_after f (before ++ x ∷ []) xs
 
 abbrev pub is_at : ℕ → Release → Bool
-is_at place release = release.place == place
+is_at slot release = release.place == slot
 
 abbrev pub has_name : Name → Release → Bool
 has_name name release = release.name.interval == name.interval && release.name.number == name.number

@@ -5,7 +5,7 @@ use Rattle.tesla_state.specs.declared.replies.Reply.TheVariants as replies
 use Rattle.tesla_state.specs.declared.replies.Take.{Take}
 use Rattle.tesla_state.specs.declared.replies.Take.TheVariants.{Given, Empty, Over}
 
--- the payload stands at the front of the bytes
+-- the payload stands at the start of the bytes
 abbrev pub reply_shown : Take → List ℕ → Reply
 reply_shown (Given head) into = replies.Given head (take head.length into)
 reply_shown Empty into = replies.Empty

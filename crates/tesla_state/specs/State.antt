@@ -1,4 +1,4 @@
--- What a receiver keeps: the newest keys, the packets that have a place, those that wait to be given, which ingests
+-- What a receiver keeps: the newest keys, the packets that have a slot, those that wait to be given, which ingests
 -- have ended, and the counts.
 use Rattle.std.specs.Prelude.{ℕ, Bool, List}
 use Rattle.tesla_keys.specs.Tip.{Tip}
@@ -12,7 +12,7 @@ pub record State : Type 0 where
   pub config : Config
   -- the newest key of each chain
   pub tips : List Tip
-  -- the packets that have a place, in order of arrival
+  -- the packets that have a slot, in order of arrival
   pub held : List Holding
   -- the released packets that weren't given yet, in order
   pub waiting : List Release

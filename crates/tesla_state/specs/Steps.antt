@@ -65,7 +65,7 @@ is_released item = item.released
 abbrev pub released_of : List Holding → List Release → List Release
 released_of held batch = each_after unless_named (map as_release (filter is_released held)) batch
 
--- ---- places
+-- ---- slots
 
 -- a key of the chain that reaches the interval was taken
 abbrev pub is_passed : List Tip → ℕ → ℕ → Bool

@@ -1,4 +1,4 @@
--- What contracts see of the packets that have a place, and of those that wait to be taken.
+-- What contracts see of the packets that have a slot, and of those that wait to be taken.
 use Rattle.std.specs.Prelude.{◌≡◌, ℕ, ◌≤◌, Bool, true, false, not, ◌&&◌, ◌||◌, List, [], ◌∷◌, length, map, take, filter, find, Option, Some, None, cond, All, nat_lt, nat_le, drop, flat_map, min, ◌+◌, ◌-◌, ◌^◌, ◌==◌, if◌then◌else◌}
 use Rattle.std.specs.List.{list_any, list_all}
 use Rattle.tesla_base.specs.declared.names.Name.{Name}
@@ -20,7 +20,7 @@ use Rattle.tesla_walks.specs.Holding.{Holding}
 use Rattle.tesla_state.specs.Steps.{is_named_so, is_let_go, is_passed, marked, in_interval}
 use Rattle.tesla_state.specs.declared.reach.Reach.{Reach}
 
--- a held packet with its place
+-- a held packet with its slot
 pub record Placed : Type 0 where
   pub place : ℕ
   pub holding : Holding
@@ -41,19 +41,19 @@ pub record Stored : Type 0 where
 abbrev pub placed_in : ℕ → Held → Placed
 placed_in chains held = record { place = held.place; holding = holding_in chains held.item }
 
-abbrev pub place_of : Placed → ℕ
-place_of x = x.place
+abbrev pub slot_of : Placed → ℕ
+slot_of x = x.place
 
-abbrev pub place_here : Placed → ℕ
-place_here x = x.place
+abbrev pub slot_here : Placed → ℕ
+slot_here x = x.place
 
 abbrev pub holding_at : Placed → Holding
 holding_at x = x.holding
 
 abbrev pub stands_at : ℕ → Placed → Bool
-stands_at place x = x.place == place
+stands_at slot x = x.place == slot
 
--- the packet in a place, as its release on a chain
+-- the packet in a slot, as its release on a chain
 abbrev pub release_by : ℕ → Option Placed → Release
 release_by chain None = record { place = 0; name = record { interval = 0; number = 0 }; chain = record { 0 = chain } }
 release_by chain (Some x) = record { place = x.holding.order; name = x.holding.name; chain = record { 0 = chain } }
@@ -66,11 +66,11 @@ abbrev pub waits : Placed → Bool
 waits x = x.holding.released && not x.holding.taken
 
 abbrev pub waits_at : ℕ → Placed → Bool
-waits_at place x = stands_at place x && waits x
+waits_at slot x = stands_at slot x && waits x
 
 -- the packet stands there and doesn't wait to be taken
 abbrev pub rests_at : ℕ → Placed → Bool
-rests_at place x = stands_at place x && not (waits x)
+rests_at slot x = stands_at slot x && not (waits x)
 
 -- only what was released was taken
 abbrev pub is_sound : Placed → Bool
@@ -83,26 +83,26 @@ is_proved_by proved x =
     && (not x.holding.released && (x.holding.order == proved.release.place && (x.holding.name.interval == proved.release.name.interval && x.holding.name.number == proved.release.name.number)))
 
 abbrev pub with_released : ℕ → Placed → Placed
-with_released place x = if x.place == place then record x { holding = record x.holding { released = true } } else x
+with_released slot x = if x.place == slot then record x { holding = record x.holding { released = true } } else x
 
 abbrev pub with_taken : ℕ → Placed → Placed
-with_taken place x = if x.place == place then record x { holding = record x.holding { taken = true } } else x
+with_taken slot x = if x.place == slot then record x { holding = record x.holding { taken = true } } else x
 
--- what is held without the packet in a place
+-- what is held without the packet in a slot
 abbrev pub without : ℕ → List Placed → List Placed
-without place held = filter (λ x. not (stands_at place x)) held
+without slot held = filter (λ x. not (stands_at slot x)) held
 
-abbrev pub place_in : Waiting → ℕ
-place_in entry = entry.place.0
+abbrev pub slot_in : Waiting → ℕ
+slot_in entry = entry.place.0
 
--- the places differ, and each entry that waits is of a packet that was released and not taken, each once
+-- the slots differ, and each entry that waits is of a packet that was released and not taken, each once
 pub record IsStored (capacity room : ℕ) (held : List Placed) (waiting : List Waiting) : Type 0 where
   pub few : capacity ≤ 65536
   pub fits : length held ≤ capacity
   pub same : room ≡ capacity
-  pub distinct : Distinct (map place_of held)
+  pub distinct : Distinct (map slot_of held)
   pub sound : list_all is_sound held ≡ true
-  pub once : Distinct (map place_in waiting)
+  pub once : Distinct (map slot_in waiting)
   pub live : list_all (λ entry. list_any (waits_at entry.place.0) held) waiting ≡ true
 
 abbrev pub release_of : Proved → Release
@@ -118,12 +118,12 @@ after_batch batch now x =
     if list_any (is_at x.holding.order) batch && not (list_any (is_at x.holding.order) now) then []
     else record x { holding = marked now x.holding } ∷ []
 
--- what stands in a place of each of these
+-- what stands in a slot of each of these
 abbrev pub AreProved : List Placed → List Proved → Type 0
 AreProved held batch = list_all (λ (proved : Proved). list_any (is_proved_by proved) held) batch ≡ true
 
-abbrev pub place_proved : Proved → ℕ
-place_proved proved = proved.place.0
+abbrev pub slot_proved : Proved → ℕ
+slot_proved proved = proved.place.0
 
 abbrev pub order_of : Placed → ℕ
 order_of x = x.holding.order
@@ -141,18 +141,18 @@ released_if false proved = proved ∷ []
 abbrev pub held_then : List Placed → Proved → List Placed
 held_then held proved = settled_if (is_named held proved.release.name) held proved
 
--- the place of the first packet
-abbrev pub first_place : List Placed → Option Place
-first_place [] = None
-first_place (x ∷ xs) = Some (record { 0 = x.place })
+-- the slot of the first packet
+abbrev pub first_slot : List Placed → Option Place
+first_slot [] = None
+first_slot (x ∷ xs) = Some (record { 0 = x.place })
 
 abbrev pub is_of : ℕ → Placed → Bool
 is_of interval x = in_interval interval x.holding
 
--- the place of the next packet of the same interval behind the one in a place
-abbrev pub next_place : ℕ → List Placed → Option Place
-next_place place [] = None
-next_place place (x ∷ xs) = cond (stands_at place x) (first_place (filter (is_of x.holding.name.interval) xs)) (next_place place xs)
+-- the slot of the next packet of the same interval behind the one in a slot
+abbrev pub next_slot : ℕ → List Placed → Option Place
+next_slot slot [] = None
+next_slot slot (x ∷ xs) = cond (stands_at slot x) (first_slot (filter (is_of x.holding.name.interval) xs)) (next_slot slot xs)
 
 -- the packet is of the interval and isn't released
 abbrev pub is_unreleased_of : ℕ → Placed → Bool
@@ -160,18 +160,18 @@ is_unreleased_of interval x = is_of interval x && not x.holding.released
 
 -- it stands there and isn't released
 abbrev pub is_unreleased_at : ℕ → Placed → Bool
-is_unreleased_at place x = stands_at place x && not x.holding.released
+is_unreleased_at slot x = stands_at slot x && not x.holding.released
 
--- the place of the next packet of the same interval behind the one in a place, among those that aren't released
+-- the slot of the next packet of the same interval behind the one in a slot, among those that aren't released
 abbrev pub next_unreleased : ℕ → List Placed → Option Place
-next_unreleased place [] = None
-next_unreleased place (x ∷ xs) = cond (stands_at place x) (first_place (filter (is_unreleased_of x.holding.name.interval) xs)) (next_unreleased place xs)
+next_unreleased slot [] = None
+next_unreleased slot (x ∷ xs) = cond (stands_at slot x) (first_slot (filter (is_unreleased_of x.holding.name.interval) xs)) (next_unreleased slot xs)
 
--- the item in a place has room for its payload, and zeros behind its tags
+-- the item in a slot has room for its payload, and zeros behind its tags
 abbrev pub IsItemOf : ℕ → Held → Type 0
 IsItemOf chains held = IsItem chains held.item
 
--- what a store holds: places, and items
+-- what a store holds: slots, and items
 pub record IsStore (capacity room chains : ℕ) (held : List Held) (waiting : List Waiting) : Type 0 where
   pub stored : IsStored capacity room (map (placed_in chains) held) waiting
   pub items : All (IsItemOf chains) held
@@ -195,7 +195,7 @@ after_take cfg tips order x =
     then (if list_all (is_passed tips x.holding.name.interval) (chains cfg) then [] else record x { holding = record x.holding { taken = true } } ∷ [])
     else x ∷ []
 
--- a take gave this head of the packet that waited first, whose payload is at the front of the bytes now
+-- a take gave this head of the packet that waited first, whose payload is at the start of the bytes now
 pub record IsGiven (cfg : Config) (tips : List Tip) (position : ℕ) (old new : Stored) (head : Head) (before after : List ℕ) : Type 0 where
   pub packet : Placed
   pub found : find (λ x. x.holding.order == packet.holding.order) old.held ≡ Some packet

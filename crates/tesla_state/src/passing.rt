@@ -7,7 +7,7 @@ ghost use Rattle.tesla_fitting.specs.Config.{chains};
 ghost use Rattle.tesla_walks.specs.ItemShown.{holding_in};
 ghost use Rattle.tesla_walks.specs.Offered.{IsOfChains};
 ghost use Rattle.tesla_state.specs.Steps.{is_passed, is_over};
-ghost use Rattle.tesla_state.specs.Stored.{Placed, place_of, stands_at, waits, without, is_of, is_unreleased_at, is_unreleased_of, is_idle, in_reach};
+ghost use Rattle.tesla_state.specs.Stored.{Placed, slot_of, stands_at, waits, without, is_of, is_unreleased_at, is_unreleased_of, is_idle, in_reach};
 ghost use Rattle.tesla_walks.specs.Walking.{rows_of};
 
 use crate::Store;
@@ -97,7 +97,7 @@ impl Store {
 
     // Lets the packets of an interval go that every chain has passed, but for those that wait to be taken.
     fn sweep_passed(&mut self, interval: u32)
-        requires { Distinct (map place_of self.old.held) }
+        requires { Distinct (map slot_of self.old.held) }
         ensures capacity { self.new.capacity ≡ self.old.capacity }
         ensures reserved { self.new.reserved ≡ self.old.reserved }
         ensures chains { self.new.chains ≡ self.old.chains }
@@ -118,7 +118,7 @@ impl Store {
     // Lets the packets of an interval go that aren't released, and that no chain can prove any more.
     fn sweep_unreleased(&mut self, config: &Config, tips: &[Verifier], interval: u32)
         requires tips { length tips.now ≡ length config.now.setup.rows }
-        requires apart { Distinct (map place_of self.old.held) }
+        requires apart { Distinct (map slot_of self.old.held) }
         ensures capacity { self.new.capacity ≡ self.old.capacity }
         ensures reserved { self.new.reserved ≡ self.old.reserved }
         ensures chains { self.new.chains ≡ self.old.chains }
@@ -140,7 +140,7 @@ impl Store {
     // those are among the packets that aren't released.
     fn sweep(&mut self, config: &Config, tips: &[Verifier], interval: u32)
         requires tips { length tips.now ≡ length config.now.setup.rows }
-        requires apart { Distinct (map place_of self.old.held) }
+        requires apart { Distinct (map slot_of self.old.held) }
         ensures capacity { self.new.capacity ≡ self.old.capacity }
         ensures reserved { self.new.reserved ≡ self.old.reserved }
         ensures chains { self.new.chains ≡ self.old.chains }
@@ -160,7 +160,7 @@ impl Store {
     pub fn let_go(&mut self, config: &Config, tips: &[Verifier], walks: &[Walk], reach: &Reach)
         requires tips { length tips.now ≡ length config.now.setup.rows }
         requires chains { All (IsOfChains 8) (rows_of walks.now) }
-        requires apart { Distinct (map place_of self.old.held) }
+        requires apart { Distinct (map slot_of self.old.held) }
         ensures capacity { self.new.capacity ≡ self.old.capacity }
         ensures reserved { self.new.reserved ≡ self.old.reserved }
         ensures chains { self.new.chains ≡ self.old.chains }

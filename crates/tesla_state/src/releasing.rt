@@ -4,7 +4,7 @@ ghost use Rattle.std.specs.Prelude.{◌≡◌, ◌++◌, true, map, flat_map};
 ghost use Rattle.std.specs.List.{list_any};
 ghost use Rattle.tesla_base.specs.Members.{Distinct};
 ghost use Rattle.tesla_state.specs.Steps.{released_of};
-ghost use Rattle.tesla_state.specs.Stored.{is_proved_by, held_then, released_if, is_named, release_of, AreProved, place_of, order_of, holding_at, place_proved, after_batch};
+ghost use Rattle.tesla_state.specs.Stored.{is_proved_by, held_then, released_if, is_named, release_of, AreProved, slot_of, order_of, holding_at, slot_proved, after_batch};
 
 use crate::Store;
 use tesla_walks::Proved;
@@ -31,8 +31,8 @@ impl Store {
     /// others of the batch go.
     pub fn release_all(&mut self, batch: &[Proved])
         requires proved { AreProved self.old.held batch.now }
-        requires places { Distinct (map place_proved batch.now) }
-        requires apart { Distinct (map place_of self.old.held) }
+        requires slots { Distinct (map slot_proved batch.now) }
+        requires apart { Distinct (map slot_of self.old.held) }
         requires orders { Distinct (map order_of self.old.held) }
         ensures capacity { self.new.capacity ≡ self.old.capacity }
         ensures reserved { self.new.reserved ≡ self.old.reserved }

@@ -4,7 +4,7 @@ ghost use Rattle.std.specs.Prelude.{◌≡◌, ◌+◌, ◌<◌, ◌≤◌, ◌�
 ghost use Rattle.std.specs.List.{list_any};
 ghost use Rattle.tesla_fitting.specs.Rows.{tag_in};
 ghost use Rattle.tesla_base.specs.Members.{Distinct};
-ghost use Rattle.tesla_state.specs.Stored.{Placed, stands_at, rests_at, waits, is_proved_by, with_released, without, place_of, is_of, is_unreleased_at, is_unreleased_of, first_place, next_place, next_unreleased};
+ghost use Rattle.tesla_state.specs.Stored.{Placed, stands_at, rests_at, waits, is_proved_by, with_released, without, slot_of, is_of, is_unreleased_at, is_unreleased_of, first_slot, next_slot, next_unreleased};
 ghost use Rattle.tesla_walks.specs.ItemShown.{holding_in, IsItem};
 ghost use Rattle.tesla_state.specs.Steps.{in_interval, is_named_so};
 
@@ -61,7 +61,7 @@ impl Store {
     pub fn held(&self) -> u32
         ensures value { result ≡ length self.now.held }
         ensures most { result ≤ self.now.capacity }
-        ensures apart { Distinct (map place_of self.now.held) }
+        ensures apart { Distinct (map slot_of self.now.held) }
     {
         self.buffer.held()
     }
@@ -106,7 +106,7 @@ impl Store {
 
     /// The place of the first packet of an interval; `None` exactly where none is held.
     pub fn first_of(&self, interval: u32) -> Option<Place>
-        ensures { result ≡ first_place (filter (is_of interval) self.now.held) }
+        ensures { result ≡ first_slot (filter (is_of interval) self.now.held) }
     {
         self.buffer.first_of(interval)
     }
@@ -115,7 +115,7 @@ impl Store {
     /// last.
     pub fn next_of(&self, place: Place) -> Option<Place>
         requires { list_any (stands_at place.0) self.now.held ≡ true }
-        ensures { result ≡ next_place place.0 self.now.held }
+        ensures { result ≡ next_slot place.0 self.now.held }
     {
         self.buffer.next_of(place)
     }
@@ -129,7 +129,7 @@ impl Store {
 
     /// The place of the first packet of an interval that isn't released; `None` exactly where none is held.
     pub fn first_unreleased(&self, interval: u32) -> Option<Place>
-        ensures { result ≡ first_place (filter (is_unreleased_of interval) self.now.held) }
+        ensures { result ≡ first_slot (filter (is_unreleased_of interval) self.now.held) }
     {
         self.buffer.first_unreleased(interval)
     }

@@ -14,7 +14,7 @@ use tesla_buffer::{Fate, Item};
 use tesla_fitting::Config;
 use tesla_keys::Verifier;
 
-// Copies a packet's payload to the front of the buffer. The rest of the buffer stays as it was.
+// Copies a packet's payload to the start of the buffer. The rest of the buffer stays as it was.
 fn give(item: &Item, chain: u8, position: u64, into: &mut [u8; MOST_PAYLOAD]) -> Head
     requires { item.now.length ≤ 1200 }
     ensures head { result ≡ record { position = position; interval = item.now.name.interval; number = item.now.name.number; chain = chain; length = item.now.length } }

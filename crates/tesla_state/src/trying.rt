@@ -6,12 +6,12 @@ ghost use Rattle.std.specs.List.Sorted.{IsPermutation};
 ghost use Rattle.tesla_frame.specs.Frame.{ChainsRise};
 ghost use Rattle.tesla_base.specs.Members.{Distinct};
 ghost use Rattle.tesla_walks.specs.ReachedIntervals.{AreIndices, Spans};
-ghost use Rattle.tesla_walks.specs.Proved.{RiseBy, place_of, release_in, proof_of};
+ghost use Rattle.tesla_walks.specs.Proved.{RiseBy, arrival_number, release_in, proof_of};
 ghost use Rattle.tesla_state.specs.Gathering.{order_of, in_turn};
 ghost use Rattle.tesla_walks.specs.declared.release.Release.{Release};
 ghost use Rattle.tesla_walks.specs.Offered.{IsOfChains};
 ghost use Rattle.tesla_state.specs.Steps.{batch_of, in_interval};
-ghost use Rattle.tesla_state.specs.Stored.{Placed, place_proved, place_here, holding_at, stands_at, is_of, AreProved};
+ghost use Rattle.tesla_state.specs.Stored.{Placed, slot_proved, slot_here, holding_at, stands_at, is_of, AreProved};
 ghost use Rattle.tesla_walks.specs.Walking.{rows_of, IsAbove, left, tries, pairs};
 
 use crate::Store;
@@ -36,7 +36,7 @@ fn append(batch: &mut Vec<Proved>, proved: Option<Proved>)
 
 // Puts a batch into order of arrival.
 fn order(batch: &mut Vec<Proved>)
-    ensures order { (releases : List Release) → RiseBy place_of releases → IsPermutation releases (map release_in batch.old.items) → map release_in batch.new.items ≡ releases }
+    ensures order { (releases : List Release) → RiseBy arrival_number releases → IsPermutation releases (map release_in batch.old.items) → map release_in batch.new.items ≡ releases }
     ensures same { IsPermutation batch.old.items batch.new.items }
     ensures capacity { vec_capacity batch.new ≡ vec_capacity batch.old }
 {
@@ -93,7 +93,7 @@ impl Store {
     )
         requires tips { length newest.now.tips.now ≡ length newest.now.config.now.setup.rows }
         requires chains { self.now.chains ≡ length newest.now.config.now.setup.rows }
-        requires apart { Distinct (map place_here self.now.held) }
+        requires apart { Distinct (map slot_here self.now.held) }
         requires rise { ChainsRise (rows_of walks.old) }
         requires above { All (IsAbove interval) walks.old }
         requires room { length batch.old.items + length (filter (is_of interval) self.now.held) ≤ vec_capacity batch.old }
@@ -128,7 +128,7 @@ impl Store {
     )
         requires tips { length newest.now.tips.now ≡ length newest.now.config.now.setup.rows }
         requires chains { self.now.chains ≡ length newest.now.config.now.setup.rows }
-        requires apart { Distinct (map place_here self.now.held) }
+        requires apart { Distinct (map slot_here self.now.held) }
         requires of_chains { All (IsOfChains (length newest.now.tips.now)) (rows_of walks.old) }
         requires indices { AreIndices newest.now.tips.now reach.now.indices }
         requires few { length newest.now.tips.now ≤ 8 }
@@ -163,7 +163,7 @@ impl Store {
     )
         requires tips { length newest.now.tips.now ≡ length newest.now.config.now.setup.rows }
         requires chains { self.now.chains ≡ length newest.now.config.now.setup.rows }
-        requires apart { Distinct (map place_here self.now.held) }
+        requires apart { Distinct (map slot_here self.now.held) }
         requires orders { RiseBy order_of (map holding_at self.now.held) }
         requires of_chains { All (IsOfChains (length newest.now.tips.now)) (rows_of walks.old) }
         requires indices { AreIndices newest.now.tips.now reach.now.indices }
@@ -175,7 +175,7 @@ impl Store {
         requires room { length self.now.held ≤ vec_capacity batch.old }
         ensures releases { map release_in batch.new.items ≡ batch_of newest.now.config.now newest.now.tips.now (rows_of walks.old) (map holding_at self.now.held) }
         ensures proved { AreProved self.now.held batch.new.items }
-        ensures places { Distinct (map place_proved batch.new.items) }
+        ensures slots { Distinct (map slot_proved batch.new.items) }
         ensures capacity { vec_capacity batch.new ≡ vec_capacity batch.old }
         ensures rows { rows_of walks.new ≡ rows_of walks.old }
         ensures cost { steps.new + left newest.now.tips.now walks.new ≤ steps.old + left newest.now.tips.now walks.old

@@ -4,7 +4,7 @@ use Rattle.std.specs.Str.{bytes_eq}
 use Rattle.std.specs.Int.{w64, from_be_bytes, to_be_bytes}
 use Rattle.std.proofs.lemmas.Nat.{from_be_bytes-to_be_bytes_8}
 use Rattle.std.proofs.lemmas.Slice.Eq.{bytes_eq-Decides}
-use Rattle.tesla_base.proofs.Fronts.{some_is, test_some}
+use Rattle.tesla_base.proofs.Prefixes.{some_is, test_some}
 use Rattle.tesla_base.specs.Field.{number_at}
 use Rattle.tesla_sync.specs.Ask.{IsAsk, ask_of, ask_text, if_spelled}
 

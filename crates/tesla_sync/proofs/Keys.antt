@@ -7,7 +7,7 @@ use Rattle.std.proofs.lemmas.Slice.Eq.{bytes_eq-Decides}
 use Rattle.hex.specs.Hex.{decode_sized, encode_lower, lower_digits}
 use Rattle.hex.specs.declared.error.FromHexError.{FromHexError}
 use Rattle.hex.proofs.HexLemmas.{decode_of-ok, decode_sized-encode_lower, decode_sized-ok, decode_sized-twice, length-encode_with}
-use Rattle.tesla_base.proofs.Fronts.{some_is, test_some}
+use Rattle.tesla_base.proofs.Prefixes.{some_is, test_some}
 use Rattle.tesla_base.specs.declared.names.Key.{Key}
 use Rattle.tesla_sync.specs.KeyText.{IsKeyText, key_of, key_spelled, key_text}
 
@@ -16,8 +16,8 @@ pub key_only : (text : List ℕ) (key : Key) → IsKeyText text key → key_of t
 key_only text key is =
     let digits : length (encode_lower key.0) ≡ 64 = omega (arith, length-encode_with lower_digits key.0, is.whole) in
     let long : length text ≡ 65 = ap length is.spelled ∙ omega (arith, digits, length-append (encode_lower key.0) (codes "\n")) in
-    let front : take 64 text ≡ encode_lower key.0 = ap (take 64) is.spelled ∙ take_at (encode_lower key.0) (codes "\n") 64 digits in
-    let read : decode_sized (take 64 text) 32 ≡ Ok key.0 = ap (λ t. decode_sized t 32) front ∙ decode_sized-encode_lower key.0 32 is.whole is.bytes in
+    let prefix : take 64 text ≡ encode_lower key.0 = ap (take 64) is.spelled ∙ take_at (encode_lower key.0) (codes "\n") 64 digits in
+    let read : decode_sized (take 64 text) 32 ≡ Ok key.0 = ap (λ t. decode_sized t 32) prefix ∙ decode_sized-encode_lower key.0 32 is.whole is.bytes in
     let same : bytes_eq text (key_text key) ≡ true = (bytes_eq-Decides text (key_text key)).1 is.spelled in
     rw (long, read, same) refl
 

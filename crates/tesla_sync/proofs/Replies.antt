@@ -8,11 +8,11 @@ use Rattle.std.proofs.lemmas.List.{length-append}
 use Rattle.std.proofs.lemmas.Nat.{from_be_bytes-to_be_bytes_8}
 use Rattle.std.proofs.lemmas.Slice.Eq.{bytes_eq-Decides}
 use Rattle.sha2.proofs.Facts256.{length-sha256}
-use Rattle.tesla_base.proofs.Fronts.{some_is}
+use Rattle.tesla_base.proofs.Prefixes.{some_is}
 use Rattle.tesla_base.specs.Field.{number_at}
 use Rattle.tesla_base.specs.declared.names.Key.{Key}
 use Rattle.tesla_prf.specs.Hmac.{hmac_of}
-use Rattle.tesla_sync.specs.Reply.{HasShape, IsReply, both_times, reply_front, reply_head, reply_judged, reply_text, times_judged, times_of}
+use Rattle.tesla_sync.specs.Reply.{HasShape, IsReply, both_times, reply_prefix, reply_head, reply_judged, reply_text, times_judged, times_of}
 use Rattle.tesla_sync.specs.declared.reply.SyncRefusal.{SyncRefusal}
 use Rattle.tesla_sync.specs.declared.reply.SyncRefusal.TheVariants as refusals
 use Rattle.tesla_sync.proofs.Asks.{below}
@@ -22,7 +22,7 @@ unfolding hmac_of
 length-hmac_of key text = length-sha256 _
 
 pub length-reply_text : (key : Key) (t_r t_s : ℕ) → length (reply_text key t_r t_s) ≡ 53
-length-reply_text key t_r t_s = omega (arith, length-hmac_of key.0 (reply_front t_r t_s), length-append (reply_front t_r t_s) (hmac_of key.0 (reply_front t_r t_s)))
+length-reply_text key t_r t_s = omega (arith, length-hmac_of key.0 (reply_prefix t_r t_s), length-append (reply_prefix t_r t_s) (hmac_of key.0 (reply_prefix t_r t_s)))
 
 -- ---- the shape
 

@@ -12,12 +12,12 @@ abbrev pub reply_head : List ℕ
 reply_head = codes "TREP" ++ 1 ∷ []
 
 -- what is tagged: the magic, the version, the receiver's time and the sender's time
-abbrev pub reply_front : ℕ → ℕ → List ℕ
-reply_front t_r t_s = codes "TREP" ++ 1 ∷ [] ++ to_be_bytes w64 t_r ++ to_be_bytes w64 t_s
+abbrev pub reply_prefix : ℕ → ℕ → List ℕ
+reply_prefix t_r t_s = codes "TREP" ++ 1 ∷ [] ++ to_be_bytes w64 t_r ++ to_be_bytes w64 t_s
 
 -- that, and its HMAC under the shared key
 abbrev pub reply_text : Key → ℕ → ℕ → List ℕ
-reply_text key t_r t_s = reply_front t_r t_s ++ hmac_of key.0 (reply_front t_r t_s)
+reply_text key t_r t_s = reply_prefix t_r t_s ++ hmac_of key.0 (reply_prefix t_r t_s)
 
 -- the text is the reply to the ask of that time, by a sender whose clock read the other
 pub record IsReply (text : List ℕ) (key : Key) (t_r t_s : ℕ) : Type 0 where

@@ -2,7 +2,7 @@
 
 ghost use Rattle.std.specs.Prelude.{◌≡◌, ℕ, ◌+◌, Ok, Err, IfOk, ◌≢◌};
 ghost use Rattle.tesla_prf.specs.Hmac.{hmac_of};
-ghost use Rattle.tesla_sync.specs.Reply.{IsReply, reply_front, reply_judged, reply_text, times_of};
+ghost use Rattle.tesla_sync.specs.Reply.{IsReply, reply_prefix, reply_judged, reply_text, times_of};
 ghost use Rattle.tesla_sync.specs.declared.reply.SyncRefusal.TheVariants as refusals;
 
 use std::sync::ledger::Ledger;
@@ -13,7 +13,7 @@ use tesla_prf::hmac_sha256;
 const HEAD: [u8; 5] = [b'T', b'R', b'E', b'P', 1];
 
 /// The bytes before the tag.
-const FRONT: usize = 21;
+const PREFIX_LENGTH: usize = 21;
 
 /// The bytes of a reply.
 const LENGTH: usize = 53;
@@ -30,14 +30,14 @@ pub enum SyncRefusal {
 }
 
 // The magic, the version, the receiver's time and the sender's time: what is tagged.
-fn front(t_r: u64, t_s: u64) -> [u8; FRONT]
-    ensures { result ≡ reply_front t_r t_s }
+fn prefix(t_r: u64, t_s: u64) -> [u8; PREFIX_LENGTH]
+    ensures { result ≡ reply_prefix t_r t_s }
 {
-    let mut front = [0; FRONT];
-    front[..5].copy_from_slice(&HEAD);
-    front[5..13].copy_from_slice(&t_r.to_be_bytes());
-    front[13..].copy_from_slice(&t_s.to_be_bytes());
-    front
+    let mut prefix = [0; PREFIX_LENGTH];
+    prefix[..5].copy_from_slice(&HEAD);
+    prefix[5..13].copy_from_slice(&t_r.to_be_bytes());
+    prefix[13..].copy_from_slice(&t_s.to_be_bytes());
+    prefix
 }
 
 /// The reply to the ask of `t_r` of a sender whose clock reads `t_s` microseconds: 53 bytes, of which the last 32 are
@@ -47,10 +47,10 @@ pub fn write_reply<L: Ledger>(key: &Key, t_r: u64, t_s: u64, steps: &mut Steps<L
     ensures spelled { IsReply result key.now t_r t_s }
     ensures cost { steps.new ≡ steps.old + 1 }
 {
-    let front = front(t_r, t_s);
+    let prefix = prefix(t_r, t_s);
     let mut reply = [0; LENGTH];
-    reply[..FRONT].copy_from_slice(&front);
-    reply[FRONT..].copy_from_slice(&hmac_sha256(&key.0, &front, steps));
+    reply[..PREFIX_LENGTH].copy_from_slice(&prefix);
+    reply[PREFIX_LENGTH..].copy_from_slice(&hmac_sha256(&key.0, &prefix, steps));
     reply
 }
 

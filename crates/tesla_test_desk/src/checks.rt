@@ -10,7 +10,7 @@ use tesla_memory_desk::MemoryDesk;
 const MOST_SENT: usize = 100;
 
 /// A status, a space and what the console holds.
-pub fn told_of(alloc: Global, status: u8, desk: &MemoryDesk) -> Result<String, Fail> {
+pub fn run_result(alloc: Global, status: u8, desk: &MemoryDesk) -> Result<String, Fail> {
     let console = std::str::from_utf8(desk.page(CONSOLE).unwrap_or(b""))?;
     Ok(format!(in alloc; "{status} {console}")?)
 }
@@ -52,13 +52,13 @@ fn sent_of(alloc: Global, desk: &MemoryDesk, words: &str) -> Result<String, Fail
 }
 
 // What is held where a page has so many first bytes of what a word says, or all where that has fewer.
-fn front_of(alloc: Global, desk: &MemoryDesk, words: &str) -> Result<String, Fail> {
+fn prefix_of(alloc: Global, desk: &MemoryDesk, words: &str) -> Result<String, Fail> {
     let (most, word) = words.split_once(' ').ok_or("a number of bytes")?;
     let most: usize = most.parse()?;
     let digits = page_or_digits(alloc, desk, word)?;
     let digits = digits.as_str();
-    let front = digits.get(..most.saturating_mul(2)).unwrap_or(digits);
-    Ok(format!(in alloc; "page {front}")?)
+    let prefix = digits.get(..most.saturating_mul(2)).unwrap_or(digits);
+    Ok(format!(in alloc; "page {prefix}")?)
 }
 
 /// What is held, as in `held_by`, where a line of this kind says these words: `holds` says which word a page holds, or the page of
@@ -75,7 +75,7 @@ pub fn wanted_of(
             let digits = page_or_digits(alloc, desk, words)?;
             Ok(format!(in alloc; "page {digits}")?)
         }
-        "front" => front_of(alloc, desk, words),
+        "front" => prefix_of(alloc, desk, words),
         "sent" => sent_of(alloc, desk, words),
         "lacks" | "silent" => Ok(String::from_str(alloc, "sent ")?),
         _ => Err("another kind".into()),

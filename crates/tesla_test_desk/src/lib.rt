@@ -9,7 +9,7 @@ mod rows;
 mod settings;
 mod spelled;
 
-pub use checks::{held_by, told_of};
+pub use checks::{held_by, run_result};
 pub use frames::{
     SEEDS, SETUP, SETUP_OF_ONE_CHAIN, SETUP_WITH_TAGS_OF_10_BYTES, SETUP_WITH_TAGS_OF_32_BYTES,
     frame,

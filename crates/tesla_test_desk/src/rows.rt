@@ -1,6 +1,6 @@
 //! Rows of plain text: what is set of a desk, a run, and what it has to come to.
 
-use crate::checks::{held_by, told_of, wanted_of};
+use crate::checks::{held_by, run_result, wanted_of};
 use crate::links::{put_clock, put_links};
 use crate::settings::{add_to_page, set};
 use std::alloc::Global;
@@ -49,14 +49,14 @@ fn all_hold(alloc: Global, desk: &MemoryDesk, names: &str, wanted: &str) -> Resu
 }
 
 // Whether what a line says is so, where this was told.
-fn is_so(alloc: Global, desk: &MemoryDesk, told: &str, line: &str) -> Result<bool, Fail> {
+fn is_so(alloc: Global, desk: &MemoryDesk, reported: &str, line: &str) -> Result<bool, Fail> {
     let (kind, rest) = kind_of(line);
     let (names, words) = kind_of(rest);
     match kind {
         "" | "#" | "page" | "link" | "clock" | "set" => Ok(true),
         "told" => {
             let text = rest.strip_suffix('|').unwrap_or(rest);
-            Ok(text.replace(alloc, "\\n", "\n")?.as_str() == told)
+            Ok(text.replace(alloc, "\\n", "\n")?.as_str() == reported)
         }
         _ => {
             let wanted = wanted_of(alloc, desk, kind, words)?;
@@ -82,7 +82,7 @@ impl<'a> Row<'a> {
     }
 
     // Whether `out` is as before, or a line says what it holds.
-    fn is_out_told(&self, desk: &MemoryDesk) -> bool {
+    fn is_out_expected(&self, desk: &MemoryDesk) -> bool {
         self.lines.contains("holds out")
             || self.lines.contains("front out")
             || desk.page("out") == desk.page("before")
@@ -90,15 +90,15 @@ impl<'a> Row<'a> {
 
     /// What isn't as the row says behind a run with this status: the lines that aren't so, and what is told. Empty where all is.
     pub fn wrong(&self, alloc: Global, status: u8, desk: &MemoryDesk) -> Result<String, Fail> {
-        let told = told_of(alloc, status, desk)?;
+        let reported = run_result(alloc, status, desk)?;
         let name = self.name;
         let mut wrong = String::new(alloc);
         for line in self.lines.split('\n') {
-            if !is_so(alloc, desk, told.as_str(), line)? {
-                wrong.push_str(format!(in alloc; "{name}: {line}, and {told}\n")?.as_str())?;
+            if !is_so(alloc, desk, reported.as_str(), line)? {
+                wrong.push_str(format!(in alloc; "{name}: {line}, and {reported}\n")?.as_str())?;
             }
         }
-        if !self.lines.contains("told ") || !self.is_out_told(desk) {
+        if !self.lines.contains("told ") || !self.is_out_expected(desk) {
             wrong.push_str(name)?;
         }
         Ok(wrong)

@@ -3,9 +3,9 @@ use Rattle.std.proofs.Common.{◌≡◌, ℕ, ◌-◌, ◌≤◌, Bool, true, fa
 use Rattle.std.specs.Prelude.{if◌then◌else◌, bytes_eq}
 use Rattle.std.proofs.lemmas.Bool.{eqb-true, eq-eqb}
 use Rattle.std.proofs.lemmas.Slice.Eq.{bytes_eq-Decides}
-use Rattle.tesla_records.specs.Grammar.{Whole, HeadFront, AwaitsHead, NoHead}
+use Rattle.tesla_records.specs.Grammar.{Whole, ParsedHead, AwaitsHead, NoHead}
 use Rattle.tesla_receiver.specs.declared.history.Entry.{Entry}
-use Rattle.tesla_trace.specs.Front.{Read, entry_part, front_of, entry_front, head_behind}
+use Rattle.tesla_trace.specs.Parsing.{Read, entry_part, parse_of, parse_entry, head_behind}
 use Rattle.tesla_trace.proofs.TraceIs.{entry_some}
 
 -- ---- entries
@@ -13,9 +13,9 @@ use Rattle.tesla_trace.proofs.TraceIs.{entry_some}
 pub rest_fewer : (bytes rest : List ℕ) (it : Entry) → Read (it, rest) ≡ entry_part bytes → length rest ≤ length bytes
 rest_fewer bytes rest it e = let h = entry_some bytes (it, rest) (sym e) in omega (arith, h)
 
-pub entry_told : (bytes rest : List ℕ) (it : Entry) → Read (it, rest) ≡ entry_part bytes → entry_front bytes ≡ Whole it (length bytes - length rest)
-unfolding entry_front
-entry_told bytes rest it e = ap (front_of (length bytes)) (sym e)
+pub entry_parsed : (bytes rest : List ℕ) (it : Entry) → Read (it, rest) ≡ entry_part bytes → parse_entry bytes ≡ Whole it (length bytes - length rest)
+unfolding parse_entry
+entry_parsed bytes rest it e = ap (parse_of (length bytes)) (sym e)
 
 -- ---- heads
 
@@ -25,7 +25,7 @@ same_first a b xs ys e = cc
 same_rest : (a b : ℕ) (xs ys : List ℕ) → a ∷ xs ≡ b ∷ ys → xs ≡ ys
 same_rest a b xs ys e = cc
 
-module _ (behind : List ℕ → HeadFront ℕ) where
+module _ (behind : List ℕ → ParsedHead ℕ) where
   -- a part of the magic
   pub part_awaits : (magic bytes : List ℕ) → behind [] ≡ AwaitsHead → length bytes ≤ length magic → bytes ≡ take (length bytes) magic → head_behind magic behind bytes ≡ AwaitsHead
   part_awaits [] [] none few same = none
@@ -35,7 +35,7 @@ module _ (behind : List ℕ → HeadFront ℕ) where
       ap (λ (c : Bool). if c then head_behind magic behind bytes else NoHead) (eq-eqb b wanted (same_first b wanted bytes (take (length bytes) magic) same))
       ∙ part_awaits magic bytes none (omega (arith, few)) (same_rest b wanted bytes (take (length bytes) magic) same)
 
-  none_by : (t : Bool) (o : HeadFront ℕ) → (t ≡ true → o ≡ NoHead) → (if t then o else NoHead) ≡ NoHead
+  none_by : (t : Bool) (o : ParsedHead ℕ) → (t ≡ true → o ≡ NoHead) → (if t then o else NoHead) ≡ NoHead
   none_by true o h = h refl
   none_by false o h = refl
 
@@ -52,8 +52,8 @@ module _ (behind : List ℕ → HeadFront ℕ) where
 not_true : true ≡ false → ⊥
 not_true e = absurd cc
 
-pub is_part_awaits : (magic bytes : List ℕ) (result : Bool) (behind : List ℕ → HeadFront ℕ) → result ≡ bytes_eq bytes (take (length bytes) magic) → length bytes ≤ length magic → result ≡ true → behind [] ≡ AwaitsHead → head_behind magic behind bytes ≡ AwaitsHead
+pub is_part_awaits : (magic bytes : List ℕ) (result : Bool) (behind : List ℕ → ParsedHead ℕ) → result ≡ bytes_eq bytes (take (length bytes) magic) → length bytes ≤ length magic → result ≡ true → behind [] ≡ AwaitsHead → head_behind magic behind bytes ≡ AwaitsHead
 is_part_awaits magic bytes result behind is few same none = part_awaits behind magic bytes none few ((bytes_eq-Decides bytes (take (length bytes) magic)).0 (sym is ∙ same))
 
-pub is_part_none : (magic bytes : List ℕ) (result : Bool) (behind : List ℕ → HeadFront ℕ) → result ≡ bytes_eq bytes (take (length bytes) magic) → length bytes ≤ length magic → result ≡ false → head_behind magic behind bytes ≡ NoHead
+pub is_part_none : (magic bytes : List ℕ) (result : Bool) (behind : List ℕ → ParsedHead ℕ) → result ≡ bytes_eq bytes (take (length bytes) magic) → length bytes ≤ length magic → result ≡ false → head_behind magic behind bytes ≡ NoHead
 is_part_none magic bytes result behind is few other = part_none behind magic bytes few (λ e. not_true (sym ((bytes_eq-Decides bytes (take (length bytes) magic)).1 e) ∙ sym is ∙ other))

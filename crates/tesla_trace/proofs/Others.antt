@@ -1,7 +1,7 @@
 -- Bytes that nothing begins with.
 use Rattle.std.proofs.Common.{◌≡◌, ◌≢◌, ℕ, zero, suc, List, refl}
 use Rattle.tesla_trace.specs.declared.kind.EntryFault.TheVariants.{BadKind, BadCode}
-use Rattle.tesla_trace.specs.Front.{Wrong, bound_by, verdict_by, reply_by, entry_by}
+use Rattle.tesla_trace.specs.Parsing.{Wrong, bound_by, verdict_by, reply_by, entry_by}
 
 pub other_flag : (flag : ℕ) (bytes : List ℕ) → flag ≢ 0 → flag ≢ 1 → bound_by flag bytes ≡ Wrong BadCode
 unfolding bound_by

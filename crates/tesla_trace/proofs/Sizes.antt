@@ -47,6 +47,6 @@ taken_short releaser Over bytes fits = omega arith
 taken_short releaser (Given head) bytes fits = omega (arith, fits.0, fits.1, length-append (head_text head) (take head.length bytes), length-take-le head.length bytes)
 
 -- the bytes of a take that gave a packet, in two parts
-pub given_text : (releaser : ℕ) (head : Head) (reply : Take) (front body payload : List ℕ) → reply ≡ Given head → front ≡ 2 ∷ releaser ∷ 2 ∷ head_text head → body ≡ take head.length payload → front ++ body ++ [] ≡ entry_text (Taken releaser (reply_shown reply payload))
-given_text releaser head reply front body payload is front_is body_is =
-    append-nil (front ++ body) ∙ ap (λ (b : List ℕ). front ++ b) body_is ∙ ap (λ (f : List ℕ). f ++ take head.length payload) front_is ∙ sym (ap (λ (r : Take). entry_text (Taken releaser (reply_shown r payload))) is)
+pub given_text : (releaser : ℕ) (head : Head) (reply : Take) (prefix body payload : List ℕ) → reply ≡ Given head → prefix ≡ 2 ∷ releaser ∷ 2 ∷ head_text head → body ≡ take head.length payload → prefix ++ body ++ [] ≡ entry_text (Taken releaser (reply_shown reply payload))
+given_text releaser head reply prefix body payload is parsed_is body_is =
+    append-nil (prefix ++ body) ∙ ap (λ (b : List ℕ). prefix ++ b) body_is ∙ ap (λ (f : List ℕ). f ++ take head.length payload) parsed_is ∙ sym (ap (λ (r : Take). entry_text (Taken releaser (reply_shown r payload))) is)

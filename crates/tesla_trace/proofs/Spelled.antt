@@ -3,9 +3,9 @@ use Rattle.std.proofs.Common.{◌≡◌, ℕ, zero, suc, ◌<◌, ◌≤◌, ◌
 use Rattle.std.specs.Prelude.{if◌then◌else◌}
 use Rattle.std.specs.Int.{Width, w16, w32, w64, to_be_bytes}
 use Rattle.std.proofs.lemmas.Bool.{ltb-false, le-ltb}
-use Rattle.tesla_base.specs.Front.{AreBytes, bytes_front, number_front}
+use Rattle.tesla_base.specs.Prefix.{AreBytes, parse_bytes, parse_number}
 use Rattle.tesla_base.specs.declared.release.Head.{Head}
-use Rattle.tesla_base.proofs.Fronts.{Takes, Takes-then, IsField, bytes_take, bytes_again, field16, field32, field64}
+use Rattle.tesla_base.proofs.Prefixes.{Takes, Takes-then, IsField, bytes_take, bytes_again, field16, field32, field64}
 use Rattle.tesla_capture.specs.Release.{release_text}
 use Rattle.tesla_fitting.specs.declared.verdict.Verdict.{Verdict}
 use Rattle.tesla_fitting.specs.declared.verdict.Verdict.TheVariants as verdicts
@@ -15,7 +15,7 @@ use Rattle.tesla_receiver.specs.declared.history.Entry.TheVariants.{Arrived, Tak
 use Rattle.tesla_state.specs.declared.replies.Reply.{Reply}
 use Rattle.tesla_state.specs.declared.replies.Reply.TheVariants.{Given, Empty, Over}
 use Rattle.tesla_trace.specs.declared.kind.EntryFault.TheVariants.{TooLong}
-use Rattle.tesla_trace.specs.Front.{Part, Wrong, Read, ◌>>=◌, part_of, byte_part, number_part, counted_part, some_bound_part, bound_by, future_part, foreign_part, bad_key_part, kept_part, verdict_by, verdict_part, given_part, reply_by, reply_part, arrival_part, take_part, end_part, entry_by, entry_part}
+use Rattle.tesla_trace.specs.Parsing.{Part, Wrong, Read, ◌>>=◌, part_of, byte_part, number_part, counted_part, some_bound_part, bound_by, future_part, foreign_part, bad_key_part, kept_part, verdict_by, verdict_part, given_part, reply_by, reply_part, arrival_part, take_part, end_part, entry_by, entry_part}
 use Rattle.tesla_trace.specs.Grammar.{VerdictFits, GivenFits, ReplyFits, ArrivalFits, IsTraceEntry}
 use Rattle.tesla_trace.specs.Trace.{verdict_text, reply_text, entry_text}
 use Rattle.tesla_trace.proofs.Steady.{read_is, then_read, part_read}
@@ -28,11 +28,11 @@ byte_takes [] x fits e = absurd cc
 byte_takes (b ∷ bytes) x fits e =
     subst (λ (p : ℕ × List ℕ). Takes (b ∷ bytes) (p.0 ∷ []) p.1 × (p.0 < 256)) (read_is (b, bytes) x e) (record { parts = refl; rest_fits = fits.1 }, fits.0)
 
-number_takes : (w : Width) (limit : ℕ) → IsField (number_front w) (to_be_bytes w) (λ n. n < limit) → (bytes : List ℕ) (x : ℕ × List ℕ) → AreBytes bytes → number_part w bytes ≡ Read x → Takes bytes (to_be_bytes w x.0) x.1 × (x.0 < limit)
+number_takes : (w : Width) (limit : ℕ) → IsField (parse_number w) (to_be_bytes w) (λ n. n < limit) → (bytes : List ℕ) (x : ℕ × List ℕ) → AreBytes bytes → number_part w bytes ≡ Read x → Takes bytes (to_be_bytes w x.0) x.1 × (x.0 < limit)
 unfolding number_part
-number_takes w limit field bytes x fits e = field.takes bytes x fits (part_read (number_front w bytes) x e)
+number_takes w limit field bytes x fits e = field.takes bytes x fits (part_read (parse_number w bytes) x e)
 
-number_again : (w : Width) (limit : ℕ) → IsField (number_front w) (to_be_bytes w) (λ n. n < limit) → (n : ℕ) (rest : List ℕ) → n < limit → number_part w (to_be_bytes w n ++ rest) ≡ Read (n, rest)
+number_again : (w : Width) (limit : ℕ) → IsField (parse_number w) (to_be_bytes w) (λ n. n < limit) → (n : ℕ) (rest : List ℕ) → n < limit → number_part w (to_be_bytes w n ++ rest) ≡ Read (n, rest)
 unfolding number_part
 number_again w limit field n rest below = ap (λ (o : Option (ℕ × List ℕ)). part_of o) (field.again n rest below)
 
@@ -42,11 +42,11 @@ record Counted (most : ℕ) (bytes : List ℕ) (x : List ℕ × List ℕ) : Type
   few : length x.0 ≤ most
   bytes_are : AreBytes x.0
 
-counted_behind : (most n : ℕ) (b : Bool) (rest : List ℕ) (x : List ℕ × List ℕ) → ltb most n ≡ b → AreBytes rest → (if b then Wrong TooLong else part_of (bytes_front n rest)) ≡ Read x
+counted_behind : (most n : ℕ) (b : Bool) (rest : List ℕ) (x : List ℕ × List ℕ) → ltb most n ≡ b → AreBytes rest → (if b then Wrong TooLong else part_of (parse_bytes n rest)) ≡ Read x
     → Takes rest x.0 x.1 × (length x.0 ≡ n) × AreBytes x.0 × (n ≤ most)
 counted_behind most n true rest x is fits e = absurd cc
 counted_behind most n false rest x is fits e =
-    let t = bytes_take n rest x fits (part_read (bytes_front n rest) x e) in
+    let t = bytes_take n rest x fits (part_read (parse_bytes n rest) x e) in
     (t.0, t.1, t.2, ltb-false most n is)
 
 counted_takes : (most : ℕ) (bytes : List ℕ) (x : List ℕ × List ℕ) → AreBytes bytes → counted_part most bytes ≡ Read x → Counted most bytes x
@@ -68,7 +68,7 @@ counted_again : (most n : ℕ) (bytes rest : List ℕ) → most < 65536 → n �
 unfolding counted_part
 counted_again most n bytes rest small is few =
     then_again (number_part w16 (to_be_bytes w16 n ++ (bytes ++ rest))) _ (n, bytes ++ rest) (Read (bytes, rest)) (number_again w16 (2 ^ 16) field16 n (bytes ++ rest) (omega (arith, small, is, few)))
-    (ap (λ (b : Bool). if b then Wrong TooLong else part_of (bytes_front n (bytes ++ rest))) (le-ltb most n (omega (arith, is, few))) ∙ ap (λ (o : Option (List ℕ × List ℕ)). part_of o) (bytes_again n bytes rest (sym is)))
+    (ap (λ (b : Bool). if b then Wrong TooLong else part_of (parse_bytes n (bytes ++ rest))) (le-ltb most n (omega (arith, is, few))) ∙ ap (λ (o : Option (List ℕ × List ℕ)). part_of o) (bytes_again n bytes rest (sym is)))
 
 -- ---- what stands behind a first byte
 

@@ -4,15 +4,15 @@ use Rattle.std.specs.Prelude.{if◌then◌else◌}
 use Rattle.std.specs.Int.{Width, w16, w32, w64, byte_len}
 use Rattle.std.proofs.lemmas.Bool.{ltb-true, ltb-false, le-ltb}
 use Rattle.std.proofs.lemmas.List.{take-append-le, drop-append-le, length-append, length-drop}
-use Rattle.tesla_base.specs.Front.{bytes_front, number_front}
-use Rattle.tesla_base.proofs.Fronts.{guard_some, guard_none, some_is, number_more, number_none, number_parts}
+use Rattle.tesla_base.specs.Prefix.{parse_bytes, parse_number}
+use Rattle.tesla_base.proofs.Prefixes.{guard_some, guard_none, some_is, number_more, number_none, number_parts}
 use Rattle.tesla_fitting.specs.declared.verdict.Verdict.{Verdict}
 use Rattle.tesla_fitting.specs.declared.verdict.Verdict.TheVariants as verdicts
 use Rattle.tesla_receiver.specs.declared.history.Entry.TheVariants.{Arrived, Taken, Ended}
 use Rattle.tesla_state.specs.declared.replies.Reply.TheVariants.{Given, Empty, Over}
 use Rattle.tesla_trace.specs.declared.kind.EntryFault.{EntryFault}
 use Rattle.tesla_trace.specs.declared.kind.EntryFault.TheVariants.{BadKind, TooLong, BadCode}
-use Rattle.tesla_trace.specs.Front.{Part, Short, Wrong, Read, ◌>>=◌, part_of, byte_part, number_part, counted_part, some_bound_part, bound_by, future_part, foreign_part, bad_key_part, kept_part, verdict_by, verdict_part, given_part, reply_by, reply_part, arrival_part, take_part, end_part, entry_by, entry_part}
+use Rattle.tesla_trace.specs.Parsing.{Part, Short, Wrong, Read, ◌>>=◌, part_of, byte_part, number_part, counted_part, some_bound_part, bound_by, future_part, foreign_part, bad_key_part, kept_part, verdict_by, verdict_part, given_part, reply_by, reply_part, arrival_part, take_part, end_part, entry_by, entry_part}
 
 -- ---- one part after another
 
@@ -125,35 +125,35 @@ part_wrong (Some y) fault e = absurd cc
 pub steady_number : (w : Width) → IsSteady (number_part w) (byte_len w)
 unfolding number_part
 steady_number w = record {
-  short = λ bytes e. number_none w bytes (part_short (number_front w bytes) e);
-  wrong = λ bytes more fault e. absurd (part_wrong (number_front w bytes) fault e);
+  short = λ bytes e. number_none w bytes (part_short (parse_number w bytes) e);
+  wrong = λ bytes more fault e. absurd (part_wrong (parse_number w bytes) fault e);
   read = λ bytes more x e.
-      let there = part_read (number_front w bytes) x e in
+      let there = part_read (parse_number w bytes) x e in
       let parts = number_parts w bytes x there in
       let behind : length x.1 ≡ length (drop (byte_len w) bytes) = ap (λ (r : List ℕ). length r) parts.2 in
       (ap (λ (o : Option (ℕ × List ℕ)). part_of o) (number_more w bytes more x there), omega (arith, behind, length-drop (byte_len w) bytes), omega (arith, behind, parts.0, length-drop (byte_len w) bytes));
 }
 
 -- so many bytes, at most some number
-bytes_steady : (most n : ℕ) → n ≤ most → IsSteady (λ bytes. part_of (bytes_front n bytes)) most
+bytes_steady : (most n : ℕ) → n ≤ most → IsSteady (λ bytes. part_of (parse_bytes n bytes)) most
 bytes_steady most n le = record {
-  short = λ bytes e. omega (arith, le, ltb-true (length bytes) n (guard_none (ltb (length bytes) n) (take n bytes, drop n bytes) (part_short (bytes_front n bytes) e)));
-  wrong = λ bytes more fault e. absurd (part_wrong (bytes_front n bytes) fault e);
+  short = λ bytes e. omega (arith, le, ltb-true (length bytes) n (guard_none (ltb (length bytes) n) (take n bytes, drop n bytes) (part_short (parse_bytes n bytes) e)));
+  wrong = λ bytes more fault e. absurd (part_wrong (parse_bytes n bytes) fault e);
   read = λ bytes more x e.
-      let g = guard_some (ltb (length bytes) n) (Some (take n bytes, drop n bytes)) x (part_read (bytes_front n bytes) x e) in
+      let g = guard_some (ltb (length bytes) n) (Some (take n bytes, drop n bytes)) x (part_read (parse_bytes n bytes) x e) in
       let there : n ≤ length bytes = ltb-false (length bytes) n g.0 in
       let long : ltb (length (bytes ++ more)) n ≡ false = le-ltb _ _ (omega (arith, there, length-append bytes more)) in
-      let again : part_of (bytes_front n (bytes ++ more)) ≡ Read (take n bytes, drop n bytes ++ more) = rw (long, take-append-le n bytes more there, drop-append-le n bytes more there) refl in
-      subst (λ (z : List ℕ × List ℕ). (part_of (bytes_front n (bytes ++ more)) ≡ Read (z.0, z.1 ++ more)) × (length z.1 ≤ length bytes) × (length bytes ≤ most + length z.1)) (some_is (take n bytes, drop n bytes) x g.1) (again, omega (arith, length-drop n bytes), omega (arith, le, there, length-drop n bytes));
+      let again : part_of (parse_bytes n (bytes ++ more)) ≡ Read (take n bytes, drop n bytes ++ more) = rw (long, take-append-le n bytes more there, drop-append-le n bytes more there) refl in
+      subst (λ (z : List ℕ × List ℕ). (part_of (parse_bytes n (bytes ++ more)) ≡ Read (z.0, z.1 ++ more)) × (length z.1 ≤ length bytes) × (length bytes ≤ most + length z.1)) (some_is (take n bytes, drop n bytes) x g.1) (again, omega (arith, length-drop n bytes), omega (arith, le, there, length-drop n bytes));
 }
 
-counted_by : (most n : ℕ) (b : Bool) → ltb most n ≡ b → IsSteady (λ rest. if b then Wrong TooLong else part_of (bytes_front n rest)) most
+counted_by : (most n : ℕ) (b : Bool) → ltb most n ≡ b → IsSteady (λ rest. if b then Wrong TooLong else part_of (parse_bytes n rest)) most
 counted_by most n true is = weaker (λ rest. Wrong TooLong) 0 most (omega arith) (steady_wrong TooLong)
 counted_by most n false is = bytes_steady most n (ltb-false most n is)
 
 pub steady_counted : (most : ℕ) → IsSteady (counted_part most) (2 + most)
 unfolding counted_part
-steady_counted most = steady_then (number_part w16) (λ n. if ltb most n.0 then Wrong TooLong else part_of (bytes_front n.0 n.1)) 2 most (steady_number w16) (λ n. counted_by most n (ltb most n) refl)
+steady_counted most = steady_then (number_part w16) (λ n. if ltb most n.0 then Wrong TooLong else part_of (parse_bytes n.0 n.1)) 2 most (steady_number w16) (λ n. counted_by most n (ltb most n) refl)
 
 -- ---- verdicts
 

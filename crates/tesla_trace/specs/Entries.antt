@@ -20,7 +20,7 @@ entry_by kinds.End it = Ended it.who
 abbrev pub entry_in : EntryBuffer → Entry
 entry_in it = entry_by it.kind it
 
--- the payload of a packet that was given stands at the front of the bytes, and is within its limit
+-- the payload of a packet that was given stands at the start of the bytes, and is within its limit
 abbrev pub FitsReply : Take → List ℕ → Type 0
 FitsReply (Given head) bytes = (head.length ≤ length bytes) × (head.length ≤ 1200)
 FitsReply Empty bytes = Unit {0}
@@ -28,9 +28,9 @@ FitsReply Over bytes = Unit {0}
 
 -- the length told beside the answer to a take is that of the payload given, which is within its limit
 abbrev pub TellsLength : Take → ℕ → Type 0
-TellsLength (Given head) told = (told ≡ head.length) × (head.length ≤ 1200)
-TellsLength Empty told = Unit {0}
-TellsLength Over told = Unit {0}
+TellsLength (Given head) returned = (returned ≡ head.length) × (head.length ≤ 1200)
+TellsLength Empty returned = Unit {0}
+TellsLength Over returned = Unit {0}
 
 -- the fields that the kind uses are within their limits
 abbrev pub IsEntryBy : EntryKind → EntryBuffer → Type 0

@@ -1,6 +1,6 @@
 -- The grammars of traces and of tails.
 use Rattle.std.specs.Prelude.{◌≡◌, ℕ, ◌<◌, ◌≤◌, ◌^◌, List, length, Some}
-use Rattle.tesla_base.specs.Front.{AreBytes}
+use Rattle.tesla_base.specs.Prefix.{AreBytes}
 use Rattle.tesla_base.specs.declared.release.Head.{Head}
 use Rattle.tesla_fitting.specs.declared.verdict.Verdict.{Verdict}
 use Rattle.tesla_fitting.specs.declared.verdict.Verdict.TheVariants as verdicts
@@ -11,7 +11,7 @@ use Rattle.tesla_records.specs.Grammar.{Grammar, IsFile}
 use Rattle.tesla_state.specs.declared.replies.Reply.{Reply}
 use Rattle.tesla_state.specs.declared.replies.Reply.TheVariants.{Given, Empty, Over}
 use Rattle.tesla_trace.specs.declared.kind.EntryFault.{EntryFault}
-use Rattle.tesla_trace.specs.Front.{entry_front, head_front, tail_front}
+use Rattle.tesla_trace.specs.Parsing.{parse_entry, parse_head, parse_tail}
 use Rattle.tesla_trace.specs.Trace.{entry_text, tail_head, trace_head}
 
 -- what a verdict tells is within its size
@@ -59,13 +59,13 @@ trace = record {
   head_text = trace_head;
   IsHead = λ ingests. (1 ≤ ingests) × (ingests ≤ 32);
   head_size = 6;
-  head_front = head_front;
+  parse_head = parse_head;
   Record = Entry;
   record_text = entry_text;
   IsRecord = IsTraceEntry;
   longest = 2070;
   Kind = EntryFault;
-  front = entry_front;
+  parse = parse_entry;
 }
 
 -- the bytes spell a trace of so many ingests with this history
@@ -79,13 +79,13 @@ tail = record {
   head_text = tail_head;
   IsHead = λ first. first < 2 ^ 64;
   head_size = 13;
-  head_front = tail_front;
+  parse_head = parse_tail;
   Record = Entry;
   record_text = entry_text;
   IsRecord = IsTraceEntry;
   longest = 2070;
   Kind = EntryFault;
-  front = entry_front;
+  parse = parse_entry;
 }
 
 -- the bytes spell the last entries of a history, before which so many stand

@@ -1,6 +1,6 @@
 pub mod Trace
 pub mod Entries
 pub mod Names
-pub mod Front
+pub mod Parsing
 pub mod Grammar
 pub mod Shown

@@ -8,7 +8,7 @@ use Rattle.tesla_state.specs.declared.replies.Reply.TheVariants as replies
 use Rattle.tesla_state.specs.declared.replies.Take.{Take}
 use Rattle.tesla_state.specs.declared.replies.Take.TheVariants.{Given, Empty, Over}
 use Rattle.tesla_trace.specs.Entries.{TellsLength}
-use Rattle.tesla_trace.specs.Front.{Part, Short, Wrong, Read, ◌>>=◌}
+use Rattle.tesla_trace.specs.Parsing.{Part, Short, Wrong, Read, ◌>>=◌}
 use Rattle.tesla_trace.specs.declared.parts.Found.{Found}
 use Rattle.tesla_trace.specs.declared.parts.Found.TheVariants as found
 use Rattle.tesla_trace.specs.declared.view.EntryView.{EntryView}
@@ -46,8 +46,8 @@ entry_seen (views.End ingest) = Ended ingest
 -- an arrival, told what is found of its verdict
 abbrev pub arrival_with : ℕ → ℕ → List ℕ → Part Verdict → Part Entry
 arrival_with ingest reading bytes verdict = do
-  told ← verdict
-  Read (Arrived (record { ingest = ingest; reading = reading; bytes = bytes; verdict = told.0 }), told.1)
+  returned ← verdict
+  Read (Arrived (record { ingest = ingest; reading = reading; bytes = bytes; verdict = returned.0 }), returned.1)
 
 -- the answer tells the length of its payload
 abbrev pub ReplyIsWithin : ReplyView → Type 0

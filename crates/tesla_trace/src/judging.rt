@@ -2,10 +2,10 @@
 
 ghost use Rattle.std.specs.Prelude.{◌≡◌, ◌≤◌, ℕ, List, [], length, true, false};
 ghost use Rattle.tesla_receiver.specs.declared.history.Entry.{Entry};
-ghost use Rattle.tesla_records.specs.Grammar.{Whole, HeadFront, AwaitsHead, NoHead};
+ghost use Rattle.tesla_records.specs.Grammar.{Whole, ParsedHead, AwaitsHead, NoHead};
 ghost use Rattle.tesla_records.specs.Judged.{Judges, JudgesHead, BeginsWhole};
 ghost use Rattle.tesla_trace.specs.Entries.{IsEntry, entry_in};
-ghost use Rattle.tesla_trace.specs.Front.{entry_front, head_behind};
+ghost use Rattle.tesla_trace.specs.Parsing.{parse_entry, head_behind};
 ghost use Rattle.tesla_trace.specs.Grammar.{tail, trace};
 
 use crate::entry::EntryBuffer;
@@ -26,7 +26,7 @@ const MOST_INGESTS: u8 = 32;
 
 /// What bytes tell of the head at the front of a trace: how many ingests the receiver has, 1 to 32. Bytes that no head
 /// begins with are told at once. It takes no memory.
-#[tactic(auto, unfolding(crate::specs::Front::head_front))]
+#[tactic(auto, unfolding(crate::specs::Parsing::parse_head))]
 pub fn judge_head(bytes: &[u8]) -> HeadJudged<u8>
     ensures { JudgesHead trace (λ n. n) result bytes.now }
 {
@@ -49,7 +49,7 @@ pub fn judge_head(bytes: &[u8]) -> HeadJudged<u8>
 
 /// What bytes tell of the head at the front of a tail: how many entries stand before its first one. Bytes that no head
 /// begins with are told at once. It takes no memory.
-#[tactic(auto, unfolding(crate::specs::Front::tail_front))]
+#[tactic(auto, unfolding(crate::specs::Parsing::parse_tail))]
 pub fn judge_tail_head(bytes: &[u8]) -> HeadJudged<u64>
     ensures { JudgesHead tail (λ n. n) result bytes.now }
 {
@@ -71,18 +71,18 @@ pub fn judge_tail_head(bytes: &[u8]) -> HeadJudged<u64>
 /// Whether bytes that are no more than the magic are a part of it.
 fn is_part(magic: &[u8; 5], bytes: &[u8]) -> bool
     requires { length bytes.now ≤ length magic.now }
-    ensures awaits { (behind : List ℕ → HeadFront ℕ) → result ≡ true → behind [] ≡ AwaitsHead → head_behind magic.now behind bytes.now ≡ AwaitsHead }
-    ensures none { (behind : List ℕ → HeadFront ℕ) → result ≡ false → head_behind magic.now behind bytes.now ≡ NoHead }
+    ensures awaits { (behind : List ℕ → ParsedHead ℕ) → result ≡ true → behind [] ≡ AwaitsHead → head_behind magic.now behind bytes.now ≡ AwaitsHead }
+    ensures none { (behind : List ℕ → ParsedHead ℕ) → result ≡ false → head_behind magic.now behind bytes.now ≡ NoHead }
 {
     bytes == &magic[..bytes.len()]
 }
 
-/// What bytes tell of the entry at their front: how many bytes it has, or why no entry begins so. It takes no memory.
+/// What bytes tell of the entry at their start: how many bytes it has, or why no entry begins so. It takes no memory.
 ///
 /// `BadKind`: the first byte is neither 1 nor 2 nor 3. `TooLong`: the length of a datagram is above 2,048, or that of a
 /// payload above 1,200. `BadCode`: a verdict's number is outside 1 to 10, the byte behind that of a frame of the future is
 /// neither 0 nor 1, or the first of an answer to a take is above 2.
-#[tactic(auto, unfolding(crate::specs::Front::entry_front))]
+#[tactic(auto, unfolding(crate::specs::Parsing::parse_entry))]
 pub fn judge_entry(bytes: &[u8]) -> Judged<EntryFault>
     ensures { Judges trace (λ fault. fault) result bytes.now }
 {
@@ -93,11 +93,11 @@ pub fn judge_entry(bytes: &[u8]) -> Judged<EntryFault>
     }
 }
 
-/// Puts the whole entry at the front of the bytes into a place. It takes no memory.
-#[tactic(auto, unfolding(crate::specs::Front::entry_front))]
+/// Puts the whole entry at the start of the bytes into a place. It takes no memory.
+#[tactic(auto, unfolding(crate::specs::Parsing::parse_entry))]
 pub fn put_entry(bytes: &[u8], entry: &mut EntryBuffer)
     requires { (size : ℕ) × BeginsWhole trace size bytes.now }
-    ensures entry { (it : Entry) (size : ℕ) → entry_front bytes.now ≡ Whole it size → entry_in entry.new ≡ it }
+    ensures entry { (it : Entry) (size : ℕ) → parse_entry bytes.now ≡ Whole it size → entry_in entry.new ≡ it }
     ensures within { IsEntry entry.new }
 {
     match entry_of(bytes) {

@@ -1,7 +1,7 @@
-//! The parts of an entry, each read off the front of the bytes.
+//! The parts of an entry, each read off the start of the bytes.
 
 ghost use Rattle.std.specs.Prelude.{◌≡◌, ◌≤◌, length};
-ghost use Rattle.tesla_trace.specs.Front.{counted_part, foreign_part, future_part, bad_key_part, kept_part, verdict_part, given_part, reply_part, arrival_part, take_part, end_part, entry_part};
+ghost use Rattle.tesla_trace.specs.Parsing.{counted_part, foreign_part, future_part, bad_key_part, kept_part, verdict_part, given_part, reply_part, arrival_part, take_part, end_part, entry_part};
 ghost use Rattle.tesla_trace.specs.Shown.{OnRead, arrival_with, part_shown, IsWithin, ReplyIsWithin, entry_seen, reply_seen};
 
 use crate::kind::EntryFault;
@@ -16,7 +16,7 @@ const LONGEST_DATAGRAM: u16 = 2048;
 /// How many bytes a payload has at most.
 const LONGEST_PAYLOAD: u16 = 1200;
 
-/// What bytes tell of a part of an entry at their front.
+/// What bytes tell of a part of an entry at their start.
 #[derive(Clone, Copy)]
 pub(crate) enum Found<'a, T> {
     /// Nothing yet: only more bytes tell.
@@ -28,7 +28,7 @@ pub(crate) enum Found<'a, T> {
 }
 
 /// At most so many bytes, behind their number.
-#[tactic(auto, unfolding(crate::specs::Front::counted_part, crate::specs::Front::number_part))]
+#[tactic(auto, unfolding(crate::specs::Parsing::counted_part, crate::specs::Parsing::number_part))]
 fn counted_of(most: u16, bytes: &[u8]) -> Found<'_, &[u8]>
     ensures exact { part_shown (λ value. value.now) result ≡ counted_part most bytes.now }
     ensures limit { OnRead result (λ value. length value.now ≤ most) }
@@ -48,7 +48,7 @@ fn counted_of(most: u16, bytes: &[u8]) -> Found<'_, &[u8]>
 }
 
 /// The stream of a foreign frame.
-#[tactic(auto, unfolding(crate::specs::Front::foreign_part, crate::specs::Front::number_part))]
+#[tactic(auto, unfolding(crate::specs::Parsing::foreign_part, crate::specs::Parsing::number_part))]
 fn foreign_of(bytes: &[u8]) -> Found<'_, Verdict>
     ensures { part_shown (λ value. value) result ≡ foreign_part bytes.now }
 {
@@ -60,7 +60,7 @@ fn foreign_of(bytes: &[u8]) -> Found<'_, Verdict>
 }
 
 /// The bound of a frame of the future, where there is one.
-#[tactic(auto, using(crate::proofs::Others::other_flag), unfolding(crate::specs::Front::future_part, crate::specs::Front::byte_part, crate::specs::Front::bound_by, crate::specs::Front::some_bound_part, crate::specs::Front::number_part))]
+#[tactic(auto, using(crate::proofs::Others::other_flag), unfolding(crate::specs::Parsing::future_part, crate::specs::Parsing::byte_part, crate::specs::Parsing::bound_by, crate::specs::Parsing::some_bound_part, crate::specs::Parsing::number_part))]
 fn future_of(bytes: &[u8]) -> Found<'_, Verdict>
     ensures { part_shown (λ value. value) result ≡ future_part bytes.now }
 {
@@ -81,7 +81,7 @@ fn future_of(bytes: &[u8]) -> Found<'_, Verdict>
 }
 
 /// The chain of a bad key.
-#[tactic(auto, unfolding(crate::specs::Front::bad_key_part, crate::specs::Front::byte_part))]
+#[tactic(auto, unfolding(crate::specs::Parsing::bad_key_part, crate::specs::Parsing::byte_part))]
 fn bad_key_of(bytes: &[u8]) -> Found<'_, Verdict>
     ensures { part_shown (λ value. value) result ≡ bad_key_part bytes.now }
 {
@@ -93,7 +93,7 @@ fn bad_key_of(bytes: &[u8]) -> Found<'_, Verdict>
 }
 
 /// The set of safe chains of a packet that is kept.
-#[tactic(auto, unfolding(crate::specs::Front::kept_part, crate::specs::Front::byte_part))]
+#[tactic(auto, unfolding(crate::specs::Parsing::kept_part, crate::specs::Parsing::byte_part))]
 fn kept_of(bytes: &[u8]) -> Found<'_, Verdict>
     ensures { part_shown (λ value. value) result ≡ kept_part bytes.now }
 {
@@ -104,7 +104,7 @@ fn kept_of(bytes: &[u8]) -> Found<'_, Verdict>
 }
 
 /// A verdict.
-#[tactic(auto, using(crate::proofs::Others::other_number), unfolding(crate::specs::Front::verdict_part, crate::specs::Front::byte_part, crate::specs::Front::verdict_by))]
+#[tactic(auto, using(crate::proofs::Others::other_number), unfolding(crate::specs::Parsing::verdict_part, crate::specs::Parsing::byte_part, crate::specs::Parsing::verdict_by))]
 fn verdict_of(bytes: &[u8]) -> Found<'_, Verdict>
     ensures { part_shown (λ value. value) result ≡ verdict_part bytes.now }
 {
@@ -127,7 +127,7 @@ fn verdict_of(bytes: &[u8]) -> Found<'_, Verdict>
 }
 
 /// A release record.
-#[tactic(auto, unfolding(crate::specs::Front::given_part, crate::specs::Front::byte_part, crate::specs::Front::number_part))]
+#[tactic(auto, unfolding(crate::specs::Parsing::given_part, crate::specs::Parsing::byte_part, crate::specs::Parsing::number_part))]
 fn given_of(bytes: &[u8]) -> Found<'_, ReplyView<'_>>
     ensures exact { part_shown reply_seen result ≡ given_part bytes.now }
     ensures limit { OnRead result ReplyIsWithin }
@@ -162,7 +162,7 @@ fn given_of(bytes: &[u8]) -> Found<'_, ReplyView<'_>>
 }
 
 /// An answer to a take.
-#[tactic(auto, using(crate::proofs::Others::other_code), unfolding(crate::specs::Front::reply_part, crate::specs::Front::byte_part, crate::specs::Front::reply_by))]
+#[tactic(auto, using(crate::proofs::Others::other_code), unfolding(crate::specs::Parsing::reply_part, crate::specs::Parsing::byte_part, crate::specs::Parsing::reply_by))]
 fn reply_of(bytes: &[u8]) -> Found<'_, ReplyView<'_>>
     ensures exact { part_shown reply_seen result ≡ reply_part bytes.now }
     ensures limit { OnRead result ReplyIsWithin }
@@ -190,7 +190,7 @@ fn bare(reply: Take) -> ReplyView<'static>
 }
 
 /// An arrival, behind its kind.
-#[tactic(auto, unfolding(crate::specs::Front::arrival_part, crate::specs::Front::byte_part, crate::specs::Front::number_part))]
+#[tactic(auto, unfolding(crate::specs::Parsing::arrival_part, crate::specs::Parsing::byte_part, crate::specs::Parsing::number_part))]
 fn arrival_of(bytes: &[u8]) -> Found<'_, EntryView<'_>>
     ensures exact { part_shown entry_seen result ≡ arrival_part bytes.now }
     ensures limit { OnRead result IsWithin }
@@ -235,7 +235,7 @@ fn with_verdict<'a>(
 }
 
 /// A take, behind its kind.
-#[tactic(auto, unfolding(crate::specs::Front::take_part, crate::specs::Front::byte_part))]
+#[tactic(auto, unfolding(crate::specs::Parsing::take_part, crate::specs::Parsing::byte_part))]
 fn take_of(bytes: &[u8]) -> Found<'_, EntryView<'_>>
     ensures exact { part_shown entry_seen result ≡ take_part bytes.now }
     ensures limit { OnRead result IsWithin }
@@ -252,7 +252,7 @@ fn take_of(bytes: &[u8]) -> Found<'_, EntryView<'_>>
 }
 
 /// The end of an ingest, behind its kind.
-#[tactic(auto, unfolding(crate::specs::Front::end_part, crate::specs::Front::byte_part))]
+#[tactic(auto, unfolding(crate::specs::Parsing::end_part, crate::specs::Parsing::byte_part))]
 fn end_of(bytes: &[u8]) -> Found<'_, EntryView<'_>>
     ensures exact { part_shown entry_seen result ≡ end_part bytes.now }
     ensures limit { OnRead result IsWithin }
@@ -264,7 +264,7 @@ fn end_of(bytes: &[u8]) -> Found<'_, EntryView<'_>>
 }
 
 /// An entry.
-#[tactic(auto, using(crate::proofs::Others::other_kind), unfolding(crate::specs::Front::entry_part, crate::specs::Front::byte_part, crate::specs::Front::entry_by))]
+#[tactic(auto, using(crate::proofs::Others::other_kind), unfolding(crate::specs::Parsing::entry_part, crate::specs::Parsing::byte_part, crate::specs::Parsing::entry_by))]
 pub(crate) fn entry_of(bytes: &[u8]) -> Found<'_, EntryView<'_>>
     ensures exact { part_shown entry_seen result ≡ entry_part bytes.now }
     ensures limit { OnRead result IsWithin }

@@ -42,12 +42,12 @@ pub fn verdict_bytes(verdict: Verdict) -> VerdictBytes
 }
 
 /// One byte or two.
-fn short(number: u8, told: u8, length: usize) -> VerdictBytes
+fn short(number: u8, returned: u8, length: usize) -> VerdictBytes
     requires { length ≤ 2 }
-    ensures { take result.length result.bytes ≡ take length (number ∷ told ∷ []) }
+    ensures { take result.length result.bytes ≡ take length (number ∷ returned ∷ []) }
 {
     let mut bytes = [number; VERDICT_SIZE];
-    bytes[1] = told;
+    bytes[1] = returned;
     VerdictBytes { bytes, length }
 }
 
@@ -75,7 +75,7 @@ fn with_bound(bound: u64) -> VerdictBytes
 
 /// The fields of an arrival before its bytes: the number of its ingest, the reading of the receiver's clock in microseconds,
 /// and how many bytes it has. It takes no memory.
-pub fn arrived_front(ingest: u8, reading: u64, length: u16) -> [u8; 12]
+pub fn arrival_header(ingest: u8, reading: u64, length: u16) -> [u8; 12]
     ensures { result ≡ 1 ∷ ingest ∷ [] ++ to_be_bytes w64 reading ++ to_be_bytes w16 length }
 {
     let mut bytes = [1; 12];
@@ -86,7 +86,7 @@ pub fn arrived_front(ingest: u8, reading: u64, length: u16) -> [u8; 12]
 }
 
 /// The fields of a take that gave a packet, before the payload. It takes no memory.
-pub fn given_front(releaser: u8, head: &Head) -> [u8; 20]
+pub fn given_header(releaser: u8, head: &Head) -> [u8; 20]
     ensures { result ≡ 2 ∷ releaser ∷ 2 ∷ head_text head.now }
 {
     let mut bytes = [2; 20];

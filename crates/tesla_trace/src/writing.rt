@@ -10,7 +10,9 @@ ghost use Rattle.tesla_trace.specs.Entries.{FitsReply, IsEntry, entry_in};
 ghost use Rattle.tesla_trace.specs.Trace.{entry_text, tail_head, trace_head};
 
 use crate::entry::{EntryBuffer, EntryKind};
-use crate::pieces::{arrived_front, given_front, tail_head_bytes, trace_head_bytes, verdict_bytes};
+use crate::pieces::{
+    arrival_header, given_header, tail_head_bytes, trace_head_bytes, verdict_bytes,
+};
 use tesla_capture::Gatherer;
 use tesla_desk::{Sink, write_all};
 use tesla_fitting::Verdict;
@@ -78,9 +80,15 @@ pub fn put_arrived<S: Sink>(
     ensures cause { HasCause (S.faults sink.old) (S.faults sink.new) (result ≡ false) }
     ensures name { S.name sink.new ≡ S.name sink.old }
 {
-    let front = arrived_front(ingest, reading, bytes.len() as u16);
-    let told = verdict_bytes(verdict);
-    put_text(gatherer, sink, &front, bytes, &told.bytes[..told.length])
+    let header = arrival_header(ingest, reading, bytes.len() as u16);
+    let returned = verdict_bytes(verdict);
+    put_text(
+        gatherer,
+        sink,
+        &header,
+        bytes,
+        &returned.bytes[..returned.length],
+    )
 }
 
 /// Puts a take by this releaser, with its answer, behind what is gathered, as `put_trace_head` does. The payload of a packet
@@ -107,7 +115,7 @@ pub fn put_taken<S: Sink>(
         Take::Over => put_text(gatherer, sink, &[2, releaser, 1], &[], &[]),
         Take::Given(head) => {
             let given = &payload[..usize::from(head.length)];
-            put_text(gatherer, sink, &given_front(releaser, &head), given, &[])
+            put_text(gatherer, sink, &given_header(releaser, &head), given, &[])
         }
     }
 }
@@ -155,17 +163,17 @@ fn put_entry<S: Sink>(gatherer: &mut Gatherer, sink: &mut S, entry: &EntryBuffer
 fn put_text<S: Sink>(
     gatherer: &mut Gatherer,
     sink: &mut S,
-    front: &[u8],
+    header: &[u8],
     body: &[u8],
     back: &[u8],
 ) -> bool
-    requires { length front.now + length body.now + length back.now ≤ 8192 }
-    ensures all { result ≡ true → Gathers (S.written sink.old) (S.written sink.new) (gathered gatherer.new) (gathered gatherer.old ++ (front.now ++ body.now ++ back.now)) }
+    requires { length header.now + length body.now + length back.now ≤ 8192 }
+    ensures all { result ≡ true → Gathers (S.written sink.old) (S.written sink.new) (gathered gatherer.new) (gathered gatherer.old ++ (header.now ++ body.now ++ back.now)) }
     ensures prefix { result ≡ false → AppendsPrefix (S.written sink.old) (S.written sink.new) (gathered gatherer.old) }
     ensures kept { result ≡ false → gathered gatherer.new ≡ gathered gatherer.old }
-    ensures waits { length (gathered gatherer.old) + length (front.now ++ body.now ++ back.now) ≤ 8192 → sink.new ≡ sink.old }
+    ensures waits { length (gathered gatherer.old) + length (header.now ++ body.now ++ back.now) ≤ 8192 → sink.new ≡ sink.old }
     ensures cause { HasCause (S.faults sink.old) (S.faults sink.new) (result ≡ false) }
     ensures name { S.name sink.new ≡ S.name sink.old }
 {
-    gatherer.put_parts(sink, front, body, back)
+    gatherer.put_parts(sink, header, body, back)
 }

@@ -20,17 +20,17 @@ taken [] = []
 taken (e ∷ h) = taken_before e.place e.number (taken h)
 
 -- the place of the next number in a list that has n
-abbrev pub place_at : ℕ → ℕ → Option ℕ
-place_at limit n = if ltb n limit then Some n else None
+abbrev pub index_at : ℕ → ℕ → Option ℕ
+index_at limit n = if ltb n limit then Some n else None
 
-abbrev pub after_place : Option ℕ → ℕ → ℕ
-after_place None n = n
-after_place (Some place) n = n + 1
+abbrev pub after_index : Option ℕ → ℕ → ℕ
+after_index None n = n
+after_index (Some place) n = n + 1
 
 -- each reply is right where n numbers were taken before
 abbrev pub IsLegalFrom : ℕ → ℕ → List Appended → Type 0
 IsLegalFrom limit n [] = Unit {0}
-IsLegalFrom limit n (e ∷ h) = (e.place ≡ place_at limit n) × IsLegalFrom limit (after_place e.place n) h
+IsLegalFrom limit n (e ∷ h) = (e.place ≡ index_at limit n) × IsLegalFrom limit (after_index e.place n) h
 
 abbrev pub IsLegal : ℕ → List Appended → Type 0
 IsLegal limit h = IsLegalFrom limit 0 h

@@ -42,7 +42,7 @@ module _ {E : Type 0} where
 module _ {A : Type 0} where
   -- the first list, and then more
   abbrev pub BeginsWith : List A → List A → Type 0
-  BeginsWith whole front = (rest : List A) × (whole ≡ front ++ rest)
+  BeginsWith whole prefix = (rest : List A) × (whole ≡ prefix ++ rest)
 
   abbrev pub longer : List A → List A → List A
   longer xs ys = if ltb (length xs) (length ys) then ys else xs

@@ -1,6 +1,6 @@
 //! Two small chronicles: a sum, and a list of numbers whose replies stand in its history.
 ghost use Rattle.std.specs.Prelude.{◌≡◌, ◌≤◌, ◌++◌, ◌∷◌, [], List, length, vec_len, vec_capacity, IfOk};
-ghost use Rattle.tesla_turn.specs.Examples.{sum_after, taken, IsLegal, place_at};
+ghost use Rattle.tesla_turn.specs.Examples.{sum_after, taken, IsLegal, index_at};
 
 use crate::act::Act;
 use std::alloc::Global;

@@ -65,11 +65,11 @@ newer_gaps tips (row ∷ rows) =
 others : (cfg : Config) (frame : Frame) (n : ℕ) → (rest : List KeyRow) × (keys_of cfg frame ≡ first_keys cfg frame n ++ rest)
 others cfg (Data f) n =
     let keys : List (ℕ × TagRow) → List KeyRow = flat_map (λ (p : ℕ × TagRow). carried cfg f.name.interval p.0 p.1.key) in
-    let front = take n f.rows in
-    let behind = enumerate_from (0 + length front) (drop n f.rows) in (
+    let prefix = take n f.rows in
+    let behind = enumerate_from (0 + length prefix) (drop n f.rows) in (
       keys behind,
-      ap (λ rs. keys (enumerate_from 0 rs)) (sym (take-append-drop n f.rows)) ∙ ap keys (enumerate_from-append 0 front (drop n f.rows))
-          ∙ flat_map-append (λ (p : ℕ × TagRow). carried cfg f.name.interval p.0 p.1.key) (enumerate_from 0 front) behind,
+      ap (λ rs. keys (enumerate_from 0 rs)) (sym (take-append-drop n f.rows)) ∙ ap keys (enumerate_from-append 0 prefix (drop n f.rows))
+          ∙ flat_map-append (λ (p : ℕ × TagRow). carried cfg f.name.interval p.0 p.1.key) (enumerate_from 0 prefix) behind,
     )
 others cfg (Disclosure f) n = (drop n f.rows, sym (take-append-drop n f.rows))
 

@@ -138,5 +138,5 @@ counted_more p n i h =
     ap (count_by p) (take_more (range_with_len 0 n) i 0 inside ∙ ap (λ (k : ℕ). take i (range_with_len 0 n) ++ k ∷ []) number)
     ∙ sum_by_push (λ q. cond (p q) 1 0) (take i (range_with_len 0 n)) i
 
-pub counted_front : (p : ℕ → Bool) (i : ℕ) (xs : List ℕ) → count_by p (take i xs) ≤ count_by p xs
-counted_front p i xs = sum_by-take-le (λ q. cond (p q) 1 0) xs i
+pub counted_prefix : (p : ℕ → Bool) (i : ℕ) (xs : List ℕ) → count_by p (take i xs) ≤ count_by p xs
+counted_prefix p i xs = sum_by-take-le (λ q. cond (p q) 1 0) xs i

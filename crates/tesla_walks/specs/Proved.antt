@@ -40,8 +40,8 @@ proof_of cfg tips new item = if item.released then [] else released_on item (fin
 abbrev pub release_in : Proved → Release
 release_in proved = proved.release
 
-abbrev pub place_of : Release → ℕ
-place_of release = release.place
+abbrev pub arrival_number : Release → ℕ
+arrival_number release = release.place
 
 -- the numbers of the elements rise
 abbrev pub RiseBy : {A : Type 0} → (A → ℕ) → List A → Type 0

@@ -3,7 +3,7 @@
 ghost use Rattle.std.specs.Prelude.{◌≡◌, All, List, length, map};
 ghost use Rattle.std.specs.List.Sorted.{IsPermutation};
 ghost use Rattle.tesla_walks.specs.declared.release.Release.{Release};
-ghost use Rattle.tesla_walks.specs.Proved.{RiseBy, place_of, release_in};
+ghost use Rattle.tesla_walks.specs.Proved.{RiseBy, arrival_number, release_in};
 ghost use Rattle.tesla_walks.specs.ReachedIntervals.{Spans, highest, lowest};
 ghost use Rattle.tesla_walks.specs.Offered.{IsOfChains};
 ghost use Rattle.tesla_walks.specs.Walking.{rows_of};
@@ -25,7 +25,7 @@ pub struct Proved {
 /// Puts proved packets into order of arrival. There is one such order, since no two have the same place among all
 /// arrivals.
 pub fn sort(proved: &mut [Proved])
-    ensures order { (releases : List Release) → RiseBy place_of releases → IsPermutation releases (map release_in proved.old) → map release_in proved.new ≡ releases }
+    ensures order { (releases : List Release) → RiseBy arrival_number releases → IsPermutation releases (map release_in proved.old) → map release_in proved.new ≡ releases }
     ensures same { IsPermutation proved.old proved.new }
 {
     proved.sort_unstable_by_key(|one| one.release.place);

@@ -86,7 +86,7 @@ fn proves<L: Ledger>(config: &Config, walking: &mut Walk, item: &Item, steps: &m
 }
 
 /// The place of the walk of a chain.
-fn place_of(walks: &[Walk], chain: u8) -> Option<usize>
+fn arrival_number(walks: &[Walk], chain: u8) -> Option<usize>
     ensures { result ≡ position (λ walking. is_of chain walking.row) walks.now }
 {
     walks
@@ -112,7 +112,7 @@ fn any_proof<L: Ledger>(
     ensures cost { (tips : List Tip) → (tip_at tips chain).index < item.now.name.interval →
         steps.new + left tips walks.new ≤ steps.old + left tips walks.old + 2 * (if list_any (reaches chain item.now.name.interval) (rows_of walks.old) then 1 else 0) }
 {
-    let Some(place) = place_of(walks, chain) else {
+    let Some(place) = arrival_number(walks, chain) else {
         return false;
     };
     proves(config, &mut walks[place], item, steps)

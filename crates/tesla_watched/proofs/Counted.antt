@@ -36,7 +36,7 @@ counts_rise history entry (suc (suc (suc (suc (suc (suc (suc zero))))))) = count
 counts_rise history entry (suc (suc (suc (suc (suc (suc (suc (suc zero)))))))) = count_rises 9 history entry
 counts_rise history entry (suc (suc (suc (suc (suc (suc (suc (suc (suc zero))))))))) = count_rises 10 history entry
 counts_rise history entry (suc (suc (suc (suc (suc (suc (suc (suc (suc (suc zero)))))))))) = given_rises history entry
-counts_rise history entry (suc (suc (suc (suc (suc (suc (suc (suc (suc (suc (suc place))))))))))) = omega arith
+counts_rise history entry (suc (suc (suc (suc (suc (suc (suc (suc (suc (suc (suc index))))))))))) = omega arith
 
 -- a station that stands for one entry more, whose counts are still those before it
 pub counts_stand : {V : Type 0} (stands : V → List Entry → Type 0) (state : WatchedState V) (before after : V) (counters : CountersId) (counts : List ℕ) (history : List Entry) (entry : Entry)

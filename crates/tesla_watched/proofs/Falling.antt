@@ -3,7 +3,7 @@ use Rattle.std.proofs.Common.{ℕ, zero, suc, ◌≤◌, List, [], ◌∷◌, ge
 use Rattle.tesla_watched.specs.Counts.{NoneFalls}
 
 pub risen : (xs : List ℕ) (i n : ℕ) → get_or xs i 0 ≤ n → NoneFalls xs (set xs i n)
-risen [] i n h place = omega arith
+risen [] i n h index = omega arith
 risen (x ∷ xs) zero n h zero = h
 risen (x ∷ xs) zero n h (suc k) = omega arith
 risen (x ∷ xs) (suc i) n h zero = omega arith

@@ -21,4 +21,4 @@ no_counts = 0 ∷ 0 ∷ 0 ∷ 0 ∷ 0 ∷ 0 ∷ 0 ∷ 0 ∷ 0 ∷ 0 ∷ 0 ∷ []
 
 -- no count falls from one reading to a later one
 abbrev pub NoneFalls : List ℕ → List ℕ → Type 0
-NoneFalls before after = (place : ℕ) → slice_index_or before place 0 ≤ slice_index_or after place 0
+NoneFalls before after = (index : ℕ) → slice_index_or before index 0 ≤ slice_index_or after index 0

@@ -50,7 +50,7 @@ fn look(counters: &Counters, seat: &mut CountsSeat, counts: &mut [u64; COUNTS])
     ensures rise { NoneFalls counts.old counts.new }
 {
     // The last first: a packet is given after it was kept, so given is read before kept, and no line tells more packets given than kept.
-    for place in (0..COUNTS).rev() {
-        counts[place] = counters.table.shared.load::<Look>(seat, place);
+    for index in (0..COUNTS).rev() {
+        counts[index] = counters.table.shared.load::<Look>(seat, index);
     }
 }

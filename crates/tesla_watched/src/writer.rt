@@ -69,13 +69,13 @@ fn store_changes(
     ensures seat { IsSetting counters.now held.new seat.new }
     ensures counts { held.new ≡ counts.now }
 {
-    for place in 0..COUNTS {
-        if held[place] != counts[place] {
+    for index in 0..COUNTS {
+        if held[index] != counts[index] {
             counters
                 .table
                 .shared
-                .store::<Put>(seat, place, counts[place]);
-            held[place] = counts[place];
+                .store::<Put>(seat, index, counts[index]);
+            held[index] = counts[index];
         }
     }
 }

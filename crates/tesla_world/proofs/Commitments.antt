@@ -37,10 +37,10 @@ newest_least rises cfg arrivals chain = rises cfg [] arrivals chain
 -- nor is that of a key that was taken
 newest_taken : OnlyRises → (cfg : Config) (arrivals : List Arrival) (n : ℕ) (arrival : Arrival) (row : KeyRow) → slice_get arrivals n ≡ Some arrival → Contains (keys_taken cfg arrival) row → row.index ≤ newest cfg arrivals row.chain.0
 newest_taken rises cfg arrivals n arrival row at taken =
-    let front = take n arrivals ++ arrival ∷ [] in
+    let prefix = take n arrivals ++ arrival ∷ [] in
     let rest = drop (n + 1) arrivals in
-    let whole : front ++ rest ≡ arrivals = ap (λ xs. xs ++ rest) (sym (take_got arrivals n arrival at)) ∙ take-append-drop (n + 1) arrivals in
-    omega (arith, newest_reaches cfg (take n arrivals) arrival row taken, rises cfg front rest row.chain.0, ap (λ xs. newest cfg xs row.chain.0) whole)
+    let whole : prefix ++ rest ≡ arrivals = ap (λ xs. xs ++ rest) (sym (take_got arrivals n arrival at)) ∙ take-append-drop (n + 1) arrivals in
+    omega (arith, newest_reaches cfg (take n arrivals) arrival row taken, rises cfg prefix rest row.chain.0, ap (λ xs. newest cfg xs row.chain.0) whole)
 
 -- what a test keeps was there
 kept_from : {A : Type 0} (p : A → Bool) (xs : List A) (x : A) → Contains (filter p xs) x → Contains xs x
@@ -89,8 +89,8 @@ leads_back cfg arrivals offered other none carried own above below leads leads_o
 -- ---- the law
 
 -- an element at a place is among all
-at_place : {A : Type 0} (xs : List A) (n : ℕ) (x : A) → slice_get xs n ≡ Some x → Contains xs x
-at_place xs n x at = (n, slice_get_within xs n x at, get_or_from_slice_get xs n x x at)
+at_index : {A : Type 0} (xs : List A) (n : ℕ) (x : A) → slice_get xs n ≡ Some x → Contains xs x
+at_index xs n x at = (n, slice_get_within xs n x at, get_or_from_slice_get xs n x x at)
 
 module _ (rises : OnlyRises) (taken : NewAreTaken) (fresh : FreshAreNew) (cfg : Config) (h : List Entry) (row : KeyRow) (legal : IsLegal cfg h) (none : NoneCollide cfg (arrivals_in h) row)
     (newer : newest cfg (arrivals_in h) row.chain.0 < row.index) (leads : leads_to row (chain_row cfg row.chain.0).index (chain_row cfg row.chain.0).key ≡ true) where
@@ -110,7 +110,7 @@ module _ (rises : OnlyRises) (taken : NewAreTaken) (fresh : FreshAreNew) (cfg : 
       let same : first.index ≡ (chain_row cfg row.chain.0).index = ap (λ (c : ℕ). (chain_row cfg c).index) chain in
       let kept = kept_from _ (keys_taken cfg is_new.arrival) other is_new.new in
       let below : other.index ≤ newest cfg arrivals row.chain.0 = subst (λ (c : ℕ). other.index ≤ newest cfg arrivals c) chain (newest_taken rises cfg arrivals is_new.n is_new.arrival other is_new.at kept) in
-      leads_back cfg arrivals row other none (record { arrival = is_new.arrival; among = at_place arrivals is_new.n is_new.arrival is_new.at; carried = is_taken.carried }) chain
+      leads_back cfg arrivals row other none (record { arrival = is_new.arrival; among = at_index arrivals is_new.n is_new.arrival is_new.at; carried = is_taken.carried }) chain
       (omega (arith, above, lowest, same)) (omega (arith, newer, below)) leads
       (subst (λ (c : ℕ). leads_to other (chain_row cfg c).index (chain_row cfg c).key ≡ true) chain parts.1)
 

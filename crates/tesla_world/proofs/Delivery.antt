@@ -24,7 +24,7 @@ use Rattle.tesla_sender.specs.declared.refusal.SendRefusal.{SendRefusal}
 use Rattle.tesla_state.specs.Releases.{has_name}
 use Rattle.tesla_walks.specs.declared.release.Release.{Release}
 use Rattle.tesla_world.specs.Laws.{DeliveryLaw, HasSendersTag, seed_in}
-use Rattle.tesla_world.specs.World.{Came, Dated, Joined, Moment, Sent, arrival_at, came_in, dated_of, sent_in}
+use Rattle.tesla_world.specs.World.{Received, Dated, Joined, Moment, Sent, arrival_at, received_in, dated_of, sent_in}
 use Rattle.tesla_world.proofs.Completeness.{below_with, proved_at}
 use Rattle.tesla_world.proofs.Newest.{newest_reaches, reached_by, take_further, take_got}
 use Rattle.tesla_world.proofs.Sent.{sent_for, sent_number}
@@ -116,23 +116,23 @@ sent_tag read cfg seeds world log h joined i sent bytes message chain at reads b
 -- ---- what came
 
 -- a moment at which something came has its number in what came
-came_number : (world : List Moment) (j reading : ℕ) (bytes : List ℕ) → slice_get world j ≡ Some (Came reading bytes) → slice_get (came_in world) (arrival_at world j) ≡ Some (record { reading = reading; bytes = bytes })
-came_number [] j reading bytes at = absurd (cc)
-came_number (Came r b ∷ world) zero reading bytes at =
+received_number : (world : List Moment) (j reading : ℕ) (bytes : List ℕ) → slice_get world j ≡ Some (Received reading bytes) → slice_get (received_in world) (arrival_at world j) ≡ Some (record { reading = reading; bytes = bytes })
+received_number [] j reading bytes at = absurd (cc)
+received_number (Received r b ∷ world) zero reading bytes at =
     let now : r ≡ reading = cc in
     let text : b ≡ bytes = cc in
     cc
-came_number (Sent r b ∷ world) zero reading bytes at = absurd (cc)
-came_number (Came r b ∷ world) (suc j) reading bytes at = came_number world j reading bytes at
-came_number (Sent r b ∷ world) (suc j) reading bytes at = came_number world j reading bytes at
+received_number (Sent r b ∷ world) zero reading bytes at = absurd (cc)
+received_number (Received r b ∷ world) (suc j) reading bytes at = received_number world j reading bytes at
+received_number (Sent r b ∷ world) (suc j) reading bytes at = received_number world j reading bytes at
 
 -- its arrival has the bytes that came
-came_bytes : (cfg : Config) (seeds : List Key) (world : List Moment) (log : List Call) (h : List Entry) → Joined cfg seeds world log h → (j came : ℕ) (bytes : List ℕ) (kept : Arrival) → slice_get world j ≡ Some (Came came bytes) → slice_get (arrivals_in h) (arrival_at world j) ≡ Some kept → kept.bytes ≡ bytes
-came_bytes cfg seeds world log h joined j came bytes kept at at_m =
+received_bytes : (cfg : Config) (seeds : List Key) (world : List Moment) (log : List Call) (h : List Entry) → Joined cfg seeds world log h → (j received : ℕ) (bytes : List ℕ) (kept : Arrival) → slice_get world j ≡ Some (Received received bytes) → slice_get (arrivals_in h) (arrival_at world j) ≡ Some kept → kept.bytes ≡ bytes
+received_bytes cfg seeds world log h joined j received bytes kept at at_m =
     let m : ℕ = arrival_at world j in
-    let dated : Dated = record { reading = came; bytes = bytes } in
+    let dated : Dated = record { reading = received; bytes = bytes } in
     let same : Some (dated_of kept) ≡ Some dated =
-    sym (ap (λ ds. slice_get ds m) joined.came ∙ slice_get-map dated_of (arrivals_in h) m ∙ ap (option_map dated_of) at_m) ∙ came_number world j came bytes at in
+    sym (ap (λ ds. slice_get ds m) joined.received ∙ slice_get-map dated_of (arrivals_in h) m ∙ ap (option_map dated_of) at_m) ∙ received_number world j received bytes at in
     ap (λ (d : Dated). d.bytes) (same_Some (dated_of kept) dated same)
 
 -- ---- the key that reaches the interval
@@ -174,11 +174,11 @@ still_released first cfg arrivals a b name less there =
 -- ---- the law
 
 pub delivered : SpelledAreRead → ReleasedFirst → KeptAreSafe → NewAreTaken → NewestRises → ProvedAreReleased → DeliveryLaw
-delivered read first safe taken rises proved cfg seeds world log h joined honest i j n sent came bytes message kept arrival packet chain row at_i reads at_j at_m brought set later at_n takes same reaches =
+delivered read first safe taken rises proved cfg seeds world log h joined honest i j n sent received bytes message kept arrival packet chain row at_i reads at_j at_m brought set later at_n takes same reaches =
     let arrivals : List Arrival = arrivals_in h in
     let m : ℕ = arrival_at world j in
     let on = safe cfg h m kept packet chain joined.legal at_m brought set in
-    let same_bytes : kept.bytes ≡ bytes = came_bytes cfg seeds world log h joined j came bytes kept at_j at_m in
+    let same_bytes : kept.bytes ≡ bytes = received_bytes cfg seeds world log h joined j received bytes kept at_j at_m in
     let frames : Some (Data packet.frame) ≡ Some (Data message) = sym on.framed ∙ ap frame_of same_bytes ∙ reads in
     let is : packet.frame ≡ message = cc in
     let tagged : HasSendersTag cfg seeds packet.frame chain =

@@ -22,27 +22,27 @@ use Rattle.tesla_receiver.specs.declared.history.Arrival.{Arrival}
 use Rattle.tesla_receiver.specs.declared.history.Entry.{Entry}
 use Rattle.tesla_fitting.specs.Rows.{keys_of}
 use Rattle.tesla_sender.specs.Made.{Call, interval_at}
-use Rattle.tesla_world.specs.World.{Moment, Sent, Came, Dated, Joined, arrival_at, came_in, dated_of}
-use Rattle.tesla_world.specs.Laws.{KeptAreUntold, SecurityCondition}
+use Rattle.tesla_world.specs.World.{Moment, Sent, Received, Dated, Joined, arrival_at, received_in, dated_of}
+use Rattle.tesla_world.specs.Laws.{KeptAreUndisclosed, SecurityCondition}
 use Rattle.tesla_world.proofs.Sending.{IsDueKey, call_at, made_due}
 
 -- ---- arrivals
 
 -- what came at a moment stands at the number of what came before
-came_among : (world : List Moment) (j reading : ℕ) (bytes : List ℕ) → slice_get world j ≡ Some (Came reading bytes) → slice_get (came_in world) (arrival_at world j) ≡ Some (record { reading = reading; bytes = bytes })
-came_among [] j reading bytes at = absurd (none-some (Came reading bytes) at)
-came_among (Sent now text ∷ world) zero reading bytes at = absurd (cc)
-came_among (Came now text ∷ world) zero reading bytes at = cc
-came_among (Sent now text ∷ world) (suc j) reading bytes at = came_among world j reading bytes at
-came_among (Came now text ∷ world) (suc j) reading bytes at = came_among world j reading bytes at
+received_among : (world : List Moment) (j reading : ℕ) (bytes : List ℕ) → slice_get world j ≡ Some (Received reading bytes) → slice_get (received_in world) (arrival_at world j) ≡ Some (record { reading = reading; bytes = bytes })
+received_among [] j reading bytes at = absurd (none-some (Received reading bytes) at)
+received_among (Sent now text ∷ world) zero reading bytes at = absurd (cc)
+received_among (Received now text ∷ world) zero reading bytes at = cc
+received_among (Sent now text ∷ world) (suc j) reading bytes at = received_among world j reading bytes at
+received_among (Received now text ∷ world) (suc j) reading bytes at = received_among world j reading bytes at
 
 -- and the arrival of that number is what came
-came_as : (world : List Moment) (arrivals : List Arrival) (j reading : ℕ) (bytes : List ℕ) (arrival : Arrival) → came_in world ≡ map dated_of arrivals → slice_get world j ≡ Some (Came reading bytes) → slice_get arrivals (arrival_at world j) ≡ Some arrival → arrival.reading ≡ reading
-came_as world arrivals j reading bytes arrival came at is =
+received_as : (world : List Moment) (arrivals : List Arrival) (j reading : ℕ) (bytes : List ℕ) (arrival : Arrival) → received_in world ≡ map dated_of arrivals → slice_get world j ≡ Some (Received reading bytes) → slice_get arrivals (arrival_at world j) ≡ Some arrival → arrival.reading ≡ reading
+received_as world arrivals j reading bytes arrival received at is =
     let place = arrival_at world j in
     let dated : Dated = record { reading = reading; bytes = bytes } in
     let same : Some (dated_of arrival) ≡ Some dated =
-    ap (option_map dated_of) (sym is) ∙ sym (slice_get-map dated_of arrivals place) ∙ ap (λ (ds : List Dated). slice_get ds place) (sym came) ∙ came_among world j reading bytes at in
+    ap (option_map dated_of) (sym is) ∙ sym (slice_get-map dated_of arrivals place) ∙ ap (λ (ds : List Dated). slice_get ds place) (sym received) ∙ received_among world j reading bytes at in
     ap (λ (d : Dated). d.reading) (same_Some (dated_of arrival) dated same)
 
 -- a moment of a front is that of the whole, before its end
@@ -77,9 +77,9 @@ interval_below times (pos time) sent bound before is =
     ]
 
 -- what was sent at most the lag after the reading was sent in the interval of the bound or before
-sent_within : (times : Times) (lag : ℤ) (sent came bound : ℕ) → pos sent ≤ℤ (pos came +ℤ lag) → bound_of times lag came ≡ Some bound → interval_at times sent ≤ bound
+sent_within : (times : Times) (lag : ℤ) (sent received bound : ℕ) → pos sent ≤ℤ (pos received +ℤ lag) → bound_of times lag received ≡ Some bound → interval_at times sent ≤ bound
 unfolding bound_of
-sent_within times lag sent came bound before is = interval_below times ((pos came +ℤ lag) -ℤ pos times.start) sent bound (omega (arith, ints)) is
+sent_within times lag sent received bound before is = interval_below times ((pos received +ℤ lag) -ℤ pos times.start) sent bound (omega (arith, ints)) is
 
 -- ---- the law
 
@@ -104,14 +104,14 @@ sent_due read cfg seeds world log history joined i sent text frame row at framed
     (made_due cfg seeds (take number.0 log) made.call frame row (is_sent.made ∙ ap Some same) carries)
 
 -- what was sent before a kept packet came told no key that reaches its interval
-kept_untold : KeptAreSafe → ReadsFrames → (cfg : Config) (seeds : List Key) (world : List Moment) (log : List Call) (history : List Entry) → Joined cfg seeds world log history → KeptAreUntold cfg world history
-kept_untold kept_safe read cfg seeds world log history joined bounded j came bytes arrival packet chain came_at_j arrived kept safe i sent text frame row sent_before framed carries own =
+kept_undisclosed : KeptAreSafe → ReadsFrames → (cfg : Config) (seeds : List Key) (world : List Moment) (log : List Call) (history : List Entry) → Joined cfg seeds world log history → KeptAreUndisclosed cfg world history
+kept_undisclosed kept_safe read cfg seeds world log history joined bounded j received bytes arrival packet chain received_at_j arrived kept safe i sent text frame row sent_before framed carries own =
     let before = before_from world i j (Sent sent text) sent_before in
     let is_safe = kept_safe cfg history (arrival_at world j) arrival packet chain joined.legal arrived kept safe in
     let due = sent_due read cfg seeds world log history joined i sent text frame row before.1 framed carries in
-    let reading : arrival.reading ≡ came = came_as world (arrivals_in history) j came bytes arrival joined.came came_at_j arrived in
-    let bound : bound_of cfg.setup.times cfg.lag came ≡ Some is_safe.bound = subst (λ (n : ℕ). bound_of cfg.setup.times cfg.lag n ≡ Some is_safe.bound) reading is_safe.bounded in
-    let within = sent_within cfg.setup.times cfg.lag sent came is_safe.bound (bounded i j sent came text bytes before.0 before.1 came_at_j) bound in
+    let reading : arrival.reading ≡ received = received_as world (arrivals_in history) j received bytes arrival joined.received received_at_j arrived in
+    let bound : bound_of cfg.setup.times cfg.lag received ≡ Some is_safe.bound = subst (λ (n : ℕ). bound_of cfg.setup.times cfg.lag n ≡ Some is_safe.bound) reading is_safe.bounded in
+    let within = sent_within cfg.setup.times cfg.lag sent received is_safe.bound (bounded i j sent received text bytes before.0 before.1 received_at_j) bound in
     earlier cfg seeds (interval_at cfg.setup.times sent) is_safe.bound packet.frame.name.interval row due within
     (subst (λ (c : ℕ). is_safe.bound < packet.frame.name.interval + (chain_row cfg c).delay) (sym own) is_safe.undisclosed)
 
@@ -119,5 +119,5 @@ kept_untold kept_safe read cfg seeds world log history joined bounded j came byt
 pub secure : KeptAreSafe → ReadsFrames → SecurityCondition
 secure kept_safe read cfg seeds world log history joined = record {
   own = λ i sent text frame row at framed carries. (sent_due read cfg seeds world log history joined i sent text frame row at framed carries).own;
-  untold = kept_untold kept_safe read cfg seeds world log history joined;
+  undisclosed = kept_undisclosed kept_safe read cfg seeds world log history joined;
 }

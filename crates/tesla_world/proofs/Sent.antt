@@ -3,7 +3,7 @@ use Rattle.std.proofs.Common.{◌≡◌, ℕ, zero, suc, List, [], ◌∷◌, �
 use Rattle.std.specs.Prelude.{slice_get}
 use Rattle.std.proofs.lemmas.List.{append-nil}
 use Rattle.tesla_sender.specs.Made.{Call, Stream}
-use Rattle.tesla_world.specs.World.{Moment, Sent, Came, Dated, sent_in, IsSentFor, AreSentFor}
+use Rattle.tesla_world.specs.World.{Moment, Sent, Received, Dated, sent_in, IsSentFor, AreSentFor}
 
 -- what was sent as number k is for the call k, after those before it
 pub record HasCall (stream : Stream) (log calls : List Call) (k : ℕ) (sent : Dated) : Type 0 where
@@ -38,6 +38,6 @@ sent_number (Sent r b ∷ world) zero reading bytes at =
     let now : r ≡ reading = cc in
     let text : b ≡ bytes = cc in
     (zero, cc)
-sent_number (Came r b ∷ world) zero reading bytes at = absurd (cc)
+sent_number (Received r b ∷ world) zero reading bytes at = absurd (cc)
 sent_number (Sent r b ∷ world) (suc i) reading bytes at = let rest = sent_number world i reading bytes at in (suc rest.0, rest.1)
-sent_number (Came r b ∷ world) (suc i) reading bytes at = sent_number world i reading bytes at
+sent_number (Received r b ∷ world) (suc i) reading bytes at = sent_number world i reading bytes at

@@ -19,7 +19,7 @@ use Rattle.tesla_sender.specs.declared.refusal.SendRefusal.{SendRefusal}
 use Rattle.tesla_state.specs.State.{State}
 use Rattle.tesla_world.specs.Joint.{HasCome, HasHad, HasSent, IsLawful, JointState, StandsFor, bytes_of}
 use Rattle.tesla_world.specs.Laws.{HonestCompleteness, SecurityCondition}
-use Rattle.tesla_world.specs.World.{AreSentFor, Came, Dated, IsSentFor, Joined, Moment, Sent, came_at, came_in, dated_of, sent_at, sent_in}
+use Rattle.tesla_world.specs.World.{AreSentFor, Received, Dated, IsSentFor, Joined, Moment, Sent, received_at, received_in, dated_of, sent_at, sent_in}
 
 -- the laws hold of each world that a joint stands for
 pub joint_lawful : SecurityCondition → HonestCompleteness → (joint : JointState) → IsLawful joint
@@ -57,8 +57,8 @@ sent_more stream before (first ∷ calls) (next ∷ sents) call sent all one =
 sent_with : (world : List Moment) (moment : Moment) → sent_in (world ++ moment ∷ []) ≡ sent_in world ++ sent_at moment
 sent_with world moment = flat_map-append sent_at world (moment ∷ []) ∙ ap (λ r. sent_in world ++ r) (append-nil (sent_at moment))
 
-came_with : (world : List Moment) (moment : Moment) → came_in (world ++ moment ∷ []) ≡ came_in world ++ came_at moment
-came_with world moment = flat_map-append came_at world (moment ∷ []) ∙ ap (λ r. came_in world ++ r) (append-nil (came_at moment))
+outcome_with : (world : List Moment) (moment : Moment) → received_in (world ++ moment ∷ []) ≡ received_in world ++ received_at moment
+outcome_with world moment = flat_map-append received_at world (moment ∷ []) ∙ ap (λ r. received_in world ++ r) (append-nil (received_at moment))
 
 arrivals_with : (history : List Entry) (entry : Entry) → arrivals_in (history ++ entry ∷ []) ≡ arrivals_in history ++ arrival_in entry
 arrivals_with history entry = flat_map-append arrival_in history (entry ∷ []) ∙ ap (λ r. arrivals_in history ++ r) (append-nil (arrival_in entry))
@@ -84,7 +84,7 @@ after_sent old sender call bytes world log history stands same sends made =
       count = stands.joined.count;
       sent = subst (λ (sents : List Dated). AreSentFor stream [] (log ++ call ∷ []) sents) (sym (sent_with world moment)) all;
       legal = stands.joined.legal;
-      came = came_with world moment ∙ append-nil (came_in world) ∙ stands.joined.came;
+      received = outcome_with world moment ∙ append-nil (received_in world) ∙ stands.joined.received;
     } in
     record {
       joined = subst (λ (s : Stream). Joined cfg s.seeds (world ++ moment ∷ []) (log ++ call ∷ []) history) (sym same) joined;
@@ -95,8 +95,8 @@ after_sent old sender call bytes world log history stands same sends made =
     }
 
 -- the receiver had an event
-after_event : (old : JointState) (receiver : State) (entry : Entry) (world more : List Moment) (log : List Call) (history : List Entry) → StandsFor old world log history → receiver.config ≡ old.receiver.config → Stands receiver (history ++ entry ∷ []) → sent_in (world ++ more) ≡ sent_in world → came_in (world ++ more) ≡ map dated_of (arrivals_in (history ++ entry ∷ [])) → StandsFor (record { sender = old.sender; receiver = receiver; frames = old.frames }) (world ++ more) log (history ++ entry ∷ [])
-after_event old receiver entry world more log history stands same receives sent came =
+after_event : (old : JointState) (receiver : State) (entry : Entry) (world more : List Moment) (log : List Call) (history : List Entry) → StandsFor old world log history → receiver.config ≡ old.receiver.config → Stands receiver (history ++ entry ∷ []) → sent_in (world ++ more) ≡ sent_in world → received_in (world ++ more) ≡ map dated_of (arrivals_in (history ++ entry ∷ [])) → StandsFor (record { sender = old.sender; receiver = receiver; frames = old.frames }) (world ++ more) log (history ++ entry ∷ [])
+after_event old receiver entry world more log history stands same receives sent received =
     let cfg : Config = old.receiver.config in
     let seeds : List Key = old.sender.stream.seeds in
     let stream : Stream = record { setup = cfg.setup; seeds = seeds } in
@@ -104,7 +104,7 @@ after_event old receiver entry world more log history stands same receives sent 
       count = stands.joined.count;
       sent = subst (λ (sents : List Dated). AreSentFor stream [] log sents) (sym sent) stands.joined.sent;
       legal = subst (λ (c : Config). IsLegal c (history ++ entry ∷ [])) same receives.legal;
-      came = came;
+      received = received;
     } in
     record {
       joined = subst (λ (c : Config). Joined c seeds (world ++ more) log (history ++ entry ∷ [])) (sym same) joined;
@@ -115,13 +115,13 @@ after_event old receiver entry world more log history stands same receives sent 
     }
 
 -- a datagram came
-pub after_came : (old : JointState) (receiver : State) (reading : ℕ) (bytes : List ℕ) (world : List Moment) (log : List Call) (history : List Entry) → StandsFor old world log history → receiver.config ≡ old.receiver.config → Stands receiver (history ++ entry_of old.receiver.config history (Arrives 0 reading bytes) ∷ []) → StandsFor (record { sender = old.sender; receiver = receiver; frames = old.frames }) (world ++ Came reading bytes ∷ []) log (history ++ entry_of old.receiver.config history (Arrives 0 reading bytes) ∷ [])
-after_came old receiver reading bytes world log history stands same receives =
+pub after_received : (old : JointState) (receiver : State) (reading : ℕ) (bytes : List ℕ) (world : List Moment) (log : List Call) (history : List Entry) → StandsFor old world log history → receiver.config ≡ old.receiver.config → Stands receiver (history ++ entry_of old.receiver.config history (Arrives 0 reading bytes) ∷ []) → StandsFor (record { sender = old.sender; receiver = receiver; frames = old.frames }) (world ++ Received reading bytes ∷ []) log (history ++ entry_of old.receiver.config history (Arrives 0 reading bytes) ∷ [])
+after_received old receiver reading bytes world log history stands same receives =
     let entry : Entry = entry_of old.receiver.config history (Arrives 0 reading bytes) in
-    let moment : Moment = Came reading bytes in
+    let moment : Moment = Received reading bytes in
     after_event old receiver entry world (moment ∷ []) log history stands same receives
     (sent_with world moment ∙ append-nil (sent_in world))
-    (came_with world moment ∙ ap (λ dates. dates ++ came_at moment) stands.joined.came ∙ sym (map-append dated_of (arrivals_in history) (arrival_in entry)) ∙ ap (map dated_of) (sym (arrivals_with history entry)))
+    (outcome_with world moment ∙ ap (λ dates. dates ++ received_at moment) stands.joined.received ∙ sym (map-append dated_of (arrivals_in history) (arrival_in entry)) ∙ ap (map dated_of) (sym (arrivals_with history entry)))
 
 -- the receiver had an event that is no arrival
 pub after_other : (old : JointState) (receiver : State) (event : Event) (world : List Moment) (log : List Call) (history : List Entry) → arrival_in (entry_of old.receiver.config history event) ≡ [] → StandsFor old world log history → receiver.config ≡ old.receiver.config → Stands receiver (history ++ entry_of old.receiver.config history event ∷ []) → StandsFor (record { sender = old.sender; receiver = receiver; frames = old.frames }) world log (history ++ entry_of old.receiver.config history event ∷ [])
@@ -129,12 +129,12 @@ after_other old receiver event world log history none stands same receives =
     let entry : Entry = entry_of old.receiver.config history event in
     let arrivals : arrivals_in (history ++ entry ∷ []) ≡ arrivals_in history = arrivals_with history entry ∙ ap (λ more. arrivals_in history ++ more) none ∙ append-nil (arrivals_in history) in
     subst (λ (w : List Moment). StandsFor (record { sender = old.sender; receiver = receiver; frames = old.frames }) w log (history ++ entry ∷ [])) (append-nil world)
-    (after_event old receiver entry world [] log history stands same receives (ap sent_in (append-nil world)) (ap came_in (append-nil world) ∙ stands.joined.came ∙ ap (map dated_of) (sym arrivals)))
+    (after_event old receiver entry world [] log history stands same receives (ap sent_in (append-nil world)) (ap received_in (append-nil world) ∙ stands.joined.received ∙ ap (map dated_of) (sym arrivals)))
 
 -- a joint that was just opened
 pub none_yet : (sender : sending.State) (receiver : State) → sender.stream.setup ≡ receiver.config.setup → length sender.stream.seeds ≡ length sender.stream.setup.rows → sending.Stands sender [] → Stands receiver [] → StandsFor (record { sender = sender; receiver = receiver; frames = [] }) [] [] []
 none_yet sender receiver setup seeds sends receives = record {
-  joined = record { count = seeds ∙ ap (λ (p : Parts). length p.rows) setup; sent = tt; legal = receives.legal; came = refl };
+  joined = record { count = seeds ∙ ap (λ (p : Parts). length p.rows) setup; sent = tt; legal = receives.legal; received = refl };
   sends = sends;
   receives = receives;
   sent = refl;
@@ -175,7 +175,7 @@ pub come_by : (s : sending.State) (r : State) (fs : List (List ℕ)) (old : Join
 come_by s r fs old is receiver reading bytes verdict config calls answer receives =
     subst (λ (o : JointState). HasCome o (joint_of s receiver fs) reading bytes verdict) is (record {
       answer = λ world log history stands. answer history stands.receives;
-      stands = λ world log history stands. after_came (joint_of s r fs) receiver reading bytes world log history stands config (receives history stands.receives);
+      stands = λ world log history stands. after_received (joint_of s r fs) receiver reading bytes world log history stands config (receives history stands.receives);
       config = config;
       calls = calls;
       sender_is = refl;

@@ -6,7 +6,7 @@ use Rattle.tesla_world.specs.Laws.{TimeLaw}
 
 -- what is judged is the sum
 pub time_bounds : ((t_s t_r drift : ℕ) (lag : ℤ) → lag_judged t_s t_r drift ≡ Ok lag → lag ≡ lag_sum t_s t_r drift) → TimeLaw
-time_bounds sum asked at_ask answered drift lag world later drifted judged i j sent came text bytes before left right =
+time_bounds sum asked at_ask answered drift lag world later drifted judged i j sent received text bytes before left right =
     let is : lag ≡ lag_sum answered asked drift = sum answered asked drift lag judged in
-    let apart = drifted i j sent came text bytes before left right in
+    let apart = drifted i j sent received text bytes before left right in
     omega (arith, ints, apart)

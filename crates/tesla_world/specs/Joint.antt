@@ -12,7 +12,7 @@ use Rattle.tesla_sender.specs.declared.refusal.DiscloseRefusal.{DiscloseRefusal}
 use Rattle.tesla_sender.specs.declared.refusal.SendRefusal.{SendRefusal}
 use Rattle.tesla_state.specs.State.{State}
 use Rattle.tesla_world.specs.Laws.{IsComplete, IsSecure}
-use Rattle.tesla_world.specs.World.{Came, Dated, Joined, Moment, Sent, sent_in}
+use Rattle.tesla_world.specs.World.{Received, Dated, Joined, Moment, Sent, sent_in}
 use Rattle.tesla_world.specs.declared.refusal.JointRefusal.{JointRefusal}
 use Rattle.tesla_world.specs.declared.refusal.JointRefusal.TheVariants as refused
 use Rattle.tesla_world.specs.declared.refusal.NoSuch.{NoSuch}
@@ -80,7 +80,7 @@ pub record HasCome (old new : JointState) (reading : ℕ) (bytes : List ℕ) (ve
   pub answer : (world : List Moment) (log : List Call) (history : List Entry) → StandsFor old world log history →
       Arrived (record { ingest = 0; reading = reading; bytes = bytes; verdict = verdict }) ≡ entry_of old.receiver.config history (Arrives 0 reading bytes)
   pub stands : (world : List Moment) (log : List Call) (history : List Entry) → StandsFor old world log history →
-      StandsFor new (world ++ Came reading bytes ∷ []) log (history ++ entry_of old.receiver.config history (Arrives 0 reading bytes) ∷ [])
+      StandsFor new (world ++ Received reading bytes ∷ []) log (history ++ entry_of old.receiver.config history (Arrives 0 reading bytes) ∷ [])
   pub config : new.receiver.config ≡ old.receiver.config
   pub calls : new.receiver.calls ≡ old.receiver.calls + 1
   pub sender_is : new.sender ≡ old.sender

@@ -19,7 +19,7 @@ use Rattle.tesla_receiver.specs.declared.packet.Packet.{Packet}
 use Rattle.tesla_sender.specs.Made.{Call, key_of}
 use Rattle.tesla_state.specs.Releases.{has_name}
 use Rattle.tesla_sync.specs.Lag.{lag_judged}
-use Rattle.tesla_world.specs.World.{Moment, Sent, Came, IsBounded, Joined, arrival_at}
+use Rattle.tesla_world.specs.World.{Moment, Sent, Received, IsBounded, Joined, arrival_at}
 
 -- the seed of a chain
 abbrev pub seed_in : List Key → ℕ → Key
@@ -59,33 +59,33 @@ CommitmentLaw =
 
 -- ---- the security condition
 
--- each key that was told in a world is the sender's own of the index that it stands for
+-- each key that was disclosed in a world is the sender's own of the index that it stands for
 abbrev pub TellsOwnKeys : Config → List Key → List Moment → Type 0
 TellsOwnKeys cfg seeds world =
     (i sent : ℕ) (text : List ℕ) (frame : Frame) (row : KeyRow) → slice_get world i ≡ Some (Sent sent text) → frame_of text ≡ Some frame →
     Contains (keys_of cfg frame) row → row.key ≡ senders_key cfg seeds row.chain.0 row.index
 
 -- the frames that were sent in this part of a world told no key of the chain that reaches the interval
-abbrev pub IsUntold : Config → List Moment → ℕ → ℕ → Type 0
-IsUntold cfg front chain interval =
-    (i sent : ℕ) (text : List ℕ) (frame : Frame) (row : KeyRow) → slice_get front i ≡ Some (Sent sent text) → frame_of text ≡ Some frame →
+abbrev pub IsUndisclosed : Config → List Moment → ℕ → ℕ → Type 0
+IsUndisclosed cfg prefix chain interval =
+    (i sent : ℕ) (text : List ℕ) (frame : Frame) (row : KeyRow) → slice_get prefix i ≡ Some (Sent sent text) → frame_of text ≡ Some frame →
     Contains (keys_of cfg frame) row → row.chain.0 ≡ chain → row.index < interval
 
 -- what was sent before a kept packet came told no key of a chain of its set that reaches its interval
-abbrev pub AreUntold : Config → List Moment → List Entry → Type 0
-AreUntold cfg world history =
-    (j came : ℕ) (bytes : List ℕ) (arrival : Arrival) (packet : Packet) (chain : ℕ) → slice_get world j ≡ Some (Came came bytes) →
+abbrev pub AreUndisclosed : Config → List Moment → List Entry → Type 0
+AreUndisclosed cfg world history =
+    (j received : ℕ) (bytes : List ℕ) (arrival : Arrival) (packet : Packet) (chain : ℕ) → slice_get world j ≡ Some (Received received bytes) →
     slice_get (arrivals_in history) (arrival_at world j) ≡ Some arrival → packet_of arrival ≡ Some packet → has_chain packet.chains chain ≡ true →
-    IsUntold cfg (take j world) chain packet.frame.name.interval
+    IsUndisclosed cfg (take j world) chain packet.frame.name.interval
 
 -- and so it is where the clock bound holds of the world
-abbrev pub KeptAreUntold : Config → List Moment → List Entry → Type 0
-KeptAreUntold cfg world history = IsBounded cfg.lag world → AreUntold cfg world history
+abbrev pub KeptAreUndisclosed : Config → List Moment → List Entry → Type 0
+KeptAreUndisclosed cfg world history = IsBounded cfg.lag world → AreUndisclosed cfg world history
 
 -- both: a data frame writes no index, so what its key stands for is said beside
 pub record IsSecure (cfg : Config) (seeds : List Key) (world : List Moment) (history : List Entry) : Type 0 where
   pub own : TellsOwnKeys cfg seeds world
-  pub untold : KeptAreUntold cfg world history
+  pub undisclosed : KeptAreUndisclosed cfg world history
 
 abbrev pub SecurityCondition : Type 0
 SecurityCondition =
@@ -137,8 +137,8 @@ abbrev pub DeliveryLaw : Type 0
 DeliveryLaw =
     (cfg : Config) (seeds : List Key) (world : List Moment) (log : List Call) (history : List Entry) → Joined cfg seeds world log history →
     IsHonest cfg seeds (arrivals_in history) →
-    (i j n sent came : ℕ) (bytes : List ℕ) (message : DataFrame) (kept arrival : Arrival) (packet : Packet) (chain : ℕ) (row : KeyRow) →
-    slice_get world i ≡ Some (Sent sent bytes) → frame_of bytes ≡ Some (Data message) → slice_get world j ≡ Some (Came came bytes) →
+    (i j n sent received : ℕ) (bytes : List ℕ) (message : DataFrame) (kept arrival : Arrival) (packet : Packet) (chain : ℕ) (row : KeyRow) →
+    slice_get world i ≡ Some (Sent sent bytes) → frame_of bytes ≡ Some (Data message) → slice_get world j ≡ Some (Received received bytes) →
     slice_get (arrivals_in history) (arrival_at world j) ≡ Some kept → packet_of kept ≡ Some packet → has_chain packet.chains chain ≡ true →
     arrival_at world j < n → slice_get (arrivals_in history) n ≡ Some arrival → Contains (keys_taken cfg arrival) row → row.chain.0 ≡ chain → message.name.interval ≤ row.index →
     list_any (has_name message.name) (released cfg (take (n + 1) (arrivals_in history))) ≡ true
@@ -148,8 +148,8 @@ DeliveryLaw =
 -- each frame that was sent before a datagram came was sent, by both clocks, no later against it than the clocks stood apart when the receiver asked, and the drift
 abbrev pub HaveDrifted : ℕ → ℕ → ℕ → List Moment → Type 0
 HaveDrifted asked at_ask drift world =
-    (i j sent came : ℕ) (text bytes : List ℕ) → i < j → slice_get world i ≡ Some (Sent sent text) → slice_get world j ≡ Some (Came came bytes) →
-    (pos sent -ℤ pos came) ≤ℤ ((pos at_ask -ℤ pos asked) +ℤ pos drift)
+    (i j sent received : ℕ) (text bytes : List ℕ) → i < j → slice_get world i ≡ Some (Sent sent text) → slice_get world j ≡ Some (Received received bytes) →
+    (pos sent -ℤ pos received) ≤ℤ ((pos at_ask -ℤ pos asked) +ℤ pos drift)
 
 -- the receiver read `asked` when it asked, the sender's clock read `at_ask` then and `answered` when it answered, not before: the lag that follows bounds the clocks
 abbrev pub TimeLaw : Type 0
@@ -162,9 +162,9 @@ TimeLaw =
 -- the same was sent or came at both moments; the first reading is at most the other where it is the sender's, and at least the other where it is the receiver's
 abbrev pub ErrsSafelyAt : Moment → Moment → Type 0
 ErrsSafelyAt (Sent reading bytes) (Sent right same) = (reading ≤ right) × (bytes ≡ same)
-ErrsSafelyAt (Sent reading bytes) (Came right same) = ⊥
-ErrsSafelyAt (Came reading bytes) (Sent right same) = ⊥
-ErrsSafelyAt (Came reading bytes) (Came right same) = (right ≤ reading) × (bytes ≡ same)
+ErrsSafelyAt (Sent reading bytes) (Received right same) = ⊥
+ErrsSafelyAt (Received reading bytes) (Sent right same) = ⊥
+ErrsSafelyAt (Received reading bytes) (Received right same) = (right ≤ reading) × (bytes ≡ same)
 
 -- two worlds in which the same was sent and came, and which differ in readings alone: at each moment the sender's reading is at most, and the receiver's at least, that of the other
 abbrev pub ErrsSafely : List Moment → List Moment → Type 0
@@ -181,7 +181,7 @@ SafeClocksAreBounded = (lag : ℤ) (world right : List Moment) → ErrsSafely wo
 abbrev pub SafeClocksAreSecure : Type 0
 SafeClocksAreSecure =
     (cfg : Config) (seeds : List Key) (world right : List Moment) (log : List Call) (history : List Entry) → Joined cfg seeds world log history →
-    ErrsSafely world right → IsBounded cfg.lag right → AreUntold cfg world history
+    ErrsSafely world right → IsBounded cfg.lag right → AreUndisclosed cfg world history
 
 -- ---- what the second half of the security condition is for
 
@@ -199,7 +199,7 @@ pub record TellsEarly (cfg : Config) (seeds : List Key) (world : List Moment) (c
   pub tells : row.key ≡ Some (senders_key cfg seeds chain (frame.name.interval - (chain_row cfg chain).delay + 1))
   pub other : senders_key cfg seeds chain (frame.name.interval - (chain_row cfg chain).delay + 1) ≢ senders_key cfg seeds chain (frame.name.interval - (chain_row cfg chain).delay)
 
--- a world in which a key is told an interval too early isn't secure, whatever came
+-- a world in which a key is disclosed an interval too early isn't secure, whatever came
 abbrev pub EarlyIsInsecure : Type 0
 EarlyIsInsecure =
     (cfg : Config) (seeds : List Key) (world : List Moment) (history : List Entry) (chain : ℕ) → TellsEarly cfg seeds world chain → IsSecure cfg seeds world history → ⊥

@@ -11,7 +11,7 @@ use Rattle.tesla_sender.specs.Made.{Call, Stream, frame_made, reading_of}
 -- a frame was sent at this reading of the sender's clock, or a datagram came at this reading of the receiver's
 pub data Moment : Type 0 where
   Sent : (reading : ℕ) (bytes : List ℕ) → Moment
-  Came : (reading : ℕ) (bytes : List ℕ) → Moment
+  Received : (reading : ℕ) (bytes : List ℕ) → Moment
 
 -- a reading, and the bytes that were sent or came at it
 pub record Dated : Type 0 where
@@ -20,25 +20,25 @@ pub record Dated : Type 0 where
 
 abbrev pub sent_at : Moment → List Dated
 sent_at (Sent reading bytes) = record { reading = reading; bytes = bytes } ∷ []
-sent_at (Came reading bytes) = []
+sent_at (Received reading bytes) = []
 
-abbrev pub came_at : Moment → List Dated
-came_at (Sent reading bytes) = []
-came_at (Came reading bytes) = record { reading = reading; bytes = bytes } ∷ []
+abbrev pub received_at : Moment → List Dated
+received_at (Sent reading bytes) = []
+received_at (Received reading bytes) = record { reading = reading; bytes = bytes } ∷ []
 
 -- what was sent in a world, in order
 abbrev pub sent_in : List Moment → List Dated
 sent_in world = flat_map sent_at world
 
 -- what came in a world, in order
-abbrev pub came_in : List Moment → List Dated
-came_in world = flat_map came_at world
+abbrev pub received_in : List Moment → List Dated
+received_in world = flat_map received_at world
 
 -- the clock bound holds: what was sent before a datagram came was sent, by the sender's clock, at most the lag after the receiver's reading
 abbrev pub IsBounded : ℤ → List Moment → Type 0
 IsBounded lag world =
-    (i j sent came : ℕ) (text bytes : List ℕ) → i < j → slice_get world i ≡ Some (Sent sent text) → slice_get world j ≡ Some (Came came bytes) →
-    pos sent ≤ℤ (pos came +ℤ lag)
+    (i j sent received : ℕ) (text bytes : List ℕ) → i < j → slice_get world i ≡ Some (Sent sent text) → slice_get world j ≡ Some (Received received bytes) →
+    pos sent ≤ℤ (pos received +ℤ lag)
 
 -- ---- the sender's part
 
@@ -67,8 +67,8 @@ pub record Joined (cfg : Config) (seeds : List Key) (world : List Moment) (log :
   pub count : length seeds ≡ length cfg.setup.rows
   pub sent : AreSentFor (record { setup = cfg.setup; seeds = seeds }) [] log (sent_in world)
   pub legal : IsLegal cfg history
-  pub came : came_in world ≡ map dated_of (arrivals_in history)
+  pub received : received_in world ≡ map dated_of (arrivals_in history)
 
 -- the number of the arrival that came at the moment j: how many came before
 abbrev pub arrival_at : List Moment → ℕ → ℕ
-arrival_at world j = length (came_in (take j world))
+arrival_at world j = length (received_in (take j world))

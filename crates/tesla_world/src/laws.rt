@@ -12,7 +12,7 @@ pub fn commitment()
 }
 
 /// The security condition (RFC 4082, section 3.5): where the clock bound holds, no frame that was sent before a kept
-/// packet came told a key of a chain of its set that reaches its interval, and each key that was told is the sender's of
+/// packet came told a key of a chain of its set that reaches its interval, and each key that was disclosed is the sender's of
 /// its index.
 pub fn safe()
     ensures { SecurityCondition }
@@ -58,13 +58,13 @@ pub fn clocks()
     // The lag of right clocks bounds these.
     ensures bounded { SafeClocksAreBounded }
     // No frame that was sent before a kept packet came told a key of a chain of its set that reaches its interval.
-    ensures untold { SafeClocksAreSecure }
+    ensures undisclosed { SafeClocksAreSecure }
 {
     safe();
 }
 
 /// What the second half of the security condition is for: a data frame writes no index, so a sender that tells each key
 /// one interval too early would meet the first half. Its world isn't secure.
-pub fn told_early()
+pub fn disclosed_early()
     ensures { EarlyIsInsecure }
 {}

@@ -1,7 +1,7 @@
 //! A command is run as often as it has outside calls, and each time another of them fails.
 
 use super::pages::new_desk;
-use super::told_by;
+use super::result_by;
 use std::alloc::Global;
 use std::sync::Wait;
 use std::test::Fail;
@@ -74,7 +74,7 @@ struct Ordinary<'a> {
     words: &'a str,
     calls: &'a str,
     desk: MemoryDesk,
-    told: String,
+    reported: String,
 }
 
 /// A call that fails: its kind and the name of what it is a call of, or none where it is an opening; and its number.
@@ -104,8 +104,8 @@ fn desk_for(alloc: Global, calls: &str) -> Result<MemoryDesk, Fail> {
 // What has to be told where the console's call with this number fails: behind what was written before, that a write failed.
 fn lost_at(alloc: Global, console: &[u8], number: u64) -> Result<String, Fail> {
     let written = (number as usize).saturating_mul(PIECE);
-    let front = std::str::from_utf8(&console[..console.len().min(written)])?;
-    Ok(format!(in alloc; "5 {front}write fault\n")?)
+    let prefix = std::str::from_utf8(&console[..console.len().min(written)])?;
+    Ok(format!(in alloc; "5 {prefix}write fault\n")?)
 }
 
 // What has to be told where a call fails: nothing where the console isn't opened, and behind what it holds already where it
@@ -115,18 +115,18 @@ fn wanted_of(alloc: Global, ordinary: &Ordinary<'_>, call: Call<'_>) -> Result<S
         let console = ordinary.desk.page(CONSOLE).unwrap_or(b"");
         return lost_at(alloc, console, call.number);
     }
-    let told = match call.kind {
+    let reported = match call.kind {
         "open" if call.number == 0 => "7 ",
         "open" => "7 open fault\n",
         "read" => "4 read fault\n",
         _ => "5 write fault\n",
     };
-    Ok(String::from_str(alloc, told)?)
+    Ok(String::from_str(alloc, reported)?)
 }
 
-// Whether an output or a post holds a front of what it holds in the ordinary run. An output may be as it was, and is so where an
+// Whether an output or a post holds a prefix of what it holds in the ordinary run. An output may be as it was, and is so where an
 // opening failed.
-fn holds_front(
+fn holds_prefix(
     alloc: Global,
     desk: &MemoryDesk,
     ordinary: &Ordinary<'_>,
@@ -142,7 +142,7 @@ fn holds_front(
 }
 
 // Whether all outputs and posts of a command do.
-fn hold_fronts(
+fn hold_prefixes(
     alloc: Global,
     desk: &MemoryDesk,
     ordinary: &Ordinary<'_>,
@@ -150,7 +150,7 @@ fn hold_fronts(
 ) -> Result<bool, Fail> {
     for part in ordinary.calls.split(", ") {
         let (called, name) = calls_of(part);
-        if called.starts_with("write ") && !holds_front(alloc, desk, ordinary, call, name)? {
+        if called.starts_with("write ") && !holds_prefix(alloc, desk, ordinary, call, name)? {
             return Ok(false);
         }
     }
@@ -158,7 +158,7 @@ fn hold_fronts(
 }
 
 // What is told of a run in which a call fails, if there is such a call.
-fn told_failing<R: Threads + Wait + Sync>(
+fn result_of_failing<R: Threads + Wait + Sync>(
     rt: &R,
     alloc: Global,
     ordinary: &Ordinary<'_>,
@@ -170,11 +170,13 @@ fn told_failing<R: Threads + Wait + Sync>(
     } else {
         desk.fail_call(call.name, call.number)?;
     }
-    let mut told = told_by(rt, alloc, ordinary.words, &mut desk)?;
-    if told.as_str() != ordinary.told.as_str() && !hold_fronts(alloc, &desk, ordinary, call)? {
-        told.push_str(" with another output")?;
+    let mut reported = result_by(rt, alloc, ordinary.words, &mut desk)?;
+    if reported.as_str() != ordinary.reported.as_str()
+        && !hold_prefixes(alloc, &desk, ordinary, call)?
+    {
+        reported.push_str(" with another output")?;
     }
-    Ok(told)
+    Ok(reported)
 }
 
 // How many calls of these there are, each of which failed once and was told so; or what was told else.
@@ -188,12 +190,12 @@ fn count_of<R: Threads + Wait + Sync>(
     let (kind, _) = called.split_once(' ').unwrap_or((called, ""));
     for number in 0..MOST {
         let call = Call { kind, name, number };
-        let came = told_failing(rt, alloc, ordinary, call)?;
-        if came.as_str() == ordinary.told.as_str() {
+        let actual = result_of_failing(rt, alloc, ordinary, call)?;
+        if actual.as_str() == ordinary.reported.as_str() {
             return Ok(format!(in alloc; "{called} {number}")?);
         }
-        if came.as_str() != wanted_of(alloc, ordinary, call)?.as_str() {
-            return Ok(format!(in alloc; "{called} {number} comes to {came}")?);
+        if actual.as_str() != wanted_of(alloc, ordinary, call)?.as_str() {
+            return Ok(format!(in alloc; "{called} {number} comes to {actual}")?);
         }
     }
     Ok(String::from_str(alloc, "too many")?)
@@ -207,12 +209,12 @@ fn wrong_of<R: Threads + Wait + Sync>(
     calls: &str,
 ) -> Result<String, Fail> {
     let mut desk = desk_for(alloc, calls)?;
-    let told = told_by(rt, alloc, words, &mut desk)?;
+    let reported = result_by(rt, alloc, words, &mut desk)?;
     let ordinary = Ordinary {
         words,
         calls,
         desk,
-        told,
+        reported,
     };
     let mut wrong = String::new(alloc);
     for part in calls.split(", ") {

@@ -4,7 +4,7 @@ use super::status_of_program;
 use std::io;
 use std::test::Fail;
 use tesla_memory_desk::MemoryDesk;
-use tesla_test_desk::told_of;
+use tesla_test_desk::run_result;
 
 /// What is printed of the program on a console that fails.
 pub const PROGRAM: &str = r"
@@ -25,7 +25,7 @@ fn want_of_memory_for_words(rt: HostRuntime) -> Result<(), Fail> {
     let mut desk = MemoryDesk::new(rt.alloc(), 100)?;
     let error = io::Error::from(io::ErrorKind::OutOfMemory);
     let status = status_of_program(rt.alloc(), Err(error), &mut desk);
-    let told = told_of(rt.alloc(), status, &desk)?;
-    assert_eq!(rt; told.as_str(), "6 no memory\n");
+    let reported = run_result(rt.alloc(), status, &desk)?;
+    assert_eq!(rt; reported.as_str(), "6 no memory\n");
     Ok(())
 }

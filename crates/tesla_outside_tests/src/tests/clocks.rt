@@ -116,10 +116,10 @@ const DATES: &[(&str, Option<u64>, (u64, u64), u64)] = &[
 fn clocks_of_commands_where_the_date_is_set(rt: HostRuntime) {
     for (name, seconds, (least, most), lines) in DATES {
         let command = Command::named(name);
-        let (read, told) = read_at(command, seconds.map(Duration::from_secs));
+        let (read, reported) = read_at(command, seconds.map(Duration::from_secs));
         assert_eq!(rt; command.name(), *name);
         assert!(rt; *least <= read && read <= *most, "{name} {read}");
-        assert_eq!(rt; told, *lines, "{name}");
+        assert_eq!(rt; reported, *lines, "{name}");
     }
     for name in ["capture", "relay"] {
         assert_eq!(rt; Command::named(name).name(), name);

@@ -3,7 +3,7 @@ use Rattle.tesla_desk.proofs.Counts.{causes_opening}
 use Rattle.tesla_desk.specs.Outside.{Told, OpensSink}
 use Rattle.tesla_desk.specs.declared.desk.OpenRefusal.{OpenRefusal}
 use Rattle.tesla_desk.specs.declared.desk.OpenRefusal.TheVariants as refused
-use Rattle.tesla_front.specs.Came.{Failed}
+use Rattle.tesla_front.specs.OutcomeView.{Failed}
 use Rattle.tesla_front.specs.Fault.{fault_status, unopened}
 use Rattle.tesla_front.specs.declared.fault.Fault.TheVariants as faults
 use Rattle.tesla_front.proofs.Consoles.{unopened_console}

@@ -18,15 +18,15 @@ use tesla_turn::{Pass, Turn};
 // Tells what it is called for, as a letter each: `b` before a turn and `a` after it, `r` for released, `q` for quiet,
 // and `e` for rest, where it gives the processor away.
 #[derive(Drop)]
-struct Told {
+struct CallRecord {
     letters: [u8; 32],
     count: usize,
 }
 
-impl Told {
+impl CallRecord {
     fn enter(&mut self, letter: u8) {
-        if let Some(place) = self.letters.get_mut(self.count) {
-            *place = letter;
+        if let Some(index) = self.letters.get_mut(self.count) {
+            *index = letter;
         }
         self.count = self.count.saturating_add(1);
     }
@@ -36,7 +36,7 @@ impl Told {
     }
 }
 
-impl Gate for Told {
+impl Gate for CallRecord {
     fn before(&mut self) {
         self.enter(b'b');
     }
@@ -161,11 +161,11 @@ fn hears<R: Wait>(
     mut pass: Pass<Receiver>,
     link: &mut Letters,
     mut clock: Readings,
-) -> (LinkEnd, Told, Pass<Receiver>)
+) -> (LinkEnd, CallRecord, Pass<Receiver>)
     requires { (pass.turn ≡ turn.now) × (0 < left_of pass) }
     ensures { OnlyCalls pass result.2 }
 {
-    let mut gate = Told {
+    let mut gate = CallRecord {
         letters: [0; 32],
         count: 0,
     };
@@ -179,11 +179,11 @@ fn drains<R: Wait>(
     turn: &Turn<Receiver>,
     mut pass: Pass<Receiver>,
     out: &mut Heap,
-) -> (SinkEnd, Told, Pass<Receiver>)
+) -> (SinkEnd, CallRecord, Pass<Receiver>)
     requires { pass.turn ≡ turn.now }
     ensures { OnlyCalls pass result.2 }
 {
-    let mut gate = Told {
+    let mut gate = CallRecord {
         letters: [0; 32],
         count: 0,
     };
@@ -224,9 +224,9 @@ fn wrong_in<R: Wait>(rt: &R, alloc: Global, row: Row<'_>) -> Result<String, Fail
     Row::of(PAGES)?.set_up(alloc, &mut desk)?;
     row.set_up(alloc, &mut desk)?;
     let (calls, _) = row.words.split_once(' ').unwrap_or((row.words, ""));
-    let came = one_after_the_other(rt, alloc, &mut desk, calls.parse()?)?;
-    if came.as_str() != row.words {
-        return Ok(came);
+    let actual = one_after_the_other(rt, alloc, &mut desk, calls.parse()?)?;
+    if actual.as_str() != row.words {
+        return Ok(actual);
     }
     row.wrong(alloc, 0, &desk)
 }

@@ -104,10 +104,10 @@ fn wrong_in<L: Ledger>(
         if 10_000 <= receiver.calls() {
             return Err("too many calls".into());
         }
-        let came = answer(alloc, receiver, call, steps)?;
-        let came = format!(in alloc; "{came}, {}", receiver.held())?;
-        if came.as_str() != wanted {
-            return Ok(format!(in alloc; "{line}, and {came}")?);
+        let actual = answer(alloc, receiver, call, steps)?;
+        let actual = format!(in alloc; "{actual}, {}", receiver.held())?;
+        if actual.as_str() != wanted {
+            return Ok(format!(in alloc; "{line}, and {actual}")?);
         }
     }
     Ok(String::new(alloc))

@@ -122,9 +122,9 @@ fn wrong_in<L: Ledger>(
         if 10_000 <= rollover.calls() {
             return Err("too many calls".into());
         }
-        let came = answer(alloc, rollover, call, steps)?;
-        if came.as_str() != wanted {
-            return Ok(format!(in alloc; "{line}, and {came}")?);
+        let actual = answer(alloc, rollover, call, steps)?;
+        if actual.as_str() != wanted {
+            return Ok(format!(in alloc; "{line}, and {actual}")?);
         }
     }
     Ok(String::new(alloc))

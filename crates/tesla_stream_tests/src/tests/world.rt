@@ -167,9 +167,9 @@ fn wrong_of<L: Ledger>(alloc: Global, lines: &str, steps: &mut Steps<L>) -> Resu
         if 10_000 <= joint.calls() || 10_000 <= joint.sent() {
             return Err("too much happens".into());
         }
-        let came = answer(alloc, &mut joint, event, steps)?;
-        if came.as_str() != wanted {
-            return Ok(format!(in alloc; "{line}, and {came}")?);
+        let actual = answer(alloc, &mut joint, event, steps)?;
+        if actual.as_str() != wanted {
+            return Ok(format!(in alloc; "{line}, and {actual}")?);
         }
     }
     Ok(String::new(alloc))

@@ -1,6 +1,6 @@
 use Rattle.std.proofs.Common.{◌∙◌, ℕ, List, take, length, ap, sym, arith}
 use Rattle.std.specs.Prelude.{bytes_eq}
-use Rattle.tesla_capture.specs.HeadTold.{part_tells, other_part_tells, whole_tells, other_tells}
+use Rattle.tesla_capture.specs.HeadParsed.{part_tells, other_part_tells, whole_tells, other_tells}
 use Rattle.tesla_capture.proofs.judging.judge_head.Goals as goal
 
 pub returns-then-eq : goal.returns-then-eq

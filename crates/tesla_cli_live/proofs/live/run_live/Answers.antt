@@ -7,8 +7,8 @@ use Rattle.tesla_turn.specs.Held.{Ended}
 use Rattle.tesla_cli_live.specs.Commands.{IsReceive, live_of, live_usage}
 use Rattle.tesla_cli_live.proofs.live.run_live.Goals as goal
 
-pub returns-clause-came : goal.returns-clause-came
-returns-clause-came g c =
+pub returns-clause-outcome : goal.returns-clause-outcome
+returns-clause-outcome g c =
     let words = map string_bytes c.args.words.now in
     let command : Live → Live → Option (Ended Entry) → Command = λ before now last. live_of before now last words in
     (_, c.status.ensures, table_run g.D.Desk.told _ command (IsReceive words) live_usage words _ _ _ (λ opened done run ran. ran) c.run_table-run.ensures)

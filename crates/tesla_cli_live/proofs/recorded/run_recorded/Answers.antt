@@ -8,8 +8,8 @@ use Rattle.tesla_run_record.specs.Record.{recording}
 use Rattle.tesla_cli_live.specs.Commands.{record_usage}
 use Rattle.tesla_cli_live.proofs.recorded.run_recorded.Goals as goal
 
-pub returns-clause-came : goal.returns-clause-came
-returns-clause-came g c =
+pub returns-clause-outcome : goal.returns-clause-outcome
+returns-clause-outcome g c =
     let words = map string_bytes c.args.words.now in
     let command : Live → Live → Option (Ended Entry) → Command = recording in
     (_, c.status.ensures, table_run g.D.Desk.told _ command (Unit {0}) record_usage words _ _ _ (λ opened done run ran. ran) c.run_table-run.ensures)

@@ -16,5 +16,5 @@ returns-clause-spelled c =
     let rows = c.args.setup.now.rows in
     let passed : length rows ≤ c.loop-chain.chain = omega arith in
     let lines = chains_all _ _ rows _ passed c.loop-chain.invariant in
-    let text : c.loop-chain.out.items ≡ setup_text c.args.setup.now = lines ∙ ap (λ (front : List ℕ). front ++ flat_map chain_line rows) (c.in_ok-put_tag.ensures ∙ ap (λ (front : List ℕ). front ++ tag_line c.args.setup.now.version c.args.setup.now.tag_length) c.in_ok-out.ensures) in
+    let text : c.loop-chain.out.items ≡ setup_text c.args.setup.now = lines ∙ ap (λ (prefix : List ℕ). prefix ++ flat_map chain_line rows) (c.in_ok-put_tag.ensures ∙ ap (λ (prefix : List ℕ). prefix ++ tag_line c.args.setup.now.version c.args.setup.now.tag_length) c.in_ok-out.ensures) in
     subst (λ (bytes : List ℕ). IsSetup bytes c.args.setup.now) (sym text) (text_is c.args.setup.now c.count-chain-end.ensures.limits c.count-chain-end.ensures.keys)

@@ -1,4 +1,4 @@
-use Rattle.tesla_early.proofs.Fronts.{early_grows, learnt_grows}
+use Rattle.tesla_early.proofs.Prefixes.{early_grows, learnt_grows}
 use Rattle.tesla_early.proofs.laws.prefixes.Goals as goal
 
 pub returns-clause-promises : goal.returns-clause-promises

@@ -5,5 +5,5 @@ use Rattle.tesla_early.proofs.weaving.joined.Goals as goal
 pub returns : goal.returns
 returns c =
     subst (λ (bytes : List ℕ). IfOk c.new.result (λ payload. payload ≡ bytes))
-    (joined_is c.args.front.now c.args.body.now _ c.copy_from_slice.new.self c.copy_from_slice-2.new.self (length c.args.front.now) _ refl c.copy_from_slice.ensures.after c.copy_from_slice-2.ensures.after)
+    (joined_is c.args.header.now c.args.body.now _ c.copy_from_slice.new.self c.copy_from_slice-2.new.self (length c.args.header.now) _ refl c.copy_from_slice.ensures.after c.copy_from_slice-2.ensures.after)
     c.new.ensures

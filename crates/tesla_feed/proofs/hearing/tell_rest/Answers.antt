@@ -16,5 +16,5 @@ loop-preserved g c =
       stays = λ all. absurd (both_ways (list_all has_failed c.loop.failed) (ap (list_all has_failed) (c.loop.invariant.stays all) ∙ all) (sym c.have_all_failed.ensures ∙ c.if-have_all_failed.false));
       rests = λ made first_posts goes.
           rests_next stream first made first_posts c.take_event.new.feeder c.make_next.new.self _ _ _ _ c.make_next.ensures
-          (rests_more stream first c.now-reading.result made first_posts c.loop.feeder c.take_event.new.feeder c.loop.failed _ _ _ _ _ _ (c.loop.invariant.rests made first_posts goes) (sym c.has_told_all.ensures ∙ c.if-has_told_all.false) c.now-reading.ensures c.take_event.ensures.goes);
+          (rests_more stream first c.now-reading.result made first_posts c.loop.feeder c.take_event.new.feeder c.loop.failed _ _ _ _ _ _ (c.loop.invariant.rests made first_posts goes) (sym c.has_disclosed_all.ensures ∙ c.if-has_disclosed_all.false) c.now-reading.ensures c.take_event.ensures.goes);
     }

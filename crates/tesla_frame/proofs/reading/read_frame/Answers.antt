@@ -1,5 +1,5 @@
 use Rattle.std.proofs.Common.{◌∙◌, arith}
-use Rattle.tesla_base.proofs.Fronts.{bytes_from}
+use Rattle.tesla_base.proofs.Prefixes.{bytes_from}
 use Rattle.tesla_frame.proofs.Both.{is_found, frame_again}
 use Rattle.tesla_frame.proofs.reading.read_frame.Goals as goal
 

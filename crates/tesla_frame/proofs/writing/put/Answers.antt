@@ -1,5 +1,5 @@
 use Rattle.std.proofs.Common.{arith}
-use Rattle.tesla_base.proofs.Fronts.{bytes_from}
+use Rattle.tesla_base.proofs.Prefixes.{bytes_from}
 use Rattle.tesla_frame.proofs.Begun.{begins_put}
 use Rattle.tesla_frame.proofs.writing.put.Goals as goal
 

@@ -1,5 +1,5 @@
 use Rattle.std.proofs.Common.{refl}
-use Rattle.tesla_front.proofs.Told.{usage_stops, usage_prefix, usage_whole}
+use Rattle.tesla_front.proofs.Reported.{usage_stops, usage_prefix, usage_whole}
 use Rattle.tesla_front.proofs.console.+write_usage.Goals as goal
 
 pub returns-then-not-write_form-clause-prefix : goal.returns-then-not-write_form-clause-prefix

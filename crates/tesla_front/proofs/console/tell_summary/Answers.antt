@@ -1,6 +1,6 @@
 use Rattle.std.proofs.Common.{◌∙◌, refl}
 use Rattle.tesla_front.specs.Usage.{usage_of}
-use Rattle.tesla_front.proofs.Told.{tells_done, tells_lost}
+use Rattle.tesla_front.proofs.Reported.{tells_done, tells_lost}
 use Rattle.tesla_front.proofs.console.tell_summary.Goals as goal
 
 pub returns-then-write_all-clause-tells : goal.returns-then-write_all-clause-tells

@@ -1,5 +1,5 @@
 use Rattle.std.proofs.Common.{codes, refl}
-use Rattle.tesla_front.proofs.Told.{second_prefix, third_prefix}
+use Rattle.tesla_front.proofs.Reported.{second_prefix, third_prefix}
 use Rattle.tesla_front.proofs.console.write_form.Goals as goal
 
 pub returns-then-not-write_all-2-clause-prefix : goal.returns-then-not-write_all-2-clause-prefix

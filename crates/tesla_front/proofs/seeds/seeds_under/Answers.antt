@@ -2,16 +2,16 @@ use Rattle.std.proofs.Common.{ℕ, List, lit<, sym, subst}
 use Rattle.tesla_front.specs.Files.{ReadsFile}
 use Rattle.tesla_front.specs.Seeds.{IsSeedsText, IsNoSeedsText}
 use Rattle.tesla_front.specs.declared.setup.TheConstants.{MOST}
-use Rattle.tesla_front.proofs.SmallTexts.{found_in, refused_in, text_causes, read_causes, seeds_told, no_seeds_told, seeds_memory}
+use Rattle.tesla_front.proofs.SmallTexts.{found_in, refused_in, text_causes, read_causes, seeds_of_prefix, no_seeds_of_prefix, seeds_memory}
 use Rattle.tesla_front.proofs.seeds.seeds_under.Goals as goal
 
 pub returns-in-Ok-clause-found : goal.returns-in-Ok-clause-found
 returns-in-Ok-clause-found g c =
-    found_in (IsSeedsText c.args.count) MOST _ _ _ (seeds_told c.args.count MOST (lit< tt)) (subst (λ (read : List ℕ). ReadsFile MOST ((g.D.Desk.told c.args.desk.now).page c.args.name.now) read) (sym c.as_slice.ensures.value) c.in-Ok.ensures.told) c.seeds_of.ensures.found
+    found_in (IsSeedsText c.args.count) MOST _ _ _ (seeds_of_prefix c.args.count MOST (lit< tt)) (subst (λ (read : List ℕ). ReadsFile MOST ((g.D.Desk.told c.args.desk.now).page c.args.name.now) read) (sym c.as_slice.ensures.value) c.in-Ok.ensures.told) c.seeds_of.ensures.found
 
 pub returns-in-Ok-clause-refused : goal.returns-in-Ok-clause-refused
 returns-in-Ok-clause-refused g c =
-    refused_in (IsNoSeedsText c.args.count) MOST _ _ _ (no_seeds_told c.args.count MOST (lit< tt)) (seeds_memory c.args.count) (subst (λ (read : List ℕ). ReadsFile MOST ((g.D.Desk.told c.args.desk.now).page c.args.name.now) read) (sym c.as_slice.ensures.value) c.in-Ok.ensures.told) c.seeds_of.ensures.refused
+    refused_in (IsNoSeedsText c.args.count) MOST _ _ _ (no_seeds_of_prefix c.args.count MOST (lit< tt)) (seeds_memory c.args.count) (subst (λ (read : List ℕ). ReadsFile MOST ((g.D.Desk.told c.args.desk.now).page c.args.name.now) read) (sym c.as_slice.ensures.value) c.in-Ok.ensures.told) c.seeds_of.ensures.refused
 
 pub returns-in-Ok-clause-causes : goal.returns-in-Ok-clause-causes
 returns-in-Ok-clause-causes g c =

@@ -1,5 +1,5 @@
 use Rattle.std.proofs.Common.{◌≡◌, ◌∙◌, subst, sym}
-use Rattle.tesla_front.specs.Came.{Failed}
+use Rattle.tesla_front.specs.OutcomeView.{Failed}
 use Rattle.tesla_front.specs.Fault.{unopened}
 use Rattle.tesla_front.specs.Run.{HasNoConsole}
 use Rattle.tesla_front.specs.declared.fault.Fault.{Fault}

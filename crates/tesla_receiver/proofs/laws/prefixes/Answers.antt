@@ -1,5 +1,5 @@
-use Rattle.tesla_receiver.proofs.Events.{legal_front, given_rises}
-use Rattle.tesla_receiver.proofs.Fronts.{released_more, newest_rises}
+use Rattle.tesla_receiver.proofs.Events.{legal_prefix, given_rises}
+use Rattle.tesla_receiver.proofs.Prefixes.{released_more, newest_rises}
 use Rattle.tesla_receiver.proofs.laws.prefixes.Goals as goal
 
 pub returns-clause-released : goal.returns-clause-released
@@ -9,7 +9,7 @@ pub returns-clause-newest : goal.returns-clause-newest
 returns-clause-newest c = newest_rises
 
 pub returns-clause-legal : goal.returns-clause-legal
-returns-clause-legal c = legal_front
+returns-clause-legal c = legal_prefix
 
 pub returns-clause-given : goal.returns-clause-given
 returns-clause-given c = given_rises

@@ -2,7 +2,7 @@ use Rattle.std.proofs.Common.{◌∙◌, ℕ, List, [], take, refl, ap, arith, r
 use Rattle.std.proofs.lemmas.List.{length-take}
 use Rattle.tesla_desk.specs.Outside.{after_bytes}
 use Rattle.tesla_relay.specs.Play.{Played, IsPlayed}
-use Rattle.tesla_relay.proofs.Taken.{place_rises, plays_arrival, plays_broken, plays_cut, plays_ended, plays_none, plays_refused, plays_take}
+use Rattle.tesla_relay.proofs.Taken.{offset_rises, plays_arrival, plays_broken, plays_cut, plays_ended, plays_none, plays_refused, plays_take}
 use Rattle.tesla_relay.proofs.playing.play.Goals as goal
 
 pub loop-init : goal.loop-init
@@ -29,7 +29,7 @@ loop-preserved-in-Arrival g c =
     record {
       size = search rules;
       going = c.in-Arrival.ensures.goes;
-      few = (let moves = c.in-Arrival.ensures.moves.0 in omega (arith, moves, place_rises c.loop.reader.place, c.loop.invariant.few));
+      few = (let moves = c.in-Arrival.ensures.moves.0 in omega (arith, moves, offset_rises c.loop.reader.place, c.loop.invariant.few));
       limited = c.next-in-loop.ensures.limited;
       read = c.in-Arrival.ensures.cause.still (λ e. absurd cc) ∙ c.loop.invariant.read;
       name = c.next-in-loop.ensures.name ∙ c.loop.invariant.name;
@@ -40,7 +40,7 @@ pub loop-preserved : goal.loop-preserved
 loop-preserved g c = record {
   size = search rules;
   going = c.in-Take.ensures.goes;
-  few = (let moves = c.in-Take.ensures.moves in omega (arith, moves, place_rises c.loop.reader.place, c.loop.invariant.few));
+  few = (let moves = c.in-Take.ensures.moves in omega (arith, moves, offset_rises c.loop.reader.place, c.loop.invariant.few));
   limited = c.next-in-loop.ensures.limited;
   read = c.in-Take.ensures.cause.still (λ e. absurd cc) ∙ c.loop.invariant.read;
   name = c.next-in-loop.ensures.name ∙ c.loop.invariant.name;

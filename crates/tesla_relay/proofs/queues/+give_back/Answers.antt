@@ -11,8 +11,8 @@ use Rattle.tesla_relay.proofs.Queued.{back_fed, back_none, back_pop, ending_of, 
 use Rattle.tesla_relay.proofs.queues.+give_back.Goals as goal
 
 pub returns-in_default-clause-given : goal.returns-in_default-clause-given
-returns-in_default-clause-given g t c = λ capacity came places ending.
-    gives_none capacity came places _ c.args.counts.now.items (back_none (Ends capacity came) places c.args.feeds.now.items c.args.servers.now.items ending (search rules))
+returns-in_default-clause-given g t c = λ capacity arrived starts ending.
+    gives_none capacity arrived starts _ c.args.counts.now.items (back_none (Ends capacity arrived) starts c.args.feeds.now.items c.args.servers.now.items ending (search rules))
 
 pub unreachable-requires : goal.unreachable-requires
 unreachable-requires g t c =
@@ -34,13 +34,13 @@ give_back-requires g t c κs within =
 pub returns-clause-given : goal.returns-clause-given
 returns-clause-given g t c =
     let seen : g.row.P.Denot → PostSeen = λ post. record { name = g.P.Post.name post; sent = g.P.Post.sent post; faults = g.P.Post.faults post } in
-    λ capacity came places ending.
-    let popped = back_pop (Ends capacity came) places c.pop-2.new.self.items c.in-Some-pop.feed c.pop.new.self.items c.in-Some.server (subst₂ (λ (fs : List Feed) (ss : List ServerSeen). Ending capacity came places fs ss) c.in-Some-pop.ensures.items c.in-Some.ensures.items ending) in
+    λ capacity arrived starts ending.
+    let popped = back_pop (Ends capacity arrived) starts c.pop-2.new.self.items c.in-Some-pop.feed c.pop.new.self.items c.in-Some.server (subst₂ (λ (fs : List Feed) (ss : List ServerSeen). Ending capacity arrived starts fs ss) c.in-Some-pop.ensures.items c.in-Some.ensures.items ending) in
     let posts = map seen c.args.posts.now.items in let more = map seen c.give_back.new.posts.items in
     let counts = c.args.counts.now.items in let others = c.give_back.new.counts.items in
     let post = c.settle_one-post.result.0 in let count = c.settle_one-post.result.1.1 in
-    let own : RelaysPost capacity came popped.0 (seen post) count = c.settle_one-post.ensures capacity came popped.0 popped.3 in
+    let own : RelaysPost capacity arrived popped.0 (seen post) count = c.settle_one-post.ensures capacity arrived popped.0 popped.3 in
     let put : map seen c.push_reserved.new.self.items ≡ posts ++ seen post ∷ [] = ap (λ ps. map seen ps) c.push_reserved.ensures.items ∙ map-append seen c.args.posts.now.items (post ∷ []) in
-    let rest : GivesBack (RelaysPosts capacity came) popped.1 (posts ++ seen post ∷ []) more (counts ++ count ∷ []) others =
-    subst₂ (λ (ps : List PostSeen) (cs : List PostCount). GivesBack (RelaysPosts capacity came) popped.1 ps more cs others) put c.push.ensures.items (c.give_back.ensures.given capacity came popped.1 popped.4) in
-    gives_one (RelaysPosts capacity came) (RelaysPost capacity came) (relays_one capacity came) popped.0 (seen post) count popped.1 places posts more counts others popped.2 own rest
+    let rest : GivesBack (RelaysPosts capacity arrived) popped.1 (posts ++ seen post ∷ []) more (counts ++ count ∷ []) others =
+    subst₂ (λ (ps : List PostSeen) (cs : List PostCount). GivesBack (RelaysPosts capacity arrived) popped.1 ps more cs others) put c.push.ensures.items (c.give_back.ensures.given capacity arrived popped.1 popped.4) in
+    gives_one (RelaysPosts capacity arrived) (RelaysPost capacity arrived) (relays_one capacity arrived) popped.0 (seen post) count popped.1 starts posts more counts others popped.2 own rest

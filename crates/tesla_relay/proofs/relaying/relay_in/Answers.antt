@@ -43,14 +43,14 @@ give_back-requires-clause-ending g c =
     let posts = map seen c.args.posts.now.items in let feeds = c.take_in.new.feeds.items in let servers = c.take_in.new.servers.items in
     let capacity = c.requires.new.0 in let new = c.requires.new.1 in
     let starting : Starting capacity posts feeds servers = adds_all (Starting capacity) posts c.args.rooms.feeds.items feeds c.args.rooms.servers.items servers c.requires.rooms.0 c.requires.rooms.1 (c.take_in.ensures.starting capacity new) in
-    let hears = c.run_all-end.ensures.hears.hears in let came = datagrams hears.taken in
-    let fed : Each (FeedsAll came) feeds c.run_all-end.new.feeds = subst (λ (l : List Feed). Each (FeedsAll came) l c.run_all-end.new.feeds) c.as_mut_slice.ensures.value hears.feeds in
+    let hears = c.run_all-end.ensures.hears.hears in let arrived = datagrams hears.taken in
+    let fed : Each (FeedsAll arrived) feeds c.run_all-end.new.feeds = subst (λ (l : List Feed). Each (FeedsAll arrived) l c.run_all-end.new.feeds) c.as_mut_slice.ensures.value hears.feeds in
     let served : Each ServesAll servers c.run_all-end.new.servers =
     subst₂ (λ (a b : List ServerSeen). Each ServesAll a b) (map-id c.as_mut_slice-2.result.now ∙ c.as_mut_slice-2.ensures.value) (map-id c.run_all-end.new.servers) c.run_all-end.ensures.serves in
-    let ending : Ending capacity came posts c.run_all-end.new.feeds c.run_all-end.new.servers = starting_ending capacity came posts feeds c.run_all-end.new.feeds servers c.run_all-end.new.servers starting fed served in
+    let ending : Ending capacity arrived posts c.run_all-end.new.feeds c.run_all-end.new.servers = starting_ending capacity arrived posts feeds c.run_all-end.new.feeds servers c.run_all-end.new.servers starting fed served in
     let all_fed = all_written c.take_in.new.feeds.len c.run_all-end.new.feeds feeds (omega (arith, c.run_all-end.auto.feeds, c.as_mut_slice.ensures.len)) in
     let all_served = all_written c.take_in.new.servers.len c.run_all-end.new.servers servers (omega (arith, c.run_all-end.auto.servers, c.as_mut_slice-2.ensures.len)) in
-    (capacity, came, posts, subst₂ (λ (f : List Feed) (s : List ServerSeen). Ending capacity came posts f s) (sym all_fed) (sym all_served) ending)
+    (capacity, arrived, posts, subst₂ (λ (f : List Feed) (s : List ServerSeen). Ending capacity arrived posts f s) (sym all_fed) (sym all_served) ending)
 
 pub give_back-requires-clause-space : goal.give_back-requires-clause-space
 give_back-requires-clause-space g c =
@@ -58,11 +58,11 @@ give_back-requires-clause-space g c =
     let posts = map seen c.args.posts.now.items in let feeds = c.take_in.new.feeds.items in let servers = c.take_in.new.servers.items in
     let capacity = c.requires.new.0 in let new = c.requires.new.1 in
     let starting : Starting capacity posts feeds servers = adds_all (Starting capacity) posts c.args.rooms.feeds.items feeds c.args.rooms.servers.items servers c.requires.rooms.0 c.requires.rooms.1 (c.take_in.ensures.starting capacity new) in
-    let hears = c.run_all-end.ensures.hears.hears in let came = datagrams hears.taken in
-    let fed : Each (FeedsAll came) feeds c.run_all-end.new.feeds = subst (λ (l : List Feed). Each (FeedsAll came) l c.run_all-end.new.feeds) c.as_mut_slice.ensures.value hears.feeds in
+    let hears = c.run_all-end.ensures.hears.hears in let arrived = datagrams hears.taken in
+    let fed : Each (FeedsAll arrived) feeds c.run_all-end.new.feeds = subst (λ (l : List Feed). Each (FeedsAll arrived) l c.run_all-end.new.feeds) c.as_mut_slice.ensures.value hears.feeds in
     let served : Each ServesAll servers c.run_all-end.new.servers =
     subst₂ (λ (a b : List ServerSeen). Each ServesAll a b) (map-id c.as_mut_slice-2.result.now ∙ c.as_mut_slice-2.ensures.value) (map-id c.run_all-end.new.servers) c.run_all-end.ensures.serves in
-    let ending : Ending capacity came posts c.run_all-end.new.feeds c.run_all-end.new.servers = starting_ending capacity came posts feeds c.run_all-end.new.feeds servers c.run_all-end.new.servers starting fed served in
+    let ending : Ending capacity arrived posts c.run_all-end.new.feeds c.run_all-end.new.servers = starting_ending capacity arrived posts feeds c.run_all-end.new.feeds servers c.run_all-end.new.servers starting fed served in
     let all_fed = all_written c.take_in.new.feeds.len c.run_all-end.new.feeds feeds (omega (arith, c.run_all-end.auto.feeds, c.as_mut_slice.ensures.len)) in
     let all_served = all_written c.take_in.new.servers.len c.run_all-end.new.servers servers (omega (arith, c.run_all-end.auto.servers, c.as_mut_slice-2.ensures.len)) in
     let size = starting_length capacity posts feeds servers starting in
@@ -77,11 +77,11 @@ give_back-requires-clause-room g c =
     let posts = map seen c.args.posts.now.items in let feeds = c.take_in.new.feeds.items in let servers = c.take_in.new.servers.items in
     let capacity = c.requires.new.0 in let new = c.requires.new.1 in
     let starting : Starting capacity posts feeds servers = adds_all (Starting capacity) posts c.args.rooms.feeds.items feeds c.args.rooms.servers.items servers c.requires.rooms.0 c.requires.rooms.1 (c.take_in.ensures.starting capacity new) in
-    let hears = c.run_all-end.ensures.hears.hears in let came = datagrams hears.taken in
-    let fed : Each (FeedsAll came) feeds c.run_all-end.new.feeds = subst (λ (l : List Feed). Each (FeedsAll came) l c.run_all-end.new.feeds) c.as_mut_slice.ensures.value hears.feeds in
+    let hears = c.run_all-end.ensures.hears.hears in let arrived = datagrams hears.taken in
+    let fed : Each (FeedsAll arrived) feeds c.run_all-end.new.feeds = subst (λ (l : List Feed). Each (FeedsAll arrived) l c.run_all-end.new.feeds) c.as_mut_slice.ensures.value hears.feeds in
     let served : Each ServesAll servers c.run_all-end.new.servers =
     subst₂ (λ (a b : List ServerSeen). Each ServesAll a b) (map-id c.as_mut_slice-2.result.now ∙ c.as_mut_slice-2.ensures.value) (map-id c.run_all-end.new.servers) c.run_all-end.ensures.serves in
-    let ending : Ending capacity came posts c.run_all-end.new.feeds c.run_all-end.new.servers = starting_ending capacity came posts feeds c.run_all-end.new.feeds servers c.run_all-end.new.servers starting fed served in
+    let ending : Ending capacity arrived posts c.run_all-end.new.feeds c.run_all-end.new.servers = starting_ending capacity arrived posts feeds c.run_all-end.new.feeds servers c.run_all-end.new.servers starting fed served in
     let all_fed = all_written c.take_in.new.feeds.len c.run_all-end.new.feeds feeds (omega (arith, c.run_all-end.auto.feeds, c.as_mut_slice.ensures.len)) in
     let all_served = all_written c.take_in.new.servers.len c.run_all-end.new.servers servers (omega (arith, c.run_all-end.auto.servers, c.as_mut_slice-2.ensures.len)) in
     let size = starting_length capacity posts feeds servers starting in
@@ -97,19 +97,19 @@ returns-clause-relays g c =
     let posts = map seen c.args.posts.now.items in let feeds = c.take_in.new.feeds.items in let servers = c.take_in.new.servers.items in
     λ capacity new.
     let starting : Starting capacity posts feeds servers = adds_all (Starting capacity) posts c.args.rooms.feeds.items feeds c.args.rooms.servers.items servers c.requires.rooms.0 c.requires.rooms.1 (c.take_in.ensures.starting capacity new) in
-    let hears = c.run_all-end.ensures.hears.hears in let came = datagrams hears.taken in
-    let fed : Each (FeedsAll came) feeds c.run_all-end.new.feeds = subst (λ (l : List Feed). Each (FeedsAll came) l c.run_all-end.new.feeds) c.as_mut_slice.ensures.value hears.feeds in
+    let hears = c.run_all-end.ensures.hears.hears in let arrived = datagrams hears.taken in
+    let fed : Each (FeedsAll arrived) feeds c.run_all-end.new.feeds = subst (λ (l : List Feed). Each (FeedsAll arrived) l c.run_all-end.new.feeds) c.as_mut_slice.ensures.value hears.feeds in
     let served : Each ServesAll servers c.run_all-end.new.servers =
     subst₂ (λ (a b : List ServerSeen). Each ServesAll a b) (map-id c.as_mut_slice-2.result.now ∙ c.as_mut_slice-2.ensures.value) (map-id c.run_all-end.new.servers) c.run_all-end.ensures.serves in
-    let ending : Ending capacity came posts c.run_all-end.new.feeds c.run_all-end.new.servers = starting_ending capacity came posts feeds c.run_all-end.new.feeds servers c.run_all-end.new.servers starting fed served in
+    let ending : Ending capacity arrived posts c.run_all-end.new.feeds c.run_all-end.new.servers = starting_ending capacity arrived posts feeds c.run_all-end.new.feeds servers c.run_all-end.new.servers starting fed served in
     let all_fed = all_written c.take_in.new.feeds.len c.run_all-end.new.feeds feeds (omega (arith, c.run_all-end.auto.feeds, c.as_mut_slice.ensures.len)) in
     let all_served = all_written c.take_in.new.servers.len c.run_all-end.new.servers servers (omega (arith, c.run_all-end.auto.servers, c.as_mut_slice-2.ensures.len)) in
-    let gives = c.give_back.ensures.given capacity came posts (subst₂ (λ (f : List Feed) (s : List ServerSeen). Ending capacity came posts f s) (sym all_fed) (sym all_served) ending) in
-    let relays : RelaysPosts capacity came posts (map seen c.give_back.new.posts.items) c.give_back.new.counts.items =
-    gives_all (RelaysPosts capacity came) posts _ (map seen c.give_back.new.posts.items) c.new-counts.result.items c.give_back.new.counts.items (ap (λ ps. map seen ps) c.take_in.ensures.empty.0) (search rules) gives in
+    let gives = c.give_back.ensures.given capacity arrived posts (subst₂ (λ (f : List Feed) (s : List ServerSeen). Ending capacity arrived posts f s) (sym all_fed) (sym all_served) ending) in
+    let relays : RelaysPosts capacity arrived posts (map seen c.give_back.new.posts.items) c.give_back.new.counts.items =
+    gives_all (RelaysPosts capacity arrived) posts _ (map seen c.give_back.new.posts.items) c.new-counts.result.items c.give_back.new.counts.items (ap (λ ps. map seen ps) c.take_in.ensures.empty.0) (search rules) gives in
     record {
       taken = hears.taken;
       left_is = hears.left_is;
-      posts = subst (λ (cs : List PostCount). RelaysPosts capacity came posts (map seen c.give_back.new.posts.items) cs) (sym c.new.ensures.1) relays;
+      posts = subst (λ (cs : List PostCount). RelaysPosts capacity arrived posts (map seen c.give_back.new.posts.items) cs) (sym c.new.ensures.1) relays;
       ended = λ is. hears.ended (sym c.new.ensures.0 ∙ is);
     }

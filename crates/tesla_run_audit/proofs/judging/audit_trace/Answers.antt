@@ -1,9 +1,9 @@
 use Rattle.std.proofs.Common.{◌≡◌, ◌∙◌, true, false, sym, subst}
-use Rattle.tesla_front.specs.Came.{Came, came_of}
+use Rattle.tesla_front.specs.OutcomeView.{OutcomeView, result_view}
 use Rattle.tesla_records.specs.Steps.{goes_on}
 use Rattle.tesla_audit.specs.Steps.{records_step}
 use Rattle.tesla_run_audit.specs.Arguments.{arguments_of, config_of}
-use Rattle.tesla_run_audit.specs.Audit.{IsAuditCame}
+use Rattle.tesla_run_audit.specs.Audit.{IsAuditOutcome}
 use Rattle.tesla_run_audit.proofs.Steps.{first_at, first_has, first_stops, moves_head, possible_stop, reads_head}
 use Rattle.tesla_run_audit.proofs.judging.audit_trace.Goals as goal
 
@@ -30,7 +30,7 @@ pub returns-else-going-clause-audits : goal.returns-else-going-clause-audits
 returns-else-going-clause-audits g c =
     let cfg = config_of (arguments_of c.args.arguments.now) c.args.setup in
     let none : goes_on (records_step c.next-step.result) ≡ false = sym c.next-step.ensures.goes ∙ sym c.going.ensures ∙ c.if-going.false in (
-      subst (λ (came : Came). IsAuditCame came) (sym c.stop.ensures) (possible_stop c.next-step.result 0 none),
+      subst (λ (outcome : OutcomeView). IsAuditOutcome outcome) (sym c.stop.ensures) (possible_stop c.next-step.result 0 none),
       λ bytes told. first_stops cfg bytes c.new-reader.result c.next-step.new.self (g.S.Source.left c.args.source.now) (g.S.Source.left c.next-step.new.source) c.next-step.result c.next-step.new.entry c.new-reader.ensures.pending c.new-reader.ensures.place c.new-reader.ensures.head told
-          c.next-step.ensures.gives (moves_head _ _ _ _ c.next-step.ensures.heads) (λ rest told. reads_head _ _ _ _ (c.next-step.ensures.head rest told)) (came_of c.stop.result) none c.stop.ensures c.next-step.ensures.cut,
+          c.next-step.ensures.gives (moves_head _ _ _ _ c.next-step.ensures.heads) (λ rest told. reads_head _ _ _ _ (c.next-step.ensures.head rest told)) (result_view c.stop.result) none c.stop.ensures c.next-step.ensures.cut,
     )

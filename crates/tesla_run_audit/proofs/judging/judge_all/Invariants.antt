@@ -5,8 +5,8 @@ use Rattle.tesla_trace.specs.Entries.{IsEntry, entry_in}
 use Rattle.tesla_run_audit.specs.Judging.{IsAt}
 use Rattle.tesla_run_audit.proofs.judging.judge_all.Given as goal
 
-abbrev pub invariant-loop-came : goal.invariant-loop-came
-invariant-loop-came g l = record {
+abbrev pub invariant-loop-outcome : goal.invariant-loop-outcome
+invariant-loop-outcome g l = record {
   entry : IsEntry l.audit.entry;
   calls : l.audit.auditor.calls ≤ l.audit.reader.place;
   limited : l.audit.reader.place ≤ limit;
@@ -17,5 +17,5 @@ invariant-loop-came g l = record {
       → IsAt cfg bytes l.audit.auditor l.audit.reader (g.S.Source.left l.source) (entry_in l.audit.entry);
 }
 
-abbrev pub decreases-loop-came : goal.decreases-loop-came
-decreases-loop-came g l = limit - l.audit.reader.place
+abbrev pub decreases-loop-outcome : goal.decreases-loop-outcome
+decreases-loop-outcome g l = limit - l.audit.reader.place

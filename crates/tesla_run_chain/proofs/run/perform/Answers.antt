@@ -1,6 +1,6 @@
 use Rattle.std.proofs.Common.{ℕ, subst, ◌∙◌}
 use Rattle.std.proofs.lemmas.Result.{err_from_is_err_and}
-use Rattle.tesla_front.specs.Came.{stop_came}
+use Rattle.tesla_front.specs.OutcomeView.{stop_view}
 use Rattle.tesla_front.specs.Seeds.{IsSeedsIn, IsNoSeeds}
 use Rattle.tesla_run_chain.specs.Arguments.{arguments_of}
 use Rattle.tesla_run_chain.proofs.Runs.{performs_lacking, performs_making}
@@ -11,7 +11,7 @@ returns-in_err-seeds g c =
     let arguments = arguments_of c.args.arguments.now in
     let p = err_from_is_err_and c.from_residual.result c.from_residual.ensures.1 in
     rw (p.1, p.2) (performs_lacking arguments (g.D.Desk.told c.args.desk.now) _ c.in_err-seeds.field-0.0 c.requires.files c.seeds_under.ensures.opens
-    (subst (λ (n : ℕ). IsNoSeeds n ((g.D.Desk.told c.args.desk.now).page arguments.secret) (stop_came c.in_err-seeds.field-0.0)) c.len-count.ensures.value c.in_err-seeds.ensures.refused) c.in_err-seeds.ensures.causes)
+    (subst (λ (n : ℕ). IsNoSeeds n ((g.D.Desk.told c.args.desk.now).page arguments.secret) (stop_view c.in_err-seeds.field-0.0)) c.len-count.ensures.value c.in_err-seeds.ensures.refused) c.in_err-seeds.ensures.causes)
 
 pub returns : goal.returns
 returns g c =

@@ -1,13 +1,13 @@
 use Rattle.std.proofs.Common.{◌≡◌, ◌∙◌, not, Some, refl, sym, ap, subst}
 use Rattle.std.specs.List.{list_any}
 use Rattle.std.specs.Option.{option_map}
-use Rattle.tesla_front.specs.Came.{stop_came}
+use Rattle.tesla_front.specs.OutcomeView.{stop_view}
 use Rattle.tesla_receiver.specs.History.{IsLegal}
 use Rattle.tesla_run_replay.specs.ReportText.{report_text}
 use Rattle.tesla_session.specs.Session.{has_spent, link_failed, sink_failed, workers_of}
 use Rattle.tesla_session.proofs.Sessions.{opened_same}
 use Rattle.tesla_turn.specs.History.{entries}
-use Rattle.tesla_run_receive.proofs.Performed.{came_told}
+use Rattle.tesla_run_receive.proofs.Performed.{outcome_as}
 use Rattle.tesla_run_receive.proofs.live.run_begun.Goals as goal
 
 pub end-written-requires : goal.end-written-requires
@@ -31,11 +31,11 @@ returns g c cfg extra first begun =
     let stop = c.stop_with.ensures (list_any link_failed runs.done) (list_any sink_failed runs.done) (list_any has_spent runs.done) runs.stop_is in record {
       closed = g.D.Desk.told ran.new.desk;
       end = ran.result.last;
-      stop = option_map stop_came ran.result.stop;
+      stop = option_map stop_view ran.result.stop;
       ran = runs;
       failed = not c.end-written.result;
       ends = c.end-written.ensures extra history (subst (λ own. g.E.Extra.is_begun extra own ran.new.beside) same (g.met.E.Extra.still extra cfg _ _ ran.ensures.beside begun)) ran.ensures.stands;
       last_is = refl;
       legal = subst (λ own. IsLegal (g.V.Station.receiver own) history) (sym same) (c.report_in-report.ensures.legal history ran.ensures.stands);
-      came_is = came_told _ (option_map stop_came c.stop_with.result) _ (report_text c.report_in-report.result) _ c.ended.ensures stop (ap report_text (c.report_in-report.ensures.report history ran.ensures.stands));
+      outcome_is = outcome_as _ (option_map stop_view c.stop_with.result) _ (report_text c.report_in-report.result) _ c.ended.ensures stop (ap report_text (c.report_in-report.ensures.report history ran.ensures.stands));
     }

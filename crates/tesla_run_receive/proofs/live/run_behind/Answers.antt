@@ -41,5 +41,5 @@ returns-in-Err g c wanted cfg before opens fits =
         closes = c.close_all.ensures.1;
       });
       none = refl;
-      came_is = refl;
+      outcome_is = refl;
     }))

@@ -11,4 +11,4 @@ pub returns-in-Ok : goal.returns-in-Ok
 returns-in-Ok g c cfg first fits = c.run_behind.ensures _ cfg _ (c.in-Ok.ensures.opened cfg first) fits
 
 pub returns-in-Err : goal.returns-in-Err
-returns-in-Err g c cfg first fits = inr (inl (record { fault = c.in-Err.fault; refused = inl (c.in-Err.ensures.refused c.in-Err.fault refl cfg first); none = refl; came_is = refl }))
+returns-in-Err g c cfg first fits = inr (inl (record { fault = c.in-Err.fault; refused = inl (c.in-Err.ensures.refused c.in-Err.fault refl cfg first); none = refl; outcome_is = refl }))

@@ -7,8 +7,8 @@ use Rattle.tesla_run_receive.proofs.receive.run_receive.Goals as goal
 pub returns-in-Some-clause-runs : goal.returns-in-Some-clause-runs
 returns-in-Some-clause-runs g c =
     let old = g.D.Desk.told c.args.desk.now in
-    let new = g.D.Desk.told c.perform-came.new.desk in
-    rw c.outcome_of.ensures (runs_form (receive old.live new.live c.perform-came.result.1) arguments_of (map string_bytes c.args.words.now) c.arguments_in.result c.in-Some.arguments old new _ c.in-Some.is c.arguments_in.ensures.only c.in-Some.ensures.found c.perform-came.ensures)
+    let new = g.D.Desk.told c.perform-outcome.new.desk in
+    rw c.outcome_of.ensures (runs_form (receive old.live new.live c.perform-outcome.result.1) arguments_of (map string_bytes c.args.words.now) c.arguments_in.result c.in-Some.arguments old new _ c.in-Some.is c.arguments_in.ensures.only c.in-Some.ensures.found c.perform-outcome.ensures)
 
 pub returns-in-None-clause-runs : goal.returns-in-None-clause-runs
 returns-in-None-clause-runs g c =

@@ -1,5 +1,5 @@
 use Rattle.std.proofs.Common.{ap, map}
-use Rattle.tesla_front.specs.Came.{outcome_came}
+use Rattle.tesla_front.specs.OutcomeView.{outcome_view}
 use Rattle.tesla_relay.specs.Opening.{name_of}
 use Rattle.tesla_relay.specs.Posts.{PostSeen}
 use Rattle.tesla_run_relay.proofs.Steps.{counted_size, opened_fits, opened_some, runs_relay}
@@ -33,4 +33,4 @@ returns-in-Ok-relay_opened-clause-runs g c =
     let it = c.in-Ok-relay_opened.relayed in
     runs_relay seen (map name_of c.as_slice.result.now) c.args.arguments.now.posts (told c.args.desk.now) (told c.open_posts.new.desk) (map seen c.args.room.now.posts.items) c.open_posts.new.posts.items
     c.args.arguments.now.capacity (wire.left c.args.link.now) (wire.left c.relay_opened.new.link) c.relay_opened.new.room.posts.items it.end it.counts.items c.in-Ok-relay_opened.ensures.relays
-    (wire.faults c.args.link.now) (wire.faults c.relay_opened.new.link) (told c.relay_opened.new.desk) (outcome_came c.outcome_of.result) c.as_slice.ensures c.in-Ok.ensures (ap (map seen) c.requires.posts.0) c.relay_opened.ensures.desk c.in-Ok-relay_opened.ensures.cause c.outcome_of.ensures
+    (wire.faults c.args.link.now) (wire.faults c.relay_opened.new.link) (told c.relay_opened.new.desk) (outcome_view c.outcome_of.result) c.as_slice.ensures c.in-Ok.ensures (ap (map seen) c.requires.posts.0) c.relay_opened.ensures.desk c.in-Ok-relay_opened.ensures.cause c.outcome_of.ensures

@@ -3,7 +3,7 @@ use Rattle.tesla_run_replay.proofs.Under.{setup_none, setup_read}
 use Rattle.tesla_run_replay.proofs.run.perform.Goals as goal
 
 pub play_files-requires-clause-capacity : goal.play_files-requires-clause-capacity
-play_files-requires-clause-capacity g c = λ _ _. (c.requires.form.1.capacity, c.requires.form.1.places)
+play_files-requires-clause-capacity g c = λ _ _. (c.requires.form.1.capacity, c.requires.form.1.limits)
 
 pub returns-in-Ok : goal.returns-in-Ok
 returns-in-Ok g c =

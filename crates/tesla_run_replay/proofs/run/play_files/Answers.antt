@@ -1,5 +1,5 @@
 use Rattle.std.proofs.Common.{◌∙◌}
-use Rattle.tesla_front.specs.Came.{came_of}
+use Rattle.tesla_front.specs.OutcomeView.{result_view}
 use Rattle.tesla_convert.proofs.Closed.{converts_closed, converts_unopened}
 use Rattle.tesla_run_replay.specs.Arguments.{arguments_of}
 use Rattle.tesla_run_replay.specs.Under.{config_of}
@@ -10,14 +10,14 @@ pub returns-in-Ok : goal.returns-in-Ok
 returns-in-Ok g c =
     let capture = c.args.arguments.now.names.capture.now in
     let out = c.args.arguments.now.names.out.now in
-    let input = c.play_open-came.ensures.input ∙ c.in-Ok.ensures.names.0 in
-    let output = c.play_open-came.ensures.output ∙ c.in-Ok.ensures.names.1 in
+    let input = c.play_open-outcome.ensures.input ∙ c.in-Ok.ensures.names.0 in
+    let output = c.play_open-outcome.ensures.output ∙ c.in-Ok.ensures.names.1 in
     converts_closed (g.T.Target.command.meaning (config_of (arguments_of c.args.arguments.now) c.args.setup)) capture out
-    (g.D.In.Source.left c.in-Ok.source) (g.D.Out.Sink.written c.in-Ok.out) (g.D.In.Source.left c.play_open-came.new.source) (g.D.Out.Sink.written c.play_open-came.new.out) (g.D.In.Source.faults c.play_open-came.new.source) (g.D.Out.Sink.faults c.play_open-came.new.out)
-    (came_of c.play_open-came.result) (g.D.Desk.told c.args.desk.now) (g.D.Desk.told c.open_files.new.desk) (g.D.Desk.told c.close_files.new.desk)
-    c.in-Ok.ensures.both c.play_open-came.ensures.plays c.play_open-came.ensures.reads c.play_open-came.ensures.writes
-    (closes_named capture out (g.D.In.Source.name c.play_open-came.new.source) (g.D.Out.Sink.name c.play_open-came.new.out)
-    (g.D.In.Source.left c.play_open-came.new.source) (g.D.Out.Sink.written c.play_open-came.new.out) (g.D.In.Source.faults c.play_open-came.new.source) (g.D.Out.Sink.faults c.play_open-came.new.out)
+    (g.D.In.Source.left c.in-Ok.source) (g.D.Out.Sink.written c.in-Ok.out) (g.D.In.Source.left c.play_open-outcome.new.source) (g.D.Out.Sink.written c.play_open-outcome.new.out) (g.D.In.Source.faults c.play_open-outcome.new.source) (g.D.Out.Sink.faults c.play_open-outcome.new.out)
+    (result_view c.play_open-outcome.result) (g.D.Desk.told c.args.desk.now) (g.D.Desk.told c.open_files.new.desk) (g.D.Desk.told c.close_files.new.desk)
+    c.in-Ok.ensures.both c.play_open-outcome.ensures.plays c.play_open-outcome.ensures.reads c.play_open-outcome.ensures.writes
+    (closes_named capture out (g.D.In.Source.name c.play_open-outcome.new.source) (g.D.Out.Sink.name c.play_open-outcome.new.out)
+    (g.D.In.Source.left c.play_open-outcome.new.source) (g.D.Out.Sink.written c.play_open-outcome.new.out) (g.D.In.Source.faults c.play_open-outcome.new.source) (g.D.Out.Sink.faults c.play_open-outcome.new.out)
     (g.D.Desk.told c.open_files.new.desk) (g.D.Desk.told c.close_files.new.desk) input output c.close_files.ensures)
 
 pub returns-in-Err : goal.returns-in-Err

@@ -1,6 +1,6 @@
 use Rattle.std.proofs.Common.{◌∙◌, ℕ, subst}
 use Rattle.std.proofs.lemmas.Result.{MatchResult-weaker, err_from_is_err_and}
-use Rattle.tesla_front.specs.Came.{stop_came}
+use Rattle.tesla_front.specs.OutcomeView.{stop_view}
 use Rattle.tesla_front.specs.Seeds.{IsNoSeeds, IsSeedsIn}
 use Rattle.tesla_run_send.proofs.Sender.{opened, unopened, unseeded, unset}
 use Rattle.tesla_run_send.proofs.opening.open_sender.Goals as goal
@@ -17,7 +17,7 @@ returns-in_err-seeds-clause-refused g c =
     let set = c.in_ok-setup.ensures in
     let p = err_from_is_err_and c.from_residual-in_err-seeds.result c.from_residual-in_err-seeds.ensures.1 in
     rw (p.1, p.2) (unseeded c.args.setup.now secret (told c.args.desk.now) c.in_ok-setup.setup (told c.setup_under.new.desk) set.opened set.pages set.live set.causes set.found c.in_err-seeds.field-0.0 _ c.seeds_under.ensures.opens c.seeds_under.ensures.live
-    (subst (λ (n : ℕ). IsNoSeeds n ((told c.setup_under.new.desk).page secret) (stop_came c.in_err-seeds.field-0.0)) c.count.ensures.value c.in_err-seeds.ensures.refused) c.in_err-seeds.ensures.causes)
+    (subst (λ (n : ℕ). IsNoSeeds n ((told c.setup_under.new.desk).page secret) (stop_view c.in_err-seeds.field-0.0)) c.count.ensures.value c.in_err-seeds.ensures.refused) c.in_err-seeds.ensures.causes)
 
 pub returns-clause-opened : goal.returns-clause-opened
 returns-clause-opened g c =
@@ -37,4 +37,4 @@ returns-clause-refused g c =
     let seeded = c.in_ok-seeds.ensures in
     MatchResult-weaker c.sender_of.result c.sender_of.ensures.refused (λ sender all. all)
     (λ stop why. unopened c.args.setup.now secret (told c.args.desk.now) c.in_ok-setup.setup (told c.setup_under.new.desk) set.opened set.pages set.live set.causes set.found c.in_ok-seeds.seeds (told c.seeds_under.new.desk) seeded.opened seeded.pages seeded.live seeded.causes (seeded.count ∙ c.count.ensures.value)
-    (subst (λ (n : ℕ). IsSeedsIn n ((told c.setup_under.new.desk).page secret) c.in_ok-seeds.seeds) c.count.ensures.value seeded.found) (stop_came stop) why)
+    (subst (λ (n : ℕ). IsSeedsIn n ((told c.setup_under.new.desk).page secret) c.in_ok-seeds.seeds) c.count.ensures.value seeded.found) (stop_view stop) why)

@@ -13,4 +13,4 @@ pub returns-clause-played : goal.returns-clause-played
 returns-clause-played g c = λ cfg records was.
     let both = played_both cfg records _ _ _ (c.play_others.ensures.played cfg _ (c.play_arrival.ensures.played cfg records was)) in
     subst (λ (l : List Record). HasPlayed cfg (records ++ l) c.play_others.new.receiver)
-    (arrivals_from c.args.choice c.args.k c.reading_chosen.result c.args.frame.now c.alter.new.frame c.place_chosen.result c.args.before c.if-choice-lt2.false c.reading_chosen.ensures c.place_chosen.ensures c.alter.ensures) both
+    (arrivals_from c.args.choice c.args.k c.reading_chosen.result c.args.frame.now c.alter.new.frame c.offset_chosen.result c.args.before c.if-choice-lt2.false c.reading_chosen.ensures c.offset_chosen.ensures c.alter.ensures) both

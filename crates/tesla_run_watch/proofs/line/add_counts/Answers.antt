@@ -8,8 +8,8 @@ text_is : (first now word : List ℕ) (n m : ℕ) → n ≡ m → now ≡ first 
 text_is first now word n m same put = put ∙ ap (λ (k : ℕ). first ++ number_text word k) same
 
 -- a text was put behind what there was, and then a number, which is this one
-number_then : (first now later front word : List ℕ) (n m : ℕ) → n ≡ m → now ≡ first ++ front → later ≡ now ++ number_text word n → later ≡ first ++ (front ++ number_text word m)
-number_then first now later front word n m same once put = text_then first now later front (number_text word m) once (text_is now later word n m same put)
+number_then : (first now later prefix word : List ℕ) (n m : ℕ) → n ≡ m → now ≡ first ++ prefix → later ≡ now ++ number_text word n → later ≡ first ++ (prefix ++ number_text word m)
+number_then first now later prefix word n m same once put = text_then first now later prefix (number_text word m) once (text_is now later word n m same put)
 
 pub returns-clause-text : goal.returns-clause-text
 unfolding counts_text

@@ -11,4 +11,4 @@ returns g c =
     (_, runs_as _ _ _ _ (workers_wanted (arguments_of c.args.arguments.now).receive) _ _ _ _ _ (ap (λ (state : State). state.config) c.in-Ok.ensures.station) c.run_station.ensures)
 
 pub returns-in_default : goal.returns-in_default
-returns-in_default g c = (record { config = c.args.receiver.config; counters = no_counters }, inl (record { same = refl; none = refl; came_is = refl }))
+returns-in_default g c = (record { config = c.args.receiver.config; counters = no_counters }, inl (record { same = refl; none = refl; outcome_is = refl }))

@@ -1,5 +1,5 @@
 use Rattle.std.proofs.lemmas.Result.{err_from_is_err_and}
-use Rattle.tesla_front.specs.Came.{came_of}
+use Rattle.tesla_front.specs.OutcomeView.{result_view}
 use Rattle.tesla_front.proofs.Commands.{counts_by}
 use Rattle.tesla_run_weave.specs.Arguments.{arguments_of}
 use Rattle.tesla_run_weave.proofs.Runs.{under_unread, under_written}
@@ -12,4 +12,4 @@ returns-in_err-plan g c =
 
 pub returns : goal.returns
 returns g c =
-    under_written (arguments_of c.args.arguments.now) c.args.setup c.in_ok-plan.plan (g.D.Desk.told c.args.desk.now) _ _ (came_of c.write_woven.result) c.in_ok-plan.ensures.opened c.in_ok-plan.ensures.pages c.in_ok-plan.ensures.causes c.in_ok-plan.ensures.found c.write_woven.ensures.opens c.write_woven.ensures.writes (counts_by c.write_woven.result _ _ c.write_woven.ensures.causes)
+    under_written (arguments_of c.args.arguments.now) c.args.setup c.in_ok-plan.plan (g.D.Desk.told c.args.desk.now) _ _ (result_view c.write_woven.result) c.in_ok-plan.ensures.opened c.in_ok-plan.ensures.pages c.in_ok-plan.ensures.causes c.in_ok-plan.ensures.found c.write_woven.ensures.opens c.write_woven.ensures.writes (counts_by c.write_woven.result _ _ c.write_woven.ensures.causes)

@@ -4,7 +4,7 @@ use Rattle.std.proofs.lemmas.List.Elements.{AllWithin-more_set}
 use Rattle.std.proofs.lemmas.List.Sums.{sum_by-set}
 use Rattle.tesla_sender.specs.Chains.{chain_in, left_in, reserved_in, steps_to, IsReady, HasReached}
 use Rattle.tesla_sender.proofs.Costs.{none_further}
-use Rattle.tesla_sender.proofs.Places.{after_set}
+use Rattle.tesla_sender.proofs.Unwritten.{after_set}
 use Rattle.tesla_sender.proofs.rows.advance_all.Goals as goal
 
 pub loop-i-preserved : goal.loop-i-preserved

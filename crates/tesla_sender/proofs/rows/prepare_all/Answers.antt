@@ -3,7 +3,7 @@ use Rattle.std.proofs.Math.Seq.{map-set_same}
 use Rattle.std.proofs.lemmas.List.Elements.{AllWithin-more_set}
 use Rattle.std.proofs.lemmas.List.Sums.{sum_by-set}
 use Rattle.tesla_sender.specs.Chains.{chain_in, left_in, reserved_in, CanTag, IsPrepared}
-use Rattle.tesla_sender.proofs.Places.{after_set}
+use Rattle.tesla_sender.proofs.Unwritten.{after_set}
 use Rattle.tesla_sender.proofs.Senders.{prepared}
 use Rattle.tesla_sender.proofs.rows.prepare_all.Goals as goal
 

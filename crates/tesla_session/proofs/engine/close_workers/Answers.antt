@@ -1,6 +1,6 @@
 use Rattle.std.proofs.Common.{map, ◌∙◌}
 use Rattle.tesla_session.specs.Session.{SeenLink, SeenSink}
-use Rattle.tesla_session.proofs.Sessions.{closes_both, closes_same, of_back, of_front}
+use Rattle.tesla_session.proofs.Sessions.{closes_both, closes_same, of_back, of_prefix}
 use Rattle.tesla_session.proofs.engine.close_workers.Goals as goal
 
 pub close_each-requires-clause-others : goal.close_each-requires-clause-others
@@ -17,7 +17,7 @@ close_each-requires-2-clause-first g c κs within =
 
 pub close_each-requires-2-clause-others : goal.close_each-requires-2-clause-others
 close_each-requires-2-clause-others g c κs within =
-    let session = c.args.session in of_front session.turn (map SeenLink session.links.items) (map SeenSink session.sinks.items) c.requires.others
+    let session = c.args.session in of_prefix session.turn (map SeenLink session.links.items) (map SeenSink session.sinks.items) c.requires.others
 
 pub returns-clause-closes : goal.returns-clause-closes
 returns-clause-closes g c =

@@ -1,6 +1,6 @@
 use Rattle.std.proofs.Common.{◌≡◌, ◌∙◌, ap, subst}
 use Rattle.tesla_session.specs.Session.{join_pass}
-use Rattle.tesla_session.proofs.Closings.{closes_seen, are_of_front, are_of_last}
+use Rattle.tesla_session.proofs.Closings.{closes_seen, are_of_prefix, are_of_last}
 use Rattle.tesla_session.proofs.session.+close_each.Goals as goal
 
 pub join-requires-clause-own : goal.join-requires-clause-own
@@ -9,7 +9,7 @@ join-requires-clause-own g t c =
     (c.requires.own, ap (λ p. p.turn) c.close-pass.ensures.pass ∙ last)
 
 pub close_each-requires-clause-others : goal.close_each-requires-clause-others
-close_each-requires-clause-others g t c κs within = are_of_front g.W.DeskWorker.seen c.args.turn.now c.pop.new.self.items c.in-Some.worker (rw c.in-Some.ensures.items at c.requires.others)
+close_each-requires-clause-others g t c κs within = are_of_prefix g.W.DeskWorker.seen c.args.turn.now c.pop.new.self.items c.in-Some.worker (rw c.in-Some.ensures.items at c.requires.others)
 
 pub returns-clause-closes : goal.returns-clause-closes
 returns-clause-closes g t c =

@@ -9,7 +9,7 @@ use Rattle.tesla_frame.specs.declared.row.KeyRow.{KeyRow}
 use Rattle.tesla_walks.specs.declared.release.Release.{Release}
 use Rattle.tesla_walks.specs.Tips.{tips_after}
 use Rattle.tesla_state.specs.Steps.{batch_of, released_of}
-use Rattle.tesla_state.specs.Stored.{Placed, holding_at, place_of, release_of, after_batch, in_reach, is_idle}
+use Rattle.tesla_state.specs.Stored.{Placed, holding_at, slot_of, release_of, after_batch, in_reach, is_idle}
 use Rattle.tesla_walks.specs.Walking.{rows_of}
 use Rattle.tesla_walks.specs.Offered.{IsOfChains}
 use Rattle.tesla_state.proofs.UnreachedIntervals.{few_chains}
@@ -48,7 +48,7 @@ release_all-requires-clause-orders g c = orders_differ c.args.store.now.held c.r
 
 pub let_go-requires-clause-apart : goal.let_go-requires-clause-apart
 let_go-requires-clause-apart g c =
-    subst (λ (h : List Placed). Distinct (map place_of h)) (sym c.release_all.ensures.held)
+    subst (λ (h : List Placed). Distinct (map slot_of h)) (sym c.release_all.ensures.held)
     (apart_after (map release_of c.deref.result.now) (released_of (map holding_at c.args.store.now.held) (map release_of c.deref.result.now)) c.args.store.now.held c.held.ensures.apart)
 
 pub let_go-requires-clause-chains : goal.let_go-requires-clause-chains

@@ -5,14 +5,14 @@ use Rattle.tesla_walks.specs.declared.ordering.Proved.{Proved}
 use Rattle.tesla_walks.specs.Proved.{release_in}
 use Rattle.tesla_state.proofs.trying.order.Goals as goal
 
-take_front : (n : ℕ) (ys zs : List Proved) → length ys ≡ n → take n (ys ++ zs) ≡ ys
-take_front zero [] zs h = refl
-take_front zero (y ∷ ys) zs h = absurd (omega (arith, h))
-take_front (suc n) [] zs h = absurd (omega (arith, h))
-take_front (suc n) (y ∷ ys) zs h = ap (λ rs. y ∷ rs) (take_front n ys zs (omega (arith, h)))
+take_prefix : (n : ℕ) (ys zs : List Proved) → length ys ≡ n → take n (ys ++ zs) ≡ ys
+take_prefix zero [] zs h = refl
+take_prefix zero (y ∷ ys) zs h = absurd (omega (arith, h))
+take_prefix (suc n) [] zs h = absurd (omega (arith, h))
+take_prefix (suc n) (y ∷ ys) zs h = ap (λ rs. y ∷ rs) (take_prefix n ys zs (omega (arith, h)))
 
 whole : (n : ℕ) (now xs ys : List Proved) → now ≡ xs → length now ≡ n → IsPermutation now ys → take n (ys ++ drop (length ys) xs) ≡ ys
-whole n now xs ys same long h = take_front n ys (drop (length ys) xs) (length_permutation now ys h ∙ long)
+whole n now xs ys same long h = take_prefix n ys (drop (length ys) xs) (length_permutation now ys h ∙ long)
 
 pub returns-clause-order : goal.returns-clause-order
 returns-clause-order c releases rises h =

@@ -1,11 +1,11 @@
 use Rattle.std.proofs.Common.{refl}
-use Rattle.tesla_trace.specs.Front.{head_front, ingests_front}
+use Rattle.tesla_trace.specs.Parsing.{parse_head, parse_ingests}
 use Rattle.tesla_trace.proofs.judging.judge_head.Goals as goal
 
 pub returns-in-true : goal.returns-in-true
-unfolding head_front
-returns-in-true c = c.is_part.ensures.awaits ingests_front c.in-true.is refl
+unfolding parse_head
+returns-in-true c = c.is_part.ensures.awaits parse_ingests c.in-true.is refl
 
 pub returns-in-false : goal.returns-in-false
-unfolding head_front
-returns-in-false c = c.is_part.ensures.none ingests_front c.in-false.is
+unfolding parse_head
+returns-in-false c = c.is_part.ensures.none parse_ingests c.in-false.is

@@ -5,7 +5,7 @@ use Rattle.tesla_frame.specs.declared.row.KeyRow.{KeyRow}
 use Rattle.tesla_walks.specs.ItemShown.{holding_in}
 use Rattle.tesla_walks.specs.Proved.{proves_on}
 use Rattle.tesla_walks.specs.Walking.{rows_of, is_tried}
-use Rattle.tesla_walks.proofs.Tried.{counted_more, counted_front}
+use Rattle.tesla_walks.proofs.Tried.{counted_more, counted_prefix}
 use Rattle.tesla_walks.proofs.proving.proving_chain.Goals as goal
 
 pub returns-then-is_proved_on-clause-value : goal.returns-then-is_proved_on-clause-value
@@ -24,8 +24,8 @@ returns-then-is_proved_on-clause-cost g c =
     let on : List KeyRow → ℕ = λ rows. cond (is_tried c.args.tips.now rows shown c.loop-chain.chain) 1 0 in
     let same : on (rows_of c.loop-chain.walks) ≡ on (rows_of c.args.walks.now) = ap on c.loop-chain.invariant.1 in
     let more = counted_more p count c.loop-chain.chain (omega arith) in
-    let front = counted_front p (c.loop-chain.chain + 1) (range_with_len 0 count) in
-    omega (arith, same, more, front, c.is_proved_on.ensures.cost, c.loop-chain.invariant.3)
+    let prefix = counted_prefix p (c.loop-chain.chain + 1) (range_with_len 0 count) in
+    omega (arith, same, more, prefix, c.is_proved_on.ensures.cost, c.loop-chain.invariant.3)
 
 pub loop-chain-preserved : goal.loop-chain-preserved
 loop-chain-preserved g c =

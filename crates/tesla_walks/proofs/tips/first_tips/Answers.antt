@@ -8,11 +8,11 @@ use Rattle.tesla_walks.proofs.tips.first_tips.Goals as goal
 
 pub loop-chain-preserved : goal.loop-chain-preserved
 loop-chain-preserved c =
-    let front = map (first_tip c.args.config.now) (take c.loop-chain.chain (chains c.args.config.now)) in
+    let prefix = map (first_tip c.args.config.now) (take c.loop-chain.chain (chains c.args.config.now)) in
     let tip : c.new.result ≡ first_tip c.args.config.now c.loop-chain.chain =
     c.new.ensures ∙ ap (λ (r : ChainRow). record { index = r.index; key = r.key }) c.chain_row-row.ensures in
     c.in_ok-push.ensures.items ∙ ap (λ ts. ts ++ c.new.result ∷ []) c.loop-chain.invariant
-    ∙ ap (λ (t : Tip). front ++ t ∷ []) tip
+    ∙ ap (λ (t : Tip). prefix ++ t ∷ []) tip
     ∙ sym (map_number_more (first_tip c.args.config.now) (length c.args.config.now.setup.rows) c.loop-chain.chain (omega arith))
 
 pub returns-clause-tips : goal.returns-clause-tips

@@ -3,8 +3,8 @@ use Rattle.tesla_watched.proofs.StepsKept.{looks}
 use Rattle.tesla_watched.proofs.reader.look.Goals as goal
 
 pub load-requires : goal.load-requires
-load-requires c = let seat = c.loop-place.seat in let t = c.counters.inside.table.shared.table_id in (
-  c.loop-place.invariant.seat.table ∙ sym c.counters.view_is,
+load-requires c = let seat = c.loop-index.seat in let t = c.counters.inside.table.shared.table_id in (
+  c.loop-index.invariant.seat.table ∙ sym c.counters.view_is,
   omega (arith, c.counters.invariant),
   looks t.slots seat.id seat.me _,
 )

@@ -4,5 +4,5 @@ use Rattle.tesla_world.proofs.laws.clocks.Goals as goal
 pub returns-clause-bounded : goal.returns-clause-bounded
 returns-clause-bounded c = bounded_too
 
-pub returns-clause-untold : goal.returns-clause-untold
-returns-clause-untold c = secure_too c.safe.ensures
+pub returns-clause-undisclosed : goal.returns-clause-undisclosed
+returns-clause-undisclosed c = secure_too c.safe.ensures

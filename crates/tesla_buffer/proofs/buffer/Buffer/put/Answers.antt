@@ -9,12 +9,12 @@ use Rattle.tesla_buffer.specs.declared.parts.TheConstants.{EMPTY}
 use Rattle.tesla_links.specs.Entries.{is_at as entry_at, marked_at}
 use Rattle.tesla_buffer.proofs.Stored.{unnamed_vacant}
 use Rattle.tesla_buffer.proofs.Resting.{beside_put}
-use Rattle.tesla_buffer.proofs.Places.{entry_is, marked_pushed, pushed_there}
+use Rattle.tesla_buffer.proofs.HeldSlots.{entry_is, marked_pushed, pushed_there}
 use Rattle.tesla_buffer.proofs.Shown.{IsFree, IsPut, put_held, put_stored, vacant_for, vacant_live}
 use Rattle.tesla_buffer.proofs.buffer.Buffer.put.Goals.{After-append, After-mark, After-vacant_slot-place, Else-item}
 use Rattle.tesla_buffer.proofs.buffer.Buffer.put.Goals as goal
 
--- the place is one for a packet
+-- the slot is one for a packet
 vacant : (c : After-vacant_slot-place) → IsFree c.self.inside c.vacant_slot-place.new.slots.items c.vacant_slot-place.new.free.items c.vacant_slot-place.result
 vacant c = vacant_for c.self.inside c.args.self.now _ c.self.view_is c.self.invariant _ _ _ EMPTY c.requires c.vacant_slot-place.ensures.slot refl
 

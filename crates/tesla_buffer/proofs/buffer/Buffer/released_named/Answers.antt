@@ -4,7 +4,7 @@ use Rattle.std.proofs.lemmas.Option.{MatchOption-at_none}
 use Rattle.tesla_buffer.specs.Held.{is_at, is_released_as}
 use Rattle.std.specs.Prelude.{◌&&◌}
 use Rattle.tesla_buffer.proofs.Stored.{found_named, none_named, seen_held}
-use Rattle.tesla_buffer.proofs.Places.{test_live}
+use Rattle.tesla_buffer.proofs.HeldSlots.{test_live}
 use Rattle.tesla_links.specs.Slots.{has_key}
 use Rattle.tesla_buffer.proofs.buffer.Buffer.released_named.Goals as goal
 

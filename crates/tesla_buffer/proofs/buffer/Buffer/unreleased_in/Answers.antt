@@ -4,7 +4,7 @@ use Rattle.std.proofs.lemmas.List.{length-map}
 use Rattle.tesla_buffer.specs.Held.{is_unreleased_of}
 use Rattle.tesla_buffer.specs.Stored.{held_at}
 use Rattle.tesla_buffer.proofs.Stored.{seen_held}
-use Rattle.tesla_buffer.proofs.Places.{of_unreleased}
+use Rattle.tesla_buffer.proofs.HeldSlots.{of_unreleased}
 use Rattle.tesla_links.specs.Entries.{is_unmarked_under}
 use Rattle.tesla_buffer.proofs.buffer.Buffer.unreleased_in.Goals as goal
 

@@ -9,7 +9,7 @@ use Rattle.tesla_chain.specs.Levels.{Stand}
 use Rattle.tesla_chain.specs.Traversal.{Traversing}
 use Rattle.tesla_chain.proofs.Digits.{by_keys, call_cost, left_after}
 use Rattle.tesla_chain.proofs.Levels.{at}
-use Rattle.tesla_chain.proofs.Passing.{came, ordered}
+use Rattle.tesla_chain.proofs.Passing.{goes_on, ordered}
 use Rattle.tesla_chain.proofs.traversal.Traversal.advance.Goals as goal
 
 pub returns-then-index-self-clause-key : goal.returns-then-index-self-clause-key
@@ -25,7 +25,7 @@ invariant_of-self-2 g c =
     let same : length after ≡ length t.levels.items = c.skip.auto.levels ∙ ap length c.as_mut_slice.ensures.value in
     let P : List Level → Type 0 = λ levels. IsKept t.last c.args.index t.seed t.commitment levels in
     subst P (sym (with_items_is t.levels after (c.skip.auto.levels ∙ c.as_mut_slice.ensures.len)))
-    (came t.last t.given c.args.index (t.last - t.given - 1) (t.last - c.args.index - 1) t.seed t.commitment t.levels.items after c.self.invariant order.0 (omega (arith, order.1, c.if-index-self.false)) (omega arith) (omega arith) same (rw c.as_mut_slice.ensures.value at c.skip.ensures.stand))
+    (goes_on t.last t.given c.args.index (t.last - t.given - 1) (t.last - c.args.index - 1) t.seed t.commitment t.levels.items after c.self.invariant order.0 (omega (arith, order.1, c.if-index-self.false)) (omega arith) (omega arith) same (rw c.as_mut_slice.ensures.value at c.skip.ensures.stand))
 
 pub returns-clause-key : goal.returns-clause-key
 returns-clause-key g c =

@@ -4,5 +4,5 @@ use Rattle.tesla_convert.proofs.conversion.Conversion.convert.Goals as goal
 
 pub returns-clause-converts : goal.returns-clause-converts
 returns-clause-converts g c bytes told =
-    settled g.C.Converter.grammar _ (g.C.Converter.rule c.args.self.converter) (g.C.Converter.ended c.convert_all-came.new.self.converter) c.convert_all-came.result c.settle-settled.result bytes _ _ _ _ _
-    (c.convert_all-came.ensures.converts bytes told c.requires.has (holds_none _ _ c.requires.empty c.requires.none)) c.settle-settled.ensures.settles
+    settled g.C.Converter.grammar _ (g.C.Converter.rule c.args.self.converter) (g.C.Converter.ended c.convert_all-outcome.new.self.converter) c.convert_all-outcome.result c.settle-settled.result bytes _ _ _ _ _
+    (c.convert_all-outcome.ensures.converts bytes told c.requires.has (holds_none _ _ c.requires.empty c.requires.none)) c.settle-settled.ensures.settles

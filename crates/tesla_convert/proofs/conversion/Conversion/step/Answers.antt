@@ -1,15 +1,15 @@
 use Rattle.std.proofs.Common.{◌∙◌, ap, take, refl}
-use Rattle.tesla_capture.specs.Records.{record_place}
+use Rattle.tesla_capture.specs.Records.{record_offset}
 use Rattle.tesla_convert.proofs.Made.{at_end, at_fault, at_next, at_refused}
 use Rattle.tesla_convert.proofs.conversion.Conversion.step.Goals as goal
 
 pub returns-in-Carrying-clause-steps : goal.returns-in-Carrying-clause-steps
 returns-in-Carrying-clause-steps g c bytes at =
-    at_next g.C.Converter.grammar g.met.C.Converter.is _ _ _ _ bytes _ _ c.offset_of-place.result _ _ _ _ _ _ _ (g.C.Converter.grammar.carrying c.in-Carrying.reading (take c.in-Carrying.length c.next.new.room)) c.convert_carrying.result c.ending_at.result at (c.in-Carrying.ensures.gives at.rest at.ahead_is) c.convert_carrying.ensures.answers (c.offset_of-place.ensures ∙ ap record_place c.place.ensures.value) c.ending_at.ensures
+    at_next g.C.Converter.grammar g.met.C.Converter.is _ _ _ _ bytes _ _ c.offset_of-place.result _ _ _ _ _ _ _ (g.C.Converter.grammar.carrying c.in-Carrying.reading (take c.in-Carrying.length c.next.new.room)) c.convert_carrying.result c.ending_at.result at (c.in-Carrying.ensures.gives at.rest at.ahead_is) c.convert_carrying.ensures.answers (c.offset_of-place.ensures ∙ ap record_offset c.place.ensures.value) c.ending_at.ensures
 
 pub returns-in-Bare-clause-steps : goal.returns-in-Bare-clause-steps
 returns-in-Bare-clause-steps g c bytes at =
-    at_next g.C.Converter.grammar g.met.C.Converter.is _ _ _ _ bytes _ _ c.offset_of-place.result _ _ _ _ _ _ _ (g.C.Converter.grammar.bare c.in-Bare.reading) c.convert_bare.result c.ending_at-in-Bare.result at (c.in-Bare.ensures.gives at.rest at.ahead_is) c.convert_bare.ensures.answers (c.offset_of-place.ensures ∙ ap record_place c.place.ensures.value) c.ending_at-in-Bare.ensures
+    at_next g.C.Converter.grammar g.met.C.Converter.is _ _ _ _ bytes _ _ c.offset_of-place.result _ _ _ _ _ _ _ (g.C.Converter.grammar.bare c.in-Bare.reading) c.convert_bare.result c.ending_at-in-Bare.result at (c.in-Bare.ensures.gives at.rest at.ahead_is) c.convert_bare.ensures.answers (c.offset_of-place.ensures ∙ ap record_offset c.place.ensures.value) c.ending_at-in-Bare.ensures
 
 pub returns-in-End-clause-steps : goal.returns-in-End-clause-steps
 returns-in-End-clause-steps g c bytes at =

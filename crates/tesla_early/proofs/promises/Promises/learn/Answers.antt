@@ -30,10 +30,10 @@ invariant_of-self c =
     let slot : Slot = record { promise = c.args.promise.now; used = false } in
     let lists = c.make_room.new.buckets.lists in
     let h = room (goal.at.invariant_of-self c).After-make_room in
-    subst (λ (n : ℕ). IsRing i.most n c.place_after-self-inside.result c.append.new.self (set i.slots.items i.next slot)) (sym c.count_after-self-inside.ensures)
-    (subst (λ (n : ℕ). IsRing i.most (count_after i.most i.count) n c.append.new.self (set i.slots.items i.next slot)) (sym c.place_after-self-inside.ensures)
+    subst (λ (n : ℕ). IsRing i.most n c.index_after-self-inside.result c.append.new.self (set i.slots.items i.next slot)) (sym c.count_after-self-inside.ensures)
+    (subst (λ (n : ℕ). IsRing i.most (count_after i.most i.count) n c.append.new.self (set i.slots.items i.next slot)) (sym c.index_after-self-inside.ensures)
     (ring_put i.most i.count i.next i.buckets c.append.new.self lists i.slots.items slot c.self.invariant h
-    (c.append.ensures.places ∙ c.make_room.ensures.places)
+    (c.append.ensures.slot_count ∙ c.make_room.ensures.slot_count)
     (c.append.ensures.lists ∙ ap (λ b. set lists b (get_or lists b [] ++ i.next ∷ [])) c.bucket.ensures.value)))
 
 pub returns-clause-kept : goal.returns-clause-kept
@@ -42,9 +42,9 @@ returns-clause-kept c =
     let slot : Slot = record { promise = c.args.promise.now; used = false } in
     let lists = c.make_room.new.buckets.lists in
     let h = room (goal.at.returns-clause-kept c).After-make_room in
-    ap (λ (n : ℕ). map (kept_at (set i.slots.items i.next slot)) (order_of n c.place_after-self-inside.result)) c.count_after-self-inside.ensures
-    ∙ ap (λ (n : ℕ). map (kept_at (set i.slots.items i.next slot)) (order_of (count_after i.most i.count) n)) c.place_after-self-inside.ensures
+    ap (λ (n : ℕ). map (kept_at (set i.slots.items i.next slot)) (order_of n c.index_after-self-inside.result)) c.count_after-self-inside.ensures
+    ∙ ap (λ (n : ℕ). map (kept_at (set i.slots.items i.next slot)) (order_of (count_after i.most i.count) n)) c.index_after-self-inside.ensures
     ∙ kept_put i.most i.count i.next i.buckets c.append.new.self lists i.slots.items slot c.self.invariant h
-    (c.append.ensures.places ∙ c.make_room.ensures.places)
+    (c.append.ensures.slot_count ∙ c.make_room.ensures.slot_count)
     (c.append.ensures.lists ∙ ap (λ b. set lists b (get_or lists b [] ++ i.next ∷ [])) c.bucket.ensures.value)
     ∙ ap (λ (s : PromiseState). last_of s.most (s.kept ++ record { promise = c.args.promise.now; used = false } ∷ [])) c.self.view_is

@@ -15,11 +15,11 @@ pub returns-in_default-clause-makes : goal.returns-in_default-clause-makes
 returns-in_default-clause-makes g c = λ made stands.
     let a = c.args.self.now in
     let due : is_due_after a.sender.stream a.first a.latest (interval_at a.sender.stream.setup.times c.args.reading) ≡ true = ap (is_due_after a.sender.stream a.first a.latest) (sym c.interval_at-interval.ensures) ∙ sym c.is_due.ensures ∙ c.if-not-is_due.false in
-    absurd (never_refused a.sender.stream a.first a made c.args.reading c.in_default.field-0 a.frame c.disclose.new.into stands due c.in_default.ensures.told)
+    absurd (never_refused a.sender.stream a.first a made c.args.reading c.in_default.field-0 a.frame c.disclose.new.into stands due c.in_default.ensures.returned)
 
 pub returns-clause-makes : goal.returns-clause-makes
 returns-clause-makes g c = λ made stands.
     let a = c.args.self.now in
     let due : is_due_after a.sender.stream a.first a.latest (interval_at a.sender.stream.setup.times c.args.reading) ≡ true = ap (is_due_after a.sender.stream a.first a.latest) (sym c.interval_at-interval.ensures) ∙ sym c.is_due.ensures ∙ c.if-not-is_due.false in
     let counts = ap (λ (n : ℕ). let it : FeedCounts = record { messages = a.counts.messages; disclosures = n; too_long = a.counts.too_long; early = a.counts.early; over = a.counts.over; backward = a.counts.backward; full = a.counts.full; unread = a.counts.unread } in it) c.saturating_add-self.ensures in
-    makes_disclosure a.sender.stream a.first a _ made c.args.reading c.in-Ok.length a.frame c.requires.read due stands c.in-Ok.ensures.told c.in-Ok.ensures.after refl c.interval_at-interval.ensures refl counts
+    makes_disclosure a.sender.stream a.first a _ made c.args.reading c.in-Ok.length a.frame c.requires.read due stands c.in-Ok.ensures.returned c.in-Ok.ensures.after refl c.interval_at-interval.ensures refl counts

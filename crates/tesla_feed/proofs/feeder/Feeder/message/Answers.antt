@@ -9,9 +9,9 @@ returns-in-Ok-clause-makes g c = λ made stands.
     let a = c.args.self.now in
     let counts = ap (λ (n : ℕ). let it : FeedCounts = record { messages = n; disclosures = a.counts.disclosures; too_long = a.counts.too_long; early = a.counts.early; over = a.counts.over; backward = a.counts.backward; full = a.counts.full; unread = a.counts.unread } in it) c.saturating_add-self.ensures in
     let at : c.interval_at-self.result ≡ interval_at a.sender.stream.setup.times c.args.reading = c.interval_at-self.ensures ∙ ap (λ (s : Stream). interval_at s.setup.times c.args.reading) c.in-Ok.ensures.stream in
-    makes_message a.sender.stream a.first a _ made c.args.reading c.args.payload.now c.in-Ok.length a.frame c.requires.read stands c.in-Ok.ensures.told c.in-Ok.ensures.after refl at at counts
+    makes_message a.sender.stream a.first a _ made c.args.reading c.args.payload.now c.in-Ok.length a.frame c.requires.read stands c.in-Ok.ensures.returned c.in-Ok.ensures.after refl at at counts
 
 pub returns-in-Err-clause-makes : goal.returns-in-Err-clause-makes
 returns-in-Err-clause-makes g c = λ made stands.
     let a = c.args.self.now in
-    makes_refused a _ made c.args.reading c.args.payload.now c.in-Err.refusal c.message.new.into c.message.new.self c.refuse.new.self _ c.requires.read stands c.in-Err.ensures.told c.in-Err.ensures.refused.0 c.refuse.ensures c.disclose.ensures.makes
+    makes_refused a _ made c.args.reading c.args.payload.now c.in-Err.refusal c.message.new.into c.message.new.self c.refuse.new.self _ c.requires.read stands c.in-Err.ensures.returned c.in-Err.ensures.refused.0 c.refuse.ensures c.disclose.ensures.makes

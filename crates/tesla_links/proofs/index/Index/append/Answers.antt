@@ -4,19 +4,19 @@ use Rattle.tesla_links.proofs.Shown.{AreAppended, IsAbsent, absent_at, entries_a
 use Rattle.tesla_links.proofs.index.Index.append.Goals.{After-append-3, After-enter_group-group}
 use Rattle.tesla_links.proofs.index.Index.append.Goals as goal
 
--- the place has no entry
-free : (c : After-enter_group-group) → IsAbsent c.self.inside c.args.place
-free c = absent_at c.self.inside c.args.self.now _ c.self.view_is c.self.invariant c.args.place c.requires.place c.requires.absent
+-- the slot has no entry
+free : (c : After-enter_group-group) → IsAbsent c.self.inside c.args.slot
+free c = absent_at c.self.inside c.args.self.now _ c.self.view_is c.self.invariant c.args.slot c.requires.slot c.requires.absent
 
 -- what the parts are in the end
-appended : (c : After-append-3) → AreAppended c.self.inside c.append-2.new.self c.append.new.self c.append-3.new.self c.enter_group-group.new.keys.slots c.args.place c.enter_group-group.result c.args.key
+appended : (c : After-append-3) → AreAppended c.self.inside c.append-2.new.self c.append.new.self c.append-3.new.self c.enter_group-group.new.keys.slots c.args.slot c.enter_group-group.result c.args.key
 appended c = record {
-  entry = absent_at c.self.inside c.args.self.now _ c.self.view_is c.self.invariant c.args.place c.requires.place c.requires.absent;
+  entry = absent_at c.self.inside c.args.self.now _ c.self.view_is c.self.invariant c.args.slot c.requires.slot c.requires.absent;
   may = c.enter_group-group.ensures.group;
   keys = c.enter_group-group.ensures.keys;
-  order = (c.append-2.ensures.places, c.append-2.ensures.lists);
-  members = (c.append.ensures.places, c.append.ensures.lists);
-  unmarked = (c.append-3.ensures.places, c.append-3.ensures.lists);
+  order = (c.append-2.ensures.slot_count, c.append-2.ensures.lists);
+  members = (c.append.ensures.slot_count, c.append.ensures.lists);
+  unmarked = (c.append-3.ensures.slot_count, c.append-3.ensures.lists);
 }
 
 pub enter_group-group-requires : goal.enter_group-group-requires

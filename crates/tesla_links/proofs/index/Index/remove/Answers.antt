@@ -5,22 +5,22 @@ use Rattle.tesla_links.proofs.Shown.{AreRemoved, HasGroup, group_read, left_kept
 use Rattle.tesla_links.proofs.index.Index.remove.Goals.{After-count, After-index-group}
 use Rattle.tesla_links.proofs.index.Index.remove.Goals as goal
 
--- the place has an entry, whose group was read
-found : (c : After-index-group) → HasGroup c.self.inside c.args.place c.index-group.result.now
-found c = group_read _ _ _ (listed_at c.self.inside c.args.self.now _ c.self.view_is c.self.invariant c.args.place c.requires) c.index-group.ensures
+-- the slot has an entry, whose group was read
+found : (c : After-index-group) → HasGroup c.self.inside c.args.slot c.index-group.result.now
+found c = group_read _ _ _ (listed_at c.self.inside c.args.self.now _ c.self.view_is c.self.invariant c.args.slot c.requires) c.index-group.ensures
 
 -- what the parts are once it is gone
-removed : (c : After-count) → HasGroup c.self.inside c.args.place c.index-group.result.now → AreRemoved c.self.inside c.remove-2.new.self c.remove.new.self c.remove-3.new.self c.args.place c.index-group.result.now c.count.result
+removed : (c : After-count) → HasGroup c.self.inside c.args.slot c.index-group.result.now → AreRemoved c.self.inside c.remove-2.new.self c.remove.new.self c.remove-3.new.self c.args.slot c.index-group.result.now c.count.result
 removed c own = record {
   entry = own;
-  order = (c.remove-2.ensures.places, c.remove-2.ensures.lists);
-  members = (c.remove.ensures.places, c.remove.ensures.lists);
-  unmarked = (c.remove-3.ensures.places, c.remove-3.ensures.lists);
+  order = (c.remove-2.ensures.slot_count, c.remove-2.ensures.lists);
+  members = (c.remove.ensures.slot_count, c.remove.ensures.lists);
+  unmarked = (c.remove-3.ensures.slot_count, c.remove-3.ensures.lists);
   counted = c.count.ensures;
 }
 
 pub index-group-requires : goal.index-group-requires
-index-group-requires c = omega (arith, listed_at c.self.inside c.args.self.now _ c.self.view_is c.self.invariant c.args.place c.requires)
+index-group-requires c = omega (arith, listed_at c.self.inside c.args.self.now _ c.self.view_is c.self.invariant c.args.slot c.requires)
 
 pub remove-requires : goal.remove-requires
 remove-requires c = record { somewhere = (found (goal.at.remove-requires c).After-index-group).entry.in_members }
@@ -33,7 +33,7 @@ remove-requires-3 c = record { somewhere = (found (goal.at.remove-requires-3 c).
 
 pub count-requires : goal.count-requires
 count-requires c =
-    omega (arith, found (goal.at.count-requires c).After-index-group, ap length c.remove.ensures.lists, length-map c.self.inside.members.lists (without c.args.place))
+    omega (arith, found (goal.at.count-requires c).After-index-group, ap length c.remove.ensures.lists, length-map c.self.inside.members.lists (without c.args.slot))
 
 pub clear-requires : goal.clear-requires
 clear-requires c = omega (arith, found (goal.at.clear-requires c).After-index-group)

@@ -6,12 +6,12 @@ use Rattle.tesla_links.proofs.Keyed.{in_view, slot_seen, slots_of_is, somewhere_
 use Rattle.tesla_links.proofs.key_table.KeyTable.clear.Goals.{After-transfer}
 use Rattle.tesla_links.proofs.key_table.KeyTable.clear.Goals as goal
 
--- what the place that is vacant leaves
-cleared : (c : After-transfer) → IsKeyed c.self.inside.capacity c.transfer.new.self c.self.inside.keys.items (set c.args.self.now.slots c.args.place None)
-cleared c = slot_seen c.self.inside c.args.self.now c.self.view_is c.self.invariant c.args.place c.requires None c.transfer.new.self c.self.inside.keys.items c.transfer.ensures.places c.transfer.ensures.lists refl (λ within k is. absurd (none-some k is)) (λ q ne. refl)
+-- what the slot that is vacant leaves
+cleared : (c : After-transfer) → IsKeyed c.self.inside.capacity c.transfer.new.self c.self.inside.keys.items (set c.args.self.now.slots c.args.slot None)
+cleared c = slot_seen c.self.inside c.args.self.now c.self.view_is c.self.invariant c.args.slot c.requires None c.transfer.new.self c.self.inside.keys.items c.transfer.ensures.slot_count c.transfer.ensures.lists refl (λ within k is. absurd (none-some k is)) (λ q ne. refl)
 
 pub transfer-requires-clause-somewhere : goal.transfer-requires-clause-somewhere
-transfer-requires-clause-somewhere c = somewhere_seen c.self.inside c.args.self.now c.self.view_is c.self.invariant c.args.place c.requires
+transfer-requires-clause-somewhere c = somewhere_seen c.self.inside c.args.self.now c.self.view_is c.self.invariant c.args.slot c.requires
 
 pub invariant_of-self : goal.invariant_of-self
 invariant_of-self c = in_view _ _ _ _ (cleared (goal.at.invariant_of-self c).After-transfer)

@@ -6,20 +6,20 @@ use Rattle.tesla_links.proofs.Rings.{lists_of_is}
 use Rattle.tesla_links.proofs.links.Links.remove.Goals.{After-self, After-index-list}
 use Rattle.tesla_links.proofs.links.Links.remove.Goals as goal
 
--- the place stands in one of the lists, which are in their rings
-stands : (c : After-self) → IsStanding c.self.inside c.args.self.now c.args.place
-stands c = standing c.self.inside c.args.self.now c.args.place _ c.self.view_is c.self.invariant c.requires.somewhere
+-- the slot stands in one of the lists, which are in their rings
+stands : (c : After-self) → IsStanding c.self.inside c.args.self.now c.args.slot
+stands c = standing c.self.inside c.args.self.now c.args.slot _ c.self.view_is c.self.invariant c.requires.somewhere
 
 -- the nodes beside it and its list, as they were read
-read : (c : After-index-list) → AreRead c.self.inside c.args.self.now c.args.place c.index-after.result.now c.index-before.result.now c.index-list.result.now
+read : (c : After-index-list) → AreRead c.self.inside c.args.self.now c.args.slot c.index-after.result.now c.index-before.result.now c.index-list.result.now
 read c =
     let i = c.self.inside in
-    let s = standing i c.args.self.now c.args.place _ c.self.view_is c.self.invariant c.requires.somewhere in
+    let s = standing i c.args.self.now c.args.slot _ c.self.view_is c.self.invariant c.requires.somewhere in
     record {
       stands = s;
-      after = get_or_read i.after.items c.args.place c.index-after.result.now (omega arith) c.index-after.ensures 0;
-      before = get_or_read i.before.items c.args.place c.index-before.result.now (omega arith) c.index-before.ensures 0;
-      list = get_or_read i.owners.items c.args.place c.index-list.result.now (omega arith) c.index-list.ensures 0;
+      after = get_or_read i.after.items c.args.slot c.index-after.result.now (omega arith) c.index-after.ensures 0;
+      before = get_or_read i.before.items c.args.slot c.index-before.result.now (omega arith) c.index-before.ensures 0;
+      list = get_or_read i.owners.items c.args.slot c.index-list.result.now (omega arith) c.index-list.ensures 0;
     }
 
 pub index-after-requires : goal.index-after-requires

@@ -7,4 +7,4 @@ pub returns-in-Given : goal.returns-in-Given
 returns-in-Given c =
     let length_is : c.from.result ≡ c.in-Given.head.length = search rules in
     c.put-in-Given.ensures ∙ ap (λ (text : List ℕ). with_text c.args.self.now text)
-    (given_text c.args.releaser c.in-Given.head c.args.reply _ _ c.args.payload.now c.in-Given.is c.given_front.ensures (ap (λ (n : ℕ). take n c.args.payload.now) length_is))
+    (given_text c.args.releaser c.in-Given.head c.args.reply _ _ c.args.payload.now c.in-Given.is c.given_header.ensures (ap (λ (n : ℕ). take n c.args.payload.now) length_is))

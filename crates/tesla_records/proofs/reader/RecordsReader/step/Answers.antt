@@ -13,7 +13,7 @@ returns-in-Whole-clause-gives g c rest e =
     let start : c.args.self.now.place ≡ 0 = omega arith in
     let told = ap (λ (p : Progress _). ahead p (g.S.Source.left c.args.source.now)) c.self.view_is ∙ e in
     let at : c.take_head.new.self.place ≡ g.F.Format.grammar.head_size = omega (arith, c.take_head.ensures.place, c.in-Whole.ensures.place) in
-    subst (λ (place : ℕ). Gives g.F.Format.grammar g.F.Format.kind_of (λ taken. g.F.Format.shown taken next.new.room) next.result place rest next.new.self.place (ahead next.new.self (g.S.Source.left next.new.source))) (sym start)
+    subst (λ (offset : ℕ). Gives g.F.Format.grammar g.F.Format.kind_of (λ taken. g.F.Format.shown taken next.new.room) next.result offset rest next.new.self.place (ahead next.new.self (g.S.Source.left next.new.source))) (sym start)
     (head_gives g.F.Format.grammar g.met.F.Format.is g.F.Format.head_of g.F.Format.kind_of next.result c.in-Whole.head c.take_head.new.self.place next.new.self.place (pieces.pending c.find_head.new.self) (pending c.take_head.new.self) rest (λ taken. g.F.Format.shown taken next.new.room) (g.S.Source.left c.find_head.new.source) _
     (c.in-Whole.ensures.finds rest told) c.take_head.ensures.limits c.in-Whole.ensures.whole c.take_head.ensures.spelled c.take_head.ensures.pending at next.ensures.gives)
 

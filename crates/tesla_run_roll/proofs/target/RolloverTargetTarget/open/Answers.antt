@@ -11,6 +11,6 @@ returns-in-Ok-clause-calls c = c.in-Ok.ensures.stands.calls
 
 pub returns-in-Ok-clause-means : goal.returns-in-Ok-clause-means
 returns-in-Ok-clause-means c =
-    let places = c.args.arguments.now.places in
-    let config : c.in-Ok.rollover.config ≡ record { setup = c.args.setup; lag = c.args.arguments.now.lag; capacity = places.capacity; quota = places.capacity; ingests = 1 } = search rules in
+    let limits = c.args.arguments.now.limits in
+    let config : c.in-Ok.rollover.config ≡ record { setup = c.args.setup; lag = c.args.arguments.now.lag; capacity = limits.capacity; quota = limits.capacity; ingests = 1 } = search rules in
     says_same (arguments_of c.args.arguments.now) c.args.setup c.in-Ok.rollover.config c.requires.capacity.1.1 config

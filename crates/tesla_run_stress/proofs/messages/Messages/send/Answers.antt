@@ -16,4 +16,4 @@ returns-clause-text g c =
 pub returns-clause-short : goal.returns-clause-short
 returns-clause-short g c =
     let pays : c.to_be_bytes-payload.result ≡ payload_of c.args.k = c.to_be_bytes-payload.ensures ∙ ap payload_of c.from.ensures in
-    message_short c.args.self.now.count c.args.k c.reading_of.result c.to_be_bytes-payload.result c.args.self.now.sender c.in-Ok.length c.args.room.now c.message.new.into c.requires.within c.requires.sent c.reading_of.ensures.value pays c.in-Ok.ensures.told
+    message_short c.args.self.now.count c.args.k c.reading_of.result c.to_be_bytes-payload.result c.args.self.now.sender c.in-Ok.length c.args.room.now c.message.new.into c.requires.within c.requires.sent c.reading_of.ensures.value pays c.in-Ok.ensures.returned

@@ -1,8 +1,8 @@
 use Rattle.std.proofs.Common.{sym, ap, ◌∙◌}
 use Rattle.std.specs.List.{filter}
-use Rattle.tesla_state.specs.Stored.{Stored, first_place, is_of}
+use Rattle.tesla_state.specs.Stored.{Stored, first_slot, is_of}
 use Rattle.tesla_state.proofs.Stored.{first_shown}
 use Rattle.tesla_state.proofs.store.Store.first_of.Goals as goal
 
 pub returns : goal.returns
-returns c = c.first_of.ensures.place ∙ sym (first_shown c.self.inside.chains c.args.interval c.self.inside.buffer.held) ∙ ap (λ (s : Stored). first_place (filter (is_of c.args.interval) s.held)) c.self.view_is
+returns c = c.first_of.ensures.place ∙ sym (first_shown c.self.inside.chains c.args.interval c.self.inside.buffer.held) ∙ ap (λ (s : Stored). first_slot (filter (is_of c.args.interval) s.held)) c.self.view_is

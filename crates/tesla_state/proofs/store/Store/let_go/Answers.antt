@@ -2,7 +2,7 @@ use Rattle.std.proofs.Common.{ℕ, Bool, List, sym, subst, map}
 use Rattle.std.specs.Prelude.{not, ◌&&◌}
 use Rattle.tesla_base.specs.Members.{Distinct}
 use Rattle.tesla_walks.specs.ReachedIntervals.{IsHighest, index_at, is_reached}
-use Rattle.tesla_state.specs.Stored.{Placed, place_of, in_span, is_idle}
+use Rattle.tesla_state.specs.Stored.{Placed, slot_of, in_span, is_idle}
 use Rattle.tesla_walks.specs.Walking.{rows_of}
 use Rattle.tesla_state.proofs.Stored.{distinct_kept}
 use Rattle.tesla_state.proofs.Sweeping.{spanned_none, spanned_more, span_ends}
@@ -14,7 +14,7 @@ loop-interval-init c = spanned_none c.args.self.now (is_reached (index_at c.args
 pub sweep-requires-clause-apart : goal.sweep-requires-clause-apart
 sweep-requires-clause-apart c =
     let met : ℕ → Bool = is_reached (index_at c.args.reach.now.indices) (rows_of c.args.walks.now) in
-    subst (λ (h : List Placed). Distinct (map place_of h)) (sym c.loop-interval.invariant.held)
+    subst (λ (h : List Placed). Distinct (map slot_of h)) (sym c.loop-interval.invariant.held)
     (distinct_kept (λ x. not ((in_span c.loop-interval.most c.args.reach.now.high x && met x.holding.name.interval) && is_idle c.args.config.now c.args.tips.now x)) c.args.self.now.held c.requires.apart)
 
 pub loop-interval-preserved : goal.loop-interval-preserved

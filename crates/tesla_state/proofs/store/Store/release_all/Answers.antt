@@ -13,7 +13,7 @@ settle-requires c =
     (get_or_default c.args.batch.now c.loop-proved.proved-index no_proved (get_or c.args.batch.now c.loop-proved.proved-index no_proved) c.loop-proved-test.true)
 
 pub loop-proved-init : goal.loop-proved-init
-loop-proved-init c = settling_none c.args.self.now c.args.batch.now c.requires.proved c.requires.places
+loop-proved-init c = settling_none c.args.self.now c.args.batch.now c.requires.proved c.requires.slots
 
 pub loop-proved-preserved : goal.loop-proved-preserved
 loop-proved-preserved c =
@@ -28,7 +28,7 @@ returns c =
       capacity = c.loop-proved.invariant.capacity;
       reserved = c.loop-proved.invariant.reserved;
       chains = c.loop-proved.invariant.chains;
-      held = all.0 ∙ held_all_is c.args.batch.now c.args.self.now.held c.requires.apart c.requires.orders c.requires.proved c.requires.places;
-      waiting = all.1 ∙ ap (λ rs. c.args.self.now.waiting ++ rs) (waiting_all c.args.batch.now c.args.self.now.held c.requires.apart c.requires.proved c.requires.places);
+      held = all.0 ∙ held_all_is c.args.batch.now c.args.self.now.held c.requires.apart c.requires.orders c.requires.proved c.requires.slots;
+      waiting = all.1 ∙ ap (λ rs. c.args.self.now.waiting ++ rs) (waiting_all c.args.batch.now c.args.self.now.held c.requires.apart c.requires.proved c.requires.slots);
       given = c.loop-proved.invariant.given;
     }

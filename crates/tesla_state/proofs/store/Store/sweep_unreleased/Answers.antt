@@ -17,7 +17,7 @@ pub returns-in_default-clause-held : goal.returns-in_default-clause-held
 returns-in_default-clause-held c =
     swept_through c.args.self.now c.loop-looked.self true c.args.interval (λ x. list_all (is_over c.args.tips.now x.holding) (chains c.args.config.now)) c.loop-looked._looked c.loop-looked.next c.loop-looked.invariant c.in_default.is
 
--- the place at which the sweep stands
+-- the slot at which the sweep stands
 sweeping : (c : In-Some) → Sweeping c.args.self.now c.loop-looked.self true c.args.interval (λ x. list_all (is_over c.args.tips.now x.holding) (chains c.args.config.now)) c.loop-looked._looked (Some c.in-Some.place)
 sweeping c = subst (λ (o : Option Place). Sweeping c.args.self.now c.loop-looked.self true c.args.interval (λ x. list_all (is_over c.args.tips.now x.holding) (chains c.args.config.now)) c.loop-looked._looked o) c.in-Some.is c.loop-looked.invariant
 

@@ -12,7 +12,7 @@ use Rattle.tesla_walks.specs.ItemShown.{holding_in}
 use Rattle.tesla_state.specs.Steps.{is_passed}
 use Rattle.tesla_state.specs.Stored.{Stored, Placed, placed_in, release_in, release_by, stands_at, order_of, after_take, IsStore, IsItemOf}
 use Rattle.tesla_state.proofs.Stored.{found_shown, found_passes}
-use Rattle.tesla_state.proofs.Taken.{live_place, first_waiting, taken_store, fate_if, settled_taken, settled_shown, releases_taken, taken_by_order, found_by_order}
+use Rattle.tesla_state.proofs.Taken.{live_slot, first_waiting, taken_store, fate_if, settled_taken, settled_shown, releases_taken, taken_by_order, found_by_order}
 use Rattle.tesla_state.proofs.store.Store.take.Goals.{In-Some}
 use Rattle.tesla_state.proofs.store.Store.take.Goals as goal
 
@@ -27,7 +27,7 @@ queued c =
 
 -- and it is held
 there : (c : In-Some) → is_live c.in-Some.waiting.place.0 c.self.inside.buffer.held ≡ true
-there c = live_place c.self.inside.buffer.capacity c.self.inside.queue.capacity c.self.inside.chains c.self.inside.buffer.held c.in-Some.waiting (drop 1 c.self.inside.queue.waiting) (queued c)
+there c = live_slot c.self.inside.buffer.capacity c.self.inside.queue.capacity c.self.inside.chains c.self.inside.buffer.held c.in-Some.waiting (drop 1 c.self.inside.queue.waiting) (queued c)
 
 pub item-item-requires : goal.item-item-requires
 item-item-requires c = there (goal.at.item-item-requires c).In-Some

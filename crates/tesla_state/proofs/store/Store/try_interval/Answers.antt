@@ -8,7 +8,7 @@ use Rattle.tesla_state.specs.Stored.{is_of, is_unreleased_of}
 use Rattle.tesla_walks.specs.Walking.{left}
 use Rattle.tesla_state.proofs.Sweeping.{found_any, found_stands}
 use Rattle.std.proofs.lemmas.Bool.{and_parts}
-use Rattle.tesla_state.proofs.TriedIntervals.{Trying, trying_none, tried_place, above_there, room_there, trying_more, tried_all, none_left, unreleased_few}
+use Rattle.tesla_state.proofs.TriedIntervals.{Trying, trying_none, tried_slot, above_there, room_there, trying_more, tried_all, none_left, unreleased_few}
 use Rattle.tesla_state.proofs.Evaluations.{tried_cost, tried_whole}
 use Rattle.tesla_state.proofs.store.Store.try_interval.Goals as goal
 
@@ -39,13 +39,13 @@ returns-in_default g c =
 pub next_unreleased-next-requires : goal.next_unreleased-next-requires
 next_unreleased-next-requires g c =
     let s = subst (λ (o : Option Place). Trying c.args.newest.now.config.now c.args.newest.now.tips.now c.args.walks.now c.loop-looked.walks c.args.self.now.held c.args.interval c.loop-looked._looked o c.args.batch.now.items c.loop-looked.batch.items) c.in-Some.is c.loop-looked.invariant.walk in
-    let t = tried_place c.args.newest.now.config.now c.args.newest.now.tips.now c.args.walks.now c.loop-looked.walks c.args.self.now.held c.args.interval c.loop-looked._looked c.in-Some.place c.args.batch.now.items c.loop-looked.batch.items c.requires.apart s in
+    let t = tried_slot c.args.newest.now.config.now c.args.newest.now.tips.now c.args.walks.now c.loop-looked.walks c.args.self.now.held c.args.interval c.loop-looked._looked c.in-Some.place c.args.batch.now.items c.loop-looked.batch.items c.requires.apart s in
     found_stands c.in-Some.place.0 (λ y. not y.holding.released) t.packet c.args.self.now.held t.found (and_parts (is_of c.args.interval t.packet) (not t.packet.holding.released) t.of).1
 
 pub try_at-requires : goal.try_at-requires
 try_at-requires g c =
     let s = subst (λ (o : Option Place). Trying c.args.newest.now.config.now c.args.newest.now.tips.now c.args.walks.now c.loop-looked.walks c.args.self.now.held c.args.interval c.loop-looked._looked o c.args.batch.now.items c.loop-looked.batch.items) c.in-Some.is c.loop-looked.invariant.walk in
-    let t = tried_place c.args.newest.now.config.now c.args.newest.now.tips.now c.args.walks.now c.loop-looked.walks c.args.self.now.held c.args.interval c.loop-looked._looked c.in-Some.place c.args.batch.now.items c.loop-looked.batch.items c.requires.apart s in
+    let t = tried_slot c.args.newest.now.config.now c.args.newest.now.tips.now c.args.walks.now c.loop-looked.walks c.args.self.now.held c.args.interval c.loop-looked._looked c.in-Some.place c.args.batch.now.items c.loop-looked.batch.items c.requires.apart s in
     let room = room_there c.args.newest.now.config.now c.args.newest.now.tips.now c.args.walks.now c.loop-looked.walks c.args.self.now.held c.args.interval c.loop-looked._looked (vec_capacity c.args.batch.now) c.in-Some.place c.args.batch.now.items c.loop-looked.batch.items c.requires.apart s (omega (arith, c.requires.room, unreleased_few c.args.self.now.held c.args.interval)) in
     let kept : vec_capacity c.loop-looked.batch ≡ vec_capacity c.args.batch.now = c.loop-looked.invariant.capacity in
     record {

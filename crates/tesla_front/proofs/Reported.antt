@@ -6,7 +6,7 @@ use Rattle.tesla_desk.specs.Outside.{AppendsPrefix, with_bytes}
 use Rattle.tesla_desk.proofs.Told.{with_bytes_twice, prefix_longer, prefix_after}
 use Rattle.tesla_front.specs.Fault.{fault_line}
 use Rattle.tesla_front.specs.declared.fault.Fault.TheVariants.{Write}
-use Rattle.tesla_front.specs.Came.{Came, Done, Failed, IsDone, text_of}
+use Rattle.tesla_front.specs.OutcomeView.{OutcomeView, Done, Failed, IsDone, text_of}
 use Rattle.tesla_front.specs.Console.{Tells}
 use Rattle.tesla_front.specs.Usage.{usage_line, usage_of}
 use Rattle.tesla_front.specs.declared.forms.FormText.{FormText}
@@ -29,19 +29,19 @@ tells_lost usage lines before mid now old between new line text text_is line_is 
     inr (inr (refl, tt, omega (arith, some, stays), (take first.0 text ++ take second.0 line, (first.0, second.0, parts), written)))
 
 -- the lines of an outcome without a summary were told, or a prefix of them
-pub tells_lines : (usage : List ℕ) (came : Came) (whole : Bool) (before now : Option (List ℕ)) (old new : ℕ) → (IsDone came → ⊥) → (whole ≡ true → now ≡ with_bytes before (text_of usage came)) → AppendsPrefix before now (text_of usage came) → HasCause old new (whole ≡ false) → old ≡ 0 → Tells usage came came before now new
-tells_lines usage came true before now old new none all prefix cause e = inl (refl, cause.still (λ f. absurd cc) ∙ e, all refl)
-tells_lines usage came false before now old new none all prefix cause e = inr (inl (refl, none, rose_some old new e (cause.rose refl), prefix))
+pub tells_lines : (usage : List ℕ) (outcome : OutcomeView) (whole : Bool) (before now : Option (List ℕ)) (old new : ℕ) → (IsDone outcome → ⊥) → (whole ≡ true → now ≡ with_bytes before (text_of usage outcome)) → AppendsPrefix before now (text_of usage outcome) → HasCause old new (whole ≡ false) → old ≡ 0 → Tells usage outcome outcome before now new
+tells_lines usage outcome true before now old new none all prefix cause e = inl (refl, cause.still (λ f. absurd cc) ∙ e, all refl)
+tells_lines usage outcome false before now old new none all prefix cause e = inr (inl (refl, none, rose_some old new e (cause.rose refl), prefix))
 
 -- the second of three pieces was written in part
 pub second_prefix : (before mid now : Option (List ℕ)) (a b c piece : List ℕ) → mid ≡ with_bytes before a → piece ≡ b → AppendsPrefix mid now piece → AppendsPrefix before now (a ++ b ++ c)
-second_prefix before mid now a b c piece whole same front =
-    prefix_longer before now (a ++ b) c (prefix_after before mid now a b whole (subst (λ (p : List ℕ). AppendsPrefix mid now p) same front))
+second_prefix before mid now a b c piece whole same prefix =
+    prefix_longer before now (a ++ b) c (prefix_after before mid now a b whole (subst (λ (p : List ℕ). AppendsPrefix mid now p) same prefix))
 
 -- the third of three pieces was written in part
 pub third_prefix : (before mid late now : Option (List ℕ)) (a b c piece : List ℕ) → mid ≡ with_bytes before a → piece ≡ b → late ≡ with_bytes mid piece → AppendsPrefix late now c → AppendsPrefix before now (a ++ b ++ c)
-third_prefix before mid late now a b c piece whole same next front =
-    prefix_after before late now (a ++ b) c (next ∙ ap (with_bytes mid) same ∙ ap (λ w. with_bytes w b) whole ∙ with_bytes_twice before a b) front
+third_prefix before mid late now a b c piece whole same next prefix =
+    prefix_after before late now (a ++ b) c (next ∙ ap (with_bytes mid) same ∙ ap (λ w. with_bytes w b) whole ∙ with_bytes_twice before a b) prefix
 
 -- the lines of some forms are that of the first and those of the others
 usage_first : (forms : List FormText) (d : FormText) → 1 ≤ length forms → usage_of forms ≡ usage_line (get_or forms 0 d).words.now ++ usage_of (take (length forms - 1) (drop 1 forms))
@@ -50,13 +50,13 @@ usage_first (form ∷ forms) d some = ap (λ (l : List FormText). usage_line for
 
 -- the first of some lines was written in part
 pub usage_stops : (forms : List FormText) (d : FormText) (before now : Option (List ℕ)) → 1 ≤ length forms → AppendsPrefix before now (usage_line (get_or forms 0 d).words.now) → AppendsPrefix before now (usage_of forms)
-usage_stops forms d before now some front =
-    subst (λ (t : List ℕ). AppendsPrefix before now t) (sym (usage_first forms d some)) (prefix_longer before now (usage_line (get_or forms 0 d).words.now) (usage_of (take (length forms - 1) (drop 1 forms))) front)
+usage_stops forms d before now some prefix =
+    subst (λ (t : List ℕ). AppendsPrefix before now t) (sym (usage_first forms d some)) (prefix_longer before now (usage_line (get_or forms 0 d).words.now) (usage_of (take (length forms - 1) (drop 1 forms))) prefix)
 
 -- the first of some lines was written, and then the others in part
 pub usage_prefix : (forms : List FormText) (d : FormText) (before mid now : Option (List ℕ)) → 1 ≤ length forms → mid ≡ with_bytes before (usage_line (get_or forms 0 d).words.now) → AppendsPrefix mid now (usage_of (take (length forms - 1) (drop 1 forms))) → AppendsPrefix before now (usage_of forms)
-usage_prefix forms d before mid now some first front =
-    subst (λ (t : List ℕ). AppendsPrefix before now t) (sym (usage_first forms d some)) (prefix_after before mid now (usage_line (get_or forms 0 d).words.now) (usage_of (take (length forms - 1) (drop 1 forms))) first front)
+usage_prefix forms d before mid now some first prefix =
+    subst (λ (t : List ℕ). AppendsPrefix before now t) (sym (usage_first forms d some)) (prefix_after before mid now (usage_line (get_or forms 0 d).words.now) (usage_of (take (length forms - 1) (drop 1 forms))) first prefix)
 
 -- the first of some lines was written, and then the others
 pub usage_whole : (forms : List FormText) (d : FormText) (before mid now : Option (List ℕ)) → 1 ≤ length forms → mid ≡ with_bytes before (usage_line (get_or forms 0 d).words.now) → now ≡ with_bytes mid (usage_of (take (length forms - 1) (drop 1 forms))) → now ≡ with_bytes before (usage_of forms)

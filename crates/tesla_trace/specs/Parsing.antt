@@ -1,18 +1,18 @@
 -- Heads and entries of a trace read from left to right, as far as the bytes tell.
 use Rattle.std.specs.Prelude.{ℕ, zero, suc, ◌-◌, ◌&&◌, List, [], ◌∷◌, ◌++◌, length, Option, Some, None, nat_lt, nat_le, ◌==◌, if◌then◌else◌, codes}
 use Rattle.std.specs.Int.{Width, w16, w32, w64}
-use Rattle.tesla_base.specs.Front.{bytes_front, number_front}
+use Rattle.tesla_base.specs.Prefix.{parse_bytes, parse_number}
 use Rattle.tesla_fitting.specs.declared.verdict.Verdict.{Verdict}
 use Rattle.tesla_fitting.specs.declared.verdict.Verdict.TheVariants as verdicts
 use Rattle.tesla_receiver.specs.declared.history.Entry.{Entry}
 use Rattle.tesla_receiver.specs.declared.history.Entry.TheVariants.{Arrived, Taken, Ended}
-use Rattle.tesla_records.specs.Grammar.{Front, Awaits, Whole, Bad, HeadFront, AwaitsHead, HeadIs, NoHead}
+use Rattle.tesla_records.specs.Grammar.{Parsed, Awaits, Whole, Bad, ParsedHead, AwaitsHead, HeadIs, NoHead}
 use Rattle.tesla_state.specs.declared.replies.Reply.{Reply}
 use Rattle.tesla_state.specs.declared.replies.Reply.TheVariants.{Given, Empty, Over}
 use Rattle.tesla_trace.specs.declared.kind.EntryFault.{EntryFault}
 use Rattle.tesla_trace.specs.declared.kind.EntryFault.TheVariants.{BadKind, TooLong, BadCode}
 
--- what bytes tell of a part of an entry at their front
+-- what bytes tell of a part of an entry at their start
 pub data Part (A : Type 0) : Type 0 where
   -- nothing yet: only more bytes tell
   Short : Part A
@@ -40,13 +40,13 @@ byte_part (byte ∷ rest) = Read (byte, rest)
 
 -- a number, the highest byte first
 unfoldable pub number_part : Width → List ℕ → Part ℕ
-number_part w bytes = part_of (number_front w bytes)
+number_part w bytes = part_of (parse_number w bytes)
 
 -- at most so many bytes, behind their number
 unfoldable pub counted_part : ℕ → List ℕ → Part (List ℕ)
 counted_part most bytes = do
   n ← number_part w16 bytes
-  if nat_lt most n.0 then Wrong TooLong else part_of (bytes_front n.0 n.1)
+  if nat_lt most n.0 then Wrong TooLong else part_of (parse_bytes n.0 n.1)
 
 -- a bound, where there is one
 unfoldable pub some_bound_part : List ℕ → Part Verdict
@@ -157,43 +157,43 @@ entry_part bytes = do
   entry_by kind.0 kind.1
 
 -- an entry has the bytes before those that follow it
-abbrev pub front_of : ℕ → Part Entry → Front Entry EntryFault
-front_of had Short = Awaits
-front_of had (Wrong fault) = Bad fault
-front_of had (Read x) = Whole x.0 (had - length x.1)
+abbrev pub parse_of : ℕ → Part Entry → Parsed Entry EntryFault
+parse_of had Short = Awaits
+parse_of had (Wrong fault) = Bad fault
+parse_of had (Read x) = Whole x.0 (had - length x.1)
 
 -- what the bytes that were read of an entry tell
-unfoldable pub entry_front : List ℕ → Front Entry EntryFault
-entry_front bytes = front_of (length bytes) (entry_part bytes)
+unfoldable pub parse_entry : List ℕ → Parsed Entry EntryFault
+parse_entry bytes = parse_of (length bytes) (entry_part bytes)
 
 -- what bytes tell that have to begin with this one, told what those behind it tell
-abbrev pub byte_then : ℕ → (List ℕ → HeadFront ℕ) → List ℕ → HeadFront ℕ
+abbrev pub byte_then : ℕ → (List ℕ → ParsedHead ℕ) → List ℕ → ParsedHead ℕ
 byte_then wanted behind [] = AwaitsHead
 byte_then wanted behind (byte ∷ rest) = if byte == wanted then behind rest else NoHead
 
 -- what bytes tell that have to begin with these
-abbrev pub head_behind : List ℕ → (List ℕ → HeadFront ℕ) → List ℕ → HeadFront ℕ
+abbrev pub head_behind : List ℕ → (List ℕ → ParsedHead ℕ) → List ℕ → ParsedHead ℕ
 head_behind [] behind = behind
 head_behind (wanted ∷ magic) behind = byte_then wanted (head_behind magic behind)
 
 -- a trace is of 1 to 32 ingests
-abbrev pub ingests_front : List ℕ → HeadFront ℕ
-ingests_front [] = AwaitsHead
-ingests_front (n ∷ rest) = if nat_le 1 n && nat_le n 32 then HeadIs n else NoHead
+abbrev pub parse_ingests : List ℕ → ParsedHead ℕ
+parse_ingests [] = AwaitsHead
+parse_ingests (n ∷ rest) = if nat_le 1 n && nat_le n 32 then HeadIs n else NoHead
 
 -- what the bytes that were read of the head of a trace tell
-unfoldable pub head_front : List ℕ → HeadFront ℕ
-head_front bytes = head_behind (codes "TTRC" ++ 1 ∷ []) ingests_front bytes
+unfoldable pub parse_head : List ℕ → ParsedHead ℕ
+parse_head bytes = head_behind (codes "TTRC" ++ 1 ∷ []) parse_ingests bytes
 
 -- a number that is there
-abbrev pub number_head : Option (ℕ × List ℕ) → HeadFront ℕ
+abbrev pub number_head : Option (ℕ × List ℕ) → ParsedHead ℕ
 number_head None = AwaitsHead
 number_head (Some x) = HeadIs x.0
 
 -- a tail tells the number of its first entry
-abbrev pub first_front : List ℕ → HeadFront ℕ
-first_front bytes = number_head (number_front w64 bytes)
+abbrev pub parse_first : List ℕ → ParsedHead ℕ
+parse_first bytes = number_head (parse_number w64 bytes)
 
 -- what the bytes that were read of the head of a tail tell
-unfoldable pub tail_front : List ℕ → HeadFront ℕ
-tail_front bytes = head_behind (codes "TTAL" ++ 1 ∷ []) first_front bytes
+unfoldable pub parse_tail : List ℕ → ParsedHead ℕ
+parse_tail bytes = head_behind (codes "TTAL" ++ 1 ∷ []) parse_first bytes

@@ -25,21 +25,21 @@ no_ask : (text : List ℕ) (time : Option ℕ) → ask_of text ≡ time → 14 �
 no_ask text None is long = refl
 no_ask text (Some t_r) is long = absurd (let short : length text ≡ 13 = ap length (ask_found text t_r is).spelled in omega (arith, short, long))
 
-pub ask_front : (text : List ℕ) → ask_of (take 14 text) ≡ ask_of text
-ask_front text = same_where ask_of None 14 text (nat_lt 14 (length text)) refl (λ t long. no_ask t (ask_of t) refl long)
+pub ask_prefix : (text : List ℕ) → ask_of (take 14 text) ≡ ask_of text
+ask_prefix text = same_where ask_of None 14 text (nat_lt 14 (length text)) refl (λ t long. no_ask t (ask_of t) refl long)
 
 -- ---- replies
 
 no_reply : (key : Key) (t_r : ℕ) (text : List ℕ) → 54 ≤ length text → reply_judged text key t_r ≡ Err refusals.Malformed
 no_reply key t_r text long = malformed_only text key t_r (λ shape. let whole = shape.whole in omega (arith, whole, long))
 
-pub reply_front : (key : Key) (t_r : ℕ) (text : List ℕ) → reply_judged (take 54 text) key t_r ≡ reply_judged text key t_r
-reply_front key t_r text = same_where (λ t. reply_judged t key t_r) (Err refusals.Malformed) 54 text (nat_lt 54 (length text)) refl (no_reply key t_r)
+pub reply_prefix : (key : Key) (t_r : ℕ) (text : List ℕ) → reply_judged (take 54 text) key t_r ≡ reply_judged text key t_r
+reply_prefix key t_r text = same_where (λ t. reply_judged t key t_r) (Err refusals.Malformed) 54 text (nat_lt 54 (length text)) refl (no_reply key t_r)
 
 -- ---- keys
 
 no_key : (text : List ℕ) → 66 ≤ length text → key_of text ≡ None
 no_key text long = let test : eqb (length text) 65 ≡ false = grind (arith, nat_tests) in rw test refl
 
-pub key_front : (text : List ℕ) → key_of (take 66 text) ≡ key_of text
-key_front text = same_where key_of None 66 text (nat_lt 66 (length text)) refl no_key
+pub key_prefix : (text : List ℕ) → key_of (take 66 text) ≡ key_of text
+key_prefix text = same_where key_of None 66 text (nat_lt 66 (length text)) refl no_key

@@ -1,4 +1,4 @@
--- What is told of the first entries of a history of epochs is a front of what all of them tell.
+-- What is told of the first entries of a history of epochs is a prefix of what all of them tell.
 use Rattle.std.proofs.Common.{◌≡◌, ℕ, ◌<◌, List, [], ◌∷◌, ◌++◌, map, get_or, sym, ap, subst, ◌∙◌}
 use Rattle.std.proofs.lemmas.List.{get_or_append_left, map-append}
 use Rattle.std.proofs.lemmas.List.Concat.{flat_map-append}
@@ -11,13 +11,13 @@ use Rattle.tesla_rollover.specs.Epochs.{IsRollLegal, IsRollLegalAfter}
 use Rattle.tesla_rollover.specs.History.{RollEntry, config_at, config_with, configs_in, entries_on, epoch_count, history_at, setup_opened, setups_opened}
 use Rattle.tesla_rollover.proofs.Legal.{configs_count}
 
-legal_after_front : (cfg : Config) (before h more : List RollEntry) → IsRollLegalAfter cfg before (h ++ more) → IsRollLegalAfter cfg before h
-legal_after_front cfg before [] more l = tt
-legal_after_front cfg before (e ∷ h) more l = (l.0, legal_after_front cfg (before ++ e ∷ []) h more l.1)
+legal_after_prefix : (cfg : Config) (before h more : List RollEntry) → IsRollLegalAfter cfg before (h ++ more) → IsRollLegalAfter cfg before h
+legal_after_prefix cfg before [] more l = tt
+legal_after_prefix cfg before (e ∷ h) more l = (l.0, legal_after_prefix cfg (before ++ e ∷ []) h more l.1)
 
--- a front of a legal history is legal
-pub roll_legal_front : (cfg : Config) (h more : List RollEntry) → IsRollLegal cfg (h ++ more) → IsRollLegal cfg h
-roll_legal_front cfg h more l = legal_after_front cfg [] h more l
+-- a prefix of a legal history is legal
+pub roll_legal_prefix : (cfg : Config) (h more : List RollEntry) → IsRollLegal cfg (h ++ more) → IsRollLegal cfg h
+roll_legal_prefix cfg h more l = legal_after_prefix cfg [] h more l
 
 -- each epoch's history only grows
 pub history_grows : (ingests : ℕ) (h more : List RollEntry) (epoch : ℕ) → (rest : List Entry) × (history_at ingests (h ++ more) epoch ≡ history_at ingests h epoch ++ rest)

@@ -1,5 +1,5 @@
 use Rattle.tesla_world.proofs.Early.{insecure}
-use Rattle.tesla_world.proofs.laws.told_early.Goals as goal
+use Rattle.tesla_world.proofs.laws.disclosed_early.Goals as goal
 
 pub returns : goal.returns
 returns c = insecure

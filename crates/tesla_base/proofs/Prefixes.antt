@@ -1,10 +1,10 @@
--- What is read off the front of bytes is what was written there, and what was written is read again.
+-- What is read off the start of bytes is what was written there, and what was written is read again.
 use Rattle.std.proofs.Common.{◌≡◌, ℕ, zero, suc, ◌^◌, ◌<◌, ◌≤◌, Bool, true, false, cond, ltb, List, [], ◌∷◌, ◌++◌, length, take, drop, get_or, Option, Some, None, refl, sym, ap, subst, ◌∙◌, append_assoc, arith}
 use Rattle.std.specs.Int.{Width, w16, w32, w64, byte_len, from_be_bytes, to_be_bytes}
 use Rattle.std.proofs.lemmas.Bool.{ltb-true, ltb-false, le-ltb}
 use Rattle.std.proofs.lemmas.List.{take_at, drop_at, take-append-le, drop-append-le, take-append-drop, length-append, length-take, length-drop}
 use Rattle.std.proofs.lemmas.Nat.{be_bytes_2, be_bytes_4, be_bytes_8, from_be_bytes-to_be_bytes_2, from_be_bytes-to_be_bytes_4, from_be_bytes-to_be_bytes_8}
-use Rattle.tesla_base.specs.Front.{AreBytes, ◌>>=◌, bytes_front, number_front}
+use Rattle.tesla_base.specs.Prefix.{AreBytes, ◌>>=◌, parse_bytes, parse_number}
 
 -- ---- bytes
 
@@ -14,7 +14,7 @@ AreBytes-drop zero bytes h = h
 AreBytes-drop (suc n) [] h = h
 AreBytes-drop (suc n) (b ∷ bytes) h = AreBytes-drop n bytes h.1
 
--- a front of bytes is bytes
+-- a prefix of bytes is bytes
 pub AreBytes-take : (n : ℕ) (bytes : List ℕ) → AreBytes bytes → AreBytes (take n bytes)
 AreBytes-take zero bytes h = tt
 AreBytes-take (suc n) [] h = tt
@@ -89,7 +89,7 @@ pub record IsField {A : Type 0} (at : List ℕ → Option (A × List ℕ)) (text
 
 -- ---- so many bytes, and numbers
 
-pub bytes_take : (n : ℕ) (bytes : List ℕ) (x : List ℕ × List ℕ) → AreBytes bytes → bytes_front n bytes ≡ Some x → Takes bytes x.0 x.1 × (length x.0 ≡ n) × AreBytes x.0
+pub bytes_take : (n : ℕ) (bytes : List ℕ) (x : List ℕ × List ℕ) → AreBytes bytes → parse_bytes n bytes ≡ Some x → Takes bytes x.0 x.1 × (length x.0 ≡ n) × AreBytes x.0
 bytes_take n bytes x fits e =
     let g = guard_some (ltb (length bytes) n) (Some (take n bytes, drop n bytes)) x e in
     let long : n ≤ length bytes = ltb-false _ _ g.0 in
@@ -97,7 +97,7 @@ bytes_take n bytes x fits e =
     subst (λ (p : List ℕ × List ℕ). Takes bytes p.0 p.1 × (length p.0 ≡ n) × AreBytes p.0) (some_is (take n bytes, drop n bytes) x g.1)
     (record { parts = sym (take-append-drop n bytes); rest_fits = AreBytes-drop n bytes fits }, len, AreBytes-take n bytes fits)
 
-pub bytes_again : (n : ℕ) (x rest : List ℕ) → length x ≡ n → bytes_front n (x ++ rest) ≡ Some (x, rest)
+pub bytes_again : (n : ℕ) (x rest : List ℕ) → length x ≡ n → parse_bytes n (x ++ rest) ≡ Some (x, rest)
 bytes_again n x rest len =
     let long : ltb (length (x ++ rest)) n ≡ false = le-ltb _ _ (omega (arith, length-append x rest)) in
     rw (long, take_at x rest n len, drop_at x rest n len) refl
@@ -132,7 +132,7 @@ wide64 = record {
   below = λ bytes fits. omega (arith, byte_at bytes fits 0, byte_at bytes fits 1, byte_at bytes fits 2, byte_at bytes fits 3, byte_at bytes fits 4, byte_at bytes fits 5, byte_at bytes fits 6, byte_at bytes fits 7);
 }
 
-number_takes : (w : Width) (limit : ℕ) (wide : IsWide w limit) (bytes : List ℕ) (x : ℕ × List ℕ) → AreBytes bytes → number_front w bytes ≡ Some x → Takes bytes (to_be_bytes w x.0) x.1 × (x.0 < limit)
+number_takes : (w : Width) (limit : ℕ) (wide : IsWide w limit) (bytes : List ℕ) (x : ℕ × List ℕ) → AreBytes bytes → parse_number w bytes ≡ Some x → Takes bytes (to_be_bytes w x.0) x.1 × (x.0 < limit)
 number_takes w limit wide bytes x fits e =
     let n = byte_len w in
     let g = guard_some (ltb (length bytes) n) (Some (from_be_bytes w (take n bytes), drop n bytes)) x e in
@@ -141,28 +141,28 @@ number_takes w limit wide bytes x fits e =
     subst (λ (p : ℕ × List ℕ). Takes bytes (to_be_bytes w p.0) p.1 × (p.0 < limit)) (some_is (from_be_bytes w (take n bytes), drop n bytes) x g.1)
     (record { parts = rw same (sym (take-append-drop n bytes)); rest_fits = AreBytes-drop n bytes fits }, wide.below (take n bytes) (AreBytes-take n bytes fits))
 
-number_again : (w : Width) (limit : ℕ) (wide : IsWide w limit) (n : ℕ) (rest : List ℕ) → n < limit → number_front w (to_be_bytes w n ++ rest) ≡ Some (n, rest)
+number_again : (w : Width) (limit : ℕ) (wide : IsWide w limit) (n : ℕ) (rest : List ℕ) → n < limit → parse_number w (to_be_bytes w n ++ rest) ≡ Some (n, rest)
 number_again w limit wide n rest lt =
     let len = wide.len n in
     let long : ltb (length (to_be_bytes w n ++ rest)) (byte_len w) ≡ false = le-ltb _ _ (omega (arith, length-append (to_be_bytes w n) rest)) in
     rw (long, take_at (to_be_bytes w n) rest (byte_len w) len, drop_at (to_be_bytes w n) rest (byte_len w) len, wide.again n lt) refl
 
-number_field : (w : Width) (limit : ℕ) → IsWide w limit → IsField (number_front w) (to_be_bytes w) (λ n. n < limit)
+number_field : (w : Width) (limit : ℕ) → IsWide w limit → IsField (parse_number w) (to_be_bytes w) (λ n. n < limit)
 number_field w limit wide = record { takes = number_takes w limit wide; again = number_again w limit wide }
 
-pub field16 : IsField (number_front w16) (to_be_bytes w16) (λ n. n < 2 ^ 16)
+pub field16 : IsField (parse_number w16) (to_be_bytes w16) (λ n. n < 2 ^ 16)
 field16 = number_field w16 (2 ^ 16) wide16
 
-pub field32 : IsField (number_front w32) (to_be_bytes w32) (λ n. n < 2 ^ 32)
+pub field32 : IsField (parse_number w32) (to_be_bytes w32) (λ n. n < 2 ^ 32)
 field32 = number_field w32 (2 ^ 32) wide32
 
-pub field64 : IsField (number_front w64) (to_be_bytes w64) (λ n. n < 2 ^ 64)
+pub field64 : IsField (parse_number w64) (to_be_bytes w64) (λ n. n < 2 ^ 64)
 field64 = number_field w64 (2 ^ 64) wide64
 
 -- ---- what stands behind a number
 
 -- a number that is there has its bytes
-pub number_parts : (w : Width) (bytes : List ℕ) (x : ℕ × List ℕ) → number_front w bytes ≡ Some x → (byte_len w ≤ length bytes) × (x.0 ≡ from_be_bytes w (take (byte_len w) bytes)) × (x.1 ≡ drop (byte_len w) bytes)
+pub number_parts : (w : Width) (bytes : List ℕ) (x : ℕ × List ℕ) → parse_number w bytes ≡ Some x → (byte_len w ≤ length bytes) × (x.0 ≡ from_be_bytes w (take (byte_len w) bytes)) × (x.1 ≡ drop (byte_len w) bytes)
 number_parts w bytes x e =
     let n = byte_len w in
     let g = guard_some (ltb (length bytes) n) (Some (from_be_bytes w (take n bytes), drop n bytes)) x e in
@@ -170,7 +170,7 @@ number_parts w bytes x e =
     (ltb-false _ _ g.0, ap (λ (y : ℕ × List ℕ). y.0) (sym same), ap (λ (y : ℕ × List ℕ). y.1) (sym same))
 
 -- a number that is there stays so, whatever follows
-pub number_more : (w : Width) (bytes more : List ℕ) (x : ℕ × List ℕ) → number_front w bytes ≡ Some x → number_front w (bytes ++ more) ≡ Some (x.0, x.1 ++ more)
+pub number_more : (w : Width) (bytes more : List ℕ) (x : ℕ × List ℕ) → parse_number w bytes ≡ Some x → parse_number w (bytes ++ more) ≡ Some (x.0, x.1 ++ more)
 number_more w bytes more x e =
     let n = byte_len w in
     let parts = number_parts w bytes x e in
@@ -179,17 +179,17 @@ number_more w bytes more x e =
     rw (long, take-append-le n bytes more fits, drop-append-le n bytes more fits, sym parts.1, sym parts.2) refl
 
 -- a number that isn't there is short of bytes
-pub number_none : (w : Width) (bytes : List ℕ) → number_front w bytes ≡ None → length bytes < byte_len w
+pub number_none : (w : Width) (bytes : List ℕ) → parse_number w bytes ≡ None → length bytes < byte_len w
 number_none w bytes e = ltb-true _ _ (guard_none (ltb (length bytes) (byte_len w)) (from_be_bytes w (take (byte_len w) bytes), drop (byte_len w) bytes) e)
 
 -- ---- the bytes after a field are no more
 
-pub bytes_shorter : (n : ℕ) (bytes : List ℕ) (x : List ℕ × List ℕ) → bytes_front n bytes ≡ Some x → length x.1 ≤ length bytes
+pub bytes_shorter : (n : ℕ) (bytes : List ℕ) (x : List ℕ × List ℕ) → parse_bytes n bytes ≡ Some x → length x.1 ≤ length bytes
 bytes_shorter n bytes x e =
     let g = guard_some (ltb (length bytes) n) (Some (take n bytes, drop n bytes)) x e in
     subst (λ (p : List ℕ × List ℕ). length p.1 ≤ length bytes) (some_is (take n bytes, drop n bytes) x g.1) (omega (arith, length-drop n bytes))
 
-pub number_shorter : (w : Width) (bytes : List ℕ) (x : ℕ × List ℕ) → number_front w bytes ≡ Some x → length x.1 ≤ length bytes
+pub number_shorter : (w : Width) (bytes : List ℕ) (x : ℕ × List ℕ) → parse_number w bytes ≡ Some x → length x.1 ≤ length bytes
 number_shorter w bytes x e =
     let n = byte_len w in
     let g = guard_some (ltb (length bytes) n) (Some (from_be_bytes w (take n bytes), drop n bytes)) x e in

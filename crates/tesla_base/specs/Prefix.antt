@@ -1,4 +1,4 @@
--- What stands at the front of bytes, with the bytes after it.
+-- What stands at the start of bytes, with the bytes after it.
 use Rattle.std.specs.Prelude.{ℕ, ◌<◌, List, length, take, drop, Option, Some, None, nat_lt, if◌then◌else◌}
 use Rattle.std.specs.List.{AllByRecursion}
 use Rattle.std.specs.Int.{Width, byte_len, from_be_bytes}
@@ -14,11 +14,11 @@ None >>= f = None
 (Some x) >>= f = f x
 
 -- so many bytes
-abbrev pub bytes_front : ℕ → List ℕ → Option (List ℕ × List ℕ)
-bytes_front n bytes = if nat_lt (length bytes) n then None else Some (take n bytes, drop n bytes)
+abbrev pub parse_bytes : ℕ → List ℕ → Option (List ℕ × List ℕ)
+parse_bytes n bytes = if nat_lt (length bytes) n then None else Some (take n bytes, drop n bytes)
 
 -- the number whose bytes stand there, the highest first
-abbrev pub number_front : Width → List ℕ → Option (ℕ × List ℕ)
-number_front w bytes =
+abbrev pub parse_number : Width → List ℕ → Option (ℕ × List ℕ)
+parse_number w bytes =
     if nat_lt (length bytes) (byte_len w) then None
     else Some (from_be_bytes w (take (byte_len w) bytes), drop (byte_len w) bytes)

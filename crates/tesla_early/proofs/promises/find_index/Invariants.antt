@@ -3,7 +3,7 @@ use Rattle.std.specs.Prelude.{find, slice_get, None}
 use Rattle.sha2.specs.Sha256.{sha256}
 use Rattle.tesla_links.specs.Lists.{list_of}
 use Rattle.tesla_early.specs.Ring.{IsDigest, is_found}
-use Rattle.tesla_early.proofs.promises.find_place.Given as goal
+use Rattle.tesla_early.proofs.promises.find_index.Given as goal
 
 -- no promise of the places so far is found, and the next place stands behind them
 abbrev pub invariant-loop : goal.invariant-loop

@@ -1,4 +1,4 @@
--- What the first entries of a history teach and accept is a front of what all of them do.
+-- What the first entries of a history teach and accept is a prefix of what all of them do.
 use Rattle.std.proofs.Common.{◌≡◌, ◌≤◌, ℕ, zero, suc, List, [], ◌++◌, length, map, refl, sym, ap, ⊎_elim, ◌∙◌, append_assoc, arith}
 use Rattle.std.proofs.lemmas.Bool.{cases_eq}
 use Rattle.std.proofs.lemmas.List.{append-nil, length-append, take_at}
@@ -12,7 +12,7 @@ use Rattle.tesla_early.specs.Early.{learnt}
 use Rattle.tesla_early.specs.Laws.{origin_of}
 use Rattle.tesla_early.specs.Counted.{early_arrivals, early_in}
 use Rattle.tesla_early.proofs.Steps.{origins, origins_step, origins_taught, origins_with}
-use Rattle.tesla_early.proofs.Places.{origins_all}
+use Rattle.tesla_early.proofs.Origins.{origins_all}
 
 origins_grow : (most : ℕ) (h : List Entry) (n m : ℕ) → n ≤ m → (rest : List (ℕ × Promise)) × (origins most h m ≡ origins most h n ++ rest)
 origins_grow most h n zero later = ([], (let same : 0 ≡ n = omega arith in ap (origins most h) same) ∙ sym (append-nil (origins most h n)))
@@ -35,7 +35,7 @@ pub learnt_grows : (most : ℕ) (h more : List Entry) → (rest : List (ℕ × P
 learnt_grows most h more =
     let all = h ++ more in
     let grown = origins_grow most all (length h) (length all) (let size = length-append h more in omega arith) in
-    (grown.0, sym (origins_all most all) ∙ grown.1 ∙ ap (λ front. map origin_of (learnt most front) ++ grown.0) (take_at h more (length h) refl))
+    (grown.0, sym (origins_all most all) ∙ grown.1 ∙ ap (λ prefix. map origin_of (learnt most prefix) ++ grown.0) (take_at h more (length h) refl))
 
 -- what was early stays early
 pub early_grows : (most : ℕ) (h more : List Entry) → (rest : List Arrival) × (early_arrivals most (h ++ more) ≡ early_arrivals most h ++ rest)

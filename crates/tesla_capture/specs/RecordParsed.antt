@@ -3,11 +3,11 @@ use Rattle.std.proofs.Common.{◌≡◌, ℕ, suc, ◌+◌, ◌<◌, ◌≤◌, 
 use Rattle.std.specs.Prelude.{if◌then◌else◌}
 use Rattle.std.specs.Int.{w16, w64}
 use Rattle.std.proofs.lemmas.Bool.{ltb-true, ltb-false, le-ltb, lt-ltb}
-use Rattle.tesla_base.specs.Front.{AreBytes, number_front}
-use Rattle.tesla_base.proofs.Fronts.{Takes, field64, number_more, number_none, number_parts, some_is}
-use Rattle.tesla_records.specs.Grammar.{Front, Awaits, Whole, Bad}
+use Rattle.tesla_base.specs.Prefix.{AreBytes, parse_number}
+use Rattle.tesla_base.proofs.Prefixes.{Takes, field64, number_more, number_none, number_parts, some_is}
+use Rattle.tesla_records.specs.Grammar.{Parsed, Awaits, Whole, Bad}
 use Rattle.tesla_capture.specs.Formats.{bare_text, bare_reading}
-use Rattle.tesla_capture.specs.Front.{bare_front, bare_size, carrying_front, length_front, reading_at, record_front}
+use Rattle.tesla_capture.specs.Parsing.{parse_bare, bare_size, parse_carrying, parse_length, reading_at, parse_record}
 use Rattle.tesla_capture.specs.Grammar.{Grammar}
 use Rattle.tesla_capture.specs.declared.record.RecordFault.{RecordFault}
 use Rattle.tesla_capture.specs.declared.record.RecordFault.TheVariants.{TooLong}
@@ -16,31 +16,31 @@ use Rattle.tesla_capture.specs.declared.record.RecordFault.TheVariants.{TooLong}
 
 -- what is seen behind the kind: no reading yet, no length yet, one above the limit, too few bytes, or all
 pub data Sees (longest : ℕ) (rest : List ℕ) : Type 0 where
-  NoReading : number_front w64 rest ≡ None → Sees longest rest
-  NoLength : (x : ℕ × List ℕ) → number_front w64 rest ≡ Some x → number_front w16 x.1 ≡ None → Sees longest rest
-  TooMany : (x y : ℕ × List ℕ) → number_front w64 rest ≡ Some x → number_front w16 x.1 ≡ Some y → longest < y.0 → Sees longest rest
-  NoBytes : (x y : ℕ × List ℕ) → number_front w64 rest ≡ Some x → number_front w16 x.1 ≡ Some y → y.0 ≤ longest → length y.1 < y.0 → Sees longest rest
-  There : (x y : ℕ × List ℕ) → number_front w64 rest ≡ Some x → number_front w16 x.1 ≡ Some y → y.0 ≤ longest → y.0 ≤ length y.1 → Sees longest rest
+  NoReading : parse_number w64 rest ≡ None → Sees longest rest
+  NoLength : (x : ℕ × List ℕ) → parse_number w64 rest ≡ Some x → parse_number w16 x.1 ≡ None → Sees longest rest
+  TooMany : (x y : ℕ × List ℕ) → parse_number w64 rest ≡ Some x → parse_number w16 x.1 ≡ Some y → longest < y.0 → Sees longest rest
+  NoBytes : (x y : ℕ × List ℕ) → parse_number w64 rest ≡ Some x → parse_number w16 x.1 ≡ Some y → y.0 ≤ longest → length y.1 < y.0 → Sees longest rest
+  There : (x y : ℕ × List ℕ) → parse_number w64 rest ≡ Some x → parse_number w16 x.1 ≡ Some y → y.0 ≤ longest → y.0 ≤ length y.1 → Sees longest rest
 
 module _ (longest : ℕ) (rest : List ℕ) where
-  sees_bytes : (x y : ℕ × List ℕ) (short : Bool) → number_front w64 rest ≡ Some x → number_front w16 x.1 ≡ Some y → y.0 ≤ longest → ltb (length y.1) y.0 ≡ short → Sees longest rest
+  sees_bytes : (x y : ℕ × List ℕ) (short : Bool) → parse_number w64 rest ≡ Some x → parse_number w16 x.1 ≡ Some y → y.0 ≤ longest → ltb (length y.1) y.0 ≡ short → Sees longest rest
   sees_bytes x y true e f few is = NoBytes x y e f few (ltb-true _ _ is)
   sees_bytes x y false e f few is = There x y e f few (ltb-false _ _ is)
 
-  sees_few : (x y : ℕ × List ℕ) (many : Bool) → number_front w64 rest ≡ Some x → number_front w16 x.1 ≡ Some y → ltb longest y.0 ≡ many → Sees longest rest
+  sees_few : (x y : ℕ × List ℕ) (many : Bool) → parse_number w64 rest ≡ Some x → parse_number w16 x.1 ≡ Some y → ltb longest y.0 ≡ many → Sees longest rest
   sees_few x y true e f is = TooMany x y e f (ltb-true _ _ is)
   sees_few x y false e f is = sees_bytes x y (ltb (length y.1) y.0) e f (ltb-false _ _ is) refl
 
-  sees_length : (x : ℕ × List ℕ) (o : Option (ℕ × List ℕ)) → number_front w64 rest ≡ Some x → number_front w16 x.1 ≡ o → Sees longest rest
+  sees_length : (x : ℕ × List ℕ) (o : Option (ℕ × List ℕ)) → parse_number w64 rest ≡ Some x → parse_number w16 x.1 ≡ o → Sees longest rest
   sees_length x None e f = NoLength x e f
   sees_length x (Some y) e f = sees_few x y (ltb longest y.0) e f refl
 
-  sees_reading : (o : Option (ℕ × List ℕ)) → number_front w64 rest ≡ o → Sees longest rest
+  sees_reading : (o : Option (ℕ × List ℕ)) → parse_number w64 rest ≡ o → Sees longest rest
   sees_reading None e = NoReading e
-  sees_reading (Some x) e = sees_length x (number_front w16 x.1) e refl
+  sees_reading (Some x) e = sees_length x (parse_number w16 x.1) e refl
 
   pub sees : Sees longest rest
-  sees = sees_reading (number_front w64 rest) refl
+  sees = sees_reading (parse_number w64 rest) refl
 
 -- ---- records of kind 2
 
@@ -83,34 +83,34 @@ bare_some false = omega arith
 -- ---- what both tell
 
 module _ (G : Grammar) where
-  unfoldable pub sees_front : (rest : List ℕ) → Sees G.longest rest → Front G.Record RecordFault
-  sees_front rest (NoReading e) = Awaits
-  sees_front rest (NoLength x e f) = Awaits
-  sees_front rest (TooMany x y e f many) = Bad TooLong
-  sees_front rest (NoBytes x y e f few short) = Awaits
-  sees_front rest (There x y e f few there) = Whole (G.carrying x.0 (take y.0 y.1)) (11 + y.0)
+  unfoldable pub parse_seen : (rest : List ℕ) → Sees G.longest rest → Parsed G.Record RecordFault
+  parse_seen rest (NoReading e) = Awaits
+  parse_seen rest (NoLength x e f) = Awaits
+  parse_seen rest (TooMany x y e f many) = Bad TooLong
+  parse_seen rest (NoBytes x y e f few short) = Awaits
+  parse_seen rest (There x y e f few there) = Whole (G.carrying x.0 (take y.0 y.1)) (11 + y.0)
 
-  pub sees_told : (rest : List ℕ) (s : Sees G.longest rest) → record_front G (1 ∷ rest) ≡ sees_front rest s
-  unfolding record_front sees_front
-  sees_told rest (NoReading e) = ap (carrying_front G) e
-  sees_told rest (NoLength x e f) = ap (carrying_front G) e ∙ ap (length_front G x.0) f
-  sees_told rest (TooMany x y e f many) =
-      ap (carrying_front G) e ∙ ap (length_front G x.0) f
+  pub parse_seen_is : (rest : List ℕ) (s : Sees G.longest rest) → parse_record G (1 ∷ rest) ≡ parse_seen rest s
+  unfolding parse_record parse_seen
+  parse_seen_is rest (NoReading e) = ap (parse_carrying G) e
+  parse_seen_is rest (NoLength x e f) = ap (parse_carrying G) e ∙ ap (parse_length G x.0) f
+  parse_seen_is rest (TooMany x y e f many) =
+      ap (parse_carrying G) e ∙ ap (parse_length G x.0) f
       ∙ ap (λ (t : Bool). if t then Bad TooLong else if ltb (length y.1) y.0 then Awaits else Whole (G.carrying x.0 (take y.0 y.1)) (11 + y.0)) (lt-ltb _ _ many)
-  sees_told rest (NoBytes x y e f few short) =
-      ap (carrying_front G) e ∙ ap (length_front G x.0) f
+  parse_seen_is rest (NoBytes x y e f few short) =
+      ap (parse_carrying G) e ∙ ap (parse_length G x.0) f
       ∙ ap (λ (t : Bool). if t then Bad TooLong else if ltb (length y.1) y.0 then Awaits else Whole (G.carrying x.0 (take y.0 y.1)) (11 + y.0)) (le-ltb _ _ few)
       ∙ ap (λ (t : Bool). if t then Awaits else Whole (G.carrying x.0 (take y.0 y.1)) (11 + y.0)) (lt-ltb _ _ short)
-  sees_told rest (There x y e f few there) =
-      ap (carrying_front G) e ∙ ap (length_front G x.0) f
+  parse_seen_is rest (There x y e f few there) =
+      ap (parse_carrying G) e ∙ ap (parse_length G x.0) f
       ∙ ap (λ (t : Bool). if t then Bad TooLong else if ltb (length y.1) y.0 then Awaits else Whole (G.carrying x.0 (take y.0 y.1)) (11 + y.0)) (le-ltb _ _ few)
       ∙ ap (λ (t : Bool). if t then Awaits else Whole (G.carrying x.0 (take y.0 y.1)) (11 + y.0)) (le-ltb _ _ there)
 
-  pub bare_told : (rest : List ℕ) → record_front G (2 ∷ rest) ≡ bare_front G (reading_at G.timed rest)
-  unfolding record_front
-  bare_told rest = refl
+  pub parse_bare_is : (rest : List ℕ) → parse_record G (2 ∷ rest) ≡ parse_bare G (reading_at G.timed rest)
+  unfolding parse_record
+  parse_bare_is rest = refl
 
   -- a record of kind 2 is never refused
-  pub bare_bad : (o : Option (ℕ × List ℕ)) (fault : RecordFault) → bare_front G o ≡ Bad fault → ⊥
+  pub bare_bad : (o : Option (ℕ × List ℕ)) (fault : RecordFault) → parse_bare G o ≡ Bad fault → ⊥
   bare_bad None fault w = absurd cc
   bare_bad (Some x) fault w = absurd cc

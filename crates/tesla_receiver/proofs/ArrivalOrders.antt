@@ -19,13 +19,13 @@ use Rattle.tesla_receiver.specs.Packets.{packet_of, proves, release_on, release_
 abbrev pub is_below : ℕ → Release → Bool
 is_below n release = nat_lt release.place n
 
-on_below : (n place : ℕ) (packet : Packet) (o : Option ℕ) → place < n → list_all (is_below n) (release_on place packet.frame o) ≡ true
-on_below n place packet None h = refl
-on_below n place packet (Some chain) h = and_from (nat_lt place n) true (lt-ltb place n h) refl
+on_below : (n order : ℕ) (packet : Packet) (o : Option ℕ) → order < n → list_all (is_below n) (release_on order packet.frame o) ≡ true
+on_below n order packet None h = refl
+on_below n order packet (Some chain) h = and_from (nat_lt order n) true (lt-ltb order n h) refl
 
-of_below : (cfg : Config) (before : List Arrival) (new : List KeyRow) (n place : ℕ) (o : Option Packet) → place < n → list_all (is_below n) (release_of cfg before new place o) ≡ true
-of_below cfg before new n place None h = refl
-of_below cfg before new n place (Some packet) h = on_below n place packet (find (proves cfg before new packet) (chains cfg)) h
+of_below : (cfg : Config) (before : List Arrival) (new : List KeyRow) (n order : ℕ) (o : Option Packet) → order < n → list_all (is_below n) (release_of cfg before new order o) ≡ true
+of_below cfg before new n order None h = refl
+of_below cfg before new n order (Some packet) h = on_below n order packet (find (proves cfg before new packet) (chains cfg)) h
 
 pub proved_below : (cfg : Config) (before : List Arrival) (new : List KeyRow) (n m : ℕ) (xs : List Arrival) → m + length xs ≤ n → list_all (is_below n) (flat_map (λ (p : ℕ × Arrival). release_of cfg before new p.0 (packet_of p.1)) (enumerate_from m xs)) ≡ true
 proved_below cfg before new n m [] h = refl

@@ -6,8 +6,8 @@ use Rattle.tesla_base.proofs.Lists.{find_here, find_none_more}
 use Rattle.tesla_base.proofs.Members.{in_got, next_at}
 use Rattle.tesla_links.specs.Lists.{list_of}
 use Rattle.tesla_early.specs.Ring.{is_found}
-use Rattle.tesla_early.proofs.promises.find_place.Goals.{After-is_of_message}
-use Rattle.tesla_early.proofs.promises.find_place.Goals as goal
+use Rattle.tesla_early.proofs.promises.find_index.Goals.{After-is_of_message}
+use Rattle.tesla_early.proofs.promises.find_index.Goals as goal
 
 pub bounds-slots-place : goal.bounds-slots-place
 bounds-slots-place c = c.requires.within c.in-Some.place (in_got (list_of c.args.buckets.now c.args.bucket) c.loop.counter c.in-Some.place (sym c.loop.invariant.next ∙ c.in-Some.is))
@@ -23,9 +23,9 @@ pub returns-then-is_of_message : goal.returns-then-is_of_message
 returns-then-is_of_message c =
     let xs = list_of c.args.buckets.now c.args.bucket in
     let n = c.loop.counter in
-    let place = c.in-Some.place in
+    let index = c.in-Some.place in
     let own = tested (goal.at.returns-then-is_of_message c).After-is_of_message in
-    sym (find_here (is_found c.args.slots.now c.args.name (sha256 c.args.payload.now)) xs n place (slice_get_within xs n place own.0) c.loop.invariant.none (own.1 ∙ c.if-is_of_message.true) ∙ ap Some (get_or_from_slice_get xs n place place own.0))
+    sym (find_here (is_found c.args.slots.now c.args.name (sha256 c.args.payload.now)) xs n index (slice_get_within xs n index own.0) c.loop.invariant.none (own.1 ∙ c.if-is_of_message.true) ∙ ap Some (get_or_from_slice_get xs n index index own.0))
 
 pub next-next-requires-clause-place : goal.next-next-requires-clause-place
 next-next-requires-clause-place c = in_got (list_of c.args.buckets.now c.args.bucket) c.loop.counter c.in-Some.place (sym c.loop.invariant.next ∙ c.in-Some.is)
