@@ -27,8 +27,8 @@ returns-then-is_of_message c =
     let own = tested (goal.at.returns-then-is_of_message c).After-is_of_message in
     sym (find_here (is_found c.args.slots.now c.args.name (sha256 c.args.payload.now)) xs n index (slice_get_within xs n index own.0) c.loop.invariant.none (own.1 ∙ c.if-is_of_message.true) ∙ ap Some (get_or_from_slice_get xs n index index own.0))
 
-pub next-next-requires-clause-place : goal.next-next-requires-clause-place
-next-next-requires-clause-place c = in_got (list_of c.args.buckets.now c.args.bucket) c.loop.counter c.in-Some.place (sym c.loop.invariant.next ∙ c.in-Some.is)
+pub next-next-requires-clause-slot : goal.next-next-requires-clause-slot
+next-next-requires-clause-slot c = in_got (list_of c.args.buckets.now c.args.bucket) c.loop.counter c.in-Some.place (sym c.loop.invariant.next ∙ c.in-Some.is)
 
 pub loop-preserved : goal.loop-preserved
 loop-preserved c =
