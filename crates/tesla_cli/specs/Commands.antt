@@ -17,8 +17,8 @@ use Rattle.tesla_run_chain.specs.Chain.{chain}
 use Rattle.tesla_run_chain.specs.Usage as chains
 use Rattle.tesla_run_early.specs.Early.{early}
 use Rattle.tesla_run_early.specs.Usage as earlies
-use Rattle.tesla_run_lag.specs.Lag.{lag}
-use Rattle.tesla_run_lag.specs.Arguments as lags
+use Rattle.tesla_run_ask.specs.lag.Lag.{lag}
+use Rattle.tesla_run_ask.specs.lag.Arguments as lags
 use Rattle.tesla_run_replay.specs.Replay.{replay}
 use Rattle.tesla_run_replay.specs.Usage as replays
 use Rattle.tesla_run_roll.specs.Roll.{roll}

@@ -14,7 +14,7 @@ ghost use Rattle.tesla_run_ask.specs.Replying.{reply};
 ghost use Rattle.tesla_run_audit.specs.Audit.{audit};
 ghost use Rattle.tesla_run_chain.specs.Chain.{chain};
 ghost use Rattle.tesla_run_early.specs.Early.{early};
-ghost use Rattle.tesla_run_lag.specs.Lag.{lag};
+ghost use Rattle.tesla_run_ask.specs.lag.Lag.{lag};
 ghost use Rattle.tesla_run_replay.specs.Replay.{replay};
 ghost use Rattle.tesla_run_roll.specs.Roll.{roll};
 ghost use Rattle.tesla_run_send.specs.Send.{send};

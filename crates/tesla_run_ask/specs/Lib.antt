@@ -3,3 +3,4 @@ pub mod Writing
 pub mod Asking
 pub mod Replying
 pub mod Steps
+pub mod lag
