@@ -12,8 +12,8 @@ use Rattle.tesla_run_capture.specs.Capture.{capture}
 use Rattle.tesla_run_capture.specs.Arguments as capturing
 use Rattle.tesla_run_feed.specs.Feeding.{feed}
 use Rattle.tesla_run_feed.specs.Arguments as feeding
-use Rattle.tesla_run_play.specs.Playing.{play}
-use Rattle.tesla_run_play.specs.Arguments as playing
+use Rattle.tesla_run_relay.specs.play.Playing.{play}
+use Rattle.tesla_run_relay.specs.play.Arguments as playing
 use Rattle.tesla_run_receive.specs.Receive.{receive}
 use Rattle.tesla_run_receive.specs.Usage as receiving
 use Rattle.tesla_run_record.specs.Record.{recording}

@@ -12,8 +12,8 @@ use std::thread::Threads;
 use tesla_desk::Desk;
 use tesla_front::{FormText, LiveRun, Outcome, is_named, run_table, without_history};
 use tesla_receiver::Receiver;
-use tesla_run_play::{PLAY, run_play};
 use tesla_run_receive::{RECEIVE, run_receive};
+use tesla_run_relay::play::{PLAY, run_play};
 use tesla_run_relay::{RELAY, run_relay};
 use tesla_turn::Last;
 

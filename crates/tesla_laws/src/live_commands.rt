@@ -14,8 +14,8 @@ ghost use Rattle.tesla_run_capture.specs.Arguments.{CaptureArguments, IsCaptureF
 ghost use Rattle.tesla_run_capture.specs.Capture.{capture};
 ghost use Rattle.tesla_run_feed.specs.Arguments.{FeedArguments, IsFeedForm};
 ghost use Rattle.tesla_run_feed.specs.Feeding.{feed};
-ghost use Rattle.tesla_run_play.specs.Arguments.{IsPlayForm, PlayArguments};
-ghost use Rattle.tesla_run_play.specs.Playing.{play};
+ghost use Rattle.tesla_run_relay.specs.play.Arguments.{IsPlayForm, PlayArguments};
+ghost use Rattle.tesla_run_relay.specs.play.Playing.{play};
 ghost use Rattle.tesla_run_receive.specs.Arguments.{IsReceive, ReceiveArguments};
 ghost use Rattle.tesla_run_receive.specs.Receive.{receive};
 ghost use Rattle.tesla_run_record.specs.Arguments.{IsRecord};

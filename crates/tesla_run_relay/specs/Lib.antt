@@ -2,3 +2,4 @@ pub mod Arguments
 pub mod Lines
 pub mod Relay
 pub mod Steps
+pub mod play

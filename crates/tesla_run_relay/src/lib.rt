@@ -1,10 +1,11 @@
-//! The command `relay`: the live datagrams of a link are handed on to posts.
+//! The commands `relay` and `play`: the live datagrams of a link, or the arrivals of a capture, are sent on to posts.
 #![tactic(auto)]
 
 mod arguments;
 mod form;
 mod gates;
 mod lines;
+pub mod play;
 mod run;
 
 pub use form::RELAY;

@@ -6,11 +6,11 @@ ghost use Rattle.tesla_front.specs.OutcomeView.{outcome_view};
 ghost use Rattle.tesla_front.specs.Command.{Performs, RunsAs};
 ghost use Rattle.tesla_relay.specs.Opening.{name_of};
 ghost use Rattle.tesla_relay.specs.Posts.{PostSeen};
-ghost use Rattle.tesla_run_play.specs.Arguments.{IsPlayForm, arguments_of};
-ghost use Rattle.tesla_run_play.specs.Playing.{outcome_with, play};
-ghost use Rattle.tesla_run_play.specs.Steps.{OpensAndPlays, PlaysMade, RunsOpened};
+ghost use Rattle.tesla_run_relay.specs.play.Arguments.{IsPlayForm, arguments_of};
+ghost use Rattle.tesla_run_relay.specs.play.Playing.{outcome_with, play};
+ghost use Rattle.tesla_run_relay.specs.play.Steps.{OpensAndPlays, PlaysMade, RunsOpened};
 
-use crate::form::{Arguments, arguments_in};
+use crate::play::form::{Arguments, arguments_in};
 use std::alloc::Global;
 use std::sync::Wait;
 use tesla_base::Kind;

@@ -18,7 +18,7 @@ use Rattle.tesla_relay.specs.declared.playing.PlayEnd.{PlayEnd}
 use Rattle.tesla_relay.specs.declared.playing.PlayEnd.TheVariants as ends
 use Rattle.tesla_relay.specs.Clocks.{ReadWhere}
 use Rattle.tesla_relay.specs.Closed.{HoldsSent, IsUnsent}
-use Rattle.tesla_run_play.specs.Arguments.{PlayArguments, IsPlayForm, files_of_play}
+use Rattle.tesla_run_relay.specs.play.Arguments.{PlayArguments, IsPlayForm, files_of_play}
 
 -- the line that tells how many arrivals were played
 abbrev pub played_line : ℕ → List ℕ

@@ -28,10 +28,10 @@ use Rattle.tesla_relay.proofs.Clocks.{clock_alone, clock_made, clock_opens, live
 use Rattle.tesla_relay.proofs.Mails.{unsent_on}
 use Rattle.tesla_relay.proofs.Openings.{none_of_opened, opens_new, opens_still, post_files, refused_not_all}
 use Rattle.tesla_relay.proofs.Stopped.{outcome_cause, memory_counts, not_all_counts}
-use Rattle.tesla_run_play.specs.Arguments.{PlayArguments, IsPlayForm, files_of_play}
-use Rattle.tesla_run_play.specs.Playing.{PostsHold, TouchesPosts, outcome_with, play}
-use Rattle.tesla_run_play.specs.Steps.{OpensAndPlays, PlaysOpen, Refuses, RunsOpened}
-use Rattle.tesla_run_play.proofs.Sent.{end_faulty, faulty_end, names_stay, posts_hold}
+use Rattle.tesla_run_relay.specs.play.Arguments.{PlayArguments, IsPlayForm, files_of_play}
+use Rattle.tesla_run_relay.specs.play.Playing.{PostsHold, TouchesPosts, outcome_with, play}
+use Rattle.tesla_run_relay.specs.play.Steps.{OpensAndPlays, PlaysOpen, Refuses, RunsOpened}
+use Rattle.tesla_run_relay.proofs.play.Sent.{end_faulty, faulty_end, names_stay, posts_hold}
 
 -- ---- the files
 

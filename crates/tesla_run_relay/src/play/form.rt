@@ -1,7 +1,7 @@
 //! The form of the command `play`: how it is told, and what its words ask for.
 
 ghost use Rattle.std.specs.Prelude.{◌≡◌, Some, IfSome, map, string_bytes, option_map};
-ghost use Rattle.tesla_run_play.specs.Arguments.{PlayArguments, IsPlayForm, arguments_of};
+ghost use Rattle.tesla_run_relay.specs.play.Arguments.{PlayArguments, IsPlayForm, arguments_of};
 
 use tesla_front::{FormText, Name, Names, words_in};
 

@@ -1,5 +1,4 @@
 //! The command `play`: the arrivals of a capture are sent as live datagrams.
-#![tactic(auto)]
 
 mod form;
 mod run;

@@ -11,7 +11,7 @@ use Rattle.tesla_relay.specs.Closed.{AnyFaulty, HasMails, HoldsSent}
 use Rattle.tesla_relay.specs.Opened.{AreFresh, post_name}
 use Rattle.tesla_relay.specs.Posts.{PostSeen, with_datagrams}
 use Rattle.tesla_relay.proofs.Mails.{holds_sent, rose_reported, some_rose}
-use Rattle.tesla_run_play.specs.Playing.{BreaksAt, HaveSent, PostsHold}
+use Rattle.tesla_run_relay.specs.play.Playing.{BreaksAt, HaveSent, PostsHold}
 
 -- ---- names
 

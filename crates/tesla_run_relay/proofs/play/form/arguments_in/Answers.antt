@@ -1,7 +1,7 @@
 use Rattle.std.proofs.Common.{◌∙◌, ℕ, List, sym, ap}
 use Rattle.std.specs.Option.{option_map}
-use Rattle.tesla_run_play.specs.Arguments.{PlayArguments}
-use Rattle.tesla_run_play.proofs.form.arguments_in.Goals as goal
+use Rattle.tesla_run_relay.specs.play.Arguments.{PlayArguments}
+use Rattle.tesla_run_relay.proofs.play.form.arguments_in.Goals as goal
 
 abbrev made : List ℕ × (List (List ℕ) × Unit {0}) → PlayArguments
 made w = record { capture = w.0; posts = w.1.0 }

@@ -2,7 +2,7 @@
 use Rattle.std.specs.Prelude.{ℕ, List, [], ◌∷◌, codes, map}
 use Rattle.tesla_desk.specs.Outside.{Opening, OfPost, OfSource}
 use Rattle.tesla_front.specs.Forms.{AreSpelled, NameIs, NamesAre, WordIs}
-use Rattle.tesla_run_play.specs.declared.form.Arguments.{Arguments}
+use Rattle.tesla_run_relay.specs.declared.play.form.Arguments.{Arguments}
 
 -- the words of each form, in the order in which they are told
 abbrev pub usages : List (List ℕ)

@@ -11,7 +11,7 @@ use Rattle.tesla_relay.specs.declared.playing.PlayEnd.{PlayEnd}
 use Rattle.tesla_relay.specs.declared.playing.PlayEnd.TheVariants.{ReadFault}
 use Rattle.tesla_relay.specs.Opening.{ClosesPosts, OpensPosts}
 use Rattle.tesla_relay.specs.Posts.{PostSeen}
-use Rattle.tesla_run_play.specs.Playing.{outcome_with}
+use Rattle.tesla_run_relay.specs.play.Playing.{outcome_with}
 
 -- an open source was played to open posts, with a clock that was made for it
 pub record PlaysMade (end : PlayEnd) (left later : Option (List ℕ)) (posts posts_now : List PostSeen) (before now : Told) : Type 0 where

@@ -1,8 +1,8 @@
 use Rattle.std.proofs.Common.{map, string_bytes}
 use Rattle.tesla_front.proofs.Commands.{runs_form, runs_usage}
-use Rattle.tesla_run_play.specs.Arguments.{arguments_of}
-use Rattle.tesla_run_play.specs.Playing.{play}
-use Rattle.tesla_run_play.proofs.run.run_play.Goals as goal
+use Rattle.tesla_run_relay.specs.play.Arguments.{arguments_of}
+use Rattle.tesla_run_relay.specs.play.Playing.{play}
+use Rattle.tesla_run_relay.proofs.play.run.run_play.Goals as goal
 
 pub returns-in-Some : goal.returns-in-Some
 returns-in-Some g c =
