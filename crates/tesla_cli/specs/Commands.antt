@@ -25,12 +25,12 @@ use Rattle.tesla_run_roll.specs.Roll.{roll}
 use Rattle.tesla_run_roll.specs.Usage as rolls
 use Rattle.tesla_run_send.specs.Send.{send}
 use Rattle.tesla_run_send.specs.Arguments as sends
-use Rattle.tesla_run_show.specs.Show.{show}
-use Rattle.tesla_run_show.specs.Arguments as shows
+use Rattle.tesla_run_audit.specs.show.Show.{show}
+use Rattle.tesla_run_audit.specs.show.Arguments as shows
 use Rattle.tesla_run_stress.specs.Stress.{stress}
 use Rattle.tesla_run_stress.specs.Arguments as stresses
-use Rattle.tesla_run_trace.specs.Trace.{trace}
-use Rattle.tesla_run_trace.specs.Usage as traces
+use Rattle.tesla_run_audit.specs.trace.Trace.{trace}
+use Rattle.tesla_run_audit.specs.trace.Usage as traces
 use Rattle.tesla_run_weave.specs.Weave.{weave}
 use Rattle.tesla_run_weave.specs.Arguments as weaves
 

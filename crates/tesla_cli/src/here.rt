@@ -11,6 +11,7 @@ use std::alloc::Global;
 use tesla_desk::Desk;
 use tesla_front::{FormText, LiveRun, Outcome, run_table};
 use tesla_run_ask::lag::{LAG, run_lag};
+use tesla_run_audit::trace::{TRACE, run_trace};
 use tesla_run_audit::{AUDIT, run_audit};
 use tesla_run_chain::{CHAIN, CHAIN_TWO, run_chain};
 use tesla_run_early::{EARLY, run_early};
@@ -18,7 +19,6 @@ use tesla_run_replay::{REPLAY, run_replay};
 use tesla_run_roll::{ROLL, run_roll};
 use tesla_run_send::{SEND, run_send};
 use tesla_run_stress::{STRESS, run_stress};
-use tesla_run_trace::{TRACE, run_trace};
 use tesla_run_weave::{WEAVE, run_weave};
 
 /// The forms of the commands, in the order in which they are told.

@@ -7,14 +7,14 @@ ghost use Rattle.tesla_front.specs.Command.{RunsAs};
 ghost use Rattle.tesla_front.specs.Printing.{RunsPrinting};
 ghost use Rattle.tesla_front.specs.Run.{HasStatusCauses, Runs};
 ghost use Rattle.tesla_front.specs.Usage.{usage_of};
-ghost use Rattle.tesla_run_show.specs.Show.{show};
+ghost use Rattle.tesla_run_audit.specs.show.Show.{show};
 ghost use Rattle.tesla_cli.specs.Commands.{IsTool, RunsTool, names_show, tool_of, tool_usage};
 
 use std::alloc::Global;
 use tesla_desk::Desk;
 use tesla_front::{FormText, LiveRun, Outcome, is_named, open_console, run_table, tell_printed};
 use tesla_run_ask::{ASK, REPLY, run_ask, run_reply};
-use tesla_run_show::{SHOW, run_show};
+use tesla_run_audit::show::{SHOW, run_show};
 
 /// The forms of the tools, in the order in which they are told.
 pub const TOOLS: [FormText; 3] = [ASK, REPLY, SHOW];

@@ -18,10 +18,10 @@ ghost use Rattle.tesla_run_ask.specs.lag.Lag.{lag};
 ghost use Rattle.tesla_run_replay.specs.Replay.{replay};
 ghost use Rattle.tesla_run_roll.specs.Roll.{roll};
 ghost use Rattle.tesla_run_send.specs.Send.{send};
-ghost use Rattle.tesla_run_show.specs.Arguments.{IsShowForm, ShowArguments};
-ghost use Rattle.tesla_run_show.specs.Show.{show};
+ghost use Rattle.tesla_run_audit.specs.show.Arguments.{IsShowForm, ShowArguments};
+ghost use Rattle.tesla_run_audit.specs.show.Show.{show};
 ghost use Rattle.tesla_run_stress.specs.Stress.{stress};
-ghost use Rattle.tesla_run_trace.specs.Trace.{trace};
+ghost use Rattle.tesla_run_audit.specs.trace.Trace.{trace};
 ghost use Rattle.tesla_run_weave.specs.Weave.{weave};
 
 use std::alloc::Global;

@@ -3,7 +3,7 @@ use Rattle.tesla_desk.specs.Outside.{ClosesSink}
 use Rattle.tesla_front.specs.OutcomeView.{outcome_view}
 use Rattle.tesla_front.specs.Printing.{TellsPrinted}
 use Rattle.tesla_front.proofs.Printing.{Printeds, printing_opened}
-use Rattle.tesla_run_show.specs.Show.{show}
+use Rattle.tesla_run_audit.specs.show.Show.{show}
 use Rattle.tesla_cli.specs.Commands.{tool_usage}
 use Rattle.tesla_cli.proofs.tools.run_printing.Goals as goal
 

@@ -3,7 +3,7 @@ use Rattle.tesla_desk.specs.Outside.{Told}
 use Rattle.tesla_front.specs.OutcomeView.{OutcomeView, HasOwnStatus, outcome_view, status_of}
 use Rattle.tesla_front.specs.Run.{HasStatusCauses}
 use Rattle.tesla_front.proofs.Statuses.{own_status, printing_status_causes, status_causes}
-use Rattle.tesla_run_show.specs.Show.{show}
+use Rattle.tesla_run_audit.specs.show.Show.{show}
 use Rattle.tesla_cli.specs.Commands.{names_show, runs_where, tool_of, tool_usage}
 use Rattle.tesla_cli.proofs.tools.run_tools.Goals as goal
 

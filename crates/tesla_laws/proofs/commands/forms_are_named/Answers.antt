@@ -9,8 +9,8 @@ use Rattle.tesla_front.specs.Run.{HasNoConsole}
 use Rattle.tesla_front.proofs.Tables.{as_spelled, begins_with_name}
 use Rattle.tesla_run_chain.specs.Arguments as chains
 use Rattle.tesla_run_chain.specs.Chain.{chain}
-use Rattle.tesla_run_show.specs.Arguments.{IsShowForm, ShowArguments}
-use Rattle.tesla_run_show.specs.Show.{show}
+use Rattle.tesla_run_audit.specs.show.Arguments.{IsShowForm, ShowArguments}
+use Rattle.tesla_run_audit.specs.show.Show.{show}
 use Rattle.tesla_cli.specs.Commands.{IsTool, RunsTool, command_of, tool_of, tool_usage}
 use Rattle.tesla_laws.proofs.commands.forms_are_named.Goals as goal
 

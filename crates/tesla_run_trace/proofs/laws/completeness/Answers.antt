@@ -1,9 +1,0 @@
-use Rattle.std.proofs.Common.{refl}
-use Rattle.tesla_run_replay.specs.Playing.{history_report}
-use Rattle.tesla_run_replay.specs.Replay.{history_of}
-use Rattle.tesla_run_replay.proofs.Under.{complete_under}
-use Rattle.tesla_run_trace.specs.Trace.{traced}
-use Rattle.tesla_run_trace.proofs.laws.completeness.Goals as goal
-
-pub returns : goal.returns
-returns c = complete_under traced (λ cfg bytes. history_report (history_of cfg bytes)) (λ cfg bytes. refl)
