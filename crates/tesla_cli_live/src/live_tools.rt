@@ -11,11 +11,11 @@ use std::sync::Wait;
 use std::thread::Threads;
 use tesla_desk::Desk;
 use tesla_front::{FormText, LiveRun, Outcome, is_named, run_table, without_history};
+use tesla_recorder::watched::Watched;
 use tesla_run_capture::{CAPTURE, run_capture};
 use tesla_run_feed::{FEED, run_feed};
 use tesla_run_watch::{WATCH, run_watch};
 use tesla_turn::Last;
-use tesla_watched::Watched;
 
 /// The forms of the tools, in the order in which they are told.
 pub const FORMS: [FormText; 3] = [CAPTURE, FEED, WATCH];

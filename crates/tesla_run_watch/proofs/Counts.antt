@@ -9,7 +9,7 @@ use Rattle.tesla_receiver.specs.declared.history.Arrival.{Arrival}
 use Rattle.tesla_receiver.specs.declared.history.Entry.{Entry}
 use Rattle.tesla_state.specs.Counting.{line_of}
 use Rattle.tesla_state.specs.declared.report.Report.{Report}
-use Rattle.tesla_watched.specs.Watched.{counts_in}
+use Rattle.tesla_recorder.specs.watched.Watched.{counts_in}
 use Rattle.tesla_run_watch.specs.Lines.{report_at}
 
 -- 1 where the verdict has this line, and else 0

@@ -1,7 +1,7 @@
 -- Lines that are written to STATUS, one after another.
 use Rattle.std.proofs.Common.{◌≡◌, ◌∙◌, inl, inr, ℕ, Bool, true, false, List, [], ◌∷◌, ◌++◌, flat_map, Option, IfSome, append-nil, append_assoc, refl, sym, ap, subst, arith}
 use Rattle.std.proofs.lemmas.List.Concat.{flat_map-append}
-use Rattle.tesla_watched.specs.Counts.{NoneFalls, no_counts}
+use Rattle.tesla_recorder.specs.watched.Counts.{NoneFalls, no_counts}
 use Rattle.tesla_desk.specs.Faults.{HasCause}
 use Rattle.tesla_desk.specs.Outside.{AppendsPrefix, with_bytes}
 use Rattle.tesla_desk.proofs.Counts.{cause_as, cause_both, cause_none}

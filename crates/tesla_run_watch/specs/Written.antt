@@ -5,7 +5,7 @@ use Rattle.tesla_desk.specs.Outside.{AppendsPrefix, with_bytes}
 use Rattle.tesla_receiver.specs.Report.{report_of}
 use Rattle.tesla_receiver.specs.declared.history.Entry.{Entry}
 use Rattle.tesla_state.specs.declared.report.Report.{Report}
-use Rattle.tesla_watched.specs.Counts.{CountersId}
+use Rattle.tesla_recorder.specs.watched.Counts.{CountersId}
 use Rattle.tesla_run_watch.specs.Lines.{Follow, NoneFall, StatusLine, line_text, no_report, report_at}
 
 -- the report behind these lines: that of the last of them, or else the first argument

@@ -9,9 +9,9 @@ use crate::status::Status;
 use std::sync::Wait;
 use tesla_desk::{Clock, Desk, Sink};
 use tesla_front::Fault;
+use tesla_recorder::watched::{Reader, Watched};
 use tesla_run_receive::Extra;
 use tesla_session::{Beside, Ended};
-use tesla_watched::{Reader, Watched};
 
 /// The file of the counts, the clock that its lines go by, and who reads the counts.
 pub(crate) struct Monitor<S: Sink, C: Clock> {
@@ -81,8 +81,8 @@ impl<D: Desk> Extra<D, Watched> for Monitoring<'_> {
     ghost use Rattle.std.proofs.Common.{◌∙◌};
     ghost use Rattle.tesla_receiver.specs.Stands.{Stands};
     ghost use Rattle.tesla_receiver.specs.declared.history.Entry.{Entry};
-    ghost use Rattle.tesla_watched.specs.Counts.{no_counts};
-    ghost use Rattle.tesla_watched.specs.Watched.{WatchedStands};
+    ghost use Rattle.tesla_recorder.specs.watched.Counts.{no_counts};
+    ghost use Rattle.tesla_recorder.specs.watched.Watched.{WatchedStands};
     ghost use Rattle.tesla_run_receive.specs.Running.{EndsBehind};
     ghost use Rattle.tesla_run_watch.specs.Watch.{HoldsStatus};
     ghost use Rattle.tesla_run_watch.specs.Written.{IsMonitored};

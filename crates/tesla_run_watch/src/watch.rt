@@ -8,7 +8,7 @@ ghost use Rattle.tesla_receiver.specs.Stands.{Stands};
 ghost use Rattle.tesla_run_receive.specs.Arguments.{AreFew, workers_wanted};
 ghost use Rattle.tesla_run_receive.specs.OutputArguments.{arguments_of};
 ghost use Rattle.tesla_run_receive.specs.Running.{RunsStation};
-ghost use Rattle.tesla_watched.specs.declared.watched.WatchedConfig.{WatchedConfig};
+ghost use Rattle.tesla_recorder.specs.declared.watched.watched.WatchedConfig.{WatchedConfig};
 ghost use Rattle.tesla_run_watch.specs.Arguments.{IsWatch};
 ghost use Rattle.tesla_run_watch.specs.Watch.{HoldsStatus, watching};
 
@@ -20,9 +20,9 @@ use std::thread::Threads;
 use tesla_desk::Desk;
 use tesla_front::{Fault, LiveRun, Outcome, Stop, outcome_of, without_history};
 use tesla_receiver::Receiver;
+use tesla_recorder::watched::Watched;
 use tesla_run_receive::{OutputWords, StationResult, output_words_in, receiver_under, run_station};
 use tesla_turn::Last;
-use tesla_watched::Watched;
 
 /// Runs the words as those of `watch`.
 ///

@@ -3,7 +3,7 @@ use Rattle.tesla_run_receive.proofs.Performed.{runs_as}
 use Rattle.tesla_run_receive.specs.Arguments.{workers_wanted}
 use Rattle.tesla_run_receive.specs.OutputArguments.{arguments_of}
 use Rattle.tesla_state.specs.State.{State}
-use Rattle.tesla_watched.specs.Counts.{no_counters}
+use Rattle.tesla_recorder.specs.watched.Counts.{no_counters}
 use Rattle.tesla_run_watch.proofs.watch.run_watched.Goals as goal
 
 pub returns : goal.returns

@@ -1,5 +1,5 @@
 use Rattle.std.proofs.Common.{false, sym, subst}
-use Rattle.tesla_watched.specs.Counts.{no_counts}
+use Rattle.tesla_recorder.specs.watched.Counts.{no_counts}
 use Rattle.tesla_run_watch.specs.Written.{Notes}
 use Rattle.tesla_run_watch.proofs.Noted.{notes_none}
 use Rattle.tesla_run_watch.proofs.monitor.MonitoringExtraWatched.begin.Goals as goal

@@ -2,8 +2,8 @@ use Rattle.std.proofs.Common.{◌≡◌, ◌∙◌, ℕ, Bool, true, false, not,
 use Rattle.tesla_desk.specs.Faults.{HasCause}
 use Rattle.tesla_desk.specs.Outside.{ClosesSink}
 use Rattle.tesla_receiver.specs.Stands.{Stands}
-use Rattle.tesla_watched.specs.Counts.{NoneFalls}
-use Rattle.tesla_watched.specs.Watched.{WatchedStands}
+use Rattle.tesla_recorder.specs.watched.Counts.{NoneFalls}
+use Rattle.tesla_recorder.specs.watched.Watched.{WatchedStands}
 use Rattle.tesla_run_watch.specs.Lines.{report_at, status_line}
 use Rattle.tesla_run_watch.specs.Written.{Puts}
 use Rattle.tesla_run_watch.proofs.Counts.{report_whole}
