@@ -16,12 +16,12 @@ use Rattle.tesla_run_relay.specs.play.Playing.{play}
 use Rattle.tesla_run_relay.specs.play.Arguments as playing
 use Rattle.tesla_run_receive.specs.Receive.{receive}
 use Rattle.tesla_run_receive.specs.Usage as receiving
-use Rattle.tesla_run_record.specs.Record.{recording}
-use Rattle.tesla_run_record.specs.Usage as records
+use Rattle.tesla_run_receive.specs.record.Record.{recording}
+use Rattle.tesla_run_receive.specs.record.Usage as records
 use Rattle.tesla_run_relay.specs.Relay.{relay}
 use Rattle.tesla_run_relay.specs.Arguments as relaying
-use Rattle.tesla_run_watch.specs.Usage as watches
-use Rattle.tesla_run_watch.specs.Watch.{watching}
+use Rattle.tesla_run_receive.specs.watch.Usage as watches
+use Rattle.tesla_run_receive.specs.watch.Watch.{watching}
 use Rattle.tesla_turn.specs.Held.{Ended}
 
 -- ---- receive, relay and play

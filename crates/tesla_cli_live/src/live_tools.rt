@@ -14,7 +14,7 @@ use tesla_front::{FormText, LiveRun, Outcome, is_named, run_table, without_histo
 use tesla_recorder::watched::Watched;
 use tesla_run_capture::{CAPTURE, run_capture};
 use tesla_run_feed::{FEED, run_feed};
-use tesla_run_watch::{WATCH, run_watch};
+use tesla_run_receive::watch::{WATCH, run_watch};
 use tesla_turn::Last;
 
 /// The forms of the tools, in the order in which they are told.

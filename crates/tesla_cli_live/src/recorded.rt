@@ -11,7 +11,7 @@ use std::thread::Threads;
 use tesla_desk::Desk;
 use tesla_front::{FormText, is_named, run_table};
 use tesla_recorder::Recorded;
-use tesla_run_record::{RECORD, run_record};
+use tesla_run_receive::record::{RECORD, run_record};
 use tesla_turn::Last;
 
 /// The form of the command, as it is told.

@@ -18,11 +18,11 @@ ghost use Rattle.tesla_run_relay.specs.play.Arguments.{IsPlayForm, PlayArguments
 ghost use Rattle.tesla_run_relay.specs.play.Playing.{play};
 ghost use Rattle.tesla_run_receive.specs.Arguments.{IsReceive, ReceiveArguments};
 ghost use Rattle.tesla_run_receive.specs.Receive.{receive};
-ghost use Rattle.tesla_run_record.specs.Arguments.{IsRecord};
+ghost use Rattle.tesla_run_receive.specs.record.Arguments.{IsRecord};
 ghost use Rattle.tesla_run_relay.specs.Arguments.{IsRelayForm, RelayArguments};
 ghost use Rattle.tesla_run_relay.specs.Relay.{relay};
-ghost use Rattle.tesla_run_watch.specs.Arguments.{IsWatch};
-ghost use Rattle.tesla_run_watch.specs.Watch.{watching};
+ghost use Rattle.tesla_run_receive.specs.watch.Arguments.{IsWatch};
+ghost use Rattle.tesla_run_receive.specs.watch.Watch.{watching};
 ghost use Rattle.tesla_run_receive.specs.OutputArguments.{OutputArguments};
 
 use std::alloc::Global;

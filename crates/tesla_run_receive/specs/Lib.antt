@@ -4,3 +4,5 @@ pub mod OutputArguments
 pub mod Receive
 pub mod Running
 pub mod Usage
+pub mod «record»
+pub mod watch

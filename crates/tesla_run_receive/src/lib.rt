@@ -1,5 +1,5 @@
 //! The command `receive`: the datagrams of live links are judged by one receiver, and what it releases is written to sinks. And
-//! what commands have in common that are `receive` over other stations, with one output more.
+//! `record` and `watch`, which are `receive` over other stations, with one output more, and what they have in common with it.
 #![tactic(auto)]
 
 mod arguments;
@@ -11,6 +11,8 @@ mod output_arguments;
 mod output_form;
 mod output_words;
 mod receive;
+pub mod record;
+pub mod watch;
 mod words;
 
 pub use arguments::Arguments;

@@ -4,7 +4,7 @@ use Rattle.tesla_front.specs.Command.{Command}
 use Rattle.tesla_front.proofs.Tables.{table_causes, table_run}
 use Rattle.tesla_receiver.specs.declared.history.Entry.{Entry}
 use Rattle.tesla_turn.specs.Held.{Ended}
-use Rattle.tesla_run_record.specs.Record.{recording}
+use Rattle.tesla_run_receive.specs.record.Record.{recording}
 use Rattle.tesla_cli_live.specs.Commands.{record_usage}
 use Rattle.tesla_cli_live.proofs.recorded.run_recorded.Goals as goal
 

@@ -1,0 +1,23 @@
+use Rattle.std.proofs.Common.{◌≡◌, ◌∙◌, ℕ, false, List, subst}
+use Rattle.tesla_desk.specs.Faults.{HasCause}
+use Rattle.tesla_desk.specs.Outside.{ClosesSink, page_of}
+use Rattle.tesla_run_receive.specs.record.Record.{HoldsTail}
+use Rattle.tesla_run_receive.proofs.record.Tailed.{fails_unwritten, holds_tail}
+use Rattle.tesla_run_receive.proofs.record.tail.TailExtraRecorded.end.Goals as goal
+
+pub returns : goal.returns
+returns g c extra h begun stands =
+    let fresh = g.D.Out.Sink.written c.args.begun.it in
+    let sink = c.write_tail-written.new.sink in
+    let written = g.D.Out.Sink.written sink in
+    let count = g.D.Out.Sink.faults sink in
+    let made = c.write_tail-written.ensures in
+    let cause = subst (λ (n : ℕ). HasCause n count (c.write_tail-written.result ≡ false)) begun.2 made.cause in
+    let keep = c.args.station.keep in
+    record {
+      written = written;
+      faults = count;
+      holds = subst (λ (n : ℕ). HoldsTail n h (page_of written count)) begun.0 (holds_tail keep h fresh written count c.write_tail-written.result begun.1 (made.all h stands) (made.prefix h stands) cause);
+      cause = fails_unwritten count c.write_tail-written.result cause;
+      closes = subst (λ (name : List ℕ). ClosesSink name written count (g.D.Desk.told c.args.desk.now) (g.D.Desk.told c.close_sink.new.self)) (made.name ∙ begun.3) c.close_sink.ensures.desk;
+    }

@@ -1,0 +1,72 @@
+-- The report that the counts of a history make.
+use Rattle.std.proofs.Common.{◌≡◌, ◌==◌, ℕ, ◌+◌, List, [], ◌∷◌, cond, length, refl, ap, arith}
+use Rattle.std.proofs.lemmas.List.Sums.{sum_by-append}
+use Rattle.tesla_fitting.specs.declared.verdict.Verdict.{Verdict}
+use Rattle.tesla_fitting.specs.declared.verdict.Verdict.TheVariants.{Malformed, Foreign, Misfit, Future, BadKey, Late, Repeat, Full, Kept, Keys}
+use Rattle.tesla_receiver.specs.History.{arrivals_in, given_in}
+use Rattle.tesla_receiver.specs.Report.{count_of, report_of}
+use Rattle.tesla_receiver.specs.declared.history.Arrival.{Arrival}
+use Rattle.tesla_receiver.specs.declared.history.Entry.{Entry}
+use Rattle.tesla_state.specs.Counting.{line_of}
+use Rattle.tesla_state.specs.declared.report.Report.{Report}
+use Rattle.tesla_recorder.specs.watched.Watched.{counts_in}
+use Rattle.tesla_run_receive.specs.watch.Lines.{report_at}
+
+-- 1 where the verdict has this line, and else 0
+abbrev hit : ℕ → Verdict → ℕ
+hit line verdict = cond (line_of verdict == line) 1 0
+
+-- each verdict has one of the ten lines
+one_hit : (verdict : Verdict) → hit 1 verdict + hit 2 verdict + hit 3 verdict + hit 4 verdict + hit 5 verdict + hit 6 verdict + hit 7 verdict + hit 8 verdict + hit 9 verdict + hit 10 verdict ≡ 1
+one_hit Malformed = refl
+one_hit (Foreign stream) = refl
+one_hit Misfit = refl
+one_hit (Future bound) = refl
+one_hit (BadKey chain) = refl
+one_hit Late = refl
+one_hit Repeat = refl
+one_hit Full = refl
+one_hit (Kept chains) = refl
+one_hit Keys = refl
+
+-- how many have this line among one arrival more
+count_more : (line : ℕ) (arrival : Arrival) (arrivals : List Arrival) → count_of line (arrival ∷ arrivals) ≡ (0 + hit line arrival.verdict) + count_of line arrivals
+count_more line arrival arrivals = sum_by-append (λ (a : Arrival). hit line a.verdict) (arrival ∷ []) arrivals
+
+-- the counts of the ten verdicts add up to the arrivals
+arrivals_add : (arrivals : List Arrival) → count_of 1 arrivals + count_of 2 arrivals + count_of 3 arrivals + count_of 4 arrivals + count_of 5 arrivals + count_of 6 arrivals + count_of 7 arrivals + count_of 8 arrivals + count_of 9 arrivals + count_of 10 arrivals ≡ length arrivals
+arrivals_add [] = refl
+arrivals_add (arrival ∷ arrivals) =
+    let c1 : count_of 1 (arrival ∷ arrivals) ≡ (0 + hit 1 arrival.verdict) + count_of 1 arrivals = count_more 1 arrival arrivals in
+    let c2 : count_of 2 (arrival ∷ arrivals) ≡ (0 + hit 2 arrival.verdict) + count_of 2 arrivals = count_more 2 arrival arrivals in
+    let c3 : count_of 3 (arrival ∷ arrivals) ≡ (0 + hit 3 arrival.verdict) + count_of 3 arrivals = count_more 3 arrival arrivals in
+    let c4 : count_of 4 (arrival ∷ arrivals) ≡ (0 + hit 4 arrival.verdict) + count_of 4 arrivals = count_more 4 arrival arrivals in
+    let c5 : count_of 5 (arrival ∷ arrivals) ≡ (0 + hit 5 arrival.verdict) + count_of 5 arrivals = count_more 5 arrival arrivals in
+    let c6 : count_of 6 (arrival ∷ arrivals) ≡ (0 + hit 6 arrival.verdict) + count_of 6 arrivals = count_more 6 arrival arrivals in
+    let c7 : count_of 7 (arrival ∷ arrivals) ≡ (0 + hit 7 arrival.verdict) + count_of 7 arrivals = count_more 7 arrival arrivals in
+    let c8 : count_of 8 (arrival ∷ arrivals) ≡ (0 + hit 8 arrival.verdict) + count_of 8 arrivals = count_more 8 arrival arrivals in
+    let c9 : count_of 9 (arrival ∷ arrivals) ≡ (0 + hit 9 arrival.verdict) + count_of 9 arrivals = count_more 9 arrival arrivals in
+    let c10 : count_of 10 (arrival ∷ arrivals) ≡ (0 + hit 10 arrival.verdict) + count_of 10 arrivals = count_more 10 arrival arrivals in
+    let one = one_hit arrival.verdict in
+    let rest = arrivals_add arrivals in
+    omega (arith, c1, c2, c3, c4, c5, c6, c7, c8, c9, c10, one, rest)
+
+-- the counts of a history make its report
+pub report_whole : (history : List Entry) → report_at (counts_in (report_of history)) ≡ report_of history
+report_whole history =
+    let arrivals = arrivals_in history in
+    ap
+    (λ (n : ℕ). let one : Report = record {
+      arrivals = n;
+      malformed = count_of 1 arrivals;
+      foreign = count_of 2 arrivals;
+      misfit = count_of 3 arrivals;
+      future = count_of 4 arrivals;
+      badkey = count_of 5 arrivals;
+      late = count_of 6 arrivals;
+      repeat = count_of 7 arrivals;
+      full = count_of 8 arrivals;
+      kept = count_of 9 arrivals;
+      keys = count_of 10 arrivals;
+      given = given_in history;
+    } in one) (arrivals_add arrivals)

@@ -1,0 +1,11 @@
+use Rattle.std.proofs.Common.{◌≡◌, ℕ, List, Option}
+use Rattle.tesla_run_receive.specs.watch.Written.{Notes}
+use Rattle.tesla_run_receive.proofs.watch.monitor.Monitor.watch.Given as goal
+
+abbrev pub invariant-loop : goal.invariant-loop
+invariant-loop g l = record {
+  notes : (before : Option (List ℕ)) (first : ℕ) → Notes l.initial.self.reader.counts before (g.S.Sink.written l.initial.self.status.sink) first (g.S.Sink.faults l.initial.self.status.sink) l.initial.self.status.failed
+      → Notes l.self.reader.counts before (g.S.Sink.written l.self.status.sink) first (g.S.Sink.faults l.self.status.sink) l.self.status.failed;
+  name : g.S.Sink.name l.self.status.sink ≡ g.S.Sink.name l.initial.self.status.sink;
+  counters : l.self.reader.counters ≡ l.initial.self.reader.counters;
+}

@@ -1,0 +1,37 @@
+use Rattle.std.proofs.Common.{◌≡◌, ◌∙◌, ℕ, Bool, true, false, not, List, refl, sym, ap, subst}
+use Rattle.tesla_desk.specs.Faults.{HasCause}
+use Rattle.tesla_desk.specs.Outside.{ClosesSink}
+use Rattle.tesla_receiver.specs.Stands.{Stands}
+use Rattle.tesla_recorder.specs.watched.Counts.{NoneFalls}
+use Rattle.tesla_recorder.specs.watched.Watched.{WatchedStands}
+use Rattle.tesla_run_receive.specs.watch.Lines.{report_at, status_line}
+use Rattle.tesla_run_receive.specs.watch.Written.{Puts}
+use Rattle.tesla_run_receive.proofs.watch.Counts.{report_whole}
+use Rattle.tesla_run_receive.proofs.watch.Held.{holds_status}
+use Rattle.tesla_run_receive.proofs.watch.Noted.{writes_last}
+use Rattle.tesla_run_receive.proofs.watch.monitor.MonitoringExtraWatched.end.Goals as goal
+
+not_not : (b : Bool) → b ≡ not (not b)
+not_not true = refl
+not_not false = refl
+
+pub returns : goal.returns
+returns g c extra h begun stands =
+    let monitor = c.args.begun in
+    let old = monitor.status in
+    let new = c.put.new.self in
+    let counts = c.counts.result in
+    let written = g.D.Out.Sink.written new.sink in
+    let count = g.D.Out.Sink.faults new.sink in
+    let after = subst (λ s. WatchedStands Stands s h) (sym c.compare.ensures.same) stands in
+    let counted = c.counts.ensures h after in
+    let falls : NoneFalls monitor.reader.counts counts = subst (λ (cs : List ℕ). NoneFalls monitor.reader.counts cs) (stands.counted ∙ sym counted) c.compare.ensures.below in
+    let writes = writes_last h monitor.reader.counts counts c.now.result begun.before (g.D.Out.Sink.written old.sink) written (g.D.Out.Sink.faults old.sink) count old.failed new.failed (ap report_at counted ∙ report_whole h) begun.empty begun.noted falls
+    (subst (λ (text : List ℕ). Puts text (g.D.Out.Sink.written old.sink) written (g.D.Out.Sink.faults old.sink) count old.failed new.failed) {y = status_line c.now.result (report_at counts)} c.line_of.ensures c.put.ensures.puts) in
+    record {
+      written = written;
+      faults = count;
+      holds = holds_status h begun.before written count new.failed writes;
+      cause = subst (λ (failed : Bool). HasCause 0 count (failed ≡ true)) (not_not new.failed) writes.cause;
+      closes = subst (λ (name : List ℕ). ClosesSink name written count (g.D.Desk.told c.args.desk.now) (g.D.Desk.told c.close_sink.new.self)) (c.put.ensures.name ∙ begun.name_is) c.close_sink.ensures.desk;
+    }

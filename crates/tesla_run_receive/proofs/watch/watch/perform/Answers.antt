@@ -1,0 +1,25 @@
+use Rattle.std.proofs.Common.{Some, refl}
+use Rattle.tesla_run_receive.proofs.Performed.{lives_none, lives_run, performs_with, runs_as}
+use Rattle.tesla_run_receive.specs.Arguments.{workers_wanted}
+use Rattle.tesla_run_receive.specs.OutputArguments.{arguments_of}
+use Rattle.tesla_run_receive.specs.watch.Watch.{watched}
+use Rattle.tesla_run_receive.proofs.watch.watch.perform.Goals as goal
+
+pub returns-in-Ok : goal.returns-in-Ok
+returns-in-Ok g c =
+    let arguments = arguments_of c.args.arguments.now in
+    let is = c.requires.form.1 in
+    let made = c.in-Ok.ensures in
+    let (setup, found, config) = made.found in
+    let (cfg, runs) = c.run_watched.ensures in
+    performs_with watched arguments _ _ _ _
+    (lives_run _ (Some arguments.output) arguments.receive _ setup cfg _ _ _ _ _ is.received (is.named, is.not_sink) made.pages made.live found c.in-Ok.receiver made.opened made.causes
+    (runs_as _ (Some arguments.output) _ _ (workers_wanted arguments.receive) cfg _ _ _ _ config runs))
+
+pub returns-in-Err : goal.returns-in-Err
+returns-in-Err g c =
+    let arguments = arguments_of c.args.arguments.now in
+    let is = c.requires.form.1 in
+    let made = c.in-Err.ensures in
+    performs_with watched arguments _ _ _ _
+    (lives_none _ (Some arguments.output) arguments.receive _ _ _ _ c.in-Err.stop is.received (is.named, is.not_sink) made.opens made.pages made.live made.refused made.causes refl)

@@ -1,0 +1,84 @@
+//! The last entries of the history, as a file.
+
+ghost use Rattle.std.specs.Prelude.{◌≡◌, List, true, false, flat_map};
+ghost use Rattle.tesla_desk.specs.Faults.{HasCause};
+ghost use Rattle.tesla_desk.specs.Outside.{AppendsPrefix, with_bytes};
+ghost use Rattle.tesla_receiver.specs.Stands.{Stands};
+ghost use Rattle.tesla_receiver.specs.declared.history.Entry.{Entry};
+ghost use Rattle.tesla_recorder.specs.Recorded.{RecordedStands};
+ghost use Rattle.tesla_run_receive.specs.record.Record.{tail_of};
+
+use crate::{Extra, Idle};
+use tesla_desk::{Desk, Sink, write_all};
+use tesla_front::Fault;
+use tesla_recorder::Recorded;
+use tesla_trace::write_tail_head;
+
+/// TAIL, to which the last entries are written when the workers have ended.
+#[derive(Drop)]
+pub(crate) struct Tail<'a> {
+    /// Its name.
+    pub(crate) name: &'a str,
+    /// How many entries are kept at most.
+    pub(crate) keep: u32,
+}
+
+impl<D: Desk> Extra<D, Recorded> for Tail<'_> {
+    ghost use Rattle.std.specs.Prelude.{◌≡◌, List, Some, not};
+    ghost use Rattle.std.proofs.Common.{subst, sym};
+    ghost use Rattle.tesla_receiver.specs.Stands.{Stands};
+    ghost use Rattle.tesla_receiver.specs.declared.history.Entry.{Entry};
+    ghost use Rattle.tesla_recorder.specs.Recorded.{RecordedStands};
+    ghost use Rattle.tesla_run_receive.specs.Running.{EndsBehind};
+    ghost use Rattle.tesla_run_receive.specs.record.Record.{HoldsTail, IsNewTail};
+    ghost use Rattle.tesla_run_receive.specs.declared.record.tail.Tail.{Tail};
+
+    type Begun = Idle<D::Out>;
+
+    ghost output = { λ tail. Some tail.name.now };
+
+    ghost holds = { λ tail. HoldsTail tail.keep };
+
+    ghost fits = { λ tail cfg. cfg.keep ≡ tail.keep };
+
+    ghost is_begun = { λ tail cfg begun. IsNewTail tail.keep tail.name.now cfg.keep (D.Out.written begun.it) (D.Out.faults begun.it) (D.Out.name begun.it) };
+
+    ghost still = { λ tail cfg before now same begun. subst (λ it. IsNewTail tail.keep tail.name.now cfg.keep (D.Out.written it.it) (D.Out.faults it.it) (D.Out.name it.it)) (sym same) begun };
+
+    fn begin(self, desk: &mut D) -> Result<Idle<D::Out>, Fault> {
+        let it = desk.open_sink(self.name)?;
+        Ok(Idle { it })
+    }
+
+    fn end(begun: Idle<D::Out>, station: Recorded, desk: &mut D) -> bool
+        requires { (extra : Tail) × (h : List Entry) × IsNewTail extra.keep extra.name.now station.keep (D.Out.written begun.it) (D.Out.faults begun.it) (D.Out.name begun.it) × RecordedStands Stands station h }
+        ensures { (extra : Tail) (h : List Entry) → IsNewTail extra.keep extra.name.now station.keep (D.Out.written begun.it) (D.Out.faults begun.it) (D.Out.name begun.it) → RecordedStands Stands station h → EndsBehind (HoldsTail extra.keep) (Some extra.name.now) h (D.told desk.old) (D.told desk.new) (not result) }
+    {
+        let Idle { it: mut sink } = begun;
+        let written = write_tail(&mut sink, &station);
+        desk.close_sink(sink);
+        written
+    }
+}
+
+// Writes the entries that are kept, as they are spelled. False: a prefix was written.
+fn write_entries<S: Sink>(sink: &mut S, recorded: &Recorded) -> bool
+    ensures all { result ≡ true → S.written sink.new ≡ with_bytes (S.written sink.old) (flat_map (λ text. text) recorded.now.texts) }
+    ensures prefix { AppendsPrefix (S.written sink.old) (S.written sink.new) (flat_map (λ text. text) recorded.now.texts) }
+    ensures cause { HasCause (S.faults sink.old) (S.faults sink.new) (result ≡ false) }
+    ensures name { S.name sink.new ≡ S.name sink.old }
+{
+    let (front, back) = recorded.texts();
+    write_all(sink, front) && write_all(sink, back)
+}
+
+/// Writes the last entries of the history, behind the number of the first of them. False: a prefix was written, and the sink's
+/// count of faults rose.
+fn write_tail<S: Sink>(sink: &mut S, recorded: &Recorded) -> bool
+    ensures all { (h : List Entry) → RecordedStands Stands recorded.now h → result ≡ true → S.written sink.new ≡ with_bytes (S.written sink.old) (tail_of recorded.now.keep h) }
+    ensures prefix { (h : List Entry) → RecordedStands Stands recorded.now h → AppendsPrefix (S.written sink.old) (S.written sink.new) (tail_of recorded.now.keep h) }
+    ensures cause { HasCause (S.faults sink.old) (S.faults sink.new) (result ≡ false) }
+    ensures name { S.name sink.new ≡ S.name sink.old }
+{
+    write_tail_head(sink, recorded.first()) && write_entries(sink, recorded)
+}

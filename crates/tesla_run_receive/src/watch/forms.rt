@@ -1,0 +1,20 @@
+//! The form of the command, as it is told.
+
+use crate::{Form, Order};
+use tesla_front::FormText;
+
+/// The form of `watch`.
+pub const WATCH: FormText = FormText {
+    words: "watch SETUP LAG CAPACITY LINKS SINKS STATUS EVERY",
+    about: "    does as receive does, empties STATUS, and writes a line with its counts to
+    it every EVERY seconds, and one when all links have ended.
+    EVERY: 1 to 3600
+",
+};
+
+/// The words of `watch`: the output is STATUS, and the number EVERY.
+pub(crate) const WORDS: Form = Form {
+    name: "watch",
+    greatest: 3_600,
+    order: Order::OutputFirst,
+};

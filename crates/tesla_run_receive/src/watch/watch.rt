@@ -1,0 +1,93 @@
+//! A run of the command `watch`.
+
+ghost use Rattle.std.specs.Prelude.{◌≡◌, ◌≤◌, [], ℕ, List, None, Some, map, string_bytes};
+ghost use Rattle.tesla_fitting.specs.declared.config.Config.{Config};
+ghost use Rattle.tesla_front.specs.OutcomeView.{Usage, result_view, outcome_view};
+ghost use Rattle.tesla_front.specs.Command.{Performs, RunsAs};
+ghost use Rattle.tesla_receiver.specs.Stands.{Stands};
+ghost use Rattle.tesla_run_receive.specs.Arguments.{AreFew, workers_wanted};
+ghost use Rattle.tesla_run_receive.specs.OutputArguments.{arguments_of};
+ghost use Rattle.tesla_run_receive.specs.Running.{RunsStation};
+ghost use Rattle.tesla_recorder.specs.declared.watched.watched.WatchedConfig.{WatchedConfig};
+ghost use Rattle.tesla_run_receive.specs.watch.Arguments.{IsWatch};
+ghost use Rattle.tesla_run_receive.specs.watch.Watch.{HoldsStatus, watching};
+
+use crate::watch::forms::WORDS;
+use crate::watch::monitor::Monitoring;
+use crate::{OutputWords, StationResult, output_words_in, receiver_under, run_station};
+use std::alloc::Global;
+use std::sync::Wait;
+use std::thread::Threads;
+use tesla_desk::Desk;
+use tesla_front::{Fault, LiveRun, Outcome, Stop, outcome_of, without_history};
+use tesla_receiver::Receiver;
+use tesla_recorder::watched::Watched;
+use tesla_turn::Last;
+
+/// Runs the words as those of `watch`.
+///
+/// SETUP is read and judged, and all memory is taken; then the links are opened in order, each with the next clock, the
+/// sinks, and STATUS. Then a worker runs for each link and each sink, as those of `receive` do, and beside them a monitor, which
+/// appends a line of the counts to STATUS every EVERY seconds, by a clock of its own. It takes no turn. When the workers have
+/// ended, whatever they came to, a last line is written. A STATUS that fails gets no further line, and stops nothing. `Done`
+/// tells the counts. It waits for the links.
+pub fn run_watch<R: Threads + Wait + Sync, D: Desk>(
+    rt: &R,
+    alloc: Global,
+    words: &[String],
+    desk: &mut D,
+) -> LiveRun<Last<Watched>>
+    ensures runs { RunsAs (watching (D.told desk.old).live (D.told desk.new).live result.last) (map string_bytes words.now) (D.told desk.old) (D.told desk.new) (outcome_view result.outcome) }
+    ensures none { outcome_view result.outcome ≡ Usage → result.last ≡ None }
+{
+    match output_words_in(&WORDS, words) {
+        Some(arguments) => {
+            let (outcome, last) = perform(rt, alloc, &arguments, desk);
+            LiveRun {
+                outcome: outcome_of(outcome),
+                last,
+            }
+        }
+        None => without_history(Outcome::Usage),
+    }
+}
+
+// Does what the words of `watch` ask for.
+fn perform<R: Threads + Wait + Sync, D: Desk>(
+    rt: &R,
+    alloc: Global,
+    arguments: &OutputWords<'_>,
+    desk: &mut D,
+) -> StationResult<Watched>
+    requires form { (spelled : List (List ℕ)) × IsWatch (arguments_of arguments.now) spelled }
+    ensures { Performs (watching (D.told desk.old).live (D.told desk.new).live result.1) (arguments_of arguments.now) (D.told desk.old) (D.told desk.new) (result_view result.0) }
+{
+    match receiver_under(alloc, &arguments.receive, desk) {
+        Ok(receiver) => run_watched(rt, alloc, arguments, receiver, desk),
+        Err(stop) => (Err(stop), None),
+    }
+}
+
+// Runs the workers over this receiver, and writes its counts.
+fn run_watched<R: Threads + Wait + Sync, D: Desk>(
+    rt: &R,
+    alloc: Global,
+    arguments: &OutputWords<'_>,
+    receiver: Receiver,
+    desk: &mut D,
+) -> StationResult<Watched>
+    requires few { AreFew (arguments_of arguments.now).receive }
+    requires every { arguments.now.number ≤ 3600 }
+    requires stands { Stands receiver [] }
+    ensures { (cfg : WatchedConfig Config) × RunsStation HoldsStatus (Some arguments.now.output.now) receiver.config (workers_wanted (arguments_of arguments.now).receive) cfg (D.told desk.old) (D.told desk.new) result.1 (result_view result.0) }
+{
+    let Ok((watched, reader)) = Watched::open(alloc, receiver) else {
+        return (Err(Stop::Failed(Fault::NoMemory)), None);
+    };
+    let monitoring = Monitoring {
+        status: arguments.output,
+        every: arguments.number,
+        reader,
+    };
+    run_station(rt, alloc, &arguments.receive, watched, monitoring, desk)
+}
