@@ -2,12 +2,12 @@
 #![tactic(auto)]
 
 use std::process::ExitCode;
+use tesla_cli::program::{run_program, words};
 use tesla_cli_live::{
     is_live, is_live_tool, is_recorded, live, live_tools, recorded, run_live, run_live_tools,
     run_recorded,
 };
 use tesla_live::{Command, Gates, LiveDesk};
-use tesla_program::{run_program, words};
 
 fn main(rt: HostRuntime) -> ExitCode {
     let gates = Gates::new();

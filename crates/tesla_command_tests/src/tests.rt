@@ -23,10 +23,10 @@ use std::process::ExitCode;
 use std::sync::Wait;
 use std::test::Fail;
 use std::thread::Threads;
+use tesla_cli::program::run_program;
 use tesla_cli_live::{is_live, is_live_tool, is_recorded, run_live, run_live_tools, run_recorded};
 use tesla_desk::Desk;
 use tesla_memory_desk::MemoryDesk;
-use tesla_program::run_program;
 use tesla_test_desk::{Row, run_result, set_pieces, words_of};
 
 /// More bytes than any page has.

@@ -2,8 +2,8 @@
 #![tactic(auto)]
 
 use std::process::ExitCode;
+use tesla_cli::program::{run_program, words};
 use tesla_live::{Command, Gates, LiveDesk};
-use tesla_program::{run_program, words};
 
 fn main(rt: HostRuntime) -> ExitCode {
     let gates = Gates::new();

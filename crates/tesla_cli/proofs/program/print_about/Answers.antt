@@ -7,8 +7,8 @@ use Rattle.tesla_front.specs.OutcomeView.{Failed}
 use Rattle.tesla_front.specs.Fault.{fault_status, unopened}
 use Rattle.tesla_front.specs.declared.fault.Fault.TheVariants as faults
 use Rattle.tesla_front.proofs.Consoles.{unopened_console}
-use Rattle.tesla_program.specs.About.{Prints}
-use Rattle.tesla_program.proofs.print_about.Goals as goal
+use Rattle.tesla_cli.specs.program.About.{Prints}
+use Rattle.tesla_cli.proofs.program.print_about.Goals as goal
 
 status_unopened : (refusal : OpenRefusal) → (fault_status (unopened refusal) ≡ 0) ⊎ (fault_status (unopened refusal) ≡ 5) ⊎ (fault_status (unopened refusal) ≡ 6) ⊎ (fault_status (unopened refusal) ≡ 7)
 status_unopened refused.Failed = inr (inr (inr refl))

@@ -1,5 +1,5 @@
 use Rattle.std.proofs.Common.{length}
-use Rattle.tesla_program.proofs.about.+write_tables.Given as goal
+use Rattle.tesla_cli.proofs.program.about.+write_tables.Given as goal
 
 abbrev pub decreases-write_tables : goal.decreases-write_tables
 decreases-write_tables g l = length l.tables.now

@@ -1,6 +1,6 @@
 use Rattle.std.proofs.Common.{◌≡◌, ◌∙◌, [], ◌∷◌, codes, string_bytes, ap, rules}
-use Rattle.tesla_program.proofs.OneWord.{one_is}
-use Rattle.tesla_program.proofs.about.about_in.Goals as goal
+use Rattle.tesla_cli.proofs.program.OneWord.{one_is}
+use Rattle.tesla_cli.proofs.program.about.about_in.Goals as goal
 
 pub returns-in-len1-clause-found : goal.returns-in-len1-clause-found
 returns-in-len1-clause-found c =

@@ -1,19 +1,18 @@
 //! The program: the words that the system hands over, `--help` and `--version`, and the commands over a desk.
-#![tactic(auto)]
 
 ghost use Rattle.std.specs.Prelude.{◌≡◌};
-ghost use Rattle.tesla_program.specs.About.{Prints};
+ghost use Rattle.tesla_cli.specs.program.About.{Prints};
 
 mod about;
 mod choice;
 
+use crate::FORMS;
 use about::{About, about_in, write_about};
 use choice::run_chosen;
 use std::alloc::{AllocError, Global};
 use std::process::ExitCode;
 use std::rt::Env;
 use std::{env, io};
-use tesla_cli::FORMS;
 use tesla_desk::{CONSOLE, Desk};
 use tesla_front::{Fault, FormText, Outcome, tell};
 

@@ -2,9 +2,9 @@
 
 ghost use Rattle.std.specs.Prelude.{◌≡◌, [], ◌∷◌, Some, IfSome, false, map, string_bytes};
 ghost use Rattle.tesla_desk.specs.Faults.{HasCause};
-ghost use Rattle.tesla_program.specs.About.{word_of};
+ghost use Rattle.tesla_cli.specs.program.About.{word_of};
 
-use tesla_cli::{FORMS, TOOLS};
+use crate::{FORMS, TOOLS};
 use tesla_desk::{Sink, write_all};
 use tesla_front::FormText;
 

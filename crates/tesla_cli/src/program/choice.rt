@@ -2,10 +2,10 @@
 
 ghost use Rattle.std.specs.Prelude.{◌≡◌, map, string_bytes};
 ghost use Rattle.tesla_front.specs.OutcomeView.{OutcomeView, status_of};
-ghost use Rattle.tesla_program.specs.Choice.{RunsChosen};
+ghost use Rattle.tesla_cli.specs.program.Choice.{RunsChosen};
 
+use crate::{is_tool, run_here, run_tools};
 use std::alloc::Global;
-use tesla_cli::{is_tool, run_here, run_tools};
 use tesla_desk::Desk;
 
 /// Runs the words as those of a tool where the first of them names one, and else as those of the other commands, and

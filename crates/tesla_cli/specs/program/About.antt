@@ -3,8 +3,8 @@ use Rattle.std.specs.Prelude.{◌≡◌, ◌≢◌, ◌⊎◌, ℕ, List, [], �
 use Rattle.tesla_desk.specs.Faults.{HasCauses}
 use Rattle.tesla_desk.specs.Outside.{Told, AsksPrefix}
 use Rattle.tesla_front.specs.Run.{console}
-use Rattle.tesla_program.specs.declared.about.About.{About}
-use Rattle.tesla_program.specs.declared.about.About.TheVariants.{Help, Version}
+use Rattle.tesla_cli.specs.declared.program.about.About.{About}
+use Rattle.tesla_cli.specs.declared.program.about.About.TheVariants.{Help, Version}
 
 -- the word that asks for a text
 abbrev pub word_of : About → List ℕ
