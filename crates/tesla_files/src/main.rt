@@ -1,4 +1,4 @@
-//! The program `tesla` again, whose stored run is a capture that ends within a record.
+//! The program `tesla` without its live commands.
 #![tactic(auto)]
 
 use std::process::ExitCode;
