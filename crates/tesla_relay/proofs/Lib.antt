@@ -1,5 +1,6 @@
 pub mod Feeding
 pub mod Heard
+pub mod HeardSoFar
 pub mod Moves
 pub mod Queued
 pub mod Sending

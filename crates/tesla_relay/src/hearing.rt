@@ -76,7 +76,6 @@ fn hand_on<R: Threads + Wait + Sync, G: Gate, W: Serve + Send>(
     empty_all(rt, here);
 }
 
-#[tactic(auto, using(crate::proofs::Heard::hears_none, crate::proofs::Heard::hears_quiet, crate::proofs::Heard::hears_more, crate::proofs::Heard::hears_same, crate::proofs::Heard::serve_none, crate::proofs::Heard::serve_then, crate::proofs::Heard::are_feeding, crate::proofs::Heard::are_serving))]
 // Puts each datagram of the link into the queues, until the link ends or fails.
 fn hear<R: Threads + Wait + Sync, K: Link, G: Gate, W: Serve + Send>(
     rt: &R,

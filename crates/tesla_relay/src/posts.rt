@@ -1,6 +1,6 @@
 //! The opening and the closing of posts under several names.
 
-ghost use Rattle.std.specs.Prelude.{◌≡◌, ◌≤◌, ◌+◌, [], Err, IfOk, map, length, vec_len, vec_capacity};
+ghost use Rattle.std.specs.Prelude.{◌≡◌, ◌≤◌, ◌+◌, [], MatchResult, map, length, vec_len, vec_capacity};
 ghost use Rattle.tesla_relay.specs.Opening.{OpensOne, RefusesOne, OpensPosts, ClosesPosts, name_of};
 ghost use Rattle.tesla_relay.specs.Posts.{PostSeen};
 
@@ -9,8 +9,7 @@ use tesla_front::Fault;
 
 // Opens a post.
 fn open_one<D: Desk>(desk: &mut D, name: &str) -> Result<D::Port, Fault>
-    ensures opened { IfOk result (λ post. OpensOne name.now (D.told desk.old) (D.told desk.new) (record { name = D.Port.name post; sent = D.Port.sent post; faults = D.Port.faults post })) }
-    ensures refused { (fault : _) → result ≡ Err fault → RefusesOne name.now (D.told desk.old) (D.told desk.new) fault }
+    ensures { MatchResult result (λ post. OpensOne name.now (D.told desk.old) (D.told desk.new) (record { name = D.Port.name post; sent = D.Port.sent post; faults = D.Port.faults post })) (λ fault. RefusesOne name.now (D.told desk.old) (D.told desk.new) fault) }
 {
     Ok(desk.open_post(name)?)
 }

@@ -1,6 +1,7 @@
 //! The queues before the posts, from their making to the counts.
 
 ghost use Rattle.std.specs.Prelude.{◌≡◌, ◌<◌, ◌≤◌, ◌+◌, [], ℕ, List, IfOk, length, map, vec_len, vec_capacity};
+ghost use Rattle.std.specs.Arc.{arc_value};
 ghost use Rattle.tesla_relay.specs.Posts.{PostSeen};
 ghost use Rattle.tesla_relay.specs.Lists.{Ends};
 ghost use Rattle.tesla_relay.specs.Queues.{Adds, AreNew, Ending, GivesBack, IsEnding, IsNew, Starting};
@@ -26,17 +27,24 @@ pub struct Queue {
     pub free: Arc<FreeBuffers>,
 }
 
+// Two owners of a value.
+fn shared<T: Drop>(alloc: Global, value: T) -> Result<(Arc<T>, Arc<T>), NoMemory>
+    ensures { IfOk result (λ both. (arc_value both.0 ≡ value) × (arc_value both.1 ≡ value)) }
+{
+    let one = Arc::new(alloc, value)?;
+    let other = Arc::try_clone(&one)?;
+    Ok((one, other))
+}
+
 // A queue for so many datagrams, with two buffers more than it has places: one datagram may be on its way in, and one on its
 // way out.
 fn new_queue(alloc: Global, capacity: usize) -> Result<Queue, NoMemory>
     requires { (1 ≤ capacity) × (capacity ≤ 4096) }
     ensures { IfOk result (λ queue. IsNew capacity queue) }
 {
+    let (free, same) = shared(alloc, new_buffers(alloc, capacity + 3)?)?;
     let (line, put, popped) = new_line(alloc, capacity + 1)?;
-    let line = Arc::new(alloc, line)?;
-    let other = Arc::try_clone(&line)?;
-    let free = Arc::new(alloc, new_buffers(alloc, capacity + 3)?)?;
-    let same = Arc::try_clone(&free)?;
+    let (line, other) = shared(alloc, line)?;
     Ok(Queue {
         feed: Feed::new(line, put, free, capacity),
         line: other,

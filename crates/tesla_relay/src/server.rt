@@ -16,7 +16,7 @@ use std::sync::{Arc, Wait};
 use tesla_desk::{Gate, Post, PostStep};
 
 /// What a server found in its queue.
-#[derive(Clone, Copy, Debug, PartialEq, Eq)]
+#[derive(Clone, Copy)]
 enum Served {
     /// A datagram, which was sent unless the post had failed.
     Datagram,

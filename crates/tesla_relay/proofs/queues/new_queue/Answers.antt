@@ -5,7 +5,7 @@ use Rattle.tesla_relay.proofs.queues.new_queue.Goals as goal
 pub returns : goal.returns
 returns c = record {
   feeding = record { own = search rules; items = []; view_is = search rules; taken_is = search rules; room = search rules; few = search rules };
-  fed = new_fed c.new-3.result (search rules) (search rules);
+  fed = new_fed c.new.result (search rules) (search rules);
   capacity_is = search rules;
   own = search rules;
   view_is = search rules;

@@ -1,0 +1,41 @@
+use Rattle.std.proofs.Common.{◌∙◌, take, refl, rules}
+use Rattle.tesla_relay.proofs.Heard.{hears_same}
+use Rattle.tesla_relay.proofs.HeardSoFar.{cause_since, heard_more, heard_none, heard_quiet, left_none}
+use Rattle.tesla_relay.proofs.hearing.hear.Goals as goal
+
+pub loop-init : goal.loop-init
+loop-init g c = record { size = refl; heard = heard_none _ _ _ c.requires.feeding c.requires.serving; faults = refl; name = refl }
+
+pub loop-preserved-in-Datagram : goal.loop-preserved-in-Datagram
+loop-preserved-in-Datagram g c = record {
+  size = search rules;
+  heard = heard_more (take c.in-Datagram.length c.next-in-loop.new.into) _ _ _ _ _ _ _ _ _ c.loop.invariant.heard c.in-Datagram.ensures.step.left c.hand_on.ensures.feeds c.hand_on.ensures.here;
+  faults = c.in-Datagram.ensures.cause.still (λ e. absurd cc) ∙ c.loop.invariant.faults;
+  name = c.next-in-loop.ensures.name ∙ c.loop.invariant.name;
+}
+
+pub loop-preserved : goal.loop-preserved
+loop-preserved g c = record {
+  size = search rules;
+  heard = heard_quiet _ _ _ _ _ _ _ c.loop.invariant.heard c.in-Quiet.ensures.step;
+  faults = c.in-Quiet.ensures.cause.still (λ e. absurd cc) ∙ c.loop.invariant.faults;
+  name = c.next-in-loop.ensures.name ∙ c.loop.invariant.name;
+}
+
+pub returns-in-End : goal.returns-in-End
+returns-in-End g c = record {
+  hears = hears_same _ _ _ _ _ c.loop.invariant.heard.hears c.in-End.ensures.step.left;
+  ended = λ e. left_none _ _ c.in-End.ensures.step;
+  here = c.loop.invariant.heard.here;
+  cause = cause_since _ _ _ c.loop.invariant.faults c.in-End.ensures.cause (λ e. absurd cc) (λ e. absurd cc);
+  name = c.next-in-loop.ensures.name ∙ c.loop.invariant.name;
+}
+
+pub returns-in-Failed : goal.returns-in-Failed
+returns-in-Failed g c = record {
+  hears = hears_same _ _ _ _ _ c.loop.invariant.heard.hears c.in-Failed.ensures.step;
+  ended = λ e. absurd cc;
+  here = c.loop.invariant.heard.here;
+  cause = cause_since _ _ _ c.loop.invariant.faults c.in-Failed.ensures.cause (λ e. refl) (λ e. refl);
+  name = c.next-in-loop.ensures.name ∙ c.loop.invariant.name;
+}
