@@ -40,6 +40,17 @@ impl<T> Entries<T> {
         Ok(Box::new(alloc, Entries::Empty)?)
     }
 
+    /// A copy of a name, and a box for one entry more, which are made before anything changes.
+    pub fn spare_under(alloc: Global, name: &str) -> Result<(Text, Box<Entries<T>>), NoMemory>
+    where
+        T: Drop,
+        ensures { IfOk result (λ made. made.0 ≡ name.now) }
+    {
+        let spare = Entries::spare(alloc)?;
+        let name = Text::new(alloc, name.as_bytes())?;
+        Ok((name, spare))
+    }
+
     /// Puts an entry before the others. The box was made before, so that this takes no memory.
     pub fn put(&mut self, entry: T, mut spare: Box<Entries<T>>)
     where
@@ -76,8 +87,7 @@ pub fn put_under<T: Drop>(
 ) -> Result<(), NoMemory>
     ensures { entries_in entries.new ≡ (if is_ok result then record { name = name.now; value = value } ∷ entries_in entries.old else entries_in entries.old) }
 {
-    let spare = Entries::spare(alloc)?;
-    let name = Text::new(alloc, name.as_bytes())?;
+    let (name, spare) = Entries::spare_under(alloc, name)?;
     entries.put(Named { name, value }, spare);
     Ok(())
 }

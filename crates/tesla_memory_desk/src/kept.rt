@@ -7,7 +7,7 @@ ghost use Rattle.tesla_memory_desk.specs.Calls.{next_fails, after_call};
 use crate::calls::Calls;
 use crate::entries::{Entries, Named};
 use std::alloc::Global;
-use tesla_base::{NoMemory, Text};
+use tesla_base::NoMemory;
 
 /// A value under the name of an open object, the calls of the object, how many faults it had, and the box that puts the
 /// value before others.
@@ -26,8 +26,7 @@ impl<T: Drop> Kept<T> {
         ensures calls { IfOk result (λ it. it.calls ≡ calls) }
         ensures faults { IfOk result (λ it. it.faults ≡ 0) }
     {
-        let spare = Entries::spare(alloc)?;
-        let name = Text::new(alloc, name.as_bytes())?;
+        let (name, spare) = Entries::spare_under(alloc, name)?;
         Ok(Kept {
             entry: Named { name, value },
             calls,

@@ -1,6 +1,6 @@
 //! A link in memory.
 
-ghost use Rattle.std.specs.Prelude.{◌≡◌, ◌≤◌, nat_lt, length, Some, IfOk, if◌then◌else◌};
+ghost use Rattle.std.specs.Prelude.{◌≡◌, nat_lt, Some, IfOk, if◌then◌else◌};
 ghost use Rattle.tesla_desk.specs.Faults.{HasCause, raised};
 ghost use Rattle.tesla_desk.specs.Links.{Gets};
 
@@ -10,13 +10,12 @@ use crate::kept::Kept;
 use crate::stored_letters::{StoredLetters, StoredRemainder, StoredRemainders};
 use std::alloc::Global;
 use tesla_base::{MOST_DATAGRAM, NoMemory};
-use tesla_desk::{Got, Letter, Link};
+use tesla_desk::{Got, Link};
 
 /// The letters that a desk had when the link was opened. A call fails exactly where its number is listed.
 #[derive(Drop)]
 pub struct Letters {
     kept: Kept<StoredRemainder>,
-    ghost within: { kept.entry.value.at ≤ length kept.entry.value.letters.items.items },
 }
 
 impl Letters {
@@ -79,17 +78,6 @@ impl Link for Letters {
         if self.kept.fails() {
             return Got::Failed;
         }
-        let at = self.kept.entry.value.at;
-        let Some(letter) = self.kept.entry.value.letters.items.get(at) else {
-            return Got::End;
-        };
-        let Letter::Datagram { bytes } = letter else {
-            self.kept.entry.value.at += 1;
-            return Got::Quiet;
-        };
-        let bytes = bytes.bytes();
-        into[..bytes.len()].copy_from_slice(bytes);
-        self.kept.entry.value.at += 1;
-        Got::Datagram(bytes.len())
+        self.kept.entry.value.next(into)
     }
 }

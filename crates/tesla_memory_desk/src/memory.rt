@@ -22,7 +22,7 @@ use crate::stored_letters::{StoredLetters, StoredRemainders};
 use crate::stored_mail::StoredMails;
 use crate::{Heap, Letters, Outbox, Pages, Readings};
 use std::alloc::Global;
-use tesla_base::{NoMemory, Text};
+use tesla_base::NoMemory;
 use tesla_desk::{Desk, Letter, OpenGate, OpenRefusal};
 
 /// A desk whose pages, letters, mail and readings are in memory. It tells all of them, and the openings that it was asked for.
@@ -279,10 +279,9 @@ impl Desk for MemoryDesk {
         ensures set { IfOk result (λ it. NewSource self.old name.now it) }
         ensures rest { rest_of self.new ≡ after_asked (OfSource name.now) result (rest_of self.old) }
     {
-        let spare = Entries::spare(self.alloc)?;
-        let asked = AskedOpening::Source(Text::new(self.alloc, name.as_bytes())?);
+        let (text, spare) = Entries::spare_under(self.alloc, name)?;
         let made = self.source_of(name);
-        self.enter(asked, spare, made)
+        self.enter(AskedOpening::Source(text), spare, made)
     }
 
     /// `Failed` exactly where the number of the opening is listed.
@@ -296,10 +295,9 @@ impl Desk for MemoryDesk {
         ensures set { IfOk result (λ it. NewSink self.old name.now it) }
         ensures rest { rest_of self.new ≡ after_asked (OfSink name.now) result (rest_of self.old) }
     {
-        let spare = Entries::spare(self.alloc)?;
-        let asked = AskedOpening::Sink(Text::new(self.alloc, name.as_bytes())?);
+        let (text, spare) = Entries::spare_under(self.alloc, name)?;
         let made = self.sink_of(name);
-        self.enter(asked, spare, made)
+        self.enter(AskedOpening::Sink(text), spare, made)
     }
 
     fn close_source(&mut self, it: Pages)
@@ -334,10 +332,9 @@ impl Desk for MemoryDesk {
         ensures set { IfOk result (λ it. NewLink self.old name.now it) }
         ensures rest { rest_of self.new ≡ after_asked (OfLink name.now) result (rest_of self.old) }
     {
-        let spare = Entries::spare(self.alloc)?;
-        let asked = AskedOpening::Link(Text::new(self.alloc, name.as_bytes())?);
+        let (text, spare) = Entries::spare_under(self.alloc, name)?;
         let made = self.link_of(name);
-        self.enter(asked, spare, made)
+        self.enter(AskedOpening::Link(text), spare, made)
     }
 
     fn close_link(&mut self, it: Letters)
@@ -362,10 +359,9 @@ impl Desk for MemoryDesk {
         ensures set { IfOk result (λ it. NewPost self.old name.now it) }
         ensures rest { rest_of self.new ≡ after_asked (OfPost name.now) result (rest_of self.old) }
     {
-        let spare = Entries::spare(self.alloc)?;
-        let asked = AskedOpening::Post(Text::new(self.alloc, name.as_bytes())?);
+        let (text, spare) = Entries::spare_under(self.alloc, name)?;
         let made = self.post_of(name);
-        self.enter(asked, spare, made)
+        self.enter(AskedOpening::Post(text), spare, made)
     }
 
     fn close_post(&mut self, it: Outbox)

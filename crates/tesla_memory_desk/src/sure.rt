@@ -17,7 +17,7 @@ use crate::stored_letters::{StoredLetters, StoredRemainders};
 use crate::sure_parts::{SurePages, SureRests};
 use crate::{Readings, SureLink, SurePost, SureSink, SureSource};
 use std::alloc::Global;
-use tesla_base::{NoMemory, Text};
+use tesla_base::NoMemory;
 use tesla_desk::{Desk, Letter, OpenGate, OpenRefusal};
 
 /// A desk in memory on which no call from outside fails: its counts of faults are the constant 0.
@@ -147,10 +147,9 @@ impl Desk for SureDesk {
         ensures desk { OpensSource name.now result (sure_told_by self.old) (sure_told_by self.new) }
         ensures exact { Refuses false result }
     {
-        let spare = Entries::spare(self.alloc)?;
-        let asked = AskedOpening::Source(Text::new(self.alloc, name.as_bytes())?);
+        let (text, spare) = Entries::spare_under(self.alloc, name)?;
         let source = self.source_of(name)?;
-        self.asked.put(asked, spare);
+        self.asked.put(AskedOpening::Source(text), spare);
         Ok(source)
     }
 
@@ -163,10 +162,9 @@ impl Desk for SureDesk {
         ensures pages { (n : List ℕ) → (sure_told_by self.new).page n ≡ (sure_told_by self.old).page n }
         ensures exact { Refuses false result }
     {
-        let spare = Entries::spare(self.alloc)?;
-        let asked = AskedOpening::Sink(Text::new(self.alloc, name.as_bytes())?);
+        let (text, spare) = Entries::spare_under(self.alloc, name)?;
         let sink = SureSink::new(self.alloc, name)?;
-        self.asked.put(asked, spare);
+        self.asked.put(AskedOpening::Sink(text), spare);
         Ok(sink)
     }
 
@@ -188,10 +186,9 @@ impl Desk for SureDesk {
         ensures desk { OpensLink name.now result (sure_told_by self.old) (sure_told_by self.new) }
         ensures exact { Refuses false result }
     {
-        let spare = Entries::spare(self.alloc)?;
-        let asked = AskedOpening::Link(Text::new(self.alloc, name.as_bytes())?);
+        let (text, spare) = Entries::spare_under(self.alloc, name)?;
         let link = self.link_of(name)?;
-        self.asked.put(asked, spare);
+        self.asked.put(AskedOpening::Link(text), spare);
         Ok(link)
     }
 
@@ -208,10 +205,9 @@ impl Desk for SureDesk {
         ensures desk { OpensPost name.now result (sure_told_by self.old) (sure_told_by self.new) }
         ensures exact { Refuses false result }
     {
-        let spare = Entries::spare(self.alloc)?;
-        let asked = AskedOpening::Post(Text::new(self.alloc, name.as_bytes())?);
+        let (text, spare) = Entries::spare_under(self.alloc, name)?;
         let post = SurePost::new(self.alloc, name)?;
-        self.asked.put(asked, spare);
+        self.asked.put(AskedOpening::Post(text), spare);
         Ok(post)
     }
 

@@ -39,8 +39,7 @@ impl SureSource {
         ensures name { IfOk result (λ it. sure_source_name_of it ≡ name.now) }
         ensures bytes { IfOk result (λ it. sure_left_of it ≡ option_map (λ bytes. bytes.now) bytes.entry) }
     {
-        let spare = Entries::spare(alloc)?;
-        let name = Text::new(alloc, name.as_bytes())?;
+        let (name, spare) = Entries::spare_under(alloc, name)?;
         let value = SureSource::stored(alloc, bytes)?;
         Ok(SureSource {
             rest: Named { name, value },
@@ -107,8 +106,7 @@ impl SureSink {
     pub(crate) fn new(alloc: Global, name: &str) -> Result<SureSink, NoMemory>
         ensures { IfOk result (λ it. sure_sink_name_of it ≡ name.now) }
     {
-        let spare = Entries::spare(alloc)?;
-        let name = Text::new(alloc, name.as_bytes())?;
+        let (name, spare) = Entries::spare_under(alloc, name)?;
         Ok(SureSink { name, spare })
     }
 
