@@ -1,4 +1,5 @@
 pub mod Stopping
+pub mod AnyEnded
 pub mod Closings
 pub mod Openings
 pub mod Runs

@@ -41,6 +41,21 @@ pub struct Ran<V: Station> {
     pub last: Last<V>,
 }
 
+// Room for so many workers of one kind, and so many of another.
+fn rooms_for<A, B>(alloc: Global, some: usize, others: usize) -> Result<(Vec<A>, Vec<B>), NoMemory>
+    ensures some { IfOk result (λ rooms. (rooms.0.items ≡ []) × (some ≤ vec_capacity rooms.0)) }
+    ensures others { IfOk result (λ rooms. (rooms.1.items ≡ []) × (others ≤ vec_capacity rooms.1)) }
+{
+    let room = Vec::with_capacity(alloc, some)?;
+    match Vec::with_capacity(alloc, others) {
+        Ok(other) => Ok((room, other)),
+        Err(_) => {
+            room.destroy_empty();
+            Err(NoMemory)
+        }
+    }
+}
+
 /// Takes all memory that a run needs over a station with no history, with so many links and sinks: a turn with a pass for each
 /// worker, and room for the workers. `NoMemory` drops the station.
 pub fn prepared<D: Desk, V: Station>(
@@ -58,19 +73,13 @@ pub fn prepared<D: Desk, V: Station>(
 {
     let passes = 1 + links.len() as u8 + sinks.len() as u8;
     let (turn, first) = Turn::open(alloc, station, passes, CALLS)?;
-    let room = Vec::with_capacity(alloc, links.len())?;
-    match Vec::with_capacity(alloc, sinks.len()) {
-        Ok(sinks) => Ok(Session {
-            turn,
-            first,
-            links: room,
-            sinks,
-        }),
-        Err(_) => {
-            room.destroy_empty();
-            Err(NoMemory)
-        }
-    }
+    let (links, sinks) = rooms_for(alloc, links.len(), sinks.len())?;
+    Ok(Session {
+        turn,
+        first,
+        links,
+        sinks,
+    })
 }
 
 // Opens the links and then the sinks, until an opening is refused.

@@ -1,8 +1,9 @@
 //! The openings of links and sinks for the workers of a station, and their closings.
 
 ghost use Rattle.std.specs.Prelude.{◌≡◌, ◌<◌, ◌≤◌, ◌+◌, [], Err, IfOk, List, ℕ, map, length, vec_len, vec_capacity};
+ghost use Rattle.tesla_turn.specs.Held.{next_pass};
 ghost use Rattle.tesla_session.specs.Wanted.{Wanted, WantedLink, WantedSink};
-ghost use Rattle.tesla_session.specs.Session.{AreOf, ClosesWorker, ClosesWorkers, OpensMore, OpensWorker, RefusesWorker, Seen, SeenLink, SeenSink, name_of, pass_of};
+ghost use Rattle.tesla_session.specs.Session.{AreOf, ClosesWorker, ClosesWorkers, OpensMore, OpensWorker, RefusesWorker, Seen, SeenLink, SeenSink, name_of, pass_of, split_pass};
 
 use crate::worker::{LinkWorker, SinkWorker};
 use tesla_desk::Desk;
@@ -44,6 +45,19 @@ pub(crate) trait DeskWorker<D: Desk, V: Station> {
         ensures pass { result ≡ pass_of (seen self) };
 }
 
+// A further pass of the turn, for which the first has room.
+fn split_off<V: Station>(turn: &Turn<V>, first: &mut Pass<V>) -> Pass<V>
+    requires own { first.old.turn ≡ turn.now }
+    requires room { 0 < first.old.room }
+    ensures pass { result ≡ next_pass first.old }
+    ensures first { first.new ≡ split_pass first.old }
+{
+    let Ok(pass) = turn.split(first) else {
+        unreachable!()
+    };
+    pass
+}
+
 impl<D: Desk, V: Station> DeskWorker<D, V> for LinkWorker<V, D::Wire, D::Time, D::Pause> {
     ghost seen = { SeenLink };
 
@@ -59,9 +73,7 @@ impl<D: Desk, V: Station> DeskWorker<D, V> for LinkWorker<V, D::Wire, D::Time, D
         let link = desk.open_link(name)?;
         let clock = desk.clock();
         let gate = desk.gate();
-        let Ok(pass) = turn.split(first) else {
-            unreachable!()
-        };
+        let pass = split_off(turn, first);
         Ok(LinkWorker {
             ingest: number,
             link,
@@ -100,9 +112,7 @@ impl<D: Desk, V: Station> DeskWorker<D, V> for SinkWorker<V, D::Out, D::Pause> {
     ) -> Result<SinkWorker<V, D::Out, D::Pause>, Fault> {
         let sink = desk.open_sink(name)?;
         let gate = desk.gate();
-        let Ok(pass) = turn.split(first) else {
-            unreachable!()
-        };
+        let pass = split_off(turn, first);
         Ok(SinkWorker {
             releaser: number,
             sink,
@@ -143,9 +153,13 @@ pub(crate) fn open_each<D: Desk, V: Station, W: DeskWorker<D, V>>(
     let [name, names @ ..] = names else {
         return Ok(());
     };
-    let worker = W::open(desk, name, number, turn, first)?;
-    workers.push_reserved(worker);
-    open_each(desk, names, number + 1, turn, first, workers)
+    match W::open(desk, name, number, turn, first) {
+        Ok(worker) => {
+            workers.push_reserved(worker);
+            open_each(desk, names, number + 1, turn, first, workers)
+        }
+        Err(fault) => Err(fault),
+    }
 }
 
 /// Closes the workers, the last first, and takes their passes into the first.

@@ -5,6 +5,21 @@ use Rattle.tesla_session.specs.Session.{OpensWorkers, SeenLink, name_of, workers
 use Rattle.tesla_session.proofs.Sessions.{opens_links_sinks, opens_no_more, opens_same, room_left}
 use Rattle.tesla_session.proofs.engine.open_all.Goals as goal
 
+pub open_each-requires-clause-own : goal.open_each-requires-clause-own
+open_each-requires-clause-own g c κs within = c.requires.own
+
+pub open_each-requires-clause-room : goal.open_each-requires-clause-room
+open_each-requires-clause-room g c κs within =
+    let links : length (map name_of c.as_slice.result.now) ≡ length c.args.links.now = ap length c.as_slice.ensures in omega (arith, length-map c.as_slice.result.now name_of, links, c.requires.room)
+
+pub open_each-requires-clause-few : goal.open_each-requires-clause-few
+open_each-requires-clause-few g c κs within =
+    let links : length (map name_of c.as_slice.result.now) ≡ length c.args.links.now = ap length c.as_slice.ensures in omega (arith, length-map c.as_slice.result.now name_of, links, c.requires.few_links)
+
+pub open_each-requires-in-Ok-clause-few : goal.open_each-requires-in-Ok-clause-few
+open_each-requires-in-Ok-clause-few g c κs within =
+    let sinks : length (map name_of c.as_slice-in-Ok.result.now) ≡ length c.args.sinks.now = ap length c.as_slice-in-Ok.ensures in omega (arith, length-map c.as_slice-in-Ok.result.now name_of, sinks, c.requires.few_sinks)
+
 pub open_each-requires-in-Ok-clause-own : goal.open_each-requires-in-Ok-clause-own
 open_each-requires-in-Ok-clause-own g c κs within =
     let opened = c.in-Ok.ensures in
