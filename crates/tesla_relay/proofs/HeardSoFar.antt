@@ -1,10 +1,8 @@
 -- What was heard of a link so far, by the feeds and by the servers that stand with them.
 use Rattle.std.proofs.Common.{◌≡◌, ℕ, List, [], ◌∷◌, Option, IfSome, sym, subst}
-use Rattle.tesla_desk.specs.Faults.{HasCause}
 use Rattle.tesla_desk.specs.Links.{EndsLink, after_letters}
 use Rattle.tesla_desk.specs.declared.link.Letter.{Letter}
 use Rattle.tesla_desk.specs.declared.link.Letter.TheVariants as letters
-use Rattle.tesla_desk.proofs.Counts.{cause_as}
 use Rattle.tesla_relay.specs.Feeding.{ServerSeen, ServesOn}
 use Rattle.tesla_relay.specs.Lists.{AreFeeding, AreServing, Each, FeedsOn, HearsOn}
 use Rattle.tesla_relay.specs.declared.feed.Feed.{Feed}
@@ -34,7 +32,3 @@ heard_more datagram left mid later olds feeds news befores here now heard arrive
 -- nothing is left of a link that ended
 pub left_none : (old new : Option (List Letter)) → EndsLink old new → IfSome new (λ rest. rest ≡ [])
 left_none old new ends = subst (λ (left : Option (List Letter)). IfSome left (λ rest. rest ≡ [])) (sym ends.left) ends.empty
-
--- the cause of what is answered stands in the last call, since no call failed before
-pub cause_since : {failed other : Type 0} (before mid now : ℕ) → mid ≡ before → HasCause mid now failed → (other → failed) → (failed → other) → HasCause before now other
-cause_since {other = other} before mid now same cause there back = subst (λ (count : ℕ). HasCause count now other) same (cause_as mid now cause there back)

@@ -1,3 +1,4 @@
+pub mod Causes
 pub mod Feeding
 pub mod Heard
 pub mod HeardSoFar

@@ -29,9 +29,13 @@ pub fn open_posts<D: Desk>(
     let [name, names @ ..] = names else {
         return Ok(());
     };
-    let post = open_one(desk, name)?;
-    posts.push_reserved(post);
-    open_posts(desk, names, posts)
+    match open_one(desk, name) {
+        Ok(post) => {
+            posts.push_reserved(post);
+            open_posts(desk, names, posts)
+        }
+        Err(fault) => Err(fault),
+    }
 }
 
 /// Closes the posts, the last first.

@@ -1,6 +1,7 @@
 use Rattle.std.proofs.Common.{◌∙◌, take, refl, rules}
+use Rattle.tesla_relay.proofs.Causes.{cause_since}
 use Rattle.tesla_relay.proofs.Heard.{hears_same}
-use Rattle.tesla_relay.proofs.HeardSoFar.{cause_since, heard_more, heard_none, heard_quiet, left_none}
+use Rattle.tesla_relay.proofs.HeardSoFar.{heard_more, heard_none, heard_quiet, left_none}
 use Rattle.tesla_relay.proofs.hearing.hear.Goals as goal
 
 pub loop-init : goal.loop-init

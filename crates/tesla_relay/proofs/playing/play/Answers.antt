@@ -2,6 +2,7 @@ use Rattle.std.proofs.Common.{◌∙◌, ℕ, List, [], take, refl, ap, arith, r
 use Rattle.std.proofs.lemmas.List.{length-take}
 use Rattle.tesla_desk.specs.Outside.{after_bytes}
 use Rattle.tesla_relay.specs.Play.{Played, IsPlayed}
+use Rattle.tesla_relay.proofs.Causes.{cause_since}
 use Rattle.tesla_relay.proofs.Taken.{offset_rises, plays_arrival, plays_broken, plays_cut, plays_ended, plays_none, plays_refused, plays_take}
 use Rattle.tesla_relay.proofs.playing.play.Goals as goal
 
@@ -57,3 +58,27 @@ returns-in-Refused-clause-plays g c =
 pub returns-in-ReadFault-clause-plays : goal.returns-in-ReadFault-clause-plays
 returns-in-ReadFault-clause-plays g c =
     plays_cut c.loop.sent c.loop.reader.place c.next-in-loop.new.self.place c.next-in-loop.new.self.pending _ _ _ _ _ _ _ c.loop.invariant.plays c.in-ReadFault.ensures.gives (c.in-ReadFault.ensures.cut refl)
+
+pub returns-then-not-hand-clause-cause : goal.returns-then-not-hand-clause-cause
+returns-then-not-hand-clause-cause g c = cause_since _ _ _ c.loop.invariant.read c.in-Arrival.ensures.cause (λ e. absurd cc) (λ e. absurd cc)
+
+pub returns-then-not-hand-clause-name : goal.returns-then-not-hand-clause-name
+returns-then-not-hand-clause-name g c = c.next-in-loop.ensures.name ∙ c.loop.invariant.name
+
+pub returns-in-End-clause-cause : goal.returns-in-End-clause-cause
+returns-in-End-clause-cause g c = cause_since _ _ _ c.loop.invariant.read c.in-End.ensures.cause (λ e. absurd cc) (λ e. absurd cc)
+
+pub returns-in-End-clause-name : goal.returns-in-End-clause-name
+returns-in-End-clause-name g c = c.next-in-loop.ensures.name ∙ c.loop.invariant.name
+
+pub returns-in-Refused-clause-cause : goal.returns-in-Refused-clause-cause
+returns-in-Refused-clause-cause g c = cause_since _ _ _ c.loop.invariant.read c.in-Refused.ensures.cause (λ e. absurd cc) (λ e. absurd cc)
+
+pub returns-in-Refused-clause-name : goal.returns-in-Refused-clause-name
+returns-in-Refused-clause-name g c = c.next-in-loop.ensures.name ∙ c.loop.invariant.name
+
+pub returns-in-ReadFault-clause-cause : goal.returns-in-ReadFault-clause-cause
+returns-in-ReadFault-clause-cause g c = cause_since _ _ _ c.loop.invariant.read c.in-ReadFault.ensures.cause (λ e. refl) (λ e. refl)
+
+pub returns-in-ReadFault-clause-name : goal.returns-in-ReadFault-clause-name
+returns-in-ReadFault-clause-name g c = c.next-in-loop.ensures.name ∙ c.loop.invariant.name
