@@ -103,7 +103,21 @@ fn result_by<R: Threads + Wait + Sync>(
     run_result(alloc, status, desk)
 }
 
-// What is wrong of a row, where its pages move at most so many bytes a call.
+// What is wrong of a row, where its run is over this desk and its pages move at most so many bytes a call.
+fn wrong_over<R: Threads + Wait + Sync>(
+    rt: &R,
+    alloc: Global,
+    row: Row<'_>,
+    most: usize,
+    desk: &mut MemoryDesk,
+) -> Result<String, Fail> {
+    set_pieces(desk, row.words, most)?;
+    row.set_up(alloc, desk)?;
+    let status = status_of(rt, alloc, words_of(alloc, row.words)?, desk);
+    row.wrong(alloc, status, desk)
+}
+
+// The same over a desk of its own.
 fn wrong_in_row<R: Threads + Wait + Sync>(
     rt: &R,
     alloc: Global,
@@ -111,10 +125,9 @@ fn wrong_in_row<R: Threads + Wait + Sync>(
     most: usize,
 ) -> Result<String, Fail> {
     let mut desk = new_desk(alloc)?;
-    set_pieces(&mut desk, row.words, most)?;
-    row.set_up(alloc, &mut desk)?;
-    let status = status_of(rt, alloc, words_of(alloc, row.words)?, &mut desk);
-    row.wrong(alloc, status, &desk)
+    let wrong = wrong_over(rt, alloc, row, most, &mut desk);
+    drop(desk);
+    wrong
 }
 
 // What is wrong of the rows of a table.
@@ -182,17 +195,24 @@ fn each_outside_call_of_live_commands_fails_once(rt: HostRuntime) -> Result<(), 
     Ok(())
 }
 
-// Whether a run with two links and two sinks comes to one of the outcomes that it may have.
-fn is_one_of_two_and_two<R: Threads + Wait + Sync>(rt: &R, alloc: Global) -> Result<bool, Fail> {
-    let mut desk = new_desk(alloc)?;
-    let words = words_of(alloc, "receive setup 30000 16 hi,yo out,other")?;
-    let status = status_of(rt, alloc, words, &mut desk);
+// Whether what such a desk holds behind a run with two links and two sinks is one of the outcomes that it may have.
+fn is_outcome_of_two_and_two(alloc: Global, status: u8, desk: &MemoryDesk) -> Result<bool, Fail> {
     for text in live::TWO_AND_TWO.split("\n* ") {
-        if !text.is_empty() && Row::of(text)?.wrong(alloc, status, &desk)?.is_empty() {
+        if !text.is_empty() && Row::of(text)?.wrong(alloc, status, desk)?.is_empty() {
             return Ok(true);
         }
     }
     Ok(false)
+}
+
+// Whether a run with two links and two sinks comes to one of them.
+fn is_one_of_two_and_two<R: Threads + Wait + Sync>(rt: &R, alloc: Global) -> Result<bool, Fail> {
+    let words = words_of(alloc, "receive setup 30000 16 hi,yo out,other")?;
+    let mut desk = new_desk(alloc)?;
+    let status = status_of(rt, alloc, words, &mut desk);
+    let is_one = is_outcome_of_two_and_two(alloc, status, &desk);
+    drop(desk);
+    is_one
 }
 
 #[test]

@@ -1,6 +1,6 @@
 //! A command is run as often as it has outside calls, and each time another of them fails.
 
-use super::pages::new_desk;
+use super::pages::{desk_if_set, new_desk};
 use super::result_by;
 use std::alloc::Global;
 use std::sync::Wait;
@@ -73,7 +73,7 @@ const NOTHING: [&str; 2] = ["page ", "sent "];
 struct Ordinary<'a> {
     words: &'a str,
     calls: &'a str,
-    desk: MemoryDesk,
+    desk: &'a MemoryDesk,
     reported: String,
 }
 
@@ -92,13 +92,19 @@ fn calls_of(calls: &str) -> (&str, &str) {
     (called, name)
 }
 
-// A desk for a command with these calls.
-fn desk_for(alloc: Global, calls: &str) -> Result<MemoryDesk, Fail> {
-    let mut desk = new_desk(alloc)?;
+// Lets whatever these calls are of move ten bytes a call.
+fn set_pieces_of(desk: &mut MemoryDesk, calls: &str) -> Result<(), Fail> {
     for part in calls.split(", ") {
         desk.set_piece(calls_of(part).1, PIECE)?;
     }
-    Ok(desk)
+    Ok(())
+}
+
+// A desk for a command with these calls.
+fn desk_for(alloc: Global, calls: &str) -> Result<MemoryDesk, Fail> {
+    let mut desk = new_desk(alloc)?;
+    let set = set_pieces_of(&mut desk, calls);
+    desk_if_set(desk, set)
 }
 
 // What has to be told where the console's call with this number fails: behind what was written before, that a write failed.
@@ -137,7 +143,7 @@ fn holds_prefix(
     if held.as_str() == BEFORE || call.name.is_empty() {
         return Ok(held.as_str() == BEFORE || NOTHING.contains(&held.as_str()));
     }
-    let whole = held_by(alloc, &ordinary.desk, name)?;
+    let whole = held_by(alloc, ordinary.desk, name)?;
     Ok(whole.as_str().starts_with(held.as_str()))
 }
 
@@ -157,7 +163,33 @@ fn hold_prefixes(
     Ok(true)
 }
 
-// What is told of a run in which a call fails, if there is such a call.
+// Lets this call of a desk fail.
+fn set_failing(desk: &mut MemoryDesk, call: Call<'_>) -> Result<(), Fail> {
+    if call.name.is_empty() {
+        return Ok(desk.fail_open(call.number)?);
+    }
+    Ok(desk.fail_call(call.name, call.number)?)
+}
+
+// What is told of a run over this desk in which a call fails, if there is such a call.
+fn result_over<R: Threads + Wait + Sync>(
+    rt: &R,
+    alloc: Global,
+    ordinary: &Ordinary<'_>,
+    call: Call<'_>,
+    desk: &mut MemoryDesk,
+) -> Result<String, Fail> {
+    set_failing(desk, call)?;
+    let mut reported = result_by(rt, alloc, ordinary.words, desk)?;
+    if reported.as_str() != ordinary.reported.as_str()
+        && !hold_prefixes(alloc, desk, ordinary, call)?
+    {
+        reported.push_str(" with another output")?;
+    }
+    Ok(reported)
+}
+
+// The same over a desk of its own.
 fn result_of_failing<R: Threads + Wait + Sync>(
     rt: &R,
     alloc: Global,
@@ -165,18 +197,9 @@ fn result_of_failing<R: Threads + Wait + Sync>(
     call: Call<'_>,
 ) -> Result<String, Fail> {
     let mut desk = desk_for(alloc, ordinary.calls)?;
-    if call.name.is_empty() {
-        desk.fail_open(call.number)?;
-    } else {
-        desk.fail_call(call.name, call.number)?;
-    }
-    let mut reported = result_by(rt, alloc, ordinary.words, &mut desk)?;
-    if reported.as_str() != ordinary.reported.as_str()
-        && !hold_prefixes(alloc, &desk, ordinary, call)?
-    {
-        reported.push_str(" with another output")?;
-    }
-    Ok(reported)
+    let reported = result_over(rt, alloc, ordinary, call, &mut desk);
+    drop(desk);
+    reported
 }
 
 // How many calls of these there are, each of which failed once and was told so; or what was told else.
@@ -201,6 +224,41 @@ fn count_of<R: Threads + Wait + Sync>(
     Ok(String::from_str(alloc, "too many")?)
 }
 
+// The counts of the calls of a run that aren't those of the ordinary one.
+fn wrong_beside<R: Threads + Wait + Sync>(
+    rt: &R,
+    alloc: Global,
+    ordinary: &Ordinary<'_>,
+) -> Result<String, Fail> {
+    let mut wrong = String::new(alloc);
+    for part in ordinary.calls.split(", ") {
+        let count = count_of(rt, alloc, ordinary, part)?;
+        if count.as_str() != part {
+            let words = ordinary.words;
+            wrong.push_str(format!(in alloc; "{words}: {count}\n")?.as_str())?;
+        }
+    }
+    Ok(wrong)
+}
+
+// The counts of the calls of a run that aren't these, where its ordinary run is over this desk.
+fn wrong_over<R: Threads + Wait + Sync>(
+    rt: &R,
+    alloc: Global,
+    words: &str,
+    calls: &str,
+    desk: &mut MemoryDesk,
+) -> Result<String, Fail> {
+    let reported = result_by(rt, alloc, words, desk)?;
+    let ordinary = Ordinary {
+        words,
+        calls,
+        desk,
+        reported,
+    };
+    wrong_beside(rt, alloc, &ordinary)
+}
+
 // The counts of the calls of a run that aren't these.
 fn wrong_of<R: Threads + Wait + Sync>(
     rt: &R,
@@ -209,21 +267,9 @@ fn wrong_of<R: Threads + Wait + Sync>(
     calls: &str,
 ) -> Result<String, Fail> {
     let mut desk = desk_for(alloc, calls)?;
-    let reported = result_by(rt, alloc, words, &mut desk)?;
-    let ordinary = Ordinary {
-        words,
-        calls,
-        desk,
-        reported,
-    };
-    let mut wrong = String::new(alloc);
-    for part in calls.split(", ") {
-        let count = count_of(rt, alloc, &ordinary, part)?;
-        if count.as_str() != part {
-            wrong.push_str(format!(in alloc; "{words}: {count}\n")?.as_str())?;
-        }
-    }
-    Ok(wrong)
+    let wrong = wrong_over(rt, alloc, words, calls, &mut desk);
+    drop(desk);
+    wrong
 }
 
 /// The counts that aren't those of a table, with what they are.

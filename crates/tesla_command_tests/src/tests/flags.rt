@@ -131,12 +131,14 @@ fn side_by_side<R: Threads + Wait + Sync>(
     alloc: Global,
     flags: &Flags,
 ) -> Result<u8, Fail> {
+    let words = words_of(alloc, "receive setup 30000 16 hi,yo out,other")?;
     let mut desk = FlagDesk {
         desk: new_desk(alloc)?,
         flags,
     };
-    let words = words_of(alloc, "receive setup 30000 16 hi,yo out,other")?;
-    Ok(run_live(rt, alloc, words.as_slice(), &mut desk).status)
+    let status = run_live(rt, alloc, words.as_slice(), &mut desk).status;
+    drop(desk);
+    Ok(status)
 }
 
 #[test]

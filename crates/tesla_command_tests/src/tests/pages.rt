@@ -116,12 +116,29 @@ clock 0 1150000 1350000 1450000 1550000 1750000 1950000 2050000
 clock 1 1350000
 ";
 
-/// A desk with all of these.
-pub fn new_desk(alloc: Global) -> Result<MemoryDesk, Fail> {
-    let mut desk = MemoryDesk::new(alloc, 10_000)?;
+// Puts all of these.
+fn put_pages(alloc: Global, desk: &mut MemoryDesk) -> Result<(), Fail> {
     for (page, text) in TEXTS {
         desk.put_page(page, text.as_bytes())?;
     }
-    Row::of(PAGES)?.set_up(alloc, &mut desk)?;
-    Ok(desk)
+    Row::of(PAGES)?.set_up(alloc, desk)
+}
+
+/// A desk that was set so, if it could be.
+pub fn desk_if_set(desk: MemoryDesk, set: Result<(), Fail>) -> Result<MemoryDesk, Fail> {
+    match set {
+        Ok(()) => Ok(desk),
+        Err(fail) => {
+            drop(desk);
+            Err(fail)
+        }
+    }
+}
+
+/// A desk with all of these. Whoever has one lets it go by one call of `drop`, and hands it to others by reference: at each exit
+/// that lets it go by itself the proof goes through all its parts.
+pub fn new_desk(alloc: Global) -> Result<MemoryDesk, Fail> {
+    let mut desk = MemoryDesk::new(alloc, 10_000)?;
+    let set = put_pages(alloc, &mut desk);
+    desk_if_set(desk, set)
 }

@@ -7,7 +7,7 @@ use std::sync::Wait;
 use std::test::Fail;
 use std::thread::Threads;
 use tesla_desk::Letter;
-use tesla_memory_desk::SureDesk;
+use tesla_memory_desk::{MemoryDesk, SureDesk};
 use tesla_test_desk::words_of;
 
 /// Each ends well.
@@ -17,22 +17,40 @@ const RUNS: &[&str] = &[
     "relay 4 link post",
 ];
 
-// A desk with the setup and the first capture, a link that is quiet once, and a clock.
-fn sure_desk(alloc: Global) -> Result<SureDesk, Fail> {
-    let pages = new_desk(alloc)?;
-    let mut desk = SureDesk::new(alloc)?;
+// Puts the setup and the first capture of these pages, a link that is quiet once, and a clock.
+fn set_up(desk: &mut SureDesk, pages: &MemoryDesk) -> Result<(), Fail> {
     for page in ["setup", "first"] {
         desk.put_page(page, pages.page(page).unwrap_or(b""))?;
     }
     desk.put_letters("link", &[Letter::Quiet])?;
-    desk.put_readings(0, &[1_150_000])?;
-    Ok(desk)
+    Ok(desk.put_readings(0, &[1_150_000])?)
 }
 
-// The status of a run over it.
+// The same from the pages of all runs.
+fn set_up_from_pages(alloc: Global, desk: &mut SureDesk) -> Result<(), Fail> {
+    let pages = new_desk(alloc)?;
+    let set = set_up(desk, &pages);
+    drop(pages);
+    set
+}
+
+// The status of a run over a desk that is set so.
+fn status_over_set<R: Threads + Wait + Sync>(
+    rt: &R,
+    alloc: Global,
+    line: &str,
+    desk: &mut SureDesk,
+) -> Result<u8, Fail> {
+    set_up_from_pages(alloc, desk)?;
+    Ok(status_of(rt, alloc, words_of(alloc, line)?, desk))
+}
+
+// The status of a run over such a desk.
 fn status_over<R: Threads + Wait + Sync>(rt: &R, alloc: Global, line: &str) -> Result<u8, Fail> {
-    let mut desk = sure_desk(alloc)?;
-    Ok(status_of(rt, alloc, words_of(alloc, line)?, &mut desk))
+    let mut desk = SureDesk::new(alloc)?;
+    let status = status_over_set(rt, alloc, line, &mut desk);
+    drop(desk);
+    status
 }
 
 #[test]

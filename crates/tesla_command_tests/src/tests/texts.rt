@@ -1,6 +1,7 @@
 //! What is printed of the program, and the line of want of memory for the words.
 
 use super::status_of_program;
+use std::alloc::Global;
 use std::io;
 use std::test::Fail;
 use tesla_memory_desk::MemoryDesk;
@@ -20,12 +21,18 @@ told 7 |
 lacks -
 ";
 
+// What is told where there is no memory for the words.
+fn told_without_words(alloc: Global) -> Result<String, Fail> {
+    let mut desk = MemoryDesk::new(alloc, 100)?;
+    let error = io::Error::from(io::ErrorKind::OutOfMemory);
+    let status = status_of_program(alloc, Err(error), &mut desk);
+    let reported = run_result(alloc, status, &desk);
+    drop(desk);
+    reported
+}
+
 #[test]
 fn want_of_memory_for_words(rt: HostRuntime) -> Result<(), Fail> {
-    let mut desk = MemoryDesk::new(rt.alloc(), 100)?;
-    let error = io::Error::from(io::ErrorKind::OutOfMemory);
-    let status = status_of_program(rt.alloc(), Err(error), &mut desk);
-    let reported = run_result(rt.alloc(), status, &desk)?;
-    assert_eq!(rt; reported.as_str(), "6 no memory\n");
+    assert_eq!(rt; told_without_words(rt.alloc())?.as_str(), "6 no memory\n");
     Ok(())
 }
