@@ -5,6 +5,7 @@ ghost use Rattle.tesla_turn.specs.Examples.{IsLegal};
 ghost use Rattle.tesla_turn.specs.Held.{OnlyCalls, left_of};
 ghost use Rattle.tesla_turn.specs.History.{entries};
 
+use super::further_pass;
 use std::alloc::Global;
 use std::process::Abort;
 use std::sync::Wait;
@@ -40,7 +41,7 @@ fn turn_of_two_passes(rt: HostRuntime) -> Result<(), Fail> {
 #[test]
 fn a_dropped_pass_takes_nothing_along(rt: HostRuntime) -> Result<(), Fail> {
     let (turn, mut first) = Turn::open(rt.alloc(), Numbers::new(rt.alloc(), 1)?, 2, 2)?;
-    let mut second = turn.split(&mut first).ok().ok_or("room for a second pass")?;
+    let mut second = further_pass(&turn, &mut first)?;
     let mut act = Append { number: 5 };
     assert!(rt; turn.perform(&rt, &mut second, &mut act) == Ok(Some(0)));
     drop(second);
@@ -193,9 +194,9 @@ fn follow<R: Abort + Wait>(rt: &R, turn: &Turn<Sum>, mut pass: Pass<Sum>, rounds
 #[test]
 fn all_that_park_are_woken(rt: HostRuntime) -> Result<(), Fail> {
     let (turn, mut first) = Turn::open(rt.alloc(), Sum { total: 0 }, 4, ROUNDS)?;
-    let second = turn.split(&mut first).ok().ok_or("room for a second pass")?;
-    let third = turn.split(&mut first).ok().ok_or("room for a third pass")?;
-    let fourth = turn.split(&mut first).ok().ok_or("room for a fourth pass")?;
+    let second = further_pass(&turn, &mut first)?;
+    let third = further_pass(&turn, &mut first)?;
+    let fourth = further_pass(&turn, &mut first)?;
     let rounds = Rounds {
         begun: AtomicU64::new(0),
         ended: AtomicU64::new(0),

@@ -3,7 +3,7 @@
 ghost use Rattle.std.specs.Prelude.{◌≡◌, ◌<◌, ◌≤◌, ◌^◌, IfOk};
 ghost use Rattle.tesla_turn.specs.Held.{OnlyCalls, left_of};
 
-use super::receiver_of;
+use super::{further_pass, receiver_of};
 use std::alloc::Global;
 use std::sync::Wait;
 use std::test::*;
@@ -116,23 +116,32 @@ struct Begun {
     ghost sink_of: { sink.turn ≡ turn },
 }
 
+// These passes of one turn. Its facts are proved here, where nothing is let go.
+fn begun_of(
+    turn: Turn<Receiver>,
+    first: Pass<Receiver>,
+    link: Pass<Receiver>,
+    sink: Pass<Receiver>,
+) -> Begun
+    requires { (first.turn ≡ turn) × (first.number ≡ 0) × (link.turn ≡ turn) × (sink.turn ≡ turn) }
+    ensures { result.link ≡ link }
+{
+    Begun {
+        turn,
+        first,
+        link,
+        sink,
+    }
+}
+
 fn opened(alloc: Global, calls: u64) -> Result<Begun, Fail>
     requires { calls ≤ 2 ^ 40 }
     ensures { IfOk result (λ it. left_of it.link ≡ calls) }
 {
     let (turn, mut first) = Turn::open(alloc, receiver_of(alloc, 1)?, 3, calls)?;
-    let Ok(link) = turn.split(&mut first) else {
-        return Err("room for a second pass".into());
-    };
-    let Ok(sink) = turn.split(&mut first) else {
-        return Err("room for a third pass".into());
-    };
-    Ok(Begun {
-        turn,
-        first,
-        link,
-        sink,
-    })
+    let link = further_pass(&turn, &mut first)?;
+    let sink = further_pass(&turn, &mut first)?;
+    Ok(begun_of(turn, first, link, sink))
 }
 
 // Joins the passes and closes the turn, whose end is one that the law of the whole history speaks of. Answers how many
@@ -218,17 +227,30 @@ fn one_after_the_other<R: Wait>(
     Ok(format!(in alloc; "{calls} {heard:?} {hear_calls} {drained:?} {drain_calls} {events}")?)
 }
 
-// What isn't as a row says. Empty where all is.
-fn wrong_in<R: Wait>(rt: &R, alloc: Global, row: Row<'_>) -> Result<String, Fail> {
-    let mut desk = MemoryDesk::new(alloc, 100)?;
-    Row::of(PAGES)?.set_up(alloc, &mut desk)?;
-    row.set_up(alloc, &mut desk)?;
+// What isn't as a row says, where its run is over this desk. Empty where all is.
+fn wrong_over<R: Wait>(
+    rt: &R,
+    alloc: Global,
+    row: Row<'_>,
+    desk: &mut MemoryDesk,
+) -> Result<String, Fail> {
+    Row::of(PAGES)?.set_up(alloc, desk)?;
+    row.set_up(alloc, desk)?;
     let (calls, _) = row.words.split_once(' ').unwrap_or((row.words, ""));
-    let actual = one_after_the_other(rt, alloc, &mut desk, calls.parse()?)?;
+    let actual = one_after_the_other(rt, alloc, desk, calls.parse()?)?;
     if actual.as_str() != row.words {
         return Ok(actual);
     }
-    row.wrong(alloc, 0, &desk)
+    row.wrong(alloc, 0, desk)
+}
+
+// The same over a desk of its own, which one call lets go: at each exit that lets it go by itself the proof goes through all its
+// parts.
+fn wrong_in<R: Wait>(rt: &R, alloc: Global, row: Row<'_>) -> Result<String, Fail> {
+    let mut desk = MemoryDesk::new(alloc, 100)?;
+    let wrong = wrong_over(rt, alloc, row, &mut desk);
+    drop(desk);
+    wrong
 }
 
 #[test]
