@@ -92,6 +92,20 @@ fn opened(alloc: Global, words: &str) -> Result<Receiver, Fail> {
     Ok(Receiver::open(alloc, setup, 30_000, capacity, quota, ingests)?)
 }
 
+// What a call answers, and how many packets are held then. There are few calls.
+fn answer_and_held<L: Ledger>(
+    alloc: Global,
+    receiver: &mut Receiver,
+    call: &str,
+    steps: &mut Steps<L>,
+) -> Result<String, Fail> {
+    if 10_000 <= receiver.calls() {
+        return Err("too many calls".into());
+    }
+    let actual = answer(alloc, receiver, call, steps)?;
+    Ok(format!(in alloc; "{actual}, {}", receiver.held())?)
+}
+
 // The first line that isn't so, with what came instead. Empty where all are.
 fn wrong_in<L: Ledger>(
     alloc: Global,
@@ -101,11 +115,7 @@ fn wrong_in<L: Ledger>(
 ) -> Result<String, Fail> {
     for line in lines.trim_end().split('\n') {
         let (call, wanted) = line.split_once(" = ").ok_or("a call and its answer")?;
-        if 10_000 <= receiver.calls() {
-            return Err("too many calls".into());
-        }
-        let actual = answer(alloc, receiver, call, steps)?;
-        let actual = format!(in alloc; "{actual}, {}", receiver.held())?;
+        let actual = answer_and_held(alloc, receiver, call, steps)?;
         if actual.as_str() != wanted {
             return Ok(format!(in alloc; "{line}, and {actual}")?);
         }

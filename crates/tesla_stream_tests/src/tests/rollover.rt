@@ -110,6 +110,19 @@ fn answer<L: Ledger>(
     }
 }
 
+// The same where there are few calls.
+fn answer_of_few<L: Ledger>(
+    alloc: Global,
+    rollover: &mut Rollover,
+    call: &str,
+    steps: &mut Steps<L>,
+) -> Result<String, Fail> {
+    if 10_000 <= rollover.calls() {
+        return Err("too many calls".into());
+    }
+    answer(alloc, rollover, call, steps)
+}
+
 // The first line that isn't so, with what came instead. Empty where all are.
 fn wrong_in<L: Ledger>(
     alloc: Global,
@@ -119,10 +132,7 @@ fn wrong_in<L: Ledger>(
 ) -> Result<String, Fail> {
     for line in lines.trim_end().split('\n') {
         let (call, wanted) = line.split_once(" = ").ok_or("a call and its answer")?;
-        if 10_000 <= rollover.calls() {
-            return Err("too many calls".into());
-        }
-        let actual = answer(alloc, rollover, call, steps)?;
+        let actual = answer_of_few(alloc, rollover, call, steps)?;
         if actual.as_str() != wanted {
             return Ok(format!(in alloc; "{line}, and {actual}")?);
         }

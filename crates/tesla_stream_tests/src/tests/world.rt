@@ -157,22 +157,42 @@ fn opened<L: Ledger>(alloc: Global, steps: &mut Steps<L>) -> Result<Joint, Fail>
     Ok(Joint::open(sender, receiver))
 }
 
+// The same where little happens.
+fn answer_of_few<L: Ledger>(
+    alloc: Global,
+    joint: &mut Joint,
+    event: &str,
+    steps: &mut Steps<L>,
+) -> Result<String, Fail> {
+    if 10_000 <= joint.calls() || 10_000 <= joint.sent() {
+        return Err("too much happens".into());
+    }
+    answer(alloc, joint, event, steps)
+}
+
 // The first line that isn't so, with what came instead. Empty where all are.
-fn wrong_of<L: Ledger>(alloc: Global, lines: &str, steps: &mut Steps<L>) -> Result<String, Fail> {
-    let mut joint = opened(alloc, steps)?;
+fn wrong_in<L: Ledger>(
+    alloc: Global,
+    joint: &mut Joint,
+    lines: &str,
+    steps: &mut Steps<L>,
+) -> Result<String, Fail> {
     for line in lines.split('\n') {
         let Some((event, wanted)) = line.split_once(" = ") else {
             continue;
         };
-        if 10_000 <= joint.calls() || 10_000 <= joint.sent() {
-            return Err("too much happens".into());
-        }
-        let actual = answer(alloc, &mut joint, event, steps)?;
+        let actual = answer_of_few(alloc, joint, event, steps)?;
         if actual.as_str() != wanted {
             return Ok(format!(in alloc; "{line}, and {actual}")?);
         }
     }
     Ok(String::new(alloc))
+}
+
+// The same of a row.
+fn wrong_of<L: Ledger>(alloc: Global, lines: &str, steps: &mut Steps<L>) -> Result<String, Fail> {
+    let mut joint = opened(alloc, steps)?;
+    wrong_in(alloc, &mut joint, lines, steps)
 }
 
 // The same of the first row of which something isn't so.
