@@ -1,1 +1,2 @@
 mod Timely
+mod Completing

@@ -19,11 +19,13 @@ ghost use Rattle.tesla_run_relay.specs.play.Playing.{play};
 ghost use Rattle.tesla_run_receive.specs.Arguments.{IsReceive, ReceiveArguments};
 ghost use Rattle.tesla_run_receive.specs.Receive.{receive};
 ghost use Rattle.tesla_run_receive.specs.record.Arguments.{IsRecord};
+ghost use Rattle.tesla_run_receive.specs.record.Record.{form_of_record};
 ghost use Rattle.tesla_run_relay.specs.Arguments.{IsRelayForm, RelayArguments};
 ghost use Rattle.tesla_run_relay.specs.Relay.{relay};
 ghost use Rattle.tesla_run_receive.specs.watch.Arguments.{IsWatch};
-ghost use Rattle.tesla_run_receive.specs.watch.Watch.{watching};
+ghost use Rattle.tesla_run_receive.specs.watch.Watch.{watched, watching};
 ghost use Rattle.tesla_run_receive.specs.OutputArguments.{OutputArguments};
+ghost use Rattle.tesla_laws.specs.Completeness.{CaptureIsComplete, OutputIsComplete, PlayIsComplete, ReceiveIsComplete, RelayIsComplete};
 
 use std::alloc::Global;
 use std::sync::Wait;
@@ -47,6 +49,20 @@ pub fn forms_are_named()
     ensures feed_is { (arguments : FeedArguments) (words : List (List ℕ)) → IsFeedForm arguments words → IsLiveTool words }
     ensures watch_is { (arguments : OutputArguments) (words : List (List ℕ)) → IsWatch arguments words → IsLiveTool words }
     ensures record_is { (arguments : OutputArguments) (words : List (List ℕ)) → IsRecord arguments words → IsRecorded words }
+{}
+
+/// Where no count of faults rose and the inputs are in their grammars, a run of a live command comes to its end, so its
+/// status is 0, or to want of memory.
+///
+/// The receivers ask for a setup, and that no worker comes to the end of its calls: the history has fewer than 2^56
+/// entries of each ingest, and takes of each releaser. `play` asks for a capture; `relay` and `capture` ask for nothing.
+pub fn completeness()
+    ensures receives { ReceiveIsComplete }
+    ensures records { OutputIsComplete form_of_record }
+    ensures watches { OutputIsComplete watched }
+    ensures relays { RelayIsComplete }
+    ensures plays { PlayIsComplete }
+    ensures captures { CaptureIsComplete }
 {}
 
 /// Runs the words as the top call does, over a desk on which no call from outside fails. The status is never 4, 5 or 7.
