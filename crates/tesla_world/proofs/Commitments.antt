@@ -6,7 +6,6 @@ use Rattle.std.proofs.lemmas.Bool.{and_parts, cases_Bool, eqb-true, ltb-true, or
 use Rattle.std.proofs.lemmas.List.{take-append-drop}
 use Rattle.std.proofs.lemmas.List.Elements.{All-contains, All-contains_itself, All-filter, Contains-get_or}
 use Rattle.std.proofs.lemmas.List.Sums.{list_all-from_AllPass}
-use Rattle.std.proofs.lemmas.Option.{get_or_from_slice_get, slice_get_within}
 use Rattle.std.proofs.lemmas.Slice.Eq.{bytes_eq-Decides}
 use Rattle.tesla_base.specs.declared.names.Key.{Key}
 use Rattle.tesla_fitting.specs.Config.{chain_row}
@@ -21,7 +20,7 @@ use Rattle.tesla_receiver.specs.Keys.{fresh_keys, keys_taken, newest}
 use Rattle.tesla_receiver.specs.declared.history.Arrival.{Arrival}
 use Rattle.tesla_receiver.specs.declared.history.Entry.{Entry}
 use Rattle.tesla_world.specs.Laws.{CommitmentLaw, IsCarried, IsOnWalk, NoneCollide}
-use Rattle.tesla_world.proofs.Newest.{newest_reaches, take_got}
+use Rattle.tesla_world.proofs.Newest.{contained, newest_reaches, take_got}
 
 -- ---- the newest index
 
@@ -88,10 +87,6 @@ leads_back cfg arrivals offered other none carried own above below leads leads_o
 
 -- ---- the law
 
--- an element at a place is among all
-at_index : {A : Type 0} (xs : List A) (n : ℕ) (x : A) → slice_get xs n ≡ Some x → Contains xs x
-at_index xs n x at = (n, slice_get_within xs n x at, get_or_from_slice_get xs n x x at)
-
 module _ (rises : OnlyRises) (taken : NewAreTaken) (fresh : FreshAreNew) (cfg : Config) (h : List Entry) (row : KeyRow) (legal : IsLegal cfg h) (none : NoneCollide cfg (arrivals_in h) row)
     (newer : newest cfg (arrivals_in h) row.chain.0 < row.index) (leads : leads_to row (chain_row cfg row.chain.0).index (chain_row cfg row.chain.0).key ≡ true) where
   -- a newer key that leads to the commitment leads to each key of its chain that was new
@@ -110,7 +105,7 @@ module _ (rises : OnlyRises) (taken : NewAreTaken) (fresh : FreshAreNew) (cfg : 
       let same : first.index ≡ (chain_row cfg row.chain.0).index = ap (λ (c : ℕ). (chain_row cfg c).index) chain in
       let kept = kept_from _ (keys_taken cfg is_new.arrival) other is_new.new in
       let below : other.index ≤ newest cfg arrivals row.chain.0 = subst (λ (c : ℕ). other.index ≤ newest cfg arrivals c) chain (newest_taken rises cfg arrivals is_new.n is_new.arrival other is_new.at kept) in
-      leads_back cfg arrivals row other none (record { arrival = is_new.arrival; among = at_index arrivals is_new.n is_new.arrival is_new.at; carried = is_taken.carried }) chain
+      leads_back cfg arrivals row other none (record { arrival = is_new.arrival; among = contained arrivals is_new.n is_new.arrival is_new.at; carried = is_taken.carried }) chain
       (omega (arith, above, lowest, same)) (omega (arith, newer, below)) leads
       (subst (λ (c : ℕ). leads_to other (chain_row cfg c).index (chain_row cfg c).key ≡ true) chain parts.1)
 

@@ -20,6 +20,10 @@ use Rattle.tesla_world.specs.Laws.{IsReached}
 pub take_got : {A : Type 0} (xs : List A) (i : ℕ) (x : A) → slice_get xs i ≡ Some x → take (i + 1) xs ≡ take i xs ++ x ∷ []
 take_got xs i x at = take_more xs i x (slice_get_within xs i x at) ∙ ap (λ y. take i xs ++ y ∷ []) (get_or_from_slice_get xs i x x at)
 
+-- what stands at a place is among all
+pub contained : {A : Type 0} (xs : List A) (n : ℕ) (x : A) → slice_get xs n ≡ Some x → Contains xs x
+contained xs n x at = (n, slice_get_within xs n x at, get_or_from_slice_get xs n x x at)
+
 -- a longer front begins with a shorter one
 pub take_further : {A : Type 0} (xs : List A) (a b : ℕ) → a ≤ b → take b xs ≡ take a xs ++ drop a (take b xs)
 take_further xs a b less = sym (take-append-drop a (take b xs)) ∙ ap (λ ys. ys ++ drop a (take b xs)) (take-take a b xs less)

@@ -37,13 +37,13 @@ received_among (Sent now text ∷ world) (suc j) reading bytes at = received_amo
 received_among (Received now text ∷ world) (suc j) reading bytes at = received_among world j reading bytes at
 
 -- and the arrival of that number is what came
-received_as : (world : List Moment) (arrivals : List Arrival) (j reading : ℕ) (bytes : List ℕ) (arrival : Arrival) → received_in world ≡ map dated_of arrivals → slice_get world j ≡ Some (Received reading bytes) → slice_get arrivals (arrival_at world j) ≡ Some arrival → arrival.reading ≡ reading
+pub received_as : (world : List Moment) (arrivals : List Arrival) (j reading : ℕ) (bytes : List ℕ) (arrival : Arrival) → received_in world ≡ map dated_of arrivals → slice_get world j ≡ Some (Received reading bytes) → slice_get arrivals (arrival_at world j) ≡ Some arrival → dated_of arrival ≡ record { reading = reading; bytes = bytes }
 received_as world arrivals j reading bytes arrival received at is =
     let place = arrival_at world j in
     let dated : Dated = record { reading = reading; bytes = bytes } in
     let same : Some (dated_of arrival) ≡ Some dated =
     ap (option_map dated_of) (sym is) ∙ sym (slice_get-map dated_of arrivals place) ∙ ap (λ (ds : List Dated). slice_get ds place) (sym received) ∙ received_among world j reading bytes at in
-    ap (λ (d : Dated). d.reading) (same_Some (dated_of arrival) dated same)
+    same_Some (dated_of arrival) dated same
 
 -- a moment of a front is that of the whole, before its end
 before_from : (world : List Moment) (i j : ℕ) (moment : Moment) → slice_get (take j world) i ≡ Some moment → (i < j) × (slice_get world i ≡ Some moment)
@@ -77,7 +77,7 @@ interval_below times (pos time) sent bound before is =
     ]
 
 -- what was sent at most the lag after the reading was sent in the interval of the bound or before
-sent_within : (times : Times) (lag : ℤ) (sent received bound : ℕ) → pos sent ≤ℤ (pos received +ℤ lag) → bound_of times lag received ≡ Some bound → interval_at times sent ≤ bound
+pub sent_within : (times : Times) (lag : ℤ) (sent received bound : ℕ) → pos sent ≤ℤ (pos received +ℤ lag) → bound_of times lag received ≡ Some bound → interval_at times sent ≤ bound
 unfolding bound_of
 sent_within times lag sent received bound before is = interval_below times ((pos received +ℤ lag) -ℤ pos times.start) sent bound (omega (arith, ints)) is
 
@@ -109,7 +109,7 @@ kept_undisclosed kept_safe read cfg seeds world log history joined bounded j rec
     let before = before_from world i j (Sent sent text) sent_before in
     let is_safe = kept_safe cfg history (arrival_at world j) arrival packet chain joined.legal arrived kept safe in
     let due = sent_due read cfg seeds world log history joined i sent text frame row before.1 framed carries in
-    let reading : arrival.reading ≡ received = received_as world (arrivals_in history) j received bytes arrival joined.received received_at_j arrived in
+    let reading : arrival.reading ≡ received = ap (λ (d : Dated). d.reading) (received_as world (arrivals_in history) j received bytes arrival joined.received received_at_j arrived) in
     let bound : bound_of cfg.setup.times cfg.lag received ≡ Some is_safe.bound = subst (λ (n : ℕ). bound_of cfg.setup.times cfg.lag n ≡ Some is_safe.bound) reading is_safe.bounded in
     let within = sent_within cfg.setup.times cfg.lag sent received is_safe.bound (bounded i j sent received text bytes before.0 before.1 received_at_j) bound in
     earlier cfg seeds (interval_at cfg.setup.times sent) is_safe.bound packet.frame.name.interval row due within

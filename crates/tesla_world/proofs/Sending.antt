@@ -1,5 +1,5 @@
 -- What a sent frame carries: the keys that are due in its interval, each the sender's own of its index.
-use Rattle.std.proofs.Common.{◌≡◌, ℕ, zero, suc, ◌+◌, ◌-◌, ◌<◌, ◌≤◌, Bool, true, false, cond, List, [], ◌∷◌, length, get_or, map, min, Option, Some, None, Result, Ok, Err, inl, inr, refl, sym, ap, subst, ◌∙◌, arith, ◌==◌}
+use Rattle.std.proofs.Common.{◌≡◌, ℕ, zero, suc, ◌+◌, ◌-◌, ◌<◌, ◌≤◌, Bool, true, false, cond, List, [], ◌∷◌, get_or, map, min, Option, Some, None, Result, Ok, Err, inl, inr, refl, sym, ap, subst, ◌∙◌, arith}
 use Rattle.std.specs.Prelude.{nat_lt, option_map, slice_get}
 use Rattle.std.specs.List.{All, Contains, enumerate_from, flat_map}
 use Rattle.std.proofs.lemmas.Bool.{cases_Bool, ltb-true, le-ltb}
@@ -8,20 +8,23 @@ use Rattle.std.proofs.lemmas.Option.{get_or_from_slice_get, none-some, same_Some
 use Rattle.tesla_base.specs.declared.names.Key.{Key}
 use Rattle.tesla_base.specs.declared.names.Name.{Name}
 use Rattle.tesla_base.proofs.Numbered.{each_gathered}
+use Rattle.tesla_base.proofs.Passing.{passes_somewhere}
 use Rattle.tesla_clock.specs.Schedule.{Times}
 use Rattle.tesla_commit.specs.declared.chain_row.ChainRow.{ChainRow}
 use Rattle.tesla_fitting.specs.Config.{chain_row, no_row}
+use Rattle.tesla_fitting.specs.Fitting.{is_future, is_undisclosed}
 use Rattle.tesla_fitting.specs.Rows.{carried, keys_of}
 use Rattle.tesla_fitting.specs.declared.config.Config.{Config}
 use Rattle.tesla_frame.specs.Frame.{Frame, TagRow}
 use Rattle.tesla_frame.specs.declared.row.KeyRow.{KeyRow}
-use Rattle.tesla_sender.specs.Made.{Call, Message, Disclose, Stream, Chain, any_due, chains_from, chains_of, disclosed, disclosed_after, disclosure_frame, due_row, due_rows, frame_in, frame_made, framed, interval_at, key_due, key_of, latest_of, made_disclosure, made_message, message_frame, messages_of, name_after, name_of, reading_of, row_of}
+use Rattle.tesla_sender.specs.Made.{Call, Message, Disclose, Stream, Chain, any_due, chains_from, chains_of, disclosed, disclosed_after, disclosure_frame, due_row, due_rows, frame_in, frame_made, framed, interval_at, key_due, key_of, latest_of, made_disclosure, made_message, message_frame, messages_of, name_of, reading_of, row_of}
 use Rattle.tesla_sender.specs.declared.refusal.DiscloseRefusal.{DiscloseRefusal}
 use Rattle.tesla_sender.specs.declared.refusal.DiscloseRefusal.TheVariants as undisclosed
 use Rattle.tesla_sender.specs.declared.refusal.SendRefusal.{SendRefusal}
-use Rattle.tesla_sender.specs.declared.refusal.SendRefusal.TheVariants as unsent
+use Rattle.tesla_sender.proofs.Logs.{IsNamed, named}
 use Rattle.tesla_world.specs.World.{Moment, Sent, AreSentFor, sent_in}
 use Rattle.tesla_world.specs.Laws.{seed_in, senders_key}
+use Rattle.tesla_world.proofs.Newest.{contained}
 use Rattle.tesla_world.proofs.Sent.{HasCall, sent_for, sent_number}
 
 -- ---- lists
@@ -174,29 +177,12 @@ past true refusal answer value e = absurd (cc)
 past false refusal answer value e = e
 
 -- and an answer before one
-passed : {A E : Type 0} (taken : Bool) (refusal : E) (value other : A) → cond taken (Ok value) (Err refusal) ≡ Ok other → value ≡ other
-passed true refusal value other e = cc
+passed : {A E : Type 0} (taken : Bool) (refusal : E) (value other : A) → cond taken (Ok value) (Err refusal) ≡ Ok other → (taken ≡ true) × (value ≡ other)
+passed true refusal value other e = (refl, cc)
 passed false refusal value other e = absurd (cc)
 
--- a message is of the interval of its reading
-name_is : (times : Times) (before number reading : ℕ) (payload : List ℕ) (name : Name) → name_after times before number reading payload ≡ Ok name → name.interval ≡ interval_at times reading
-name_is times before number reading payload name e =
-    let interval = interval_at times reading in
-    let made : Name = record { interval = interval; number = number } in
-    let whole : Result Name SendRefusal = cond (nat_lt number 65536) (Ok made) (Err (unsent.IntervalFull interval)) in
-    let forward : Result Name SendRefusal = cond (nat_lt interval before) (Err (unsent.Backward before)) whole in
-    let within : Result Name SendRefusal = cond (nat_lt times.last interval) (Err (unsent.Over interval)) forward in
-    let begun : Result Name SendRefusal = cond (interval == 0) (Err (unsent.Early reading)) within in
-    let is : made ≡ name =
-    passed (nat_lt number 65536) (unsent.IntervalFull interval) made name
-    (past (nat_lt interval before) (unsent.Backward before) whole name
-    (past (nat_lt times.last interval) (unsent.Over interval) forward name
-    (past (interval == 0) (unsent.Early reading) within name
-    (past (nat_lt 1200 (length payload)) (unsent.TooLong (length payload)) begun name e)))) in
-    sym (ap (λ (n : Name). n.interval) is)
-
--- and so is a disclosure
-disclosed_is : (times : Times) (before : ℕ) (due : Bool) (reading interval : ℕ) → disclosed_after times before due reading ≡ Ok interval → interval_at times reading ≡ interval
+-- a disclosure has a key that is due, and is of the interval of its reading
+disclosed_is : (times : Times) (before : ℕ) (due : Bool) (reading interval : ℕ) → disclosed_after times before due reading ≡ Ok interval → (due ≡ true) × (interval_at times reading ≡ interval)
 disclosed_is times before due reading interval e =
     passed due undisclosed.NothingDue (interval_at times reading) interval
     (past (nat_lt (interval_at times reading) before) (undisclosed.Backward before) (cond due (Ok (interval_at times reading)) (Err undisclosed.NothingDue)) interval e)
@@ -211,19 +197,61 @@ disclosed_from : (stream : Stream) (after : Result ℕ DiscloseRefusal) (frame :
 disclosed_from stream (Ok interval) frame e = (interval, refl, same_Some (disclosure_frame stream.setup (chains_of stream) interval) frame e)
 disclosed_from stream (Err refusal) frame e = absurd (none-some frame e)
 
+-- what is so of a message that has a name
+named_at : (cfg : Config) (log : List Call) (reading : ℕ) (payload : List ℕ) (name : Name) → name_of cfg.setup.times log reading payload ≡ Ok name → IsNamed cfg.setup.times (latest_of cfg.setup.times log) (messages_of cfg.setup.times (interval_at cfg.setup.times reading) log) reading payload name
+named_at cfg log reading payload name is = named cfg.setup.times (latest_of cfg.setup.times log) (messages_of cfg.setup.times (interval_at cfg.setup.times reading) log) reading payload name is
+
 -- each key of the frame of a call is due in its interval
 pub made_due : (cfg : Config) (seeds : List Key) (log : List Call) (call : Call) (frame : Frame) (row : KeyRow) → frame_made (record { setup = cfg.setup; seeds = seeds }) log call ≡ Some frame → Contains (keys_of cfg frame) row → IsDueKey cfg seeds (interval_at cfg.setup.times (reading_of call)) row
 unfolding made_message made_disclosure
 made_due cfg seeds log (Message reading payload) frame row made carries =
     let stream : Stream = record { setup = cfg.setup; seeds = seeds } in
     let from = framed_from stream payload (name_of cfg.setup.times log reading payload) frame made in
-    let interval : from.0.interval ≡ interval_at cfg.setup.times reading = name_is cfg.setup.times (latest_of cfg.setup.times log) (messages_of cfg.setup.times (interval_at cfg.setup.times reading) log) reading payload from.0 from.1 in
+    let interval : from.0.interval ≡ interval_at cfg.setup.times reading = sym (ap (λ (n : Name). n.interval) (named_at cfg log reading payload from.0 from.1).is) in
     subst (λ (n : ℕ). IsDueKey cfg seeds n row) interval
     (message_due cfg seeds from.0 payload row (subst (λ (f : Frame). Contains (keys_of cfg f) row) (sym from.2) carries))
 made_due cfg seeds log (Disclose reading) frame row made carries =
     let stream : Stream = record { setup = cfg.setup; seeds = seeds } in
     let due = any_due (interval_at cfg.setup.times reading) (chains_of stream) in
     let from = disclosed_from stream (disclosed_after cfg.setup.times (latest_of cfg.setup.times log) due reading) frame made in
-    let interval : interval_at cfg.setup.times reading ≡ from.0 = disclosed_is cfg.setup.times (latest_of cfg.setup.times log) due reading from.0 from.1 in
+    let interval : interval_at cfg.setup.times reading ≡ from.0 = (disclosed_is cfg.setup.times (latest_of cfg.setup.times log) due reading from.0 from.1).1 in
     subst (λ (n : ℕ). IsDueKey cfg seeds n row) (sym interval)
     (disclosure_due cfg seeds from.0 row (subst (λ (f : Frame). Contains (keys_of cfg f) row) (sym from.2) carries))
+
+-- ---- the time of a call
+
+-- a call that makes a frame is of interval 1 at the earliest
+pub made_begun : (cfg : Config) (seeds : List Key) (log : List Call) (call : Call) (frame : Frame) → frame_made (record { setup = cfg.setup; seeds = seeds }) log call ≡ Some frame → 1 ≤ interval_at cfg.setup.times (reading_of call)
+unfolding made_message made_disclosure
+made_begun cfg seeds log (Message reading payload) frame made =
+    let from = framed_from (record { setup = cfg.setup; seeds = seeds }) payload (name_of cfg.setup.times log reading payload) frame made in
+    (named_at cfg log reading payload from.0 from.1).some
+made_begun cfg seeds log (Disclose reading) frame made =
+    let stream : Stream = record { setup = cfg.setup; seeds = seeds } in
+    let interval = interval_at cfg.setup.times reading in
+    let due = any_due interval (chains_of stream) in
+    let from = disclosed_from stream (disclosed_after cfg.setup.times (latest_of cfg.setup.times log) due reading) frame made in
+    let some = passes_somewhere (λ (chain : Chain). nat_lt chain.row.delay interval) (chains_of stream) (disclosed_is cfg.setup.times (latest_of cfg.setup.times log) due reading from.0 from.1).0 in
+    let late : some.element.row.delay < interval = ltb-true some.element.row.delay interval some.passes in
+    omega arith
+
+-- by a bound that the interval of a call doesn't pass, its frame isn't from the future
+pub made_in_time : (cfg : Config) (seeds : List Key) (log : List Call) (call : Call) (frame : Frame) (bound : ℕ) → frame_made (record { setup = cfg.setup; seeds = seeds }) log call ≡ Some frame → interval_at cfg.setup.times (reading_of call) ≤ bound → is_future cfg (Some bound) frame ≡ true → ⊥
+unfolding made_message made_disclosure message_frame disclosure_frame
+made_in_time cfg seeds log (Message reading payload) frame bound made within future =
+    let from = framed_from (record { setup = cfg.setup; seeds = seeds }) payload (name_of cfg.setup.times log reading payload) frame made in
+    let interval : interval_at cfg.setup.times reading ≡ from.0.interval = ap (λ (n : Name). n.interval) (named_at cfg log reading payload from.0 from.1).is in
+    let above : bound < from.0.interval = ltb-true bound from.0.interval (ap (is_future cfg (Some bound)) from.2 ∙ future) in
+    omega arith
+made_in_time cfg seeds log (Disclose reading) frame bound made within future =
+    let stream : Stream = record { setup = cfg.setup; seeds = seeds } in
+    let due = any_due (interval_at cfg.setup.times reading) (chains_of stream) in
+    let from = disclosed_from stream (disclosed_after cfg.setup.times (latest_of cfg.setup.times log) due reading) frame made in
+    let interval : interval_at cfg.setup.times reading ≡ from.0 = (disclosed_is cfg.setup.times (latest_of cfg.setup.times log) due reading from.0 from.1).1 in
+    let rows = due_rows (chains_of stream) from.0 in
+    let some = passes_somewhere (is_undisclosed cfg bound) rows (ap (is_future cfg (Some bound)) from.2 ∙ future) in
+    let row : KeyRow = some.element in
+    let is_due = disclosure_due cfg seeds from.0 row (contained rows some.place row some.at) in
+    let above : bound < row.index + (chain_row cfg row.chain.0).delay = ltb-true bound (row.index + (chain_row cfg row.chain.0).delay) some.passes in
+    let reached : row.index + (chain_row cfg row.chain.0).delay ≤ from.0 = is_due.due in
+    omega arith

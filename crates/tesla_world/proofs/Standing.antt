@@ -18,16 +18,16 @@ use Rattle.tesla_sender.specs.declared.refusal.DiscloseRefusal.{DiscloseRefusal}
 use Rattle.tesla_sender.specs.declared.refusal.SendRefusal.{SendRefusal}
 use Rattle.tesla_state.specs.State.{State}
 use Rattle.tesla_world.specs.Joint.{HasCome, HasHad, HasSent, IsLawful, JointState, StandsFor, bytes_of}
-use Rattle.tesla_world.specs.Laws.{HonestCompleteness, SecurityCondition}
+use Rattle.tesla_world.specs.Laws.{FutureLaw, HonestCompleteness, SecurityCondition}
 use Rattle.tesla_world.specs.World.{AreSentFor, Received, Dated, IsSentFor, Joined, Moment, Sent, received_at, received_in, dated_of, sent_at, sent_in}
 
 -- the laws hold of each world that a joint stands for
-pub joint_lawful : SecurityCondition → HonestCompleteness → (joint : JointState) → IsLawful joint
+pub joint_lawful : SecurityCondition → HonestCompleteness → FutureLaw → (joint : JointState) → IsLawful joint
 unfolding IsLawful
-joint_lawful secure complete joint world log history stands =
+joint_lawful secure complete not_future joint world log history stands =
     let cfg : Config = joint.receiver.config in
     let seeds : List Key = joint.sender.stream.seeds in
-    (secure cfg seeds world log history stands.joined, complete cfg seeds history stands.joined.legal)
+    (secure cfg seeds world log history stands.joined, complete cfg seeds history stands.joined.legal, not_future cfg seeds world log history stands.joined)
 
 -- ---- what a call of the sender answers
 

@@ -11,7 +11,7 @@ use Rattle.tesla_sender.specs.Stands as sending
 use Rattle.tesla_sender.specs.declared.refusal.DiscloseRefusal.{DiscloseRefusal}
 use Rattle.tesla_sender.specs.declared.refusal.SendRefusal.{SendRefusal}
 use Rattle.tesla_state.specs.State.{State}
-use Rattle.tesla_world.specs.Laws.{IsComplete, IsSecure}
+use Rattle.tesla_world.specs.Laws.{IsComplete, IsSecure, SentAreNotFuture}
 use Rattle.tesla_world.specs.World.{Received, Dated, Joined, Moment, Sent, sent_in}
 use Rattle.tesla_world.specs.declared.refusal.JointRefusal.{JointRefusal}
 use Rattle.tesla_world.specs.declared.refusal.JointRefusal.TheVariants as refused
@@ -36,11 +36,12 @@ pub record StandsFor (joint : JointState) (world : List Moment) (log : List Call
   -- both are of one setup
   pub setup : joint.sender.stream.setup ≡ joint.receiver.config.setup
 
--- the security condition and the honest completeness hold of each world that the joint stands for
+-- the security condition, the honest completeness and the law of the future hold of each world that the joint stands for
 unfoldable pub IsLawful : JointState → Type 0
 IsLawful joint =
     (world : List Moment) (log : List Call) (history : List Entry) → StandsFor joint world log history →
     IsSecure joint.receiver.config joint.sender.stream.seeds world history × IsComplete joint.receiver.config joint.sender.stream.seeds history
+    × SentAreNotFuture joint.receiver.config world history
 
 -- ---- what is sent
 

@@ -1,11 +1,12 @@
 -- The laws over worlds and histories: what a right clock and an honest stream buy.
-use Rattle.std.specs.Prelude.{◌≡◌, ◌≢◌, ◌⊎◌, ℕ, ◌-◌, ◌+◌, ◌<◌, ◌≤◌, ℤ, pos, ◌≤ℤ◌, ◌+ℤ◌, ◌-ℤ◌, true, ◌&&◌, List, [], ◌∷◌, take, replicate, get_or, Some, Ok, nat_lt, slice_get}
+use Rattle.std.specs.Prelude.{◌≡◌, ◌≢◌, ◌⊎◌, ℕ, ◌-◌, ◌+◌, ◌<◌, ◌≤◌, ℤ, pos, ◌≤ℤ◌, ◌+ℤ◌, ◌-ℤ◌, true, ◌&&◌, List, [], ◌∷◌, take, replicate, get_or, Option, Some, Ok, nat_lt, slice_get}
 use Rattle.std.specs.List.{Contains, list_any}
 use Rattle.tesla_base.specs.declared.names.Key.{Key}
 use Rattle.tesla_clock.specs.Safe.{has_chain}
 use Rattle.tesla_fitting.specs.Config.{chain_row}
 use Rattle.tesla_fitting.specs.Rows.{keys_of, leads_to}
 use Rattle.tesla_fitting.specs.declared.config.Config.{Config}
+use Rattle.tesla_fitting.specs.declared.verdict.Verdict.TheVariants.{Future}
 use Rattle.tesla_frame.specs.Frame.{Data, DataFrame, TagRow, Frame}
 use Rattle.tesla_frame.specs.Reading.{frame_of}
 use Rattle.tesla_frame.specs.declared.row.KeyRow.{KeyRow}
@@ -91,6 +92,23 @@ abbrev pub SecurityCondition : Type 0
 SecurityCondition =
     (cfg : Config) (seeds : List Key) (world : List Moment) (log : List Call) (history : List Entry) → Joined cfg seeds world log history →
     IsSecure cfg seeds world history
+
+-- ---- what was sent isn't from the future
+
+-- no arrival with the bytes of a frame that was sent before it came was judged as from the future
+abbrev pub AreNotFuture : List Moment → List Entry → Type 0
+AreNotFuture world history =
+    (i j sent received : ℕ) (bytes : List ℕ) (arrival : Arrival) (bound : Option ℕ) → i < j → slice_get world i ≡ Some (Sent sent bytes) → slice_get world j ≡ Some (Received received bytes) →
+    slice_get (arrivals_in history) (arrival_at world j) ≡ Some arrival → arrival.verdict ≢ Future bound
+
+-- and so it is where the clock bound holds of the world
+abbrev pub SentAreNotFuture : Config → List Moment → List Entry → Type 0
+SentAreNotFuture cfg world history = IsBounded cfg.lag world → AreNotFuture world history
+
+abbrev pub FutureLaw : Type 0
+FutureLaw =
+    (cfg : Config) (seeds : List Key) (world : List Moment) (log : List Call) (history : List Entry) → Joined cfg seeds world log history →
+    SentAreNotFuture cfg world history
 
 -- ---- the honest completeness
 

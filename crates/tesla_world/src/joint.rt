@@ -42,12 +42,13 @@ impl Model for Joint {
     ghost invariant = { λ j. length j.frames.sent < 2 ^ 32 };
 }
 
-/// The security condition and the honest completeness hold of each world that a joint stands for.
+/// The security condition, the honest completeness and the law of the future hold of each world that a joint stands for.
 fn each_is_lawful()
     ensures { (joint : JointState) → IsLawful joint }
 {
     laws::safe();
     laws::complete();
+    laws::not_future();
 }
 
 impl Joint {

@@ -1,6 +1,6 @@
 //! The laws over worlds and histories, as contracts of functions that do nothing.
 
-ghost use Rattle.tesla_world.specs.Laws.{CommitmentLaw, DeliveryLaw, EarlyIsInsecure, HonestCompleteness, SafeClocksAreBounded, SafeClocksAreSecure, SecurityCondition, TimeLaw};
+ghost use Rattle.tesla_world.specs.Laws.{CommitmentLaw, DeliveryLaw, EarlyIsInsecure, FutureLaw, HonestCompleteness, SafeClocksAreBounded, SafeClocksAreSecure, SecurityCondition, TimeLaw};
 
 /// In a legal history in which no two values on the walks of the keys of a chain collide under the one-way function, a
 /// key is good exactly where it is newer than those taken before and leads to the commitment (RFC 4082, section 3.5).
@@ -19,6 +19,15 @@ pub fn safe()
 {
     tesla_frame::laws::frames();
     tesla_receiver::laws::kept();
+}
+
+/// Where the clock bound holds, no datagram with the bytes of a frame that was sent before it came is judged as from the
+/// future: the bound on the sender's interval is never below the interval in which the frame was sent (RFC 4082, section
+/// 3.5).
+pub fn not_future()
+    ensures { FutureLaw }
+{
+    tesla_frame::laws::frames();
 }
 
 /// Where no taken key is forged, a kept packet that has the sender's tag for a chain of its set is proved by the first
