@@ -71,8 +71,8 @@ same_stream : (joint : JointState) (world : List Moment) (log : List Call) (hist
 same_stream joint world log history stands = ap (λ (setup : Parts). with_setup setup joint.sender.stream.seeds) stands.setup
 
 -- a frame was sent
-pub after_sent : (old : JointState) (sender : sending.State) (call : Call) (bytes : List ℕ) (world : List Moment) (log : List Call) (history : List Entry) → StandsFor old world log history → sender.stream ≡ old.sender.stream → sending.Stands sender (log ++ call ∷ []) → IsSentFor old.sender.stream log call (record { reading = reading_of call; bytes = bytes }) → StandsFor (record { sender = sender; receiver = old.receiver; frames = old.frames ++ bytes ∷ [] }) (world ++ Sent (reading_of call) bytes ∷ []) (log ++ call ∷ []) history
-after_sent old sender call bytes world log history stands same sends made =
+pub after_sent : (old : JointState) (sender : sending.State) (reserved : ℕ) (call : Call) (bytes : List ℕ) (world : List Moment) (log : List Call) (history : List Entry) → StandsFor old world log history → sender.stream ≡ old.sender.stream → sending.Stands sender (log ++ call ∷ []) → IsSentFor old.sender.stream log call (record { reading = reading_of call; bytes = bytes }) → StandsFor (record { sender = sender; receiver = old.receiver; frames = old.frames ++ bytes ∷ []; reserved = reserved }) (world ++ Sent (reading_of call) bytes ∷ []) (log ++ call ∷ []) history
+after_sent old sender reserved call bytes world log history stands same sends made =
     let cfg : Config = old.receiver.config in
     let seeds : List Key = old.sender.stream.seeds in
     let dated : Dated = record { reading = reading_of call; bytes = bytes } in
@@ -95,7 +95,7 @@ after_sent old sender call bytes world log history stands same sends made =
     }
 
 -- the receiver had an event
-after_event : (old : JointState) (receiver : State) (entry : Entry) (world more : List Moment) (log : List Call) (history : List Entry) → StandsFor old world log history → receiver.config ≡ old.receiver.config → Stands receiver (history ++ entry ∷ []) → sent_in (world ++ more) ≡ sent_in world → received_in (world ++ more) ≡ map dated_of (arrivals_in (history ++ entry ∷ [])) → StandsFor (record { sender = old.sender; receiver = receiver; frames = old.frames }) (world ++ more) log (history ++ entry ∷ [])
+after_event : (old : JointState) (receiver : State) (entry : Entry) (world more : List Moment) (log : List Call) (history : List Entry) → StandsFor old world log history → receiver.config ≡ old.receiver.config → Stands receiver (history ++ entry ∷ []) → sent_in (world ++ more) ≡ sent_in world → received_in (world ++ more) ≡ map dated_of (arrivals_in (history ++ entry ∷ [])) → StandsFor (record { sender = old.sender; receiver = receiver; frames = old.frames; reserved = old.reserved }) (world ++ more) log (history ++ entry ∷ [])
 after_event old receiver entry world more log history stands same receives sent received =
     let cfg : Config = old.receiver.config in
     let seeds : List Key = old.sender.stream.seeds in
@@ -115,7 +115,7 @@ after_event old receiver entry world more log history stands same receives sent 
     }
 
 -- a datagram came
-pub after_received : (old : JointState) (receiver : State) (reading : ℕ) (bytes : List ℕ) (world : List Moment) (log : List Call) (history : List Entry) → StandsFor old world log history → receiver.config ≡ old.receiver.config → Stands receiver (history ++ entry_of old.receiver.config history (Arrives 0 reading bytes) ∷ []) → StandsFor (record { sender = old.sender; receiver = receiver; frames = old.frames }) (world ++ Received reading bytes ∷ []) log (history ++ entry_of old.receiver.config history (Arrives 0 reading bytes) ∷ [])
+pub after_received : (old : JointState) (receiver : State) (reading : ℕ) (bytes : List ℕ) (world : List Moment) (log : List Call) (history : List Entry) → StandsFor old world log history → receiver.config ≡ old.receiver.config → Stands receiver (history ++ entry_of old.receiver.config history (Arrives 0 reading bytes) ∷ []) → StandsFor (record { sender = old.sender; receiver = receiver; frames = old.frames; reserved = old.reserved }) (world ++ Received reading bytes ∷ []) log (history ++ entry_of old.receiver.config history (Arrives 0 reading bytes) ∷ [])
 after_received old receiver reading bytes world log history stands same receives =
     let entry : Entry = entry_of old.receiver.config history (Arrives 0 reading bytes) in
     let moment : Moment = Received reading bytes in
@@ -124,15 +124,15 @@ after_received old receiver reading bytes world log history stands same receives
     (outcome_with world moment ∙ ap (λ dates. dates ++ received_at moment) stands.joined.received ∙ sym (map-append dated_of (arrivals_in history) (arrival_in entry)) ∙ ap (map dated_of) (sym (arrivals_with history entry)))
 
 -- the receiver had an event that is no arrival
-pub after_other : (old : JointState) (receiver : State) (event : Event) (world : List Moment) (log : List Call) (history : List Entry) → arrival_in (entry_of old.receiver.config history event) ≡ [] → StandsFor old world log history → receiver.config ≡ old.receiver.config → Stands receiver (history ++ entry_of old.receiver.config history event ∷ []) → StandsFor (record { sender = old.sender; receiver = receiver; frames = old.frames }) world log (history ++ entry_of old.receiver.config history event ∷ [])
+pub after_other : (old : JointState) (receiver : State) (event : Event) (world : List Moment) (log : List Call) (history : List Entry) → arrival_in (entry_of old.receiver.config history event) ≡ [] → StandsFor old world log history → receiver.config ≡ old.receiver.config → Stands receiver (history ++ entry_of old.receiver.config history event ∷ []) → StandsFor (record { sender = old.sender; receiver = receiver; frames = old.frames; reserved = old.reserved }) world log (history ++ entry_of old.receiver.config history event ∷ [])
 after_other old receiver event world log history none stands same receives =
     let entry : Entry = entry_of old.receiver.config history event in
     let arrivals : arrivals_in (history ++ entry ∷ []) ≡ arrivals_in history = arrivals_with history entry ∙ ap (λ more. arrivals_in history ++ more) none ∙ append-nil (arrivals_in history) in
-    subst (λ (w : List Moment). StandsFor (record { sender = old.sender; receiver = receiver; frames = old.frames }) w log (history ++ entry ∷ [])) (append-nil world)
+    subst (λ (w : List Moment). StandsFor (record { sender = old.sender; receiver = receiver; frames = old.frames; reserved = old.reserved }) w log (history ++ entry ∷ [])) (append-nil world)
     (after_event old receiver entry world [] log history stands same receives (ap sent_in (append-nil world)) (ap received_in (append-nil world) ∙ stands.joined.received ∙ ap (map dated_of) (sym arrivals)))
 
 -- a joint that was just opened
-pub none_yet : (sender : sending.State) (receiver : State) → sender.stream.setup ≡ receiver.config.setup → length sender.stream.seeds ≡ length sender.stream.setup.rows → sending.Stands sender [] → Stands receiver [] → StandsFor (record { sender = sender; receiver = receiver; frames = [] }) [] [] []
+pub none_yet : (sender : sending.State) (receiver : State) → sender.stream.setup ≡ receiver.config.setup → length sender.stream.seeds ≡ length sender.stream.setup.rows → sending.Stands sender [] → Stands receiver [] → StandsFor (record { sender = sender; receiver = receiver; frames = []; reserved = 0 }) [] [] []
 none_yet sender receiver setup seeds sends receives = record {
   joined = record { count = seeds ∙ ap (λ (p : Parts). length p.rows) setup; sent = tt; legal = receives.legal; received = refl };
   sends = sends;
@@ -143,8 +143,8 @@ none_yet sender receiver setup seeds sends receives = record {
 
 -- ---- the clauses, by what the sender and the receiver promise
 
-abbrev joint_of : sending.State → State → List (List ℕ) → JointState
-joint_of sender receiver frames = record { sender = sender; receiver = receiver; frames = frames }
+abbrev joint_of : sending.State → State → List (List ℕ) → ℕ → JointState
+joint_of sender receiver frames reserved = record { sender = sender; receiver = receiver; frames = frames; reserved = reserved }
 
 pub message_sent : (stream : Stream) (log : List Call) (reading : ℕ) (payload : List ℕ) (size : ℕ) (before now : List ℕ) → sending.Answers {E = SendRefusal} (Ok size) (made_message stream log reading payload) before now → sending.Spells {E = SendRefusal} (Ok size) (made_message stream log reading payload) now → IsSentFor stream log (Message reading payload) (record { reading = reading; bytes = take size now })
 message_sent stream log reading payload size before now answer spelled =
@@ -157,25 +157,25 @@ disclosure_sent stream log reading size before now answer spelled =
     record { reading = refl; frame = made.frame; made = ap frame_in made.is; spelled = made.spelled }
 
 -- a call of the sender, by the parts of the joint
-pub sent_by : (s : sending.State) (r : State) (fs : List (List ℕ)) (old : JointState) → joint_of s r fs ≡ old → (sender : sending.State) (call : Call) (number : ℕ) (bytes : List ℕ) (frames : List (List ℕ)) → number ≡ length fs → frames ≡ fs ++ bytes ∷ [] → sender.stream ≡ s.stream → ((log : List Call) → sending.Stands s log → sending.Stands sender (log ++ call ∷ [])) → ((log : List Call) → sending.Stands s log → IsSentFor s.stream log call (record { reading = reading_of call; bytes = bytes })) → HasSent old (joint_of sender r frames) call number
-sent_by s r fs old is sender call number bytes frames next more stream sends made =
-    subst (λ (o : JointState). HasSent o (joint_of sender r frames) call number) is (record {
+pub sent_by : (s : sending.State) (r : State) (fs : List (List ℕ)) (room : ℕ) (old : JointState) → joint_of s r fs room ≡ old → (sender : sending.State) (call : Call) (number : ℕ) (bytes : List ℕ) (frames : List (List ℕ)) (reserved : ℕ) → number ≡ length fs → frames ≡ fs ++ bytes ∷ [] → sender.stream ≡ s.stream → ((log : List Call) → sending.Stands s log → sending.Stands sender (log ++ call ∷ [])) → ((log : List Call) → sending.Stands s log → IsSentFor s.stream log call (record { reading = reading_of call; bytes = bytes })) → HasSent old (joint_of sender r frames reserved) call number
+sent_by s r fs room old is sender call number bytes frames reserved next more stream sends made =
+    subst (λ (o : JointState). HasSent o (joint_of sender r frames reserved) call number) is (record {
       next = next;
       bytes = bytes;
       more = more;
       stands = λ world log history stands.
-          subst (λ (all : List (List ℕ)). StandsFor (joint_of sender r all) (world ++ Sent (reading_of call) bytes ∷ []) (log ++ call ∷ []) history) (sym more)
-          (after_sent (joint_of s r fs) sender call bytes world log history stands stream (sends log stands.sends) (made log stands.sends));
+          subst (λ (all : List (List ℕ)). StandsFor (joint_of sender r all reserved) (world ++ Sent (reading_of call) bytes ∷ []) (log ++ call ∷ []) history) (sym more)
+          (after_sent (joint_of s r fs room) sender reserved call bytes world log history stands stream (sends log stands.sends) (made log stands.sends));
       stream = stream;
       receiver_is = refl;
     })
 
 -- an arrival
-pub come_by : (s : sending.State) (r : State) (fs : List (List ℕ)) (old : JointState) → joint_of s r fs ≡ old → (receiver : State) (reading : ℕ) (bytes : List ℕ) (verdict : Verdict) → receiver.config ≡ r.config → receiver.calls ≡ r.calls + 1 → ((h : List Entry) → Stands r h → Arrived (record { ingest = 0; reading = reading; bytes = bytes; verdict = verdict }) ≡ entry_of r.config h (Arrives 0 reading bytes)) → ((h : List Entry) → Stands r h → Stands receiver (h ++ entry_of r.config h (Arrives 0 reading bytes) ∷ [])) → HasCome old (joint_of s receiver fs) reading bytes verdict
-come_by s r fs old is receiver reading bytes verdict config calls answer receives =
-    subst (λ (o : JointState). HasCome o (joint_of s receiver fs) reading bytes verdict) is (record {
+pub come_by : (s : sending.State) (r : State) (fs : List (List ℕ)) (room : ℕ) (old : JointState) → joint_of s r fs room ≡ old → (receiver : State) (reading : ℕ) (bytes : List ℕ) (verdict : Verdict) → receiver.config ≡ r.config → receiver.calls ≡ r.calls + 1 → ((h : List Entry) → Stands r h → Arrived (record { ingest = 0; reading = reading; bytes = bytes; verdict = verdict }) ≡ entry_of r.config h (Arrives 0 reading bytes)) → ((h : List Entry) → Stands r h → Stands receiver (h ++ entry_of r.config h (Arrives 0 reading bytes) ∷ [])) → HasCome old (joint_of s receiver fs room) reading bytes verdict
+come_by s r fs room old is receiver reading bytes verdict config calls answer receives =
+    subst (λ (o : JointState). HasCome o (joint_of s receiver fs room) reading bytes verdict) is (record {
       answer = λ world log history stands. answer history stands.receives;
-      stands = λ world log history stands. after_received (joint_of s r fs) receiver reading bytes world log history stands config (receives history stands.receives);
+      stands = λ world log history stands. after_received (joint_of s r fs room) receiver reading bytes world log history stands config (receives history stands.receives);
       config = config;
       calls = calls;
       sender_is = refl;
@@ -183,10 +183,10 @@ come_by s r fs old is receiver reading bytes verdict config calls answer receive
     })
 
 -- another event
-pub had_by : (s : sending.State) (r : State) (fs : List (List ℕ)) (old : JointState) → joint_of s r fs ≡ old → (receiver : State) (event : Event) → ((h : List Entry) → arrival_in (entry_of r.config h event) ≡ []) → receiver.config ≡ r.config → receiver.calls ≡ r.calls + 1 → ((h : List Entry) → Stands r h → Stands receiver (h ++ entry_of r.config h event ∷ [])) → HasHad old (joint_of s receiver fs) event
-had_by s r fs old is receiver event none config calls receives =
-    subst (λ (o : JointState). HasHad o (joint_of s receiver fs) event) is (record {
-      stands = λ world log history stands. after_other (joint_of s r fs) receiver event world log history (none history) stands config (receives history stands.receives);
+pub had_by : (s : sending.State) (r : State) (fs : List (List ℕ)) (room : ℕ) (old : JointState) → joint_of s r fs room ≡ old → (receiver : State) (event : Event) → ((h : List Entry) → arrival_in (entry_of r.config h event) ≡ []) → receiver.config ≡ r.config → receiver.calls ≡ r.calls + 1 → ((h : List Entry) → Stands r h → Stands receiver (h ++ entry_of r.config h event ∷ [])) → HasHad old (joint_of s receiver fs room) event
+had_by s r fs room old is receiver event none config calls receives =
+    subst (λ (o : JointState). HasHad o (joint_of s receiver fs room) event) is (record {
+      stands = λ world log history stands. after_other (joint_of s r fs room) receiver event world log history (none history) stands config (receives history stands.receives);
       config = config;
       calls = calls;
       sender_is = refl;

@@ -1,7 +1,7 @@
 -- The frames that were sent, as a contract sees them.
 use Rattle.std.specs.Prelude.{ℕ, List}
 
--- their bytes, and for how many more there is room
+-- their bytes, and for how many there is room in all
 pub record FramesState : Type 0 where
   pub sent : List (List ℕ)
-  pub room : ℕ
+  pub reserved : ℕ

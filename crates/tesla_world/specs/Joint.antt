@@ -1,5 +1,5 @@
 -- A sender and a receiver of one stream with the frames that were sent, as the worlds that they stand for.
-use Rattle.std.specs.Prelude.{◌≡◌, ℕ, ◌+◌, ◌++◌, ◌∷◌, [], List, length, map, Option, Some, None, Result, Ok, Err, IsOk}
+use Rattle.std.specs.Prelude.{◌≡◌, ℕ, ◌+◌, ◌<◌, ◌≤◌, ◌++◌, ◌∷◌, [], List, length, map, Option, Some, None, Result, Ok, Err, IsOk}
 use Rattle.tesla_fitting.specs.declared.verdict.Verdict.{Verdict}
 use Rattle.tesla_frame.specs.Frame.{Frame}
 use Rattle.tesla_receiver.specs.History.{Arrives, Event, entry_of}
@@ -17,11 +17,13 @@ use Rattle.tesla_world.specs.declared.refusal.JointRefusal.{JointRefusal}
 use Rattle.tesla_world.specs.declared.refusal.JointRefusal.TheVariants as refused
 use Rattle.tesla_world.specs.declared.refusal.NoSuch.{NoSuch}
 
--- what a contract sees of a joint: its sender, its receiver, and the bytes of the frames that were sent, in order
+-- what a contract sees of a joint: its sender and its receiver, each with the room of its tables, the bytes of the frames
+-- that were sent, in order, and for how many frames there is room in all
 pub record JointState : Type 0 where
   pub sender : sending.State
   pub receiver : State
   pub frames : List (List ℕ)
+  pub reserved : ℕ
 
 abbrev pub bytes_of : Dated → List ℕ
 bytes_of dated = dated.bytes
@@ -55,10 +57,10 @@ pub record HasSent (old new : JointState) (call : Call) (number : ℕ) : Type 0 
   pub stream : new.sender.stream ≡ old.sender.stream
   pub receiver_is : new.receiver ≡ old.receiver
 
--- the frame was sent, or nothing has changed
+-- the frame was sent, or nothing has changed but for how many frames there is room
 abbrev pub Sends : JointState → JointState → Call → Result ℕ JointRefusal → Type 0
 Sends old new call (Ok number) = HasSent old new call number
-Sends old new call (Err refusal) = new ≡ old
+Sends old new call (Err refusal) = new ≡ record old { reserved = new.reserved }
 
 -- a message is refused as the sender refuses it, or for want of memory
 abbrev pub RefusesMessage : Result ℕ JointRefusal → Result Frame SendRefusal → Type 0
@@ -73,6 +75,27 @@ RefusesDisclosure (Ok number) made = IsOk made
 RefusesDisclosure (Err (refused.Send refusal)) made = ⊥
 RefusesDisclosure (Err (refused.Disclose refusal)) made = made ≡ Err refusal
 RefusesDisclosure (Err refused.NoMemory) made = Unit {0}
+
+-- ---- memory
+
+-- nothing has room for more or for less than before: the call took no memory, and gave none back
+pub record KeepsReserved (old new : JointState) : Type 0 where
+  pub sender : new.sender.reserved ≡ old.sender.reserved
+  pub receiver : new.receiver.reserved ≡ old.receiver.reserved
+  pub frames : new.reserved ≡ old.reserved
+
+-- room for frames was taken where there was none for one more, and else not
+abbrev pub TakesRoom : JointState → JointState → Result ℕ JointRefusal → Type 0
+TakesRoom old new (Err refused.NoMemory) = (old.reserved ≤ length old.frames) × (new.reserved ≡ old.reserved)
+TakesRoom old new _ =
+    (length old.frames < new.reserved) × (old.reserved ≤ new.reserved)
+    × (length old.frames < old.reserved → new.reserved ≡ old.reserved)
+
+-- that is all that a call which sends took: neither the sender nor the receiver took any
+pub record ReservesFrame (old new : JointState) (result : Result ℕ JointRefusal) : Type 0 where
+  pub sender : new.sender.reserved ≡ old.sender.reserved
+  pub receiver : new.receiver.reserved ≡ old.receiver.reserved
+  pub frames : TakesRoom old new result
 
 -- ---- what comes
 

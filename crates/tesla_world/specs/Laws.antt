@@ -98,7 +98,8 @@ SecurityCondition =
 -- no arrival with the bytes of a frame that was sent before it came was judged as from the future
 abbrev pub AreNotFuture : List Moment → List Entry → Type 0
 AreNotFuture world history =
-    (i j sent received : ℕ) (bytes : List ℕ) (arrival : Arrival) (bound : Option ℕ) → i < j → slice_get world i ≡ Some (Sent sent bytes) → slice_get world j ≡ Some (Received received bytes) →
+    (i j sent received : ℕ) (bytes : List ℕ) (arrival : Arrival) (bound : Option ℕ) → i < j →
+    slice_get world i ≡ Some (Sent sent bytes) → slice_get world j ≡ Some (Received received bytes) →
     slice_get (arrivals_in history) (arrival_at world j) ≡ Some arrival → arrival.verdict ≢ Future bound
 
 -- and so it is where the clock bound holds of the world

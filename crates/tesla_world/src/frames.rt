@@ -1,6 +1,6 @@
 //! The frames that were sent.
 
-ghost use Rattle.std.specs.Prelude.{◌≡◌, ◌+◌, ◌<◌, ◌≤◌, ◌++◌, ◌∷◌, [], length, take, slice_get, option_map, IfSome, OnOk};
+ghost use Rattle.std.specs.Prelude.{◌≡◌, ◌+◌, ◌<◌, ◌≤◌, ◌++◌, ◌∷◌, [], length, take, slice_get, option_map, IfSome, OnErr, OnOk};
 
 use std::alloc::Global;
 use std::marker::Model;
@@ -40,28 +40,29 @@ impl SentFrame {
     }
 }
 
-/// The frames that were sent, in order. Contracts see their bytes, and for how many more there is room.
+/// The frames that were sent, in order. Contracts see their bytes, and for how many there is room in all.
 #[derive(Drop)]
 pub struct Frames {
     slots: Option<Vec<SentFrame>>,
 }
 
 impl Model for Frames {
-    ghost use Rattle.std.specs.Prelude.{◌-◌, [], option_map, unwrap_or, vec_capacity, vec_len};
+    ghost use Rattle.std.specs.Prelude.{[], option_map, unwrap_or, vec_capacity};
     ghost use Rattle.tesla_world.specs.Frames.{FramesState};
 
     ghost Value = { FramesState };
 
     ghost view = { λ f. record {
       sent = unwrap_or (option_map (λ frames. frames.items) f.slots) [];
-      room = unwrap_or (option_map (λ frames. vec_capacity frames - vec_len frames) f.slots) 0;
+      reserved = unwrap_or (option_map (λ frames. vec_capacity frames) f.slots) 0;
     } };
 }
 
 impl Frames {
-    /// None.
+    /// None, and room for none.
     pub fn none() -> Frames
-        ensures { result.sent ≡ [] }
+        ensures sent { result.sent ≡ [] }
+        ensures reserved { result.reserved ≡ 0 }
     {
         Frames { slots: None }
     }
@@ -76,13 +77,21 @@ impl Frames {
         }
     }
 
-    /// Takes room for one more, unless there is some. `NoMemory`: there wasn't enough.
+    /// Takes room for one more, unless there is some. `NoMemory`: there wasn't enough, and the room is as before.
     pub fn make_room(&mut self, alloc: Global) -> Result<(), NoMemory>
         ensures sent { self.new.sent ≡ self.old.sent }
-        ensures room { OnOk result (0 < self.new.room) }
+        ensures room { OnOk result (length self.new.sent < self.new.reserved) }
+        ensures grows { self.old.reserved ≤ self.new.reserved }
+        ensures kept { length self.old.sent < self.old.reserved → self.new.reserved ≡ self.old.reserved }
+        ensures missing { OnErr result (self.old.reserved ≤ length self.old.sent) }
+        ensures same { OnErr result (self.new.reserved ≡ self.old.reserved) }
     {
         match &mut self.slots {
-            Some(frames) => frames.reserve(1)?,
+            Some(frames) => {
+                if frames.len() == frames.capacity() {
+                    frames.reserve(1)?;
+                }
+            }
             None => self.slots = Some(Vec::with_capacity(alloc, 1)?),
         }
         Ok(())
@@ -90,16 +99,14 @@ impl Frames {
 
     /// Puts a frame behind the others.
     pub fn push(&mut self, frame: SentFrame)
-        requires { 0 < self.old.room }
-        ensures { self.new.sent ≡ self.old.sent ++ frame ∷ [] }
+        requires { length self.old.sent < self.old.reserved }
+        ensures sent { self.new.sent ≡ self.old.sent ++ frame ∷ [] }
+        ensures reserved { self.new.reserved ≡ self.old.reserved }
     {
         let Some(frames) = &mut self.slots else {
             unreachable!()
         };
-        match frames.push(frame) {
-            Ok(()) => {}
-            Err(_) => unreachable!(),
-        }
+        frames.push_reserved(frame);
     }
 
     /// The bytes of that one.

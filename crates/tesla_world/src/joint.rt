@@ -7,7 +7,7 @@ ghost use Rattle.tesla_receiver.specs.declared.history.Entry.{Entry};
 ghost use Rattle.tesla_sender.specs.Made.{Call, Disclose, Message, made_disclosure, made_message};
 ghost use Rattle.tesla_sender.specs.Stands as sending;
 ghost use Rattle.tesla_state.specs.Replies.{KeepsBehind, reply_shown};
-ghost use Rattle.tesla_world.specs.Joint.{Delivers, HasCome, HasHad, IsLawful, JointState, RefusesDisclosure, RefusesMessage, Sends, StandsFor};
+ghost use Rattle.tesla_world.specs.Joint.{Delivers, HasCome, HasHad, IsLawful, JointState, KeepsReserved, RefusesDisclosure, RefusesMessage, ReservesFrame, Sends, StandsFor};
 ghost use Rattle.tesla_world.specs.World.{Moment};
 
 use crate::frames::{Frames, SentFrame};
@@ -37,7 +37,12 @@ impl Model for Joint {
 
     ghost Value = { JointState };
 
-    ghost view = { λ j. record { sender = j.sender; receiver = j.receiver; frames = j.frames.sent } };
+    ghost view = { λ j. record {
+      sender = j.sender;
+      receiver = j.receiver;
+      frames = j.frames.sent;
+      reserved = j.frames.reserved;
+    } };
 
     ghost invariant = { λ j. length j.frames.sent < 2 ^ 32 };
 }
@@ -59,7 +64,7 @@ impl Joint {
         requires sends { sending.Stands sender [] }
         requires receives { Stands receiver [] }
         requires ingest { receiver.config.ingests ≡ 1 }
-        ensures parts { result ≡ record { sender = sender; receiver = receiver; frames = [] } }
+        ensures parts { result ≡ record { sender = sender; receiver = receiver; frames = []; reserved = 0 } }
         ensures stands { StandsFor result [] [] [] }
         ensures lawful { IsLawful result }
     {
@@ -87,8 +92,9 @@ impl Joint {
 
     /// Sends a message at this reading of the sender's clock, in microseconds, and gives the number of its frame.
     ///
-    /// `Send`: the sender doesn't accept it. `NoMemory`: there was none for the frame. After either nothing has changed, and
-    /// no step was counted.
+    /// `Send`: the sender doesn't accept it. `NoMemory`: there was none for the frame. After either nothing has changed but
+    /// for how many frames there is room, and no step was counted. Room is taken before the sender is asked, and where there
+    /// is some for one frame more, none is taken (`reserved`).
     pub fn send<L: Ledger>(
         &mut self,
         alloc: Global,
@@ -101,6 +107,7 @@ impl Joint {
         ensures refuses { (world : List Moment) (log : List Call) (history : List Entry) → StandsFor self.old world log history →
             RefusesMessage result (made_message self.old.sender.stream log reading payload.now) }
         ensures idle { OnErr result (steps.new ≡ steps.old) }
+        ensures reserved { ReservesFrame self.old self.new result }
         ensures lawful { IsLawful self.new }
     {
         each_is_lawful();
@@ -118,8 +125,8 @@ impl Joint {
 
     /// Sends a disclosure at this reading of the sender's clock, in microseconds, and gives the number of its frame.
     ///
-    /// `Disclose`: the sender doesn't accept it. `NoMemory`: there was none for the frame. After either nothing has changed,
-    /// and no step was counted.
+    /// `Disclose`: the sender doesn't accept it. `NoMemory`: there was none for the frame. After either nothing has changed
+    /// but for how many frames there is room, and no step was counted. Room is taken as by `send`.
     pub fn disclose<L: Ledger>(
         &mut self,
         alloc: Global,
@@ -131,6 +138,7 @@ impl Joint {
         ensures refuses { (world : List Moment) (log : List Call) (history : List Entry) → StandsFor self.old world log history →
             RefusesDisclosure result (made_disclosure self.old.sender.stream log reading) }
         ensures idle { OnErr result (steps.new ≡ steps.old) }
+        ensures reserved { ReservesFrame self.old self.new result }
         ensures lawful { IsLawful self.new }
     {
         each_is_lawful();
@@ -157,6 +165,7 @@ impl Joint {
     ) -> Result<Verdict, NoSuch>
         requires { self.old.receiver.calls + 1 < 2 ^ 64 }
         ensures delivers { Delivers self.old self.new reading (slice_get self.old.frames number) result }
+        ensures reserved { KeepsReserved self.old self.new }
         ensures lawful { IsLawful self.new }
     {
         each_is_lawful();
@@ -171,6 +180,7 @@ impl Joint {
     pub fn inject<L: Ledger>(&mut self, reading: u64, bytes: &[u8], steps: &mut Steps<L>) -> Verdict
         requires { self.old.receiver.calls + 1 < 2 ^ 64 }
         ensures comes { HasCome self.old self.new reading bytes.now result }
+        ensures reserved { KeepsReserved self.old self.new }
         ensures lawful { IsLawful self.new }
     {
         each_is_lawful();
@@ -185,6 +195,7 @@ impl Joint {
             reply_shown result into.new ≡ reply_to self.old.receiver.config history }
         ensures takes { HasHad self.old self.new (Takes 0) }
         ensures behind { KeepsBehind result into.old into.new }
+        ensures reserved { KeepsReserved self.old self.new }
         ensures lawful { IsLawful self.new }
     {
         each_is_lawful();
@@ -195,6 +206,7 @@ impl Joint {
     pub fn end(&mut self)
         requires { self.old.receiver.calls + 1 < 2 ^ 64 }
         ensures ends { HasHad self.old self.new (Ends 0) }
+        ensures reserved { KeepsReserved self.old self.new }
         ensures lawful { IsLawful self.new }
     {
         each_is_lawful();

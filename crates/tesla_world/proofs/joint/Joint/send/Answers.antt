@@ -13,8 +13,8 @@ returns-in-Ok-clause-sends g c =
     let s = c.self.inside in
     let room = c.message.new.into in
     let more : c.push.new.self.sent ≡ s.frames.sent ++ take c.in-Ok.length room ∷ [] =
-    c.push.ensures ∙ ap (λ frames. frames ++ c.new.result ∷ []) c.make_room.ensures.sent ∙ ap (λ frame. s.frames.sent ++ frame ∷ []) c.new.ensures in
-    sent_by s.sender s.receiver s.frames.sent a.self.now c.self.view_is c.message.new.self (Message c.args.reading c.args.payload.now) c.count-number.result (take c.in-Ok.length room) c.push.new.self.sent
+    c.push.ensures.sent ∙ ap (λ frames. frames ++ c.new.result ∷ []) c.make_room.ensures.sent ∙ ap (λ frame. s.frames.sent ++ frame ∷ []) c.new.ensures in
+    sent_by s.sender s.receiver s.frames.sent s.frames.reserved a.self.now c.self.view_is c.message.new.self (Message c.args.reading c.args.payload.now) c.count-number.result (take c.in-Ok.length room) c.push.new.self.sent c.push.new.self.reserved
     (c.count-number.ensures ∙ ap length c.make_room.ensures.sent) more c.message.ensures.stream
     c.in-Ok.ensures.stands
     (λ log stands. message_sent s.sender.stream log c.args.reading c.args.payload.now c.in-Ok.length _ room (c.in-Ok.ensures.answer log stands) (c.in-Ok.ensures.spelled log stands))
