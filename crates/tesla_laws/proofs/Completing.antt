@@ -60,7 +60,8 @@ setup_ends : (page : Page) (outcome : OutcomeView) (text : List ℕ) (failed : B
 setup_ends page (Failed fault) text failed setup is found why = inr (fault, refl)
 setup_ends page (Refused status line) text failed setup is found why =
     ⊎_elim
-    (λ refused. absurd (let no : ◌≡◌ {A = Result Parts (ℕ × SetupKind)} (Ok setup) (Err refused.0) = sym found ∙ refused.1 in cc))
+    (λ refused. absurd (let no : ◌≡◌ {A = Result Parts (ℕ × SetupKind)} (Ok setup) (Err refused.0) =
+    sym found ∙ refused.1 in cc))
     (λ memory. inr (faults.NoMemory, memory))
     (subst (λ (p : Page). HoldsWhere p (λ t. IsNoSetupText t (Refused status line))) is why)
 setup_ends page (Done lines) text failed setup is found why = absurd why
@@ -85,13 +86,17 @@ history_ends arguments cfg history (Refused status line) few end =
     absurd (unspent (length arguments.links) (length arguments.sinks) history few end.2)
 history_ends arguments cfg history Usage few end = absurd end
 
-module _ (arguments : ReceiveArguments) (before now : Live) (last : Option (Ended Entry)) (setup : File) (outcome : OutcomeView) where
+module _ (arguments : ReceiveArguments) (before now : Live) (last : Option (Ended Entry)) (setup : File)
+    (outcome : OutcomeView) where
   -- nothing was received
   stop_ends : (opened : ℕ) (outs outs_now : List File) (text : List ℕ) (failed : Bool) (parts : Parts)
       → setup.page ≡ Holds text failed → IsSetupText text parts
       → Stops arguments opened before now last setup outs outs_now outcome → Ends outcome
   stop_ends opened outs outs_now text failed parts is found stops =
-      ⊎_elim (λ none. setup_ends setup.page outcome text failed parts is found none.0) (unopened_ends outcome) stops.cause
+      ⊎_elim
+      (λ none. setup_ends setup.page outcome text failed parts is found none.0)
+      (unopened_ends outcome)
+      stops.cause
 
   -- or a history was
   received_ends : (outs : List File) → HaveFewCalls arguments last
@@ -141,7 +146,8 @@ played_ends : (end : PlayEnd) (page : Page) (outcome : OutcomeView) (bytes : Lis
     (left : Option (List ℕ)) (played : List Played)
     → page ≡ Holds bytes failed → (outline_of bytes).fault ≡ None → outcome ≡ plays.outcome_with end
     → HoldsWhere page (λ text. FileTo end text left played) → Ends outcome
-played_ends (ends.Ended sent) page outcome bytes failed left played is whole comes file = inl (subst IsDone (sym comes) tt)
+played_ends (ends.Ended sent) page outcome bytes failed left played is whole comes file =
+    inl (subst IsDone (sym comes) tt)
 played_ends (ends.Refused offset kind) page outcome bytes failed left played is whole comes file =
     absurd (let told = subst (λ (p : Page). HoldsWhere p (λ text. FileTo (ends.Refused offset kind) text left played))
     is file in

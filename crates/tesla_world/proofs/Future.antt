@@ -103,23 +103,24 @@ bound_some times lag sent received begun before =
 
 -- what the reading of frames buys
 pub not_future : ReadsFrames → FutureLaw
-not_future read cfg seeds world log history joined bounded i j sent received bytes arrival told less sent_i received_j arrived is =
+not_future read cfg seeds world log history joined bounded i j sent received bytes arrival told less at_i at_j here is =
     let times = cfg.setup.times in
-    let number = call_at (record { setup = cfg.setup; seeds = seeds }) log world i sent bytes joined.sent sent_i in
+    let number = call_at (record { setup = cfg.setup; seeds = seeds }) log world i sent bytes joined.sent at_i in
     let is_sent = number.1.is_sent in
     let same : dated_of arrival ≡ record { reading = received; bytes = bytes } =
-    received_as world (arrivals_in history) j received bytes arrival joined.received received_j arrived in
+    received_as world (arrivals_in history) j received bytes arrival joined.received at_j here in
     let reading : arrival.reading ≡ received = ap (λ (d : Dated). d.reading) same in
     let framed : frame_of arrival.bytes ≡ Some is_sent.frame =
     ap (λ (d : Dated). frame_of d.bytes) same ∙ read bytes is_sent.frame is_sent.spelled in
     let early =
     judged_early cfg (take (arrival_at world j) (arrivals_in history)) arrival is_sent.frame told
-    (verdict_at cfg history (arrival_at world j) arrival joined.legal arrived) framed is in
+    (verdict_at cfg history (arrival_at world j) arrival joined.legal here) framed is in
     let reached = made_begun cfg seeds (take number.0 log) number.1.call is_sent.frame is_sent.made in
     let begun : 1 ≤ interval_at times sent = subst (λ (n : ℕ). 1 ≤ interval_at times n) (sym is_sent.reading) reached in
-    let before = bounded i j sent received bytes bytes less sent_i received_j in
+    let before = bounded i j sent received bytes bytes less at_i at_j in
     let bound = bound_some times cfg.lag sent received begun before in
     let within : interval_at times sent ≤ bound.0 = sent_within times cfg.lag sent received bound.0 before bound.1 in
     made_in_time cfg seeds (take number.0 log) number.1.call is_sent.frame bound.0 is_sent.made
     (subst (λ (n : ℕ). interval_at times n ≤ bound.0) is_sent.reading within)
-    (subst (λ (o : Option ℕ). is_future cfg o is_sent.frame ≡ true) (ap (bound_of times cfg.lag) reading ∙ bound.1) early)
+    (subst (λ (o : Option ℕ). is_future cfg o is_sent.frame ≡ true) (ap (bound_of times cfg.lag) reading ∙ bound.1)
+    early)
