@@ -1,5 +1,5 @@
--- A receiver's state stands for no event, and for one end more.
-use Rattle.std.proofs.Common.{◌≡◌, ℕ, ◌+◌, true, List, [], ◌∷◌, ◌++◌, length-append, map, drop, set, refl, ap, sym, ◌∙◌}
+-- A receiver's state stands for no event, also for fewer ingests, and for one end more.
+use Rattle.std.proofs.Common.{◌≡◌, ℕ, zero, suc, ◌+◌, ◌≤◌, true, false, List, [], ◌∷◌, ◌++◌, length-append, map, take, drop, set, replicate, refl, ap, sym, ◌∙◌, arith}
 use Rattle.tesla_fitting.specs.declared.config.Config.{Config}
 use Rattle.tesla_receiver.specs.declared.history.Arrival.{Arrival}
 use Rattle.tesla_receiver.specs.declared.history.Entry.{Entry}
@@ -11,7 +11,7 @@ use Rattle.tesla_receiver.specs.Packets.{candidates, released}
 use Rattle.tesla_receiver.specs.Report.{report_on}
 use Rattle.tesla_state.specs.State.{State}
 use Rattle.tesla_receiver.specs.Stands.{Stands, holdings}
-use Rattle.tesla_state.specs.Steps.{opened, after_end}
+use Rattle.tesla_state.specs.Steps.{opened, after_end, after_limit, with_ingests}
 use Rattle.tesla_receiver.specs.Tips.{tip_of}
 use Rattle.tesla_receiver.proofs.Legal.{arrivals_same}
 use Rattle.tesla_receiver.proofs.Standing.{entered_legal, ended_more, none_ended, given_same}
@@ -47,3 +47,25 @@ stands_opened cfg reserved = record {
   counts = refl;
   calls = refl;
 }
+
+take_none : (m n : ℕ) → m ≤ n → take m (replicate n false) ≡ replicate m false
+take_none zero n few = refl
+take_none (suc m) zero few = absurd (omega (arith, few))
+take_none (suc m) (suc n) few = ap (λ flags. false ∷ flags) (take_none m n (omega (arith, few)))
+
+-- before any event the state that is left for fewer ingests stands for the empty history too
+pub stands_limited : (s : State) (ingests : ℕ) → Stands s [] → ingests ≤ s.config.ingests → Stands (after_limit s ingests) []
+unfolding after_limit tip_of fresh_keys holdings released candidates
+stands_limited s ingests st few = record {
+  legal = tt;
+  tips = st.tips;
+  held = st.held;
+  waiting = st.waiting;
+  ended = ap (take ingests) (st.ended ∙ sym (none_ended 0 s.config.ingests)) ∙ take_none ingests s.config.ingests few ∙ none_ended 0 ingests;
+  counts = st.counts;
+  calls = st.calls;
+}
+
+pub limit_config : (s : State) (ingests : ℕ) → (after_limit s ingests).config ≡ with_ingests s.config ingests
+unfolding after_limit
+limit_config s ingests = refl

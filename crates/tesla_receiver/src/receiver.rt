@@ -10,6 +10,7 @@ ghost use Rattle.tesla_receiver.specs.Costs.{most_evaluations, most_offers};
 ghost use Rattle.tesla_receiver.specs.History.{Arrives, Takes, Ends, arrivals_in, entry_of, has_end, reply_to, held_in};
 ghost use Rattle.tesla_receiver.specs.Events.{waiting_in};
 ghost use Rattle.tesla_state.specs.Replies.{reply_shown, KeepsBehind};
+ghost use Rattle.tesla_state.specs.Steps.{with_ingests};
 ghost use Rattle.tesla_receiver.specs.Report.{report_of};
 ghost use Rattle.tesla_receiver.specs.Stands.{Stands};
 
@@ -140,6 +141,18 @@ impl Receiver {
         ensures reserved { self.new.reserved ≡ self.old.reserved }
     {
         self.kept.end(ingest);
+    }
+
+    /// Leaves the first ingests alone, so many of them, before anything has happened. It takes no memory, so a receiver may
+    /// be opened before it is known how many ingests there are.
+    pub fn limit_ingests(&mut self, ingests: u8)
+        requires within { ingests ≤ self.old.config.ingests }
+        requires unused { Stands self.old [] }
+        ensures stands { Stands self.new [] }
+        ensures config { self.new.config ≡ with_ingests self.old.config ingests }
+        ensures reserved { self.new.reserved ≡ self.old.reserved }
+    {
+        self.kept.limit_ingests(ingests);
     }
 
     /// Whether an ingest has ended. One at or above the number of ingests counts for nothing, and hasn't.

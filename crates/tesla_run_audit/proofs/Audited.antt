@@ -26,7 +26,7 @@ use Rattle.tesla_audit.specs.Wrong.{first_wrong}
 use Rattle.tesla_audit.specs.declared.step.TraceStep.{TraceStep}
 use Rattle.tesla_audit.specs.declared.step.TraceStep.TheVariants as steps
 use Rattle.tesla_audit.proofs.Wrongs.{legal_none, wrong_there}
-use Rattle.tesla_run_audit.specs.Audit.{AuditsBytes, HasEntry, StopsReading, audit_of, audit_outcome, outcome_with, end_outcome, refuted_line}
+use Rattle.tesla_run_audit.specs.Audit.{AuditsBytes, StopsReading, audit_of, audit_outcome, outcome_with, end_outcome, refuted_line}
 use Rattle.tesla_run_audit.specs.Judging.{stop_at}
 
 -- a refusal of the file and its kind
@@ -121,7 +121,3 @@ module _ (cfg : ℕ → Config) (bytes : List ℕ) where
       ap (audit_outcome cfg) (known k (judged ++ next ∷ []) offset rest taken)
       ∙ ap (λ (l : List Entry). outcome_with (first_wrong (cfg k) l) end) (append_assoc judged (next ∷ []) o.records)
       ∙ ap (λ (w : Option (ℕ × Entry)). outcome_with w end) (wrong_there (cfg k) judged next o.records legal other)
-
-  -- an entry was taken
-  pub has_entry : (k : ℕ) (next : Entry) (offset : ℕ) (rest : List ℕ) → IsTaken trace bytes (Some k) (next ∷ []) offset rest → HasEntry bytes
-  has_entry k next offset rest taken = (next, (outline_at trace offset rest).records, ap (λ (o : TraceOutline). o.entries) (known k (next ∷ []) offset rest taken))

@@ -5,7 +5,7 @@ use Rattle.tesla_desk.specs.Faults.{CountsOpening, Faults, HasCause, HasCauses}
 use Rattle.tesla_desk.specs.Outside.{Page, Untold, Absent, Holds, Told, Opened, OfSource, OpensSource, ClosesSource}
 use Rattle.tesla_desk.specs.declared.desk.OpenRefusal.{OpenRefusal}
 use Rattle.tesla_desk.specs.declared.desk.OpenRefusal.TheVariants as refused
-use Rattle.tesla_desk.proofs.Counts.{causes_none, causes_opening, causes_plain, causes_source, causes_then, counts_stay}
+use Rattle.tesla_desk.proofs.Counts.{causes_as, causes_none, causes_opening, causes_plain, causes_source, causes_then, counts_stay}
 use Rattle.tesla_desk.proofs.Told.{opened_holds}
 use Rattle.tesla_fitting.specs.declared.config.Config.{Config}
 use Rattle.tesla_front.specs.OutcomeView.{OutcomeView, Failed, stop_view}
@@ -19,6 +19,7 @@ use Rattle.tesla_front.specs.declared.fault.Fault.TheVariants as faults
 use Rattle.tesla_front.specs.declared.refusal.Stop.{Stop}
 use Rattle.tesla_front.proofs.Commands.{counts_stopped}
 use Rattle.tesla_front.proofs.Openings.{opens_first, opens_none, opens_some, opens_then, source_closed}
+use Rattle.tesla_state.specs.Steps.{with_ingests}
 use Rattle.tesla_run_audit.specs.Arguments.{AuditArguments, IsAudit, config_of, files_of_audit}
 use Rattle.tesla_run_audit.specs.Audit.{AuditsBetween, AuditsBytes, IsAuditOutcome, IsAudited, IsUnopened, audit}
 use Rattle.tesla_run_audit.specs.Files.{AuditsFile}
@@ -82,6 +83,18 @@ performs_none arguments before now stop named some why causes =
     let it = opens_some (OfSource arguments.setup) (OfSource arguments.trace ∷ []) before now some in
     record { named = named; opened = it.0; opens = it.2; does = inl (record { alone = it.1; why = why }); counts = counts_stopped stop before.faults now.faults causes }
 
+-- the setup was read, and there was no memory for a receiver
+pub performs_wanting : (arguments : AuditArguments) (setup : Parts) (before now : Told) → AreFiles (files_of_audit arguments) → OpensSome (OfSource arguments.setup ∷ []) before now → IsSetupIn (before.page arguments.setup) setup → StopCauses {A = Parts} (Ok setup) before.faults now.faults → Performs audit arguments before now (Failed faults.NoMemory)
+performs_wanting arguments setup before now named some found causes =
+    let it = opens_some (OfSource arguments.setup) (OfSource arguments.trace ∷ []) before now some in
+    record {
+      named = named;
+      opened = it.0;
+      opens = it.2;
+      does = inr (record { parts = setup; found = found; audits = inl (inr (refl, it.1)) });
+      counts = causes_as before.faults now.faults (causes_plain before.faults now.faults causes) (λ h. h) (λ e. absurd cc) (λ e. absurd cc) (λ e. absurd cc) (λ e. absurd cc) (λ e. absurd cc) (λ e. absurd cc);
+    }
+
 behind_setup : (opened : ℕ) (outcome : OutcomeView) → IsUnopened 0 opened outcome → IsUnopened 1 (suc opened) outcome
 behind_setup opened outcome (inl failed) = inl failed
 behind_setup opened outcome (inr memory) = inr (memory.0, (let none = memory.1 in omega (arith, none)))
@@ -92,15 +105,17 @@ audited_by cfg opened before mid left outcome same (inr done) = inr (subst (λ (
 
 -- the setup was read, and then the trace audited
 pub performs_audit : (arguments : AuditArguments) (setup : Parts) (before mid now : Told) (outcome : OutcomeView) → AreFiles (files_of_audit arguments) → Opens (OfSource arguments.setup ∷ []) 1 before mid → ((name : List ℕ) → mid.page name ≡ before.page name) → IsSetupIn (before.page arguments.setup) setup → StopCauses {A = Parts} (Ok setup) before.faults mid.faults
-    → AuditsFile (config_of arguments setup) arguments.trace mid now outcome → Performs audit arguments before now outcome
-performs_audit arguments setup before mid now outcome named opened pages found causes file = record {
-  named = named;
-  opened = suc file.opened;
-  opens = opens_then (OfSource arguments.setup) (OfSource arguments.trace ∷ []) file.opened before mid now opened file.opens;
-  does = inr (record {
-    parts = setup;
-    found = found;
-    audits = audited_by (config_of arguments setup) file.opened (before.page arguments.trace) (mid.page arguments.trace) (now.left arguments.trace) outcome (pages arguments.trace) file.audits;
-  });
-  counts = causes_then before.faults mid.faults now.faults (causes_none before.faults mid.faults causes (λ e. absurd cc) (λ e. absurd cc) (λ e. absurd cc)) (causes_plain mid.faults now.faults file.counts);
-}
+    → (config : Config) → config ≡ config_of arguments setup 255 → AuditsFile (with_ingests config) arguments.trace mid now outcome → Performs audit arguments before now outcome
+performs_audit arguments setup before mid now outcome named opened pages found causes config is audited =
+    let file : AuditsFile (config_of arguments setup) arguments.trace mid now outcome = subst (λ (c : Config). AuditsFile (with_ingests c) arguments.trace mid now outcome) is audited in
+    record {
+      named = named;
+      opened = suc file.opened;
+      opens = opens_then (OfSource arguments.setup) (OfSource arguments.trace ∷ []) file.opened before mid now opened file.opens;
+      does = inr (record {
+        parts = setup;
+        found = found;
+        audits = audited_by (config_of arguments setup) file.opened (before.page arguments.trace) (mid.page arguments.trace) (now.left arguments.trace) outcome (pages arguments.trace) file.audits;
+      });
+      counts = causes_then before.faults mid.faults now.faults (causes_none before.faults mid.faults causes (λ e. absurd cc) (λ e. absurd cc) (λ e. absurd cc)) (causes_plain mid.faults now.faults file.counts);
+    }

@@ -30,9 +30,9 @@ use Rattle.tesla_audit.specs.declared.auditor.Answer.{Answer}
 use Rattle.tesla_audit.specs.declared.step.TraceStep.{TraceStep}
 use Rattle.tesla_audit.specs.declared.step.TraceStep.TheVariants as steps
 use Rattle.tesla_audit.proofs.Answered.{answer_is}
-use Rattle.tesla_run_audit.specs.Audit.{AuditsBytes, HasEntry, IsAuditOutcome, audit_of, refuted_line, refuted_text}
+use Rattle.tesla_run_audit.specs.Audit.{AuditsBytes, IsAuditOutcome, audit_of, refuted_line, refuted_text}
 use Rattle.tesla_run_audit.specs.Judging.{IsAt, IsBehind, stop_at}
-use Rattle.tesla_run_audit.proofs.Audited.{has_entry, start_stops, stops, wrong_is}
+use Rattle.tesla_run_audit.proofs.Audited.{start_stops, stops, wrong_is}
 
 -- ---- what the head tells
 
@@ -126,16 +126,6 @@ module _ (cfg : ℕ → Config) (bytes : List ℕ) where
   start_at state reader left (steps.Refused offset kind) entry k going gives moves reads placed head config stands = absurd cc
   start_at state reader left steps.ReadFault entry k going gives moves reads placed head config stands = absurd cc
 
-  -- so memory is wanting only where there is an entry
-  start_has : (reader : Progress ℕ) (left : Option (List ℕ)) (step : TraceStep) (entry : EntryBuffer) (k : ℕ) → goes_on (records_step step) ≡ true → Gives trace (λ fault. fault) (given_in entry) (records_step step) 0 bytes reader.place (ahead reader left) → MovesHead trace 0 None reader.place reader.head → ReadsHead trace 0 bytes reader.place reader.head
-      → reader.head ≡ Some k → HasEntry bytes
-  start_has reader left steps.Entry entry k going gives moves reads head =
-      has_entry cfg bytes k (entry_in entry) reader.place gives.0 (subst (λ (o : Option ℕ). IsTaken trace bytes o (entry_in entry ∷ []) reader.place gives.0) head
-      (given_taken trace trace_is bytes None reader.head [] 0 bytes (entry_in entry) reader.place (ahead reader left) (none_taken trace trace_is bytes) gives moves reads))
-  start_has reader left steps.End entry k going gives moves reads head = absurd cc
-  start_has reader left (steps.Refused offset kind) entry k going gives moves reads head = absurd cc
-  start_has reader left steps.ReadFault entry k going gives moves reads head = absurd cc
-
   -- what a first step says of the bytes
   record IsFirst (new : Progress ℕ) (now : Option (List ℕ)) (step : TraceStep) (entry : EntryBuffer) : Type 0 where
     gives : Gives trace (λ fault. fault) (given_in entry) (records_step step) 0 bytes new.place (ahead new now)
@@ -167,14 +157,6 @@ module _ (cfg : ℕ → Config) (bytes : List ℕ) where
         let known = is_first.moves.read refl some in
         let same : n ≡ known.0 = counted ∙ ap (λ (h : Option ℕ). unwrap_or h 0) known.1 in
         start_at state new now step entry known.0 going is_first.gives is_first.moves is_first.reads some known.1 (config ∙ ap cfg same) stands
-
-    -- so memory is wanting only where there is one
-    pub first_has : goes_on (records_step step) ≡ true → Moves trace (given_in entry) (records_step step) old.place new.place → HasEntry bytes
-    first_has going moved =
-        let rises = offset_rises step entry old.place new.place going moved in
-        let some : 0 < new.place = omega (arith, rises) in
-        let known = is_first.moves.read refl some in
-        start_has new now step entry known.0 going is_first.gives is_first.moves is_first.reads known.1
 
   -- another entry was read
   pub read_at : (count : ℕ) (state : State) (old new : Progress ℕ) (left now : Option (List ℕ)) (step : TraceStep) (entry : EntryBuffer) → goes_on (records_step step) ≡ true → (b : IsBehind cfg bytes count state old left) → Gives trace (λ fault. fault) (given_in entry) (records_step step) old.place b.rest new.place (ahead new now) → MovesHead trace old.place old.head new.place new.head → ReadsHead trace old.place b.rest new.place new.head

@@ -59,16 +59,11 @@ pub record StopsReading (cfg : ℕ → Config) (bytes : List ℕ) (left : Option
   pub unrefused : HoldsNoRefusal trace read
   pub legal : IsLegal (cfg (unwrap_or (trace_outline read).ingests 0)) (trace_outline read).entries
 
--- the bytes have a head and a whole entry
-abbrev pub HasEntry : List ℕ → Type 0
-HasEntry bytes = (first : Entry) × (others : List Entry) × ((trace_outline bytes).entries ≡ first ∷ others)
-
--- what auditing bytes came to, told what was left of them; memory is wanting only where there is an entry to judge
+-- what auditing bytes came to, told what was left of them; memory is wanting no more once the trace is open, so before any entry is judged
 abbrev pub AuditsBytes : (ℕ → Config) → List ℕ → Option (List ℕ) → OutcomeView → Type 0
 AuditsBytes cfg bytes left (Done lines) = Done lines ≡ audit_of cfg bytes
 AuditsBytes cfg bytes left (Refused status line) = Refused status line ≡ audit_of cfg bytes
 AuditsBytes cfg bytes left (Failed faults.Read) = StopsReading cfg bytes left
-AuditsBytes cfg bytes left (Failed faults.NoMemory) = HasEntry bytes
 AuditsBytes cfg bytes left _ = ⊥
 
 -- what it may come to, whatever the bytes are
@@ -76,7 +71,6 @@ abbrev pub IsAuditOutcome : OutcomeView → Type 0
 IsAuditOutcome (Done lines) = Unit {0}
 IsAuditOutcome (Refused status line) = (status ≡ 3) ⊎ (status ≡ 8)
 IsAuditOutcome (Failed faults.Read) = Unit {0}
-IsAuditOutcome (Failed faults.NoMemory) = Unit {0}
 IsAuditOutcome _ = ⊥
 
 -- the same of a source that is open, told what it had left before and afterwards

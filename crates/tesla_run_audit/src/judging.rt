@@ -10,6 +10,7 @@ ghost use Rattle.tesla_receiver.specs.declared.history.Entry.{Entry};
 ghost use Rattle.tesla_receiver.specs.Stands.{Stands};
 ghost use Rattle.tesla_records.specs.Grammar.{limit};
 ghost use Rattle.tesla_records.specs.Steps.{goes_on};
+ghost use Rattle.tesla_state.specs.Steps.{with_ingests};
 ghost use Rattle.tesla_trace.specs.Entries.{IsEntry, entry_in};
 ghost use Rattle.tesla_audit.specs.Steps.{records_step};
 ghost use Rattle.tesla_run_audit.specs.Arguments.{arguments_of, config_of};
@@ -38,15 +39,23 @@ struct Audit<L: Ledger> {
     steps: Steps<L>,
 }
 
-/// What a trace comes to under a setup: its head and its first entry are read, then the receiver's memory is taken, and then
-/// entry after entry is judged. Nothing is read behind the first wrong one.
-pub fn audit_trace<S: Source>(
-    alloc: Global,
-    setup: Setup,
-    arguments: &Arguments<'_>,
-    source: &mut S,
-) -> Result<Lines, Stop>
-    ensures audits { AuditsBetween (config_of (arguments_of arguments.now) setup) (S.left source.old) (S.left source.new) (result_view result) }
+/// A receiver of the most ingests that a trace tells, in which nothing has happened. All memory of an audit is taken here.
+pub fn open(alloc: Global, setup: Setup, arguments: &Arguments<'_>) -> Result<Receiver, NoMemory>
+    ensures config { IfOk result (λ r. r.config ≡ config_of (arguments_of arguments.now) setup 255) }
+    ensures stands { IfOk result (λ r. Stands r []) }
+{
+    let lag = arguments.lag;
+    let limits = arguments.limits;
+    Receiver::open(alloc, setup, lag, limits.capacity, limits.quota, u8::MAX)
+}
+
+/// What a trace comes to, judged by a receiver in which nothing has happened: its head and its first entry are read, then the
+/// receiver is left as many ingests as the head tells, and then entry after entry is judged. Nothing is read behind the
+/// first wrong one. It takes no memory.
+pub fn audit_trace<S: Source>(receiver: Receiver, source: &mut S) -> Result<Lines, Stop>
+    requires most { receiver.config.ingests ≡ 255 }
+    requires unused { Stands receiver [] }
+    ensures audits { AuditsBetween (with_ingests receiver.config) (S.left source.old) (S.left source.new) (result_view result) }
     ensures cause { HasCause (S.faults source.old) (S.faults source.new) (result_view result ≡ Failed faults.Read) }
     ensures name { S.name source.new ≡ S.name source.old }
 {
@@ -54,32 +63,12 @@ pub fn audit_trace<S: Source>(
     let mut entry = EntryBuffer::new();
     let step = reader.next(source, &mut entry);
     if reader.going() {
-        let ingests = reader.ingests();
-        match open(alloc, setup, arguments, ingests) {
-            Ok(receiver) => {
-                judge_from::<Brand, S>(receiver, reader, entry, Blank::new(1), source)
-            }
-            Err(NoMemory) => Err(Stop::Failed(Fault::NoMemory)),
-        }
+        let mut receiver = receiver;
+        receiver.limit_ingests(reader.ingests());
+        judge_from::<Brand, S>(receiver, reader, entry, Blank::new(1), source)
     } else {
         stop(step, 0)
     }
-}
-
-// A receiver of so many ingests, in which nothing has happened. All memory is taken here.
-fn open(
-    alloc: Global,
-    setup: Setup,
-    arguments: &Arguments<'_>,
-    ingests: u8,
-) -> Result<Receiver, NoMemory>
-    requires { 1 ≤ ingests }
-    ensures config { IfOk result (λ r. r.config ≡ config_of (arguments_of arguments.now) setup ingests) }
-    ensures stands { IfOk result (λ r. Stands r []) }
-{
-    let lag = arguments.lag;
-    let limits = arguments.limits;
-    Receiver::open(alloc, setup, lag, limits.capacity, limits.quota, ingests)
 }
 
 // Judges a trace by a new receiver, with a ledger for its evaluations of HMAC. The place holds the first entry.

@@ -1,5 +1,5 @@
 -- What one event makes of what a receiver keeps, and the answer to it. Nothing here looks at a history.
-use Rattle.std.specs.Prelude.{ℕ, ◌+◌, Bool, true, false, not, ◌&&◌, ◌||◌, List, [], ◌∷◌, ◌++◌, length, map, filter, find, flat_map, replicate, slice_set, option_map, unwrap_or, Option, Some, None, nat_le, ◌==◌, if◌then◌else◌, count_by}
+use Rattle.std.specs.Prelude.{ℕ, ◌+◌, Bool, true, false, not, ◌&&◌, ◌||◌, List, [], ◌∷◌, ◌++◌, length, map, filter, find, flat_map, replicate, slice_set, take, option_map, unwrap_or, Option, Some, None, nat_le, ◌==◌, if◌then◌else◌, count_by}
 use Rattle.std.specs.List.{list_any, list_all}
 use Rattle.tesla_base.specs.declared.names.Name.{Name}
 use Rattle.tesla_clock.specs.Safe.{has_chain, chain_set}
@@ -232,3 +232,13 @@ after_take s = with_taken s s.waiting
 
 unfoldable pub after_end : State → ℕ → State
 after_end s ingest = record s { ended = slice_set s.ended ingest true; calls = s.calls + 1 }
+
+-- ---- fewer ingests
+
+-- the same configuration for so many ingests
+abbrev pub with_ingests : Config → ℕ → Config
+with_ingests cfg ingests = record cfg { ingests = ingests }
+
+-- the first ingests alone are left, so many of them
+unfoldable pub after_limit : State → ℕ → State
+after_limit s ingests = record s { config = with_ingests s.config ingests; ended = take ingests s.ended }

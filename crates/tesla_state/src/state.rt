@@ -7,7 +7,7 @@ ghost use Rattle.tesla_frame.specs.Shown.{shown};
 ghost use Rattle.tesla_base.specs.declared.names.ChainNo.{ChainNo};
 ghost use Rattle.tesla_state.specs.Costs.{most_by, offers_by};
 ghost use Rattle.tesla_state.specs.Replies.{reply_shown, KeepsBehind};
-ghost use Rattle.tesla_state.specs.Steps.{opened, judged, after_arrival, reply_by, after_take, after_end};
+ghost use Rattle.tesla_state.specs.Steps.{opened, judged, after_arrival, reply_by, after_take, after_end, after_limit};
 ghost use Rattle.tesla_walks.specs.Tips.{first_tip};
 
 use crate::arriving::receive;
@@ -175,6 +175,15 @@ impl ReceiverState {
     {
         mark(&mut self.ended, ingest as usize);
         self.calls += 1;
+    }
+
+    /// Leaves the first ingests alone, at most so many of them. It takes no memory, and gives none back.
+    pub fn limit_ingests(&mut self, ingests: u8)
+        ensures state { self.new ≡ after_limit self.old ingests }
+        ensures reserved { self.new.reserved ≡ self.old.reserved }
+    {
+        self.tables.config.ingests = ingests;
+        self.ended.truncate(ingests as usize);
     }
 
     /// Whether an ingest has ended. One at or above the number of ingests hasn't.
