@@ -21,6 +21,8 @@ pub record PromiseState : Type 0 where
   pub most : ℕ
   -- those that are kept, in the order in which they were learnt
   pub kept : List Kept
+  -- how many entries its tables have room for, together
+  pub reserved : ℕ
 
 -- what a contract sees of a receiver that accepts promised messages early
 pub record EarlyState : Type 0 where

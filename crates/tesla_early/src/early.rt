@@ -64,6 +64,7 @@ fn may_be_early(verdict: Verdict) -> bool
 /// Learns the promise of a payload, where it has one.
 fn learn_from(promises: &mut Promises, payload: &[u8])
     ensures most { promises.new.most ≡ promises.old.most }
+    ensures reserved { promises.new.reserved ≡ promises.old.reserved }
     ensures kept { promises.new.kept ≡ kept_with promises.old.most promises.old.kept (promise_of payload.now) }
 {
     if let Some(promise) = promise_of(payload) {
@@ -76,6 +77,7 @@ fn learn_from(promises: &mut Promises, payload: &[u8])
 #[tactic(auto, using(crate::proofs::Using::none_used))]
 fn accept(promises: &mut Promises, verdict: Verdict, frame: Option<&FrameView<'_>>) -> bool
     ensures most { promises.new.most ≡ promises.old.most }
+    ensures reserved { promises.new.reserved ≡ promises.old.reserved }
     ensures early { result ≡ is_promised_by promises.old.kept (candidate_in verdict (option_map shown (option_copied frame.entry))) }
     ensures kept { promises.new.kept ≡ kept_after promises.old.most promises.old.kept (candidate_in verdict (option_map shown (option_copied frame.entry))) }
 {
@@ -95,7 +97,8 @@ fn accept(promises: &mut Promises, verdict: Verdict, frame: Option<&FrameView<'_
 
 impl Early {
     /// Over a receiver that stands for the empty history, with room for so many promises: from 1 to 4,096. All memory is
-    /// taken here. `NoMemory`: there wasn't enough.
+    /// taken here: what the receiver took stays its own, `reserved` of the promises tells for how many entries their tables
+    /// have room, and no other call changes either. `NoMemory`: there wasn't enough.
     pub fn open(alloc: Global, receiver: Receiver, promises: u32) -> Result<Early, NoMemory>
         requires stands { Stands receiver [] }
         requires some { 1 ≤ promises }
@@ -133,6 +136,7 @@ impl Early {
         ensures calls { self.new.receiver.calls ≡ self.old.receiver.calls + 1 }
         ensures reserved { self.new.receiver.reserved ≡ self.old.receiver.reserved }
         ensures most { self.new.promises.most ≡ self.old.promises.most }
+        ensures room { self.new.promises.reserved ≡ self.old.promises.reserved }
     {
         let frame = read_frame(bytes);
         self.arrive_read(ingest, reading, bytes, frame.as_ref(), steps)
@@ -160,6 +164,7 @@ impl Early {
         ensures calls { self.new.receiver.calls ≡ self.old.receiver.calls + 1 }
         ensures reserved { self.new.receiver.reserved ≡ self.old.receiver.reserved }
         ensures most { self.new.promises.most ≡ self.old.promises.most }
+        ensures room { self.new.promises.reserved ≡ self.old.promises.reserved }
     {
         let verdict = self
             .receiver
@@ -181,6 +186,7 @@ impl Early {
         ensures calls { self.new.receiver.calls ≡ self.old.receiver.calls + 1 }
         ensures reserved { self.new.receiver.reserved ≡ self.old.receiver.reserved }
         ensures most { self.new.promises.most ≡ self.old.promises.most }
+        ensures room { self.new.promises.reserved ≡ self.old.promises.reserved }
     {
         let take = self.receiver.take(releaser, into);
         match take {
@@ -201,6 +207,7 @@ impl Early {
         ensures calls { self.new.receiver.calls ≡ self.old.receiver.calls + 1 }
         ensures reserved { self.new.receiver.reserved ≡ self.old.receiver.reserved }
         ensures most { self.new.promises.most ≡ self.old.promises.most }
+        ensures room { self.new.promises.reserved ≡ self.old.promises.reserved }
     {
         self.receiver.end(ingest);
     }

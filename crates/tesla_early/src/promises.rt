@@ -50,13 +50,17 @@ pub struct Promises {
 }
 
 impl Model for Promises {
-    ghost use Rattle.std.specs.Prelude.{map};
+    ghost use Rattle.std.specs.Prelude.{◌+◌, map, vec_capacity};
     ghost use Rattle.tesla_early.specs.Ring.{IsRing, kept_at, order_of};
     ghost use Rattle.tesla_early.specs.Stands.{PromiseState};
 
     ghost Value = { PromiseState };
 
-    ghost view = { λ p. record { most = p.most; kept = map (kept_at p.slots.items) (order_of p.count p.next) } };
+    ghost view = { λ p. record {
+      most = p.most;
+      kept = map (kept_at p.slots.items) (order_of p.count p.next);
+      reserved = p.buckets.reserved + vec_capacity p.slots;
+    } };
 
     ghost invariant = { λ p. IsRing p.most p.count p.next p.buckets p.slots.items };
 }
@@ -92,6 +96,7 @@ fn count_after(most: u32, count: u32) -> u32
 fn make_room(buckets: &mut Links, most: u32, count: u32, place: u32)
     requires { count ≡ most → list_any (is_in place) buckets.old.lists ≡ true }
     ensures slot_count { buckets.new.slot_count ≡ buckets.old.slot_count }
+    ensures reserved { buckets.new.reserved ≡ buckets.old.reserved }
     ensures lists { buckets.new.lists ≡ room_made most count place buckets.old.lists }
 {
     if count == most {
@@ -159,7 +164,8 @@ fn find_index(
 }
 
 impl Promises {
-    /// Room for so many promises, and none of them learnt. All memory is taken here. `NoMemory`: there wasn't enough.
+    /// Room for so many promises, and none of them learnt. All memory is taken here: `reserved` tells for how many entries
+    /// the tables have room, and no other call changes it. `NoMemory`: there wasn't enough.
     pub fn open(alloc: Global, most: u32) -> Result<Promises, NoMemory>
         requires some { 1 ≤ most }
         requires few { most ≤ 4096 }
@@ -178,6 +184,7 @@ impl Promises {
     /// Learns a promise: where all places are taken, the oldest is forgotten. It takes no memory.
     pub fn learn(&mut self, promise: &Promise)
         ensures most { self.new.most ≡ self.old.most }
+        ensures reserved { self.new.reserved ≡ self.old.reserved }
         ensures kept { self.new.kept ≡ last_of self.old.most (self.old.kept ++ record { promise = promise.now; used = false } ∷ []) }
     {
         let place = self.next;
@@ -195,6 +202,7 @@ impl Promises {
     /// one. The payload is hashed only where a promise of this name isn't used. It takes no memory.
     pub fn use_up(&mut self, name: Name, payload: &[u8]) -> bool
         ensures most { self.new.most ≡ self.old.most }
+        ensures reserved { self.new.reserved ≡ self.old.reserved }
         ensures found { result ≡ list_any (is_of_message name (sha256 payload.now)) self.old.kept }
         ensures used { self.new.kept ≡ use_first_kept (is_of_message name (sha256 payload.now)) self.old.kept }
     {
