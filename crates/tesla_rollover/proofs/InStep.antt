@@ -64,10 +64,11 @@ configs_at states configs k state default same at = got states k at ∙ ap (λ (
 pub config_is : (cfg : Config) (h : List RollEntry) (states : List State) (k : ℕ) (state : State) → map config_in states ≡ configs_in cfg h → slice_get states k ≡ Some state → state.config ≡ config_at cfg h k
 config_is cfg h states k state same at = configs_at states (configs_in cfg h) k state cfg same at
 
-pub configs_set : (states : List State) (k : ℕ) (old new : State) → slice_get states k ≡ Some old → new.config ≡ old.config → map config_in (set states k new) ≡ map config_in states
-configs_set [] k old new at same = absurd cc
-configs_set (s ∷ states) zero old new at same = let e : s ≡ old = cc in ap (λ (c : Config). c ∷ map config_in states) (same ∙ ap config_in (sym e))
-configs_set (s ∷ states) (suc k) old new at same = ap (λ (cs : List Config). s.config ∷ cs) (configs_set states k old new at same)
+-- what is the same of one state that was put in the place of another is the same of all
+pub same_set : {A : Type 0} (f : State → A) (states : List State) (k : ℕ) (old new : State) → slice_get states k ≡ Some old → f new ≡ f old → map f (set states k new) ≡ map f states
+same_set {A} f [] k old new at same = absurd cc
+same_set {A} f (s ∷ states) zero old new at same = let e : s ≡ old = cc in ap (λ (c : A). c ∷ map f states) (same ∙ ap f (sym e))
+same_set {A} f (s ∷ states) (suc k) old new at same = ap (λ (cs : List A). f s ∷ cs) (same_set f states k old new at same)
 
 pub configs_numbered : (cfg : Config) (h : List RollEntry) → configs_in cfg h ≡ map (config_at cfg h) (range_with_len 0 (epoch_count h))
 configs_numbered cfg h = fill_by_all (config_at cfg h) (configs_in cfg h) (epoch_count h) cfg (configs_count cfg h) (λ k below. refl)

@@ -21,7 +21,7 @@ use Rattle.tesla_rollover.specs.Kept.{with_end, with_takes}
 use Rattle.tesla_rollover.specs.Stands.{RollStands, RollState, StandAll, config_in, histories_in}
 use Rattle.tesla_rollover.specs.declared.answers.Next.{Next}
 use Rattle.tesla_rollover.proofs.Entries.{at_more, count_same, histories_arrived, histories_ended, setups_more, setups_same}
-use Rattle.tesla_rollover.proofs.InStep.{configs_set, stand_more, stand_set, takes_are}
+use Rattle.tesla_rollover.proofs.InStep.{same_set, stand_more, stand_set, takes_are}
 use Rattle.tesla_rollover.proofs.Legal.{answers_few, entered_legal, none_further, past_end}
 use Rattle.tesla_rollover.proofs.Numbers.{map_below}
 
@@ -52,7 +52,7 @@ roll_arrived old h ingest reading bytes before after st at same stands =
     let e : RollEntry = RollArrived epoch arrival in
     record {
       legal = entered_legal cfg h true (Arrives ingest reading bytes) st.legal;
-      configs = configs_set old.receivers epoch before after at same ∙ st.configs ∙ configs_same cfg h e refl;
+      configs = same_set config_in old.receivers epoch before after at same ∙ st.configs ∙ configs_same cfg h e refl;
       receivers = subst (λ (hs : List (List Entry)). StandAll (set old.receivers epoch after) hs) (sym (histories_arrived cfg.ingests h epoch arrival))
           (stand_set old.receivers (histories_in cfg.ingests h) epoch after (history_at cfg.ingests h epoch ++ Arrived arrival ∷ []) st.receivers stands);
       given = st.given ∙ given_same h e refl;

@@ -18,9 +18,9 @@ use Rattle.tesla_state.specs.declared.replies.Reply.{Reply}
 use Rattle.tesla_rollover.specs.Epochs.{answers_in, most_epochs, next_of, payload_given, reply_at, roll_entry_of, up_to_given}
 use Rattle.tesla_rollover.specs.History.{RollEntry, RollTaken, configs_in, ends_before, epoch_count, history_at, opens, roll_gives, setup_given}
 use Rattle.tesla_rollover.specs.Kept as kept
-use Rattle.tesla_rollover.specs.Kept.{AskedReply, HandsOver, IsCalled, IsRollKept, OpensEpoch, asked_from, configs_of, ends_in, receiver_of, receivers_of, replies_of, with_takes}
-use Rattle.tesla_rollover.specs.Replies.{Gives, IsEmpty, IsOver, had_memory, reply_with}
-use Rattle.tesla_rollover.specs.Stands.{RollState, RollStands, StandAll, config_in, histories_in}
+use Rattle.tesla_rollover.specs.Kept.{AskedReply, HandsOver, IsCalled, IsRollKept, OpensEpoch, asked_from, configs_of, ends_in, receiver_of, receivers_of, replies_of, rooms_of, with_takes}
+use Rattle.tesla_rollover.specs.Replies.{Gives, IsEmpty, IsOver, TakesRoom, had_memory, reply_with}
+use Rattle.tesla_rollover.specs.Stands.{RollState, RollStands, StandAll, config_in, histories_in, room_of}
 use Rattle.tesla_rollover.specs.declared.answers.Next.{Next}
 use Rattle.tesla_rollover.specs.declared.answers.Next.TheVariants as nexts
 use Rattle.tesla_rollover.specs.declared.epoch.Epoch.{Epoch}
@@ -163,6 +163,18 @@ module _ (old : RollState) (h : List RollEntry) (releaser epoch : ℕ) (head : H
       (sym (ap receivers_of (handed.kept other)))
       (roll_taken old h (had_memory next) releaser (old.given + 1) (receivers_of after) st closed counts at.asked.configs stand_now))
       (opened_or next)
+
+-- a payload took room for the receiver of the epoch that it opened, and else none
+pub rooms_handed : (cfg : Config) (first : State) (number : ℕ) (payload : List ℕ) (after new : List Epoch) (next : Next) → HandsOver cfg first number payload after new next → TakesRoom next (rooms_of after) (rooms_of new)
+rooms_handed cfg first number payload after new nexts.Plain handed = ap rooms_of (handed.kept (λ e. absurd cc))
+rooms_handed cfg first number payload after new (nexts.Old newest) handed = ap rooms_of (handed.kept (λ e. absurd cc))
+rooms_handed cfg first number payload after new nexts.EpochsSpent handed = ap rooms_of (handed.kept (λ e. absurd cc))
+rooms_handed cfg first number payload after new (nexts.BadSetup line kind) handed = ap rooms_of (handed.kept (λ e. absurd cc))
+rooms_handed cfg first number payload after new (nexts.UsedStream stream) handed = ap rooms_of (handed.kept (λ e. absurd cc))
+rooms_handed cfg first number payload after new nexts.NoMemory handed = ap rooms_of (handed.kept (λ e. absurd cc))
+rooms_handed cfg first number payload after new nexts.Opened handed =
+    let it = handed.opened refl in
+    (room_of it.1.receiver, ap rooms_of it.3 ∙ ap (map room_of) (map_push receiver_of after it.1) ∙ map_push room_of (receivers_of after) it.1.receiver)
 
 -- ---- a take that gave none
 

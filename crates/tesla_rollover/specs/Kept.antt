@@ -16,7 +16,7 @@ use Rattle.tesla_rollover.specs.Epochs.{next_of}
 use Rattle.tesla_rollover.specs.Handover.{setup_in}
 use Rattle.tesla_rollover.specs.History.{config_with}
 use Rattle.tesla_rollover.specs.Replies.{had_memory}
-use Rattle.tesla_rollover.specs.Stands.{config_in}
+use Rattle.tesla_rollover.specs.Stands.{config_in, room_of}
 use Rattle.tesla_rollover.specs.declared.answers.Next.{Next}
 use Rattle.tesla_rollover.specs.declared.answers.Next.TheVariants.{Opened}
 use Rattle.tesla_rollover.specs.declared.asking.Asked.{Asked}
@@ -28,6 +28,9 @@ receiver_of epoch = epoch.receiver
 
 abbrev pub receivers_of : List Epoch → List State
 receivers_of epochs = map receiver_of epochs
+
+abbrev pub rooms_of : List Epoch → List ℕ
+rooms_of epochs = map room_of (receivers_of epochs)
 
 abbrev pub configs_of : List Epoch → List Config
 configs_of epochs = map config_in (receivers_of epochs)
@@ -119,7 +122,7 @@ pub record HandsOver (cfg : Config) (first : State) (number : ℕ) (payload : Li
 pub record IsRollKept (cfg : Config) (epochs : List Epoch) (room given calls : ℕ) : Type 0 where
   pub some : 1 ≤ length epochs
   pub most : length epochs ≤ 16
-  pub reserved : 16 ≤ room
+  pub reserved : room ≡ 16
   pub same : AllByRecursion (HasIngests cfg.ingests) epochs
   pub called : AllByRecursion (IsCalled (calls + 256)) epochs
   pub capacity : (1 ≤ cfg.capacity) × (cfg.capacity ≤ 4096)

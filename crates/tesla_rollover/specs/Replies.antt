@@ -1,5 +1,5 @@
 -- What a take answers, with the bytes that it fills in.
-use Rattle.std.specs.Prelude.{◌≡◌, ◌≤◌, ℕ, ◌+◌, Bool, true, false, List, [], ◌∷◌, take, drop, Option, Some, None, if◌then◌else◌}
+use Rattle.std.specs.Prelude.{◌≡◌, ◌≤◌, ℕ, ◌+◌, Bool, true, false, List, [], ◌∷◌, ◌++◌, take, drop, Option, Some, None, if◌then◌else◌}
 use Rattle.std.specs.List.{list_all}
 use Rattle.tesla_base.specs.declared.release.Head.{Head}
 use Rattle.tesla_state.specs.declared.replies.Reply.{Reply}
@@ -67,3 +67,19 @@ abbrev pub RollKeepsBehind : RollTake → List ℕ → List ℕ → Type 0
 RollKeepsBehind (Given epoch head next) old new = (head.length ≤ 1200) × (drop head.length new ≡ drop head.length old)
 RollKeepsBehind Empty old new = new ≡ old
 RollKeepsBehind Over old new = new ≡ old
+
+-- what a packet's payload came to took memory: for the receiver of an epoch that was opened, and for nothing else
+abbrev pub TakesRoom : Next → List ℕ → List ℕ → Type 0
+TakesRoom nexts.Opened old new = (room : ℕ) × (new ≡ old ++ room ∷ [])
+TakesRoom nexts.Plain old new = new ≡ old
+TakesRoom (nexts.Old newest) old new = new ≡ old
+TakesRoom nexts.EpochsSpent old new = new ≡ old
+TakesRoom (nexts.BadSetup line kind) old new = new ≡ old
+TakesRoom (nexts.UsedStream stream) old new = new ≡ old
+TakesRoom nexts.NoMemory old new = new ≡ old
+
+-- what a take took of memory
+abbrev pub RollTakesRoom : RollTake → List ℕ → List ℕ → Type 0
+RollTakesRoom (Given epoch head next) old new = TakesRoom next old new
+RollTakesRoom Empty old new = new ≡ old
+RollTakesRoom Over old new = new ≡ old

@@ -18,6 +18,14 @@ pub record RollState : Type 0 where
   pub given : ℕ
   pub calls : ℕ
 
+-- for how many entries the tables of a receiver have room
+abbrev pub room_of : State → ℕ
+room_of state = state.reserved
+
+-- for how many entries the tables of each epoch's receiver have room, in order
+abbrev pub rooms_in : RollState → List ℕ
+rooms_in state = map room_of state.receivers
+
 -- each receiver stands for its history
 abbrev pub StandAll : List State → List (List Entry) → Type 0
 StandAll [] [] = Unit {0}

@@ -4,7 +4,7 @@ ghost use Rattle.std.specs.Prelude.{◌≡◌, ◌+◌, ◌*◌, ◌^◌, ◌<�
 ghost use Rattle.std.specs.List.{AllByRecursion};
 ghost use Rattle.tesla_receiver.specs.declared.history.Entry.{Entry};
 ghost use Rattle.tesla_rollover.specs.Epochs.{up_to_given};
-ghost use Rattle.tesla_rollover.specs.Kept.{AskedKeepsBehind, IsCalled, asked_from, asked_shown, configs_of, receivers_of, replies_of, waiting_of, with_end, with_takes};
+ghost use Rattle.tesla_rollover.specs.Kept.{AskedKeepsBehind, IsCalled, asked_from, asked_shown, configs_of, receivers_of, replies_of, rooms_of, waiting_of, with_end, with_takes};
 ghost use Rattle.tesla_rollover.specs.Stands.{StandAll};
 
 use crate::epoch::Epoch;
@@ -32,6 +32,7 @@ pub fn ask(epochs: &mut [Epoch], number: u8, releaser: u8, into: &mut [u8; MOST_
         StandAll (receivers_of epochs.new) (with_takes releaser (up_to_given (replies_of (receivers_of epochs.old) hs)) hs) }
     ensures behind { AskedKeepsBehind result into.old into.new }
     ensures configs { configs_of epochs.new ≡ configs_of epochs.old }
+    ensures rooms { rooms_of epochs.new ≡ rooms_of epochs.old }
     ensures calls { (most : ℕ) → AllByRecursion (IsCalled most) epochs.old → AllByRecursion (IsCalled (most + 1)) epochs.new }
 {
     let Some((epoch, others)) = epochs.split_first_mut() else {
@@ -55,6 +56,7 @@ pub fn end_all(epochs: &mut [Epoch], ingest: u8)
     requires { (most : ℕ) × (most + 1 < 2 ^ 64) × AllByRecursion (IsCalled most) epochs.old }
     ensures stand { (hs : List (List Entry)) → StandAll (receivers_of epochs.old) hs → StandAll (receivers_of epochs.new) (map (with_end ingest) hs) }
     ensures configs { configs_of epochs.new ≡ configs_of epochs.old }
+    ensures rooms { rooms_of epochs.new ≡ rooms_of epochs.old }
     ensures calls { (most : ℕ) → AllByRecursion (IsCalled most) epochs.old → AllByRecursion (IsCalled (most + 1)) epochs.new }
 {
     let Some((epoch, others)) = epochs.split_first_mut() else {

@@ -6,8 +6,8 @@ ghost use Rattle.tesla_receiver.specs.History.{Arrives, Ends, Takes, arrivals_in
 ghost use Rattle.tesla_rollover.specs.Epochs.{roll_entry_of};
 ghost use Rattle.tesla_rollover.specs.History.{RollArrived, RollEntry, config_at, epoch_count, history_at, roll_given_in};
 ghost use Rattle.tesla_rollover.specs.Events.{roll_waiting_in};
-ghost use Rattle.tesla_rollover.specs.Replies.{RollKeepsBehind, has_memory, reply_in, roll_shown};
-ghost use Rattle.tesla_rollover.specs.Stands.{RollStands};
+ghost use Rattle.tesla_rollover.specs.Replies.{RollKeepsBehind, RollTakesRoom, has_memory, reply_in, roll_shown};
+ghost use Rattle.tesla_rollover.specs.Stands.{RollStands, rooms_in};
 
 use crate::asking::{Asked, ask, end_all, waiting_in};
 use crate::epoch::Epoch;
@@ -50,7 +50,8 @@ impl Rollover {
     /// The first epoch of a feed, in which nothing has happened. The lag is in microseconds; the capacity is the number of
     /// packets that each epoch's receiver holds at most, 1 to 4,096, and its quota of one interval too; each ingest below
     /// `ingests`, of which there is one at least, has to end before a take answers `Over`. There is room for sixteen epochs.
-    /// `NoMemory`: there was none for that or for the receiver.
+    /// Memory is taken here for that and for the receiver, `rooms` tells for how many entries the tables of each receiver
+    /// have room, and only a take that opens an epoch changes that. `NoMemory`: there wasn't enough.
     pub fn open(
         alloc: Global,
         setup: Setup,
@@ -101,6 +102,7 @@ impl Rollover {
             steps.new ≤ steps.old + most_evaluations (config_at self.old.config h result.epoch) (arrivals_in (history_at self.old.config.ingests h result.epoch)) reading bytes.now }
         ensures config { self.new.config ≡ self.old.config }
         ensures calls { self.new.calls ≡ self.old.calls + 1 }
+        ensures rooms { rooms_in self.new ≡ rooms_in self.old }
     {
         let frame = read_frame(bytes);
         let epoch = epoch_for(self.epochs.as_slice(), frame.as_ref());
@@ -125,6 +127,7 @@ impl Rollover {
         ensures behind { RollKeepsBehind result into.old into.new }
         ensures config { self.new.config ≡ self.old.config }
         ensures calls { self.new.calls ≡ self.old.calls + 1 }
+        ensures rooms { RollTakesRoom result (rooms_in self.old) (rooms_in self.new) }
     {
         self.calls += 1;
         match ask(self.epochs.as_mut_slice(), 0, releaser, into) {
@@ -146,6 +149,7 @@ impl Rollover {
         ensures stands { (h : List RollEntry) → RollStands self.old h → RollStands self.new (h ++ roll_entry_of self.old.config h true (Ends ingest) ∷ []) }
         ensures config { self.new.config ≡ self.old.config }
         ensures calls { self.new.calls ≡ self.old.calls + 1 }
+        ensures rooms { rooms_in self.new ≡ rooms_in self.old }
     {
         self.calls += 1;
         end_all(self.epochs.as_mut_slice(), ingest);

@@ -28,6 +28,7 @@ returns-in_default-ask t c =
           (empty_asked c.args.releaser first c.take.new.self others (receivers_of c.ask.new.epochs) c.in-Empty.ensures.answer c.take.ensures.stands c.ask.ensures.stand);
       behind = subst (λ (into : List ℕ). AskedKeepsBehind c.ask.result into c.ask.new.into) c.in-Empty.ensures.behind c.ask.ensures.behind;
       configs = search rules;
+      rooms = search rules;
       calls = λ most called.
           let each = subst (λ (epochs : List Epoch). AllByRecursion (IsCalled most) epochs) c.in-Some.ensures.cases.0 called in
           (omega (arith, each.0, c.take.ensures.calls), c.ask.ensures.calls most each.1);

@@ -6,10 +6,11 @@ use Rattle.tesla_state.specs.State.{State}
 use Rattle.tesla_rollover.specs.Epochs.{roll_entry_of}
 use Rattle.tesla_rollover.specs.History.{RollEntry}
 use Rattle.tesla_rollover.specs.Kept.{configs_of, receivers_of}
-use Rattle.tesla_rollover.specs.Stands.{RollState, RollStands, config_in}
+use Rattle.tesla_rollover.specs.Stands.{RollState, RollStands, config_in, room_of, rooms_in}
 use Rattle.tesla_rollover.specs.declared.epoch.Epoch.{Epoch}
 use Rattle.tesla_rollover.proofs.Arrived.{ArrivesAt, cost_arrived, entry_arrived, number_found, stands_arrived}
 use Rattle.tesla_rollover.proofs.Called.{receiver_got, receivers_set}
+use Rattle.tesla_rollover.proofs.InStep.{same_set}
 use Rattle.tesla_rollover.proofs.rollover.Rollover.arrive.Goals as goal
 
 arrives : (g : _) (c : goal.After-self-2-1 g) (h : List RollEntry) → RollStands c.args.self.now h → ArrivesAt c.args.self.now h c.args.ingest c.args.reading c.args.bytes.now c.epoch_for-epoch.result c.arrive_read-verdict.result c.index_mut.result.now.receiver c.arrive_read-verdict.new.self
@@ -43,6 +44,17 @@ returns-clause-stands g c h st =
     subst (λ (s : RollState). RollStands (record { config = s.config; receivers = set s.receivers epoch after; given = s.given; calls = s.calls + 1 }) (h ++ e ∷ [])) (sym c.self.view_is) moved in
     subst (λ (ss : List State). RollStands (record { config = i.config; receivers = ss; given = i.given; calls = i.calls + 1 }) (h ++ e ∷ []))
     (sym (receivers_set i.epochs.items epoch (record { stream = c.index_mut.result.now.stream; receiver = after; same = _ }))) kept
+
+pub returns-clause-rooms : goal.returns-clause-rooms
+returns-clause-rooms g c =
+    let items = c.self.inside.epochs.items in
+    let epoch = c.epoch_for-epoch.result in
+    let after = c.arrive_read-verdict.new.self in
+    let within = c.epoch_for-epoch.ensures.within in
+    let long : length c.as_slice.result.now ≡ length items = ap (λ (es : List Epoch). length es) c.as_slice.ensures.value in
+    let was = receiver_got items epoch c.index_mut.result.now (omega (arith, within, long)) ∙ ap (λ (e : Epoch). Some e.receiver) (sym c.index_mut.ensures.value) in
+    ap (map room_of) (receivers_set items epoch (record { stream = c.index_mut.result.now.stream; receiver = after; same = _ }))
+    ∙ same_set room_of (receivers_of items) epoch c.index_mut.result.now.receiver after was c.arrive_read-verdict.ensures.reserved ∙ ap (λ (s : RollState). rooms_in s) c.self.view_is
 
 pub returns-clause-evaluations : goal.returns-clause-evaluations
 returns-clause-evaluations g c h st =

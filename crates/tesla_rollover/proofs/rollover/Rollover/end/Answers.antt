@@ -1,8 +1,8 @@
 use Rattle.std.proofs.Common.{◌≡◌, ◌+◌, List, [], ◌∷◌, ◌++◌, sym, ap, subst, ◌∙◌, arith}
 use Rattle.std.specs.List.{AllByRecursion}
 use Rattle.tesla_rollover.specs.History.{RollEnded}
-use Rattle.tesla_rollover.specs.Kept.{IsCalled, IsRollKept, configs_of, receivers_of}
-use Rattle.tesla_rollover.specs.Stands.{RollState, RollStands, StandAll, histories_in}
+use Rattle.tesla_rollover.specs.Kept.{IsCalled, IsRollKept, configs_of, receivers_of, rooms_of}
+use Rattle.tesla_rollover.specs.Stands.{RollState, RollStands, StandAll, histories_in, rooms_in}
 use Rattle.tesla_rollover.specs.declared.epoch.Epoch.{Epoch}
 use Rattle.tesla_rollover.proofs.Called.{epochs_back, kept_called}
 use Rattle.tesla_rollover.proofs.Moved.{roll_ended}
@@ -36,3 +36,9 @@ returns-clause-stands c h st =
     subst (λ (es : List Epoch). RollStands (record { config = i.config; receivers = receivers_of es; given = i.given; calls = i.calls + 1 }) (h ++ RollEnded c.args.ingest ∷ []))
     (sym (epochs_back i.epochs.len c.as_mut_slice.result.now new i.epochs.items c.as_mut_slice.ensures.len c.end_all.ensures.configs))
     (roll_ended old h c.args.ingest (receivers_of new) before (c.end_all.ensures.configs ∙ ap configs_of was) stands)
+
+pub returns-clause-rooms : goal.returns-clause-rooms
+returns-clause-rooms c =
+    let i = c.self.inside in
+    ap rooms_of (epochs_back i.epochs.len c.as_mut_slice.result.now c.end_all.new.epochs i.epochs.items c.as_mut_slice.ensures.len c.end_all.ensures.configs)
+    ∙ c.end_all.ensures.rooms ∙ ap rooms_of c.as_mut_slice.ensures.value ∙ ap (λ (s : RollState). rooms_in s) c.self.view_is

@@ -7,12 +7,12 @@ use Rattle.tesla_receiver.specs.History.{Takes}
 use Rattle.tesla_rollover.specs.Epochs.{roll_entry_of}
 use Rattle.tesla_rollover.specs.History.{RollEntry}
 use Rattle.tesla_rollover.specs.Kept as kept
-use Rattle.tesla_rollover.specs.Kept.{AskedReply, HandsOver, HasIngests, IsCalled, IsRollKept, asked_shown, configs_of, receiver_of, receivers_of}
-use Rattle.tesla_rollover.specs.Replies.{had_memory}
-use Rattle.tesla_rollover.specs.Stands.{RollState, RollStands}
+use Rattle.tesla_rollover.specs.Kept.{AskedReply, HandsOver, HasIngests, IsCalled, IsRollKept, asked_shown, configs_of, receiver_of, receivers_of, rooms_of}
+use Rattle.tesla_rollover.specs.Replies.{TakesRoom, had_memory}
+use Rattle.tesla_rollover.specs.Stands.{RollState, RollStands, rooms_in}
 use Rattle.tesla_rollover.specs.declared.epoch.Epoch.{Epoch}
-use Rattle.tesla_rollover.proofs.Called.{epochs_back, same_ingests}
-use Rattle.tesla_rollover.proofs.Taken.{Asks, TakesGiven, asks, empty_answer, empty_stands, given_answer, given_stands, kept_asked, kept_handed, over_answer, over_stands}
+use Rattle.tesla_rollover.proofs.Called.{as_many, epochs_back, same_ingests}
+use Rattle.tesla_rollover.proofs.Taken.{Asks, TakesGiven, asks, empty_answer, empty_stands, given_answer, given_stands, kept_asked, kept_handed, over_answer, over_stands, rooms_handed}
 use Rattle.tesla_rollover.proofs.rollover.Rollover.take.Goals.{After-ask, After-hand_over-next}
 use Rattle.tesla_rollover.proofs.rollover.Rollover.take.Goals as goal
 
@@ -119,3 +119,31 @@ pub returns-in-Over-clause-stands : goal.returns-in-Over-clause-stands
 returns-in-Over-clause-stands c h st =
     let at = (goal.at.returns-in-Over-clause-stands c).After-ask in
     asked_stands at h (over_stands c.args.self.now h c.args.releaser c.ask.new.epochs st (asked at h kept.IsOver st (ap (λ a. asked_shown a c.ask.new.into) c.in-Over.is)))
+
+-- ---- memory
+
+rooms_asked : (c : After-ask) → rooms_of c.ask.new.epochs ≡ rooms_in c.args.self.now
+rooms_asked c = c.ask.ensures.rooms ∙ ap rooms_of c.as_mut_slice.ensures.value ∙ ap (λ (s : RollState). rooms_in s) c.self.view_is
+
+rooms_back : (c : After-ask) → rooms_of (take c.self.inside.epochs.len (c.ask.new.epochs ++ drop (length c.ask.new.epochs) c.self.inside.epochs.items)) ≡ rooms_in c.args.self.now
+rooms_back c =
+    let i = c.self.inside in
+    ap rooms_of (epochs_back i.epochs.len c.as_mut_slice.result.now c.ask.new.epochs i.epochs.items c.as_mut_slice.ensures.len c.ask.ensures.configs) ∙ rooms_asked c
+
+pub returns-in-Given-clause-rooms : goal.returns-in-Given-clause-rooms
+returns-in-Given-clause-rooms c =
+    let i = c.self.inside in
+    let back = epochs_back i.epochs.len c.as_mut_slice.result.now c.ask.new.epochs i.epochs.items c.as_mut_slice.ensures.len c.ask.ensures.configs in
+    let long = as_many c.ask.new.epochs i.epochs.items (c.ask.ensures.configs ∙ ap configs_of c.as_mut_slice.ensures.value) in
+    let shown : length (receivers_of c.ask.new.epochs) ≡ length c.ask.new.epochs = length-map c.ask.new.epochs receiver_of in
+    let some = c.self.invariant.some in
+    let first = cons_from_length (receivers_of c.ask.new.epochs) (omega (arith, long, shown, some)) in
+    let handed = subst (λ (es : List Epoch). HandsOver i.config first.0 c.in-Given.epoch (take c.from.result c.ask.new.into) es c.hand_over-next.new.epochs.items c.hand_over-next.result) back (c.hand_over-next.ensures.hands first.0 first.1 (ap receivers_of back ∙ first.2)) in
+    subst (λ (rooms : List ℕ). TakesRoom c.hand_over-next.result rooms (rooms_of c.hand_over-next.new.epochs.items)) (rooms_asked (goal.at.returns-in-Given-clause-rooms c).After-ask)
+    (rooms_handed i.config first.0 c.in-Given.epoch (take c.from.result c.ask.new.into) c.ask.new.epochs c.hand_over-next.new.epochs.items c.hand_over-next.result handed)
+
+pub returns-in-Empty-clause-rooms : goal.returns-in-Empty-clause-rooms
+returns-in-Empty-clause-rooms c = rooms_back (goal.at.returns-in-Empty-clause-rooms c).After-ask
+
+pub returns-in-Over-clause-rooms : goal.returns-in-Over-clause-rooms
+returns-in-Over-clause-rooms c = rooms_back (goal.at.returns-in-Over-clause-rooms c).After-ask
