@@ -27,13 +27,13 @@ texts_more keep texts history entry same =
 
 -- a station that stands for a history with one entry more, whose text was put behind those kept
 pub stands_more : {V : Type 0} (stands : V → List Entry → Type 0) (state : RecordedState V) (before after : V) (tail now : Tail) (history : List Entry) (entry : Entry)
-    → record { station = before; keep = tail.keep; texts = tail.texts } ≡ state → RecordedStands stands state history
+    → record { station = before; keep = tail.keep; texts = tail.texts; reserved = tail.reserved } ≡ state → RecordedStands stands state history
     → (stands before history → stands after (history ++ entry ∷ [])) → now ≡ with_text tail (entry_text entry)
-    → RecordedStands stands (record { station = after; keep = now.keep; texts = now.texts }) (history ++ entry ∷ [])
+    → RecordedStands stands (record { station = after; keep = now.keep; texts = now.texts; reserved = now.reserved }) (history ++ entry ∷ [])
 stands_more stands state before after tail now history entry same stood stands_now put =
     let old = subst (λ s. RecordedStands stands s history) (sym same) stood in
-    subst (λ (t : Tail). RecordedStands stands (record { station = after; keep = t.keep; texts = t.texts }) (history ++ entry ∷ [])) (sym put)
-    (record { stood = stands_now old.stood; last = texts_more tail.keep tail.texts history entry old.last })
+    subst (λ (t : Tail). RecordedStands stands (record { station = after; keep = t.keep; texts = t.texts; reserved = t.reserved }) (history ++ entry ∷ [])) (sym put)
+    (record { stood = stands_now old.stood; last = texts_more tail.keep tail.texts history entry old.last; room = old.room })
 
 -- the texts of entries, one behind the other
 pub all_spelled : (entries : List Entry) → flat_map (λ text. text) (map entry_text entries) ≡ flat_map entry_text entries

@@ -100,7 +100,7 @@ has_room bytes lengths left size held short left_is =
 
 -- the tail that bytes and lengths are
 abbrev tail_in : Buffer ℕ → Buffer ℕ → Tail
-tail_in bytes lengths = record { keep = lengths.capacity; texts = texts_in lengths.items bytes.items }
+tail_in bytes lengths = record { keep = lengths.capacity; texts = texts_in lengths.items bytes.items; reserved = bytes.capacity + lengths.capacity }
 
 -- a text in three parts was put behind what is left
 pub puts_more : (bytes lengths left sizes first second third : Buffer ℕ) (prefix body back : List ℕ) (size : ℕ) → HoldsTexts bytes lengths → length prefix + length body + length back ≤ 2070 → size ≡ length prefix + length body + length back → sizes ≡ buffer (drop (length lengths.items + 1 - lengths.capacity) lengths.items ++ size ∷ []) lengths.capacity → left ≡ buffer (drop (sum (take (length lengths.items + 1 - lengths.capacity) lengths.items)) bytes.items) bytes.capacity → first ≡ buffer (keep_last left.capacity (left.items ++ prefix)) left.capacity → second ≡ buffer (keep_last first.capacity (first.items ++ body)) first.capacity → third ≡ buffer (keep_last second.capacity (second.items ++ back)) second.capacity → HoldsTexts third sizes × (tail_in third sizes ≡ with_text (tail_in bytes lengths) (prefix ++ body ++ back))
@@ -114,5 +114,5 @@ puts_more bytes lengths left sizes first second third prefix body back size held
     let spelled : third ≡ buffer (drop (sum (take gone lengths.items)) bytes.items ++ text) bytes.capacity = now ∙ ap (λ b. buffer (b.items ++ text) b.capacity) left_is in (
       holds_more bytes lengths left sizes third text held short sized left_is now,
       ap (λ b. tail_in b sizes) spelled ∙ ap (λ s. tail_in (buffer (drop (sum (take gone lengths.items)) bytes.items ++ text) bytes.capacity) s) sized
-          ∙ ap (λ texts. record { keep = lengths.capacity; texts = texts }) (with_more lengths.items bytes.items text lengths.capacity held.some held.count held.whole),
+          ∙ ap (λ texts. record { keep = lengths.capacity; texts = texts; reserved = bytes.capacity + lengths.capacity }) (with_more lengths.items bytes.items text lengths.capacity held.some held.count held.whole),
     )

@@ -1,5 +1,5 @@
 -- A station with the last entries of its history, as they are spelled.
-use Rattle.std.specs.Prelude.{◌≡◌, ℕ, ◌-◌, ◌≤◌, ◌*◌, List, [], ◌∷◌, ◌++◌, length, drop, take, map}
+use Rattle.std.specs.Prelude.{◌≡◌, ℕ, ◌-◌, ◌≤◌, ◌*◌, ◌+◌, List, [], ◌∷◌, ◌++◌, length, drop, take, map}
 use Rattle.std.specs.List.{All, sum}
 use Rattle.circular_buffer.specs.Buffer.{Buffer, keep_last}
 use Rattle.tesla_receiver.specs.declared.history.Entry.{Entry}
@@ -9,14 +9,19 @@ use Rattle.tesla_trace.specs.Trace.{entry_text}
 abbrev pub last_entries : ℕ → List Entry → List Entry
 last_entries keep history = drop (length history - keep) history
 
--- how many texts are kept at most, and those that are, the oldest first
+-- how many texts are kept at most, those that are, the oldest first, and for how many bytes and lengths of texts there is room, together
 pub record Tail : Type 0 where
   pub keep : ℕ
   pub texts : List (List ℕ)
+  pub reserved : ℕ
+
+-- the room for so many of the longest texts, and for their lengths
+abbrev pub room_for : ℕ → ℕ
+room_for keep = keep * 2070 + keep
 
 -- a tail with one text more
 abbrev pub with_text : Tail → List ℕ → Tail
-with_text tail text = record { keep = tail.keep; texts = keep_last tail.keep (tail.texts ++ text ∷ []) }
+with_text tail text = record { keep = tail.keep; texts = keep_last tail.keep (tail.texts ++ text ∷ []); reserved = tail.reserved }
 
 -- the texts of these lengths that lie in bytes, one behind the other
 abbrev pub texts_in : List ℕ → List ℕ → List (List ℕ)
@@ -37,8 +42,11 @@ pub record RecordedState (V : Type 0) : Type 0 where
   pub station : V
   pub keep : ℕ
   pub texts : List (List ℕ)
+  -- for how many bytes and lengths of texts there is room, together
+  pub reserved : ℕ
 
--- it stands for a history: the station does, and the texts are the spellings of its last entries
+-- it stands for a history: the station does, the texts are the spellings of its last entries, and there is room for as many of the longest as are kept at most, as there was at the opening
 pub record RecordedStands {V : Type 0} (stands : V → List Entry → Type 0) (state : RecordedState V) (history : List Entry) : Type 0 where
   pub stood : stands state.station history
   pub last : state.texts ≡ map entry_text (last_entries state.keep history)
+  pub room : state.reserved ≡ room_for state.keep

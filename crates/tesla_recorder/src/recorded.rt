@@ -34,7 +34,7 @@ impl<V> Model for Recorded<V> {
 
     ghost Value = { RecordedState V };
 
-    ghost view = { λ r. record { station = r.station; keep = r.last.keep; texts = r.last.texts } };
+    ghost view = { λ r. record { station = r.station; keep = r.last.keep; texts = r.last.texts; reserved = r.last.reserved } };
 }
 
 impl<V: Station> Chronicle for Recorded<V> {

@@ -7,7 +7,7 @@ ghost use Rattle.tesla_receiver.specs.declared.history.Entry.TheVariants.{Arrive
 ghost use Rattle.tesla_state.specs.Replies.{reply_shown};
 ghost use Rattle.tesla_trace.specs.Entries.{FitsReply};
 ghost use Rattle.tesla_trace.specs.Trace.{entry_text};
-ghost use Rattle.tesla_recorder.specs.Recorded.{HoldsTexts, with_text};
+ghost use Rattle.tesla_recorder.specs.Recorded.{HoldsTexts, room_for, with_text};
 
 use circular_buffer::HeapCircularBuffer;
 use std::alloc::Global;
@@ -27,11 +27,12 @@ pub(crate) struct LastEntries {
 }
 
 impl Model for LastEntries {
+    ghost use Rattle.std.specs.Prelude.{◌+◌};
     ghost use Rattle.tesla_recorder.specs.Recorded.{HoldsTexts, Tail, texts_in};
 
     ghost Value = { Tail };
 
-    ghost view = { λ t. record { keep = t.lengths.capacity; texts = texts_in t.lengths.items t.bytes.items } };
+    ghost view = { λ t. record { keep = t.lengths.capacity; texts = texts_in t.lengths.items t.bytes.items; reserved = t.bytes.capacity + t.lengths.capacity } };
 
     ghost invariant = { λ t. HoldsTexts t.bytes t.lengths };
 }
@@ -41,7 +42,7 @@ impl LastEntries {
     pub(crate) fn open(alloc: Global, keep: u32) -> Result<LastEntries, NoMemory>
         requires some { 1 ≤ keep }
         requires few { keep ≤ 4096 }
-        ensures { IfOk result (λ t. t ≡ record { keep = keep; texts = [] }) }
+        ensures { IfOk result (λ t. t ≡ record { keep = keep; texts = []; reserved = room_for keep }) }
     {
         let count = keep as usize;
         let bytes = HeapCircularBuffer::with_capacity(alloc, count * LONGEST)?;
