@@ -97,8 +97,8 @@ fn accept(promises: &mut Promises, verdict: Verdict, frame: Option<&FrameView<'_
 
 impl Early {
     /// Over a receiver that stands for the empty history, with room for so many promises: from 1 to 4,096. All memory is
-    /// taken here: what the receiver took stays its own, `reserved` of the promises tells for how many entries their tables
-    /// have room, and no other call changes either. `NoMemory`: there wasn't enough.
+    /// taken here: what the receiver took stays its own, `reserved` of the promises tells for how many entries their
+    /// tables have room, and no other call changes either. `NoMemory`: there wasn't enough.
     pub fn open(alloc: Global, receiver: Receiver, promises: u32) -> Result<Early, NoMemory>
         requires stands { Stands receiver [] }
         requires some { 1 ≤ promises }

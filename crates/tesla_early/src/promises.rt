@@ -164,8 +164,8 @@ fn find_index(
 }
 
 impl Promises {
-    /// Room for so many promises, and none of them learnt. All memory is taken here: `reserved` tells for how many entries
-    /// the tables have room, and no other call changes it. `NoMemory`: there wasn't enough.
+    /// Room for so many promises, and none of them learnt. All memory is taken here: `reserved` tells for how many
+    /// entries the tables have room, and no other call changes it. `NoMemory`: there wasn't enough.
     pub fn open(alloc: Global, most: u32) -> Result<Promises, NoMemory>
         requires some { 1 ≤ most }
         requires few { most ≤ 4096 }

@@ -143,8 +143,8 @@ impl Receiver {
         self.kept.end(ingest);
     }
 
-    /// Leaves the first ingests alone, so many of them, before anything has happened. It takes no memory, so a receiver may
-    /// be opened before it is known how many ingests there are.
+    /// Keeps only the first ingests, so many of them, before anything has happened. It takes no memory, so a receiver
+    /// may be opened before it is known how many ingests there are.
     pub fn limit_ingests(&mut self, ingests: u8)
         requires within { ingests ≤ self.old.config.ingests }
         requires unused { Stands self.old [] }

@@ -50,8 +50,8 @@ impl Rollover {
     /// The first epoch of a feed, in which nothing has happened. The lag is in microseconds; the capacity is the number of
     /// packets that each epoch's receiver holds at most, 1 to 4,096, and its quota of one interval too; each ingest below
     /// `ingests`, of which there is one at least, has to end before a take answers `Over`. There is room for sixteen epochs.
-    /// Memory is taken here for that and for the receiver, `rooms` tells for how many entries the tables of each receiver
-    /// have room, and only a take that opens an epoch changes that. `NoMemory`: there wasn't enough.
+    /// Memory is taken here for that and for the receiver, `rooms_in` tells for how many entries the tables of each
+    /// receiver have room, and only a take that opens an epoch changes that. `NoMemory`: there wasn't enough.
     pub fn open(
         alloc: Global,
         setup: Setup,

@@ -39,7 +39,8 @@ struct Audit<L: Ledger> {
     steps: Steps<L>,
 }
 
-/// A receiver of the most ingests that a trace tells, in which nothing has happened. All memory of an audit is taken here.
+/// A receiver of the most ingests that a trace tells, in which nothing has happened. All memory of an audit is taken
+/// here.
 pub fn open(alloc: Global, setup: Setup, arguments: &Arguments<'_>) -> Result<Receiver, NoMemory>
     ensures config { IfOk result (λ r. r.config ≡ config_of (arguments_of arguments.now) setup 255) }
     ensures stands { IfOk result (λ r. Stands r []) }
@@ -49,9 +50,9 @@ pub fn open(alloc: Global, setup: Setup, arguments: &Arguments<'_>) -> Result<Re
     Receiver::open(alloc, setup, lag, limits.capacity, limits.quota, u8::MAX)
 }
 
-/// What a trace comes to, judged by a receiver in which nothing has happened: its head and its first entry are read, then the
-/// receiver is left as many ingests as the head tells, and then entry after entry is judged. Nothing is read behind the
-/// first wrong one. It takes no memory.
+/// What a trace comes to, judged by a receiver in which nothing has happened: its head and its first entry are read,
+/// then the receiver keeps as many ingests as the head tells, and then entry after entry is judged. Nothing is read
+/// behind the first wrong one. It takes no memory.
 pub fn audit_trace<S: Source>(receiver: Receiver, source: &mut S) -> Result<Lines, Stop>
     requires most { receiver.config.ingests ≡ 255 }
     requires unused { Stands receiver [] }

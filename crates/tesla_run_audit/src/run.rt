@@ -23,8 +23,8 @@ use tesla_receiver::Receiver;
 
 /// Runs the words as those of `audit`.
 ///
-/// SETUP is read and judged, and where it is refused no other file is opened. Then the receiver's memory is taken, and then
-/// TRACE is opened. Entry after entry is judged; nothing is read behind the first one whose answer is wrong.
+/// SETUP is read and judged, and where it is refused no other file is opened. Then the receiver's memory is taken, and
+/// then TRACE is opened. Entry after entry is judged; nothing is read behind the first one whose answer is wrong.
 ///
 /// `Done` with the number of entries: TRACE spells a legal history. `Usage` exactly where the words are no form, and then
 /// nothing was opened. `Refused` with status 8 and the first wrong entry with the right answer, or with status 3 and the

@@ -239,6 +239,6 @@ after_end s ingest = record s { ended = slice_set s.ended ingest true; calls = s
 abbrev pub with_ingests : Config → ℕ → Config
 with_ingests cfg ingests = record cfg { ingests = ingests }
 
--- the first ingests alone are left, so many of them
+-- only the first ingests are kept, so many of them
 unfoldable pub after_limit : State → ℕ → State
 after_limit s ingests = record s { config = with_ingests s.config ingests; ended = take ingests s.ended }

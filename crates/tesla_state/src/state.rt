@@ -177,7 +177,7 @@ impl ReceiverState {
         self.calls += 1;
     }
 
-    /// Leaves the first ingests alone, at most so many of them. It takes no memory, and gives none back.
+    /// Keeps only the first ingests, at most so many of them. It takes no memory, and gives none back.
     pub fn limit_ingests(&mut self, ingests: u8)
         ensures state { self.new ≡ after_limit self.old ingests }
         ensures reserved { self.new.reserved ≡ self.old.reserved }
