@@ -17,8 +17,7 @@ mod traces;
 
 use counting::wrong_counts;
 use pages::new_desk;
-use std::alloc::Global;
-use std::io;
+use std::alloc::{AllocError, Global};
 use std::process::ExitCode;
 use std::sync::Wait;
 use std::test::Fail;
@@ -63,7 +62,11 @@ fn status_of_tools<R: Threads + Wait + Sync, D: Desk>(
 }
 
 // The status of all other words.
-fn status_of_program<D: Desk>(alloc: Global, words: io::Result<Vec<String>>, desk: &mut D) -> u8 {
+fn status_of_program<D: Desk>(
+    alloc: Global,
+    words: Result<Vec<String>, AllocError>,
+    desk: &mut D,
+) -> u8 {
     let status = run_program(alloc, words, &[], desk);
     for number in 0..u8::MAX {
         if status == ExitCode::from(number) {

@@ -1,8 +1,7 @@
 //! What is printed of the program, and the line of want of memory for the words.
 
 use super::status_of_program;
-use std::alloc::Global;
-use std::io;
+use std::alloc::{AllocError, Global};
 use std::test::Fail;
 use tesla_memory_desk::MemoryDesk;
 use tesla_test_desk::run_result;
@@ -24,8 +23,7 @@ lacks -
 // What is told where there is no memory for the words.
 fn told_without_words(alloc: Global) -> Result<String, Fail> {
     let mut desk = MemoryDesk::new(alloc, 100)?;
-    let error = io::Error::from(io::ErrorKind::OutOfMemory);
-    let status = status_of_program(alloc, Err(error), &mut desk);
+    let status = status_of_program(alloc, Err(AllocError), &mut desk);
     let reported = run_result(alloc, status, &desk);
     drop(desk);
     reported
