@@ -29,7 +29,8 @@ pub const FORMS: [FormText; 11] = [
 // Runs the words as those of the command that the first of them names. `Usage` where it names none, or there is no
 // word, and then nothing was opened.
 fn run_words<D: Desk>(alloc: Global, words: &[String], desk: &mut D) -> Outcome
-    ensures { RunsAs (command_of (map string_bytes words.now)) (map string_bytes words.now) (D.told desk.old) (D.told desk.new) (outcome_view result) }
+    ensures runs { RunsAs (command_of (map string_bytes words.now)) (map string_bytes words.now) (D.told desk.old) (D.told desk.new) (outcome_view result) }
+    ensures live { (D.told desk.new).live ≡ (D.told desk.old).live }
 {
     match words {
         [word, ..] if word.as_str() == "replay" => run_replay(alloc, words, desk),
@@ -60,9 +61,10 @@ fn run_words<D: Desk>(alloc: Global, words: &[String], desk: &mut D) -> Outcome
 /// lag is too large. 10: REPLY is refused.
 ///
 /// At 0 to 3 and 6 to 10 no read and no write of a file failed, at 5 no read, and at 4 a write only while what was made
-/// before was written.
+/// before was written. No link, post or clock is made.
 pub fn run_here<D: Desk>(alloc: Global, words: &[String], desk: &mut D) -> u8
     ensures outcome { (reported : OutcomeView) × (result ≡ status_of reported) × Runs (command_of (map string_bytes words.now)) usage (map string_bytes words.now) (D.told desk.old) (D.told desk.new) reported }
+    ensures live { (D.told desk.new).live ≡ (D.told desk.old).live }
     ensures causes { HasStatusCauses result (D.told desk.old).faults (D.told desk.new).faults }
 {
     let run = run_table(
@@ -70,7 +72,8 @@ pub fn run_here<D: Desk>(alloc: Global, words: &[String], desk: &mut D) -> u8
         desk,
         forms(),
         move |words: &[String], desk: &mut D|
-            ensures { RunsAs (command_of (map string_bytes words.now)) (map string_bytes words.now) (D.told desk.old) (D.told desk.new) (outcome_view result.outcome) }
+            ensures runs { RunsAs (command_of (map string_bytes words.now)) (map string_bytes words.now) (D.told desk.old) (D.told desk.new) (outcome_view result.outcome) }
+            ensures live { (D.told desk.new).live ≡ (D.told desk.old).live }
         {
             LiveRun {
                 outcome: run_words(alloc, words, desk),

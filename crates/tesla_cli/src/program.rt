@@ -64,21 +64,24 @@ fn words_of_no_form(alloc: Global, first: &str) -> Result<Vec<String>, AllocErro
 
 // Runs words for which there is no memory: whatever they are, nothing is done.
 fn run_forgotten<D: Desk>(_desk: &mut D) -> Outcome
-    ensures { RunsAs forgotten [] (D.told _desk.old) (D.told _desk.new) (outcome_view result) }
+    ensures runs { RunsAs forgotten [] (D.told _desk.old) (D.told _desk.new) (outcome_view result) }
+    ensures live { (D.told _desk.new).live ≡ (D.told _desk.old).live }
 {
     Outcome::Failed(Fault::NoMemory)
 }
 
 // Tells on the console that there was no memory, where the console can be opened.
 fn tell_no_memory<D: Desk>(desk: &mut D) -> u8
-    ensures { LacksMemory (D.told desk.old) (D.told desk.new) result }
+    ensures lacks { LacksMemory (D.told desk.old) (D.told desk.new) result }
+    ensures live { (D.told desk.new).live ≡ (D.told desk.old).live }
 {
     let _ = run_table(
         &[],
         desk,
         &[],
         |_words: &[String], desk: &mut D|
-            ensures { RunsAs forgotten [] (D.told desk.old) (D.told desk.new) (outcome_view result.outcome) }
+            ensures runs { RunsAs forgotten [] (D.told desk.old) (D.told desk.new) (outcome_view result.outcome) }
+            ensures live { (D.told desk.new).live ≡ (D.told desk.old).live }
         { without_history::<()>(run_forgotten(desk)) },
     );
     Fault::NoMemory.status()
@@ -87,7 +90,8 @@ fn tell_no_memory<D: Desk>(desk: &mut D) -> u8
 // Prints a text about the program with the forms of these further tables, and gives the status of that: 0, 5 exactly
 // where a write failed, 7 exactly where the console wasn't opened, or 6 where there was no memory for that.
 fn print_about<D: Desk>(desk: &mut D, about: About, further: &[&[FormText]]) -> u8
-    ensures { Prints (D.told desk.old) (D.told desk.new) result }
+    ensures prints { Prints (D.told desk.old) (D.told desk.new) result }
+    ensures live { (D.told desk.new).live ≡ (D.told desk.old).live }
 {
     match desk.open_sink(CONSOLE) {
         Ok(mut console) => {
@@ -101,7 +105,8 @@ fn print_about<D: Desk>(desk: &mut D, about: About, further: &[&[FormText]]) -> 
 
 // Runs the words: as those that ask for a text, and else by the table that they choose.
 fn run_words<D: Desk>(alloc: Global, words: &[String], further: &[&[FormText]], desk: &mut D) -> u8
-    ensures { RunsProgram (map string_bytes words.now) (D.told desk.old) (D.told desk.new) result }
+    ensures runs { RunsProgram (map string_bytes words.now) (D.told desk.old) (D.told desk.new) result }
+    ensures live { (D.told desk.new).live ≡ (D.told desk.old).live }
 {
     match about_in(words) {
         Some(about) => print_about(desk, about, further),
@@ -121,6 +126,7 @@ pub fn run_program<D: Desk>(
     desk: &mut D,
 ) -> ExitCode
     ensures runs { IfOk words (λ them. RunsProgram (map string_bytes them.items) (D.told desk.old) (D.told desk.new) (exit_status result)) }
+    ensures live { (D.told desk.new).live ≡ (D.told desk.old).live }
     ensures memory { IfErr words (λ _. LacksMemory (D.told desk.old) (D.told desk.new) (exit_status result)) }
 {
     match words {

@@ -40,7 +40,8 @@ fn is_show(words: &[String]) -> bool
 // Runs the words as those of the tool that the first of them names, `ask` or `reply`. `Usage` where it names neither,
 // or there is no word, and then nothing was opened.
 fn run_words<D: Desk>(alloc: Global, words: &[String], desk: &mut D) -> Outcome
-    ensures { RunsAs (tool_of (map string_bytes words.now)) (map string_bytes words.now) (D.told desk.old) (D.told desk.new) (outcome_view result) }
+    ensures runs { RunsAs (tool_of (map string_bytes words.now)) (map string_bytes words.now) (D.told desk.old) (D.told desk.new) (outcome_view result) }
+    ensures live { (D.told desk.new).live ≡ (D.told desk.old).live }
 {
     match words {
         [word, ..] if word.as_str() == "ask" => run_ask(words, desk),
@@ -59,9 +60,11 @@ fn run_words<D: Desk>(alloc: Global, words: &[String], desk: &mut D) -> Outcome
 /// isn't a key, and no output was opened; or TRACE is refused, behind the lines of the entries before. 4: a read
 /// failed. 5: a write failed. 6: there was no memory. 7: something wasn't opened.
 ///
-/// At 0 to 3, 6 and 7 no read and no write of a file failed, at 5 no read, and at 4 no write.
+/// At 0 to 3, 6 and 7 no read and no write of a file failed, at 5 no read, and at 4 no write. No link, post or clock is
+/// made.
 pub fn run_tools<D: Desk>(alloc: Global, words: &[String], desk: &mut D) -> u8
     ensures outcome { (reported : OutcomeView) × (result ≡ status_of reported) × RunsTool (map string_bytes words.now) (D.told desk.old) (D.told desk.new) reported }
+    ensures live { (D.told desk.new).live ≡ (D.told desk.old).live }
     ensures causes { HasStatusCauses result (D.told desk.old).faults (D.told desk.new).faults }
 {
     run_reported(alloc, words, desk).status()
@@ -69,7 +72,8 @@ pub fn run_tools<D: Desk>(alloc: Global, words: &[String], desk: &mut D) -> u8
 
 // The same, with what it came to as it was told.
 fn run_reported<D: Desk>(alloc: Global, words: &[String], desk: &mut D) -> Outcome
-    ensures { RunsTool (map string_bytes words.now) (D.told desk.old) (D.told desk.new) (outcome_view result) }
+    ensures runs { RunsTool (map string_bytes words.now) (D.told desk.old) (D.told desk.new) (outcome_view result) }
+    ensures live { (D.told desk.new).live ≡ (D.told desk.old).live }
 {
     if is_show(words) {
         run_printing(words, desk)
@@ -80,14 +84,16 @@ fn run_reported<D: Desk>(alloc: Global, words: &[String], desk: &mut D) -> Outco
 
 // Runs the words as those of a tool that prints nothing before its end.
 fn run_silently<D: Desk>(alloc: Global, words: &[String], desk: &mut D) -> Outcome
-    ensures { Runs (tool_of (map string_bytes words.now)) tool_usage (map string_bytes words.now) (D.told desk.old) (D.told desk.new) (outcome_view result) }
+    ensures runs { Runs (tool_of (map string_bytes words.now)) tool_usage (map string_bytes words.now) (D.told desk.old) (D.told desk.new) (outcome_view result) }
+    ensures live { (D.told desk.new).live ≡ (D.told desk.old).live }
 {
     let run = run_table(
         words,
         desk,
         forms(),
         move |words: &[String], desk: &mut D|
-            ensures { RunsAs (tool_of (map string_bytes words.now)) (map string_bytes words.now) (D.told desk.old) (D.told desk.new) (outcome_view result.outcome) }
+            ensures runs { RunsAs (tool_of (map string_bytes words.now)) (map string_bytes words.now) (D.told desk.old) (D.told desk.new) (outcome_view result.outcome) }
+            ensures live { (D.told desk.new).live ≡ (D.told desk.old).live }
         {
             LiveRun {
                 outcome: run_words(alloc, words, desk),
@@ -100,7 +106,8 @@ fn run_silently<D: Desk>(alloc: Global, words: &[String], desk: &mut D) -> Outco
 
 // Runs the words as those of `show`, which prints its lines on the console.
 fn run_printing<D: Desk>(words: &[String], desk: &mut D) -> Outcome
-    ensures { RunsPrinting show tool_usage (map string_bytes words.now) (D.told desk.old) (D.told desk.new) (outcome_view result) }
+    ensures runs { RunsPrinting show tool_usage (map string_bytes words.now) (D.told desk.old) (D.told desk.new) (outcome_view result) }
+    ensures live { (D.told desk.new).live ≡ (D.told desk.old).live }
 {
     match open_console(desk) {
         Ok(mut console) => {

@@ -43,6 +43,7 @@ no_input A input output refusal fault old new is tried =
       opened = it.0;
       opens = it.1;
       pages = tried.pages;
+      live = tried.live;
       counts = causes_opening old.faults new.faults tried.counts (no_read refusal) (no_write refusal) (open_failed A refusal) (failed_open A refusal);
       kind = (no_read refusal, no_write refusal);
       unread = λ e. inl (it.2 e);
@@ -82,6 +83,7 @@ no_output {A} B input output name it left count refusal fault old mid tried new 
       opened = opens.0;
       opens = opens.1;
       pages = λ n. closed.pages n ∙ pages_tried {A = B} output (Err refusal) mid tried sink n ∙ opened.pages n;
+      live = closed.live ∙ sink.live ∙ opened.live;
       counts = whole;
       kind = (no_read refusal, no_write refusal);
       unread = λ e. inr (unread_page (old.page input) left (new.left input) whole_left (ap new.left (sym named) ∙ closed.own));

@@ -13,6 +13,7 @@ pub record OpensBoth (input output : List ℕ) (left written : Option (List ℕ)
   pub asked : new.openings ≡ with_openings old.openings (OfSource input ∷ OfSink output ∷ [])
   pub pages : (name : List ℕ) → name ≢ output → new.page name ≡ old.page name
   pub lefts : (name : List ℕ) → new.left name ≡ old.left name
+  pub live : new.live ≡ old.live
   pub counts : new.faults ≡ old.faults
   pub opened : Opened (old.page input) left
   pub empty : IfSome written (λ bytes. bytes ≡ [])
@@ -22,6 +23,7 @@ pub record OpensNotBoth (input output : List ℕ) (old new : Told) (fault : Faul
   pub opened : ℕ
   pub opens : Opens (OfSource input ∷ OfSink output ∷ []) opened old new
   pub pages : (name : List ℕ) → new.page name ≡ old.page name
+  pub live : new.live ≡ old.live
   pub counts : HasCauses old.faults new.faults (fault ≡ faults.Read) (fault ≡ faults.Write) (fault ≡ faults.Open)
   pub kind : (fault ≡ faults.Read → ⊥) × (fault ≡ faults.Write → ⊥)
   -- where memory was wanting, no byte of the input was read
@@ -34,6 +36,7 @@ pub record ClosesBoth (input output : List ℕ) (left written : Option (List ℕ
   pub lefts : (name : List ℕ) → name ≢ input → new.left name ≡ old.left name
   pub own_page : new.page output ≡ page_of written write_faults
   pub own_left : new.left input ≡ left
+  pub live : new.live ≡ old.live
   pub counts : new.faults ≡ after_sink (after_source old.faults read_faults) write_faults
 
 -- an input was converted into an output, both under their names

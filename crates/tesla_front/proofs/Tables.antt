@@ -81,6 +81,13 @@ plain_run told Calls command usage words old new result runs (inr it) =
     inr (console_opened command usage words (told old) (told it.opened.now) (told it.done.now) (told new) (outcome_view it.run.outcome)
     (outcome_view result.outcome) it.written it.failed it.reports (runs it.opened it.done it.run it.runs))
 
+-- where what is run with the console changes nothing that lives, the whole run changes nothing of it
+pub plain_live : {D T : Type 0} (told : D → Told) (Calls : MutBor D → LiveRun T → MutBor D → Type 0) (usage : List ℕ) (old new : D) (result : LiveRun T)
+    → ((opened done : MutBor D) (run : LiveRun T) → Calls opened run done → (told done.now).live ≡ (told opened.now).live)
+    → RunsConsole told Calls usage old new result → (told new).live ≡ (told old).live
+plain_live told Calls usage old new result stays (inl none) = none.0.live
+plain_live told Calls usage old new result stays (inr it) = it.reports.closes.live ∙ stays it.opened it.done it.run it.runs ∙ it.reports.opens.live
+
 -- the status of what a run came to is that of a fault only where its count rose
 pub plain_causes : (command : Command) (usage : List ℕ) (words : List (List ℕ)) (old new : Told) (outcome : Outcome) (status : ℕ)
     → status ≡ status_of (outcome_view outcome)

@@ -91,6 +91,7 @@ pub fn read_file<D: Desk>(
 pub fn write_file<D: Desk>(name: &str, text: &[u8], desk: &mut D) -> Result<(), Fault>
     ensures writes { WritesFile text.now ((D.told desk.old).page name.now) ((D.told desk.new).page name.now) result }
     ensures opens { OpensSome (OfSink name.now ∷ []) (D.told desk.old) (D.told desk.new) }
+    ensures live { (D.told desk.new).live ≡ (D.told desk.old).live }
     ensures causes { Causes result (D.told desk.old).faults (D.told desk.new).faults }
 {
     match desk.open_sink(name) {

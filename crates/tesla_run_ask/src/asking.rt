@@ -21,7 +21,8 @@ use tesla_sync::write_ask;
 /// no form, and then nothing was opened. `Failed` with what went wrong first, `Write` and `Open` exactly where the
 /// desk's count of that rose: behind a failed write ASK-OUT holds a prefix of the ask, and else it is as before.
 pub fn run_ask<D: Desk>(words: &[String], desk: &mut D) -> Outcome
-    ensures { RunsAs ask (map string_bytes words.now) (D.told desk.old) (D.told desk.new) (outcome_view result) }
+    ensures runs { RunsAs ask (map string_bytes words.now) (D.told desk.old) (D.told desk.new) (outcome_view result) }
+    ensures live { (D.told desk.new).live ≡ (D.told desk.old).live }
 {
     match ask_in(words) {
         Some(arguments) => outcome_of(perform(&arguments, desk)),
@@ -32,7 +33,8 @@ pub fn run_ask<D: Desk>(words: &[String], desk: &mut D) -> Outcome
 // Does what the words ask for.
 fn perform<D: Desk>(arguments: &AskWords<'_>, desk: &mut D) -> Result<Lines, Stop>
     requires files { AreFiles (files_of_ask (ask_arguments arguments.now)) }
-    ensures { Performs ask (ask_arguments arguments.now) (D.told desk.old) (D.told desk.new) (result_view result) }
+    ensures performs { Performs ask (ask_arguments arguments.now) (D.told desk.old) (D.told desk.new) (result_view result) }
+    ensures live { (D.told desk.new).live ≡ (D.told desk.old).live }
 {
     let message = write_ask(arguments.reading);
     write_message(arguments.out, &message, "asked", arguments.reading, desk)

@@ -38,7 +38,8 @@ const MOST_OF_KEY: usize = 66;
 /// count of that rose: behind a failed write REPLY-OUT holds a prefix of the reply, and else it is as before. So there is
 /// no memory only before REPLY-OUT was opened.
 pub fn run_reply<D: Desk>(alloc: Global, words: &[String], desk: &mut D) -> Outcome
-    ensures { RunsAs reply (map string_bytes words.now) (D.told desk.old) (D.told desk.new) (outcome_view result) }
+    ensures runs { RunsAs reply (map string_bytes words.now) (D.told desk.old) (D.told desk.new) (outcome_view result) }
+    ensures live { (D.told desk.new).live ≡ (D.told desk.old).live }
 {
     match reply_in(words) {
         Some(arguments) => outcome_of(perform(alloc, &arguments, desk)),
@@ -49,7 +50,8 @@ pub fn run_reply<D: Desk>(alloc: Global, words: &[String], desk: &mut D) -> Outc
 // Does what the words ask for.
 fn perform<D: Desk>(alloc: Global, arguments: &ReplyWords<'_>, desk: &mut D) -> Result<Lines, Stop>
     requires files { AreFiles (files_of_reply (reply_arguments arguments.now)) }
-    ensures { Performs reply (reply_arguments arguments.now) (D.told desk.old) (D.told desk.new) (result_view result) }
+    ensures performs { Performs reply (reply_arguments arguments.now) (D.told desk.old) (D.told desk.new) (result_view result) }
+    ensures live { (D.told desk.new).live ≡ (D.told desk.old).live }
 {
     let ask = read_file(alloc, arguments.ask, MOST_OF_ASK, desk)?;
     let key = read_file(alloc, arguments.key, MOST_OF_KEY, desk)?;
@@ -64,6 +66,7 @@ fn answer<D: Desk>(
     desk: &mut D,
 ) -> Result<Lines, Stop>
     ensures answers { Answers (reply_arguments arguments.now) ask.now key.now (D.told desk.old) (D.told desk.new) (result_view result) }
+    ensures live { (D.told desk.new).live ≡ (D.told desk.old).live }
     ensures causes { StopCauses result (D.told desk.old).faults (D.told desk.new).faults }
 {
     let (t_r, key) = judged(ask, key)?;

@@ -22,6 +22,7 @@ pub fn write_message<D: Desk>(
     requires { length done.now ≤ 9 }
     ensures writes { WritesMessage message.now (count_line done.now reading) ((D.told desk.old).page out.now) ((D.told desk.new).page out.now) (result_view result) }
     ensures opens { OpensSome (OfSink out.now ∷ []) (D.told desk.old) (D.told desk.new) }
+    ensures live { (D.told desk.new).live ≡ (D.told desk.old).live }
     ensures causes { StopCauses result (D.told desk.old).faults (D.told desk.new).faults }
 {
     match write_file(out, message, desk) {

@@ -27,7 +27,8 @@ use tesla_seeds::Seeds;
 /// `Write` and `Open` exactly where the desk's count of that rose: behind a failed write SETUP-OUT holds a prefix of the
 /// setup, and else it is as before. So there is no memory only before SETUP-OUT was opened.
 pub fn run_chain<D: Desk>(alloc: Global, words: &[String], desk: &mut D) -> Outcome
-    ensures { RunsAs chain (map string_bytes words.now) (D.told desk.old) (D.told desk.new) (outcome_view result) }
+    ensures runs { RunsAs chain (map string_bytes words.now) (D.told desk.old) (D.told desk.new) (outcome_view result) }
+    ensures live { (D.told desk.new).live ≡ (D.told desk.old).live }
 {
     match arguments_in(words) {
         Some(arguments) => outcome_of(perform(alloc, &arguments, desk)),
@@ -38,7 +39,8 @@ pub fn run_chain<D: Desk>(alloc: Global, words: &[String], desk: &mut D) -> Outc
 // Does what the words ask for.
 fn perform<D: Desk>(alloc: Global, arguments: &Arguments<'_>, desk: &mut D) -> Result<Lines, Stop>
     requires files { AreFiles (files_of_chain (arguments_of arguments.now)) }
-    ensures { Performs chain (arguments_of arguments.now) (D.told desk.old) (D.told desk.new) (result_view result) }
+    ensures performs { Performs chain (arguments_of arguments.now) (D.told desk.old) (D.told desk.new) (result_view result) }
+    ensures live { (D.told desk.new).live ≡ (D.told desk.old).live }
 {
     let count = arguments.delays.len() as u8;
     let seeds = seeds_under(alloc, arguments.secret, count, desk)?;
@@ -55,6 +57,7 @@ fn write_made<D: Desk>(
     requires { length seeds.now ≡ length arguments.now.delays.items }
     ensures writes { WritesSetup (setup_made (arguments_of arguments.now) seeds.now) ((D.told desk.old).page arguments.now.out.now) ((D.told desk.new).page arguments.now.out.now) (result_view result) }
     ensures opens { OpensSome (OfSink arguments.now.out.now ∷ []) (D.told desk.old) (D.told desk.new) }
+    ensures live { (D.told desk.new).live ≡ (D.told desk.old).live }
     ensures causes { StopCauses result (D.told desk.old).faults (D.told desk.new).faults }
 {
     let Ok(setup) = setup_of(alloc, arguments, seeds) else {

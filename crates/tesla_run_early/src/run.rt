@@ -1,6 +1,6 @@
 //! A run of the command `early`.
 
-ghost use Rattle.std.specs.Prelude.{map, string_bytes};
+ghost use Rattle.std.specs.Prelude.{◌≡◌, map, string_bytes};
 ghost use Rattle.tesla_front.specs.OutcomeView.{outcome_view};
 ghost use Rattle.tesla_front.specs.Command.{RunsAs};
 ghost use Rattle.tesla_run_early.specs.Early.{early};
@@ -18,7 +18,8 @@ use tesla_run_replay::run_played;
 /// give and the messages that are accepted on arrival are written to OUT, in the order of the records. `Done` tells the
 /// counts. `NoMemory` comes only before a byte of CAPTURE is read.
 pub fn run_early<D: Desk>(alloc: Global, words: &[String], desk: &mut D) -> Outcome
-    ensures { RunsAs early (map string_bytes words.now) (D.told desk.old) (D.told desk.new) (outcome_view result) }
+    ensures runs { RunsAs early (map string_bytes words.now) (D.told desk.old) (D.told desk.new) (outcome_view result) }
+    ensures live { (D.told desk.new).live ≡ (D.told desk.old).live }
 {
     run_played::<EarlyTarget, D>(alloc, words, desk)
 }

@@ -34,7 +34,8 @@ pub fn run_played<T: Target + Drop, D: Desk>(
     words: &[String],
     desk: &mut D,
 ) -> Outcome
-    ensures { RunsAs (command_of T.command) (map string_bytes words.now) (D.told desk.old) (D.told desk.new) (outcome_view result) }
+    ensures runs { RunsAs (command_of T.command) (map string_bytes words.now) (D.told desk.old) (D.told desk.new) (outcome_view result) }
+    ensures live { (D.told desk.new).live ≡ (D.told desk.old).live }
 {
     let form = T::form();
     match arguments_in(&form, words) {
@@ -50,7 +51,8 @@ fn perform<T: Target + Drop, D: Desk>(
     desk: &mut D,
 ) -> Result<Lines, Stop>
     requires form { (words : List (List ℕ)) × IsPlayed T.command.form (arguments_of arguments.now) words }
-    ensures { Performs (command_of T.command) (arguments_of arguments.now) (D.told desk.old) (D.told desk.new) (result_view result) }
+    ensures performs { Performs (command_of T.command) (arguments_of arguments.now) (D.told desk.old) (D.told desk.new) (result_view result) }
+    ensures live { (D.told desk.new).live ≡ (D.told desk.old).live }
 {
     match setup_under(alloc, arguments.names.setup, desk) {
         Ok(setup) => play_files::<T, D>(alloc, setup, arguments, desk),
@@ -66,7 +68,8 @@ fn play_files<T: Target + Drop, D: Desk>(
     desk: &mut D,
 ) -> Result<Lines, Stop>
     requires capacity { (word : List ℕ) × IsCapacity T.command.form.capacity word arguments.now.limits }
-    ensures { ConvertsFiles (T.command.meaning (config_of (arguments_of arguments.now) setup)) arguments.now.names.capture.now arguments.now.names.out.now (D.told desk.old) (D.told desk.new) (result_view result) }
+    ensures converts { ConvertsFiles (T.command.meaning (config_of (arguments_of arguments.now) setup)) arguments.now.names.capture.now arguments.now.names.out.now (D.told desk.old) (D.told desk.new) (result_view result) }
+    ensures live { (D.told desk.new).live ≡ (D.told desk.old).live }
 {
     match open_files(arguments.names.capture, arguments.names.out, desk) {
         Ok((mut source, mut out)) => {

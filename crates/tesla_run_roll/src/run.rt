@@ -1,6 +1,6 @@
 //! A run of the command `roll`.
 
-ghost use Rattle.std.specs.Prelude.{map, string_bytes};
+ghost use Rattle.std.specs.Prelude.{◌≡◌, map, string_bytes};
 ghost use Rattle.tesla_front.specs.OutcomeView.{outcome_view};
 ghost use Rattle.tesla_front.specs.Command.{RunsAs};
 ghost use Rattle.tesla_run_roll.specs.Roll.{roll};
@@ -18,7 +18,8 @@ use tesla_run_replay::run_played;
 /// to OUT, each record behind the number of its epoch. `Done` tells how many epochs there are and how many packets were
 /// given. `NoMemory` comes before a byte of CAPTURE is read, or where a packet should open an epoch, behind its record.
 pub fn run_roll<D: Desk>(alloc: Global, words: &[String], desk: &mut D) -> Outcome
-    ensures { RunsAs roll (map string_bytes words.now) (D.told desk.old) (D.told desk.new) (outcome_view result) }
+    ensures runs { RunsAs roll (map string_bytes words.now) (D.told desk.old) (D.told desk.new) (outcome_view result) }
+    ensures live { (D.told desk.new).live ≡ (D.told desk.old).live }
 {
     run_played::<RolloverTarget, D>(alloc, words, desk)
 }

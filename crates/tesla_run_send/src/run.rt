@@ -36,7 +36,8 @@ use tesla_sender::Sender;
 /// holds the frames of what was read, unless it failed too, and after a failed write a prefix of all. `NoMemory` comes
 /// only before CAPTURE is opened and before a byte of SCRIPT is read.
 pub fn run_send<D: Desk>(alloc: Global, words: &[String], desk: &mut D) -> Outcome
-    ensures { RunsAs send (map string_bytes words.now) (D.told desk.old) (D.told desk.new) (outcome_view result) }
+    ensures runs { RunsAs send (map string_bytes words.now) (D.told desk.old) (D.told desk.new) (outcome_view result) }
+    ensures live { (D.told desk.new).live ≡ (D.told desk.old).live }
 {
     match arguments_in(words) {
         Some(arguments) => outcome_of(perform(alloc, &arguments, desk)),
@@ -47,7 +48,8 @@ pub fn run_send<D: Desk>(alloc: Global, words: &[String], desk: &mut D) -> Outco
 // Does what the words ask for.
 fn perform<D: Desk>(alloc: Global, arguments: &Arguments<'_>, desk: &mut D) -> Result<Lines, Stop>
     requires files { AreFiles (files_of_send (arguments_of arguments.now)) }
-    ensures { Performs send (arguments_of arguments.now) (D.told desk.old) (D.told desk.new) (result_view result) }
+    ensures performs { Performs send (arguments_of arguments.now) (D.told desk.old) (D.told desk.new) (result_view result) }
+    ensures live { (D.told desk.new).live ≡ (D.told desk.old).live }
 {
     let sender = open_sender(alloc, arguments.setup, arguments.secret, desk)?;
     send_files::<Brand, D>(sender, Blank::new(1), arguments, desk)
@@ -65,7 +67,8 @@ fn send_files<L: SendLedger, D: Desk>(
     requires some { 0 < L.parts }
     requires stands { Stands sender [] }
     requires stream { sender.stream ≡ L.stream }
-    ensures { SendsFiles sender.stream arguments.now.script.now arguments.now.out.now (D.told desk.old) (D.told desk.new) (result_view result) }
+    ensures sends { SendsFiles sender.stream arguments.now.script.now arguments.now.out.now (D.told desk.old) (D.told desk.new) (result_view result) }
+    ensures live { (D.told desk.new).live ≡ (D.told desk.old).live }
 {
     let steps = Steps::<L>::new(blank);
     match open_files(arguments.script, arguments.out, desk) {

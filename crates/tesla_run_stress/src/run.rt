@@ -1,6 +1,6 @@
 //! A run of `stress`.
 
-ghost use Rattle.std.specs.Prelude.{map, string_bytes};
+ghost use Rattle.std.specs.Prelude.{◌≡◌, map, string_bytes};
 ghost use Rattle.tesla_front.specs.OutcomeView.{result_view, outcome_view};
 ghost use Rattle.tesla_front.specs.Command.{RunsAs};
 ghost use Rattle.tesla_run_stress.specs.Arguments.{arguments_of};
@@ -20,7 +20,8 @@ use tesla_run_replay::report_lines;
 /// `Done` with the lines of the receiver's report, once all was played. `Usage` exactly where the words are no form.
 /// `Failed` only for want of memory, and then before the first message.
 pub fn run_stress<D: Desk>(alloc: Global, words: &[String], desk: &mut D) -> Outcome
-    ensures { RunsAs stress (map string_bytes words.now) (D.told desk.old) (D.told desk.new) (outcome_view result) }
+    ensures runs { RunsAs stress (map string_bytes words.now) (D.told desk.old) (D.told desk.new) (outcome_view result) }
+    ensures live { (D.told desk.new).live ≡ (D.told desk.old).live }
 {
     let _ = &desk;
     match arguments_in(words) {

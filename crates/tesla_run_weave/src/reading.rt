@@ -81,6 +81,7 @@ pub fn read_script<D: Desk>(
     ensures opened { IfOk result (λ _. Opens (OfSource name.now ∷ []) 1 (D.told desk.old) (D.told desk.new)) }
     ensures opens { OpensSome (OfSource name.now ∷ []) (D.told desk.old) (D.told desk.new) }
     ensures pages { (n : List ℕ) → (D.told desk.new).page n ≡ (D.told desk.old).page n }
+    ensures live { (D.told desk.new).live ≡ (D.told desk.old).live }
     ensures causes { StopCauses result (D.told desk.old).faults (D.told desk.new).faults }
 {
     match desk.open_source(name) {

@@ -1,6 +1,6 @@
 //! A run of `weave`.
 
-ghost use Rattle.std.specs.Prelude.{◌≤◌, map, string_bytes};
+ghost use Rattle.std.specs.Prelude.{◌≡◌, ◌≤◌, map, string_bytes};
 ghost use Rattle.tesla_front.specs.OutcomeView.{result_view, outcome_view};
 ghost use Rattle.tesla_front.specs.Command.{Performs, RunsAs};
 ghost use Rattle.tesla_front.specs.Openings.{AreFiles};
@@ -29,7 +29,8 @@ use tesla_front::{Lines, Outcome, Stop, outcome_of, setup_under};
 /// It takes memory for the setup and its text, for the bodies and names of the messages, for the readings of the records,
 /// and for the woven payloads; names and bodies are dropped before SCRIPT-OUT is written.
 pub fn run_weave<D: Desk>(alloc: Global, words: &[String], desk: &mut D) -> Outcome
-    ensures { RunsAs weave (map string_bytes words.now) (D.told desk.old) (D.told desk.new) (outcome_view result) }
+    ensures runs { RunsAs weave (map string_bytes words.now) (D.told desk.old) (D.told desk.new) (outcome_view result) }
+    ensures live { (D.told desk.new).live ≡ (D.told desk.old).live }
 {
     match arguments_in(words) {
         Some(arguments) => outcome_of(perform(alloc, &arguments, desk)),
@@ -41,7 +42,8 @@ pub fn run_weave<D: Desk>(alloc: Global, words: &[String], desk: &mut D) -> Outc
 fn perform<D: Desk>(alloc: Global, arguments: &Arguments<'_>, desk: &mut D) -> Result<Lines, Stop>
     requires files { AreFiles (files_of_weave (arguments_of arguments.now)) }
     requires gap { 1 ≤ arguments.now.gap }
-    ensures { Performs weave (arguments_of arguments.now) (D.told desk.old) (D.told desk.new) (result_view result) }
+    ensures performs { Performs weave (arguments_of arguments.now) (D.told desk.old) (D.told desk.new) (result_view result) }
+    ensures live { (D.told desk.new).live ≡ (D.told desk.old).live }
 {
     let setup = setup_under(alloc, arguments.setup, desk)?;
     weave_under(alloc, setup, arguments, desk)
@@ -55,7 +57,8 @@ fn weave_under<D: Desk>(
     desk: &mut D,
 ) -> Result<Lines, Stop>
     requires gap { 1 ≤ arguments.now.gap }
-    ensures { WeavesFiles (arguments_of arguments.now) setup (D.told desk.old) (D.told desk.new) (result_view result) }
+    ensures weaves { WeavesFiles (arguments_of arguments.now) setup (D.told desk.old) (D.told desk.new) (result_view result) }
+    ensures live { (D.told desk.new).live ≡ (D.told desk.old).live }
 {
     let plan = read_script(alloc, setup, arguments.script, desk)?;
     write_woven(alloc, plan, arguments.gap, arguments.out, desk)

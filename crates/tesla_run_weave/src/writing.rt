@@ -111,6 +111,7 @@ fn write_script<D: Desk>(
     requires { All (λ payload. length payload ≤ 1200) payloads.now }
     ensures writes { WritesFile (script_text (filled slots.now payloads.now)) ((D.told desk.old).page name.now) ((D.told desk.new).page name.now) result }
     ensures opens { OpensOut name.now (D.told desk.old) (D.told desk.new) (result ≡ Err Fault.NoMemory) }
+    ensures live { (D.told desk.new).live ≡ (D.told desk.old).live }
     ensures causes { Causes result (D.told desk.old).faults (D.told desk.new).faults }
 {
     match desk.open_sink(name) {
@@ -163,6 +164,7 @@ pub fn write_woven<D: Desk>(
     requires { 1 ≤ gap }
     ensures writes { WritesWoven (plan_text gap plan) (length plan.bodies) ((D.told desk.old).page name.now) ((D.told desk.new).page name.now) 2 (result_view result) }
     ensures opens { OpensOut name.now (D.told desk.old) (D.told desk.new) (result_view result ≡ Failed faults.NoMemory) }
+    ensures live { (D.told desk.new).live ≡ (D.told desk.old).live }
     ensures causes { StopCauses result (D.told desk.old).faults (D.told desk.new).faults }
 {
     let Plan {

@@ -11,7 +11,8 @@ use tesla_desk::Desk;
 /// Runs the words as those of a tool where the first of them names one, and else as those of the other commands, and
 /// gives the status.
 pub fn run_chosen<D: Desk>(alloc: Global, words: &[String], desk: &mut D) -> u8
-    ensures { (reported : OutcomeView) × (result ≡ status_of reported) × RunsChosen (map string_bytes words.now) (D.told desk.old) (D.told desk.new) reported }
+    ensures chosen { (reported : OutcomeView) × (result ≡ status_of reported) × RunsChosen (map string_bytes words.now) (D.told desk.old) (D.told desk.new) reported }
+    ensures live { (D.told desk.new).live ≡ (D.told desk.old).live }
 {
     if is_tool(words) {
         return run_tools(alloc, words, desk);

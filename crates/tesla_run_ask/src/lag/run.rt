@@ -1,6 +1,6 @@
 //! A run of `lag`.
 
-ghost use Rattle.std.specs.Prelude.{map, string_bytes};
+ghost use Rattle.std.specs.Prelude.{◌≡◌, map, string_bytes};
 ghost use Rattle.tesla_front.specs.OutcomeView.{result_view, outcome_view};
 ghost use Rattle.tesla_front.specs.Command.{Performs, RunsAs};
 ghost use Rattle.tesla_front.specs.Openings.{AreFiles};
@@ -22,7 +22,8 @@ use tesla_front::{Lines, Outcome, Stop, outcome_of};
 /// 3); the reply is malformed, has a bad tag or is to another ask (10); the lag leaves 64 bits with a sign (9). `Failed`
 /// with what went wrong first, `Read` and `Open` exactly where the desk's count of that rose. Nothing is written.
 pub fn run_lag<D: Desk>(alloc: Global, words: &[String], desk: &mut D) -> Outcome
-    ensures { RunsAs lag (map string_bytes words.now) (D.told desk.old) (D.told desk.new) (outcome_view result) }
+    ensures runs { RunsAs lag (map string_bytes words.now) (D.told desk.old) (D.told desk.new) (outcome_view result) }
+    ensures live { (D.told desk.new).live ≡ (D.told desk.old).live }
 {
     match arguments_in(words) {
         Some(arguments) => outcome_of(perform(alloc, &arguments, desk)),
@@ -33,7 +34,8 @@ pub fn run_lag<D: Desk>(alloc: Global, words: &[String], desk: &mut D) -> Outcom
 // Does what the words ask for.
 fn perform<D: Desk>(alloc: Global, arguments: &Arguments<'_>, desk: &mut D) -> Result<Lines, Stop>
     requires files { AreFiles (files_of_lag (arguments_of arguments.now)) }
-    ensures { Performs lag (arguments_of arguments.now) (D.told desk.old) (D.told desk.new) (result_view result) }
+    ensures performs { Performs lag (arguments_of arguments.now) (D.told desk.old) (D.told desk.new) (result_view result) }
+    ensures live { (D.told desk.new).live ≡ (D.told desk.old).live }
 {
     match read_texts(alloc, arguments, desk) {
         Ok(texts) => judge(arguments.drift, &texts),

@@ -38,6 +38,7 @@ fn read_two<D: Desk>(
     ensures opened { IfOk result (λ _. Opens (OfSource reply.now ∷ OfSource key.now ∷ []) 2 (D.told desk.old) (D.told desk.new)) }
     ensures opens { OpensSome (OfSource reply.now ∷ OfSource key.now ∷ []) (D.told desk.old) (D.told desk.new) }
     ensures pages { (n : List ℕ) → (D.told desk.new).page n ≡ (D.told desk.old).page n }
+    ensures live { (D.told desk.new).live ≡ (D.told desk.old).live }
     ensures causes { Causes result (D.told desk.old).faults (D.told desk.new).faults }
     ensures kind { result ≡ Err Fault.Write → ⊥ }
 {
@@ -60,6 +61,7 @@ pub fn read_texts<D: Desk>(
     ensures key { IfOk result (λ texts. ReadsFile 66 ((D.told desk.old).page arguments.now.key.now) texts.key.items) }
     ensures opened { IfOk result (λ _. Opens (files_of_lag (arguments_of arguments.now)) 3 (D.told desk.old) (D.told desk.new)) }
     ensures opens { OpensSome (files_of_lag (arguments_of arguments.now)) (D.told desk.old) (D.told desk.new) }
+    ensures live { (D.told desk.new).live ≡ (D.told desk.old).live }
     ensures causes { Causes result (D.told desk.old).faults (D.told desk.new).faults }
     ensures kind { result ≡ Err Fault.Write → ⊥ }
 {

@@ -54,6 +54,7 @@ fn perform<O: Sink, D: Desk>(arguments: &Arguments<'_>, console: &mut O, desk: &
     requires files { AreFiles (files_of_show (arguments_of arguments.now)) }
     requires sound { O.faults console.old ≡ 0 }
     ensures performs { PerformsPrinting show (arguments_of arguments.now) (D.told desk.old) (D.told desk.new) (O.written console.old) (O.written console.new) (O.faults console.new) result }
+    ensures live { (D.told desk.new).live ≡ (D.told desk.old).live }
     ensures sound { IsSound result (O.faults console.new) }
     ensures name { O.name console.new ≡ O.name console.old }
 {
@@ -79,6 +80,7 @@ fn perform<O: Sink, D: Desk>(arguments: &Arguments<'_>, console: &mut O, desk: &
 pub fn run_show<O: Sink, D: Desk>(words: &[String], console: &mut O, desk: &mut D) -> Printed
     requires sound { O.faults console.old ≡ 0 }
     ensures prints { PrintsAs show (map string_bytes words.now) (D.told desk.old) (D.told desk.new) (O.written console.old) (O.written console.new) (O.faults console.new) result }
+    ensures live { (D.told desk.new).live ≡ (D.told desk.old).live }
     ensures sound { IsSound result (O.faults console.new) }
     ensures name { O.name console.new ≡ O.name console.old }
 {

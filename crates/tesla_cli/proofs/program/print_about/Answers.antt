@@ -1,4 +1,4 @@
-use Rattle.std.proofs.Common.{◌≡◌, ◌⊎◌, ◌∙◌, inl, inr, ℕ, Result, Err, codes, refl, sym, subst, ap}
+use Rattle.std.proofs.Common.{◌≡◌, ◌⊎◌, ◌∙◌, inl, inr, ℕ, Err, codes, refl, sym, subst, ap}
 use Rattle.tesla_desk.proofs.Counts.{causes_opening}
 use Rattle.tesla_desk.specs.Outside.{Told, OpensSink}
 use Rattle.tesla_desk.specs.declared.desk.OpenRefusal.{OpenRefusal}
@@ -37,8 +37,8 @@ unprinted A refusal old new opens =
       counts = causes_opening old.faults new.faults none.counts (λ e. e) (no_write refusal) (open_by refusal) (by_open refusal);
     }
 
-pub returns-in-Err : goal.returns-in-Err
-returns-in-Err g c =
+pub returns-in-Err-clause-prints : goal.returns-in-Err-clause-prints
+returns-in-Err-clause-prints g c =
     let before = g.D.Desk.told c.args.desk.now in
     let after = g.D.Desk.told c.open_sink.new.self in
     subst (λ (status : ℕ). Prints before after status) (sym (c.status-in-Err.ensures ∙ ap fault_status c.from.ensures)) (unprinted _ c.in-Err.refusal before after c.in-Err.ensures.desk)

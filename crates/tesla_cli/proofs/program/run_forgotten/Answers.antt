@@ -3,8 +3,8 @@ use Rattle.tesla_desk.proofs.Counts.{cause_none, cause_plain}
 use Rattle.tesla_front.proofs.Openings.{opens_none}
 use Rattle.tesla_cli.proofs.program.run_forgotten.Goals as goal
 
-pub returns : goal.returns
-returns g c =
+pub returns-clause-runs : goal.returns-clause-runs
+returns-clause-runs g c =
     let told = g.D.Desk.told c.args._desk.now in
     record {
       form = λ arguments form. record {

@@ -7,8 +7,8 @@ use Rattle.tesla_run_audit.specs.show.Show.{show}
 use Rattle.tesla_cli.specs.Commands.{tool_usage}
 use Rattle.tesla_cli.proofs.tools.run_printing.Goals as goal
 
-pub returns-in-Ok : goal.returns-in-Ok
-returns-in-Ok g c =
+pub returns-in-Ok-clause-runs : goal.returns-in-Ok-clause-runs
+returns-in-Ok-clause-runs g c =
     let old = g.D.Desk.told c.args.desk.now in
     let opened = g.D.Desk.told c.open_console.new.desk in
     let done = g.D.Desk.told c.run_show-printed.new.desk in
@@ -29,5 +29,8 @@ returns-in-Ok g c =
     let words = map string_bytes c.args.words.now in
     inr (printing_opened show tool_usage words old opened done new printed reported mid written middle failed printeds c.run_show-printed.ensures.prints)
 
-pub returns-in-Err : goal.returns-in-Err
-returns-in-Err g c = inl (c.in-Err.ensures.refused _ refl)
+pub returns-in-Err-clause-runs : goal.returns-in-Err-clause-runs
+returns-in-Err-clause-runs g c = inl (c.in-Err.ensures.refused _ refl)
+
+pub returns-in-Err-clause-live : goal.returns-in-Err-clause-live
+returns-in-Err-clause-live g c = (c.in-Err.ensures.refused _ refl).live

@@ -20,4 +20,4 @@ returns-clause-causes g c =
     let new = g.D.Desk.told c.run_reported.new.desk in
     let outcome = c.run_reported.result in
     subst (λ (status : ℕ). HasStatusCauses status old.faults new.faults) (sym c.status.ensures)
-    (causes_where (names_show words) words old new (outcome_view outcome) (own_status outcome) c.run_reported.ensures)
+    (causes_where (names_show words) words old new (outcome_view outcome) (own_status outcome) c.run_reported.ensures.runs)

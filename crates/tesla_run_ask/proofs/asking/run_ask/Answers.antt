@@ -8,9 +8,9 @@ use Rattle.tesla_run_ask.proofs.asking.run_ask.Goals as goal
 pub perform-requires-clause-files : goal.perform-requires-clause-files
 perform-requires-clause-files g c = λ _ _. ask_files (ask_arguments c.in-Some.arguments) (map string_bytes c.args.words.now) c.in-Some.ensures.found
 
-pub returns-in-Some : goal.returns-in-Some
-returns-in-Some g c =
-    rw c.outcome_of.ensures (runs_form ask ask_arguments (map string_bytes c.args.words.now) c.ask_in.result c.in-Some.arguments _ _ _ c.in-Some.is c.ask_in.ensures.only c.in-Some.ensures.found c.perform.ensures)
+pub returns-in-Some-clause-runs : goal.returns-in-Some-clause-runs
+returns-in-Some-clause-runs g c =
+    rw c.outcome_of.ensures (runs_form ask ask_arguments (map string_bytes c.args.words.now) c.ask_in.result c.in-Some.arguments _ _ _ c.in-Some.is c.ask_in.ensures.only c.in-Some.ensures.found c.perform.ensures.performs)
 
-pub returns-in-None : goal.returns-in-None
-returns-in-None g c = runs_usage ask ask_arguments (map string_bytes c.args.words.now) c.ask_in.result _ c.in-None.is c.ask_in.ensures.only
+pub returns-in-None-clause-runs : goal.returns-in-None-clause-runs
+returns-in-None-clause-runs g c = runs_usage ask ask_arguments (map string_bytes c.args.words.now) c.ask_in.result _ c.in-None.is c.ask_in.ensures.only

@@ -6,8 +6,8 @@ use Rattle.tesla_run_replay.specs.Under.{config_of}
 use Rattle.tesla_run_replay.proofs.Under.{closes_named}
 use Rattle.tesla_run_replay.proofs.run.play_files.Goals as goal
 
-pub returns-in-Ok : goal.returns-in-Ok
-returns-in-Ok g c =
+pub returns-in-Ok-clause-converts : goal.returns-in-Ok-clause-converts
+returns-in-Ok-clause-converts g c =
     let capture = c.args.arguments.now.names.capture.now in
     let out = c.args.arguments.now.names.out.now in
     let input = c.play_open-outcome.ensures.input ∙ c.in-Ok.ensures.names.0 in
@@ -20,6 +20,6 @@ returns-in-Ok g c =
     (g.D.In.Source.left c.play_open-outcome.new.source) (g.D.Out.Sink.written c.play_open-outcome.new.out) (g.D.In.Source.faults c.play_open-outcome.new.source) (g.D.Out.Sink.faults c.play_open-outcome.new.out)
     (g.D.Desk.told c.open_files.new.desk) (g.D.Desk.told c.close_files.new.desk) input output c.close_files.ensures)
 
-pub returns-in-Err : goal.returns-in-Err
-returns-in-Err g c =
+pub returns-in-Err-clause-converts : goal.returns-in-Err-clause-converts
+returns-in-Err-clause-converts g c =
     converts_unopened (g.T.Target.command.meaning (config_of (arguments_of c.args.arguments.now) c.args.setup)) c.args.arguments.now.names.capture.now c.args.arguments.now.names.out.now c.in-Err.fault (g.D.Desk.told c.args.desk.now) _ c.in-Err.ensures.refused

@@ -5,9 +5,9 @@ use Rattle.tesla_run_stress.specs.Stress.{stress}
 use Rattle.tesla_run_stress.proofs.Runs.{performs}
 use Rattle.tesla_run_stress.proofs.run.run_stress.Goals as goal
 
-pub returns-in-Some : goal.returns-in-Some
-returns-in-Some g c =
+pub returns-in-Some-clause-runs : goal.returns-in-Some-clause-runs
+returns-in-Some-clause-runs g c =
     rw c.outcome_of.ensures (runs_form stress arguments_of (map string_bytes c.args.words.now) c.arguments_in.result c.in-Some.arguments _ _ _ c.in-Some.is c.arguments_in.ensures.only c.in-Some.ensures.found (performs _ _ _ c.perform.ensures))
 
-pub returns-in-None : goal.returns-in-None
-returns-in-None g c = runs_usage stress arguments_of (map string_bytes c.args.words.now) c.arguments_in.result _ c.in-None.is c.arguments_in.ensures.only
+pub returns-in-None-clause-runs : goal.returns-in-None-clause-runs
+returns-in-None-clause-runs g c = runs_usage stress arguments_of (map string_bytes c.args.words.now) c.arguments_in.result _ c.in-None.is c.arguments_in.ensures.only

@@ -4,9 +4,9 @@ use Rattle.tesla_run_ask.specs.lag.Arguments.{arguments_of}
 use Rattle.tesla_run_ask.specs.lag.Lag.{lag}
 use Rattle.tesla_run_ask.proofs.lag.run.run_lag.Goals as goal
 
-pub returns-in-Some : goal.returns-in-Some
-returns-in-Some g c =
-    rw c.outcome_of.ensures (runs_form lag arguments_of (map string_bytes c.args.words.now) c.arguments_in.result c.in-Some.arguments _ _ _ c.in-Some.is c.arguments_in.ensures.only c.in-Some.ensures.found c.perform.ensures)
+pub returns-in-Some-clause-runs : goal.returns-in-Some-clause-runs
+returns-in-Some-clause-runs g c =
+    rw c.outcome_of.ensures (runs_form lag arguments_of (map string_bytes c.args.words.now) c.arguments_in.result c.in-Some.arguments _ _ _ c.in-Some.is c.arguments_in.ensures.only c.in-Some.ensures.found c.perform.ensures.performs)
 
-pub returns-in-None : goal.returns-in-None
-returns-in-None g c = runs_usage lag arguments_of (map string_bytes c.args.words.now) c.arguments_in.result _ c.in-None.is c.arguments_in.ensures.only
+pub returns-in-None-clause-runs : goal.returns-in-None-clause-runs
+returns-in-None-clause-runs g c = runs_usage lag arguments_of (map string_bytes c.args.words.now) c.arguments_in.result _ c.in-None.is c.arguments_in.ensures.only
