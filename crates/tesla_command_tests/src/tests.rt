@@ -6,6 +6,7 @@ mod feeds;
 mod flags;
 mod live;
 mod loads;
+mod long;
 mod paces;
 mod pages;
 mod replays;
@@ -14,6 +15,7 @@ mod sure;
 mod texts;
 mod times;
 mod traces;
+mod untold;
 
 use counting::wrong_counts;
 use pages::new_desk;
@@ -31,36 +33,6 @@ use tesla_test_desk::{Row, run_result, set_pieces, words_of};
 /// More bytes than any page has.
 const WHOLE: usize = 100_000;
 
-// The status of words of a live command.
-fn status_of_live<R: Threads + Wait + Sync, D: Desk>(
-    rt: &R,
-    alloc: Global,
-    words: &[String],
-    desk: &mut D,
-) -> u8 {
-    run_live(rt, alloc, words, desk).status
-}
-
-// The status of words of the command that records.
-fn status_of_recorded<R: Threads + Wait + Sync, D: Desk>(
-    rt: &R,
-    alloc: Global,
-    words: &[String],
-    desk: &mut D,
-) -> u8 {
-    run_recorded(rt, alloc, words, desk).status
-}
-
-// The status of words of a live tool.
-fn status_of_tools<R: Threads + Wait + Sync, D: Desk>(
-    rt: &R,
-    alloc: Global,
-    words: &[String],
-    desk: &mut D,
-) -> u8 {
-    run_live_tools(rt, alloc, words, desk).status
-}
-
 // The status of all other words.
 fn status_of_program<D: Desk>(
     alloc: Global,
@@ -77,20 +49,20 @@ fn status_of_program<D: Desk>(
 }
 
 // The status of words, by the call that the program makes for them.
-fn status_of<R: Threads + Wait + Sync, D: Desk>(
+fn status_of<R: Threads + Wait + Sync>(
     rt: &R,
     alloc: Global,
     words: Vec<String>,
-    desk: &mut D,
+    desk: &mut MemoryDesk,
 ) -> u8 {
     if is_live(words.as_slice()) {
-        return status_of_live(rt, alloc, words.as_slice(), desk);
+        return run_live(rt, alloc, words.as_slice(), desk).status;
     }
     if is_recorded(words.as_slice()) {
-        return status_of_recorded(rt, alloc, words.as_slice(), desk);
+        return run_recorded(rt, alloc, words.as_slice(), desk).status;
     }
     if is_live_tool(words.as_slice()) {
-        return status_of_tools(rt, alloc, words.as_slice(), desk);
+        return run_live_tools(rt, alloc, words.as_slice(), desk).status;
     }
     status_of_program(alloc, Ok(words), desk)
 }

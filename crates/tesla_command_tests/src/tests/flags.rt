@@ -11,7 +11,7 @@ use std::sync::atomic::Ordering::SeqCst;
 use std::test::*;
 use std::thread::{Threads, yield_now};
 use tesla_cli_live::run_live;
-use tesla_desk::{Desk, Gate, OpenRefusal};
+use tesla_desk::{Environment, Gate, OpenRefusal, SinkOutput};
 use tesla_memory_desk::{Heap, Letters, MemoryDesk, Outbox, Pages, Readings};
 use tesla_test_desk::words_of;
 
@@ -66,10 +66,12 @@ struct FlagDesk<'a> {
     flags: &'a Flags,
 }
 
-impl<'a> Desk for FlagDesk<'a> {
+impl<'a> Environment for FlagDesk<'a> {
     type In = Pages;
 
     type Out = Heap;
+
+    type Pieces = SinkOutput<Heap>;
 
     type Wire = Letters;
 
@@ -85,8 +87,12 @@ impl<'a> Desk for FlagDesk<'a> {
         self.desk.open_source(name)
     }
 
-    fn open_sink(&mut self, name: &str) -> Result<Heap, OpenRefusal> {
-        self.desk.open_sink(name)
+    fn open_console(&mut self) -> Result<Heap, OpenRefusal> {
+        self.desk.open_console()
+    }
+
+    fn open_output(&mut self, name: &str) -> Result<SinkOutput<Heap>, OpenRefusal> {
+        self.desk.open_output(name)
     }
 
     fn close_source(&mut self, it: Pages) {
@@ -95,6 +101,10 @@ impl<'a> Desk for FlagDesk<'a> {
 
     fn close_sink(&mut self, it: Heap) {
         self.desk.close_sink(it);
+    }
+
+    fn close_output(&mut self, it: SinkOutput<Heap>) {
+        self.desk.close_output(it);
     }
 
     fn open_link(&mut self, name: &str) -> Result<Letters, OpenRefusal> {

@@ -12,20 +12,19 @@ use std::thread::{Threads, yield_now};
 use tesla_desk::{Gate, Got, Link, Post, PostStep};
 use tesla_relay::{PostCount, relay};
 
-/// How many datagrams the link brings.
-const DATAGRAMS: u8 = 5;
-
 /// How often a gate looks whether it may go on, at most.
 const LOOKS: u64 = 1_000_000;
 
 /// What the threads share.
 #[derive(Drop)]
 struct Pace {
+    // How many datagrams the link brings.
+    datagrams: u64,
     // How many turns the link's gate saw end.
     heard: AtomicU64,
-    // How many datagrams the post sent, and the last bytes of them, one behind another.
+    // How many datagrams the post sent, and how many of them hadn't the number behind that of the one before.
     sent: AtomicU64,
-    bytes: AtomicU64,
+    disordered: AtomicU64,
     // How many gates looked in vain.
     missed: AtomicU64,
 }
@@ -53,7 +52,7 @@ impl PaceGate<'_> {
         let heard = self.pace.heard.load(SeqCst);
         match self.hold {
             Hold::Nothing => true,
-            Hold::AllHeard => u64::from(DATAGRAMS) <= heard,
+            Hold::AllHeard => self.pace.datagrams <= heard,
             Hold::AllSent => heard <= self.pace.sent.load(SeqCst),
         }
     }
@@ -81,10 +80,11 @@ impl Gate for PaceGate<'_> {
     }
 }
 
-/// A link that brings datagrams of one byte, which are numbered from 1.
+/// A link that brings datagrams of eight bytes, which are numbered from 1.
 #[derive(Drop)]
 struct Numbers {
-    last: u8,
+    last: u64,
+    datagrams: u64,
 }
 
 impl Link for Numbers {
@@ -95,12 +95,12 @@ impl Link for Numbers {
     ghost name = { λ _. [] };
 
     fn next(&mut self, into: &mut [u8; 2048]) -> Got {
-        if DATAGRAMS <= self.last {
+        if self.datagrams <= self.last {
             return Got::End;
         }
         self.last += 1;
-        into[0] = self.last;
-        Got::Datagram(1)
+        into[..8].copy_from_slice(&self.last.to_be_bytes());
+        Got::Datagram(8)
     }
 }
 
@@ -118,21 +118,20 @@ impl Post for PacedPost<'_> {
     ghost name = { λ _. [] };
 
     fn send(&mut self, datagram: &[u8]) -> PostStep {
-        for byte in datagram {
-            let bytes = self.pace.bytes.load(SeqCst);
-            self.pace
-                .bytes
-                .store((bytes << 8) | u64::from(*byte), SeqCst);
+        let number = self.pace.sent.fetch_add(1, SeqCst).saturating_add(1);
+        if datagram != number.to_be_bytes().as_slice() {
+            self.pace.disordered.fetch_add(1, SeqCst);
         }
-        self.pace.sent.fetch_add(1, SeqCst);
         PostStep::Sent
     }
 }
 
-// What a relay to one post comes to, where the link and the post are held so.
+// What a relay of so many datagrams to one post comes to, where the link and the post are held so: what became of them, and
+// how many were sent out of order and how many gates looked in vain.
 fn relayed<R: Threads + Wait + Sync>(
     rt: &R,
     alloc: Global,
+    datagrams: u64,
     capacity: u32,
     link_hold: Hold,
     post_hold: Hold,
@@ -140,9 +139,10 @@ fn relayed<R: Threads + Wait + Sync>(
     requires { (1 ≤ capacity) × (capacity ≤ 4096) }
 {
     let pace = &Pace {
+        datagrams,
         heard: AtomicU64::new(0),
         sent: AtomicU64::new(0),
-        bytes: AtomicU64::new(0),
+        disordered: AtomicU64::new(0),
         missed: AtomicU64::new(0),
     };
     let mut posts = Vec::new(alloc);
@@ -153,7 +153,7 @@ fn relayed<R: Threads + Wait + Sync>(
         hold: post_hold,
         is_of_link: false,
     })?;
-    let mut link = Numbers { last: 0 };
+    let mut link = Numbers { last: 0, datagrams };
     let mut gate = PaceGate {
         pace,
         hold: link_hold,
@@ -162,22 +162,38 @@ fn relayed<R: Threads + Wait + Sync>(
     let relayed = relay(
         rt, alloc, &mut link, &mut gate, &mut posts, &mut gates, capacity,
     )?;
-    let (bytes, missed) = (pace.bytes.load(SeqCst), pace.missed.load(SeqCst));
-    Ok((relayed.post(0), bytes, missed))
+    let (disordered, missed) = (pace.disordered.load(SeqCst), pace.missed.load(SeqCst));
+    Ok((relayed.post(0), disordered, missed))
 }
 
 // A slow post drops what its queue has no room for, and a fast one nothing.
 #[test]
 fn posts_of_two_paces(rt: HostRuntime) -> Result<(), Fail> {
-    let (count, bytes, missed) = relayed(&rt, rt.alloc(), 2, Hold::Nothing, Hold::AllHeard)?;
+    let (count, disordered, missed) = relayed(
+        &rt,
+        rt.alloc(),
+        5,
+        2,
+        Hold::Nothing,
+        Hold::AllHeard,
+    )?;
     assert_eq!(rt;
-        (count.sent, count.dropped, bytes, missed),
-        (2, 3, 0x0102, 0)
+        (count.sent, count.dropped, disordered, missed),
+        (2, 3, 0, 0)
     );
-    let (count, bytes, missed) = relayed(&rt, rt.alloc(), 1, Hold::AllSent, Hold::Nothing)?;
-    assert_eq!(rt;
-        (count.sent, count.dropped, bytes, missed),
-        (5, 0, 0x01_0203_0405, 0)
-    );
+    for datagrams in [5, 100_000] {
+        let (count, disordered, missed) = relayed(
+            &rt,
+            rt.alloc(),
+            datagrams,
+            1,
+            Hold::AllSent,
+            Hold::Nothing,
+        )?;
+        assert_eq!(rt;
+            (count.sent, count.dropped, disordered, missed),
+            (datagrams, 0, 0, 0)
+        );
+    }
     Ok(())
 }

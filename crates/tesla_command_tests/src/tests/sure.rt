@@ -1,11 +1,12 @@
 //! Runs over a desk on which no call from outside fails.
 
 use super::pages::new_desk;
-use super::status_of;
+use super::status_of_program;
 use std::alloc::Global;
 use std::sync::Wait;
 use std::test::Fail;
 use std::thread::Threads;
+use tesla_cli_live::{is_live, run_live};
 use tesla_desk::Letter;
 use tesla_memory_desk::{MemoryDesk, SureDesk};
 use tesla_test_desk::words_of;
@@ -32,6 +33,19 @@ fn set_up_from_pages(alloc: Global, desk: &mut SureDesk) -> Result<(), Fail> {
     let set = set_up(desk, &pages);
     drop(pages);
     set
+}
+
+// The status of words, by the call that the program makes for them.
+fn status_of<R: Threads + Wait + Sync>(
+    rt: &R,
+    alloc: Global,
+    words: Vec<String>,
+    desk: &mut SureDesk,
+) -> u8 {
+    if is_live(words.as_slice()) {
+        return run_live(rt, alloc, words.as_slice(), desk).status;
+    }
+    status_of_program(alloc, Ok(words), desk)
 }
 
 // The status of a run over a desk that is set so.

@@ -2,7 +2,7 @@
 
 use std::test::Fail;
 use std::time::Instant;
-use tesla_desk::{Desk, Gate};
+use tesla_desk::{Environment, Gate};
 use tesla_live::{Command, Gates, LiveDesk};
 
 /// How often the gates rest. Without a wake-up each rest lasts 100 milliseconds.

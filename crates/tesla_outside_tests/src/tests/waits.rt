@@ -1,6 +1,6 @@
 //! A link of the local machine that is told a wait.
 
-use tesla_desk::{Desk, Got, Link};
+use tesla_desk::{Environment, Got, Link};
 use tesla_live::{Command, Gates, LiveDesk};
 
 // How many quiets a link tells that is told a wait of 5 milliseconds, and what it answers behind them.

@@ -16,7 +16,7 @@ use tesla_base::Steps;
 use tesla_desk::{Clock, Got, Link, OpenGate};
 use tesla_receiver::{Config, Entry, Receiver, Report, Take, Verdict};
 use tesla_shared::*;
-use tesla_turn::{Chronicle, Pass, Turn};
+use tesla_turn::{Chronicle, Pass, Permitting, Turn};
 
 // How many datagrams come to each worker.
 const EACH: u64 = 2_000;
@@ -38,6 +38,10 @@ impl Chronicle for Rising {
     ghost config = { λ rising. rising.receiver.config };
 
     ghost stands = { λ rising h. Stands rising.receiver h };
+}
+
+impl Permitting for Rising {
+    ghost permits = { λ _ _ _ _. Unit {0} };
 }
 
 impl Station for Rising {
@@ -88,6 +92,10 @@ impl Clock for OneMore<'_> {
 
     fn now(&mut self) -> u64 {
         self.count.fetch_add(1, SeqCst)
+    }
+
+    fn now_for(&mut self, _datagram: &[u8]) -> u64 {
+        self.now()
     }
 }
 

@@ -14,7 +14,7 @@ use std::sync::atomic::Ordering::SeqCst;
 use std::test::*;
 use std::thread::{Threads, join, yield_now};
 use tesla_base::NoMemory;
-use tesla_turn::examples::{Add, Append, Numbers, Sum};
+use tesla_turn::examples::{Add, Append, LimitedSum, Numbers, Sum, add_most};
 use tesla_turn::laws::one_history;
 use tesla_turn::{Act, Last, NoRoom, Pass, SeatSpent, Turn};
 
@@ -49,6 +49,16 @@ fn a_dropped_pass_takes_nothing_along(rt: HostRuntime) -> Result<(), Fail> {
     assert!(rt; turn.perform(&rt, &mut first, &mut act) == Ok(None));
     let (numbers, _last) = turn.close(&rt, first);
     assert!(rt; numbers.items.as_slice() == [5].as_slice());
+    Ok(())
+}
+
+#[test]
+fn a_sum_to_which_a_call_adds_the_most(rt: HostRuntime) -> Result<(), Fail> {
+    let (turn, mut first) = Turn::open(rt.alloc(), LimitedSum { total: 0, most: 3 }, 1, 2)?;
+    add_most(&rt, &turn, &mut first, 3);
+    assert!(rt; first.left() == 1);
+    let (sum, _last) = turn.close(&rt, first);
+    assert_eq!(rt; sum.total, 3);
     Ok(())
 }
 

@@ -1,6 +1,7 @@
 //! Workers over what a desk in memory has, with the frames of the worked examples.
 
-ghost use Rattle.std.specs.Prelude.{◌≡◌, ◌<◌, ◌≤◌, ◌^◌, IfOk};
+ghost use Rattle.std.specs.Prelude.{◌≡◌, ◌<◌, ◌≤◌, ◌^◌, IfOk, Some};
+ghost use Rattle.tesla_fitting.specs.declared.config.Config.{Config};
 ghost use Rattle.tesla_turn.specs.Held.{OnlyCalls, left_of};
 
 use super::{further_pass, receiver_of};
@@ -8,12 +9,15 @@ use std::alloc::Global;
 use std::sync::Wait;
 use std::test::*;
 use std::thread::yield_now;
-use tesla_desk::{Desk, Gate};
+use tesla_desk::{Environment, Gate, SinkOutput};
 use tesla_memory_desk::{Heap, Letters, MemoryDesk, Readings};
 use tesla_receiver::Receiver;
 use tesla_shared::*;
 use tesla_test_desk::Row;
-use tesla_turn::{Pass, Turn};
+use tesla_turn::{Last, Pass, Turn};
+
+/// What the workers share: a receiver whose arrivals are read by clocks in memory.
+type Shared = Witnessed<Receiver, Readings>;
 
 // Tells what it is called for, as a letter each: `b` before a turn and `a` after it, `r` for released, `q` for quiet,
 // and `e` for rest, where it gives the processor away.
@@ -92,12 +96,12 @@ told 0 |
 holds out records
 ";
 
-// The link and the sink of a desk.
-fn outside(desk: &mut MemoryDesk) -> Result<(Letters, Heap), Fail> {
+// The link and the output of a desk.
+fn outside(desk: &mut MemoryDesk) -> Result<(Letters, SinkOutput<Heap>), Fail> {
     let Ok(link) = desk.open_link("link") else {
         return Err("no link".into());
     };
-    let Ok(out) = desk.open_sink("out") else {
+    let Ok(out) = desk.open_output("out") else {
         return Err("no sink".into());
     };
     Ok((link, out))
@@ -107,23 +111,26 @@ fn outside(desk: &mut MemoryDesk) -> Result<(Letters, Heap), Fail> {
 // and one for a sink.
 #[derive(Drop)]
 struct Begun {
-    turn: Turn<Receiver>,
-    first: Pass<Receiver>,
-    link: Pass<Receiver>,
-    sink: Pass<Receiver>,
+    turn: Turn<Shared>,
+    first: Pass<Shared>,
+    link: Pass<Shared>,
+    sink: Pass<Shared>,
     ghost first_of: { (first.turn ≡ turn) × (first.number ≡ 0) },
-    ghost link_of: { link.turn ≡ turn },
-    ghost sink_of: { sink.turn ≡ turn },
+    ghost link_of: { (link.turn ≡ turn) × (link.number ≡ 1) },
+    ghost sink_of: { (sink.turn ≡ turn) × (sink.number ≡ 2) },
+    ghost ingests: { (config : Config) → sink.config ≡ Some config → config.ingests ≡ 1 },
 }
 
 // These passes of one turn. Its facts are proved here, where nothing is let go.
 fn begun_of(
-    turn: Turn<Receiver>,
-    first: Pass<Receiver>,
-    link: Pass<Receiver>,
-    sink: Pass<Receiver>,
+    turn: Turn<Shared>,
+    first: Pass<Shared>,
+    link: Pass<Shared>,
+    sink: Pass<Shared>,
 ) -> Begun
-    requires { (first.turn ≡ turn) × (first.number ≡ 0) × (link.turn ≡ turn) × (sink.turn ≡ turn) }
+    requires own { (first.turn ≡ turn) × (link.turn ≡ turn) × (sink.turn ≡ turn) }
+    requires numbers { (first.number ≡ 0) × (link.number ≡ 1) × (sink.number ≡ 2) }
+    requires ingests { (config : Config) → sink.config ≡ Some config → config.ingests ≡ 1 }
     ensures { result.link ≡ link }
 {
     Begun {
@@ -138,7 +145,7 @@ fn opened(alloc: Global, calls: u64) -> Result<Begun, Fail>
     requires { calls ≤ 2 ^ 40 }
     ensures { IfOk result (λ it. left_of it.link ≡ calls) }
 {
-    let (turn, mut first) = Turn::open(alloc, receiver_of(alloc, 1)?, 3, calls)?;
+    let (turn, mut first) = Turn::open(alloc, Witnessed::new(receiver_of(alloc, 1)?), 3, calls)?;
     let link = further_pass(&turn, &mut first)?;
     let sink = further_pass(&turn, &mut first)?;
     Ok(begun_of(turn, first, link, sink))
@@ -148,30 +155,33 @@ fn opened(alloc: Global, calls: u64) -> Result<Begun, Fail>
 // events there were.
 fn closed<R: Wait>(
     rt: &R,
-    turn: Turn<Receiver>,
-    mut first: Pass<Receiver>,
-    link: Pass<Receiver>,
-    sink: Pass<Receiver>,
+    turn: Turn<Shared>,
+    mut first: Pass<Shared>,
+    link: Pass<Shared>,
+    sink: Pass<Shared>,
 ) -> u64
     requires own { (first.turn ≡ turn) × (link.turn ≡ turn) × (sink.turn ≡ turn) }
     requires first { first.number ≡ 0 }
 {
     turn.join(&mut first, link);
     turn.join(&mut first, sink);
-    let (receiver, last) = turn.close(rt, first);
-    laws::whole_history(&receiver, &last);
+    let (shared, last) = turn.close(rt, first);
+    laws::whole_history(&shared, &last);
+    let _last: Last<Receiver> = last.of_value();
+    let receiver = shared.into_station();
     receiver.calls()
 }
 
 // Runs the worker of a link.
 fn hears<R: Wait>(
     rt: &R,
-    turn: &Turn<Receiver>,
-    mut pass: Pass<Receiver>,
+    turn: &Turn<Shared>,
+    mut pass: Pass<Shared>,
     link: &mut Letters,
     mut clock: Readings,
-) -> (LinkEnd, CallRecord, Pass<Receiver>)
-    requires { (pass.turn ≡ turn.now) × (0 < left_of pass) }
+) -> (LinkEnd, CallRecord, Pass<Shared>)
+    requires own { (pass.turn ≡ turn.now) × (pass.number ≡ 1) }
+    requires left { 0 < left_of pass }
     ensures { OnlyCalls pass result.2 }
 {
     let mut gate = CallRecord {
@@ -185,11 +195,12 @@ fn hears<R: Wait>(
 // Runs the worker of a sink.
 fn drains<R: Wait>(
     rt: &R,
-    turn: &Turn<Receiver>,
-    mut pass: Pass<Receiver>,
-    out: &mut Heap,
-) -> (SinkEnd, CallRecord, Pass<Receiver>)
-    requires { pass.turn ≡ turn.now }
+    turn: &Turn<Shared>,
+    mut pass: Pass<Shared>,
+    out: &mut SinkOutput<Heap>,
+) -> (SinkEnd, CallRecord, Pass<Shared>)
+    requires own { (pass.turn ≡ turn.now) × (pass.number ≡ 2) }
+    requires ingests { (config : Config) → pass.config ≡ Some config → config.ingests ≡ 1 }
     ensures { OnlyCalls pass result.2 }
 {
     let mut gate = CallRecord {
@@ -221,7 +232,7 @@ fn one_after_the_other<R: Wait>(
     let (heard, hear_gate, hearing) = hears(rt, &turn, hearing, &mut link, desk.clock());
     let (drained, drain_gate, draining) = drains(rt, &turn, draining, &mut out);
     desk.close_link(link);
-    desk.close_sink(out);
+    desk.close_output(out);
     let events = closed(rt, turn, first, hearing, draining);
     let (hear_calls, drain_calls) = (hear_gate.text(), drain_gate.text());
     Ok(format!(in alloc; "{calls} {heard:?} {hear_calls} {drained:?} {drain_calls} {events}")?)
@@ -277,7 +288,7 @@ fn a_sink_with_nothing_to_write(rt: HostRuntime) -> Result<(), Fail> {
     } = begun;
     let (end, gate, sink) = drains(&rt, &turn, sink, &mut out);
     desk.close_link(letters);
-    desk.close_sink(out);
+    desk.close_output(out);
     closed(&rt, turn, first, link, sink);
     assert_eq!(rt; end, SinkEnd::Spent);
     assert_eq!(rt; gate.text(), "baebaebae");

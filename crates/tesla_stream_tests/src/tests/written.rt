@@ -5,7 +5,7 @@ use tesla_base::Head;
 use tesla_capture::{
     CaptureFormat, ScriptFormat, laws, write_arrival, write_head, write_record, write_take,
 };
-use tesla_desk::{Desk, Sink};
+use tesla_desk::{Desk, Environment, Sink};
 use tesla_memory_desk::MemoryDesk;
 use tesla_state::Take;
 use tesla_trace::{EntryBuffer, write_entry};
