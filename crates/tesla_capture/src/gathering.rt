@@ -1,6 +1,6 @@
 //! Records of captures, of scripts and of released packets, gathered before they are written.
 
-ghost use Rattle.std.specs.Prelude.{◌≡◌, ◌≤◌, ◌+◌, [], ◌++◌, length, true, false};
+ghost use Rattle.std.specs.Prelude.{◌≡◌, ◌≤◌, ◌<◌, ◌+◌, [], ◌++◌, length, true, false};
 ghost use Rattle.tesla_desk.specs.Faults.{HasCause};
 ghost use Rattle.tesla_desk.specs.Outside.{AppendsPrefix, with_bytes};
 ghost use Rattle.tesla_capture.specs.Capture.{head as capture_head, record_text, Arrives, Takes};
@@ -240,6 +240,57 @@ impl Gatherer {
             self.length = 0;
         }
         written
+    }
+
+    /// Puts the record of an arrival of at most 2,048 bytes, with the reading of the receiver's clock in
+    /// microseconds, behind the records gathered, where there is room for it. It takes no memory.
+    pub fn add_arrival(&mut self, reading: u64, bytes: &[u8])
+        requires short { length bytes.now ≤ 2048 }
+        requires room { length (gathered self.old) + 11 + length bytes.now ≤ 8192 }
+        ensures { gathered self.new ≡ gathered self.old ++ record_text (Arrives reading bytes.now) }
+    {
+        self.append_both(&arrival_bytes(reading, bytes.len() as u16), bytes);
+    }
+
+    /// Puts the record of a take behind the records gathered, where there is room for it. It takes no memory.
+    pub fn add_take(&mut self)
+        requires { length (gathered self.old) + 1 ≤ 8192 }
+        ensures { gathered self.new ≡ gathered self.old ++ record_text Takes }
+    {
+        self.append(&[2]);
+    }
+
+    /// Puts the record of a released packet, whose payload has the head's length of at most 1,200 bytes, behind the records
+    /// gathered, where there is room for it. It takes no memory.
+    pub fn add_release(&mut self, head: &Head, payload: &[u8])
+        requires same { head.now.length ≡ length payload.now }
+        requires limit { length payload.now ≤ 1200 }
+        requires room { length (gathered self.old) + 17 + length payload.now ≤ 8192 }
+        ensures { gathered self.new ≡ gathered self.old ++ release_text head.now payload.now }
+    {
+        self.append_both(&head_bytes(head), payload);
+    }
+
+    /// Whether there is room for so many bytes behind the records gathered.
+    pub fn has_room(&self, more: usize) -> bool
+        ensures room { result ≡ true → length (gathered self.now) + more ≤ 8192 }
+        ensures none { result ≡ false → 8192 < length (gathered self.now) + more }
+    {
+        more <= PIECE - self.length
+    }
+
+    /// The bytes of the records gathered, for a caller that writes them itself.
+    pub fn bytes(&self) -> &[u8]
+        ensures { result.now ≡ gathered self.now }
+    {
+        &self.piece[..self.length]
+    }
+
+    /// Lets go of the records gathered, which the caller has written.
+    pub fn clear(&mut self)
+        ensures { gathered self.new ≡ [] }
+    {
+        self.length = 0;
     }
 
     /// Puts bytes, for which there is room, behind those gathered.

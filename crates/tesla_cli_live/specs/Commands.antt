@@ -5,7 +5,7 @@ use Rattle.tesla_desk.specs.Live.{Live}
 use Rattle.tesla_desk.specs.Outside.{Told}
 use Rattle.tesla_front.specs.OutcomeView.{OutcomeView}
 use Rattle.tesla_front.specs.Command.{Command, no_command}
-use Rattle.tesla_front.specs.Table.{IsFirst, RunsLeaving, RunsTable, command_in, is_named, where_named}
+use Rattle.tesla_front.specs.Table.{IsFirst, RunsTable, command_in, is_named, where_named}
 use Rattle.tesla_front.specs.Usage.{usage_line}
 use Rattle.tesla_receiver.specs.declared.history.Entry.{Entry}
 use Rattle.tesla_run_capture.specs.Capture.{capture}
@@ -50,10 +50,6 @@ IsReceive words = IsFirst (codes "receive") words
 abbrev pub live_usage : List ℕ
 live_usage = flat_map usage_line (receiving.usages ++ relaying.usages ++ playing.usages)
 
--- the words were run as those of their command; of relay and play, and of words that are no form, there is no history
-abbrev pub RunsLiveWords : List (List ℕ) → Told → Told → Option (Ended Entry) → OutcomeView → Type 0
-RunsLiveWords words old new last outcome = RunsLeaving (λ before now left. live_of before now left words) (IsReceive words) words old new last outcome
-
 -- one run of the words over a desk, with the console
 abbrev pub RunsLive : List (List ℕ) → Told → Told → Option (Ended Entry) → OutcomeView → Type 0
 RunsLive words old new last reported = RunsTable (λ before now left. live_of before now left words) (IsReceive words) live_usage words old new last reported
@@ -84,11 +80,6 @@ IsWatching words = IsFirst (codes "watch") words
 abbrev pub live_tool_usage : List ℕ
 live_tool_usage = flat_map usage_line (capturing.usages ++ feeding.usages ++ watches.usages)
 
--- the words were run as those of their tool; of capture and feed, and of words that are no form, there is no history
-abbrev pub RunsLiveToolWords : List (List ℕ) → Told → Told → Option (Ended Entry) → OutcomeView → Type 0
-RunsLiveToolWords words old new last outcome =
-    RunsLeaving (λ before now left. live_tool_of before now left words) (IsWatching words) words old new last outcome
-
 -- one run of the words over a desk, with the console
 abbrev pub RunsLiveTools : List (List ℕ) → Told → Told → Option (Ended Entry) → OutcomeView → Type 0
 RunsLiveTools words old new last reported =
@@ -103,10 +94,6 @@ IsRecorded words = is_named (codes "record" ∷ []) words ≡ true
 -- the usage lines
 abbrev pub record_usage : List ℕ
 record_usage = flat_map usage_line records.usages
-
--- the words were run as those of record; of words that are not its form there is no history
-abbrev pub RunsRecordedWords : List (List ℕ) → Told → Told → Option (Ended Entry) → OutcomeView → Type 0
-RunsRecordedWords words old new last outcome = RunsLeaving recording (Unit {0}) words old new last outcome
 
 -- one run of the words over a desk, with the console
 abbrev pub RunsRecorded : List (List ℕ) → Told → Told → Option (Ended Entry) → OutcomeView → Type 0

@@ -1,16 +1,21 @@
 //! The live commands: their forms, which word names each, and one run of them.
 
-ghost use Rattle.std.specs.Prelude.{◌≡◌, None, true, false, map, string_bytes};
+ghost use Rattle.std.specs.Prelude.{◌≡◌, None, true, false, map, string_bytes, List, Option, ℕ};
 ghost use Rattle.tesla_front.specs.OutcomeView.{OutcomeView, Usage, outcome_view, status_of};
 ghost use Rattle.tesla_front.specs.Command.{RunsAs};
 ghost use Rattle.tesla_front.specs.Run.{HasStatusCauses};
-ghost use Rattle.tesla_cli_live.specs.Commands.{IsLive, IsReceive, RunsLive, RunsLiveWords, live_of};
+ghost use Rattle.tesla_desk.specs.Outside.{Told};
+ghost use Rattle.tesla_front.specs.Table.{OpensConsole};
+ghost use Rattle.tesla_cli_live.specs.Allowed.{AllowsLive};
+ghost use Rattle.tesla_cli_live.specs.Commands.{IsLive, IsReceive, RunsLive, live_of};
 
 use std::alloc::Global;
 use std::sync::Wait;
 use std::thread::Threads;
-use tesla_desk::Desk;
-use tesla_front::{FormText, LiveRun, Outcome, is_named, run_table, without_history};
+use tesla_desk::Environment;
+use tesla_front::{
+    FormText, LiveRun, Outcome, is_named, open_console, report_run, without_history,
+};
 use tesla_receiver::Receiver;
 use tesla_run_receive::{RECEIVE, run_receive};
 use tesla_run_relay::play::{PLAY, run_play};
@@ -30,12 +35,13 @@ pub fn is_live(words: &[String]) -> bool
 
 // Runs the words as those of the command that the first of them names. `Usage` where it names none, or there is no
 // word, and then nothing was opened. There is a history behind `receive` alone.
-fn run_words<R: Threads + Wait + Sync, D: Desk>(
+fn run_words<R: Threads + Wait + Sync, D: Environment>(
     rt: &R,
     alloc: Global,
     words: &[String],
     desk: &mut D,
 ) -> LiveRun<Last<Receiver>>
+    requires { AllowsLive D.Pieces.name D.Pieces.written D.Pieces.may_write D.Port.name D.Port.sent D.Port.may_send D.Wire.brought D.Time.may_ask D.Time.gave D.Time.read_for (map string_bytes words.now) (D.told desk.old) }
     ensures runs { RunsAs (live_of (D.told desk.old).live (D.told desk.new).live result.last (map string_bytes words.now)) (map string_bytes words.now) (D.told desk.old) (D.told desk.new) (outcome_view result.outcome) }
     ensures none { outcome_view result.outcome ≡ Usage → result.last ≡ None }
     ensures others { (IsReceive (map string_bytes words.now) → ⊥) → result.last ≡ None }
@@ -47,6 +53,25 @@ fn run_words<R: Threads + Wait + Sync, D: Desk>(
         )),
         [word, ..] if word.as_str() == "play" => without_history(run_play(rt, alloc, words, desk)),
         _ => without_history(Outcome::Usage),
+    }
+}
+
+// Opens the console, runs the words, tells the console what they came to, and closes it.
+fn run_told<R: Threads + Wait + Sync, D: Environment>(
+    rt: &R,
+    alloc: Global,
+    words: &[String],
+    desk: &mut D,
+) -> LiveRun<Last<Receiver>>
+    requires allowed { (told : Told) (before : Option (List ℕ)) → OpensConsole (D.told desk.old) told before → AllowsLive D.Pieces.name D.Pieces.written D.Pieces.may_write D.Port.name D.Port.sent D.Port.may_send D.Wire.brought D.Time.may_ask D.Time.gave D.Time.read_for (map string_bytes words.now) told }
+    ensures { RunsLive (map string_bytes words.now) (D.told desk.old) (D.told desk.new) result.last (outcome_view result.outcome) }
+{
+    match open_console(desk) {
+        Ok(console) => {
+            let run = run_words(rt, alloc, words, desk);
+            report_run(console, desk, &FORMS, run)
+        }
+        Err(fault) => without_history(Outcome::Failed(fault)),
     }
 }
 
@@ -70,23 +95,17 @@ pub struct Done {
 /// CAPTURE is no capture, and the arrivals before the place that is refused were sent. 4: a link, or a read of SETUP or
 /// CAPTURE, failed. 5: a write or a post failed. 6: there was no memory, and nothing was received or sent. 7: something
 /// wasn't opened. 11: the calls of a worker were spent.
-pub fn run_live<R: Threads + Wait + Sync, D: Desk>(
+pub fn run_live<R: Threads + Wait + Sync, D: Environment>(
     rt: &R,
     alloc: Global,
     words: &[String],
     desk: &mut D,
 ) -> Done
+    requires allowed { (told : Told) (before : Option (List ℕ)) → OpensConsole (D.told desk.old) told before → AllowsLive D.Pieces.name D.Pieces.written D.Pieces.may_write D.Port.name D.Port.sent D.Port.may_send D.Wire.brought D.Time.may_ask D.Time.gave D.Time.read_for (map string_bytes words.now) told }
     ensures outcome { (reported : OutcomeView) × (result.status ≡ status_of reported) × RunsLive (map string_bytes words.now) (D.told desk.old) (D.told desk.new) result.last reported }
     ensures causes { HasStatusCauses result.status (D.told desk.old).faults (D.told desk.new).faults }
 {
-    let run = run_table(
-        words,
-        desk,
-        &FORMS,
-        move |words: &[String], desk: &mut D|
-            ensures { RunsLiveWords (map string_bytes words.now) (D.told desk.old) (D.told desk.new) result.last (outcome_view result.outcome) }
-        { run_words(rt, alloc, words, desk) },
-    );
+    let run = run_told(rt, alloc, words, desk);
     Done {
         status: run.outcome.status(),
         last: run.last,

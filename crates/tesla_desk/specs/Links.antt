@@ -1,5 +1,5 @@
 -- What the calls of links do to the letters that these tell.
-use Rattle.std.specs.Prelude.{◌≡◌, ℕ, ◌≤◌, Bool, nat_le, true, List, [], ◌∷◌, ◌++◌, length, take, flat_map, Option, IfSome}
+use Rattle.std.specs.Prelude.{◌≡◌, ℕ, suc, ◌≤◌, Bool, nat_le, true, List, [], ◌∷◌, ◌++◌, length, take, flat_map, Option, IfSome}
 use Rattle.std.specs.Option.{option_map}
 use Rattle.tesla_desk.specs.declared.link.Letter.{Letter}
 use Rattle.tesla_desk.specs.declared.link.Letter.TheVariants as letters
@@ -40,3 +40,10 @@ Gets old new into (Datagram n) = BringsDatagram n old new into
 Gets old new into Quiet = old ≡ after_letters (letters.Quiet ∷ []) new
 Gets old new into End = EndsLink old new
 Gets old new into Failed = new ≡ old
+
+-- what one call of a link that has brought so many datagrams adds to them: a datagram has that number, and there is one more then
+abbrev pub Numbers : (ℕ → List ℕ → Bool) → (ℕ → Bool) → ℕ → List ℕ → Got → Type 0
+Numbers brought has_brought number into (Datagram n) = (brought number (take n into) ≡ true) × (has_brought (suc number) ≡ true)
+Numbers brought has_brought number into Quiet = has_brought number ≡ true
+Numbers brought has_brought number into End = has_brought number ≡ true
+Numbers brought has_brought number into Failed = has_brought number ≡ true

@@ -4,16 +4,20 @@
 
 mod clock;
 mod desk;
+mod environment;
 mod gate;
 mod link;
+mod output;
 mod post;
 mod sink;
 mod source;
 
 pub use clock::Clock;
 pub use desk::{CONSOLE, Desk, OpenRefusal};
+pub use environment::Environment;
 pub use gate::{Gate, OpenGate};
 pub use link::{Got, Letter, Link};
+pub use output::{Output, SinkOutput};
 pub use post::{Post, PostStep};
 pub use sink::{Sink, WriteStep, write_all};
 pub use source::{ReadStep, Source};

@@ -41,9 +41,9 @@ pub enum Got {
 
 /// Datagrams that come one after another.
 pub trait Link {
-    ghost use Rattle.std.specs.Prelude.{◌≡◌, Option, List, ℕ};
+    ghost use Rattle.std.specs.Prelude.{◌≡◌, Bool, Option, List, true, ℕ};
     ghost use Rattle.tesla_desk.specs.Faults.{HasCause};
-    ghost use Rattle.tesla_desk.specs.Links.{Gets};
+    ghost use Rattle.tesla_desk.specs.Links.{Gets, Numbers};
     ghost use Rattle.tesla_desk.specs.declared.link.Got.{Got};
     ghost use Rattle.tesla_desk.specs.declared.link.Letter.{Letter};
 
@@ -57,12 +57,19 @@ pub trait Link {
     /// The name that the link was opened under.
     ghost name: { Self → List ℕ };
 
+    /// The link has brought so many datagrams.
+    ghost has_brought: { Self → ℕ → Bool } = { λ _ _. true };
+
+    /// A link brought these bytes as its datagram of this number, counted from 0.
+    ghost brought: { ℕ → List ℕ → Bool } = { λ _ _. true };
+
     /// Takes the next letter, and puts a datagram, of at most 2,048 bytes, at the front of the buffer.
     /// `Failed` is answered exactly where the count of faults rose.
     fn next(&mut self, into: &mut [u8; MOST_DATAGRAM]) -> Got
         ensures step { Gets (left self.old) (left self.new) into.new result }
         ensures cause { HasCause (faults self.old) (faults self.new) (result ≡ Got.Failed) }
-        ensures name { name self.new ≡ name self.old };
+        ensures name { name self.new ≡ name self.old }
+        ensures numbered { (number : ℕ) → has_brought self.old number ≡ true → Numbers brought (has_brought self.new) number into.new result };
 
     /// Is told that something else is due in so many microseconds: the next call of `next` that brings nothing is to be
     /// quiet by then. Nothing is claimed of how long it waits, and this call takes nothing.
@@ -70,5 +77,6 @@ pub trait Link {
         ensures left { left self.new ≡ left self.old }
         ensures faults { faults self.new ≡ faults self.old }
         ensures name { name self.new ≡ name self.old }
+        ensures numbered { (number : ℕ) → has_brought self.old number ≡ true → has_brought self.new number ≡ true }
     {}
 }

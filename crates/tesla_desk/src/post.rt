@@ -1,6 +1,6 @@
 //! A post, which sends datagrams.
 
-ghost use Rattle.std.specs.Prelude.{◌≡◌, ◌≤◌, Option, List, ℕ, length};
+ghost use Rattle.std.specs.Prelude.{◌≡◌, ◌≤◌, Bool, Option, List, true, ℕ, length};
 ghost use Rattle.tesla_desk.specs.Faults.{HasCause};
 ghost use Rattle.tesla_desk.specs.Posts.{Posts};
 
@@ -25,10 +25,14 @@ pub trait Post {
     /// The name that the post was opened under.
     ghost name: { Self → List ℕ };
 
-    /// Sends a datagram of at most 2,048 bytes. `Failed` is answered exactly where the count of faults
+    /// The post may send this datagram.
+    ghost may_send: { Self → List ℕ → Bool } = { λ _ _. true };
+
+    /// Sends a datagram of at most 2,048 bytes, which it may send. `Failed` is answered exactly where the count of faults
     /// rose.
     fn send(&mut self, datagram: &[u8]) -> PostStep
-        requires { length datagram.now ≤ 2048 }
+        requires few { length datagram.now ≤ 2048 }
+        requires permitted { may_send self.old datagram.now ≡ true }
         ensures step { Posts (sent self.old) (sent self.new) datagram.now result }
         ensures cause { HasCause (faults self.old) (faults self.new) (result ≡ PostStep.Failed) }
         ensures name { name self.new ≡ name self.old };

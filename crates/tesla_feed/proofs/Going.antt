@@ -81,13 +81,15 @@ datagrams_more stream before (first ∷ log) call =
     ∙ ap (λ (b : List Call). datagram_of stream before first ++ (datagrams_from stream (before ++ first ∷ []) log ++ datagram_of stream b call)) (append_assoc before (first ∷ []) log)
     ∙ sym (append_assoc (datagram_of stream before first) (datagrams_from stream (before ++ first ∷ []) log) (datagram_of stream (before ++ first ∷ log) call))
 
+-- the datagrams of a log and of one call more
+pub datagrams_added : (stream : Stream) (log all : List Call) (call : Call) (datagram : List ℕ) → all ≡ log ++ call ∷ [] → datagram_of stream log call ≡ datagram ∷ [] → datagrams_of stream all ≡ datagrams_of stream log ++ datagram ∷ []
+datagrams_added stream log all call datagram more one = ap (datagrams_of stream) more ∙ datagrams_more stream [] log call ∙ ap (λ (ds : List (List ℕ)). datagrams_of stream log ++ ds) one
+
 -- an event made a frame, and it was handed to the posts
 pub goes_some : (stream : Stream) (first size : ℕ) (made after : Feeding) (first_posts posts posts_now : List PostSeen) (feeder now : Feeder) (failed failed_now : List Bool) → Goes stream first made first_posts feeder posts failed → Makes stream first made after now (Some size)
     → HandPosts (take size now.frame) posts posts_now failed failed_now → Goes stream first after first_posts now posts_now failed_now
 goes_some stream first size made after first_posts posts posts_now feeder now failed failed_now goes makes hands =
-    let call = makes.adds.0 in
-    let all : datagrams_of stream after.log ≡ datagrams_of stream made.log ++ take size now.frame ∷ [] =
-    ap (datagrams_of stream) makes.adds.1 ∙ datagrams_more stream [] made.log call ∙ ap (λ (ds : List (List ℕ)). datagrams_of stream made.log ++ ds) makes.adds.2 in
+    let all = datagrams_added stream made.log after.log makes.adds.0 (take size now.frame) makes.adds.1 makes.adds.2 in
     record {
       stands = makes.stands;
       sends = (let P : List (List ℕ) → Type 0 = λ ds. SendPosts ds first_posts posts_now failed_now in subst P (sym all) (posts_more (datagrams_of stream made.log) (take size now.frame) first_posts posts posts_now failed failed_now goes.sends hands));
@@ -155,7 +157,7 @@ opens_at reading before then after misses ticks read = record {
 
 -- ---- events
 
-fed_more : (stream : Stream) (first : ℕ) (made : Feeding) (events : List Event) (event : Event) → fed_after stream first made (events ++ event ∷ []) ≡ after_event stream first (fed_after stream first made events) event
+pub fed_more : (stream : Stream) (first : ℕ) (made : Feeding) (events : List Event) (event : Event) → fed_after stream first made (events ++ event ∷ []) ≡ after_event stream first (fed_after stream first made events) event
 fed_more stream first made events event = fold-append (after_event stream first) made events (event ∷ [])
 
 map_more : {A B : Type 0} (f : A → B) (xs : List A) (x : A) → map f (xs ++ x ∷ []) ≡ map f xs ++ f x ∷ []
@@ -175,7 +177,7 @@ abbrev pub TakesEvent : Event → Feeder → Feeder → List PostSeen → List P
 TakesEvent event feeder now posts posts_now failed failed_now =
     (made : Feeding) (firsts : List PostSeen) → Goes feeder.sender.stream feeder.first made firsts feeder posts failed → Goes feeder.sender.stream feeder.first (after_event feeder.sender.stream feeder.first made event) firsts now posts_now failed_now
 
-takes_as : (stream : Stream) (first : ℕ) (event : Event) (made : Feeding) (firsts : List PostSeen) (feeder now : Feeder) (posts posts_now : List PostSeen) (failed failed_now : List Bool) → TakesEvent event feeder now posts posts_now failed failed_now → Goes stream first made firsts feeder posts failed → Goes stream first (after_event stream first made event) firsts now posts_now failed_now
+pub takes_as : (stream : Stream) (first : ℕ) (event : Event) (made : Feeding) (firsts : List PostSeen) (feeder now : Feeder) (posts posts_now : List PostSeen) (failed failed_now : List Bool) → TakesEvent event feeder now posts posts_now failed failed_now → Goes stream first made firsts feeder posts failed → Goes stream first (after_event stream first made event) firsts now posts_now failed_now
 takes_as stream first event made firsts feeder now posts posts_now failed failed_now takes goes =
     let P : Stream → ℕ → Type 0 = λ s f. Goes s f made firsts feeder posts failed → Goes s f (after_event s f made event) firsts now posts_now failed_now in
     subst (λ (f : ℕ). P stream f) goes.stands.first_is (subst (λ (s : Stream). P s feeder.first) goes.stands.stream_is (takes made firsts)) goes
@@ -184,7 +186,7 @@ takes_as stream first event made firsts feeder now posts posts_now failed failed
 abbrev pub MakesNext : Feeder → Feeder → Type 0
 MakesNext feeder now = (made : Feeding) → StandsFor feeder.sender.stream feeder.first feeder made → StandsFor feeder.sender.stream feeder.first now made
 
-goes_next : (stream : Stream) (first : ℕ) (made : Feeding) (firsts : List PostSeen) (feeder now : Feeder) (posts : List PostSeen) (failed : List Bool) → MakesNext feeder now → Goes stream first made firsts feeder posts failed → Goes stream first made firsts now posts failed
+pub goes_next : (stream : Stream) (first : ℕ) (made : Feeding) (firsts : List PostSeen) (feeder now : Feeder) (posts : List PostSeen) (failed : List Bool) → MakesNext feeder now → Goes stream first made firsts feeder posts failed → Goes stream first made firsts now posts failed
 goes_next stream first made firsts feeder now posts failed next goes =
     let P : Stream → ℕ → Type 0 = λ s f. StandsFor s f feeder made → StandsFor s f now made in
     record {

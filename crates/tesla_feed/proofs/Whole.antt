@@ -24,7 +24,7 @@ unsent None = refl
 unsent (Some prefix) = ap (λ (ds : List (List ℕ)). Some ds) (sym (append-nil prefix))
 
 -- nothing was sent, and no post has failed
-pub none_sent : {A : Type 0} (f : A → PostSeen) (xs : List A) (marks : List Bool) → length xs ≤ length marks → list_all not marks ≡ true → SendPosts [] (map f xs) (map f xs) (take (length xs) marks)
+none_sent : {A : Type 0} (f : A → PostSeen) (xs : List A) (marks : List Bool) → length xs ≤ length marks → list_all not marks ≡ true → SendPosts [] (map f xs) (map f xs) (take (length xs) marks)
 none_sent f [] marks few none = tt
 none_sent f (x ∷ xs) [] few none = absurd (omega arith)
 none_sent f (x ∷ xs) (true ∷ marks) few none = absurd cc
@@ -34,13 +34,21 @@ none_sent f (x ∷ xs) (false ∷ marks) few none = (
 )
 
 -- the first interval has begun
-pub begun_stands : (stream : Stream) (first : ℕ) (feeder now : Feeder) (before after : Option Ticking) → StandsFor stream first feeder nothing_fed → Awaits feeder now before after → StandsFor now.sender.stream now.first now nothing_fed
+begun_stands : (stream : Stream) (first : ℕ) (feeder now : Feeder) (before after : Option Ticking) → StandsFor stream first feeder nothing_fed → Awaits feeder now before after → StandsFor now.sender.stream now.first now nothing_fed
 begun_stands stream first feeder now before after stands awaits =
     let P : Feeder → Type 0 = λ f. StandsFor f.sender.stream f.first f nothing_fed in
     let noted = noted_stands stream first feeder nothing_fed awaits.last stands in
     let it : Feeder = record feeder { reading = awaits.last } in
     let own = subst (λ (s : Stream). StandsFor s feeder.first it nothing_fed) (sym stands.stream_is) (subst (λ (f : ℕ). StandsFor stream f it nothing_fed) (sym stands.first_is) noted) in
     subst P (sym awaits.same) own
+
+-- and nothing was made or sent yet
+pub begun_goes : {P : Type 0} (seen : P → PostSeen) (stream : Stream) (first : ℕ) (feeder now : Feeder) (before after : Option Ticking) (posts : List P) (marks : List Bool) → StandsFor stream first feeder nothing_fed → Awaits feeder now before after → length posts ≤ length marks → list_all not marks ≡ true
+    → Goes now.sender.stream now.first nothing_fed (map seen posts) now (map seen posts) (take (length posts) marks)
+begun_goes seen stream first feeder now before after posts marks stands awaits few none = record {
+  stands = begun_stands stream first feeder now before after stands awaits;
+  sends = none_sent seen posts marks few none;
+}
 
 -- ---- readings
 
@@ -61,7 +69,7 @@ ended hearings.LinkFailed mid failed later stops no_fault stays some = absurd (n
 ended hearings.Unheard mid failed later stops no_fault stays some = absurd (both_ways (list_all has_failed failed) (ap (list_all has_failed) (stays stops) ∙ stops) some)
 
 -- what is made where the stream isn't over
-lasting_fed : (stream : Stream) (opening : ℕ) (events : List Event) → has_ended stream opening ≡ false → fed stream opening events ≡ fed_after stream (first_interval stream.setup.times opening) nothing_fed events
+pub lasting_fed : (stream : Stream) (opening : ℕ) (events : List Event) → has_ended stream opening ≡ false → fed stream opening events ≡ fed_after stream (first_interval stream.setup.times opening) nothing_fed events
 lasting_fed stream opening events lasts = ap (λ (over : Bool). if over then nothing_fed else fed_after stream (first_interval stream.setup.times opening) nothing_fed events) lasts
 
 -- the parts of a run, in order
@@ -76,7 +84,7 @@ pub record Parts (stream : Stream) (opening : ℕ) (opened begun heard told : Fe
   pub ends : list_all has_failed failed ≡ false → is_disclosed_after told.sender.stream told.message told.latest ≡ true
 
 -- what holds of a stream and a first interval holds of equal ones
-of_equal : (P : Stream → ℕ → Type 0) (own stream : Stream) (first from : ℕ) → own ≡ stream → first ≡ from → P own first → P stream from
+pub of_equal : (P : Stream → ℕ → Type 0) (own stream : Stream) (first from : ℕ) → own ≡ stream → first ≡ from → P own first → P stream from
 of_equal P own stream first from same_stream same_first holds = subst (λ (f : ℕ). P stream f) same_first (subst (λ (s : Stream). P s first) same_stream holds)
 
 pub feeds_all : (stream : Stream) (opening : ℕ) (opened begun heard told : Feeder) (marks failed : List Bool) (hearing : Hearing) (result : FeedEnd) (left later : Option (List Letter)) (first second third last : Option Ticking) (posts mid now : List PostSeen)

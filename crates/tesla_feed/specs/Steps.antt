@@ -1,17 +1,20 @@
 -- What the inner steps of a feed come to.
-use Rattle.std.specs.Prelude.{◌≡◌, ℕ, ◌+◌, ◌-◌, ◌^◌, ◌<◌, Bool, true, false, ◌&&◌, List, [], ◌∷◌, ◌++◌, length, map, min, nat_le, take, Option, Some, None, IfSome, if◌then◌else◌}
+use Rattle.std.specs.Prelude.{◌≡◌, ℕ, ◌+◌, ◌-◌, ◌*◌, ◌^◌, ◌<◌, Bool, true, false, ◌&&◌, List, [], ◌∷◌, ◌++◌, length, map, min, nat_le, take, Option, Some, None, IfSome, if◌then◌else◌}
 use Rattle.std.specs.List.{AllByRecursion, fold, list_all}
 use denote.Ref.{Bor}
+use Rattle.tesla_clock.specs.Schedule.{Times}
 use Rattle.tesla_desk.specs.Clocks.{Gives, Ticking}
 use Rattle.tesla_desk.specs.Faults.{HasCause}
 use Rattle.tesla_desk.specs.Links.{after_letters}
 use Rattle.tesla_desk.specs.declared.link.Letter.{Letter}
 use Rattle.tesla_desk.specs.declared.link.Letter.TheVariants as letters
+use Rattle.tesla_relay.specs.Opened.{post_name}
 use Rattle.tesla_relay.specs.Posts.{PostSeen, with_datagrams}
 use Rattle.tesla_sender.specs.Made.{Call, Chain, Stream, chains_of, index_disclosed, latest_of, messages_of, tells_all, tells_newer}
 use Rattle.tesla_sender.specs.declared.refusal.SendRefusal.{SendRefusal}
 use Rattle.tesla_sender.specs.declared.refusal.SendRefusal.TheVariants as unsent
-use Rattle.tesla_feed.specs.Fed.{Event, Received, Feeding, after_event, after_none, counts_of, datagram_of, datagrams_of, has_begun, is_unread, last_message, latest_from, nothing_fed, reading_of, disclosed_by}
+use Rattle.tesla_feed.specs.Due.{AreGiven, AreUnsent, MaySendDue, datagrams_by}
+use Rattle.tesla_feed.specs.Fed.{Event, Received, Feeding, after_event, after_none, counts_of, datagram_of, datagrams_of, first_interval, has_begun, has_ended, is_unread, last_message, latest_from, nothing_fed, reading_of, disclosed_by}
 use Rattle.tesla_feed.specs.Feed.{AreNeeded, Heard, SendPosts, received_of, has_failed, letter_of, rested_at}
 use Rattle.tesla_feed.specs.declared.counts.FeedCounts.{FeedCounts}
 use Rattle.tesla_feed.specs.declared.feeder.Feeder.{Feeder}
@@ -46,6 +49,11 @@ is_due_after stream first latest interval = nat_le first interval && (nat_le lat
 -- the key of the interval of the last message was disclosed on every chain, told the interval of the last call
 abbrev pub is_disclosed_after : Stream → ℕ → ℕ → Bool
 is_disclosed_after stream message latest = tells_all message latest (chains_of stream)
+
+-- how many microseconds after a reading an interval begins, 0 where it has begun. A begin behind the last reading of
+-- 64 bits counts as that
+abbrev pub until_begin : Times → ℕ → ℕ → ℕ
+until_begin times interval reading = min (times.start + interval * times.length) (2 ^ 64 - 1) - reading
 
 -- a feeder of the stream, whose first interval this is, remembers what it needs of what was made
 pub record StandsFor (stream : Stream) (first : ℕ) (feeder : Feeder) (made : Feeding) : Type 0 where
@@ -86,6 +94,13 @@ HandPosts datagram [] [] [] [] = Unit {0}
 HandPosts datagram (before ∷ befores) (now ∷ nows) (failed ∷ others) (failed_now ∷ others_now) = HandsPost datagram before now failed failed_now × HandPosts datagram befores nows others others_now
 HandPosts datagram befores nows failed failed_now = ⊥
 
+-- each of these posts that hasn't failed may send the datagram
+abbrev pub MayHand : {P : Type 0} → (P → List ℕ → Bool) → List ℕ → List P → List Bool → Type 0
+MayHand may_send datagram [] failed = Unit {0}
+MayHand may_send datagram (post ∷ posts) [] = Unit {0}
+MayHand may_send datagram (post ∷ posts) (failed ∷ others) =
+    (failed ≡ false → may_send post datagram ≡ true) × MayHand may_send datagram posts others
+
 -- ---- events
 
 -- what came: the bytes of a message, or none
@@ -106,6 +121,14 @@ noted before reading = if is_unread reading then before else reading
 pub record Goes (stream : Stream) (first : ℕ) (made : Feeding) (first_posts : List PostSeen) (feeder : Feeder) (posts : List PostSeen) (failed : List Bool) : Type 0 where
   pub stands : StandsFor stream first feeder made
   pub sends : SendPosts (datagrams_of stream made.log) first_posts posts failed
+
+-- the feeder stands for what was made, and the frame that is added to that may be sent by each post that hasn't failed
+pub record MayTake {P : Type 0} (may_send : P → List ℕ → Bool) (stream : Stream) (first : ℕ) (feeder : Feeder)
+    (after : Feeding → Feeding) (posts : List P) (failed : List Bool) : Type 0 where
+  pub made : Feeding
+  pub stands : StandsFor stream first feeder made
+  pub permitted : (call : Call) (datagram : List ℕ) → (after made).log ≡ made.log ++ call ∷ []
+      → datagram_of stream made.log call ≡ datagram ∷ [] → MayHand may_send datagram posts failed
 
 -- the clock couldn't be read
 pub record Misses (before after : Option Ticking) : Type 0 where
@@ -134,6 +157,29 @@ pub record Awaits (feeder now : Feeder) (before after : Option Ticking) : Type 0
 -- what these events make of what was made before
 abbrev pub fed_after : Stream → ℕ → Feeding → List Event → Feeding
 fed_after stream first made events = fold (after_event stream first) made events
+
+-- what was made is what came of events since an opening, at readings that the clock gave, with so many datagrams among them
+pub record ComesOfGiven (gave : ℕ → Bool) (read_for : ℕ → List ℕ → ℕ → Bool) (stream : Stream) (first number : ℕ)
+    (made : Feeding) : Type 0 where
+  pub opening : ℕ
+  pub opened : gave opening ≡ true
+  pub lasts : has_ended stream opening ≡ false
+  pub first_is : first_interval stream.setup.times opening ≡ first
+  pub events : List Event
+  pub given : AreGiven gave read_for 0 events
+  pub number_is : fold datagrams_by 0 events ≡ number
+  pub made_is : fed_after stream first nothing_fed events ≡ made
+
+-- a feed goes on: what was made came of such events, the posts sent that and nothing else, and may send what is due
+pub record GoesOn {P : Type 0} (seen : P → PostSeen) (may_send : P → List ℕ → Bool) (gave : ℕ → Bool)
+    (read_for : ℕ → List ℕ → ℕ → Bool) (stream : Stream) (first number : ℕ) (feeder : Feeder) (posts : List P)
+    (failed : List Bool) : Type 0 where
+  pub first_posts : List PostSeen
+  pub unsent : AreUnsent first_posts
+  pub due : MaySendDue seen may_send gave read_for (map post_name first_posts) stream
+  pub made : Feeding
+  pub comes : ComesOfGiven gave read_for stream first number made
+  pub goes : Goes stream first made first_posts feeder (map seen posts) failed
 
 -- items left the link, and what they ask for was done
 pub record Hears (stream : Stream) (first : ℕ) (feeder : Feeder) (failed : List Bool) (left later : Option (List Letter)) (before after : Option Ticking) (posts posts_now : List PostSeen) : Type 0 where

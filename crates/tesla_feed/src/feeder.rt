@@ -1,9 +1,10 @@
 //! The sender of a feed: which calls are made of it, and what it refuses.
 
-ghost use Rattle.std.specs.Prelude.{◌≡◌, ◌≤◌, [], false, IfSome};
+ghost use Rattle.std.specs.Prelude.{◌≡◌, ◌+◌, ◌≤◌, [], false, IfSome};
+ghost use Rattle.tesla_sender.specs.Made.{interval_at};
 ghost use Rattle.tesla_sender.specs.Stands.{Stands};
 ghost use Rattle.tesla_feed.specs.Fed.{Received, Feeding, after_event, after_none, first_interval, has_begun, is_unread, nothing_fed};
-ghost use Rattle.tesla_feed.specs.Steps.{Makes, StandsFor, after_item, after_unread, bytes_in, is_due_after, is_disclosed_after, noted};
+ghost use Rattle.tesla_feed.specs.Steps.{Makes, StandsFor, after_item, after_unread, bytes_in, is_due_after, is_disclosed_after, noted, until_begin};
 ghost use Rattle.tesla_desk.specs.declared.link.Letter.TheVariants as letters;
 
 use crate::FeedCounts;
@@ -171,18 +172,25 @@ impl Feeder {
         self.sender.make_next(steps);
     }
 
-    /// How many microseconds after the last reading the first interval begins.
-    pub fn until_first(&self) -> u64 {
+    /// How many microseconds after the last reading the first interval begins, 0 where it has begun.
+    pub fn until_first(&self) -> u64
+        ensures { result ≡ until_begin self.now.sender.stream.setup.times self.now.first self.now.reading }
+    {
         self.until(self.first)
     }
 
-    /// How many microseconds after the last reading the next interval begins.
-    pub fn until_next(&self) -> u64 {
+    /// How many microseconds after the last reading the next interval begins, in which the next keys are due.
+    pub fn until_next(&self) -> u64
+        ensures { let times = self.now.sender.stream.setup.times in
+            result ≡ until_begin times (interval_at times self.now.reading + 1) self.now.reading }
+    {
         self.until(self.sender.interval_at(self.reading).saturating_add(1))
     }
 
     // How many microseconds after the last reading an interval begins, 0 where it has begun.
-    fn until(&self, interval: u64) -> u64 {
+    fn until(&self, interval: u64) -> u64
+        ensures { result ≡ until_begin self.now.sender.stream.setup.times interval self.now.reading }
+    {
         let schedule = self.sender.schedule();
         let after = interval.saturating_mul(u64::from(schedule.length()));
         schedule

@@ -1,9 +1,11 @@
 //! A whole feed.
 
-ghost use Rattle.std.specs.Prelude.{◌≡◌, ◌≤◌, [], List, length, map, false, true};
+ghost use Rattle.std.specs.Prelude.{◌≡◌, ◌≤◌, ℕ, [], List, length, map, false, true};
 ghost use Rattle.tesla_desk.specs.Faults.{HasCause};
+ghost use Rattle.tesla_relay.specs.Opened.{post_name};
 ghost use Rattle.tesla_relay.specs.Posts.{PostSeen};
 ghost use Rattle.tesla_sender.specs.Stands.{Stands};
+ghost use Rattle.tesla_feed.specs.Due.{AreUnsent, MaySendDue};
 ghost use Rattle.tesla_feed.specs.Fed.{has_ended};
 ghost use Rattle.tesla_feed.specs.Feed.{Feeds};
 
@@ -38,6 +40,10 @@ pub struct FeedEnd {
 /// next one has begun. After the link's end or failure it goes on until the key of the last message's interval was disclosed
 /// on every chain. A post that fails sends no more; where all have failed the feed ends. It waits for the clock and for
 /// the link, and takes no memory.
+///
+/// Also in a run that never returns, each post is sent only what is due: the frames of one log of the sender, in order
+/// and each once, made of all datagrams that the link brought, at readings that the clock gave when it was asked for
+/// them, and of keys that are due at readings that it gave.
 pub fn feed<R: Wait, L: Ledger, K: Link, C: Clock, P: Post, G: Gate>(
     rt: &R,
     opened: OpenFeed,
@@ -50,6 +56,13 @@ pub fn feed<R: Wait, L: Ledger, K: Link, C: Clock, P: Post, G: Gate>(
     requires fresh { Stands opened.sender [] }
     requires lasts { has_ended opened.sender.stream opened.opening ≡ false }
     requires few { length posts.old ≤ 32 }
+    requires opening { C.gave opened.opening ≡ true }
+    requires none { K.has_brought link.old 0 ≡ true }
+    requires unsent { let seen : P → PostSeen = λ post. record { name = P.name post; sent = P.sent post; faults = P.faults post } in
+        AreUnsent (map seen posts.old) }
+    requires asks { (number : ℕ) (bytes : List ℕ) → K.brought number bytes ≡ true → C.may_ask number bytes ≡ true }
+    requires due { let seen : P → PostSeen = λ post. record { name = P.name post; sent = P.sent post; faults = P.faults post } in
+        MaySendDue seen P.may_send C.gave C.read_for (map post_name (map seen posts.old)) opened.sender.stream }
     ensures feeds { let seen : List P → List PostSeen = λ posts. map (λ post. record { name = P.name post; sent = P.sent post; faults = P.faults post }) posts in
         Feeds opened.sender.stream opened.opening result (K.left link.old) (K.left link.new) (C.told clock.old) (C.told clock.new) (seen posts.old) (seen posts.new) }
     ensures cause { HasCause (K.faults link.old) (K.faults link.new) (result.link_failed ≡ true) }

@@ -1,12 +1,12 @@
 //! What a feed does at each event, and the two loops of it: while the link brings items, and afterwards.
 
-ghost use Rattle.std.specs.Prelude.{◌≡◌, ◌≤◌, List, false, length, map, true};
+ghost use Rattle.std.specs.Prelude.{◌≡◌, ◌≤◌, ℕ, List, false, length, map, true};
 ghost use Rattle.tesla_desk.specs.Faults.{HasCause};
 ghost use Rattle.tesla_relay.specs.Posts.{PostSeen};
 ghost use Rattle.std.specs.List.{list_all};
 ghost use Rattle.tesla_feed.specs.Feed.{has_failed};
 ghost use Rattle.tesla_feed.specs.Fed.{Feeding, nothing_fed};
-ghost use Rattle.tesla_feed.specs.Steps.{Awaits, Goes, Hears, Rests, StopsHearing, StandsFor, is_disclosed_after, after_item, bytes_in};
+ghost use Rattle.tesla_feed.specs.Steps.{Awaits, Goes, GoesOn, Hears, MayTake, Rests, StopsHearing, StandsFor, is_disclosed_after, after_item, bytes_in};
 
 use crate::feeder::Feeder;
 use crate::posts::{hand, have_all_failed};
@@ -54,6 +54,9 @@ fn take_event<L: Ledger, P: Post>(
     steps: &mut Steps<L>,
 )
     requires each { length failed.old ≡ length posts.old }
+    requires permitted { let stream = feeder.old.sender.stream in let first = feeder.old.first in
+        let after : Feeding → Feeding = λ made. after_item stream first made reading (bytes_in payload) in
+        MayTake P.may_send stream first feeder.old after posts.old failed.old }
     ensures goes { let seen : List P → List PostSeen = λ posts. map (λ post. record { name = P.name post; sent = P.sent post; faults = P.faults post }) posts in
         (made : Feeding) (first_posts : List PostSeen) → Goes feeder.old.sender.stream feeder.old.first made first_posts feeder.old (seen posts.old) failed.old
         → Goes feeder.old.sender.stream feeder.old.first (after_item feeder.old.sender.stream feeder.old.first made reading (bytes_in payload.entry)) first_posts feeder.new (seen posts.new) failed.new }
@@ -66,7 +69,7 @@ fn take_event<L: Ledger, P: Post>(
 
 /// Takes one item after another off the link, and does what it asks for at one reading of the clock, until the link
 /// ends or fails or all posts have failed. Where no message came the keys of the next interval are made. It waits for
-/// the link.
+/// the link. The clock is asked for each datagram that came, and only what is due is sent.
 pub fn hear_all<R: Wait, L: Ledger, K: Link, C: Clock, P: Post>(
     rt: &R,
     feeder: &mut Feeder,
@@ -79,8 +82,15 @@ pub fn hear_all<R: Wait, L: Ledger, K: Link, C: Clock, P: Post>(
     requires each { length failed.old ≡ length posts.old }
     requires goes { let seen : List P → List PostSeen = λ posts. map (λ post. record { name = P.name post; sent = P.sent post; faults = P.faults post }) posts in
         Goes feeder.old.sender.stream feeder.old.first nothing_fed (seen posts.old) feeder.old (seen posts.old) failed.old }
+    requires asks { (number : ℕ) (bytes : List ℕ) → K.brought number bytes ≡ true → C.may_ask number bytes ≡ true }
+    requires none { K.has_brought link.old 0 ≡ true }
+    requires going { let seen : P → PostSeen = λ post. record { name = P.name post; sent = P.sent post; faults = P.faults post } in
+        GoesOn seen P.may_send C.gave C.read_for feeder.old.sender.stream feeder.old.first 0 feeder.old posts.old failed.old }
     ensures hears { let seen : List P → List PostSeen = λ posts. map (λ post. record { name = P.name post; sent = P.sent post; faults = P.faults post }) posts in
         Hears feeder.old.sender.stream feeder.old.first feeder.new failed.new (K.left link.old) (K.left link.new) (C.told clock.old) (C.told clock.new) (seen posts.old) (seen posts.new) }
+    ensures going { let seen : P → PostSeen = λ post. record { name = P.name post; sent = P.sent post; faults = P.faults post } in
+        let stream = feeder.old.sender.stream in
+        (number : ℕ) × GoesOn seen P.may_send C.gave C.read_for stream feeder.old.first number feeder.new posts.new failed.new }
     ensures stops { StopsHearing result failed.new (K.left link.new) }
     ensures cause { HasCause (K.faults link.old) (K.faults link.new) (result ≡ Hearing.LinkFailed) }
     ensures name { K.name link.new ≡ K.name link.old }
@@ -94,8 +104,9 @@ pub fn hear_all<R: Wait, L: Ledger, K: Link, C: Clock, P: Post>(
         link.wait_at_most(feeder.until_next());
         match link.next(&mut buffer) {
             Got::Datagram(length) => {
-                let payload = Some(&buffer[..length]);
-                take_event(feeder, clock.now(), payload, posts, failed, steps);
+                let datagram = &buffer[..length];
+                let reading = clock.now_for(datagram);
+                take_event(feeder, reading, Some(datagram), posts, failed, steps);
             }
             Got::Quiet => {
                 take_event(feeder, clock.now(), None, posts, failed, steps);
@@ -109,7 +120,7 @@ pub fn hear_all<R: Wait, L: Ledger, K: Link, C: Clock, P: Post>(
 }
 
 /// Lets the gate rest until the next interval begins, and does what is due then, until the key of the last message was
-/// told on every chain or all posts have failed.
+/// told on every chain or all posts have failed. Only what is due is sent.
 pub fn tell_rest<R: Wait, L: Ledger, C: Clock, P: Post, G: Gate>(
     rt: &R,
     feeder: &mut Feeder,
@@ -120,6 +131,9 @@ pub fn tell_rest<R: Wait, L: Ledger, C: Clock, P: Post, G: Gate>(
     steps: &mut Steps<L>,
 )
     requires each { length failed.old ≡ length posts.old }
+    requires going { let seen : P → PostSeen = λ post. record { name = P.name post; sent = P.sent post; faults = P.faults post } in
+        let stream = feeder.old.sender.stream in
+        (number : ℕ) × GoesOn seen P.may_send C.gave C.read_for stream feeder.old.first number feeder.old posts.old failed.old }
     ensures rests { let seen : List P → List PostSeen = λ posts. map (λ post. record { name = P.name post; sent = P.sent post; faults = P.faults post }) posts in
         (made : Feeding) (first_posts : List PostSeen) → Goes feeder.old.sender.stream feeder.old.first made first_posts feeder.old (seen posts.old) failed.old
         → Rests feeder.old.sender.stream feeder.old.first made first_posts feeder.new failed.new (C.told clock.old) (C.told clock.new) (seen posts.new) }

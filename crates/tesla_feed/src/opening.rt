@@ -1,6 +1,6 @@
 //! The opening of a feed.
 
-ghost use Rattle.std.specs.Prelude.{◌≡◌, []};
+ghost use Rattle.std.specs.Prelude.{◌≡◌, [], IfSome, true};
 ghost use Rattle.tesla_sender.specs.Stands.{Stands};
 ghost use Rattle.tesla_feed.specs.Fed.{has_ended};
 ghost use Rattle.tesla_feed.specs.Feed.{OpensAt, OpensFeed};
@@ -33,7 +33,8 @@ pub fn open_feed<R: Wait, C: Clock, G: Gate>(
     gate: &mut G,
 ) -> Option<OpenFeed>
     requires { Stands sender [] }
-    ensures { OpensFeed sender.stream result (C.told clock.old) (C.told clock.new) }
+    ensures opens { OpensFeed sender.stream result (C.told clock.old) (C.told clock.new) }
+    ensures gave { IfSome result (λ feed. C.gave feed.opening ≡ true) }
 {
     let opening = first_reading(rt, clock, gate);
     if has_ended(&sender, opening) {
@@ -44,7 +45,8 @@ pub fn open_feed<R: Wait, C: Clock, G: Gate>(
 
 // Reads the clock until it can be read, and gives that reading. The gate rests between two readings.
 fn first_reading<R: Wait, C: Clock, G: Gate>(rt: &R, clock: &mut C, gate: &mut G) -> u64
-    ensures { OpensAt result (C.told clock.old) (C.told clock.new) }
+    ensures opens { OpensAt result (C.told clock.old) (C.told clock.new) }
+    ensures gave { C.gave result ≡ true }
 {
     for _ in rt.forever() {
         let reading = clock.now();

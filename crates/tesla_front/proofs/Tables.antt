@@ -11,7 +11,7 @@ use Rattle.tesla_front.specs.Command.{Command, IsNoForm, RunsAs}
 use Rattle.tesla_front.specs.Forms.{HasFirst, WordIs}
 use Rattle.tesla_front.specs.Parts.{texts_of}
 use Rattle.tesla_front.specs.Run.{HasStatusCauses, Runs}
-use Rattle.tesla_front.specs.Table.{IsFirst, RunsConsole, RunsLeaving, RunsTable, is_named}
+use Rattle.tesla_front.specs.Table.{IsFirst, ReportsRun, RunsConsole, RunsLeaving, RunsTable, is_named}
 use Rattle.tesla_front.specs.declared.outcome.LiveRun.{LiveRun}
 use Rattle.tesla_front.specs.declared.outcome.Outcome.{Outcome}
 use Rattle.tesla_front.proofs.Consoles.{console_opened, live_console_opened}
@@ -48,25 +48,17 @@ as_spelled command words spelled old new outcome is runs = subst (λ (all : List
 
 -- ---- the run
 
--- what was run with the console is a run of the command of the words, where each call runs them so
-pub table_run : {D T : Type 0} (told : D → Told) (Calls : MutBor D → LiveRun T → MutBor D → Type 0) (command : Live → Live → Option T → Command)
-    (Leaves : Type 0) (usage : List ℕ) (words : List (List ℕ)) (old new : D) (result : LiveRun T)
-    → ((opened done : MutBor D) (run : LiveRun T) → Calls opened run done
-    → RunsLeaving command Leaves words (told opened.now) (told done.now) run.last (outcome_view run.outcome))
-    → RunsConsole told Calls usage old new result → RunsTable command Leaves usage words (told old) (told new) result.last (outcome_view result.outcome)
-table_run told Calls command Leaves usage words old new result runs (inl none) = inl none
-table_run {D} {T} told Calls command Leaves usage words old new result runs (inr it) =
-    let opened = told it.opened.now in
-    let done = told it.done.now in
-    let outcome = outcome_view it.run.outcome in
-    let live = λ (before now : Live). command before now result.last in
-    let ran : RunsLeaving command Leaves words opened done result.last outcome =
-    subst (λ (last : Option T). RunsLeaving command Leaves words opened done last outcome) (sym it.last) (runs it.opened it.done it.run it.runs) in
-    let unformed : IsNoForm (live (told old).live (told new).live) words → IsNoForm (live opened.live done.live) words =
-    λ none. subst (λ (now : Live). IsNoForm (live opened.live now) words) it.reports.closes.live
-    (subst (λ (before : Live). IsNoForm (live before (told new).live) words) (sym it.reports.opens.live) none) in
+-- words that were run with the console, which was told what that came to, are a run of their command
+pub table_ran : {T : Type 0} (command : Live → Live → Option T → Command) (Leaves : Type 0) (usage : List ℕ) (words : List (List ℕ)) (old opened done new : Told)
+    (last : Option T) (outcome reported : OutcomeView) → ReportsRun usage old opened done new outcome reported
+    → RunsLeaving command Leaves words opened done last outcome → RunsTable command Leaves usage words old new last reported
+table_ran command Leaves usage words old opened done new last outcome reported (written, failed, reports) ran =
+    let live = λ (before now : Live). command before now last in
+    let unformed : IsNoForm (live old.live new.live) words → IsNoForm (live opened.live done.live) words =
+    λ none. subst (λ (now : Live). IsNoForm (live opened.live now) words) reports.closes.live
+    (subst (λ (before : Live). IsNoForm (live before new.live) words) (sym reports.opens.live) none) in
     inr (
-      live_console_opened live usage words (told old) opened done (told new) outcome (outcome_view result.outcome) it.written it.failed it.reports ran.runs,
+      live_console_opened live usage words old opened done new outcome reported written failed reports ran.runs,
       λ none. ran.none (ran.runs.usage (unformed none)).0,
       ran.others,
     )

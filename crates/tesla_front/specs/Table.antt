@@ -51,6 +51,10 @@ pub record Reports (usage : List ℕ) (old opened done new : Told) (outcome repo
   pub tells : Tells usage outcome reported before written failed
   pub closes : ClosesSink (codes "-") written failed done new
 
+-- the same, with something written on the console, where so many of its calls failed
+abbrev pub ReportsRun : List ℕ → Told → Told → Told → Told → OutcomeView → OutcomeView → Type 0
+ReportsRun usage old opened done new outcome reported = (written : Option (List ℕ)) × (failed : ℕ) × Reports usage old opened done new outcome reported written failed
+
 -- this ran over a desk whose console is open, told which calls at a desk there may be, and the console was told what it came to; the history that it left stays
 pub record TellsRun {D T : Type 0} (told : D → Told) (Runs : MutBor D → LiveRun T → MutBor D → Type 0) (usage : List ℕ) (old new : D)
     (result : LiveRun T) : Type 0 where

@@ -9,7 +9,7 @@ ghost use Rattle.tesla_front.specs.Files.{ReadsOn, ReadsFile, WritesFile};
 
 use crate::Fault;
 use std::alloc::Global;
-use tesla_desk::{Desk, ReadStep, Source, write_all};
+use tesla_desk::{Desk, Environment, ReadStep, Source, write_all};
 
 /// How many bytes one read asks for at most.
 const PIECE: usize = 4096;
@@ -63,7 +63,7 @@ fn read_on<S: Source>(source: &mut S, room: &mut [u8], bytes: &mut Vec<u8>) -> R
 ///
 /// `Open` only where the desk's count of openings rose, as where there is no such file, `Read` only where that
 /// of reads rose, and `NoMemory` where there was no memory. Where it was opened it is closed in any case.
-pub fn read_file<D: Desk>(
+pub fn read_file<D: Environment>(
     alloc: Global,
     name: &str,
     most: usize,

@@ -26,5 +26,5 @@ pub use printed::{Printed, tell_printed};
 pub use refusal::{Refusal, Stop};
 pub use seeds::seeds_under;
 pub use setup::setup_under;
-pub use table::{is_named, open_console, run_table};
+pub use table::{is_named, open_console, report_run, run_table};
 pub use words::{Count, Name, PacketLimits, is_name, limits_in, number_in, stream_in};

@@ -11,7 +11,7 @@ use crate::setup::MOST;
 use crate::{Fault, Stop, read_file, refused};
 use std::alloc::Global;
 use tesla_base::Kind;
-use tesla_desk::Desk;
+use tesla_desk::Environment;
 use tesla_seeds::{Seeds, SeedsRefusal, read_seeds};
 
 // The seeds that a text spells.
@@ -34,7 +34,7 @@ fn seeds_of(alloc: Global, text: &[u8], count: u8) -> Result<Seeds, Stop>
 ///
 /// `Refused` with the first refused line where the file's text spells other seeds or none, and `Failed` as
 /// `read_file` fails. Neither tells anything of a seed.
-pub fn seeds_under<D: Desk>(
+pub fn seeds_under<D: Environment>(
     alloc: Global,
     name: &str,
     count: u8,

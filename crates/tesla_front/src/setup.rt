@@ -11,7 +11,7 @@ use crate::{Fault, Stop, read_file, refused};
 use std::alloc::Global;
 use tesla_base::Kind;
 use tesla_commit::{Setup, SetupRefusal, read_setup};
-use tesla_desk::Desk;
+use tesla_desk::Environment;
 
 /// How many bytes of a setup or of seeds are asked for: one more than they have at most.
 pub const MOST: usize = 4097;
@@ -34,7 +34,7 @@ fn setup_of(alloc: Global, text: &[u8]) -> Result<Setup, Stop>
 /// 4,097 bytes are read, which tell that it is too long.
 ///
 /// `Refused` with the first refused line where the file's text is no setup, and `Failed` as `read_file` fails.
-pub fn setup_under<D: Desk>(alloc: Global, name: &str, desk: &mut D) -> Result<Setup, Stop>
+pub fn setup_under<D: Environment>(alloc: Global, name: &str, desk: &mut D) -> Result<Setup, Stop>
     ensures found { IfOk result (λ setup. IsSetupIn ((D.told desk.old).page name.now) setup) }
     ensures refused { IfErr result (λ stop. IsNoSetup ((D.told desk.old).page name.now) (stop_view stop)) }
     ensures opened { IfOk result (λ _. Opens (OfSource name.now ∷ []) 1 (D.told desk.old) (D.told desk.new)) }

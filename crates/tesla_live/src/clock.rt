@@ -93,4 +93,8 @@ impl<'a, R: time::Clock + Eprint> Clock for MachineClock<'a, R> {
         self.tell_difference(now);
         self.command.reading(&self.anchor, now)
     }
+
+    fn now_for(&mut self, _datagram: &[u8]) -> u64 {
+        self.now()
+    }
 }

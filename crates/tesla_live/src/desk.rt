@@ -17,7 +17,7 @@ use std::rt::Files;
 use std::sync::Wait;
 use std::time::Clock;
 use tesla_base::Text;
-use tesla_desk::{CONSOLE, Desk, OpenRefusal};
+use tesla_desk::{CONSOLE, Desk, Environment, OpenRefusal, SinkOutput};
 
 /// The files of the system, standard output under the name of the console, UDP sockets as links and posts, clocks over the
 /// system's, and gates that wake one another. It tells no bytes, no letters, no mail and no readings.
@@ -46,7 +46,7 @@ where
 {
     /// A desk with no faults for a command, whose gates share these.
     pub fn new(rt: &'a R, gates: &'a Gates, command: Command) -> LiveDesk<'a, R>
-        ensures { (⟦<LiveDesk<'a, R> as Desk>⟧.told result).faults ≡ no_faults }
+        ensures { (⟦<LiveDesk<'a, R> as Environment>⟧.told result).faults ≡ no_faults }
     {
         LiveDesk {
             rt,
@@ -61,7 +61,7 @@ where
     }
 }
 
-impl<'a, R: Files + Net + Clock + Eprint + Print + AllocGlobal + Wait + Sync> Desk
+impl<'a, R: Files + Net + Clock + Eprint + Print + AllocGlobal + Wait + Sync> Environment
     for LiveDesk<'a, R>
 where
     R::File: Send,
@@ -69,6 +69,8 @@ where
     type In = FileSource<R::File>;
 
     type Out = FileSink<'a, R>;
+
+    type Pieces = SinkOutput<FileSink<'a, R>>;
 
     type Wire = UdpLink;
 
@@ -86,14 +88,15 @@ where
         object_of(&mut self.openings, source_name, opened)
     }
 
-    fn open_sink(&mut self, name: &str) -> Result<FileSink<'a, R>, OpenRefusal> {
-        let sink_name = Text::new(self.rt.alloc(), name.as_bytes())?;
-        if name == CONSOLE {
-            return Ok(FileSink::new(sink_name, Target::Console(self.rt)));
-        }
-        match self.opened.create(self.rt, name) {
-            Ok(file) => Ok(FileSink::new(sink_name, Target::File(file))),
-            Err(error) => Err(refusal_of(&mut self.openings, error)),
+    fn open_console(&mut self) -> Result<FileSink<'a, R>, OpenRefusal> {
+        let sink_name = Text::new(self.rt.alloc(), CONSOLE.as_bytes())?;
+        Ok(FileSink::new(sink_name, Target::Console(self.rt)))
+    }
+
+    fn open_output(&mut self, name: &str) -> Result<SinkOutput<FileSink<'a, R>>, OpenRefusal> {
+        match self.open_sink(name) {
+            Ok(sink) => Ok(SinkOutput { sink }),
+            Err(refusal) => Err(refusal),
         }
     }
 
@@ -117,6 +120,11 @@ where
         count_failed(&mut self.writes, it.into_faults());
     }
 
+    fn close_output(&mut self, it: SinkOutput<FileSink<'a, R>>) {
+        let SinkOutput { sink } = it;
+        self.close_sink(sink);
+    }
+
     fn close_link(&mut self, it: UdpLink) {
         count_failed(&mut self.reads, it.faults);
     }
@@ -132,6 +140,23 @@ where
 
     fn gate(&mut self) -> LiveGate<'a, R> {
         LiveGate::new(self.rt, self.gates)
+    }
+}
+
+impl<'a, R: Files + Net + Clock + Eprint + Print + AllocGlobal + Wait + Sync> Desk
+    for LiveDesk<'a, R>
+where
+    R::File: Send,
+{
+    fn open_sink(&mut self, name: &str) -> Result<FileSink<'a, R>, OpenRefusal> {
+        if name == CONSOLE {
+            return self.open_console();
+        }
+        let sink_name = Text::new(self.rt.alloc(), name.as_bytes())?;
+        match self.opened.create(self.rt, name) {
+            Ok(file) => Ok(FileSink::new(sink_name, Target::File(file))),
+            Err(error) => Err(refusal_of(&mut self.openings, error)),
+        }
     }
 }
 

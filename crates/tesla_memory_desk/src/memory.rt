@@ -23,7 +23,7 @@ use crate::stored_mail::StoredMails;
 use crate::{Heap, Letters, Outbox, Pages, Readings};
 use std::alloc::Global;
 use tesla_base::NoMemory;
-use tesla_desk::{Desk, Letter, OpenGate, OpenRefusal};
+use tesla_desk::{CONSOLE, Desk, Environment, Letter, OpenGate, OpenRefusal, SinkOutput};
 
 /// A desk whose pages, letters, mail and readings are in memory. It tells all of them, and the openings that it was asked for.
 #[derive(Drop)]
@@ -254,10 +254,12 @@ impl MemoryDesk {
     }
 }
 
-impl Desk for MemoryDesk {
+impl Environment for MemoryDesk {
     type In = Pages;
 
     type Out = Heap;
+
+    type Pieces = SinkOutput<Heap>;
 
     type Wire = Letters;
 
@@ -285,19 +287,16 @@ impl Desk for MemoryDesk {
     }
 
     /// `Failed` exactly where the number of the opening is listed.
-    fn open_sink(&mut self, name: &str) -> Result<Heap, OpenRefusal>
-        ensures empty { IfOk result (λ it. bytes_of it ≡ []) }
-        ensures fresh { IfOk result (λ it. write_faults_of it ≡ 0) }
-        ensures named { IfOk result (λ it. name_of it ≡ name.now) }
-        ensures desk { OpensSink name.now result (told_by self.old) (told_by self.new) }
-        ensures pages { (n : List ℕ) → page_under self.new n ≡ page_under self.old n }
-        ensures exact { Refuses (next_fails (opening_calls_of self.old)) result }
-        ensures set { IfOk result (λ it. NewSink self.old name.now it) }
-        ensures rest { rest_of self.new ≡ after_asked (OfSink name.now) result (rest_of self.old) }
-    {
-        let (text, spare) = Entries::spare_under(self.alloc, name)?;
-        let made = self.sink_of(name);
-        self.enter(AskedOpening::Sink(text), spare, made)
+    fn open_console(&mut self) -> Result<Heap, OpenRefusal> {
+        self.open_sink(CONSOLE)
+    }
+
+    /// `Failed` exactly where the number of the opening is listed.
+    fn open_output(&mut self, name: &str) -> Result<SinkOutput<Heap>, OpenRefusal> {
+        match self.open_sink(name) {
+            Ok(sink) => Ok(SinkOutput { sink }),
+            Err(refusal) => Err(refusal),
+        }
     }
 
     fn close_source(&mut self, it: Pages)
@@ -320,6 +319,11 @@ impl Desk for MemoryDesk {
             self.writes = self.writes.saturating_add(1);
         }
         self.pages.put(page, spare);
+    }
+
+    fn close_output(&mut self, it: SinkOutput<Heap>) {
+        let SinkOutput { sink } = it;
+        self.close_sink(sink);
     }
 
     /// `Failed` exactly where the number of the opening is listed or there is nothing for such a link.
@@ -389,5 +393,23 @@ impl Desk for MemoryDesk {
         ensures rest { rest_of self.new ≡ rest_of self.old }
     {
         OpenGate
+    }
+}
+
+impl Desk for MemoryDesk {
+    /// `Failed` exactly where the number of the opening is listed.
+    fn open_sink(&mut self, name: &str) -> Result<Heap, OpenRefusal>
+        ensures empty { IfOk result (λ it. bytes_of it ≡ []) }
+        ensures fresh { IfOk result (λ it. write_faults_of it ≡ 0) }
+        ensures named { IfOk result (λ it. name_of it ≡ name.now) }
+        ensures desk { OpensSink name.now result (told_by self.old) (told_by self.new) }
+        ensures pages { (n : List ℕ) → page_under self.new n ≡ page_under self.old n }
+        ensures exact { Refuses (next_fails (opening_calls_of self.old)) result }
+        ensures set { IfOk result (λ it. NewSink self.old name.now it) }
+        ensures rest { rest_of self.new ≡ after_asked (OfSink name.now) result (rest_of self.old) }
+    {
+        let (text, spare) = Entries::spare_under(self.alloc, name)?;
+        let made = self.sink_of(name);
+        self.enter(AskedOpening::Sink(text), spare, made)
     }
 }

@@ -48,4 +48,11 @@ impl Clock for Readings {
         self.count = count.saturating_add(1);
         self.after(count)
     }
+
+    fn now_for(&mut self, _datagram: &[u8]) -> u64
+        ensures ticks { Ticks (clock_told_of self.old) (clock_told_of self.new) result }
+        ensures exact { result ≡ reading_after self.old.count self.old.list.items }
+    {
+        self.now()
+    }
 }

@@ -1,6 +1,6 @@
 //! A desk in memory on which no call from outside fails.
 
-ghost use Rattle.std.specs.Prelude.{◌≡◌, ◌≢◌, true, false, List, ℕ, [], Some, IfOk, IfSome, OnOk, OnErr};
+ghost use Rattle.std.specs.Prelude.{◌≡◌, ◌≢◌, true, false, List, ℕ, [], Some, IfOk, IfSome, OnOk, OnErr, codes};
 ghost use Rattle.std.specs.List.{list_all};
 ghost use Rattle.std.specs.Option.{option_map};
 ghost use Rattle.tesla_desk.specs.Links.{fits};
@@ -18,7 +18,7 @@ use crate::sure_parts::{SurePages, SureRests};
 use crate::{Readings, SureLink, SurePost, SureSink, SureSource};
 use std::alloc::Global;
 use tesla_base::NoMemory;
-use tesla_desk::{Desk, Letter, OpenGate, OpenRefusal};
+use tesla_desk::{CONSOLE, Desk, Environment, Letter, OpenGate, OpenRefusal, SinkOutput};
 
 /// A desk in memory on which no call from outside fails: its counts of faults are the constant 0.
 ///
@@ -124,10 +124,12 @@ impl SureDesk {
     }
 }
 
-impl Desk for SureDesk {
+impl Environment for SureDesk {
     type In = SureSource;
 
     type Out = SureSink;
+
+    type Pieces = SinkOutput<SureSink>;
 
     type Wire = SureLink;
 
@@ -154,18 +156,28 @@ impl Desk for SureDesk {
     }
 
     /// Never `Failed`.
-    fn open_sink(&mut self, name: &str) -> Result<SureSink, OpenRefusal>
+    fn open_console(&mut self) -> Result<SureSink, OpenRefusal>
         ensures empty { IfOk result (λ it. IfSome (sure_written_of it) (λ bytes. bytes ≡ [])) }
         ensures fresh { IfOk result (λ it. sure_faults_of it ≡ 0) }
-        ensures named { IfOk result (λ it. sure_sink_name_of it ≡ name.now) }
-        ensures desk { OpensSink name.now result (sure_told_by self.old) (sure_told_by self.new) }
-        ensures pages { (n : List ℕ) → (sure_told_by self.new).page n ≡ (sure_told_by self.old).page n }
+        ensures named { IfOk result (λ it. sure_sink_name_of it ≡ codes "-") }
+        ensures desk { OpensSink (codes "-") result (sure_told_by self.old) (sure_told_by self.new) }
         ensures exact { Refuses false result }
     {
-        let (text, spare) = Entries::spare_under(self.alloc, name)?;
-        let sink = SureSink::new(self.alloc, name)?;
-        self.asked.put(AskedOpening::Sink(text), spare);
-        Ok(sink)
+        self.open_sink(CONSOLE)
+    }
+
+    /// Never `Failed`.
+    fn open_output(&mut self, name: &str) -> Result<SinkOutput<SureSink>, OpenRefusal>
+        ensures empty { IfOk result (λ it. IfSome (sure_written_of it.sink) (λ bytes. bytes ≡ [])) }
+        ensures fresh { IfOk result (λ it. sure_faults_of it ≡ 0) }
+        ensures named { IfOk result (λ it. sure_sink_name_of it.sink ≡ name.now) }
+        ensures desk { OpensSink name.now result (sure_told_by self.old) (sure_told_by self.new) }
+        ensures exact { Refuses false result }
+    {
+        match self.open_sink(name) {
+            Ok(sink) => Ok(SinkOutput { sink }),
+            Err(refusal) => Err(refusal),
+        }
     }
 
     fn close_source(&mut self, it: SureSource) {
@@ -176,6 +188,11 @@ impl Desk for SureDesk {
     fn close_sink(&mut self, it: SureSink) {
         let (page, spare) = it.close();
         self.pages.put(page, spare);
+    }
+
+    fn close_output(&mut self, it: SinkOutput<SureSink>) {
+        let SinkOutput { sink } = it;
+        self.close_sink(sink);
     }
 
     /// Never `Failed`.
@@ -221,5 +238,22 @@ impl Desk for SureDesk {
 
     fn gate(&mut self) -> OpenGate {
         OpenGate
+    }
+}
+
+impl Desk for SureDesk {
+    /// Never `Failed`.
+    fn open_sink(&mut self, name: &str) -> Result<SureSink, OpenRefusal>
+        ensures empty { IfOk result (λ it. IfSome (sure_written_of it) (λ bytes. bytes ≡ [])) }
+        ensures fresh { IfOk result (λ it. sure_faults_of it ≡ 0) }
+        ensures named { IfOk result (λ it. sure_sink_name_of it ≡ name.now) }
+        ensures desk { OpensSink name.now result (sure_told_by self.old) (sure_told_by self.new) }
+        ensures pages { (n : List ℕ) → (sure_told_by self.new).page n ≡ (sure_told_by self.old).page n }
+        ensures exact { Refuses false result }
+    {
+        let (text, spare) = Entries::spare_under(self.alloc, name)?;
+        let sink = SureSink::new(self.alloc, name)?;
+        self.asked.put(AskedOpening::Sink(text), spare);
+        Ok(sink)
     }
 }

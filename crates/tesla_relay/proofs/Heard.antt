@@ -1,25 +1,27 @@
 -- What came to several feeds and servers, one step later.
-use Rattle.std.proofs.Common.{◌≡◌, ◌∙◌, ℕ, zero, suc, ◌<◌, arith, slice_index_or, map, List, [], ◌∷◌, ◌++◌, length, Option, Some, None, IfSome, refl, sym, ap, subst, append-nil, append_assoc}
+use Rattle.std.proofs.Common.{◌≡◌, ◌∙◌, ℕ, zero, suc, ◌<◌, arith, slice_index_or, map, List, [], ◌∷◌, ◌++◌, ◌+◌, length, Option, Some, None, IfSome, refl, sym, ap, subst, append-nil, append_assoc}
+use Rattle.std.proofs.lemmas.List.{length-append}
 use Rattle.std.proofs.lemmas.List.Concat.{flat_map-append}
 use Rattle.tesla_desk.specs.Links.{after_letters, datagram_in, datagrams}
 use Rattle.tesla_desk.specs.declared.link.Letter.{Letter}
 use Rattle.tesla_desk.specs.declared.link.Letter.TheVariants as letters
-use Rattle.tesla_relay.specs.Feeding.{Closed, Fed, IsFeeding, IsSameFeed, IsServing, ServerSeen, ServesOn}
-use Rattle.tesla_relay.specs.Lists.{AreFeeding, AreServing, Each, FeedsAll, FeedsOn, HearsAll, HearsOn, ServesAll}
+use Rattle.tesla_relay.specs.Due.{Basis}
+use Rattle.tesla_relay.specs.Feeding.{Closed, Fed, IsFeeding, IsSameFeed, IsServing, ServerSeen, ServesOn, came_in}
+use Rattle.tesla_relay.specs.Lists.{AreFeeding, AreServing, Each, FeedsAll, FeedsOn, HaveCome, HearsAll, HearsOn, MayServe, ServesAll}
 use Rattle.tesla_relay.specs.declared.feed.Feed.{Feed}
 use Rattle.tesla_relay.specs.declared.relayed.RelayEnd.{RelayEnd}
 use Rattle.tesla_relay.specs.declared.relayed.RelayEnd.TheVariants.{Ended}
 
 -- ---- feeds
 
-same_feeds : (a b c : Feed) → IsSameFeed a b → IsSameFeed b c → IsSameFeed a c
+same_feeds : {X : Type 0} (a b c : Feed X) → IsSameFeed a b → IsSameFeed b c → IsSameFeed a c
 same_feeds a b c one two = record { table = two.table ∙ one.table; capacity = two.capacity ∙ one.capacity }
 
-pub feeds_none : (feeds : List Feed) → AreFeeding feeds → Each (FeedsOn []) feeds feeds
+pub feeds_none : {X : Type 0} (feeds : List (Feed X)) → AreFeeding feeds → Each (FeedsOn []) feeds feeds
 feeds_none [] feeding = tt
-feeds_none (feed ∷ feeds) feeding = (record { feeding = feeding.0; same = record { table = refl; capacity = refl }; fed = λ before fed. subst (λ (all : List (List ℕ)). Fed all feed) (sym (append-nil before)) fed }, feeds_none feeds feeding.1)
+feeds_none (feed ∷ feeds) feeding = (record { feeding = feeding.0; same = record { table = refl; capacity = refl }; fed = λ before fed. subst (λ (all : List (List ℕ)). Fed all feed) (sym (append-nil before)) fed; came = omega (arith, feeding.0.counts) }, feeds_none feeds feeding.1)
 
-feeds_then : (arrived more : List (List ℕ)) (a b c : List Feed) → Each (FeedsOn arrived) a b → Each (FeedsOn more) b c → Each (FeedsOn (arrived ++ more)) a c
+feeds_then : {X : Type 0} (arrived more : List (List ℕ)) (a b c : List (Feed X)) → Each (FeedsOn arrived) a b → Each (FeedsOn more) b c → Each (FeedsOn (arrived ++ more)) a c
 feeds_then arrived more [] [] [] one two = tt
 feeds_then arrived more [] [] (z ∷ c) one two = absurd two
 feeds_then arrived more [] (y ∷ b) c one two = absurd one
@@ -30,11 +32,12 @@ feeds_then arrived more (x ∷ a) (y ∷ b) (z ∷ c) one two = (
     feeding = two.0.feeding;
     same = same_feeds x y z one.0.same two.0.same;
     fed = λ before fed. subst (λ (all : List (List ℕ)). Fed all z) (append_assoc before arrived more) (two.0.fed (before ++ arrived) (one.0.fed before fed));
+    came = omega (arith, one.0.came, two.0.came, length-append arrived more);
   },
   feeds_then arrived more a b c one.1 two.1,
 )
 
-feeds_end : (arrived : List (List ℕ)) (a b c : List Feed) → Each (FeedsOn arrived) a b → Each (FeedsAll []) b c → Each (FeedsAll arrived) a c
+feeds_end : {X : Type 0} (arrived : List (List ℕ)) (a b c : List (Feed X)) → Each (FeedsOn arrived) a b → Each (FeedsAll []) b c → Each (FeedsAll arrived) a c
 feeds_end arrived [] [] [] one two = tt
 feeds_end arrived [] [] (z ∷ c) one two = absurd two
 feeds_end arrived [] (y ∷ b) c one two = absurd one
@@ -49,11 +52,23 @@ feeds_end arrived (x ∷ a) (y ∷ b) (z ∷ c) one two = (
   feeds_end arrived a b c one.1 two.1,
 )
 
-pub are_feeding : (arrived : List (List ℕ)) (a b : List Feed) → Each (FeedsOn arrived) a b → AreFeeding b
+pub are_feeding : {X : Type 0} (arrived : List (List ℕ)) (a b : List (Feed X)) → Each (FeedsOn arrived) a b → AreFeeding b
 are_feeding arrived [] [] on = tt
 are_feeding arrived [] (y ∷ b) on = absurd on
 are_feeding arrived (x ∷ a) [] on = absurd on
 are_feeding arrived (x ∷ a) (y ∷ b) on = (on.0.feeding, are_feeding arrived a b on.1)
+
+-- so many more came to each
+pub have_come : {X : Type 0} (number : ℕ) (arrived : List (List ℕ)) (a b : List (Feed X)) → Each (FeedsOn arrived) a b → HaveCome number a → HaveCome (number + length arrived) b
+have_come number arrived [] [] on come = tt
+have_come number arrived [] (y ∷ b) on come = absurd on
+have_come number arrived (x ∷ a) [] on come = absurd on
+have_come number arrived (x ∷ a) (y ∷ b) on come = (omega (arith, on.0.came, come.0), have_come number arrived a b on.1 come.1)
+
+pub come_at : {X : Type 0} (number : ℕ) (xs : List (Feed X)) (i : ℕ) (d : Feed X) → i < length xs → HaveCome number xs → (slice_index_or xs i d).came ≡ came_in number
+come_at number [] i d inside all = absurd (omega (arith, inside))
+come_at number (x ∷ xs) zero d inside all = all.0
+come_at number (x ∷ xs) (suc i) d inside all = come_at number xs i d (omega (arith, inside)) all.1
 
 -- ---- letters
 
@@ -65,27 +80,27 @@ letters_none : (left : Option (List Letter)) → left ≡ after_letters [] left
 letters_none None = refl
 letters_none (Some rest) = refl
 
-pub hears_none : (left : Option (List Letter)) (feeds : List Feed) → AreFeeding feeds → HearsOn left left feeds feeds
+pub hears_none : {X : Type 0} (left : Option (List Letter)) (feeds : List (Feed X)) → AreFeeding feeds → HearsOn left left feeds feeds
 hears_none left feeds feeding = record { taken = []; left_is = letters_none left; feeds = feeds_none feeds feeding }
 
-pub hears_quiet : (left mid later : Option (List Letter)) (olds feeds : List Feed) → HearsOn left mid olds feeds → mid ≡ after_letters (letters.Quiet ∷ []) later → HearsOn left later olds feeds
+pub hears_quiet : {X : Type 0} (left mid later : Option (List Letter)) (olds feeds : List (Feed X)) → HearsOn left mid olds feeds → mid ≡ after_letters (letters.Quiet ∷ []) later → HearsOn left later olds feeds
 hears_quiet left mid later olds feeds hears quiet = record {
   taken = hears.taken ++ letters.Quiet ∷ [];
   left_is = letters_then hears.taken (letters.Quiet ∷ []) left mid later hears.left_is quiet;
   feeds = subst (λ (all : List (List ℕ)). Each (FeedsOn all) olds feeds) (sym (flat_map-append datagram_in hears.taken (letters.Quiet ∷ []) ∙ append-nil (datagrams hears.taken))) hears.feeds;
 }
 
-pub hears_more : (datagram : List ℕ) (left mid later : Option (List Letter)) (olds feeds news : List Feed) → HearsOn left mid olds feeds → mid ≡ after_letters (letters.Datagram datagram ∷ []) later → Each (FeedsOn (datagram ∷ [])) feeds news → HearsOn left later olds news
+pub hears_more : {X : Type 0} (datagram : List ℕ) (left mid later : Option (List Letter)) (olds feeds news : List (Feed X)) → HearsOn left mid olds feeds → mid ≡ after_letters (letters.Datagram datagram ∷ []) later → Each (FeedsOn (datagram ∷ [])) feeds news → HearsOn left later olds news
 hears_more datagram left mid later olds feeds news hears arrived on = record {
   taken = hears.taken ++ letters.Datagram datagram ∷ [];
   left_is = letters_then hears.taken (letters.Datagram datagram ∷ []) left mid later hears.left_is arrived;
   feeds = subst (λ (all : List (List ℕ)). Each (FeedsOn all) olds news) (sym (flat_map-append datagram_in hears.taken (letters.Datagram datagram ∷ []))) (feeds_then (datagrams hears.taken) (datagram ∷ []) olds feeds news hears.feeds on);
 }
 
-pub hears_same : (left mid later : Option (List Letter)) (olds feeds : List Feed) → HearsOn left mid olds feeds → later ≡ mid → HearsOn left later olds feeds
+pub hears_same : {X : Type 0} (left mid later : Option (List Letter)) (olds feeds : List (Feed X)) → HearsOn left mid olds feeds → later ≡ mid → HearsOn left later olds feeds
 hears_same left mid later olds feeds hears same = subst (λ (l : Option (List Letter)). HearsOn left l olds feeds) (sym same) hears
 
-pub hears_end : (end : RelayEnd) (left later : Option (List Letter)) (olds feeds news : List Feed) → HearsOn left later olds feeds → Each (FeedsAll []) feeds news → (end ≡ Ended → IfSome later (λ rest. rest ≡ [])) → HearsAll end left later olds news
+pub hears_end : {X : Type 0} (end : RelayEnd) (left later : Option (List Letter)) (olds feeds news : List (Feed X)) → HearsOn left later olds feeds → Each (FeedsAll []) feeds news → (end ≡ Ended → IfSome later (λ rest. rest ≡ [])) → HearsAll end left later olds news
 hears_end end left later olds feeds news hears all ended = record {
   taken = hears.taken;
   left_is = hears.left_is;
@@ -105,9 +120,9 @@ on_then a b c one two = record {
 pub on_none : (a : ServerSeen) → IsServing a → ServesOn a a
 on_none a serving = record { serving = serving; same = record { table = refl; pass = refl }; served = λ start served. served }
 
-pub serve_none : (servers : List ServerSeen) → AreServing servers → Each ServesOn servers servers
-serve_none [] serving = tt
-serve_none (server ∷ servers) serving = (on_none server serving.0, serve_none servers serving.1)
+pub serve_none : (basis : Basis) (servers : List ServerSeen) → AreServing basis servers → Each ServesOn servers servers
+serve_none basis [] serving = tt
+serve_none basis (server ∷ servers) serving = (on_none server serving.0.0, serve_none basis servers serving.1)
 
 pub serve_then : (a b c : List ServerSeen) → Each ServesOn a b → Each ServesOn b c → Each ServesOn a c
 serve_then [] [] [] one two = tt
@@ -117,11 +132,15 @@ serve_then (x ∷ a) [] c one two = absurd one
 serve_then (x ∷ a) (y ∷ b) [] one two = absurd two
 serve_then (x ∷ a) (y ∷ b) (z ∷ c) one two = (on_then x y z one.0 two.0, serve_then a b c one.1 two.1)
 
-pub are_serving : (a b : List ServerSeen) → Each ServesOn a b → AreServing b
-are_serving [] [] on = tt
-are_serving [] (y ∷ b) on = absurd on
-are_serving (x ∷ a) [] on = absurd on
-are_serving (x ∷ a) (y ∷ b) on = (on.0.serving, are_serving a b on.1)
+-- it has served its post then, too
+pub may_serve : (basis : Basis) (a b : ServerSeen) → MayServe basis a → ServesOn a b → MayServe basis b
+may_serve basis a b may on = (on.serving, record { start = may.1.start; among = may.1.among; served = on.served may.1.start may.1.served })
+
+pub are_serving : (basis : Basis) (a b : List ServerSeen) → AreServing basis a → Each ServesOn a b → AreServing basis b
+are_serving basis [] [] all on = tt
+are_serving basis [] (y ∷ b) all on = absurd on
+are_serving basis (x ∷ a) [] all on = absurd on
+are_serving basis (x ∷ a) (y ∷ b) all on = (may_serve basis x y all.0 on.0, are_serving basis a b all.1 on.1)
 
 -- ---- servers that went on to the end
 
@@ -140,7 +159,7 @@ each_by R [] (y ∷ ys) same each = absurd (omega (arith, same))
 each_by R (x ∷ xs) [] same each = absurd (omega (arith, same))
 each_by R (x ∷ xs) (y ∷ ys) same each = (each 0 x (omega arith), each_by R xs ys (omega (arith, same)) (λ i d inside. each (suc i) d (omega (arith, inside))))
 
-pub feeding_at : (xs : List Feed) (i : ℕ) (d : Feed) → i < length xs → AreFeeding xs → IsFeeding (slice_index_or xs i d)
+pub feeding_at : {X : Type 0} (xs : List (Feed X)) (i : ℕ) (d : Feed X) → i < length xs → AreFeeding xs → IsFeeding (slice_index_or xs i d)
 feeding_at [] i d inside all = absurd (omega (arith, inside))
 feeding_at (x ∷ xs) zero d inside all = all.0
 feeding_at (x ∷ xs) (suc i) d inside all = feeding_at xs i d (omega (arith, inside)) all.1
@@ -152,7 +171,7 @@ module _ {X : Type 0} (seen : X → ServerSeen) where
   each_seen R (x ∷ xs) [] same each = absurd (omega (arith, same))
   each_seen R (x ∷ xs) (y ∷ ys) same each = (each 0 x (omega arith), each_seen R xs ys (omega (arith, same)) (λ i d inside. each (suc i) d (omega (arith, inside))))
 
-  pub seen_serving_at : (xs : List X) (i : ℕ) (d : X) → i < length xs → AreServing (map seen xs) → IsServing (seen (slice_index_or xs i d))
-  seen_serving_at [] i d inside all = absurd (omega (arith, inside))
-  seen_serving_at (x ∷ xs) zero d inside all = all.0
-  seen_serving_at (x ∷ xs) (suc i) d inside all = seen_serving_at xs i d (omega (arith, inside)) all.1
+  pub seen_serving_at : (basis : Basis) (xs : List X) (i : ℕ) (d : X) → i < length xs → AreServing basis (map seen xs) → MayServe basis (seen (slice_index_or xs i d))
+  seen_serving_at basis [] i d inside all = absurd (omega (arith, inside))
+  seen_serving_at basis (x ∷ xs) zero d inside all = all.0
+  seen_serving_at basis (x ∷ xs) (suc i) d inside all = seen_serving_at basis xs i d (omega (arith, inside)) all.1

@@ -1,8 +1,10 @@
 pub mod Causes
+pub mod Due
 pub mod Feeding
 pub mod Heard
 pub mod HeardSoFar
 pub mod Moves
+pub mod Numbered
 pub mod Queued
 pub mod Sending
 pub mod Settled

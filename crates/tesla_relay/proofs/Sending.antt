@@ -1,5 +1,5 @@
 -- What a server has sent, one item later.
-use Rattle.std.proofs.Common.{◌≡◌, ◌∙◌, ℕ, ◌+◌, ◌≤◌, Bool, true, false, true≢false, List, [], ◌∷◌, ◌++◌, length, take, Option, Some, None, refl, sym, ap, subst, arith, append-nil, append_assoc}
+use Rattle.std.proofs.Common.{◌≡◌, ◌∙◌, ℕ, ◌+◌, ◌≤◌, Bool, true, false, true≢false, List, [], ◌∷◌, ◌++◌, length, map, take, Option, Some, None, refl, sym, ap, subst, arith, append-nil, append_assoc}
 use Rattle.std.proofs.lemmas.List.{length-append, take-append-le}
 use Rattle.std.proofs.lemmas.List.Concat.{flat_map-append}
 use Rattle.std.proofs.Math.Seq.{take-length}
@@ -7,8 +7,12 @@ use Rattle.crossbeam_queue.specs.Passes.{Pass, view}
 use Rattle.tesla_desk.specs.Faults.{HasCause, Rose}
 use Rattle.tesla_desk.specs.Posts.{with_datagram}
 use Rattle.tesla_relay.specs.Posts.{PostSeen, with_datagrams}
-use Rattle.tesla_relay.specs.Feeding.{text_in, texts, IsServing, SendsNext, Served, ServerSeen, ServesOn}
-use Rattle.tesla_relay.specs.Line.{popped_log}
+use Rattle.tesla_relay.specs.Due.{Basis, IsNextRelayed}
+use Rattle.tesla_relay.specs.Feeding.{text_in, texts, HasServed, IsServing, SendsNext, Served, ServerSeen, ServesOn}
+use Rattle.tesla_relay.specs.Line.{numbered, numbered_in, popped_log}
+use Rattle.tesla_relay.specs.Numbered.{AreBrought, Numbered, datagram_of}
+use Rattle.tesla_relay.specs.Play.{having_sent}
+use Rattle.tesla_relay.proofs.Numbered.{numbered_more, texts_of}
 use Rattle.tesla_relay.proofs.Feeding.{texts_more}
 use Rattle.tesla_relay.specs.declared.line.Log.{Log}
 use Rattle.tesla_relay.specs.declared.line.Item.{Item}
@@ -136,4 +140,33 @@ serves_datagram old new pass item datagram is serving table whole taken next =
       };
       same = record { table = next.table; pass = own };
       served = λ start served. served_more start old new pass item datagram is taken next served;
+    }
+
+-- ---- what is due
+
+seen_so : (post : PostSeen) (name : List ℕ) (sent : Option (List (List ℕ))) (faults : ℕ) → post.name ≡ name → post.sent ≡ sent → post.faults ≡ faults → post ≡ record { name = name; sent = sent; faults = faults }
+seen_so post name sent faults same told count =
+    ap (λ (n : List ℕ). let it : PostSeen = record { name = n; sent = post.sent; faults = post.faults } in it) same
+    ∙ ap (λ (s : Option (List (List ℕ))). let it : PostSeen = record { name = name; sent = s; faults = post.faults } in it) told
+    ∙ ap (λ (n : ℕ). let it : PostSeen = record { name = name; sent = sent; faults = n } in it) count
+
+-- a post that didn't fail has sent all that was taken out for it
+all_sent : (start : PostSeen) (server : ServerSeen) → (served : Served start server) → server.failed ≡ false → server.post ≡ having_sent (map datagram_of (numbered served.popped)) start
+all_sent start server served fine =
+    let all : take served.sends (texts served.popped) ≡ texts served.popped = ap (λ (n : ℕ). take n (texts served.popped)) (served.all fine) ∙ take-length (texts served.popped) in
+    seen_so server.post start.name (with_datagrams start.sent (map datagram_of (numbered served.popped))) start.faults served.name
+    (served.sent ∙ ap (with_datagrams start.sent) (all ∙ sym (texts_of served.popped))) (served.cause.still (λ failed. true≢false (sym failed ∙ fine)))
+
+-- a datagram that was taken out is what its post is to send next
+pub next_relayed : (basis : Basis) (server : ServerSeen) (item : Item) (number : ℕ) (datagram : List ℕ) → HasServed basis server → numbered_in item ≡ record { number = number; bytes = datagram } ∷ [] → AreBrought basis.brought (numbered ((view server.pass).popped ++ item ∷ [])) → server.failed ≡ false → IsNextRelayed basis server.post datagram
+next_relayed basis server item number datagram has is brought fine =
+    let before = has.served.popped in
+    let popped : (view server.pass).popped ≡ before = ap (λ (l : Log). l.popped) has.served.view_is in
+    record {
+      start = has.start;
+      among = has.among;
+      before = numbered before;
+      post_is = all_sent has.start server has.served fine;
+      number = number;
+      brought = subst (AreBrought basis.brought) (numbered_more before item ∙ ap (λ (own : List Numbered). numbered before ++ own) is) (subst (λ (l : List Item). AreBrought basis.brought (numbered (l ++ item ∷ []))) popped brought);
     }

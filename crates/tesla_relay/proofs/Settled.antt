@@ -39,7 +39,7 @@ before_end (i ∷ items) (f ∷ prefix) more all same =
 texts_end : (prefix : List Item) → texts (prefix ++ End ∷ []) ≡ texts prefix
 texts_end prefix = flat_map-append text_in prefix (End ∷ []) ∙ append-nil (texts prefix)
 
-pub settles : (capacity : ℕ) (arrived : List (List ℕ)) (start : PostSeen) (feed : Feed) (server : ServerSeen) (count : PostCount) (more : List Item) → Ends capacity arrived start feed server → (view feed.pass).put ≡ (view server.pass).popped ++ more → count.sent ≡ server.sent → count.dropped ≡ feed.dropped → count.failed ≡ server.failed
+pub settles : {X : Type 0} (capacity : ℕ) (arrived : List (List ℕ)) (start : PostSeen) (feed : Feed X) (server : ServerSeen) (count : PostCount) (more : List Item) → Ends capacity arrived start feed server → (view feed.pass).put ≡ (view server.pass).popped ++ more → count.sent ≡ server.sent → count.dropped ≡ feed.dropped → count.failed ≡ server.failed
     → RelaysPost capacity arrived start server.post count
 settles capacity arrived start feed server count more ends total sent dropped failed =
     let items : List Item = ends.closed.0 in let keeps : Keeps feed.capacity arrived items feed.dropped = ends.closed.2 in

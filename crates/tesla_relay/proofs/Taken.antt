@@ -50,7 +50,7 @@ played_none bytes offset ahead first told =
     subst (λ (p : ℕ). IsPlayedTo bytes [] p ahead) (sym first) (record { records = []; rest = bytes; ahead_is = told; taken = none_taken capture capture_is bytes; arrivals = refl })
 
 -- one record more was taken
-played_more : (bytes : List ℕ) (played : List Played) (offset now : ℕ) (ahead later : Option (List ℕ)) (given : Record) → (to : IsPlayedTo bytes played offset ahead) → GivesRecord given offset to.rest now later → IsPlayedTo bytes (played ++ arrivals_in given) now later
+pub played_more : (bytes : List ℕ) (played : List Played) (offset now : ℕ) (ahead later : Option (List ℕ)) (given : Record) → (to : IsPlayedTo bytes played offset ahead) → GivesRecord given offset to.rest now later → IsPlayedTo bytes (played ++ arrivals_in given) now later
 played_more bytes played offset now ahead later given to gives = record {
   records = to.records ++ given ∷ [];
   rest = gives.0;
@@ -69,7 +69,7 @@ played_all bytes played offset ahead fault to none =
     )
 
 -- others may follow
-played_prefix : (bytes : List ℕ) (played : List Played) (offset : ℕ) (ahead : Option (List ℕ)) → IsPlayedTo bytes played offset ahead → IsPrefixOf bytes played
+pub played_prefix : (bytes : List ℕ) (played : List Played) (offset : ℕ) (ahead : Option (List ℕ)) → IsPlayedTo bytes played offset ahead → IsPrefixOf bytes played
 played_prefix bytes played offset ahead to =
     let others = (outline_at capture offset to.rest).records in
     record {

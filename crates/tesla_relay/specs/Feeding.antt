@@ -1,14 +1,16 @@
 -- What stands in the queue before a post, and what its feed and its server have done with it.
-use Rattle.std.specs.Prelude.{◌≡◌, ℕ, ◌+◌, ◌≤◌, Bool, true, false, List, [], ◌∷◌, ◌++◌, length, take, flat_map}
+use Rattle.std.specs.Prelude.{◌≡◌, ℕ, ◌+◌, ◌-◌, ◌^◌, ◌≤◌, Bool, true, false, List, [], ◌∷◌, ◌++◌, length, take, min, flat_map}
 use Rattle.std.specs.Arc.{arc_value}
-use Rattle.std.specs.List.{AllByRecursion}
+use Rattle.std.specs.List.{AllByRecursion, Contains}
 use Rattle.atomic_table.specs.Seated.{TableId}
 use Rattle.crossbeam_queue.specs.Passes.{Pass, view, IsPassOf, ruled_capacity}
 use Rattle.tesla_desk.specs.Faults.{HasCause}
 use Rattle.tesla_desk.specs.Posts.{with_datagram}
 use Rattle.tesla_relay.specs.Counts.{counted}
+use Rattle.tesla_relay.specs.Due.{Basis}
+use Rattle.tesla_relay.specs.Numbered.{AreBelow}
 use Rattle.tesla_relay.specs.Posts.{PostSeen, with_datagrams}
-use Rattle.tesla_relay.specs.Line.{put_log, popped_log}
+use Rattle.tesla_relay.specs.Line.{numbered, put_log, popped_log}
 use Rattle.tesla_relay.specs.Relay.{kept_of, dropped_in, DropsBehind}
 use Rattle.tesla_relay.specs.declared.line.Log.{Log}
 use Rattle.tesla_relay.specs.declared.line.Item.{Item}
@@ -17,7 +19,7 @@ use Rattle.tesla_relay.specs.declared.feed.Feed.{Feed}
 
 -- the datagram that an item is
 abbrev pub text_in : Item → List (List ℕ)
-text_in (Datagram size bytes) = take size bytes.value ∷ []
+text_in (Datagram number size bytes) = take size bytes.value ∷ []
 text_in End = []
 
 -- the datagrams among items
@@ -25,17 +27,23 @@ abbrev pub texts : List Item → List (List ℕ)
 texts items = flat_map text_in items
 
 abbrev pub IsDatagram : Item → Type 0
-IsDatagram (Datagram size bytes) = Unit {0}
+IsDatagram (Datagram number size bytes) = Unit {0}
 IsDatagram End = ⊥
 
 -- ---- the feed
 
--- a feed may put in, and has counted what it did
-pub record IsFeeding (feed : Feed) : Type 0 where
+-- so many came, as a feed counts them, whose count stands still at 2^62 - 2
+abbrev pub came_in : ℕ → ℕ
+came_in n = min n (2 ^ 62 - 2)
+
+-- a feed may put in, and has counted what came: what it put in came before the next, and none was dropped while it had put in fewer than the queue holds
+pub record IsFeeding {X : Type 0} (feed : Feed X) : Type 0 where
   pub own : IsPassOf (arc_value feed.line) feed.pass
   pub items : List Item
   pub view_is : view feed.pass ≡ put_log items
-  pub taken_is : feed.taken ≡ length items
+  pub counts : feed.came ≤ 2 ^ 62 - 2
+  pub below : AreBelow feed.came (numbered items)
+  pub first : min feed.came feed.capacity ≤ length items
   pub room : ruled_capacity (arc_value feed.line) ≡ feed.capacity + 1
   pub few : feed.capacity ≤ 4096
 
@@ -49,15 +57,15 @@ pub record Keeps (capacity : ℕ) (arrived : List (List ℕ)) (items : List Item
   pub dropped_is : dropped ≡ counted (dropped_in marks)
 
 -- a feed put in what was kept of the datagrams that came
-abbrev pub Fed : List (List ℕ) → Feed → Type 0
+abbrev pub Fed : {X : Type 0} → List (List ℕ) → Feed X → Type 0
 Fed arrived feed = (items : List Item) × (view feed.pass ≡ put_log items) × Keeps feed.capacity arrived items feed.dropped
 
 -- and then the news that none follows
-abbrev pub Closed : List (List ℕ) → Feed → Type 0
+abbrev pub Closed : {X : Type 0} → List (List ℕ) → Feed X → Type 0
 Closed arrived feed = (items : List Item) × (view feed.pass ≡ put_log (items ++ End ∷ [])) × Keeps feed.capacity arrived items feed.dropped
 
 -- it is a feed of the same queue
-pub record IsSameFeed (old new : Feed) : Type 0 where
+pub record IsSameFeed {X : Type 0} (old new : Feed X) : Type 0 where
   pub table : new.pass.table_id ≡ old.pass.table_id
   pub capacity : new.capacity ≡ old.capacity
 
@@ -89,6 +97,12 @@ pub record Served (start : PostSeen) (server : ServerSeen) : Type 0 where
   pub name : server.post.name ≡ start.name
   pub cause : HasCause start.faults server.post.faults (server.failed ≡ true)
   pub count : server.sent ≡ counted sends
+
+-- a server has served the post that was seen so at the start of the relay
+pub record HasServed (basis : Basis) (server : ServerSeen) : Type 0 where
+  pub start : PostSeen
+  pub among : Contains basis.posts start
+  pub served : Served start server
 
 -- a server handed a datagram to its post, unless that had failed
 pub record SendsNext (datagram : List ℕ) (old new : ServerSeen) : Type 0 where

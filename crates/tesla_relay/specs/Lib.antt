@@ -1,4 +1,5 @@
 pub mod Line
+pub mod Numbered
 pub mod Relay
 pub mod Feeding
 pub mod Lists
@@ -6,6 +7,7 @@ pub mod Queues
 pub mod Clocks
 pub mod Closed
 pub mod Counts
+pub mod Due
 pub mod Links
 pub mod Opened
 pub mod Opening

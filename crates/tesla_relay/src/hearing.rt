@@ -1,10 +1,11 @@
 //! The link, whose datagrams are put into all queues.
 
-ghost use Rattle.std.specs.Prelude.{All, ◌≡◌, ◌≤◌, ◌∷◌, [], ℕ, List, IfSome, take, length, map};
+ghost use Rattle.std.specs.Prelude.{All, ◌≡◌, ◌<◌, ◌≤◌, ◌-◌, ◌^◌, ◌∷◌, [], ℕ, List, IfSome, take, length, map, true};
 ghost use Rattle.tesla_desk.specs.Faults.{HasCause};
-ghost use Rattle.tesla_relay.specs.Feeding.{IsFeeding, IsServing, ServesOn};
-ghost use Rattle.tesla_relay.specs.Lists.{AreFeeding, AreServing, Each, FeedsAll, FeedsOn, HearsLink, HearsOn};
+ghost use Rattle.tesla_relay.specs.Feeding.{IsFeeding, ServesOn};
+ghost use Rattle.tesla_relay.specs.Lists.{AreFeeding, AreServing, Each, FeedsAll, FeedsOn, HaveCome, HearsLink, HearsOn, MayServe};
 
+use crate::basis::Based;
 use crate::feed::Feed;
 use crate::relayed::RelayEnd;
 use crate::server::Serve;
@@ -14,28 +15,29 @@ use tesla_base::MOST_DATAGRAM;
 use tesla_desk::{Gate, Got, Link};
 
 // Puts a datagram, which stands at the start of these bytes, into each queue that has room. All is done in this thread.
-fn offer_all<R: Threads + Wait + Sync>(
+fn offer_all<R: Threads + Wait + Sync, X: Based + Send + Sync>(
     rt: &R,
-    feeds: &mut [Feed],
+    feeds: &mut [Feed<X>],
     length: u16,
     bytes: &[u8; MOST_DATAGRAM],
 )
     requires feeding { All IsFeeding feeds.old }
+    requires brought { All (λ feed. feed.came < 2 ^ 62 - 2 → X.basis.brought feed.came (take length bytes.now) ≡ true) feeds.old }
     ensures { Each (FeedsOn (take length bytes.now ∷ [])) feeds.old feeds.new }
 {
-    let offer = |_place: usize, feed: &mut Feed|
-        requires { IsFeeding feed.now }
+    let offer = |_place: usize, feed: &mut Feed<X>|
+        requires { IsFeeding feed.now × (feed.now.came < 2 ^ 62 - 2 → X.basis.brought feed.now.came (take length bytes.now) ≡ true) }
         ensures { FeedsOn (take length bytes.entry.now ∷ []) feed.entry.now feed.exit.now }
     { feed.offer(rt, length, bytes) };
     for_each_mut(rt, feeds, 1, &offer);
 }
 
 // Puts the end into each queue. All is done in this thread.
-fn close_all<R: Threads + Wait + Sync>(rt: &R, feeds: &mut [Feed])
+fn close_all<R: Threads + Wait + Sync, X: Based + Send + Sync>(rt: &R, feeds: &mut [Feed<X>])
     requires feeding { All IsFeeding feeds.old }
     ensures { Each (FeedsAll []) feeds.old feeds.new }
 {
-    let close = |_place: usize, feed: &mut Feed|
+    let close = |_place: usize, feed: &mut Feed<X>|
         requires { IsFeeding feed.now }
         ensures { FeedsAll [] feed.entry.now feed.exit.now }
     { feed.close(rt) };
@@ -44,28 +46,29 @@ fn close_all<R: Threads + Wait + Sync>(rt: &R, feeds: &mut [Feed])
 
 // Sends what stands in the queues of these servers. All is done in this thread.
 fn empty_all<R: Threads + Wait + Sync, W: Serve + Send>(rt: &R, servers: &mut [W])
-    requires serving { All (λ server. IsServing (W.seen server)) servers.old }
+    requires serving { All (λ server. MayServe W.basis (W.seen server)) servers.old }
     ensures { Each ServesOn (map W.seen servers.old) (map W.seen servers.new) }
 {
     let empty = |_place: usize, server: &mut W|
-        requires { IsServing (W.seen server.now) }
+        requires { MayServe W.basis (W.seen server.now) }
         ensures { ServesOn (W.seen server.entry.now) (W.seen server.exit.now) }
     { server.serve_now(rt) };
     for_each_mut(rt, servers, 1, &empty);
 }
 
 // Puts a datagram into the queues, with the gate around it, and serves those that stand here.
-fn hand_on<R: Threads + Wait + Sync, G: Gate, W: Serve + Send>(
+fn hand_on<R: Threads + Wait + Sync, X: Based + Send + Sync, G: Gate, W: Serve + Send>(
     rt: &R,
     gate: &mut G,
-    feeds: &mut [Feed],
+    feeds: &mut [Feed<X>],
     here: &mut [W],
     length: usize,
     bytes: &[u8; MOST_DATAGRAM],
 )
     requires few { length ≤ 2048 }
+    requires brought { (number : ℕ) × HaveCome number feeds.old × (X.basis.brought number (take length bytes.now) ≡ true) }
     requires feeding { AreFeeding feeds.old }
-    requires serving { AreServing (map W.seen here.old) }
+    requires serving { AreServing W.basis (map W.seen here.old) }
     ensures feeds { Each (FeedsOn (take length bytes.now ∷ [])) feeds.old feeds.new }
     ensures here { Each ServesOn (map W.seen here.old) (map W.seen here.new) }
 {
@@ -77,15 +80,16 @@ fn hand_on<R: Threads + Wait + Sync, G: Gate, W: Serve + Send>(
 }
 
 // Puts each datagram of the link into the queues, until the link ends or fails.
-fn hear<R: Threads + Wait + Sync, K: Link, G: Gate, W: Serve + Send>(
+fn hear<R: Threads + Wait + Sync, X: Based + Send + Sync, K: Link, G: Gate, W: Serve + Send>(
     rt: &R,
     link: &mut K,
     gate: &mut G,
-    feeds: &mut [Feed],
+    feeds: &mut [Feed<X>],
     here: &mut [W],
 ) -> RelayEnd
-    requires feeding { AreFeeding feeds.old }
-    requires serving { AreServing (map W.seen here.old) }
+    requires link { (K.has_brought link.old 0 ≡ true) × (X.basis.brought ≡ K.brought) }
+    requires feeding { AreFeeding feeds.old × HaveCome 0 feeds.old }
+    requires serving { AreServing W.basis (map W.seen here.old) }
     ensures hears { HearsOn (K.left link.old) (K.left link.new) feeds.old feeds.new }
     ensures ended { result ≡ RelayEnd.Ended → IfSome (K.left link.new) (λ rest. rest ≡ []) }
     ensures here { Each ServesOn (map W.seen here.old) (map W.seen here.new) }
@@ -107,15 +111,16 @@ fn hear<R: Threads + Wait + Sync, K: Link, G: Gate, W: Serve + Send>(
 #[tactic(auto, using(crate::proofs::Heard::hears_end, crate::proofs::Heard::are_feeding))]
 /// Puts each datagram of the link into the queues, until the link ends or fails, and then the end. The servers that stand
 /// here are served behind each datagram. It waits for the link.
-pub fn hear_all<R: Threads + Wait + Sync, K: Link, G: Gate, W: Serve + Send>(
-    rt: &R,
-    link: &mut K,
-    gate: &mut G,
-    feeds: &mut [Feed],
-    here: &mut [W],
-) -> RelayEnd
-    requires feeding { AreFeeding feeds.old }
-    requires serving { AreServing (map W.seen here.old) }
+pub fn hear_all<
+    R: Threads + Wait + Sync,
+    X: Based + Send + Sync,
+    K: Link,
+    G: Gate,
+    W: Serve + Send,
+>(rt: &R, link: &mut K, gate: &mut G, feeds: &mut [Feed<X>], here: &mut [W]) -> RelayEnd
+    requires link { (K.has_brought link.old 0 ≡ true) × (X.basis.brought ≡ K.brought) }
+    requires feeding { AreFeeding feeds.old × HaveCome 0 feeds.old }
+    requires serving { AreServing W.basis (map W.seen here.old) }
     ensures hears { HearsLink result (K.left link.old) (K.left link.new) (K.faults link.old) (K.faults link.new) (K.name link.old) (K.name link.new) feeds.old feeds.new }
     ensures here { Each ServesOn (map W.seen here.old) (map W.seen here.new) }
 {

@@ -1,6 +1,7 @@
 //! Datagrams handed on to many posts: those of a link as they come, or those of a capture at its times.
 #![tactic(auto)]
 
+mod basis;
 mod buffers;
 mod feed;
 mod hearing;

@@ -1,22 +1,31 @@
-//! The queue that stands before a post, and the rule that it is under: what went in comes out, in order and once.
+//! The queue that stands before a post, and the rule that it is under: what went in comes out, in order and once, and
+//! a link brought it, in order and each once.
 
-ghost use Rattle.std.specs.Prelude.{◌≡◌, ◌<◌, ◌≤◌, ◌+◌, ◌∷◌, [], ◌++◌, List, true, length, take, IfOk, IfErr, MatchOption};
+ghost use Rattle.std.specs.Prelude.{◌≡◌, ◌<◌, ◌≤◌, ◌+◌, ◌∷◌, [], ◌++◌, ℕ, List, true, length, take, IfOk, IfErr, IfSome, MatchOption};
 ghost use Rattle.crossbeam_queue.specs.Passes.{view, IsSamePass, IsPassOf, ruled_capacity};
-ghost use Rattle.tesla_relay.specs.Line.{put_log, popped_log};
+ghost use Rattle.tesla_relay.specs.Line.{numbered, numbered_in, put_log, popped_log};
+ghost use Rattle.tesla_relay.specs.Numbered.{AreBelow, AreBrought, AreBroughtFrom};
 ghost use Rattle.tesla_relay.specs.declared.line.Item.{Item};
 
+use crate::basis::Based;
 use crate::buffers::Buffer;
 use crossbeam_queue::protocol::{Join, Lesson, Outcome, Protocol, Split};
 use crossbeam_queue::{Pass, RuledArrayQueue};
 use std::alloc::Global;
 use std::collections::LinkedList;
+use std::marker::PhantomData;
 use std::sync::Wait;
 use tesla_base::{MOST_DATAGRAM, NoMemory};
 
-/// What stands in a queue: a datagram, at the start of its bytes, or the news that none follows.
+/// What stands in a queue: a datagram, at the start of its bytes, with its number, counted from 0 among those of the
+/// link; or the news that none follows.
 #[derive(Drop)]
 pub enum Item {
-    Datagram { length: u16, bytes: Buffer },
+    Datagram {
+        number: u64,
+        length: u16,
+        bytes: Buffer,
+    },
     End,
 }
 
@@ -36,14 +45,17 @@ pub struct Log {
     pub popped: LinkedList<Item>,
 }
 
-/// The rule: what was put in is what was taken out and then what the queue holds.
-pub struct InOrder;
+/// The rule: what was put in is what was taken out and then what the queue holds. A link brought all of it, in order
+/// and each once.
+pub struct InOrder<X> {
+    basis: PhantomData<X>,
+}
 
-impl Protocol<Item, Log> for InOrder {
+impl<X: Based> Protocol<Item, Log> for InOrder<X> {
     ghost use Rattle.std.specs.Prelude.{true, []};
     ghost use Rattle.tesla_relay.specs.Line.{log, IsInOrder};
 
-    ghost holds = { IsInOrder };
+    ghost holds = { IsInOrder X.basis.brought };
 
     ghost first = { log true true [] [] };
 }
@@ -53,7 +65,8 @@ pub struct Ends;
 
 impl Split<Log> for Ends {
     ghost use Rattle.std.specs.Prelude.{[]};
-    ghost use Rattle.tesla_relay.specs.Line.{put_log, popped_log};
+    ghost use Rattle.tesla_relay.specs.Line.{numbered, numbered_in, put_log, popped_log};
+    ghost use Rattle.tesla_relay.specs.Numbered.{AreBelow, AreBrought, AreBroughtFrom};
 
     ghost left = { λ v. put_log v.put };
 
@@ -85,14 +98,17 @@ impl Lesson<Item, Log> for Puts {
     ghost fact = { λ v items. Offered v.put items };
 }
 
-/// What taking out an item does.
-struct Pops;
+/// What taking out an item does, and what is known of all that was taken out.
+struct Pops<X> {
+    basis: PhantomData<X>,
+}
 
-impl Outcome<Item, Log> for Pops {
+impl<X: Based> Outcome<Item, Log> for Pops<X> {
     ghost use Rattle.std.specs.Prelude.{◌≡◌, ◌++◌, ◌∷◌, []};
-    ghost use Rattle.tesla_relay.specs.Line.{log};
+    ghost use Rattle.tesla_relay.specs.Line.{log, numbered};
+    ghost use Rattle.tesla_relay.specs.Numbered.{AreBrought};
 
-    ghost then = { λ v x w. w ≡ log v.puts v.pops v.put (v.popped ++ x ∷ []) };
+    ghost then = { λ v x w. (w ≡ log v.puts v.pops v.put (v.popped ++ x ∷ [])) × AreBrought X.basis.brought (numbered (v.popped ++ x ∷ [])) };
 }
 
 /// What both together know of the queue.
@@ -105,25 +121,28 @@ impl Lesson<Item, Log> for Total {
 }
 
 /// A queue under this rule.
-pub type Line = RuledArrayQueue<Item, Log, InOrder>;
+pub type Line<X> = RuledArrayQueue<Item, Log, InOrder<X>>;
 
 /// What the queue shows to one who puts in or takes out.
 pub type LinePass = Pass<Item, Log>;
 
 /// A queue with so many places, empty, and its two passes: one puts in, the other takes out.
-pub fn new_line(alloc: Global, slots: usize) -> Result<(Line, LinePass, LinePass), NoMemory>
+pub fn new_line<X: Based>(
+    alloc: Global,
+    slots: usize,
+) -> Result<(Line<X>, LinePass, LinePass), NoMemory>
     requires { 0 < slots }
     ensures own { IfOk result (λ made. IsPassOf made.0 made.1 × IsPassOf made.0 made.2) }
     ensures room { IfOk result (λ made. ruled_capacity made.0 ≡ slots) }
     ensures empty { IfOk result (λ made. (view made.1 ≡ put_log []) × (view made.2 ≡ popped_log [])) }
 {
-    let (line, mut put) = Line::ruled(alloc, slots)?;
+    let (line, mut put) = Line::<X>::ruled(alloc, slots)?;
     let popped = line.another::<Ends>(&mut put);
     Ok((line, put, popped))
 }
 
 /// How many items the queue holds at most, at one moment.
-pub fn length_of<R: Wait>(rt: &R, line: &Line, pass: &mut LinePass) -> usize
+pub fn length_of<R: Wait, X: Based>(rt: &R, line: &Line<X>, pass: &mut LinePass) -> usize
     requires own { IsPassOf line.now pass.old }
     requires puts { (view pass.old).puts ≡ true }
     ensures own { IsSamePass pass.old pass.new × (view pass.new ≡ view pass.old) }
@@ -132,10 +151,17 @@ pub fn length_of<R: Wait>(rt: &R, line: &Line, pass: &mut LinePass) -> usize
     line.len_as::<Puts, R>(rt, pass)
 }
 
-/// Puts an item in. `Err`: the queue was full at one moment, and the item is given back.
-pub fn put_in<R: Wait>(rt: &R, line: &Line, pass: &mut LinePass, item: Item) -> Result<(), Item>
+/// Puts an item in: a datagram that a link brought behind all that were put in, or the end. `Err`: the queue was full
+/// at one moment, and the item is given back.
+pub fn put_in<R: Wait, X: Based>(
+    rt: &R,
+    line: &Line<X>,
+    pass: &mut LinePass,
+    item: Item,
+) -> Result<(), Item>
     requires own { IsPassOf line.now pass.old }
     requires puts { (put : List Item) × (view pass.old ≡ put_log put) }
+    requires brought { (number : ℕ) × AreBelow number (numbered (view pass.old).put) × AreBroughtFrom X.basis.brought number (numbered_in item) }
     ensures own { IsSamePass pass.old pass.new }
     ensures put { IfOk result (λ _. view pass.new ≡ put_log ((view pass.old).put ++ item ∷ [])) }
     ensures full { IfErr result (λ _. (view pass.new ≡ view pass.old) × (ruled_capacity line.now ≤ length (view pass.old).put)) }
@@ -144,17 +170,18 @@ pub fn put_in<R: Wait>(rt: &R, line: &Line, pass: &mut LinePass, item: Item) -> 
 }
 
 /// Takes the oldest item out. `None`: there was none at one moment, or another was being put in.
-pub fn take_out(line: &Line, pass: &mut LinePass) -> Option<Item>
+pub fn take_out<X: Based>(line: &Line<X>, pass: &mut LinePass) -> Option<Item>
     requires own { IsPassOf line.now pass.old }
     requires pops { (popped : List Item) × (view pass.old ≡ popped_log popped) }
     ensures own { IsSamePass pass.old pass.new }
     ensures taken { MatchOption result (view pass.new ≡ view pass.old) (λ item. view pass.new ≡ popped_log ((view pass.old).popped ++ item ∷ [])) }
+    ensures brought { IfSome result (λ item. AreBrought X.basis.brought (numbered ((view pass.old).popped ++ item ∷ []))) }
 {
-    line.try_pop_as::<Pops>(pass)
+    line.try_pop_as::<Pops<X>>(pass)
 }
 
 /// What was put in is what was taken out, and then what the queue holds: both passes are given up.
-pub fn settle(line: &Line, put: &mut LinePass, popped: LinePass)
+pub fn settle<X: Based>(line: &Line<X>, put: &mut LinePass, popped: LinePass)
     requires own { IsPassOf line.now put.old × IsPassOf line.now popped }
     requires puts { (view put.old).puts ≡ true }
     requires pops { (view popped).pops ≡ true }

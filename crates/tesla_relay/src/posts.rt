@@ -4,11 +4,11 @@ ghost use Rattle.std.specs.Prelude.{◌≡◌, ◌≤◌, ◌+◌, [], MatchResu
 ghost use Rattle.tesla_relay.specs.Opening.{OpensOne, RefusesOne, OpensPosts, ClosesPosts, name_of};
 ghost use Rattle.tesla_relay.specs.Posts.{PostSeen};
 
-use tesla_desk::Desk;
+use tesla_desk::Environment;
 use tesla_front::Fault;
 
 // Opens a post.
-fn open_one<D: Desk>(desk: &mut D, name: &str) -> Result<D::Port, Fault>
+fn open_one<D: Environment>(desk: &mut D, name: &str) -> Result<D::Port, Fault>
     ensures { MatchResult result (λ post. OpensOne name.now (D.told desk.old) (D.told desk.new) (record { name = D.Port.name post; sent = D.Port.sent post; faults = D.Port.faults post })) (λ fault. RefusesOne name.now (D.told desk.old) (D.told desk.new) fault) }
 {
     Ok(desk.open_post(name)?)
@@ -18,7 +18,7 @@ fn open_one<D: Desk>(desk: &mut D, name: &str) -> Result<D::Port, Fault>
 /// The posts that were opened before it stay, and the caller closes them.
 ///
 /// `Err`: what the refusal comes to, `Open` or `NoMemory`.
-pub fn open_posts<D: Desk>(
+pub fn open_posts<D: Environment>(
     desk: &mut D,
     names: &[&str],
     posts: &mut Vec<D::Port>,
@@ -39,7 +39,7 @@ pub fn open_posts<D: Desk>(
 }
 
 /// Closes the posts, the last first.
-pub fn close_posts<D: Desk>(desk: &mut D, posts: &mut Vec<D::Port>)
+pub fn close_posts<D: Environment>(desk: &mut D, posts: &mut Vec<D::Port>)
     ensures closes { ClosesPosts (map (λ post. record { name = D.Port.name post; sent = D.Port.sent post; faults = D.Port.faults post }) posts.old.items) (D.told desk.old) (D.told desk.new) }
     ensures none { posts.new.items ≡ [] }
 {

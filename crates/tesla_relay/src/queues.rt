@@ -1,12 +1,14 @@
 //! The queues before the posts, from their making to the counts.
 
-ghost use Rattle.std.specs.Prelude.{◌≡◌, ◌<◌, ◌≤◌, ◌+◌, [], ℕ, List, IfOk, length, map, vec_len, vec_capacity};
+ghost use Rattle.std.specs.Prelude.{◌≡◌, ◌<◌, ◌≤◌, ◌+◌, [], ℕ, List, IfOk, length, map, true, vec_len, vec_capacity};
 ghost use Rattle.std.specs.Arc.{arc_value};
+ghost use Rattle.tesla_relay.specs.Due.{IsNextRelayed};
 ghost use Rattle.tesla_relay.specs.Posts.{PostSeen};
 ghost use Rattle.tesla_relay.specs.Lists.{Ends};
 ghost use Rattle.tesla_relay.specs.Queues.{Adds, AreNew, Ending, GivesBack, IsEnding, IsNew, Starting};
 ghost use Rattle.tesla_relay.specs.Relay.{RelaysPost, RelaysPosts};
 
+use crate::basis::Based;
 use crate::buffers::{FreeBuffers, new_buffers};
 use crate::feed::Feed;
 use crate::line::{Line, LinePass, new_line, settle};
@@ -20,9 +22,9 @@ use tesla_desk::{Gate, Post};
 
 /// A queue: the feed that puts in, and the end at which a server takes out.
 #[derive(Drop)]
-pub struct Queue {
-    pub feed: Feed,
-    pub line: Arc<Line>,
+pub struct Queue<X: Based> {
+    pub feed: Feed<X>,
+    pub line: Arc<Line<X>>,
     pub pass: LinePass,
     pub free: Arc<FreeBuffers>,
 }
@@ -38,7 +40,7 @@ fn shared<T: Drop>(alloc: Global, value: T) -> Result<(Arc<T>, Arc<T>), NoMemory
 
 // A queue for so many datagrams, with two buffers more than it has places: one datagram may be on its way in, and one on its
 // way out.
-fn new_queue(alloc: Global, capacity: usize) -> Result<Queue, NoMemory>
+fn new_queue<X: Based>(alloc: Global, capacity: usize) -> Result<Queue<X>, NoMemory>
     requires { (1 ≤ capacity) × (capacity ≤ 4096) }
     ensures { IfOk result (λ queue. IsNew capacity queue) }
 {
@@ -54,11 +56,11 @@ fn new_queue(alloc: Global, capacity: usize) -> Result<Queue, NoMemory>
 }
 
 /// Makes so many queues for so many datagrams each.
-pub fn new_queues(
+pub fn new_queues<X: Based>(
     alloc: Global,
     count: usize,
     capacity: usize,
-    queues: &mut Vec<Queue>,
+    queues: &mut Vec<Queue<X>>,
 ) -> Result<(), NoMemory>
     requires capacity { (1 ≤ capacity) × (capacity ≤ 4096) }
     requires space { vec_len queues.old + count ≤ vec_capacity queues.old }
@@ -75,15 +77,16 @@ pub fn new_queues(
 
 /// Makes a server of each post with its gate, at a queue of its own. The feeds and the servers stand in the order of the
 /// posts from the last to the first.
-pub fn take_in<P: Post, G: Gate>(
-    queues: &mut Vec<Queue>,
+pub fn take_in<X: Based, P: Post, G: Gate>(
+    queues: &mut Vec<Queue<X>>,
     posts: &mut Vec<P>,
     gates: &mut Vec<G>,
-    feeds: &mut Vec<Feed>,
-    servers: &mut Vec<Server<P, G>>,
+    feeds: &mut Vec<Feed<X>>,
+    servers: &mut Vec<Server<X, P, G>>,
 )
     requires same { (length queues.old.items ≡ length posts.old.items) × (length gates.old.items ≡ length posts.old.items) }
     requires space { (vec_len feeds.old + length posts.old.items ≤ vec_capacity feeds.old) × (vec_len servers.old + length posts.old.items ≤ vec_capacity servers.old) }
+    requires due { (post : P) (datagram : List ℕ) → IsNextRelayed X.basis (record { name = P.name post; sent = P.sent post; faults = P.faults post }) datagram → P.may_send post datagram ≡ true }
     ensures starting { (capacity : ℕ) → AreNew capacity queues.old.items → Adds (Starting capacity) (map (λ post. record { name = P.name post; sent = P.sent post; faults = P.faults post }) posts.old.items) feeds.old.items feeds.new.items servers.old.items servers.new.items }
     ensures empty { (posts.new.items ≡ []) × (gates.new.items ≡ []) }
     ensures capacity { (vec_capacity posts.new ≡ vec_capacity posts.old) × (vec_capacity gates.new ≡ vec_capacity gates.old) }
@@ -109,7 +112,10 @@ pub fn take_in<P: Post, G: Gate>(
 }
 
 // What a feed and a server come to: the post, its gate, and what became of the datagrams for it.
-fn settle_one<P: Post, G: Gate>(feed: Feed, server: Server<P, G>) -> (P, (G, PostCount))
+fn settle_one<X: Based, P: Post, G: Gate>(
+    feed: Feed<X>,
+    server: Server<X, P, G>,
+) -> (P, (G, PostCount))
     requires { IsEnding feed server }
     ensures { (capacity : ℕ) (arrived : List (List ℕ)) (start : PostSeen) → Ends capacity arrived start feed server → RelaysPost capacity arrived start (record { name = P.name result.0; sent = P.sent result.0; faults = P.faults result.0 }) result.1.1 }
 {
@@ -118,7 +124,7 @@ fn settle_one<P: Post, G: Gate>(feed: Feed, server: Server<P, G>) -> (P, (G, Pos
         pass: mut put,
         free: _,
         capacity: _,
-        taken: _,
+        came: _,
         dropped,
     } = feed;
     let Server {
@@ -129,6 +135,7 @@ fn settle_one<P: Post, G: Gate>(feed: Feed, server: Server<P, G>) -> (P, (G, Pos
         free: _,
         sent,
         failed,
+        permit: _,
     } = server;
     settle(&line, &mut put, popped);
     let count = PostCount {
@@ -140,9 +147,9 @@ fn settle_one<P: Post, G: Gate>(feed: Feed, server: Server<P, G>) -> (P, (G, Pos
 }
 
 /// Gives the posts and their gates back, in their order, and puts what became of the datagrams for each behind the counts.
-pub fn give_back<P: Post, G: Gate>(
-    feeds: &mut Vec<Feed>,
-    servers: &mut Vec<Server<P, G>>,
+pub fn give_back<X: Based, P: Post, G: Gate>(
+    feeds: &mut Vec<Feed<X>>,
+    servers: &mut Vec<Server<X, P, G>>,
     posts: &mut Vec<P>,
     gates: &mut Vec<G>,
     counts: &mut ArrayVec<PostCount, MOST>,

@@ -1,11 +1,14 @@
 //! The relay of a link to posts.
 
-ghost use Rattle.std.specs.Prelude.{◌≡◌, ◌≤◌, [], ℕ, IfOk, MatchResult, OnErr, map, length, vec_capacity};
+ghost use Rattle.std.specs.Prelude.{◌≡◌, ◌≤◌, [], ℕ, List, IfOk, MatchResult, OnErr, map, length, true, vec_capacity};
 ghost use Rattle.tesla_desk.specs.Faults.{HasCause};
+ghost use Rattle.tesla_relay.specs.Due.{IsNextRelayed};
+ghost use Rattle.tesla_relay.specs.Posts.{PostSeen};
 ghost use Rattle.tesla_relay.specs.Queues.{AreNew};
 ghost use Rattle.tesla_relay.specs.Relay.{Relays};
 ghost use Rattle.tesla_relay.specs.declared.relayed.RelayEnd.TheVariants.{Failed};
 
+use crate::basis::Based;
 use crate::feed::Feed;
 use crate::queues::{Queue, give_back, new_queues, take_in};
 use crate::relayed::Relayed;
@@ -13,24 +16,25 @@ use crate::server::Server;
 use crate::serving::run_all;
 use arrayvec::ArrayVec;
 use std::alloc::Global;
+use std::marker::Brand;
 use std::sync::Wait;
 use std::thread::Threads;
 use tesla_base::NoMemory;
 use tesla_desk::{Gate, Link, Post};
 
 // All that a run needs beside the link and the posts.
-struct Rooms<P: Post, G: Gate> {
-    queues: Vec<Queue>,
-    feeds: Vec<Feed>,
-    servers: Vec<Server<P, G>>,
+struct Rooms<X: Based, P: Post, G: Gate> {
+    queues: Vec<Queue<X>>,
+    feeds: Vec<Feed<X>>,
+    servers: Vec<Server<X, P, G>>,
 }
 
 // Takes all memory that a run needs.
-fn make_rooms<P: Post, G: Gate>(
+fn make_rooms<X: Based, P: Post, G: Gate>(
     alloc: Global,
     count: usize,
     capacity: usize,
-) -> Result<Rooms<P, G>, NoMemory>
+) -> Result<Rooms<X, P, G>, NoMemory>
     requires { (1 ≤ capacity) × (capacity ≤ 4096) }
     ensures queues { IfOk result (λ it. AreNew capacity it.queues.items × (length it.queues.items ≡ count)) }
     ensures none { IfOk result (λ it. (it.feeds.items ≡ []) × (it.servers.items ≡ [])) }
@@ -48,17 +52,26 @@ fn make_rooms<P: Post, G: Gate>(
 }
 
 // Relays the link with these rooms.
-fn relay_in<R: Threads + Wait + Sync, K: Link, P: Post + Send, G: Gate + Send>(
+fn relay_in<
+    R: Threads + Wait + Sync,
+    X: Based + Send + Sync,
+    K: Link,
+    P: Post + Send,
+    G: Gate + Send,
+>(
     rt: &R,
     link: &mut K,
     gate: &mut G,
     posts: &mut Vec<P>,
     gates: &mut Vec<G>,
-    rooms: Rooms<P, G>,
+    rooms: Rooms<X, P, G>,
 ) -> Relayed
     requires some { (1 ≤ length posts.old.items) × (length posts.old.items ≤ 32) × (length gates.old.items ≡ length posts.old.items) }
     requires rooms { (rooms.feeds.items ≡ []) × (rooms.servers.items ≡ []) × (length rooms.queues.items ≡ length posts.old.items) × (length posts.old.items ≤ vec_capacity rooms.feeds) × (length posts.old.items ≤ vec_capacity rooms.servers) }
     requires new { (capacity : ℕ) × AreNew capacity rooms.queues.items }
+    requires link { (K.has_brought link.old 0 ≡ true) × (X.basis.brought ≡ K.brought) }
+    requires posts { X.basis.posts ≡ map (λ post. record { name = P.name post; sent = P.sent post; faults = P.faults post }) posts.old.items }
+    requires due { (post : P) (datagram : List ℕ) → IsNextRelayed X.basis (record { name = P.name post; sent = P.sent post; faults = P.faults post }) datagram → P.may_send post datagram ≡ true }
     ensures relays { (capacity : ℕ) → AreNew capacity rooms.queues.items → Relays capacity (K.left link.old) (K.left link.new) (map (λ post. record { name = P.name post; sent = P.sent post; faults = P.faults post }) posts.old.items) (map (λ post. record { name = P.name post; sent = P.sent post; faults = P.faults post }) posts.new.items) result.end result.counts.items }
     ensures cause { HasCause (K.faults link.old) (K.faults link.new) (result.end ≡ Failed) }
     ensures name { K.name link.new ≡ K.name link.old }
@@ -76,9 +89,46 @@ fn relay_in<R: Threads + Wait + Sync, K: Link, P: Post + Send, G: Gate + Send>(
     Relayed::new(end, counts)
 }
 
+// Relays the link, on this basis.
+fn relay_based<
+    R: Threads + Wait + Sync,
+    X: Based + Send + Sync,
+    K: Link,
+    P: Post + Send,
+    G: Gate + Send,
+>(
+    rt: &R,
+    alloc: Global,
+    link: &mut K,
+    gate: &mut G,
+    posts: &mut Vec<P>,
+    gates: &mut Vec<G>,
+    capacity: u32,
+) -> Result<Relayed, NoMemory>
+    requires some { (1 ≤ length posts.old.items) × (length posts.old.items ≤ 32) }
+    requires gates { length gates.old.items ≡ length posts.old.items }
+    requires capacity { (1 ≤ capacity) × (capacity ≤ 4096) }
+    requires link { (K.has_brought link.old 0 ≡ true) × (X.basis.brought ≡ K.brought) }
+    requires posts { X.basis.posts ≡ map (λ post. record { name = P.name post; sent = P.sent post; faults = P.faults post }) posts.old.items }
+    requires due { (post : P) (datagram : List ℕ) → IsNextRelayed X.basis (record { name = P.name post; sent = P.sent post; faults = P.faults post }) datagram → P.may_send post datagram ≡ true }
+    ensures relays { IfOk result (λ it. Relays capacity (K.left link.old) (K.left link.new) (map (λ post. record { name = P.name post; sent = P.sent post; faults = P.faults post }) posts.old.items) (map (λ post. record { name = P.name post; sent = P.sent post; faults = P.faults post }) posts.new.items) it.end it.counts.items) }
+    ensures unread { OnErr result (K.left link.new ≡ K.left link.old) }
+    ensures untouched { OnErr result (posts.new.items ≡ posts.old.items) }
+    ensures cause { HasCause (K.faults link.old) (K.faults link.new) (MatchResult result (λ it. it.end ≡ Failed) (λ _. ⊥)) }
+    ensures name { K.name link.new ≡ K.name link.old }
+{
+    match make_rooms::<X, P, G>(alloc, posts.len(), capacity as usize) {
+        Ok(rooms) => Ok(relay_in(rt, link, gate, posts, gates, rooms)),
+        Err(refusal) => Err(refusal),
+    }
+}
+
 /// Hands each datagram of the link on to all posts, until the link ends or fails and all that was kept for the posts is
 /// sent. Before each post stands a queue of `capacity` datagrams; one that finds it full is dropped for that post, and so is
-/// any behind 2^62 - 2 others.
+/// any behind the first 2^62 - 2 of the link.
+///
+/// Each post may send what comes next for it: datagrams that the link brought, in order and each once. Nothing else is
+/// sent, whether the run ends or not.
 ///
 /// The caller reads the link, with `gate` around each datagram that it puts into the queues, and around the end. Each post
 /// sends in a thread of its own, with its own gate around each datagram; where so many threads can't be made, the caller
@@ -98,14 +148,14 @@ pub fn relay<R: Threads + Wait + Sync, K: Link, P: Post + Send, G: Gate + Send>(
     requires some { (1 ≤ length posts.old.items) × (length posts.old.items ≤ 32) }
     requires gates { length gates.old.items ≡ length posts.old.items }
     requires capacity { (1 ≤ capacity) × (capacity ≤ 4096) }
+    requires new { K.has_brought link.old 0 ≡ true }
+    requires due { let seen : P → PostSeen = λ post. record { name = P.name post; sent = P.sent post; faults = P.faults post } in
+        (post : P) (datagram : List ℕ) → IsNextRelayed (record { brought = K.brought; posts = map seen posts.old.items }) (seen post) datagram → P.may_send post datagram ≡ true }
     ensures relays { IfOk result (λ it. Relays capacity (K.left link.old) (K.left link.new) (map (λ post. record { name = P.name post; sent = P.sent post; faults = P.faults post }) posts.old.items) (map (λ post. record { name = P.name post; sent = P.sent post; faults = P.faults post }) posts.new.items) it.end it.counts.items) }
     ensures unread { OnErr result (K.left link.new ≡ K.left link.old) }
     ensures untouched { OnErr result (posts.new.items ≡ posts.old.items) }
     ensures cause { HasCause (K.faults link.old) (K.faults link.new) (MatchResult result (λ it. it.end ≡ Failed) (λ _. ⊥)) }
     ensures name { K.name link.new ≡ K.name link.old }
 {
-    match make_rooms(alloc, posts.len(), capacity as usize) {
-        Ok(rooms) => Ok(relay_in(rt, link, gate, posts, gates, rooms)),
-        Err(refusal) => Err(refusal),
-    }
+    relay_based::<R, Brand, K, P, G>(rt, alloc, link, gate, posts, gates, capacity)
 }

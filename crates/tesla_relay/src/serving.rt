@@ -1,10 +1,10 @@
 //! The servers, each in a thread of its own where threads can be made.
 
-ghost use Rattle.std.specs.Prelude.{◌<◌, All, length, map};
+ghost use Rattle.std.specs.Prelude.{◌≡◌, ◌<◌, All, length, map, true};
 ghost use Rattle.std.specs.Thread.{IsSend, IsSync};
-ghost use Rattle.tesla_relay.specs.Feeding.{IsServing};
-ghost use Rattle.tesla_relay.specs.Lists.{AreFeeding, AreServing, Each, HearsLink, ServesAll};
+ghost use Rattle.tesla_relay.specs.Lists.{AreFeeding, AreServing, Each, HaveCome, HearsLink, MayServe, ServesAll};
 
+use crate::basis::Based;
 use crate::feed::Feed;
 use crate::hearing::hear_all;
 use crate::relayed::RelayEnd;
@@ -47,24 +47,25 @@ fn can_make<R: Threads + Wait + Sync>(rt: &R, threads: usize) -> bool {
 // Serves each queue to its end, in so many threads at most. With one it is this thread, and one queue after another.
 fn serve_all<R: Threads + Wait + Sync, W: Serve + Send>(rt: &R, servers: &mut [W], threads: usize)
     requires some { 0 < threads }
-    requires serving { All (λ server. IsServing (W.seen server)) servers.old }
+    requires serving { All (λ server. MayServe W.basis (W.seen server)) servers.old }
     ensures { Each ServesAll (map W.seen servers.old) (map W.seen servers.new) }
 {
     let serve = |_place: usize, server: &mut W|
-        requires { IsServing (W.seen server.now) }
+        requires { MayServe W.basis (W.seen server.now) }
         ensures { ServesAll (W.seen server.entry.now) (W.seen server.exit.now) }
     { server.serve_on(rt) };
     for_each_mut(rt, servers, threads, &serve);
 }
 
 // Hears the link, where all queues are served elsewhere.
-fn hear_alone<R: Threads + Wait + Sync, K: Link, G: Gate, W: Serve + Send>(
+fn hear_alone<R: Threads + Wait + Sync, X: Based + Send + Sync, K: Link, G: Gate, W: Serve + Send>(
     rt: &R,
     link: &mut K,
     gate: &mut G,
-    feeds: &mut [Feed],
+    feeds: &mut [Feed<X>],
 ) -> RelayEnd
-    requires { AreFeeding feeds.old }
+    requires link { (K.has_brought link.old 0 ≡ true) × (X.basis.brought ≡ K.brought) }
+    requires feeding { AreFeeding feeds.old × HaveCome 0 feeds.old }
     ensures { HearsLink result (K.left link.old) (K.left link.new) (K.faults link.old) (K.faults link.new) (K.name link.old) (K.name link.new) feeds.old feeds.new }
 {
     let none: &mut [W] = &mut [];
@@ -72,43 +73,45 @@ fn hear_alone<R: Threads + Wait + Sync, K: Link, G: Gate, W: Serve + Send>(
 }
 
 // Hears the link here, and serves the queues in threads of their own.
-fn run_apart<R: Threads + Wait + Sync, K: Link, G: Gate, W: Serve + Send>(
+fn run_apart<R: Threads + Wait + Sync, X: Based + Send + Sync, K: Link, G: Gate, W: Serve + Send>(
     rt: &R,
     link: &mut K,
     gate: &mut G,
-    feeds: &mut [Feed],
+    feeds: &mut [Feed<X>],
     servers: &mut [W],
 ) -> RelayEnd
     requires some { 0 < length servers.old }
-    requires feeding { AreFeeding feeds.old }
-    requires serving { All (λ server. IsServing (W.seen server)) servers.old }
+    requires link { (K.has_brought link.old 0 ≡ true) × (X.basis.brought ≡ K.brought) }
+    requires feeding { AreFeeding feeds.old × HaveCome 0 feeds.old }
+    requires serving { All (λ server. MayServe W.basis (W.seen server)) servers.old }
     ensures hears { HearsLink result (K.left link.old) (K.left link.new) (K.faults link.old) (K.faults link.new) (K.name link.old) (K.name link.new) feeds.old feeds.new }
     ensures serves { Each ServesAll (map W.seen servers.old) (map W.seen servers.new) }
 {
     let threads = servers.len();
     let mut serve = ||
-        requires { IsSync R.row × IsSend W.row × (0 < threads) × All (λ server. IsServing (W.seen server)) servers.now }
+        requires { IsSync R.row × IsSend W.row × (0 < threads) × All (λ server. MayServe W.basis (W.seen server)) servers.now }
         ensures { Each ServesAll (map W.seen servers.entry.now) (map W.seen servers.exit.now) }
     { serve_all(rt, servers, threads) };
     let mut hear = || -> RelayEnd
-        requires { AreFeeding feeds.now }
+        requires { (K.has_brought link.now 0 ≡ true) × (X.basis.brought ≡ K.brought) × (AreFeeding feeds.now × HaveCome 0 feeds.now) }
         ensures { HearsLink result (K.left link.entry.now) (K.left link.exit.now) (K.faults link.entry.now) (K.faults link.exit.now) (K.name link.entry.now) (K.name link.exit.now) feeds.entry.now feeds.exit.now }
-    { hear_alone::<R, K, G, W>(rt, link, gate, feeds) };
+    { hear_alone::<R, X, K, G, W>(rt, link, gate, feeds) };
     join_mut(rt, &mut serve, &mut hear).1
 }
 
 /// Hears the link to its end and serves all queues to theirs: each in a thread of its own, or, where so many threads
 /// can't be made, here behind each datagram.
-pub fn run_all<R: Threads + Wait + Sync, K: Link, G: Gate, W: Serve + Send>(
+pub fn run_all<R: Threads + Wait + Sync, X: Based + Send + Sync, K: Link, G: Gate, W: Serve + Send>(
     rt: &R,
     link: &mut K,
     gate: &mut G,
-    feeds: &mut [Feed],
+    feeds: &mut [Feed<X>],
     servers: &mut [W],
 ) -> RelayEnd
     requires some { 0 < length servers.old }
-    requires feeding { AreFeeding feeds.old }
-    requires serving { AreServing (map W.seen servers.old) }
+    requires link { (K.has_brought link.old 0 ≡ true) × (X.basis.brought ≡ K.brought) }
+    requires feeding { AreFeeding feeds.old × HaveCome 0 feeds.old }
+    requires serving { AreServing W.basis (map W.seen servers.old) }
     ensures hears { HearsLink result (K.left link.old) (K.left link.new) (K.faults link.old) (K.faults link.new) (K.name link.old) (K.name link.new) feeds.old feeds.new }
     ensures serves { Each ServesAll (map W.seen servers.old) (map W.seen servers.new) }
 {

@@ -34,12 +34,12 @@ text_is heard = ap (λ (t : List ℕ). head ++ t) (records_are heard)
 pub text_size : (heard : List Heard) → length (text_of heard) ≡ 5 + length (pieces_of heard)
 text_size heard = ap (λ (t : List ℕ). length t) (text_is heard) ∙ length-append head (pieces_of heard)
 
-few_heard : (heard : List Heard) → length heard ≤ length (pieces_of heard)
+pub few_heard : (heard : List Heard) → length heard ≤ length (pieces_of heard)
 few_heard [] = omega arith
 few_heard (one ∷ heard) = omega (arith, few_heard heard, length-append (piece_of one) (pieces_of heard), length-append (record_text (Arrives one.reading one.bytes)) (record_text Takes))
 
 -- the records of what was heard have the limits
-all_records : (heard : List Heard) → AllByRecursion IsHeard heard → AllByRecursion IsRecord (records_of heard)
+pub all_records : (heard : List Heard) → AllByRecursion IsHeard heard → AllByRecursion IsRecord (records_of heard)
 all_records [] all = tt
 all_records (one ∷ heard) all = (all.0, (tt, all_records heard all.1))
 
@@ -53,8 +53,8 @@ over_text size heard later same (inl none) = inl none
 over_text size heard later same (inr full) = inr (full_text size heard same full)
 
 -- nothing was left, or the capture is full, and all was written
-pub recorded_all : (recorder : Recorder) (count : ℕ) (left later : Option (List Letter)) (before after : Option Ticking) (written mid kept : Option (List ℕ)) (failed : ℕ) → recorder.size ≤ limit → HearsOn recorder left later before after written mid → IfSome later (λ rest. rest ≡ []) ⊎ IsFull recorder.size → kept ≡ with_bytes mid (gathered recorder.gatherer) → count ≡ recorder.count → Records (Ok count) left later before after written kept failed
-recorded_all recorder count left later before after written mid kept failed most on over wrote counted = record {
+pub recorded_all : (read_for : ℕ → List ℕ → ℕ → Bool) (recorder : Recorder) (count : ℕ) (left later : Option (List Letter)) (before after : Option Ticking) (written mid kept : Option (List ℕ)) (failed : ℕ) → recorder.size ≤ limit → HearsOn read_for recorder left later before after written mid → IfSome later (λ rest. rest ≡ []) ⊎ IsFull recorder.size → kept ≡ with_bytes mid (gathered recorder.gatherer) → count ≡ recorder.count → Records (Ok count) left later before after written kept failed
+recorded_all read_for recorder count left later before after written mid kept failed most on over wrote counted = record {
   heard = on.heard;
   hears = on.hears;
   fits = omega (arith, most, on.keeps.size, text_size on.heard);
@@ -62,8 +62,8 @@ recorded_all recorder count left later before after written mid kept failed most
 }
 
 -- what was gathered isn't written
-pub recorded_lost : (recorder : Recorder) (left later : Option (List Letter)) (before after : Option Ticking) (written mid kept : Option (List ℕ)) (failed : ℕ) → recorder.size ≤ limit → recorder.gatherer.length ≤ 8192 → HearsOn recorder left later before after written mid → AppendsPrefix mid kept (gathered recorder.gatherer) → Records (Err faults.Write) left later before after written kept failed
-recorded_lost recorder left later before after written mid kept failed most within on prefix = record {
+pub recorded_lost : (read_for : ℕ → List ℕ → ℕ → Bool) (recorder : Recorder) (left later : Option (List Letter)) (before after : Option Ticking) (written mid kept : Option (List ℕ)) (failed : ℕ) → recorder.size ≤ limit → recorder.gatherer.length ≤ 8192 → HearsOn read_for recorder left later before after written mid → AppendsPrefix mid kept (gathered recorder.gatherer) → Records (Err faults.Write) left later before after written kept failed
+recorded_lost read_for recorder left later before after written mid kept failed most within on prefix = record {
   heard = on.heard;
   hears = on.hears;
   fits = omega (arith, most, on.keeps.size, text_size on.heard);
@@ -75,8 +75,8 @@ failed_by true recorder heard later written kept failed all some = inl (all refl
 failed_by false recorder heard later written kept failed all some = inr (some refl)
 
 -- the link failed, and what was gathered was written, but where a write failed too
-pub recorded_failed : (whole : Bool) (recorder : Recorder) (left later : Option (List Letter)) (before after : Option Ticking) (written mid kept : Option (List ℕ)) (failed : ℕ) → recorder.size ≤ limit → recorder.gatherer.length ≤ 8192 → HearsOn recorder left later before after written mid → (whole ≡ true → kept ≡ with_bytes mid (gathered recorder.gatherer)) → AppendsPrefix mid kept (gathered recorder.gatherer) → (whole ≡ true → failed ≡ 0) → (whole ≡ false → 0 < failed) → Records (Err faults.Read) left later before after written kept failed
-recorded_failed whole recorder left later before after written mid kept failed most within on wrote prefix none some = record {
+pub recorded_failed : (read_for : ℕ → List ℕ → ℕ → Bool) (whole : Bool) (recorder : Recorder) (left later : Option (List Letter)) (before after : Option Ticking) (written mid kept : Option (List ℕ)) (failed : ℕ) → recorder.size ≤ limit → recorder.gatherer.length ≤ 8192 → HearsOn read_for recorder left later before after written mid → (whole ≡ true → kept ≡ with_bytes mid (gathered recorder.gatherer)) → AppendsPrefix mid kept (gathered recorder.gatherer) → (whole ≡ true → failed ≡ 0) → (whole ≡ false → 0 < failed) → Records (Err faults.Read) left later before after written kept failed
+recorded_failed read_for whole recorder left later before after written mid kept failed most within on wrote prefix none some = record {
   heard = on.heard;
   hears = on.hears;
   fits = omega (arith, most, on.keeps.size, text_size on.heard);

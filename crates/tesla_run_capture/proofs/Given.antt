@@ -1,7 +1,7 @@
 -- The readings that a clock gives, and what is heard with them.
-use Rattle.std.proofs.Common.{◌≡◌, ◌∙◌, ℕ, ◌+◌, ◌-◌, ◌^◌, ◌<◌, List, [], ◌∷◌, ◌++◌, length, map, Option, Some, None, refl, sym, ap, subst, append_assoc, append-nil, arith}
-use Rattle.std.specs.List.{AllByRecursion}
-use Rattle.std.proofs.lemmas.List.{length-append, length-map, map-append}
+use Rattle.std.proofs.Common.{◌≡◌, ◌∙◌, ℕ, zero, suc, ◌-◌, ◌^◌, ◌<◌, Bool, true, List, [], ◌∷◌, ◌++◌, length, map, Option, Some, None, refl, sym, ap, subst, append_assoc, append-nil, arith}
+use Rattle.std.specs.List.{AllByRecursion, slice_get}
+use Rattle.std.proofs.lemmas.List.{length-map, map-append}
 use Rattle.std.proofs.lemmas.List.Concat.{flat_map-append}
 use Rattle.tesla_desk.specs.Clocks.{Gives, Ticking, Ticks, readings_from}
 use Rattle.tesla_desk.specs.Links.{after_letters, datagram_in, datagrams}
@@ -10,6 +10,7 @@ use Rattle.tesla_desk.proofs.Given.{first_readings, gives_more}
 use Rattle.tesla_desk.specs.declared.link.Letter.{Letter}
 use Rattle.tesla_desk.specs.declared.link.Letter.TheVariants as letters
 use Rattle.tesla_run_capture.specs.Heard.{Heard, IsHeard, ReadWhere, bytes_of, reading_of}
+use Rattle.tesla_run_capture.specs.Pieces.{AreReadFor}
 use Rattle.tesla_run_capture.specs.Recording.{Hears}
 
 -- ---- readings
@@ -21,6 +22,21 @@ read_where heard (Some readings) None after few gives = tt
 read_where heard (Some readings) (Some made) after few gives =
     let size : length (map reading_of heard) ≡ length heard = length-map heard reading_of in
     first_readings (map reading_of heard) (record { ahead = readings made; given = [] }) after (omega (arith, few, size)) gives ∙ ap (λ (n : ℕ). readings_from n (readings made)) size
+
+-- a fact of each place of a list, with one place more
+got_more : {A : Type 0} (P : ℕ → A → Type 0) (xs : List A) (x : A) → ((n : ℕ) (y : A) → slice_get xs n ≡ Some y → P n y) → P (length xs) x → (n : ℕ) (y : A) → slice_get (xs ++ x ∷ []) n ≡ Some y → P n y
+got_more P [] x each last zero y e = subst (λ z. P zero z) (let same : x ≡ y = cc in same) last
+got_more P [] x each last (suc n) y e = absurd cc
+got_more P (first ∷ xs) x each last zero y e = each zero y e
+got_more P (first ∷ xs) x each last (suc n) y e = got_more (λ k. P (suc k)) xs x (λ k z. each (suc k) z) last n y e
+
+-- nothing was heard
+pub read_none : (read_for : ℕ → List ℕ → ℕ → Bool) → AreReadFor read_for []
+read_none read_for number one e = absurd cc
+
+-- one more has a reading that was asked for it
+pub read_more : (read_for : ℕ → List ℕ → ℕ → Bool) (heard : List Heard) (one : Heard) → AreReadFor read_for heard → read_for (length heard) one.bytes one.reading ≡ true → AreReadFor read_for (heard ++ one ∷ [])
+read_more read_for heard one read last = got_more (λ n it. read_for n it.bytes it.reading ≡ true) heard one read last
 
 -- one more has the limits
 all_more : (heard : List Heard) (one : Heard) → AllByRecursion IsHeard heard → IsHeard one → AllByRecursion IsHeard (heard ++ one ∷ [])

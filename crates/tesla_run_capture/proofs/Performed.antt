@@ -1,5 +1,5 @@
 -- What the command did, from its openings and closings.
-use Rattle.std.proofs.Common.{◌≡◌, ◌∙◌, ◌⊎◌, inl, inr, ◌<◌, ℕ, suc, false, Result, Ok, Err, List, [], ◌∷◌, Option, Some, IfSome, refl, sym, ap, subst}
+use Rattle.std.proofs.Common.{◌≡◌, ◌∙◌, ◌⊎◌, inl, inr, ◌<◌, ℕ, suc, Result, Ok, Err, List, [], ◌∷◌, Option, IfSome, refl, sym, ap, subst}
 use Rattle.std.specs.Option.{option_map}
 use Rattle.tesla_desk.specs.Faults.{raised, Faults, CountsOpening, HasCause, HasCauseBeside, HasCausesBeside, after_sink, after_source}
 use Rattle.tesla_desk.specs.Live.{LeavesAll, Live, OpenedLink, Remainder}

@@ -10,6 +10,7 @@ use Rattle.tesla_desk.specs.declared.link.Letter.{Letter}
 use Rattle.tesla_front.specs.declared.fault.Fault.{Fault}
 use Rattle.tesla_front.specs.declared.fault.Fault.TheVariants as faults
 use Rattle.tesla_run_capture.specs.Heard.{BreaksOff, Heard, IsFull, IsHeard, ReadWhere, bytes_of, piece_of, pieces_of, reading_of, records_of, text_of}
+use Rattle.tesla_run_capture.specs.Pieces.{AreReadFor}
 use Rattle.tesla_run_capture.specs.declared.recorder.Recorder.{Recorder}
 use Rattle.tesla_run_capture.specs.declared.recording.Hearing.{Hearing}
 use Rattle.tesla_run_capture.specs.declared.recording.Hearing.TheVariants as hearings
@@ -24,10 +25,11 @@ pub record Hears (heard : List Heard) (left later : Option (List Letter)) (befor
   pub gives : Gives (map reading_of heard) before after
   pub limits : AllByRecursion IsHeard heard
 
--- the records of one datagram were put behind those gathered, with one reading of the clock, or a prefix of these was written
-pub record Puts (bytes : List ℕ) (old new : Recorder) (written kept : Option (List ℕ)) (before after : Option Ticking) (whole : Bool) : Type 0 where
+-- the records of one datagram were put behind those gathered, with one reading of the clock, which was asked for it, or a prefix of these was written
+pub record Puts (may_ask : ℕ → List ℕ → Bool) (read_for : ℕ → List ℕ → ℕ → Bool) (bytes : List ℕ) (old new : Recorder) (written kept : Option (List ℕ)) (before after : Option Ticking) (whole : Bool) : Type 0 where
   pub reading : ℕ
   pub ticks : Ticks before after reading
+  pub read : (number : ℕ) → may_ask number bytes ≡ true → read_for number bytes reading ≡ true
   pub limits : IsHeard (record { reading = reading; bytes = bytes })
   pub put : whole ≡ true → Gathers written kept (gathered new.gatherer) (gathered old.gatherer ++ piece_of (record { reading = reading; bytes = bytes }))
   pub count : whole ≡ true → new.count ≡ old.count + 1
@@ -40,10 +42,11 @@ pub record Keeps (heard : List Heard) (recorder : Recorder) (written kept : Opti
   pub count : recorder.count ≡ length heard
   pub size : recorder.size ≡ 5 + length (pieces_of heard)
 
--- what was heard, and kept by a recorder
-pub record HearsOn (recorder : Recorder) (left later : Option (List Letter)) (before after : Option Ticking) (written kept : Option (List ℕ)) : Type 0 where
+-- what was heard, each with a reading that a clock gave when it was asked for it, and kept by a recorder
+pub record HearsOn (read_for : ℕ → List ℕ → ℕ → Bool) (recorder : Recorder) (left later : Option (List Letter)) (before after : Option Ticking) (written kept : Option (List ℕ)) : Type 0 where
   pub heard : List Heard
   pub hears : Hears heard left later before after
+  pub read : AreReadFor read_for heard
   pub keeps : Keeps heard recorder written kept
 
 -- what was heard, until a write failed
@@ -54,10 +57,25 @@ pub record HearsLast (left later : Option (List Letter)) (before after : Option 
   pub breaks : BreaksOff (pieces_of heard) written kept
 
 -- what was heard, and why no more was
-abbrev pub HearsAll : Hearing → Recorder → Option (List Letter) → Option (List Letter) → Option Ticking → Option Ticking → Option (List ℕ) → Option (List ℕ) → Type 0
-HearsAll hearings.Over recorder left later before after written kept = HearsOn recorder left later before after written kept × (IfSome later (λ rest. rest ≡ []) ⊎ IsFull recorder.size)
-HearsAll hearings.LinkFailed recorder left later before after written kept = HearsOn recorder left later before after written kept
-HearsAll hearings.SinkFailed recorder left later before after written kept = HearsLast left later before after written kept
+abbrev pub HearsAll : (ℕ → List ℕ → ℕ → Bool) → Hearing → Recorder → Option (List Letter) → Option (List Letter) → Option Ticking → Option Ticking → Option (List ℕ) → Option (List ℕ) → Type 0
+HearsAll read_for hearings.Over recorder left later before after written kept =
+    HearsOn read_for recorder left later before after written kept × (IfSome later (λ rest. rest ≡ []) ⊎ IsFull recorder.size)
+HearsAll read_for hearings.LinkFailed recorder left later before after written kept = HearsOn read_for recorder left later before after written kept
+HearsAll read_for hearings.OutputFailed recorder left later before after written kept = HearsLast left later before after written kept
+
+-- ---- what may be written
+
+-- the next piece of a capture, told the letters that an open link had left and what an open clock told: what was written before, where that is told, and then the piece are the capture of what was heard so far
+pub record IsNextPiece (read_for : ℕ → List ℕ → ℕ → Bool) (left : Option (List Letter)) (ticking : Option Ticking) (written : Option (List ℕ)) (piece : List ℕ) : Type 0 where
+  pub heard : List Heard
+  pub later : Option (List Letter)
+  pub after : Option Ticking
+  pub hears : Hears heard left later ticking after
+  pub read : AreReadFor read_for heard
+  pub fits : length (text_of heard) ≤ limit
+  pub before : List ℕ
+  pub written_is : IfSome written (λ bytes. bytes ≡ before)
+  pub whole : before ++ piece ≡ text_of heard
 
 -- ---- a recording
 

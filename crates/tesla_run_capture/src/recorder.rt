@@ -1,13 +1,13 @@
 //! The capture of what was heard so far, of which the last records are gathered and not written yet.
 
-ghost use Rattle.std.specs.Prelude.{◌≡◌, ◌≤◌, ◌-◌, ◌^◌, ◌++◌, [], length, true, false};
+ghost use Rattle.std.specs.Prelude.{◌≡◌, ◌≤◌, ◌-◌, ◌+◌, ◌^◌, ◌++◌, [], ℕ, length, true, false};
 ghost use Rattle.tesla_capture.specs.Gathering.{Gathers, gathered};
 ghost use Rattle.tesla_desk.specs.Faults.{HasCause};
 ghost use Rattle.tesla_desk.specs.Outside.{AppendsPrefix, with_bytes};
 ghost use Rattle.tesla_run_capture.specs.Heard.{IsFull, IsHeard, piece_of};
 
 use tesla_capture::Gatherer;
-use tesla_desk::{Clock, Sink};
+use tesla_desk::{Clock, Output};
 
 /// How many bytes a capture has at most.
 const LIMIT: u64 = 1 << 40;
@@ -16,7 +16,7 @@ const LIMIT: u64 = 1 << 40;
 const HEAD: u64 = 5;
 
 /// How many bytes an arrival has beside those of its datagram, with the take behind it.
-const AROUND: u64 = 12;
+const AROUND: usize = 12;
 
 /// How many bytes an arrival and a take have at most.
 const LONGEST: u64 = 2060;
@@ -32,19 +32,64 @@ pub struct Recorder {
     ghost most: { size ≤ 2 ^ 40 },
 }
 
-// Puts the records of a datagram behind those gathered: an arrival at this reading, and a take. False: a write failed.
-fn put_records<S: Sink>(gatherer: &mut Gatherer, reading: u64, bytes: &[u8], sink: &mut S) -> bool
-    requires { length bytes.now ≤ 2048 }
-    ensures limits { IsHeard (record { reading = reading; bytes = bytes.now }) }
-    ensures all { result ≡ true → Gathers (S.written sink.old) (S.written sink.new) (gathered gatherer.new) (gathered gatherer.old ++ piece_of (record { reading = reading; bytes = bytes.now })) }
-    ensures prefix { result ≡ false → AppendsPrefix (S.written sink.old) (S.written sink.new) (gathered gatherer.old ++ piece_of (record { reading = reading; bytes = bytes.now })) }
-    ensures cause { HasCause (S.faults sink.old) (S.faults sink.new) (result ≡ false) }
-    ensures name { S.name sink.new ≡ S.name sink.old }
+// Writes what is gathered as one piece, where there is something. False: the write failed.
+fn write_gathered<S: Output>(gatherer: &mut Gatherer, output: &mut S) -> bool
+    requires { S.may_write output.old (gathered gatherer.old) ≡ true }
+    ensures all { result ≡ true → S.written output.new ≡ with_bytes (S.written output.old) (gathered gatherer.old) }
+    ensures empty { result ≡ true → gathered gatherer.new ≡ [] }
+    ensures prefix { AppendsPrefix (S.written output.old) (S.written output.new) (gathered gatherer.old) }
+    ensures cause { HasCause (S.faults output.old) (S.faults output.new) (result ≡ false) }
+    ensures name { S.name output.new ≡ S.name output.old }
 {
-    if !gatherer.put_arrival(sink, reading, bytes) {
+    let piece = gatherer.bytes();
+    if piece.is_empty() {
+        return true;
+    }
+    if !output.write_piece(piece) {
         return false;
     }
-    gatherer.put_take(sink)
+    gatherer.clear();
+    true
+}
+
+// Writes what is gathered where so many bytes more don't fit. False: the write failed.
+fn make_room<S: Output>(gatherer: &mut Gatherer, more: usize, output: &mut S) -> bool
+    requires limit { more ≤ 8192 }
+    requires permitted { S.may_write output.old (gathered gatherer.old) ≡ true }
+    ensures room { result ≡ true → length (gathered gatherer.new) + more ≤ 8192 }
+    ensures all { result ≡ true → Gathers (S.written output.old) (S.written output.new) (gathered gatherer.new) (gathered gatherer.old) }
+    ensures prefix { result ≡ false → AppendsPrefix (S.written output.old) (S.written output.new) (gathered gatherer.old) }
+    ensures cause { HasCause (S.faults output.old) (S.faults output.new) (result ≡ false) }
+    ensures name { S.name output.new ≡ S.name output.old }
+{
+    if gatherer.has_room(more) {
+        return true;
+    }
+    write_gathered(gatherer, output)
+}
+
+// Puts the records of a datagram behind those gathered, which are written first where they don't fit: an arrival at this
+// reading, and a take. False: the write failed.
+fn put_records<S: Output>(
+    gatherer: &mut Gatherer,
+    reading: u64,
+    bytes: &[u8],
+    output: &mut S,
+) -> bool
+    requires short { length bytes.now ≤ 2048 }
+    requires permitted { S.may_write output.old (gathered gatherer.old) ≡ true }
+    ensures limits { IsHeard (record { reading = reading; bytes = bytes.now }) }
+    ensures all { result ≡ true → Gathers (S.written output.old) (S.written output.new) (gathered gatherer.new) (gathered gatherer.old ++ piece_of (record { reading = reading; bytes = bytes.now })) }
+    ensures prefix { result ≡ false → AppendsPrefix (S.written output.old) (S.written output.new) (gathered gatherer.old ++ piece_of (record { reading = reading; bytes = bytes.now })) }
+    ensures cause { HasCause (S.faults output.old) (S.faults output.new) (result ≡ false) }
+    ensures name { S.name output.new ≡ S.name output.old }
+{
+    if !make_room(gatherer, AROUND + bytes.len(), output) {
+        return false;
+    }
+    gatherer.add_arrival(reading, bytes);
+    gatherer.add_take();
+    true
 }
 
 impl Recorder {
@@ -77,37 +122,40 @@ impl Recorder {
         LIMIT - LONGEST < self.size
     }
 
-    /// Reads the clock once, and puts the records of a datagram of at most 2,048 bytes, which has just come, behind those
-    /// gathered. Where they don't fit, these are written first. It takes no memory.
+    /// Asks the clock for the reading of a datagram of at most 2,048 bytes, which has just come, and puts its records
+    /// behind those gathered. Where they don't fit, these are written first. It takes no memory.
     ///
-    /// False: a write failed, and the sink's count of faults rose.
-    pub fn put<C: Clock, S: Sink>(&mut self, bytes: &[u8], clock: &mut C, sink: &mut S) -> bool
+    /// False: the write failed, and the output's count of faults rose.
+    pub fn put<C: Clock, S: Output>(&mut self, bytes: &[u8], clock: &mut C, output: &mut S) -> bool
         requires short { length bytes.now ≤ 2048 }
         requires room { self.old.size ≤ 2 ^ 40 - 2060 }
-        ensures puts { Puts bytes.now self.old self.new (S.written sink.old) (S.written sink.new) (C.told clock.old) (C.told clock.new) result }
-        ensures cause { HasCause (S.faults sink.old) (S.faults sink.new) (result ≡ false) }
-        ensures name { S.name sink.new ≡ S.name sink.old }
+        requires asked { (number : ℕ) × (C.may_ask number bytes.now ≡ true) }
+        requires permitted { S.may_write output.old (gathered self.old.gatherer) ≡ true }
+        ensures puts { Puts C.may_ask C.read_for bytes.now self.old self.new (S.written output.old) (S.written output.new) (C.told clock.old) (C.told clock.new) result }
+        ensures cause { HasCause (S.faults output.old) (S.faults output.new) (result ≡ false) }
+        ensures name { S.name output.new ≡ S.name output.old }
     {
-        let reading = clock.now();
-        if !put_records(&mut self.gatherer, reading, bytes, sink) {
+        let reading = clock.now_for(bytes);
+        if !put_records(&mut self.gatherer, reading, bytes, output) {
             return false;
         }
-        self.size += AROUND + bytes.len() as u64;
+        self.size += (AROUND + bytes.len()) as u64;
         self.count += 1;
         true
     }
 
-    /// Writes what is gathered. It takes no memory.
+    /// Writes what is gathered, which the output may write. It takes no memory.
     ///
-    /// True: all was written, and nothing is gathered. False: a write failed, and the sink's count of faults rose.
-    pub fn write<S: Sink>(&mut self, sink: &mut S) -> bool
-        ensures all { result ≡ true → S.written sink.new ≡ with_bytes (S.written sink.old) (gathered self.old.gatherer) }
+    /// True: all was written, and nothing is gathered. False: the write failed, and the output's count of faults rose.
+    pub fn write<S: Output>(&mut self, output: &mut S) -> bool
+        requires { S.may_write output.old (gathered self.old.gatherer) ≡ true }
+        ensures all { result ≡ true → S.written output.new ≡ with_bytes (S.written output.old) (gathered self.old.gatherer) }
         ensures empty { result ≡ true → gathered self.new.gatherer ≡ [] }
-        ensures prefix { AppendsPrefix (S.written sink.old) (S.written sink.new) (gathered self.old.gatherer) }
+        ensures prefix { AppendsPrefix (S.written output.old) (S.written output.new) (gathered self.old.gatherer) }
         ensures counts { (self.new.count ≡ self.old.count) × (self.new.size ≡ self.old.size) }
-        ensures cause { HasCause (S.faults sink.old) (S.faults sink.new) (result ≡ false) }
-        ensures name { S.name sink.new ≡ S.name sink.old }
+        ensures cause { HasCause (S.faults output.old) (S.faults output.new) (result ≡ false) }
+        ensures name { S.name output.new ≡ S.name output.old }
     {
-        self.gatherer.flush(sink)
+        write_gathered(&mut self.gatherer, output)
     }
 }

@@ -3,3 +3,4 @@ mod Ended
 mod Mailed
 mod Fed
 mod Performed
+pub mod Due

@@ -1,4 +1,5 @@
 pub mod Arguments
 pub mod Lines
 pub mod Feeding
+pub mod Due
 pub mod Steps

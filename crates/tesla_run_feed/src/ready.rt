@@ -1,11 +1,13 @@
 //! A feed that was opened, and what it runs with.
 
-ghost use Rattle.std.specs.Prelude.{◌≡◌, ◌<◌, ◌≤◌, [], IfErr, IfOk, List, Ok, false, length, map, true, vec_capacity};
+ghost use Rattle.std.specs.Prelude.{◌≡◌, ◌<◌, ◌≤◌, ℕ, [], IfErr, IfOk, List, Ok, false, length, map, true, vec_capacity};
 ghost use Rattle.tesla_desk.specs.Faults.{HasCause};
 ghost use Rattle.tesla_front.specs.OutcomeView.{stop_view};
+ghost use Rattle.tesla_relay.specs.Opened.{post_name};
 ghost use Rattle.tesla_relay.specs.Opening.{name_of};
 ghost use Rattle.tesla_relay.specs.Posts.{PostSeen};
 ghost use Rattle.tesla_sender.specs.Stands.{Stands};
+ghost use Rattle.tesla_feed.specs.Due.{AreUnsent, MaySendDue};
 ghost use Rattle.tesla_feed.specs.Fed.{has_ended};
 ghost use Rattle.tesla_run_feed.specs.Steps.{FeedsPosts, OpensFeeding, OpensNoFeeding};
 
@@ -13,7 +15,7 @@ use crate::lines::stream_over;
 use std::sync::Wait;
 use std::sync::ledger::{Blank, Ledger};
 use tesla_base::Steps;
-use tesla_desk::{Clock, Desk, Gate, Link, Post};
+use tesla_desk::{Clock, Environment, Gate, Link, Post};
 use tesla_feed::{FeedEnd, OpenFeed, feed, open_feed};
 use tesla_front::Stop;
 use tesla_relay::open_posts;
@@ -32,7 +34,7 @@ pub struct ReadyFeed<C, G> {
 ///
 /// `Refused` where the stream is over by that clock: no post was opened. `Failed` with `Open` or `NoMemory` where the
 /// opening of a post was refused.
-pub fn open_ready<R: Wait, D: Desk>(
+pub fn open_ready<R: Wait, D: Environment>(
     rt: &R,
     sender: Sender,
     names: &[&str],
@@ -45,6 +47,7 @@ pub fn open_ready<R: Wait, D: Desk>(
     ensures ready { let seen : List D.Port → List PostSeen = λ posts. map (λ post. record { name = D.Port.name post; sent = D.Port.sent post; faults = D.Port.faults post }) posts in
         IfOk result (λ ready. OpensFeeding sender.stream (map name_of names.now) ready.opened (D.Time.told ready.clock) (seen posts.new.items) (Ok tt) (D.told desk.old) (D.told desk.new)) }
     ensures lasts { IfOk result (λ ready. Stands ready.opened.sender [] × (has_ended ready.opened.sender.stream ready.opened.opening ≡ false)) }
+    ensures opening { IfOk result (λ ready. D.Time.gave ready.opened.opening ≡ true) }
     ensures size { IfOk result (λ ready. length posts.new.items ≡ length names.now) }
     ensures refused { let seen : List D.Port → List PostSeen = λ posts. map (λ post. record { name = D.Port.name post; sent = D.Port.sent post; faults = D.Port.faults post }) posts in
         IfErr result (λ stop. OpensNoFeeding sender.stream (map name_of names.now) (seen posts.new.items) (D.told desk.old) (D.told desk.new) (stop_view stop)) }
@@ -62,7 +65,8 @@ pub fn open_ready<R: Wait, D: Desk>(
     })
 }
 
-/// Feeds an open link to open posts, with the clock and the gate of the feed, and with a ledger for the evaluations of HMAC.
+/// Feeds an open link to open posts, with the clock and the gate of the feed, and with a ledger for the evaluations of
+/// HMAC. Each post is sent only what is due.
 pub fn feed_ready<L: Ledger, R: Wait, K: Link, C: Clock + Drop, P: Post, G: Gate + Drop>(
     rt: &R,
     ready: ReadyFeed<C, G>,
@@ -76,6 +80,13 @@ pub fn feed_ready<L: Ledger, R: Wait, K: Link, C: Clock + Drop, P: Post, G: Gate
     requires fresh { Stands ready.opened.sender [] }
     requires lasts { has_ended ready.opened.sender.stream ready.opened.opening ≡ false }
     requires few { length posts.old.items ≤ 32 }
+    requires opening { C.gave ready.opened.opening ≡ true }
+    requires none { K.has_brought link.old 0 ≡ true }
+    requires unsent { let seen : P → PostSeen = λ post. record { name = P.name post; sent = P.sent post; faults = P.faults post } in
+        AreUnsent (map seen posts.old.items) }
+    requires asks { (number : ℕ) (bytes : List ℕ) → K.brought number bytes ≡ true → C.may_ask number bytes ≡ true }
+    requires due { let seen : P → PostSeen = λ post. record { name = P.name post; sent = P.sent post; faults = P.faults post } in
+        MaySendDue seen P.may_send C.gave C.read_for (map post_name (map seen posts.old.items)) ready.opened.sender.stream }
     ensures feeds { let seen : List P → List PostSeen = λ posts. map (λ post. record { name = P.name post; sent = P.sent post; faults = P.faults post }) posts in
         FeedsPosts ready.opened.sender.stream ready.opened.opening result (K.left link.old) (K.left link.new) (C.told ready.clock) (seen posts.old.items) (seen posts.new.items) }
     ensures cause { HasCause (K.faults link.old) (K.faults link.new) (result.link_failed ≡ true) }

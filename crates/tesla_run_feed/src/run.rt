@@ -1,11 +1,14 @@
 //! A run of the command `feed`.
 
-ghost use Rattle.std.specs.Prelude.{◌≡◌, ◌≤◌, ℕ, [], List, length, map, string_bytes, vec_capacity};
+ghost use Rattle.std.specs.Prelude.{◌≡◌, ◌≤◌, ℕ, [], List, length, map, string_bytes, true, vec_capacity};
 ghost use Rattle.tesla_front.specs.OutcomeView.{result_view, outcome_view};
 ghost use Rattle.tesla_front.specs.Command.{Performs, RunsAs};
 ghost use Rattle.tesla_relay.specs.Opening.{name_of};
+ghost use Rattle.tesla_relay.specs.Posts.{PostSeen};
 ghost use Rattle.tesla_sender.specs.Stands.{Stands};
+ghost use Rattle.tesla_feed.specs.Due.{MaySendDue};
 ghost use Rattle.tesla_run_feed.specs.Arguments.{IsFeedForm, arguments_of};
+ghost use Rattle.tesla_run_feed.specs.Due.{IsFedFor, IsFedFrom};
 ghost use Rattle.tesla_run_feed.specs.Feeding.{feed};
 ghost use Rattle.tesla_run_feed.specs.Steps.{FeedsFiles, RunsLinked, TriesToFeed};
 
@@ -16,7 +19,7 @@ use std::alloc::Global;
 use std::marker::Brand;
 use std::sync::Wait;
 use std::sync::ledger::Blank;
-use tesla_desk::Desk;
+use tesla_desk::Environment;
 use tesla_front::{Fault, Lines, Outcome, Stop, outcome_of};
 use tesla_relay::close_posts;
 use tesla_run_send::open_sender;
@@ -37,7 +40,20 @@ use tesla_sender::Sender;
 /// opened, and nothing left LINK. `Failed` with `Read`: SETUP or SECRET was not read, or LINK failed; with `Write`: a post
 /// failed, and LINK didn't; with `Open` or `NoMemory`: nothing was fed. `Read`, `Write` and `Open` come only where the
 /// desk's count of that rose. It waits for the clock and for LINK.
-pub fn run_feed<R: Wait, D: Desk>(rt: &R, alloc: Global, words: &[String], desk: &mut D) -> Outcome
+///
+/// Also in a run that never returns, POSTS alone are sent anything, and each only what is due: the frames of one log of
+/// that sender, in order and each once, made of all datagrams that LINK brought, at readings that the clock gave when it
+/// was asked for them, and of keys that are due at readings that it gave.
+pub fn run_feed<R: Wait, D: Environment>(
+    rt: &R,
+    alloc: Global,
+    words: &[String],
+    desk: &mut D,
+) -> Outcome
+    requires asks { (number : ℕ) (bytes : List ℕ) → D.Wire.brought number bytes ≡ true → D.Time.may_ask number bytes ≡ true }
+    requires due { (post : D.Port) (datagram : List ℕ)
+        → IsFedFrom D.Time.gave D.Time.read_for (map string_bytes words.now) (D.told desk.old) (D.Port.name post) (D.Port.sent post) datagram
+        → D.Port.may_send post datagram ≡ true }
     ensures { RunsAs (feed (D.told desk.old).live (D.told desk.new).live) (map string_bytes words.now) (D.told desk.old) (D.told desk.new) (outcome_view result) }
 {
     match arguments_in(words) {
@@ -47,13 +63,17 @@ pub fn run_feed<R: Wait, D: Desk>(rt: &R, alloc: Global, words: &[String], desk:
 }
 
 // Does what the words ask for.
-fn perform<R: Wait, D: Desk>(
+fn perform<R: Wait, D: Environment>(
     rt: &R,
     alloc: Global,
     arguments: &Arguments<'_>,
     desk: &mut D,
 ) -> Result<Lines, Stop>
     requires form { (spelled : List (List ℕ)) × IsFeedForm (arguments_of arguments.now) spelled }
+    requires asks { (number : ℕ) (bytes : List ℕ) → D.Wire.brought number bytes ≡ true → D.Time.may_ask number bytes ≡ true }
+    requires due { (post : D.Port) (datagram : List ℕ)
+        → IsFedFor D.Time.gave D.Time.read_for (arguments_of arguments.now) (D.told desk.old) (D.Port.name post) (D.Port.sent post) datagram
+        → D.Port.may_send post datagram ≡ true }
     ensures { Performs (feed (D.told desk.old).live (D.told desk.new).live) (arguments_of arguments.now) (D.told desk.old) (D.told desk.new) (result_view result) }
 {
     let sender = open_sender(alloc, arguments.setup, arguments.secret, desk)?;
@@ -61,7 +81,7 @@ fn perform<R: Wait, D: Desk>(
 }
 
 // Takes room for the posts, opens the link, and feeds it to the posts.
-fn feed_files<R: Wait, D: Desk>(
+fn feed_files<R: Wait, D: Environment>(
     rt: &R,
     alloc: Global,
     sender: Sender,
@@ -70,6 +90,9 @@ fn feed_files<R: Wait, D: Desk>(
 ) -> Result<Lines, Stop>
     requires form { (spelled : List (List ℕ)) × IsFeedForm (arguments_of arguments.now) spelled }
     requires sender { Stands sender [] }
+    requires asks { (number : ℕ) (bytes : List ℕ) → D.Wire.brought number bytes ≡ true → D.Time.may_ask number bytes ≡ true }
+    requires due { let seen : D.Port → PostSeen = λ post. record { name = D.Port.name post; sent = D.Port.sent post; faults = D.Port.faults post } in
+        MaySendDue seen D.Port.may_send D.Time.gave D.Time.read_for (arguments_of arguments.now).posts sender.stream }
     ensures { FeedsFiles sender.stream (arguments_of arguments.now) (D.told desk.old) (D.told desk.new) (result_view result) }
 {
     let Ok(posts) = Vec::with_capacity(alloc, arguments.posts.len()) else {
@@ -85,7 +108,7 @@ fn feed_files<R: Wait, D: Desk>(
 }
 
 // Feeds an open link to the posts under these names, and closes all.
-fn run_linked<R: Wait, D: Desk>(
+fn run_linked<R: Wait, D: Environment>(
     rt: &R,
     sender: Sender,
     names: &[&str],
@@ -96,8 +119,12 @@ fn run_linked<R: Wait, D: Desk>(
     requires sender { Stands sender [] }
     requires few { length names.now ≤ 32 }
     requires fresh { D.Wire.faults link ≡ 0 }
+    requires none { D.Wire.has_brought link 0 ≡ true }
     requires empty { posts.items ≡ [] }
     requires room { length names.now ≤ vec_capacity posts }
+    requires asks { (number : ℕ) (bytes : List ℕ) → D.Wire.brought number bytes ≡ true → D.Time.may_ask number bytes ≡ true }
+    requires due { let seen : D.Port → PostSeen = λ post. record { name = D.Port.name post; sent = D.Port.sent post; faults = D.Port.faults post } in
+        MaySendDue seen D.Port.may_send D.Time.gave D.Time.read_for (map name_of names.now) sender.stream }
     ensures { RunsLinked sender.stream (map name_of names.now) (D.Wire.name link) (D.Wire.left link) (D.told desk.old) (D.told desk.new) (result_view result) }
 {
     let outcome = try_to_feed(rt, sender, names, &mut link, desk, &mut posts);
@@ -108,7 +135,7 @@ fn run_linked<R: Wait, D: Desk>(
 }
 
 // Opens a feed and the posts, and feeds an open link to them.
-fn try_to_feed<R: Wait, D: Desk>(
+fn try_to_feed<R: Wait, D: Environment>(
     rt: &R,
     sender: Sender,
     names: &[&str],
@@ -120,6 +147,10 @@ fn try_to_feed<R: Wait, D: Desk>(
     requires few { length names.now ≤ 32 }
     requires empty { posts.old.items ≡ [] }
     requires room { length names.now ≤ vec_capacity posts.old }
+    requires none { D.Wire.has_brought link.old 0 ≡ true }
+    requires asks { (number : ℕ) (bytes : List ℕ) → D.Wire.brought number bytes ≡ true → D.Time.may_ask number bytes ≡ true }
+    requires due { let seen : D.Port → PostSeen = λ post. record { name = D.Port.name post; sent = D.Port.sent post; faults = D.Port.faults post } in
+        MaySendDue seen D.Port.may_send D.Time.gave D.Time.read_for (map name_of names.now) sender.stream }
     ensures tries { TriesToFeed sender.stream (map name_of names.now) (D.Wire.left link.old) (D.Wire.left link.new) (D.Wire.faults link.old) (D.Wire.faults link.new) (D.told desk.old) (D.told desk.new) (map (λ post. record { name = D.Port.name post; sent = D.Port.sent post; faults = D.Port.faults post }) posts.new.items) (result_view result) }
     ensures name { D.Wire.name link.new ≡ D.Wire.name link.old }
 {

@@ -6,3 +6,4 @@ pub mod Others
 pub mod Outputs
 pub mod Performed
 pub mod Spelled
+pub mod Allowed

@@ -6,3 +6,4 @@ pub mod Running
 pub mod Usage
 pub mod «record»
 pub mod watch
+pub mod Allowed

@@ -9,13 +9,13 @@ ghost use Rattle.tesla_session.specs.Wanted.{WantedSink};
 ghost use Rattle.tesla_run_receive.specs.Running.{EndsBehind, OpensBehind, RefusesBehind};
 
 use std::sync::Wait;
-use tesla_desk::Desk;
+use tesla_desk::Environment;
 use tesla_front::Fault;
 use tesla_session::{Beside, Ended};
 use tesla_shared::Station;
 
 /// What a command has beside the workers of a station: what runs at the same time, and what is written to one output more.
-pub trait Extra<D: Desk, V: Station>: Drop {
+pub trait Extra<D: Environment, V: Station>: Drop {
     /// What runs beside the workers, with the output where there is one.
     type Begun: Beside + Send;
 
@@ -25,6 +25,9 @@ pub trait Extra<D: Desk, V: Station>: Drop {
     /// What the page of the output holds at the end, told the history.
     ghost holds: { Self → List Entry → Page → Type 0 };
 
+    /// Its output may be written.
+    ghost allowed: { Self → Type 0 };
+
     /// It is meant for a station of this configuration.
     ghost fits: { Self → V.Config → Type 0 };
 
@@ -33,6 +36,7 @@ pub trait Extra<D: Desk, V: Station>: Drop {
 
     /// Opens the output.
     fn begin(self, desk: &mut D) -> Result<Self::Begun, Fault>
+        requires { allowed self }
         ensures opened { IfOk result (λ it. OpensBehind (output self) (D.told desk.old) (D.told desk.new)) }
         ensures begun { IfOk result (λ it. (cfg : V.Config) → fits self cfg → is_begun self cfg it) }
         ensures refused { (fault : Fault) → result ≡ Err fault → RefusesBehind (output self) (D.told desk.old) (D.told desk.new) fault };
@@ -63,7 +67,7 @@ impl<T> Beside for Idle<T> {
 #[derive(Drop)]
 pub(crate) struct NoExtra;
 
-impl<D: Desk, V: Station> Extra<D, V> for NoExtra {
+impl<D: Environment, V: Station> Extra<D, V> for NoExtra {
     ghost use Rattle.std.specs.Prelude.{None};
 
     type Begun = Idle<()>;
@@ -71,6 +75,8 @@ impl<D: Desk, V: Station> Extra<D, V> for NoExtra {
     ghost output = { λ _. None };
 
     ghost holds = { λ _ _ _. Unit {0} };
+
+    ghost allowed = { λ _. Unit {0} };
 
     ghost fits = { λ _ _. Unit {0} };
 

@@ -6,6 +6,7 @@ ghost use Rattle.tesla_front.specs.OutcomeView.{result_view};
 ghost use Rattle.tesla_receiver.specs.History.{IsLegal};
 ghost use Rattle.tesla_receiver.specs.Report.{report_of};
 ghost use Rattle.tesla_receiver.specs.declared.history.Entry.{Entry};
+ghost use Rattle.tesla_session.specs.Allowed.{MayAsk, MayReleaseAll};
 ghost use Rattle.tesla_session.specs.Session.{OpensAll, calls_most, workers_of};
 ghost use Rattle.tesla_session.specs.Wanted.{Wanted};
 ghost use Rattle.tesla_turn.specs.Held.{first_pass};
@@ -18,7 +19,7 @@ use crate::extra::Extra;
 use std::alloc::Global;
 use std::sync::Wait;
 use std::thread::Threads;
-use tesla_desk::Desk;
+use tesla_desk::Environment;
 use tesla_front::{Fault, Lines, Stop};
 use tesla_receiver::Report;
 use tesla_session::{Ran, Session, close_all, open_session, prepared, run_opened};
@@ -30,7 +31,7 @@ pub type StationResult<V> = (Result<Lines, Stop>, Option<Last<V>>);
 
 /// Runs the workers that the words ask for over a station with no history. All memory is taken; then the links are opened in
 /// order, each with the next clock, the sinks, and what is beside the workers. It waits for the links.
-pub fn run_station<R: Threads + Wait + Sync, D: Desk, V: Station + Send, E: Extra<D, V>>(
+pub fn run_station<R: Threads + Wait + Sync, D: Environment, V: Station + Send, E: Extra<D, V>>(
     rt: &R,
     alloc: Global,
     arguments: &Arguments<'_>,
@@ -41,6 +42,10 @@ pub fn run_station<R: Threads + Wait + Sync, D: Desk, V: Station + Send, E: Extr
     requires few { AreFew (arguments_of arguments.now) }
     requires stands { V.stands station [] }
     requires fits { E.fits extra (V.config station) }
+    requires ingests { (V.receiver (V.config station)).ingests ≡ length (arguments_of arguments.now).links }
+    requires allowed { E.allowed extra }
+    requires asked { MayAsk D.Wire.brought D.Time.may_ask }
+    requires released { MayReleaseAll D.Pieces.name D.Pieces.written D.Pieces.may_write D.Time.read_for (V.receiver (V.config station)) 0 (arguments_of arguments.now).sinks }
     ensures { RunsStation (E.holds extra) (E.output extra) (V.receiver (V.config station)) (workers_wanted (arguments_of arguments.now)) (V.config station) (D.told desk.old) (D.told desk.new) result.1 (result_view result.0) }
 {
     match prepared(alloc, station, &arguments.links, &arguments.sinks) {
@@ -50,7 +55,7 @@ pub fn run_station<R: Threads + Wait + Sync, D: Desk, V: Station + Send, E: Extr
 }
 
 // Opens the links and the sinks, and where none was refused what is beside them.
-fn run_session<R: Threads + Wait + Sync, D: Desk, V: Station + Send, E: Extra<D, V>>(
+fn run_session<R: Threads + Wait + Sync, D: Environment, V: Station + Send, E: Extra<D, V>>(
     rt: &R,
     arguments: &Arguments<'_>,
     session: Session<D, V>,
@@ -61,6 +66,10 @@ fn run_session<R: Threads + Wait + Sync, D: Desk, V: Station + Send, E: Extra<D,
     requires links { (session.links.items ≡ []) × (length arguments.now.links ≤ vec_capacity session.links) }
     requires sinks { (session.sinks.items ≡ []) × (length arguments.now.sinks ≤ vec_capacity session.sinks) }
     requires first { (cfg : V.Config) × (session.first ≡ first_pass session.turn cfg (1 + length arguments.now.links + length arguments.now.sinks) calls_most) × E.fits extra cfg }
+    requires ingests { (cfg : V.Config) → session.first.config ≡ Some cfg → (V.receiver cfg).ingests ≡ length arguments.now.links }
+    requires allowed { E.allowed extra }
+    requires asked { MayAsk D.Wire.brought D.Time.may_ask }
+    requires released { (cfg : V.Config) → session.first.config ≡ Some cfg → MayReleaseAll D.Pieces.name D.Pieces.written D.Pieces.may_write D.Time.read_for (V.receiver cfg) 0 arguments.now.sinks }
     ensures { (cfg : V.Config) → session.first ≡ first_pass session.turn cfg (1 + length arguments.now.links + length arguments.now.sinks) calls_most → E.fits extra cfg →
         RunsStation (E.holds extra) (E.output extra) (V.receiver cfg) (workers_wanted (arguments_of arguments.now)) cfg (D.told desk.old) (D.told desk.new) result.1 (result_view result.0) }
 {
@@ -71,13 +80,14 @@ fn run_session<R: Threads + Wait + Sync, D: Desk, V: Station + Send, E: Extra<D,
 }
 
 // Opens what is beside the workers that are opened, and where that wasn't refused runs them. Else they are closed.
-fn run_behind<R: Threads + Wait + Sync, D: Desk, V: Station + Send, E: Extra<D, V>>(
+fn run_behind<R: Threads + Wait + Sync, D: Environment, V: Station + Send, E: Extra<D, V>>(
     rt: &R,
     session: Session<D, V>,
     extra: E,
     desk: &mut D,
 ) -> StationResult<V>
-    requires { (wanted : List Wanted) × (cfg : V.Config) × (before : Told) × OpensAll wanted cfg before (D.told desk.old) session.turn session.first (workers_of session.links.items session.sinks.items) × E.fits extra cfg }
+    requires opened { (wanted : List Wanted) × (cfg : V.Config) × (before : Told) × OpensAll wanted cfg before (D.told desk.old) session.turn session.first (workers_of session.links.items session.sinks.items) × E.fits extra cfg }
+    requires allowed { E.allowed extra }
     ensures { (wanted : List Wanted) (cfg : V.Config) (before : Told) → OpensAll wanted cfg before (D.told desk.old) session.turn session.first (workers_of session.links.items session.sinks.items) → E.fits extra cfg →
         RunsStation (E.holds extra) (E.output extra) (V.receiver cfg) wanted cfg before (D.told desk.new) result.1 (result_view result.0) }
 {
@@ -99,7 +109,7 @@ fn report_in<V: Station>(station: &V) -> Report
 }
 
 // Runs the workers, closes them and ends the turn, and then ends what was beside them.
-fn run_begun<R: Threads + Wait + Sync, D: Desk, V: Station + Send, E: Extra<D, V>>(
+fn run_begun<R: Threads + Wait + Sync, D: Environment, V: Station + Send, E: Extra<D, V>>(
     rt: &R,
     session: Session<D, V>,
     mut beside: E::Begun,

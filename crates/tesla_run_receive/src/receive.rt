@@ -9,7 +9,9 @@ ghost use Rattle.tesla_front.specs.Openings.{Opens, OpensSome};
 ghost use Rattle.tesla_front.specs.Refusal.{StopCauses};
 ghost use Rattle.tesla_front.specs.Setup.{IsNoSetup, IsSetupIn};
 ghost use Rattle.tesla_receiver.specs.Stands.{Stands};
-ghost use Rattle.tesla_run_receive.specs.Arguments.{AreFew, IsReceive, arguments_of};
+ghost use Rattle.tesla_session.specs.Allowed.{MayAsk};
+ghost use Rattle.tesla_run_receive.specs.Allowed.{MayWriteReleased};
+ghost use Rattle.tesla_run_receive.specs.Arguments.{AreFew, IsReceive, ReceiveArguments, arguments_of};
 ghost use Rattle.tesla_run_receive.specs.Receive.{config_of, receive};
 
 use crate::arguments::Arguments;
@@ -21,7 +23,7 @@ use std::sync::Wait;
 use std::thread::Threads;
 use tesla_base::NoMemory;
 use tesla_commit::Setup;
-use tesla_desk::Desk;
+use tesla_desk::Environment;
 use tesla_front::{Fault, LiveRun, Outcome, Stop, outcome_of, setup_under, without_history};
 use tesla_receiver::Receiver;
 use tesla_turn::Last;
@@ -31,12 +33,14 @@ use tesla_turn::Last;
 /// SETUP is read and judged, and all memory is taken; then the links are opened in order, each with the next clock, and the
 /// sinks. Then a worker runs for each, in a thread of its own where one can be made, until the links have ended and all
 /// that was released is written. `Done` tells the counts. It waits for the links.
-pub fn run_receive<R: Threads + Wait + Sync, D: Desk>(
+pub fn run_receive<R: Threads + Wait + Sync, D: Environment>(
     rt: &R,
     alloc: Global,
     words: &[String],
     desk: &mut D,
 ) -> LiveRun<Last<Receiver>>
+    requires asked { MayAsk D.Wire.brought D.Time.may_ask }
+    requires released { (arguments : ReceiveArguments) → IsReceive arguments (map string_bytes words.now) → MayWriteReleased D.Pieces.name D.Pieces.written D.Pieces.may_write D.Time.read_for arguments (D.told desk.old) }
     ensures runs { RunsAs (receive (D.told desk.old).live (D.told desk.new).live result.last) (map string_bytes words.now) (D.told desk.old) (D.told desk.new) (outcome_view result.outcome) }
     ensures none { outcome_view result.outcome ≡ Usage → result.last ≡ None }
 {
@@ -53,13 +57,15 @@ pub fn run_receive<R: Threads + Wait + Sync, D: Desk>(
 }
 
 // Does what the words of `receive` ask for.
-fn perform<R: Threads + Wait + Sync, D: Desk>(
+fn perform<R: Threads + Wait + Sync, D: Environment>(
     rt: &R,
     alloc: Global,
     arguments: &Arguments<'_>,
     desk: &mut D,
 ) -> StationResult<Receiver>
     requires form { (spelled : List (List ℕ)) × IsReceive (arguments_of arguments.now) spelled }
+    requires asked { MayAsk D.Wire.brought D.Time.may_ask }
+    requires released { MayWriteReleased D.Pieces.name D.Pieces.written D.Pieces.may_write D.Time.read_for (arguments_of arguments.now) (D.told desk.old) }
     ensures { Performs (receive (D.told desk.old).live (D.told desk.new).live result.1) (arguments_of arguments.now) (D.told desk.old) (D.told desk.new) (result_view result.0) }
 {
     match receiver_under(alloc, arguments, desk) {
@@ -91,7 +97,7 @@ fn new_receiver(
 
 /// A receiver with no history, under the setup and what the words ask for. SETUP is read and judged, and all memory of the
 /// receiver is taken. `Refused`: SETUP is no setup. `Failed`: its opening or a read failed, or there wasn't enough memory.
-pub fn receiver_under<D: Desk>(
+pub fn receiver_under<D: Environment>(
     alloc: Global,
     arguments: &Arguments<'_>,
     desk: &mut D,

@@ -1,4 +1,5 @@
 mod Counted
 mod Mailed
 mod Performed
+mod Permitted
 mod Steps

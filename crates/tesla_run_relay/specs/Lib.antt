@@ -1,4 +1,5 @@
 pub mod Arguments
+pub mod Due
 pub mod Lines
 pub mod Relay
 pub mod Steps

@@ -1,3 +1,4 @@
 pub mod Arguments
+pub mod Due
 pub mod Playing
 pub mod Steps

@@ -2,10 +2,10 @@
 
 ghost use Rattle.std.specs.Prelude.{◌≡◌, ◌+◌, ◌≤◌, vec_len, vec_capacity};
 
-use tesla_desk::Desk;
+use tesla_desk::Environment;
 
 /// Makes so many gates, and puts each behind those that are there.
-pub fn make_gates<D: Desk>(desk: &mut D, count: usize, gates: &mut Vec<D::Pause>)
+pub fn make_gates<D: Environment>(desk: &mut D, count: usize, gates: &mut Vec<D::Pause>)
     requires room { vec_len gates.old + count ≤ vec_capacity gates.old }
     ensures len { vec_len gates.new ≡ vec_len gates.old + count }
     ensures desk { D.told desk.new ≡ D.told desk.old }

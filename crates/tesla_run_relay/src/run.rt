@@ -1,13 +1,15 @@
 //! A run of the command `relay`.
 
-ghost use Rattle.std.specs.Prelude.{◌≡◌, ◌≤◌, [], ℕ, List, IfOk, MatchResult, OnErr, length, map, string_bytes, vec_capacity};
+ghost use Rattle.std.specs.Prelude.{◌≡◌, ◌≤◌, [], ℕ, List, IfOk, MatchResult, OnErr, length, map, string_bytes, true, vec_capacity};
 ghost use Rattle.tesla_desk.specs.Faults.{HasCause};
 ghost use Rattle.tesla_front.specs.OutcomeView.{outcome_view};
 ghost use Rattle.tesla_front.specs.Command.{Performs, RunsAs};
+ghost use Rattle.tesla_relay.specs.Due.{IsNextRelayed};
 ghost use Rattle.tesla_relay.specs.Posts.{PostSeen};
 ghost use Rattle.tesla_relay.specs.Relay.{Relays};
 ghost use Rattle.tesla_relay.specs.declared.relayed.RelayEnd.TheVariants as ends;
 ghost use Rattle.tesla_run_relay.specs.Arguments.{IsRelayForm, arguments_of};
+ghost use Rattle.tesla_run_relay.specs.Due.{IsDue, IsNextUnder};
 ghost use Rattle.tesla_run_relay.specs.Relay.{relay};
 ghost use Rattle.tesla_run_relay.specs.Steps.{RunsLinked, RunsPosts};
 
@@ -19,7 +21,7 @@ use std::alloc::Global;
 use std::sync::Wait;
 use std::thread::Threads;
 use tesla_base::NoMemory;
-use tesla_desk::Desk;
+use tesla_desk::Environment;
 use tesla_front::{Fault, Outcome};
 use tesla_relay::{Relayed, close_posts, open_posts, relay};
 
@@ -31,12 +33,16 @@ use tesla_relay::{Relayed, close_posts, open_posts, relay};
 /// failed. `Usage` exactly where the words are no form, and then nothing was opened. `Failed` with `Read`: LINK failed, and
 /// what came before was relayed; with `Write`: LINK has ended, and a post failed; with `Open` or `NoMemory`: nothing was
 /// relayed. `Read`, `Write` and `Open` come only where the desk's count of that rose. It waits for the link.
-pub fn run_relay<R: Threads + Wait + Sync, D: Desk>(
+///
+/// While it runs each of POSTS may send what comes next for it: datagrams that LINK brought, in order and each once.
+/// Nothing else is sent, whether the run ends or not.
+pub fn run_relay<R: Threads + Wait + Sync, D: Environment>(
     rt: &R,
     alloc: Global,
     words: &[String],
     desk: &mut D,
 ) -> Outcome
+    requires due { (post : D.Port) (datagram : List ℕ) → IsDue D.Wire.brought (map string_bytes words.now) (D.Port.name post) (D.Port.sent post) datagram → D.Port.may_send post datagram ≡ true }
     ensures { RunsAs (relay (D.told desk.old).live (D.told desk.new).live) (map string_bytes words.now) (D.told desk.old) (D.told desk.new) (outcome_view result) }
 {
     match arguments_in(words) {
@@ -46,13 +52,14 @@ pub fn run_relay<R: Threads + Wait + Sync, D: Desk>(
 }
 
 // Does what the words ask for: takes the room, opens the link, and relays it to the posts.
-fn perform<R: Threads + Wait + Sync, D: Desk>(
+fn perform<R: Threads + Wait + Sync, D: Environment>(
     rt: &R,
     alloc: Global,
     arguments: &Arguments<'_>,
     desk: &mut D,
 ) -> Outcome
     requires form { (spelled : List (List ℕ)) × IsRelayForm (arguments_of arguments.now) spelled }
+    requires due { (post : D.Port) (datagram : List ℕ) → IsNextUnder D.Wire.brought arguments.now.posts (D.Port.name post) (D.Port.sent post) datagram → D.Port.may_send post datagram ≡ true }
     ensures { Performs (relay (D.told desk.old).live (D.told desk.new).live) (arguments_of arguments.now) (D.told desk.old) (D.told desk.new) (outcome_view result) }
 {
     let Ok(room) = room_for(alloc, arguments.posts.len()) else {
@@ -68,13 +75,13 @@ fn perform<R: Threads + Wait + Sync, D: Desk>(
 }
 
 // Room for posts and for their gates.
-struct Room<D: Desk> {
+struct Room<D: Environment> {
     posts: Vec<D::Port>,
     gates: Vec<D::Pause>,
 }
 
 // Room for so many posts.
-fn room_for<D: Desk>(alloc: Global, posts: usize) -> Result<Room<D>, NoMemory>
+fn room_for<D: Environment>(alloc: Global, posts: usize) -> Result<Room<D>, NoMemory>
     requires { posts ≤ 32 }
     ensures posts { IfOk result (λ it. (it.posts.items ≡ []) × (posts ≤ vec_capacity it.posts)) }
     ensures gates { IfOk result (λ it. (it.gates.items ≡ []) × (posts ≤ vec_capacity it.gates)) }
@@ -85,7 +92,7 @@ fn room_for<D: Desk>(alloc: Global, posts: usize) -> Result<Room<D>, NoMemory>
 }
 
 // Gives the room back.
-fn give_back<D: Desk>(room: Room<D>)
+fn give_back<D: Environment>(room: Room<D>)
     requires { room.posts.items ≡ [] }
 {
     let Room { posts, gates: _ } = room;
@@ -93,7 +100,7 @@ fn give_back<D: Desk>(room: Room<D>)
 }
 
 // Opens the posts, relays an open link to them, and closes them and the link.
-fn run_linked<R: Threads + Wait + Sync, D: Desk>(
+fn run_linked<R: Threads + Wait + Sync, D: Environment>(
     rt: &R,
     alloc: Global,
     arguments: &Arguments<'_>,
@@ -104,7 +111,8 @@ fn run_linked<R: Threads + Wait + Sync, D: Desk>(
     requires some { (1 ≤ length arguments.now.posts) × (length arguments.now.posts ≤ 32) }
     requires posts { (room.posts.items ≡ []) × (length arguments.now.posts ≤ vec_capacity room.posts) }
     requires gates { (room.gates.items ≡ []) × (length arguments.now.posts ≤ vec_capacity room.gates) }
-    requires fresh { D.Wire.faults link ≡ 0 }
+    requires fresh { (D.Wire.faults link ≡ 0) × (D.Wire.has_brought link 0 ≡ true) }
+    requires due { (post : D.Port) (datagram : List ℕ) → IsNextUnder D.Wire.brought arguments.now.posts (D.Port.name post) (D.Port.sent post) datagram → D.Port.may_send post datagram ≡ true }
     ensures { RunsLinked arguments.now.capacity arguments.now.posts (D.Wire.name link) (D.Wire.left link) (D.told desk.old) (D.told desk.new) (outcome_view result) }
 {
     let outcome = run_posts(rt, alloc, arguments, &mut room, &mut link, desk);
@@ -115,7 +123,7 @@ fn run_linked<R: Threads + Wait + Sync, D: Desk>(
 }
 
 // Opens the posts, and relays an open link to them.
-fn run_posts<R: Threads + Wait + Sync, D: Desk>(
+fn run_posts<R: Threads + Wait + Sync, D: Environment>(
     rt: &R,
     alloc: Global,
     arguments: &Arguments<'_>,
@@ -126,6 +134,8 @@ fn run_posts<R: Threads + Wait + Sync, D: Desk>(
     requires some { (1 ≤ length arguments.now.posts) × (length arguments.now.posts ≤ 32) }
     requires posts { (room.old.posts.items ≡ []) × (length arguments.now.posts ≤ vec_capacity room.old.posts) }
     requires gates { (room.old.gates.items ≡ []) × (length arguments.now.posts ≤ vec_capacity room.old.gates) }
+    requires new { D.Wire.has_brought link.old 0 ≡ true }
+    requires due { (post : D.Port) (datagram : List ℕ) → IsNextUnder D.Wire.brought arguments.now.posts (D.Port.name post) (D.Port.sent post) datagram → D.Port.may_send post datagram ≡ true }
     ensures runs { RunsPosts arguments.now.capacity arguments.now.posts (D.Wire.left link.old) (D.Wire.left link.new) (D.Wire.faults link.old) (D.Wire.faults link.new) (D.told desk.old) (D.told desk.new) (map (λ post. record { name = D.Port.name post; sent = D.Port.sent post; faults = D.Port.faults post }) room.new.posts.items) (outcome_view result) }
     ensures name { D.Wire.name link.new ≡ D.Wire.name link.old }
 {
@@ -139,7 +149,7 @@ fn run_posts<R: Threads + Wait + Sync, D: Desk>(
 }
 
 // Relays an open link to open posts.
-fn relay_opened<R: Threads + Wait + Sync, D: Desk>(
+fn relay_opened<R: Threads + Wait + Sync, D: Environment>(
     rt: &R,
     alloc: Global,
     capacity: u32,
@@ -150,6 +160,9 @@ fn relay_opened<R: Threads + Wait + Sync, D: Desk>(
     requires some { (1 ≤ length room.old.posts.items) × (length room.old.posts.items ≤ 32) }
     requires gates { (room.old.gates.items ≡ []) × (length room.old.posts.items ≤ vec_capacity room.old.gates) }
     requires capacity { (1 ≤ capacity) × (capacity ≤ 4096) }
+    requires new { D.Wire.has_brought link.old 0 ≡ true }
+    requires due { let seen : D.Port → PostSeen = λ post. record { name = D.Port.name post; sent = D.Port.sent post; faults = D.Port.faults post } in
+        (post : D.Port) (datagram : List ℕ) → IsNextRelayed (record { brought = D.Wire.brought; posts = map seen room.old.posts.items }) (seen post) datagram → D.Port.may_send post datagram ≡ true }
     ensures relays { IfOk result (λ it. Relays capacity (D.Wire.left link.old) (D.Wire.left link.new) (map (λ post. record { name = D.Port.name post; sent = D.Port.sent post; faults = D.Port.faults post }) room.old.posts.items) (map (λ post. record { name = D.Port.name post; sent = D.Port.sent post; faults = D.Port.faults post }) room.new.posts.items) it.end it.counts.items) }
     ensures unread { OnErr result (D.Wire.left link.new ≡ D.Wire.left link.old) }
     ensures untouched { OnErr result (room.new.posts.items ≡ room.old.posts.items) }

@@ -10,7 +10,7 @@ use std::marker::Brand;
 use std::sync::ledger::{Blank, Ledger};
 use tesla_base::Steps;
 use tesla_commit::Setup;
-use tesla_desk::Desk;
+use tesla_desk::Environment;
 use tesla_front::{Fault, Stop, refused, seeds_under, setup_under};
 use tesla_seeds::Seeds;
 use tesla_sender::{Sender, SenderRefusal};
@@ -20,7 +20,7 @@ use tesla_sender::{Sender, SenderRefusal};
 ///
 /// `Refused` with the first refused line of SETUP or of SECRET, or with the line of the first seed that doesn't give the
 /// key of the setup. `Failed` with `Read` or `Open` exactly where the count of that rose, and with `NoMemory`.
-pub fn open_sender<D: Desk>(
+pub fn open_sender<D: Environment>(
     alloc: Global,
     setup: &str,
     secret: &str,

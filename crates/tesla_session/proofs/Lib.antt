@@ -8,3 +8,4 @@ pub mod Opened
 pub mod Fresh
 pub mod Counted
 pub mod Made
+pub mod Allowed

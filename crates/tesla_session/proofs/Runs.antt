@@ -1,7 +1,7 @@
 -- Workers each of which did its work, by their places and as lists.
 use Rattle.std.proofs.Common.{◌≡◌, ◌<◌, ℕ, zero, suc, List, [], ◌∷◌, map, length, arith, slice_index_or}
-use Rattle.tesla_turn.specs.Held.{TurnId, left_of}
-use Rattle.tesla_session.specs.Session.{Seen, pass_of, AreOf, HaveCalls, RunsWorker, RunWorkers}
+use Rattle.tesla_turn.specs.Held.{TurnId}
+use Rattle.tesla_session.specs.Session.{Seen, pass_of, AreOf, AreReady, IsReady, RunsWorker, RunWorkers}
 
 module _ {C : Type 0} where
   module _ {X : Type 0} (seen : X → Seen C) where
@@ -16,7 +16,7 @@ module _ {C : Type 0} where
     turn_at turn (x ∷ xs) zero d inside all = all.0
     turn_at turn (x ∷ xs) (suc i) d inside all = turn_at turn xs i d (omega arith) all.1
 
-    pub left_at : (xs : List X) (i : ℕ) (d : X) → i < length xs → HaveCalls (map seen xs) → 0 < left_of (pass_of (seen (slice_index_or xs i d)))
-    left_at [] i d inside all = absurd (omega arith)
-    left_at (x ∷ xs) zero d inside all = all.0
-    left_at (x ∷ xs) (suc i) d inside all = left_at xs i d (omega arith) all.1
+    pub ready_at : (xs : List X) (i : ℕ) (d : X) → i < length xs → AreReady (map seen xs) → IsReady (seen (slice_index_or xs i d))
+    ready_at [] i d inside all = absurd (omega arith)
+    ready_at (x ∷ xs) zero d inside all = all.0
+    ready_at (x ∷ xs) (suc i) d inside all = ready_at xs i d (omega arith) all.1

@@ -6,9 +6,9 @@ use Rattle.tesla_desk.specs.Outside.{Told}
 use Rattle.tesla_front.specs.declared.fault.Fault.{Fault}
 use Rattle.tesla_turn.specs.Held.{TurnId, first_pass, left_of, next_pass}
 use Rattle.tesla_session.specs.Wanted.{Wanted, WantedLink, WantedSink, links_wanted, sinks_wanted, wanted_for}
-use Rattle.tesla_session.specs.Session.{PassSeen, LinkSeen, SinkSeen, Seen, SeenLink, SeenSink, pass_of, AreOf, HaveCalls, OpensWorker, OpensWorkers, RunWorkers, ClosesWorkers, OpensMore, OpensAll, RefusedSession, calls_most, workers_of}
+use Rattle.tesla_session.specs.Session.{PassSeen, LinkSeen, SinkSeen, Seen, SeenLink, SeenSink, pass_of, AreOf, AreReady, IsReady, OpensWorker, OpensWorkers, RunWorkers, ClosesWorkers, OpensMore, OpensAll, RefusedSession, calls_most, workers_of}
 
-wants_links : (number : ℕ) (names : List (List ℕ)) → length (links_wanted number names) ≡ length names
+pub wants_links : (number : ℕ) (names : List (List ℕ)) → length (links_wanted number names) ≡ length names
 wants_links number [] = refl
 wants_links number (name ∷ names) = ap suc (wants_links (suc number) names)
 
@@ -103,13 +103,20 @@ module _ {C : Type 0} where
       let one = opens_one wanted before mid first middle worker opens in
       subst (λ (ws : List (Seen C)). AreOf first.turn ws) (sym are) (one.1, subst (λ (turn : TurnId). AreOf turn ws) one.0.turn (opens_of others mid now middle later ws result opened))
 
-  -- and all their calls left
-  pub opens_left : (wanted : List Wanted) (before now : Told) (first later : PassSeen C) (workers : List (Seen C)) (result : Result (Unit {0}) Fault) → 0 < first.calls → OpensWorkers wanted before now first later workers result → HaveCalls workers
-  opens_left [] before now first later workers result some it = subst HaveCalls (sym it.0) tt
-  opens_left (wanted ∷ others) before now first later workers result some (inl (fault, refused, same, none, is)) = subst HaveCalls (sym none) tt
-  opens_left (wanted ∷ others) before now first later workers result some (inr (worker, ws, mid, middle, are, opens, opened)) =
+  opens_ready : (wanted : Wanted) (before now : Told) (first later : PassSeen C) (worker : Seen C) → 0 < first.calls → OpensWorker wanted before now first later worker → IsReady worker
+  opens_ready (WantedLink ingest name) before now first later (SeenLink worker) some it =
+      (omega (arith, left_fresh first worker.pass it.pass_is, some), ap (λ (p : PassSeen C). p.made) it.pass_is)
+  opens_ready (WantedSink releaser name) before now first later (SeenSink worker) some it = (ap (λ (p : PassSeen C). p.made) it.pass_is, it.empty)
+  opens_ready (WantedLink ingest name) before now first later (SeenSink worker) some it = absurd it
+  opens_ready (WantedSink releaser name) before now first later (SeenLink worker) some it = absurd it
+
+  -- and are ready
+  pub open_ready : (wanted : List Wanted) (before now : Told) (first later : PassSeen C) (workers : List (Seen C)) (result : Result (Unit {0}) Fault) → 0 < first.calls → OpensWorkers wanted before now first later workers result → AreReady workers
+  open_ready [] before now first later workers result some it = subst AreReady (sym it.0) tt
+  open_ready (wanted ∷ others) before now first later workers result some (inl (fault, refused, same, none, is)) = subst AreReady (sym none) tt
+  open_ready (wanted ∷ others) before now first later workers result some (inr (worker, ws, mid, middle, are, opens, opened)) =
       let one = opens_one wanted before mid first middle worker opens in
-      subst HaveCalls (sym are) (omega (arith, one.2, some), opens_left others mid now middle later ws result (omega (arith, one.0.calls, some)) opened)
+      subst AreReady (sym are) (opens_ready wanted before mid first middle worker some opens, open_ready others mid now middle later ws result (omega (arith, one.0.calls, some)) opened)
 
   -- workers that did their work have the passes that they had
   pub runs_of : (turn : TurnId) (befores afters : List (Seen C)) → RunWorkers befores afters → AreOf turn befores → AreOf turn afters
@@ -138,9 +145,13 @@ module _ {C : Type 0} where
   of_back turn [] others are = are
   of_back turn (worker ∷ workers) others are = of_back turn workers others are.1
 
-  pub left_prefix : (workers others : List (Seen C)) → HaveCalls (workers ++ others) → HaveCalls workers
-  left_prefix [] others have = tt
-  left_prefix (worker ∷ workers) others have = (have.0, left_prefix workers others have.1)
+  pub ready_prefix : (workers others : List (Seen C)) → AreReady (workers ++ others) → AreReady workers
+  ready_prefix [] others are = tt
+  ready_prefix (worker ∷ workers) others are = (are.0, ready_prefix workers others are.1)
+
+  pub ready_back : (workers others : List (Seen C)) → AreReady (workers ++ others) → AreReady others
+  ready_back [] others are = are
+  ready_back (worker ∷ workers) others are = ready_back workers others are.1
 
   -- as many workers come out of a run as went in
   pub runs_length : (befores afters : List (Seen C)) → RunWorkers befores afters → length afters ≡ length befores
@@ -222,6 +233,6 @@ module _ {C : Type 0} where
   pub opened_of : (wanted : List Wanted) (cfg : C) (before now : Told) (turn : TurnId) (first : PassSeen C) (workers : List (Seen C)) → OpensAll wanted cfg before now turn first workers → AreOf turn workers
   opened_of wanted cfg before now turn first workers opens = opens_of wanted before now (first_pass turn cfg (suc (length wanted)) calls_most) first workers (Ok tt) opens
 
-  -- and all their calls left
-  pub opened_left : (wanted : List Wanted) (cfg : C) (before now : Told) (turn : TurnId) (first : PassSeen C) (workers : List (Seen C)) → OpensAll wanted cfg before now turn first workers → HaveCalls workers
-  opened_left wanted cfg before now turn first workers opens = opens_left wanted before now (first_pass turn cfg (suc (length wanted)) calls_most) first workers (Ok tt) (omega arith) opens
+  -- and are ready
+  pub opened_ready : (wanted : List Wanted) (cfg : C) (before now : Told) (turn : TurnId) (first : PassSeen C) (workers : List (Seen C)) → OpensAll wanted cfg before now turn first workers → AreReady workers
+  opened_ready wanted cfg before now turn first workers opens = open_ready wanted before now (first_pass turn cfg (suc (length wanted)) calls_most) first workers (Ok tt) (omega arith) opens

@@ -170,10 +170,15 @@ module _ {C : Type 0} where
 
   -- ---- running
 
-  -- each of these workers has a call left
-  abbrev pub HaveCalls : List (Seen C) → Type 0
-  HaveCalls [] = Unit {0}
-  HaveCalls (worker ∷ workers) = (0 < left_of (pass_of worker)) × HaveCalls workers
+  -- the worker has made no call and has one left, and nothing is written to its sink
+  abbrev pub IsReady : Seen C → Type 0
+  IsReady (SeenLink worker) = (0 < left_of worker.pass) × (worker.pass.made ≡ [])
+  IsReady (SeenSink worker) = (worker.pass.made ≡ []) × IfSome worker.written (λ bytes. bytes ≡ [])
+
+  -- the same of each of these workers
+  abbrev pub AreReady : List (Seen C) → Type 0
+  AreReady [] = Unit {0}
+  AreReady (worker ∷ workers) = IsReady worker × AreReady workers
 
   -- the worker of a link did its work
   pub record RunsLink (before after : LinkSeen C) : Type 0 where

@@ -6,30 +6,31 @@ ghost use Rattle.tesla_desk.specs.Outside.{Told};
 ghost use Rattle.tesla_front.specs.OutcomeView.{stop_view};
 ghost use Rattle.tesla_turn.specs.Held.{first_pass};
 ghost use Rattle.tesla_turn.specs.History.{entries};
+ghost use Rattle.tesla_session.specs.Allowed.{MayAsk, MayReleaseAll};
 ghost use Rattle.tesla_session.specs.Wanted.{Wanted, wanted_for};
-ghost use Rattle.tesla_session.specs.Session.{AreOf, ClosesWorkers, HaveCalls, OpensAll, OpensWorkers, RefusedSession, RunWorkers, RunsOpened, calls_most, stop_of, workers_of};
+ghost use Rattle.tesla_session.specs.Session.{AreOf, AreReady, ClosesWorkers, OpensAll, OpensWorkers, RefusedSession, RunWorkers, RunsOpened, calls_most, stop_of, workers_of};
 
 use crate::beside::Beside;
 use crate::running::run_workers;
-use crate::session::{Links, Sinks, close_each, open_each};
+use crate::session::{Links, Shared, Sinks, close_each, open_each};
 use crate::stop::stop_in;
 use std::alloc::Global;
 use std::sync::Wait;
 use std::thread::Threads;
 use tesla_base::NoMemory;
-use tesla_desk::Desk;
+use tesla_desk::Environment;
 use tesla_front::{Fault, Names, Stop};
-use tesla_shared::Station;
+use tesla_shared::{Station, Witnessed};
 use tesla_turn::{Last, Pass, Turn};
 
 /// How many calls each worker may make.
 const CALLS: u64 = 1 << 56;
 
 /// A station with its turn, and room for its workers.
-pub struct Session<D: Desk, V: Station> {
-    pub turn: Turn<V>,
+pub struct Session<D: Environment, V: Station> {
+    pub turn: Turn<Shared<D, V>>,
     /// The first pass, which makes no call.
-    pub first: Pass<V>,
+    pub first: Pass<Shared<D, V>>,
     pub links: Links<D, V>,
     pub sinks: Sinks<D, V>,
 }
@@ -58,7 +59,7 @@ fn rooms_for<A, B>(alloc: Global, some: usize, others: usize) -> Result<(Vec<A>,
 
 /// Takes all memory that a run needs over a station with no history, with so many links and sinks: a turn with a pass for each
 /// worker, and room for the workers. `NoMemory` drops the station.
-pub fn prepared<D: Desk, V: Station>(
+pub fn prepared<D: Environment, V: Station>(
     alloc: Global,
     station: V,
     links: &Names<'_>,
@@ -72,7 +73,7 @@ pub fn prepared<D: Desk, V: Station>(
     ensures first { IfOk result (λ it. it.first ≡ first_pass it.turn (V.config station) (1 + length links.now + length sinks.now) calls_most) }
 {
     let passes = 1 + links.len() as u8 + sinks.len() as u8;
-    let (turn, first) = Turn::open(alloc, station, passes, CALLS)?;
+    let (turn, first) = Turn::open(alloc, Witnessed::new(station), passes, CALLS)?;
     let (links, sinks) = rooms_for(alloc, links.len(), sinks.len())?;
     Ok(Session {
         turn,
@@ -83,7 +84,7 @@ pub fn prepared<D: Desk, V: Station>(
 }
 
 // Opens the links and then the sinks, until an opening is refused.
-fn open_all<D: Desk, V: Station>(
+fn open_all<D: Environment, V: Station>(
     desk: &mut D,
     links: &Names<'_>,
     sinks: &Names<'_>,
@@ -95,6 +96,10 @@ fn open_all<D: Desk, V: Station>(
     requires room { length links.now + length sinks.now ≤ session.old.first.room }
     requires links { (session.old.links.items ≡ []) × (length links.now ≤ vec_capacity session.old.links) }
     requires sinks { (session.old.sinks.items ≡ []) × (length sinks.now ≤ vec_capacity session.old.sinks) }
+    requires alone { length session.old.first.joined ≡ 1 }
+    requires ingests { (cfg : V.Config) → session.old.first.config ≡ Some cfg → (V.receiver cfg).ingests ≡ length links.now }
+    requires asked { MayAsk D.Wire.brought D.Time.may_ask }
+    requires released { (cfg : V.Config) → session.old.first.config ≡ Some cfg → MayReleaseAll D.Pieces.name D.Pieces.written D.Pieces.may_write D.Time.read_for (V.receiver cfg) 0 sinks.now }
     ensures opens { OpensWorkers (wanted_for links.now sinks.now) (D.told desk.old) (D.told desk.new) session.old.first session.new.first (workers_of session.new.links.items session.new.sinks.items) result }
     ensures turn { session.new.turn ≡ session.old.turn }
 {
@@ -111,8 +116,8 @@ fn open_all<D: Desk, V: Station>(
 }
 
 /// Opens the links in order, each with the next clock, and then the sinks. Where an opening is refused, those that were opened
-/// are closed.
-pub fn open_session<D: Desk, V: Station>(
+/// are closed. Its clocks may be asked for what its links bring, and its outputs may write the records of packets that are due.
+pub fn open_session<D: Environment, V: Station>(
     links: &Names<'_>,
     sinks: &Names<'_>,
     mut session: Session<D, V>,
@@ -123,6 +128,9 @@ pub fn open_session<D: Desk, V: Station>(
     requires links { (session.links.items ≡ []) × (length links.now ≤ vec_capacity session.links) }
     requires sinks { (session.sinks.items ≡ []) × (length sinks.now ≤ vec_capacity session.sinks) }
     requires first { (cfg : V.Config) × (session.first ≡ first_pass session.turn cfg (1 + length links.now + length sinks.now) calls_most) }
+    requires ingests { (cfg : V.Config) → session.first.config ≡ Some cfg → (V.receiver cfg).ingests ≡ length links.now }
+    requires asked { MayAsk D.Wire.brought D.Time.may_ask }
+    requires released { (cfg : V.Config) → session.first.config ≡ Some cfg → MayReleaseAll D.Pieces.name D.Pieces.written D.Pieces.may_write D.Time.read_for (V.receiver cfg) 0 sinks.now }
     ensures opened { IfOk result (λ it. (cfg : V.Config) → session.first ≡ first_pass session.turn cfg (1 + length links.now + length sinks.now) calls_most → OpensAll (wanted_for links.now sinks.now) cfg (D.told desk.old) (D.told desk.new) it.turn it.first (workers_of it.links.items it.sinks.items)) }
     ensures refused { (fault : _) → result ≡ Err fault → (cfg : V.Config) → session.first ≡ first_pass session.turn cfg (1 + length links.now + length sinks.now) calls_most → RefusedSession (wanted_for links.now sinks.now) cfg (D.told desk.old) (D.told desk.new) fault }
 {
@@ -136,13 +144,13 @@ pub fn open_session<D: Desk, V: Station>(
 }
 
 // Runs all workers, and something beside them, and tells why they came to no end.
-fn run_all<R: Threads + Wait + Sync, D: Desk, V: Station + Send, B: Beside + Send>(
+fn run_all<R: Threads + Wait + Sync, D: Environment, V: Station + Send, B: Beside + Send>(
     rt: &R,
     session: &mut Session<D, V>,
     beside: &mut B,
 ) -> Option<Stop>
     requires own { AreOf session.old.turn (workers_of session.old.links.items session.old.sinks.items) }
-    requires left { HaveCalls (workers_of session.old.links.items session.old.sinks.items) }
+    requires ready { AreReady (workers_of session.old.links.items session.old.sinks.items) }
     ensures runs { RunWorkers (workers_of session.old.links.items session.old.sinks.items) (workers_of session.new.links.items session.new.sinks.items) }
     ensures stop { option_map stop_view result ≡ stop_of (workers_of session.new.links.items session.new.sinks.items) }
     ensures same { (session.new.turn ≡ session.old.turn) × (session.new.first ≡ session.old.first) }
@@ -159,7 +167,10 @@ fn run_all<R: Threads + Wait + Sync, D: Desk, V: Station + Send, B: Beside + Sen
 }
 
 // Closes all workers, and gives the turn with the first pass, which has taken in theirs.
-fn close_workers<D: Desk, V: Station>(desk: &mut D, session: Session<D, V>) -> (Turn<V>, Pass<V>)
+fn close_workers<D: Environment, V: Station>(
+    desk: &mut D,
+    session: Session<D, V>,
+) -> (Turn<Shared<D, V>>, Pass<Shared<D, V>>)
     requires own { session.first.turn ≡ session.turn }
     requires first { session.first.number ≡ 0 }
     requires others { AreOf session.turn (workers_of session.links.items session.sinks.items) }
@@ -180,7 +191,7 @@ fn close_workers<D: Desk, V: Station>(desk: &mut D, session: Session<D, V>) -> (
 }
 
 /// Closes workers that are opened and made no call.
-pub fn close_all<D: Desk, V: Station>(desk: &mut D, session: Session<D, V>)
+pub fn close_all<D: Environment, V: Station>(desk: &mut D, session: Session<D, V>)
     requires { (wanted : List Wanted) × (cfg : V.Config) × (before : Told) × (now : Told) × OpensAll wanted cfg before now session.turn session.first (workers_of session.links.items session.sinks.items) }
     ensures { (later : _) × ClosesWorkers (workers_of session.links.items session.sinks.items) (D.told desk.old) (D.told desk.new) session.first later }
 {
@@ -189,7 +200,7 @@ pub fn close_all<D: Desk, V: Station>(desk: &mut D, session: Session<D, V>)
 
 /// Runs the workers that are opened, closes them, and ends the turn. Something runs beside the workers, in a thread of its own
 /// until they have ended, or behind them where no thread can be made. It waits for their links and for their turns.
-pub fn run_opened<R: Threads + Wait + Sync, D: Desk, V: Station + Send, B: Beside + Send>(
+pub fn run_opened<R: Threads + Wait + Sync, D: Environment, V: Station + Send, B: Beside + Send>(
     rt: &R,
     mut session: Session<D, V>,
     beside: &mut B,
@@ -206,7 +217,7 @@ pub fn run_opened<R: Threads + Wait + Sync, D: Desk, V: Station + Send, B: Besid
     let (station, last) = turn.close(rt, first);
     Ran {
         stop,
-        station,
-        last,
+        station: station.into_station(),
+        last: last.of_value(),
     }
 }

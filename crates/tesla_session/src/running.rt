@@ -2,19 +2,19 @@
 
 ghost use Rattle.std.specs.Prelude.{◌≡◌, ◌<◌, map, All};
 ghost use Rattle.std.specs.Thread.{IsSync, IsSend};
-ghost use Rattle.tesla_turn.specs.Held.{TurnId, left_of};
-ghost use Rattle.tesla_session.specs.Session.{Seen, SeenLink, SeenSink, RunsWorker, RunWorkers, AreOf, HaveCalls};
+ghost use Rattle.tesla_turn.specs.Held.{TurnId};
+ghost use Rattle.tesla_session.specs.Session.{Seen, SeenLink, SeenSink, IsReady, RunsWorker, RunWorkers, AreOf, AreReady};
 
 use crate::beside::{Beside, Ended};
 use crate::worker::{LinkWorker, SinkWorker};
 use std::sync::Wait;
 use std::thread::{Threads, for_each_mut, join_mut};
-use tesla_desk::{Clock, Gate, Link, Sink};
-use tesla_shared::Station;
-use tesla_turn::Turn;
+use tesla_desk::{Clock, Gate, Link, Output};
+use tesla_shared::{Station, Witnessed};
+use tesla_turn::{Permitting, Turn};
 
 /// What works over a turn of a station.
-trait Work<V: Station> {
+trait Work<V: Station + Permitting> {
     /// What is seen of it.
     ghost seen: { Self → Seen V.Config };
 
@@ -27,28 +27,30 @@ trait Work<V: Station> {
         ensures { RunsWorker (seen self.old) (seen self.new) };
 }
 
-impl<V: Station, K: Link, C: Clock, G: Gate> Work<V> for LinkWorker<V, K, C, G> {
+impl<V: Station, K: Link, C: Clock + Drop, G: Gate> Work<Witnessed<V, C>>
+    for LinkWorker<V, K, C, G> {
     ghost seen = { SeenLink };
 
-    ghost can_work = { λ turn it. (it.pass.turn ≡ turn) × (0 < left_of it.pass) };
+    ghost can_work = { λ turn it. (it.pass.turn ≡ turn) × IsReady (SeenLink it) };
 
-    fn work<R: Wait>(&mut self, rt: &R, turn: &Turn<V>) {
+    fn work<R: Wait>(&mut self, rt: &R, turn: &Turn<Witnessed<V, C>>) {
         self.run(rt, turn);
     }
 }
 
-impl<V: Station, S: Sink, G: Gate> Work<V> for SinkWorker<V, S, G> {
+impl<V: Station, C: Clock + Drop, S: Output, G: Gate> Work<Witnessed<V, C>>
+    for SinkWorker<V, C, S, G> {
     ghost seen = { SeenSink };
 
-    ghost can_work = { λ turn it. it.pass.turn ≡ turn };
+    ghost can_work = { λ turn it. (it.pass.turn ≡ turn) × IsReady (SeenSink it) };
 
-    fn work<R: Wait>(&mut self, rt: &R, turn: &Turn<V>) {
+    fn work<R: Wait>(&mut self, rt: &R, turn: &Turn<Witnessed<V, C>>) {
         self.run(rt, turn);
     }
 }
 
 // Runs workers of one kind, each in a thread of its own where one can be made.
-fn run_each<R: Threads + Wait + Sync, V: Station + Send, W: Work<V> + Send>(
+fn run_each<R: Threads + Wait + Sync, V: Station + Permitting + Send, W: Work<V> + Send>(
     rt: &R,
     turn: &Turn<V>,
     workers: &mut [W],
@@ -68,12 +70,12 @@ fn run_each<R: Threads + Wait + Sync, V: Station + Send, W: Work<V> + Send>(
 }
 
 // Runs workers of two kinds at once, or the last after the first where no thread can be made.
-fn run_both<R: Threads + Wait + Sync, V: Station + Send, L: Work<V> + Send, F: Work<V> + Send>(
-    rt: &R,
-    turn: &Turn<V>,
-    last: &mut [L],
-    first: &mut [F],
-)
+fn run_both<
+    R: Threads + Wait + Sync,
+    V: Station + Permitting + Send,
+    L: Work<V> + Send,
+    F: Work<V> + Send,
+>(rt: &R, turn: &Turn<V>, last: &mut [L], first: &mut [F])
     requires last { All (L.can_work turn.now) last.old }
     requires first { All (F.can_work turn.now) first.old }
     ensures last { RunWorkers (map L.seen last.old) (map L.seen last.new) }
@@ -93,7 +95,7 @@ fn run_both<R: Threads + Wait + Sync, V: Station + Send, L: Work<V> + Send, F: W
 // Runs workers of two kinds at once, and something beside them, or behind them where no thread can be made.
 fn run_beside<
     R: Threads + Wait + Sync,
-    V: Station + Send,
+    V: Station + Permitting + Send,
     L: Work<V> + Send,
     F: Work<V> + Send,
     B: Beside + Send,
@@ -117,13 +119,12 @@ fn run_beside<
 }
 
 // Runs workers of two kinds at once, and tells that they have ended.
-fn run_then_tell<R: Threads + Wait + Sync, V: Station + Send, L: Work<V> + Send, F: Work<V> + Send>(
-    rt: &R,
-    turn: &Turn<V>,
-    last: &mut [L],
-    first: &mut [F],
-    ended: &Ended,
-)
+fn run_then_tell<
+    R: Threads + Wait + Sync,
+    V: Station + Permitting + Send,
+    L: Work<V> + Send,
+    F: Work<V> + Send,
+>(rt: &R, turn: &Turn<V>, last: &mut [L], first: &mut [F], ended: &Ended)
     requires last { All (L.can_work turn.now) last.old }
     requires first { All (F.can_work turn.now) first.old }
     ensures { RunWorkers (map L.seen last.old) (map L.seen last.new) × RunWorkers (map F.seen first.old) (map F.seen first.new) }
@@ -138,20 +139,21 @@ pub fn run_workers<
     R: Threads + Wait + Sync,
     V: Station + Send,
     K: Link + Send,
-    C: Clock + Send,
-    S: Sink + Send,
+    C: Clock + Send + Drop,
+    S: Output + Send,
     G: Gate + Send,
     B: Beside + Send,
 >(
     rt: &R,
-    turn: &Turn<V>,
+    turn: &Turn<Witnessed<V, C>>,
     links: &mut [LinkWorker<V, K, C, G>],
-    sinks: &mut [SinkWorker<V, S, G>],
+    sinks: &mut [SinkWorker<V, C, S, G>],
     beside: &mut B,
 )
     requires links { AreOf turn.now (map SeenLink links.old) }
-    requires left { HaveCalls (map SeenLink links.old) }
+    requires ready_links { AreReady (map SeenLink links.old) }
     requires sinks { AreOf turn.now (map SeenSink sinks.old) }
+    requires ready_sinks { AreReady (map SeenSink sinks.old) }
     ensures links { RunWorkers (map SeenLink links.old) (map SeenLink links.new) }
     ensures sinks { RunWorkers (map SeenSink sinks.old) (map SeenSink sinks.new) }
     ensures beside { B.did beside.old beside.new }

@@ -2,28 +2,39 @@
 
 ghost use Rattle.std.specs.Prelude.{◌≡◌, ◌<◌, ◌≤◌, ◌+◌, [], Err, IfOk, List, ℕ, map, length, vec_len, vec_capacity};
 ghost use Rattle.tesla_turn.specs.Held.{next_pass};
+ghost use Rattle.tesla_session.specs.Allowed.{AllowsLink, AllowsSink, AreAllowed};
 ghost use Rattle.tesla_session.specs.Wanted.{Wanted, WantedLink, WantedSink};
-ghost use Rattle.tesla_session.specs.Session.{AreOf, ClosesWorker, ClosesWorkers, OpensMore, OpensWorker, RefusesWorker, Seen, SeenLink, SeenSink, name_of, pass_of, split_pass};
+ghost use Rattle.tesla_session.specs.Session.{AreOf, ClosesWorker, ClosesWorkers, OpensMore, OpensWorker, PassSeen, RefusesWorker, Seen, SeenLink, SeenSink, name_of, pass_of, split_pass};
 
 use crate::worker::{LinkWorker, SinkWorker};
-use tesla_desk::Desk;
+use tesla_desk::Environment;
 use tesla_front::Fault;
-use tesla_shared::{LinkEnd, SinkEnd, Station};
-use tesla_turn::{Pass, Turn};
+use tesla_shared::{LinkEnd, SinkEnd, Station, Witnessed};
+use tesla_turn::{Pass, Permitting, Turn};
+
+/// What the workers of a station share over a desk.
+pub type Shared<D, V> = Witnessed<V, <D as Environment>::Time>;
 
 /// The workers of links over a desk.
-pub type Links<D, V> = Vec<LinkWorker<V, <D as Desk>::Wire, <D as Desk>::Time, <D as Desk>::Pause>>;
+pub type Links<D, V> = Vec<
+    LinkWorker<V, <D as Environment>::Wire, <D as Environment>::Time, <D as Environment>::Pause>,
+>;
 
 /// The workers of sinks over a desk.
-pub type Sinks<D, V> = Vec<SinkWorker<V, <D as Desk>::Out, <D as Desk>::Pause>>;
+pub type Sinks<D, V> = Vec<
+    SinkWorker<V, <D as Environment>::Time, <D as Environment>::Pieces, <D as Environment>::Pause>,
+>;
 
 /// A worker over what a desk opens for it: a link with its clock and its gate, or a sink with its gate.
-pub(crate) trait DeskWorker<D: Desk, V: Station> {
+pub(crate) trait DeskWorker<D: Environment, V: Station + Permitting> {
     /// What is seen of it.
     ghost seen: { Self → Seen V.Config };
 
     /// What it wants of the desk, by its number and a name.
     ghost wanted: { ℕ → List ℕ → Wanted };
+
+    /// It may be opened behind the first pass, by its number and a name.
+    ghost allowed: { PassSeen V.Config → ℕ → List ℕ → Type 0 };
 
     /// A worker of this number that has made no call, with a pass that is split off the first. What it works with is opened
     /// under the name.
@@ -36,6 +47,7 @@ pub(crate) trait DeskWorker<D: Desk, V: Station> {
     ) -> Result<Self, Fault>
         requires own { first.old.turn ≡ turn.now }
         requires room { 0 < first.old.room }
+        requires allowed { allowed first.old number name.now }
         ensures opened { IfOk result (λ worker. OpensWorker (wanted number name.now) (D.told desk.old) (D.told desk.new) first.old first.new (seen worker)) }
         ensures refused { (fault : _) → result ≡ Err fault → RefusesWorker (wanted number name.now) (D.told desk.old) (D.told desk.new) fault × (first.new ≡ first.old) };
 
@@ -46,7 +58,7 @@ pub(crate) trait DeskWorker<D: Desk, V: Station> {
 }
 
 // A further pass of the turn, for which the first has room.
-fn split_off<V: Station>(turn: &Turn<V>, first: &mut Pass<V>) -> Pass<V>
+fn split_off<V: Station + Permitting>(turn: &Turn<V>, first: &mut Pass<V>) -> Pass<V>
     requires own { first.old.turn ≡ turn.now }
     requires room { 0 < first.old.room }
     ensures pass { result ≡ next_pass first.old }
@@ -58,17 +70,20 @@ fn split_off<V: Station>(turn: &Turn<V>, first: &mut Pass<V>) -> Pass<V>
     pass
 }
 
-impl<D: Desk, V: Station> DeskWorker<D, V> for LinkWorker<V, D::Wire, D::Time, D::Pause> {
+impl<D: Environment, V: Station> DeskWorker<D, Shared<D, V>>
+    for LinkWorker<V, D::Wire, D::Time, D::Pause> {
     ghost seen = { SeenLink };
 
     ghost wanted = { WantedLink };
+
+    ghost allowed = { AllowsLink D.Wire.brought D.Time.may_ask };
 
     fn open(
         desk: &mut D,
         name: &str,
         number: u8,
-        turn: &Turn<V>,
-        first: &mut Pass<V>,
+        turn: &Turn<Shared<D, V>>,
+        first: &mut Pass<Shared<D, V>>,
     ) -> Result<LinkWorker<V, D::Wire, D::Time, D::Pause>, Fault> {
         let link = desk.open_link(name)?;
         let clock = desk.clock();
@@ -84,7 +99,7 @@ impl<D: Desk, V: Station> DeskWorker<D, V> for LinkWorker<V, D::Wire, D::Time, D
         })
     }
 
-    fn close(self, desk: &mut D) -> Pass<V> {
+    fn close(self, desk: &mut D) -> Pass<Shared<D, V>> {
         let LinkWorker {
             ingest: _,
             link,
@@ -98,19 +113,22 @@ impl<D: Desk, V: Station> DeskWorker<D, V> for LinkWorker<V, D::Wire, D::Time, D
     }
 }
 
-impl<D: Desk, V: Station> DeskWorker<D, V> for SinkWorker<V, D::Out, D::Pause> {
+impl<D: Environment, V: Station> DeskWorker<D, Shared<D, V>>
+    for SinkWorker<V, D::Time, D::Pieces, D::Pause> {
     ghost seen = { SeenSink };
 
     ghost wanted = { WantedSink };
+
+    ghost allowed = { AllowsSink D.Pieces.name D.Pieces.written D.Pieces.may_write D.Time.read_for V.receiver };
 
     fn open(
         desk: &mut D,
         name: &str,
         number: u8,
-        turn: &Turn<V>,
-        first: &mut Pass<V>,
-    ) -> Result<SinkWorker<V, D::Out, D::Pause>, Fault> {
-        let sink = desk.open_sink(name)?;
+        turn: &Turn<Shared<D, V>>,
+        first: &mut Pass<Shared<D, V>>,
+    ) -> Result<SinkWorker<V, D::Time, D::Pieces, D::Pause>, Fault> {
+        let sink = desk.open_output(name)?;
         let gate = desk.gate();
         let pass = split_off(turn, first);
         Ok(SinkWorker {
@@ -122,7 +140,7 @@ impl<D: Desk, V: Station> DeskWorker<D, V> for SinkWorker<V, D::Out, D::Pause> {
         })
     }
 
-    fn close(self, desk: &mut D) -> Pass<V> {
+    fn close(self, desk: &mut D) -> Pass<Shared<D, V>> {
         let SinkWorker {
             releaser: _,
             sink,
@@ -130,13 +148,13 @@ impl<D: Desk, V: Station> DeskWorker<D, V> for SinkWorker<V, D::Out, D::Pause> {
             pass,
             end: _,
         } = self;
-        desk.close_sink(sink);
+        desk.close_output(sink);
         pass
     }
 }
 
 /// Makes a worker for each of these names, numbered from `number` on, until an opening is refused.
-pub(crate) fn open_each<D: Desk, V: Station, W: DeskWorker<D, V>>(
+pub(crate) fn open_each<D: Environment, V: Station + Permitting, W: DeskWorker<D, V>>(
     desk: &mut D,
     names: &[&str],
     number: u8,
@@ -148,6 +166,7 @@ pub(crate) fn open_each<D: Desk, V: Station, W: DeskWorker<D, V>>(
     requires room { length names.now ≤ first.old.room }
     requires few { number + length names.now ≤ 32 }
     requires space { vec_len workers.old + length names.now ≤ vec_capacity workers.old }
+    requires allowed { AreAllowed W.allowed first.old number (map name_of names.now) }
     ensures { OpensMore W.seen W.wanted number (map name_of names.now) (D.told desk.old) (D.told desk.new) first.old first.new workers.old.items workers.new.items result }
 {
     let [name, names @ ..] = names else {
@@ -163,7 +182,7 @@ pub(crate) fn open_each<D: Desk, V: Station, W: DeskWorker<D, V>>(
 }
 
 /// Closes the workers, the last first, and takes their passes into the first.
-pub(crate) fn close_each<D: Desk, V: Station, W: DeskWorker<D, V>>(
+pub(crate) fn close_each<D: Environment, V: Station + Permitting, W: DeskWorker<D, V>>(
     desk: &mut D,
     turn: &Turn<V>,
     first: &mut Pass<V>,

@@ -6,7 +6,7 @@ ghost use Rattle.tesla_front.specs.OutcomeView.{stop_view};
 ghost use Rattle.tesla_session.specs.Session.{spent_line, any_link_ended, any_sink_ended, stop_by, stop_of, workers_of};
 
 use crate::worker::{LinkWorker, SinkWorker};
-use tesla_desk::{Clock, Gate, Link, Sink};
+use tesla_desk::{Clock, Gate, Link, Output};
 use tesla_front::{Fault, Lines, Refusal, Stop};
 use tesla_shared::{LinkEnd, SinkEnd, Station};
 
@@ -27,7 +27,10 @@ fn any_link<V: Station, K: Link, C: Clock, G: Gate>(
 }
 
 // Whether one of these sinks ended so.
-fn any_sink<V: Station, S: Sink, G: Gate>(workers: &[SinkWorker<V, S, G>], end: SinkEnd) -> bool
+fn any_sink<V: Station, C: Clock, S: Output, G: Gate>(
+    workers: &[SinkWorker<V, C, S, G>],
+    end: SinkEnd,
+) -> bool
     ensures { result ≡ any_sink_ended end workers.now }
 {
     match workers {
@@ -65,9 +68,9 @@ fn stop_where(read: bool, write: bool, link_spent: bool, sink_spent: bool) -> Op
 }
 
 /// Why the workers came to no end: a link failed, or else a sink, or else the calls of one were spent.
-pub fn stop_in<V: Station, K: Link, C: Clock, S: Sink, G: Gate>(
+pub fn stop_in<V: Station, K: Link, C: Clock, S: Output, G: Gate>(
     links: &[LinkWorker<V, K, C, G>],
-    sinks: &[SinkWorker<V, S, G>],
+    sinks: &[SinkWorker<V, C, S, G>],
 ) -> Option<Stop>
     ensures { option_map stop_view result ≡ stop_of (workers_of links.now sinks.now) }
 {

@@ -1,13 +1,17 @@
 //! The workers of a station, each with what it works with.
 
-ghost use Rattle.std.specs.Prelude.{◌≡◌, ◌<◌};
+ghost use Rattle.std.specs.Prelude.{◌≡◌, ◌<◌, ◌+◌, ℕ, suc, List, [], Some, IfSome, true};
+ghost use Rattle.tesla_base.specs.declared.release.Head.{Head};
 ghost use Rattle.tesla_turn.specs.Held.{left_of};
+ghost use Rattle.tesla_shared.specs.Due.{IsDue};
+ghost use Rattle.tesla_shared.specs.Workers.{record_in};
+ghost use Rattle.tesla_state.specs.declared.replies.Reply.TheVariants.{Given};
 ghost use Rattle.tesla_session.specs.Session.{LinkSeen, SinkSeen, RunsLink, RunsSink};
 
 use std::marker::Model;
 use std::sync::Wait;
-use tesla_desk::{Clock, Gate, Link, Sink};
-use tesla_shared::{LinkEnd, SinkEnd, Station, drain, ingest};
+use tesla_desk::{Clock, Gate, Link, Output};
+use tesla_shared::{LinkEnd, SinkEnd, Station, Witnessed, drain, ingest};
 use tesla_turn::{Pass, Turn};
 
 /// What makes arrivals of the datagrams of a link.
@@ -16,9 +20,12 @@ pub struct LinkWorker<V: Station, K: Link, C: Clock, G: Gate> {
     pub link: K,
     pub clock: C,
     pub gate: G,
-    pub pass: Pass<V>,
+    pub pass: Pass<Witnessed<V, C>>,
     /// Why it ended last.
     pub end: LinkEnd,
+    ghost asked: { (number : ℕ) (bytes : List ℕ) → K.brought number bytes ≡ true → C.may_ask number bytes ≡ true },
+    ghost own: { pass.number ≡ suc ingest },
+    ghost none: { pass.made ≡ [] → K.has_brought link 0 ≡ true },
 }
 
 impl<V: Station, K: Link, C: Clock, G: Gate> Model for LinkWorker<V, K, C, G> {
@@ -27,11 +34,12 @@ impl<V: Station, K: Link, C: Clock, G: Gate> Model for LinkWorker<V, K, C, G> {
     ghost view = { λ it. record { ingest = it.ingest; name = K.name it.link; left = K.left it.link; faults = K.faults it.link; told = C.told it.clock; pass = it.pass; end = it.end } };
 }
 
-impl<V: Station, K: Link, C: Clock, G: Gate> LinkWorker<V, K, C, G> {
+impl<V: Station, K: Link, C: Clock + Drop, G: Gate> LinkWorker<V, K, C, G> {
     /// Does its work, until the link ends or fails or the calls are spent.
-    pub fn run<R: Wait>(&mut self, rt: &R, turn: &Turn<V>)
+    pub fn run<R: Wait>(&mut self, rt: &R, turn: &Turn<Witnessed<V, C>>)
         requires turn { self.old.pass.turn ≡ turn.now }
         requires left { 0 < left_of self.old.pass }
+        requires new { self.old.pass.made ≡ [] }
         ensures { RunsLink self.old self.new }
     {
         self.end = ingest(
@@ -48,26 +56,30 @@ impl<V: Station, K: Link, C: Clock, G: Gate> LinkWorker<V, K, C, G> {
     }
 }
 
-/// What writes the records of released packets to a sink.
-pub struct SinkWorker<V: Station, S: Sink, G: Gate> {
+/// What writes the records of released packets to a sink. It may write a record exactly where the packet is due.
+pub struct SinkWorker<V: Station, C: Clock, S: Output, G: Gate> {
     pub releaser: u8,
     pub sink: S,
     pub gate: G,
-    pub pass: Pass<V>,
+    pub pass: Pass<Witnessed<V, C>>,
     /// Why it ended last.
     pub end: SinkEnd,
+    ghost own: { (cfg : V.Config) → pass.config ≡ Some cfg → pass.number ≡ suc ((V.receiver cfg).ingests + releaser) },
+    ghost due: { (cfg : V.Config) → pass.config ≡ Some cfg → (it : S) (head : Head) (payload : List ℕ) → S.name it ≡ S.name sink → IsDue (V.receiver cfg) C.read_for releaser (S.written it) head payload → S.may_write it (record_in (Given head payload)) ≡ true },
 }
 
-impl<V: Station, S: Sink, G: Gate> Model for SinkWorker<V, S, G> {
+impl<V: Station, C: Clock, S: Output, G: Gate> Model for SinkWorker<V, C, S, G> {
     ghost Value = { SinkSeen V.Config };
 
     ghost view = { λ it. record { releaser = it.releaser; name = S.name it.sink; written = S.written it.sink; faults = S.faults it.sink; pass = it.pass; end = it.end } };
 }
 
-impl<V: Station, S: Sink, G: Gate> SinkWorker<V, S, G> {
+impl<V: Station, C: Clock + Drop, S: Output, G: Gate> SinkWorker<V, C, S, G> {
     /// Does its work, until all ingests have ended or the sink fails or the calls are spent.
-    pub fn run<R: Wait>(&mut self, rt: &R, turn: &Turn<V>)
-        requires { self.old.pass.turn ≡ turn.now }
+    pub fn run<R: Wait>(&mut self, rt: &R, turn: &Turn<Witnessed<V, C>>)
+        requires turn { self.old.pass.turn ≡ turn.now }
+        requires new { self.old.pass.made ≡ [] }
+        requires empty { IfSome self.old.written (λ bytes. bytes ≡ []) }
         ensures { RunsSink self.old self.new }
     {
         self.end = drain(

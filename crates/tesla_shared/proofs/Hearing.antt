@@ -1,5 +1,5 @@
 -- Arrivals that are made of a link, one after another.
-use Rattle.std.proofs.Common.{◌≡◌, ℕ, List, [], ◌∷◌, ◌++◌, map, Option, Some, None, true, refl, sym, ap, subst, ◌∙◌, append_assoc, append-nil, length, length-append, arith}
+use Rattle.std.proofs.Common.{◌≡◌, ◌+◌, ℕ, List, [], ◌∷◌, ◌++◌, map, Option, Some, None, true, refl, sym, ap, subst, ◌∙◌, append_assoc, append-nil, length, length-append, arith}
 use Rattle.std.specs.List.{list_all}
 use Rattle.std.proofs.lemmas.List.{map-append}
 use Rattle.std.proofs.lemmas.Bool.{eq-eqb}
@@ -98,3 +98,12 @@ ends_after ingest made mid now left later before after all ended = record {
   hears = all.hears;
   made_are = ended ∙ ap (λ (es : List Entry). es ++ Ended ingest ∷ []) all.made_are ∙ append_assoc made (map Arrived all.arrivals) (Ended ingest ∷ []);
 }
+
+-- an end was made, so that there is a call
+pub ingests_some : (ingest : ℕ) (made now : List Entry) (left later : Option (List Letter)) (before after : Option Ticking) → Ingests ingest made now left later before after → now ≡ [] → ⊥
+ingests_some ingest made now left later before after all none =
+    let calls = map Arrived all.arrivals ++ Ended ingest ∷ [] in
+    let size : length now ≡ length made + length calls = ap (λ (es : List Entry). length es) all.made_are ∙ length-append made calls in
+    let own : length calls ≡ length (map Arrived all.arrivals) + 1 = length-append (map Arrived all.arrivals) (Ended ingest ∷ []) in
+    let nothing : length now ≡ 0 = ap (λ (es : List Entry). length es) none in
+    omega (arith, size, own, nothing)

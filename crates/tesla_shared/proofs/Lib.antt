@@ -3,3 +3,4 @@ pub mod Passing
 pub mod Writing
 pub mod WholeLists
 pub mod Whole
+pub mod Due

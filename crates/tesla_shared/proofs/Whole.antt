@@ -135,7 +135,7 @@ arrival_elsewhere n k (Arrived a) other = ap (λ b. cond b (a ∷ []) []) (ne_eq
 arrival_elsewhere n k (Taken releaser reply) other = refl
 arrival_elsewhere n k (Ended ingest) other = refl
 
-reply_elsewhere : (n r : ℕ) (e : Entry) → (pass_of n e == suc (n + r)) ≡ false → reply_by r e ≡ []
+pub reply_elsewhere : (n r : ℕ) (e : Entry) → (pass_of n e == suc (n + r)) ≡ false → reply_by r e ≡ []
 reply_elsewhere n r (Arrived a) other = refl
 reply_elsewhere n r (Taken releaser reply) other = ap (λ b. cond b (reply ∷ []) []) (ne_eqb releaser r (λ same. eqb-false (suc (n + releaser)) (suc (n + r)) other (ap (λ k. suc (n + k)) same)))
 reply_elsewhere n r (Ended ingest) other = refl
@@ -153,7 +153,7 @@ arrivals_of_link k (a ∷ arrivals) numbered =
     ap (λ b. cond b (a ∷ []) [] ++ arrivals_by k (link_calls k arrivals)) parts.0 ∙ ap (λ xs. a ∷ xs) (arrivals_of_link k arrivals parts.1)
 
 -- the answers among the takes for a sink
-replies_of_sink : (r : ℕ) (replies : List Reply) → replies_by r (takes_of r replies) ≡ replies
+pub replies_of_sink : (r : ℕ) (replies : List Reply) → replies_by r (takes_of r replies) ≡ replies
 replies_of_sink r [] = refl
 replies_of_sink r (reply ∷ replies) = ap (λ b. cond b (reply ∷ []) [] ++ replies_by r (takes_of r replies)) (eq-eqb r r refl) ∙ ap (λ xs. reply ∷ xs) (replies_of_sink r replies)
 

@@ -17,7 +17,7 @@ drains_none releaser made None = record { answers = []; made_are = sym (append-n
 drains_none releaser made (Some bytes) = record { answers = []; made_are = sym (append-nil made); writes = (refl, ap (λ (bs : List ℕ). Some bs) (sym (append-nil bytes))) }
 
 -- one take more
-takes_more : (releaser : ℕ) (made mid now : List Entry) (answers : List Reply) (reply : Reply) (by : ℕ) → by ≡ releaser → mid ≡ made ++ takes_of releaser answers → now ≡ mid ++ Taken by reply ∷ [] → now ≡ made ++ takes_of releaser (answers ++ reply ∷ [])
+pub takes_more : (releaser : ℕ) (made mid now : List Entry) (answers : List Reply) (reply : Reply) (by : ℕ) → by ≡ releaser → mid ≡ made ++ takes_of releaser answers → now ≡ mid ++ Taken by reply ∷ [] → now ≡ made ++ takes_of releaser (answers ++ reply ∷ [])
 takes_more releaser made mid now answers reply by same prefix last =
     last ∙ ap (λ (k : ℕ). mid ++ Taken k reply ∷ []) same ∙ ap (λ (es : List Entry). es ++ Taken releaser reply ∷ []) prefix ∙ append_assoc made (takes_of releaser answers) (Taken releaser reply ∷ []) ∙ ap (λ (es : List Entry). made ++ es) (sym (map-append (λ (r : Reply). Taken releaser r) answers (reply ∷ [])))
 

@@ -1,6 +1,6 @@
 //! What a worker does in a turn.
 
-ghost use Rattle.std.specs.Prelude.{◌≡◌, ◌<◌, ◌≤◌, ◌^◌, ◌++◌, ◌∷◌, [], List, length};
+ghost use Rattle.std.specs.Prelude.{◌≡◌, ◌<◌, ◌≤◌, ◌^◌, ◌++◌, ◌∷◌, [], List, length, true};
 ghost use Rattle.tesla_receiver.specs.declared.history.Entry.{Entry};
 ghost use Rattle.tesla_receiver.specs.declared.history.Entry.TheVariants.{Arrived};
 
@@ -12,13 +12,16 @@ use tesla_desk::Clock;
 use tesla_receiver::{Take, Verdict};
 use tesla_turn::Act;
 
-/// Reads the clock, and makes an arrival of a datagram of at most 2,048 bytes.
+/// Reads the clock for a datagram of at most 2,048 bytes, and makes an arrival of it.
 #[derive(Drop)]
 pub(crate) struct Hear<'a, 'b, C: Clock> {
     pub(crate) ingest: u8,
+    /// Its number among the datagrams of its link, counted from 0.
+    pub(crate) number: u64,
     pub(crate) bytes: &'a [u8],
     pub(crate) clock: &'b mut C,
     ghost few: { length bytes.now ≤ 2048 },
+    ghost asked: { C.may_ask number bytes.now ≡ true },
 }
 
 /// When a datagram came, its verdict, and whether packets may wait then.
@@ -30,7 +33,7 @@ pub(crate) struct Heard {
 }
 
 impl<V: Station, C: Clock> Act<V> for Hear<'_, '_, C> {
-    ghost use Rattle.std.specs.Prelude.{◌≡◌};
+    ghost use Rattle.std.specs.Prelude.{◌≡◌, true};
     ghost use Rattle.tesla_receiver.specs.declared.history.Entry.TheVariants.{Arrived};
     ghost use Rattle.tesla_desk.specs.Clocks.{Ticks};
 
@@ -38,10 +41,10 @@ impl<V: Station, C: Clock> Act<V> for Hear<'_, '_, C> {
 
     ghost entry = { λ act heard. Arrived (record { ingest = act.ingest; reading = heard.reading; bytes = act.bytes.now; verdict = heard.verdict }) };
 
-    ghost relation = { λ before after heard. (after.ingest ≡ before.ingest) × (after.bytes ≡ before.bytes) × (after.clock.ghost_name ≡ before.clock.ghost_name) × Ticks (C.told before.clock.now) (C.told after.clock.now) heard.reading };
+    ghost relation = { λ before after heard. (after.ingest ≡ before.ingest) × (after.bytes ≡ before.bytes) × (after.clock.ghost_name ≡ before.clock.ghost_name) × Ticks (C.told before.clock.now) (C.told after.clock.now) heard.reading × (C.read_for before.number before.bytes.now heard.reading ≡ true) };
 
     fn run(&mut self, value: &mut V) -> Heard {
-        let reading = self.clock.now();
+        let reading = self.clock.now_for(self.bytes);
         let verdict = judge::<V, Brand>(value, self.ingest, reading, self.bytes, Blank::new(1));
         let waits = value.may_wait();
         Heard {

@@ -1,11 +1,12 @@
 //! The worker of a link.
 
-ghost use Rattle.std.specs.Prelude.{◌≡◌, ◌<◌, ◌+◌, ◌++◌, ◌∷◌, ◌↔◌, ◌≤◌, [], IfSome, length, map};
+ghost use Rattle.std.specs.Prelude.{◌≡◌, ◌<◌, ◌+◌, ◌++◌, ◌∷◌, ◌↔◌, ◌≤◌, [], ℕ, List, IfSome, Some, length, map, true};
 ghost use Rattle.tesla_desk.specs.Faults.{HasCause};
 ghost use Rattle.tesla_receiver.specs.declared.history.Arrival.{Arrival};
 ghost use Rattle.tesla_receiver.specs.declared.history.Entry.TheVariants.{Arrived, Ended};
 ghost use Rattle.tesla_turn.specs.Held.{OnlyCalls, left_of};
 ghost use Rattle.tesla_desk.specs.Clocks.{Ticks};
+ghost use Rattle.tesla_shared.specs.Due.{PermitsArrivals, PermitsEnd};
 ghost use Rattle.tesla_shared.specs.Workers.{HearsOne, HearsAll, Ingests};
 
 use crate::acts::{EndIngest, Hear};
@@ -13,7 +14,7 @@ use crate::station::Station;
 use std::sync::Wait;
 use tesla_base::MOST_DATAGRAM;
 use tesla_desk::{Clock, Gate, Got, Link};
-use tesla_turn::{Pass, Turn};
+use tesla_turn::{Pass, Permitting, Turn};
 
 /// Why a worker asked its link for nothing more.
 #[derive(Clone, Copy, Debug, PartialEq, Eq)]
@@ -31,7 +32,7 @@ pub enum LinkEnd {
 ///
 /// It waits for the link and for its turns, and nothing is promised of when it ends. It takes no memory.
 #[tactic(auto, using(crate::proofs::Hearing::ends_after, crate::proofs::Passing::only_more))]
-pub fn ingest<R: Wait, V: Station, K: Link, C: Clock, G: Gate>(
+pub fn ingest<R: Wait, V: Station + Permitting, K: Link, C: Clock, G: Gate>(
     rt: &R,
     number: u8,
     link: &mut K,
@@ -42,6 +43,10 @@ pub fn ingest<R: Wait, V: Station, K: Link, C: Clock, G: Gate>(
 ) -> LinkEnd
     requires own { pass.old.turn ≡ turn.now }
     requires left { 0 < left_of pass.old }
+    requires asked { (number : ℕ) (bytes : List ℕ) → K.brought number bytes ≡ true → C.may_ask number bytes ≡ true }
+    requires none { K.has_brought link.old 0 ≡ true }
+    requires arrivals { PermitsArrivals V.permits C.read_for number pass.old }
+    requires end { PermitsEnd V.permits number pass.old }
     ensures ingests { Ingests number pass.old.made pass.new.made (K.left link.old) (K.left link.new) (C.told clock.old) (C.told clock.new) }
     ensures ended { result ≡ LinkEnd.Ended → IfSome (K.left link.new) (λ rest. rest ≡ []) }
     ensures cause { HasCause (K.faults link.old) (K.faults link.new) (result ≡ LinkEnd.Failed) }
@@ -56,7 +61,7 @@ pub fn ingest<R: Wait, V: Station, K: Link, C: Clock, G: Gate>(
 
 /// Makes an arrival of each datagram, and keeps one call.
 #[tactic(auto, using(crate::proofs::Hearing::hears_none, crate::proofs::Hearing::hears_more, crate::proofs::Hearing::hears_quiet, crate::proofs::Passing::only_more))]
-fn hear_all<R: Wait, V: Station, K: Link, C: Clock, G: Gate>(
+fn hear_all<R: Wait, V: Station + Permitting, K: Link, C: Clock, G: Gate>(
     rt: &R,
     number: u8,
     link: &mut K,
@@ -67,6 +72,9 @@ fn hear_all<R: Wait, V: Station, K: Link, C: Clock, G: Gate>(
 ) -> LinkEnd
     requires own { pass.old.turn ≡ turn.now }
     requires left { 0 < left_of pass.old }
+    requires asked { (number : ℕ) (bytes : List ℕ) → K.brought number bytes ≡ true → C.may_ask number bytes ≡ true }
+    requires none { K.has_brought link.old 0 ≡ true }
+    requires arrivals { PermitsArrivals V.permits C.read_for number pass.old }
     ensures hears { HearsAll number pass.old.made pass.new.made (K.left link.old) (K.left link.new) (C.told clock.old) (C.told clock.new) }
     ensures ended { result ≡ LinkEnd.Ended → IfSome (K.left link.new) (λ rest. rest ≡ []) }
     ensures cause { HasCause (K.faults link.old) (K.faults link.new) (result ≡ LinkEnd.Failed) }
@@ -76,13 +84,20 @@ fn hear_all<R: Wait, V: Station, K: Link, C: Clock, G: Gate>(
     ensures name { K.name link.new ≡ K.name link.old }
 {
     let mut buffer = [0; MOST_DATAGRAM];
+    let first = pass.left();
     for _ in rt.forever() {
-        if pass.left() == 1 {
+        let left = pass.left();
+        if left == 1 {
             return LinkEnd::Spent;
         }
         match link.next(&mut buffer) {
             Got::Datagram(length) => {
-                hear_once(rt, number, &buffer[..length], clock, gate, turn, pass);
+                let came = Came {
+                    ingest: number,
+                    number: first - left,
+                    bytes: &buffer[..length],
+                };
+                hear_once(rt, &came, clock, gate, turn, pass);
             }
             Got::Quiet => gate.quiet(),
             Got::End => return LinkEnd::Ended,
@@ -92,28 +107,38 @@ fn hear_all<R: Wait, V: Station, K: Link, C: Clock, G: Gate>(
     unreachable!()
 }
 
+/// A datagram that has come, with its number among those of its link, counted from 0.
+#[derive(Clone, Copy)]
+struct Came<'a> {
+    ingest: u8,
+    number: u64,
+    bytes: &'a [u8],
+}
+
 /// Makes an arrival of a datagram of at most 2,048 bytes.
 #[tactic(auto, using(crate::proofs::Passing::one_call))]
-fn hear_once<R: Wait, V: Station, C: Clock, G: Gate>(
+fn hear_once<R: Wait, V: Station + Permitting, C: Clock, G: Gate>(
     rt: &R,
-    number: u8,
-    bytes: &[u8],
+    came: &Came<'_>,
     clock: &mut C,
     gate: &mut G,
     turn: &Turn<V>,
     pass: &mut Pass<V>,
 )
-    requires few { length bytes.now ≤ 2048 }
+    requires few { length came.now.bytes.now ≤ 2048 }
     requires own { pass.old.turn ≡ turn.now }
     requires left { 0 < left_of pass.old }
-    ensures hears { HearsOne number bytes.now pass.old.made pass.new.made (C.told clock.old) (C.told clock.new) }
+    requires asked { C.may_ask came.now.number came.now.bytes.now ≡ true }
+    requires permitted { (cfg : V.Config) (arrival : Arrival) → pass.old.config ≡ Some cfg → arrival.ingest ≡ came.now.ingest → C.read_for came.now.number arrival.bytes arrival.reading ≡ true → V.permits cfg pass.old.number pass.old.made (Arrived arrival) }
+    ensures hears { HearsOne came.now.ingest came.now.bytes.now pass.old.made pass.new.made (C.told clock.old) (C.told clock.new) }
     ensures left { left_of pass.new + 1 ≡ left_of pass.old }
     ensures calls { OnlyCalls pass.old pass.new }
 {
     gate.before();
     let mut act = Hear {
-        ingest: number,
-        bytes,
+        ingest: came.ingest,
+        number: came.number,
+        bytes: came.bytes,
         clock,
     };
     let heard = turn.take_turn(rt, pass, &mut act);
@@ -125,7 +150,7 @@ fn hear_once<R: Wait, V: Station, C: Clock, G: Gate>(
 
 /// Ends the ingest.
 #[tactic(auto, using(crate::proofs::Passing::one_call))]
-fn end_once<R: Wait, V: Station, G: Gate>(
+fn end_once<R: Wait, V: Station + Permitting, G: Gate>(
     rt: &R,
     number: u8,
     gate: &mut G,
@@ -134,6 +159,7 @@ fn end_once<R: Wait, V: Station, G: Gate>(
 )
     requires own { pass.old.turn ≡ turn.now }
     requires left { 0 < left_of pass.old }
+    requires permitted { PermitsEnd V.permits number pass.old }
     ensures made { pass.new.made ≡ pass.old.made ++ Ended number ∷ [] }
     ensures left { left_of pass.new + 1 ≡ left_of pass.old }
     ensures calls { OnlyCalls pass.old pass.new }

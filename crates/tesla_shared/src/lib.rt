@@ -7,7 +7,9 @@ mod draining;
 mod ingesting;
 pub mod laws;
 mod station;
+mod witnessed;
 
 pub use draining::{SinkEnd, drain};
 pub use ingesting::{LinkEnd, ingest};
 pub use station::Station;
+pub use witnessed::Witnessed;

@@ -12,7 +12,5 @@ mod writing;
 pub use entry::{EntryBuffer, EntryKind};
 pub use judging::{judge_entry, judge_head, judge_tail_head, put_entry};
 pub use kind::{EntryFault, TraceKind};
-pub use pieces::{VerdictBytes, arrival_header, given_header, verdict_bytes};
-pub use writing::{
-    put_arrived, put_ended, put_taken, put_trace_head, write_entry, write_tail_head,
-};
+pub use pieces::{VerdictBytes, arrival_header, given_header, tail_head_bytes, verdict_bytes};
+pub use writing::{put_arrived, put_ended, put_taken, put_trace_head, write_entry};

@@ -104,8 +104,8 @@ pub(crate) fn trace_head_bytes(ingests: u8) -> [u8; 6]
     bytes
 }
 
-/// The head of the last entries of a history.
-pub(crate) fn tail_head_bytes(first: u64) -> [u8; 13]
+/// The head of the last entries of a history, before which so many stand.
+pub fn tail_head_bytes(first: u64) -> [u8; 13]
     ensures { result ≡ tail_head first }
 {
     let mut bytes = [1; 13];

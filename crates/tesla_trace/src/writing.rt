@@ -7,14 +7,12 @@ ghost use Rattle.tesla_capture.specs.Gathering.{gathered, Gathers};
 ghost use Rattle.tesla_receiver.specs.declared.history.Entry.TheVariants.{Arrived, Taken, Ended};
 ghost use Rattle.tesla_state.specs.Replies.{reply_shown};
 ghost use Rattle.tesla_trace.specs.Entries.{FitsReply, IsEntry, entry_in};
-ghost use Rattle.tesla_trace.specs.Trace.{entry_text, tail_head, trace_head};
+ghost use Rattle.tesla_trace.specs.Trace.{entry_text, trace_head};
 
 use crate::entry::{EntryBuffer, EntryKind};
-use crate::pieces::{
-    arrival_header, given_header, tail_head_bytes, trace_head_bytes, verdict_bytes,
-};
+use crate::pieces::{arrival_header, given_header, trace_head_bytes, verdict_bytes};
 use tesla_capture::Gatherer;
-use tesla_desk::{Sink, write_all};
+use tesla_desk::Sink;
 use tesla_fitting::Verdict;
 use tesla_state::Take;
 
@@ -31,18 +29,6 @@ pub fn write_entry<S: Sink>(sink: &mut S, entry: &EntryBuffer) -> bool
 {
     let mut gatherer = Gatherer::new();
     put_entry(&mut gatherer, sink, entry) && gatherer.flush(sink)
-}
-
-/// Writes the head of the last entries of a history, before which so many stand. It takes no memory.
-///
-/// True: the head was appended. False: a prefix of it was appended, and the sink's count of faults rose.
-pub fn write_tail_head<S: Sink>(sink: &mut S, first: u64) -> bool
-    ensures all { result ≡ true → S.written sink.new ≡ with_bytes (S.written sink.old) (tail_head first) }
-    ensures prefix { AppendsPrefix (S.written sink.old) (S.written sink.new) (tail_head first) }
-    ensures cause { HasCause (S.faults sink.old) (S.faults sink.new) (result ≡ false) }
-    ensures name { S.name sink.new ≡ S.name sink.old }
-{
-    write_all(sink, &tail_head_bytes(first))
 }
 
 /// Puts the head of a trace of a receiver with so many ingests behind what is gathered. Where it doesn't fit, that is

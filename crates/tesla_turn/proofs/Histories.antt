@@ -18,6 +18,13 @@ module _ {E : Type 0} where
   calls_by-append k [] g = refl
   calls_by-append k (c ∷ h) g = ap (λ es. if c.by == k then c.entry ∷ es else es) (calls_by-append k h g) ∙ put_before (c.by == k) c.entry (calls_by k h) (calls_by k g)
 
+  -- a history that begins with a call of the pass, or of another one
+  pub calls_here : (c : Call E) (h : List (Call E)) (k : ℕ) → c.by ≡ k → calls_by k (c ∷ h) ≡ c.entry ∷ calls_by k h
+  calls_here c h k e = ap (λ (b : Bool). if b then c.entry ∷ calls_by k h else calls_by k h) (eq-eqb c.by k e)
+
+  pub calls_else : (c : Call E) (h : List (Call E)) (k : ℕ) → c.by ≢ k → calls_by k (c ∷ h) ≡ calls_by k h
+  calls_else c h k ne = ap (λ (b : Bool). if b then c.entry ∷ calls_by k h else calls_by k h) (ne_eqb c.by k ne)
+
   -- one call more of the pass itself
   pub calls_by_own : (k : ℕ) (h : List (Call E)) (e : E) → calls_by k (h ++ record { by = k; entry = e } ∷ []) ≡ calls_by k h ++ e ∷ []
   calls_by_own k h e = calls_by-append k h (record { by = k; entry = e } ∷ []) ∙ ap (λ b. calls_by k h ++ (if b then e ∷ [] else [])) (eq-eqb k k refl)

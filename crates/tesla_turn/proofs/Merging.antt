@@ -1,21 +1,15 @@
 -- A history that has just the calls of some passes is a merge of them.
-use Rattle.std.proofs.Common.{◌≡◌, ◌≢◌, ℕ, zero, suc, ◌+◌, ◌<◌, Bool, List, [], ◌∷◌, length, get_or, set, Option, Some, None, refl, sym, ap, ◌∙◌, subst, arith, if◌then◌else◌, get_or-set_same, get_or-set_other}
+use Rattle.std.proofs.Common.{◌≡◌, ℕ, zero, suc, ◌+◌, ◌<◌, List, [], ◌∷◌, length, get_or, set, Option, Some, None, refl, sym, ap, ◌∙◌, subst, arith, get_or-set_same, get_or-set_other}
 use Rattle.std.specs.List.{sum_by}
-use Rattle.std.proofs.lemmas.Bool.{eq-eqb, ne_eqb}
 use Rattle.std.proofs.lemmas.List.{get_or_past}
 use Rattle.std.proofs.lemmas.List.Sums.{sum_by-cons, sum_by-set}
 use mathlib.Core.Logic.{dite}
 use native.Mathlib.Decide.{ℕ_discrete, dec_lt}
 use Rattle.tesla_turn.specs.declared.view.Call.{Call}
 use Rattle.tesla_turn.specs.History.{calls_by, calls_of, HasCalls, AllJoined, known_calls, IsMerge}
+use Rattle.tesla_turn.proofs.Histories.{calls_here, calls_else}
 
 module _ {E : Type 0} where
-  calls_here : (c : Call E) (h : List (Call E)) (k : ℕ) → c.by ≡ k → calls_by k (c ∷ h) ≡ c.entry ∷ calls_by k h
-  calls_here c h k e = ap (λ (b : Bool). if b then c.entry ∷ calls_by k h else calls_by k h) (eq-eqb c.by k e)
-
-  calls_else : (c : Call E) (h : List (Call E)) (k : ℕ) → c.by ≢ k → calls_by k (c ∷ h) ≡ calls_by k h
-  calls_else c h k ne = ap (λ (b : Bool). if b then c.entry ∷ calls_by k h else calls_by k h) (ne_eqb c.by k ne)
-
   no_calls_past : (passes : List (List E)) (k : ℕ) (x : E) (xs : List E) → get_or passes k [] ≡ x ∷ xs → k < length passes
   no_calls_past passes k x xs e = dite (dec_lt k (length passes)) (λ low. low) (λ high. let past : get_or passes k [] ≡ [] = get_or_past passes k [] (omega arith) in let clash : [] ≡ x ∷ xs = sym past ∙ e in absurd cc)
 

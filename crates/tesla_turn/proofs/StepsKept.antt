@@ -13,17 +13,19 @@ use Rattle.tesla_turn.specs.declared.view.View.{View}
 use Rattle.tesla_turn.specs.declared.view.Phase.{Phase}
 use Rattle.tesla_turn.specs.declared.view.Phase.TheVariants.{Idle, Waits, Acts}
 use Rattle.tesla_turn.specs.History.{entries, calls_by, calls_of, HasCalls, BeginsWith}
+use Rattle.tesla_turn.specs.Permitted.{ArePermitted}
 use Rattle.tesla_turn.specs.Rule.{all_tickets, InPhase, Live, AtHome, OneActs, Ruled}
 use Rattle.tesla_turn.specs.Steps.{Mine, first_view, gave_pass, new_view, both_views, spent_view, drew, Reached, looked, handed_on, gave_back}
 use Rattle.tesla_turn.proofs.Histories.{entries-append, calls_by_own, calls_by_other, begins_self, begins_more, longer_either}
+use Rattle.tesla_turn.proofs.Permissions.{permitted_none, permitted_more}
 use Rattle.tesla_turn.proofs.Owners.{put, put_here, put_else, tickets_set, tickets_snoc, tickets_at, there_below, at_end, alone_set, read_grown}
 
-module _ {V C E : Type 0} (config_of : V → C) (stands : V → List E → Type 0) (config : C) (calls : ℕ) where
+module _ {V C E : Type 0} (config_of : V → C) (stands : V → List E → Type 0) (permits : C → ℕ → List E → E → Type 0) (config : C) (calls : ℕ) where
   abbrev St : Type 0
   St = State (Option V) (View C E)
 
   abbrev Rule : St → Type 0
-  Rule = Ruled config_of stands config calls
+  Rule = Ruled config_of stands permits config calls
 
   abbrev LiveOf : ℕ → List (Call E) → (ℕ → ℕ) → List (Option (List E)) → ℕ → View C E → Type 0
   LiveOf drawn log owner joined j v = (c : C) → v.config ≡ Some c → Live config calls drawn log owner joined j v
@@ -76,6 +78,7 @@ module _ {V C E : Type 0} (config_of : V → C) (stands : V → List E → Type 
     unmade = λ k h. let e = length-set s.views id w in r.unmade k (omega arith);
     kept = r.kept;
     few = r.few;
+    permitted = r.permitted;
   }
 
   -- who acts goes on acting while another seat moves
@@ -131,7 +134,7 @@ module _ {V C E : Type 0} (config_of : V → C) (stands : V → List E → Type 
   )
 
   reaches : (s : St) (r : Rule s) (id t : ℕ) (v : View C E) (c : C) (x : V) → get_elem? s.views id ≡ some v → v.config ≡ Some c → t ≡ length r.log → t < r.drawn → stands x (entries r.log) → config_of x ≡ config
-      → Reached config_of stands v (record v { seen = r.log; phase = Acts t }) t x
+      → Reached config_of stands permits v (record v { seen = r.log; phase = Acts t }) t x
   reaches s r id t v c x at is first low stood configured = let l = r.each id v at c is in let bound = r.bound in record {
     now = refl;
     begins = l.seen;
@@ -142,10 +145,11 @@ module _ {V C E : Type 0} (config_of : V → C) (stands : V → List E → Type 
     whole = λ zero_is. let own_seat : id ≡ 0 = sym l.number ∙ zero_is in let below = there_below s.views id v at in let n = r.numbers in
         subst (λ (js : List (Option (List E))). HasCalls r.log (set js 0 (Some v.made))) (sym (l.first own_seat))
         (known_calls r.log r.joined v.made (omega arith) (ap (λ (k : ℕ). calls_by k r.log) (sym own_seat) ∙ l.made) r.kept (λ k h. r.unmade k (omega arith)));
+    permitted = subst (λ (z : C). ArePermitted (permits z) r.log) (sym configured) r.permitted;
   }
 
   abbrev Looks : ℕ → ℕ → Mine V C E → St → Type 0
-  Looks slots id me s = (w : View C E) × (a : Act (Option V)) × Valid s.homes me.1 a × Rule (stepped s 1 (get_or s.words 1 0) id me.1 w a) × looked config_of stands (step slots 1 0 0 none) me (get_or s.words 1 0) (w, carried_after me.1 a)
+  Looks slots id me s = (w : View C E) × (a : Act (Option V)) × Valid s.homes me.1 a × Rule (stepped s 1 (get_or s.words 1 0) id me.1 w a) × looked config_of stands permits (step slots 1 0 0 none) me (get_or s.words 1 0) (w, carried_after me.1 a)
 
   same_ticket : (phase : Phase) (t t' : ℕ) → phase ≡ Waits t → phase ≡ Waits t' → t ≡ t'
   same_ticket phase t t' e e' = cc
@@ -158,7 +162,7 @@ module _ {V C E : Type 0} (config_of : V → C) (stands : V → List E → Type 
   looks_home slots id me t c waits is bare s r at hit home = let x : V = home.0 in let v : View C E = me.0 in let w : View C E = record v { seen = r.log; phase = Acts t } in let n_is : get_or s.words 1 0 ≡ length r.log = ap (λ ws. get_or ws 1 0) r.words in
       let first : t ≡ length r.log = sym hit ∙ n_is in let ticket = waiting s r id t v c at is waits in let below = ticket.1 in let homes' : List (maybe.Option (Option V)) = set s.homes 0 none in let words' : List ℕ = set s.words 1 (get_or s.words 1 0) in
       let tickets = tickets_set s.views id v w at in let bound = r.bound in let here : get_elem? (set s.views id w) id ≡ some w = set_here s.views id w (let b = there_below s.views id v at in omega arith) in
-      let seen : Reached config_of stands v w t x = reaches s r id t v c x at is first ticket.1 home.2 home.3 in (
+      let seen : Reached config_of stands permits v w t x = reaches s r id t v c x at is first ticket.1 home.2 home.3 in (
         w,
         takes 0 (Some x),
         ap (λ (hs : List (maybe.Option (Option V))). get_elem? hs 0) home.1,
@@ -172,7 +176,7 @@ module _ {V C E : Type 0} (config_of : V → C) (stands : V → List E → Type 
           λ _. (
             x,
             ap (λ (cs : List (ℕ × Option V)). (0, Some x) ∷ cs) bare,
-            subst (λ (k : ℕ). Reached config_of stands v w k x) e seen,
+            subst (λ (k : ℕ). Reached config_of stands permits v w k x) e seen,
           ),
         )),
       )
@@ -195,7 +199,7 @@ module _ {V C E : Type 0} (config_of : V → C) (stands : V → List E → Type 
   looks_by slots id me t c waits is bare s r at hit (inl home) = looks_home slots id me t c waits is bare s r at hit home
   looks_by slots id me t c waits is bare s r at hit (inr acting) = absurd (not_both s r id t me.0 c at is waits (sym hit ∙ ap (λ ws. get_or ws 1 0) r.words) acting)
 
-  pub looks : (slots id : ℕ) (me : Mine V C E) (t : ℕ) (c : C) → me.0.phase ≡ Waits t → me.0.config ≡ Some c → me.1 ≡ [] → Allows Rule slots id me 1 (λ n. n) (looked config_of stands (step slots 1 0 0 none) me)
+  pub looks : (slots id : ℕ) (me : Mine V C E) (t : ℕ) (c : C) → me.0.phase ≡ Waits t → me.0.config ≡ Some c → me.1 ≡ [] → Allows Rule slots id me 1 (λ n. n) (looked config_of stands permits (step slots 1 0 0 none) me)
   looks slots id me t c waits is bare s r deep at _ = dite (ℕ_discrete (get_or s.words 1 0) t) (λ hit. looks_by slots id me t c waits is bare s r at hit r.slot) (λ miss. looks_early slots id me t c waits is s r at miss)
 
   -- another pass keeps what it knows while the one that acts adds its call
@@ -210,15 +214,19 @@ module _ {V C E : Type 0} (config_of : V → C) (stands : V → List E → Type 
   abbrev longer_log : List (Call E) → ℕ → E → List (Call E)
   longer_log log id e = log ++ record { by = id; entry = e } ∷ []
 
-  hands_on_rule : (id t : ℕ) (v : View C E) (x : V) (e : E) → v.phase ≡ Acts t → v.config ≡ Some (config_of x) → stands x (entries v.seen ++ e ∷ []) → length v.made < v.calls → (s : St) (r : Rule s) → get_elem? s.views id ≡ some v
+  hands_on_rule : (id t : ℕ) (v : View C E) (x : V) (e : E) → v.phase ≡ Acts t → v.config ≡ Some (config_of x) → stands x (entries v.seen ++ e ∷ []) → length v.made < v.calls
+      → ((c : C) → v.config ≡ Some c → permits c v.number v.made e)
+      → (s : St) (r : Rule s) → get_elem? s.views id ≡ some v
       → Rule record { words = set s.words 1 ((get_or s.words 1 0 + 1) % 2 ^ 64); homes = set s.homes 0 (some (Some x)); views = set s.views id (record v { seen = longer_log v.seen v.number e; made = v.made ++ e ∷ []; phase = Idle }) }
-  hands_on_rule id t v x e acts is stood some_left s r at = let l = r.each id v at (config_of x) is in let ticket = subst (InPhase r.drawn r.log r.owner id v.seen) acts l.phase in let low = ticket.1 in let bound = r.bound in
+  hands_on_rule id t v x e acts is stood some_left may s r at = let l = r.each id v at (config_of x) is in let ticket = subst (InPhase r.drawn r.log r.owner id v.seen) acts l.phase in let low = ticket.1 in let bound = r.bound in
       let first : t ≡ length r.log = ticket.0 in let all_seen : v.seen ≡ r.log = ticket.3 in let log' : List (Call E) = longer_log r.log id e in let n = length-append r.log (record { by = id; entry = e } ∷ []) in
       let w : View C E = record v { seen = longer_log v.seen v.number e; made = v.made ++ e ∷ []; phase = Idle } in let tickets = tickets_set s.views id v w at in
       let now : longer_log v.seen v.number e ≡ log' = λ i. longer_log (all_seen i) (l.number i) e in let small : (length r.log + 1) % 2 ^ 64 ≡ length log' = omega arith in
       let same : config_of x ≡ config = (let both : Some (config_of x) ≡ Some config = sym is ∙ l.configured in cc) in
       let added : entries v.seen ++ e ∷ [] ≡ entries log' = ap (λ (h : List (Call E)). entries h ++ e ∷ []) all_seen ∙ sym (entries-append r.log (record { by = id; entry = e } ∷ [])) in
-      let own : calls_by id log' ≡ v.made ++ e ∷ [] = calls_by_own id r.log e ∙ ap (λ (es : List E). es ++ e ∷ []) l.made in record {
+      let own : calls_by id log' ≡ v.made ++ e ∷ [] = calls_by_own id r.log e ∙ ap (λ (es : List E). es ++ e ∷ []) l.made in
+      let call : permits config id (calls_by id r.log) e = subst (λ (z : ℕ × List E). permits config z.0 z.1 e)
+      (λ i. (l.number i, sym l.made i)) (may config l.configured) in record {
         drawn = r.drawn;
         log = log';
         owner = r.owner;
@@ -255,15 +263,17 @@ module _ {V C E : Type 0} (config_of : V → C) (stands : V → List E → Type 
         few = λ k. dite (ℕ_discrete k id)
             (λ z. let size = length-append v.made (e ∷ []) in let most = l.calls_is in let eq : length (calls_by k log') ≡ length (v.made ++ e ∷ []) = ap (λ (i : ℕ). length (calls_by i log')) z ∙ ap length own in omega arith)
             (λ z. let f = r.few k in let eq : length (calls_by k log') ≡ length (calls_by k r.log) = ap length (calls_by_other k id r.log e z) in omega arith);
+        permitted = permitted_more (permits config) r.log (record { by = id; entry = e }) r.permitted call;
       }
 
   pub hands_on : (slots id : ℕ) (me : Mine V C E) (t : ℕ) (x : V) (es : List E) (e : E) → es ≡ e ∷ [] → me.0.phase ≡ Acts t → me.0.config ≡ Some (config_of x) → me.1 ≡ (0, Some x) ∷ [] → stands x (entries me.0.seen ++ e ∷ [])
-      → length me.0.made < me.0.calls → Allows Rule slots id me 1 (λ n. (n + 1) % 2 ^ 64) (handed_on es (step slots 1 1 0 none) me)
-  hands_on slots id me t x es e one acts is held stood some_left s r deep at _ = let v : View C E = me.0 in let w : E → View C E = λ z. record v { seen = longer_log v.seen v.number z; made = v.made ++ z ∷ []; phase = Idle } in (
+      → length me.0.made < me.0.calls → ((c : C) → me.0.config ≡ Some c → permits c me.0.number me.0.made e)
+      → Allows Rule slots id me 1 (λ n. (n + 1) % 2 ^ 64) (handed_on es (step slots 1 1 0 none) me)
+  hands_on slots id me t x es e one acts is held stood some_left may s r deep at _ = let v : View C E = me.0 in let w : E → View C E = λ z. record v { seen = longer_log v.seen v.number z; made = v.made ++ z ∷ []; phase = Idle } in (
     w e,
     gives,
     tt,
-    subst (λ (cs : List (ℕ × Option V)). Rule (stepped s 1 ((get_or s.words 1 0 + 1) % 2 ^ 64) id cs (w e) gives)) (sym held) (hands_on_rule id t v x e acts is stood some_left s r at),
+    subst (λ (cs : List (ℕ × Option V)). Rule (stepped s 1 ((get_or s.words 1 0 + 1) % 2 ^ 64) id cs (w e) gives)) (sym held) (hands_on_rule id t v x e acts is stood some_left may s r at),
     (λ e' one'. let both : e ∷ [] ≡ e' ∷ [] = sym one ∙ one' in let same : e ≡ e' = cc in λ i. (w (same i), ap rest held i)),
   )
 
@@ -318,6 +328,7 @@ module _ {V C E : Type 0} (config_of : V → C) (stands : V → List E → Type 
         unmade = λ k h. r.unmade k (omega arith);
         kept = λ k xs known. r.kept k xs (sym (unread k) ∙ known);
         few = r.few;
+        permitted = r.permitted;
       }
 
   joined_slot : (s : St) (log : List (Call E)) (id other : ℕ) (v w both spent : View C E) → get_elem? s.views id ≡ some v → get_elem? (set s.views id both) other ≡ some w → v.phase ≢ Acts (length log) → w.phase ≢ Acts (length log)
@@ -354,6 +365,7 @@ module _ {V C E : Type 0} (config_of : V → C) (stands : V → List E → Type 
             let same : w.made ≡ xs = cc in ap (λ (i : ℕ). calls_by i r.log) e ∙ (k.made ∙ same))
             (λ ne. r.kept j xs (sym (unread j ne) ∙ known));
         few = r.few;
+        permitted = r.permitted;
       }
 
   pub starts : (x : V) (passes : ℕ) → stands x [] → config_of x ≡ config → passes * calls < 2 ^ 63 → Rule (opening (0 ∷ 0 ∷ []) (Some x ∷ []) (first_view config passes calls))
@@ -382,4 +394,5 @@ module _ {V C E : Type 0} (config_of : V → C) (stands : V → List E → Type 
     unmade = λ k h. refl;
     kept = λ k xs known. let clash : None ≡ Some xs = sym (read_grown [] None k) ∙ known in absurd cc;
     few = λ k. omega arith;
+    permitted = permitted_none (permits config);
   }

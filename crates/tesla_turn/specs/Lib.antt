@@ -4,3 +4,4 @@ pub mod Held
 pub mod Rule
 pub mod Steps
 pub mod Passes
+pub mod Permitted

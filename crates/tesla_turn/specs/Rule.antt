@@ -8,6 +8,7 @@ use Rattle.tesla_turn.specs.declared.view.View.{View}
 use Rattle.tesla_turn.specs.declared.view.Phase.{Phase}
 use Rattle.tesla_turn.specs.declared.view.Phase.TheVariants.{Idle, Waits, Acts}
 use Rattle.tesla_turn.specs.History.{entries, calls_by, calls_of, BeginsWith}
+use Rattle.tesla_turn.specs.Permitted.{ArePermitted}
 
 -- the tickets that may still be drawn
 abbrev pub all_tickets : {C E : Type 0} → List (View C E) → ℕ
@@ -41,7 +42,10 @@ module _ {V C E : Type 0} (config_of : V → C) (stands : V → List E → Type 
   abbrev pub OneActs : State (Option V) (View C E) → List (Call E) → Type 0
   OneActs s log = (seat : ℕ) × (v : View C E) × (c : C) × (get_elem? s.views seat ≡ some v) × (v.config ≡ Some c) × (v.phase ≡ Acts (length log))
 
-  -- There is one history, the log, as long as word 1. `joined` has by number the calls of each pass that was joined; a number from the count of views on was never given, and has no call
+module _ {V C E : Type 0} (config_of : V → C) (stands : V → List E → Type 0)
+    (permits : C → ℕ → List E → E → Type 0) where
+  -- There is one history, the log, as long as word 1, and each of its calls was permitted. `joined` has by number the
+  -- calls of each pass that was joined; a number from the count of views on was never given, and has no call
   pub record Ruled (config : C) (calls : ℕ) (s : State (Option V) (View C E)) : Type 0 where
     pub drawn : ℕ
     pub log : List (Call E)
@@ -51,9 +55,10 @@ module _ {V C E : Type 0} (config_of : V → C) (stands : V → List E → Type 
     pub passed : length log ≤ drawn
     pub bound : drawn + all_tickets s.views ≤ 2 ^ 63
     pub one_slot : length s.homes ≡ 1
-    pub slot : AtHome config s log ⊎ OneActs s log
+    pub slot : AtHome config_of stands config s log ⊎ OneActs config_of stands s log
     pub each : (seat : ℕ) (v : View C E) → get_elem? s.views seat ≡ some v → (c : C) → v.config ≡ Some c → Live config calls drawn log owner joined seat v
     pub numbers : length joined ≡ length s.views
     pub unmade : (k : ℕ) → length s.views ≤ k → calls_by k log ≡ []
     pub kept : (k : ℕ) (xs : List E) → calls_of joined k ≡ Some xs → calls_by k log ≡ xs
     pub few : (k : ℕ) → length (calls_by k log) ≤ calls
+    pub permitted : ArePermitted (permits config) log

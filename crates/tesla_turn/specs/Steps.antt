@@ -7,6 +7,7 @@ use Rattle.tesla_turn.specs.declared.view.View.{View}
 use Rattle.tesla_turn.specs.declared.view.Phase.{Phase}
 use Rattle.tesla_turn.specs.declared.view.Phase.TheVariants.{Idle, Waits, Acts}
 use Rattle.tesla_turn.specs.History.{entries, calls_by, HasCalls, BeginsWith, longer}
+use Rattle.tesla_turn.specs.Permitted.{ArePermitted}
 
 -- the table of a turn has two words and one slot
 abbrev pub IsTurn : TableId → Type 0
@@ -53,7 +54,7 @@ module _ {V C E : Type 0} where
   drew st m n m' = m' ≡ (with_ticket m.0 (Waits n), m.1)
 
   -- it is the turn of the pass, which has seen the whole history h and holds the value x
-  pub record Reached (config_of : V → C) (stands : V → List E → Type 0) (v w : View C E) (t : ℕ) (x : V) : Type 0 where
+  pub record Reached (config_of : V → C) (stands : V → List E → Type 0) (permits : C → ℕ → List E → E → Type 0) (v w : View C E) (t : ℕ) (x : V) : Type 0 where
     pub now : w ≡ record v { seen = w.seen; phase = Acts t }
     pub begins : BeginsWith w.seen v.seen
     pub size : (length w.seen ≡ t) × (t < 2 ^ 63)
@@ -61,10 +62,11 @@ module _ {V C E : Type 0} where
     pub stood : stands x (entries w.seen)
     pub configured : v.config ≡ Some (config_of x)
     pub whole : v.number ≡ 0 → HasCalls w.seen (slice_set v.joined 0 (Some v.made))
+    pub permitted : ArePermitted (permits (config_of x)) w.seen
 
-  abbrev pub looked : (V → C) → (V → List E → Type 0) → Step (Option V) → Mine V C E → ℕ → Mine V C E → Type 0
-  looked config_of stands st m n m' = (t : ℕ) → m.0.phase ≡ Waits t
-      → (n ≤ t) × (n ≢ t → m' ≡ m) × (n ≡ t → (x : V) × (m'.1 ≡ (0, Some x) ∷ []) × Reached config_of stands m.0 m'.0 t x)
+  abbrev pub looked : (V → C) → (V → List E → Type 0) → (C → ℕ → List E → E → Type 0) → Step (Option V) → Mine V C E → ℕ → Mine V C E → Type 0
+  looked config_of stands permits st m n m' = (t : ℕ) → m.0.phase ≡ Waits t
+      → (n ≤ t) × (n ≢ t → m' ≡ m) × (n ≡ t → (x : V) × (m'.1 ≡ (0, Some x) ∷ []) × Reached config_of stands permits m.0 m'.0 t x)
 
   -- the turn was passed, with the entries in the history
   abbrev pub handed_on : List E → Step (Option V) → Mine V C E → ℕ → Mine V C E → Type 0

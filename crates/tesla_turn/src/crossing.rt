@@ -2,8 +2,8 @@
 
 use crate::close::Last;
 use crate::pass::Pass;
+use crate::permitting::Permitting;
 use crate::turn::Turn;
-use tesla_base::Chronicle;
 
 fn is_sent<T: Send>() {}
 
@@ -11,7 +11,7 @@ fn is_shared<T: Sync>() {}
 
 /// Threads may share a turn over a value that may go to another thread, and a pass and the end of a turn
 /// may go to another thread.
-pub fn crosses<V: Chronicle + Drop + Send>() {
+pub fn crosses<V: Permitting + Drop + Send>() {
     is_sent::<Turn<V>>();
     is_shared::<Turn<V>>();
     is_sent::<Pass<V>>();

@@ -2,10 +2,10 @@
 ghost use Rattle.std.specs.Prelude.{List, [], ◌∷◌};
 ghost use Rattle.tesla_turn.specs.Steps.{drew, looked, handed_on, gave_back, gave_pass, new_view, both_views, spent_view};
 
+use crate::permitting::Permitting;
 use crate::view::View;
 use atomic_table::{Join, Play, Split};
 use std::marker::{Brand, PhantomData};
-use tesla_base::Chronicle;
 
 /// A ticket is drawn.
 pub(crate) struct Draw;
@@ -19,8 +19,8 @@ pub(crate) struct Look<V> {
     value: PhantomData<V>,
 }
 
-impl<V: Chronicle> Play<Option<V>, View<V::Config, V::Entry>> for Look<V> {
-    ghost then = { looked V.config V.stands };
+impl<V: Permitting> Play<Option<V>, View<V::Config, V::Entry>> for Look<V> {
+    ghost then = { looked V.config V.stands V.permits };
 }
 
 /// The entries that a step adds to the history. Each call picks them.

@@ -1,10 +1,10 @@
 //! The rule of the table that threads share.
 
+use crate::permitting::Permitting;
 use crate::view::View;
 use atomic_table::TableRule;
 use std::marker::PhantomData;
 use std::snapshot::Snapshot;
-use tesla_base::Chronicle;
 
 /// What a turn is opened with.
 #[derive(Drop)]
@@ -18,11 +18,11 @@ pub struct Law<V> {
     value: PhantomData<V>,
 }
 
-impl<V: Chronicle> TableRule<Option<V>, View<V::Config, V::Entry>, Plan<V>> for Law<V> {
+impl<V: Permitting> TableRule<Option<V>, View<V::Config, V::Entry>, Plan<V>> for Law<V> {
     ghost use Rattle.tesla_turn.specs.Rule.{Ruled};
     ghost use Rattle.tesla_turn.specs.Steps.{first_view};
 
-    ghost holds = { λ key. Ruled V.config V.stands (V.config key.value.value) key.calls };
+    ghost holds = { λ key. Ruled V.config V.stands V.permits (V.config key.value.value) key.calls };
 
     ghost first = { λ key. first_view (V.config key.value.value) key.passes key.calls };
 }

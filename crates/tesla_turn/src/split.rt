@@ -4,15 +4,15 @@ ghost use Rattle.tesla_turn.specs.History.{longer};
 ghost use Rattle.tesla_turn.specs.Held.{next_pass};
 
 use crate::pass::Pass;
+use crate::permitting::Permitting;
 use crate::plays::{Cut, Merge};
 use crate::turn::Turn;
-use tesla_base::Chronicle;
 
 /// The pass may give no further pass.
 #[derive(Clone, Copy, Debug, PartialEq, Eq)]
 pub struct NoRoom;
 
-impl<V: Chronicle + Drop> Turn<V> {
+impl<V: Permitting + Drop> Turn<V> {
     /// Gives a further pass, with the next number and all its calls left. It has seen what this one has.
     ///
     /// `NoRoom` comes exactly where the pass has no room: then nothing has changed. It takes no memory.

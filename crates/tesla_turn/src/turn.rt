@@ -5,6 +5,7 @@ ghost use Rattle.tesla_turn.specs.Held.{first_pass};
 
 use crate::entrance::Entrance;
 use crate::pass::Pass;
+use crate::permitting::Permitting;
 use crate::rule::{Law, Plan};
 use crate::view::View;
 use atomic_table::{Refused, Seat, Table};
@@ -19,12 +20,12 @@ use tesla_base::{Chronicle, NoMemory};
 /// were passed, one slot for the value, and the entrance at which threads wait. The history is not kept:
 /// it stands in proofs alone.
 #[derive(Drop)]
-pub struct Turn<V: Chronicle + Drop> {
+pub struct Turn<V: Permitting + Drop> {
     pub(crate) table: Table<Option<V>, View<V::Config, V::Entry>, Plan<V>, Law<V>, Global>,
     pub(crate) entrance: Entrance,
 }
 
-impl<V: Chronicle + Drop> Model for Turn<V> {
+impl<V: Permitting + Drop> Model for Turn<V> {
     ghost use Rattle.tesla_turn.specs.Held.{TurnId};
     ghost use Rattle.tesla_turn.specs.Steps.{IsTurn};
 
@@ -35,7 +36,7 @@ impl<V: Chronicle + Drop> Model for Turn<V> {
     ghost invariant = { λ t. IsTurn t.table.shared.table_id };
 }
 
-impl<V: Chronicle + Drop> Turn<V> {
+impl<V: Permitting + Drop> Turn<V> {
     /// Opens a turn over a value with no history, for up to `passes` passes of `calls` calls each.
     ///
     /// `NoMemory` drops the value.
@@ -85,7 +86,7 @@ type Laid<V> = (
 );
 
 // The table, with the first seat.
-fn lay<V: Chronicle + Drop>(
+fn lay<V: Permitting + Drop>(
     alloc: Global,
     slots: Vec<Option<V>>,
     plan: &Plan<V>,

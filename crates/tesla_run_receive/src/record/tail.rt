@@ -6,13 +6,14 @@ ghost use Rattle.tesla_desk.specs.Outside.{AppendsPrefix, with_bytes};
 ghost use Rattle.tesla_receiver.specs.Stands.{Stands};
 ghost use Rattle.tesla_receiver.specs.declared.history.Entry.{Entry};
 ghost use Rattle.tesla_recorder.specs.Recorded.{RecordedStands};
+ghost use Rattle.tesla_run_receive.specs.Allowed.{MayWriteAll};
 ghost use Rattle.tesla_run_receive.specs.record.Record.{tail_of};
 
 use crate::{Extra, Idle};
-use tesla_desk::{Desk, Sink, write_all};
+use tesla_desk::{Environment, Output};
 use tesla_front::Fault;
 use tesla_recorder::Recorded;
-use tesla_trace::write_tail_head;
+use tesla_trace::tail_head_bytes;
 
 /// TAIL, to which the last entries are written when the workers have ended.
 #[derive(Drop)]
@@ -23,62 +24,67 @@ pub(crate) struct Tail<'a> {
     pub(crate) keep: u32,
 }
 
-impl<D: Desk> Extra<D, Recorded> for Tail<'_> {
+impl<D: Environment> Extra<D, Recorded> for Tail<'_> {
     ghost use Rattle.std.specs.Prelude.{◌≡◌, List, Some, not};
     ghost use Rattle.std.proofs.Common.{subst, sym};
     ghost use Rattle.tesla_receiver.specs.Stands.{Stands};
     ghost use Rattle.tesla_receiver.specs.declared.history.Entry.{Entry};
     ghost use Rattle.tesla_recorder.specs.Recorded.{RecordedStands};
+    ghost use Rattle.tesla_run_receive.specs.Allowed.{MayWriteAll};
     ghost use Rattle.tesla_run_receive.specs.Running.{EndsBehind};
     ghost use Rattle.tesla_run_receive.specs.record.Record.{HoldsTail, IsNewTail};
     ghost use Rattle.tesla_run_receive.specs.declared.record.tail.Tail.{Tail};
 
-    type Begun = Idle<D::Out>;
+    type Begun = Idle<D::Pieces>;
 
     ghost output = { λ tail. Some tail.name.now };
 
     ghost holds = { λ tail. HoldsTail tail.keep };
 
+    ghost allowed = { λ tail. MayWriteAll D.Pieces.name D.Pieces.may_write tail.name.now };
+
     ghost fits = { λ tail cfg. cfg.keep ≡ tail.keep };
 
-    ghost is_begun = { λ tail cfg begun. IsNewTail tail.keep tail.name.now cfg.keep (D.Out.written begun.it) (D.Out.faults begun.it) (D.Out.name begun.it) };
+    ghost is_begun = { λ tail cfg begun. IsNewTail tail.keep tail.name.now cfg.keep (D.Pieces.written begun.it) (D.Pieces.faults begun.it) (D.Pieces.name begun.it) × MayWriteAll D.Pieces.name D.Pieces.may_write tail.name.now };
 
-    ghost still = { λ tail cfg before now same begun. subst (λ it. IsNewTail tail.keep tail.name.now cfg.keep (D.Out.written it.it) (D.Out.faults it.it) (D.Out.name it.it)) (sym same) begun };
+    ghost still = { λ tail cfg before now same begun. (subst (λ it. IsNewTail tail.keep tail.name.now cfg.keep (D.Pieces.written it.it) (D.Pieces.faults it.it) (D.Pieces.name it.it)) (sym same) begun.0, begun.1) };
 
-    fn begin(self, desk: &mut D) -> Result<Idle<D::Out>, Fault> {
-        let it = desk.open_sink(self.name)?;
+    fn begin(self, desk: &mut D) -> Result<Idle<D::Pieces>, Fault> {
+        let it = desk.open_output(self.name)?;
         Ok(Idle { it })
     }
 
-    fn end(begun: Idle<D::Out>, station: Recorded, desk: &mut D) -> bool
-        requires { (extra : Tail) × (h : List Entry) × IsNewTail extra.keep extra.name.now station.keep (D.Out.written begun.it) (D.Out.faults begun.it) (D.Out.name begun.it) × RecordedStands Stands station h }
-        ensures { (extra : Tail) (h : List Entry) → IsNewTail extra.keep extra.name.now station.keep (D.Out.written begun.it) (D.Out.faults begun.it) (D.Out.name begun.it) → RecordedStands Stands station h → EndsBehind (HoldsTail extra.keep) (Some extra.name.now) h (D.told desk.old) (D.told desk.new) (not result) }
+    fn end(begun: Idle<D::Pieces>, station: Recorded, desk: &mut D) -> bool
+        requires { (extra : Tail) × (h : List Entry) × (IsNewTail extra.keep extra.name.now station.keep (D.Pieces.written begun.it) (D.Pieces.faults begun.it) (D.Pieces.name begun.it) × MayWriteAll D.Pieces.name D.Pieces.may_write extra.name.now) × RecordedStands Stands station h }
+        ensures { (extra : Tail) (h : List Entry) → IsNewTail extra.keep extra.name.now station.keep (D.Pieces.written begun.it) (D.Pieces.faults begun.it) (D.Pieces.name begun.it) × MayWriteAll D.Pieces.name D.Pieces.may_write extra.name.now → RecordedStands Stands station h → EndsBehind (HoldsTail extra.keep) (Some extra.name.now) h (D.told desk.old) (D.told desk.new) (not result) }
     {
         let Idle { it: mut sink } = begun;
         let written = write_tail(&mut sink, &station);
-        desk.close_sink(sink);
+        desk.close_output(sink);
         written
     }
 }
 
 // Writes the entries that are kept, as they are spelled. False: a prefix was written.
-fn write_entries<S: Sink>(sink: &mut S, recorded: &Recorded) -> bool
+fn write_entries<S: Output>(sink: &mut S, recorded: &Recorded) -> bool
+    requires allowed { MayWriteAll S.name S.may_write (S.name sink.old) }
     ensures all { result ≡ true → S.written sink.new ≡ with_bytes (S.written sink.old) (flat_map (λ text. text) recorded.now.texts) }
     ensures prefix { AppendsPrefix (S.written sink.old) (S.written sink.new) (flat_map (λ text. text) recorded.now.texts) }
     ensures cause { HasCause (S.faults sink.old) (S.faults sink.new) (result ≡ false) }
     ensures name { S.name sink.new ≡ S.name sink.old }
 {
     let (front, back) = recorded.texts();
-    write_all(sink, front) && write_all(sink, back)
+    sink.write_piece(front) && sink.write_piece(back)
 }
 
 /// Writes the last entries of the history, behind the number of the first of them. False: a prefix was written, and the sink's
 /// count of faults rose.
-fn write_tail<S: Sink>(sink: &mut S, recorded: &Recorded) -> bool
+fn write_tail<S: Output>(sink: &mut S, recorded: &Recorded) -> bool
+    requires allowed { MayWriteAll S.name S.may_write (S.name sink.old) }
     ensures all { (h : List Entry) → RecordedStands Stands recorded.now h → result ≡ true → S.written sink.new ≡ with_bytes (S.written sink.old) (tail_of recorded.now.keep h) }
     ensures prefix { (h : List Entry) → RecordedStands Stands recorded.now h → AppendsPrefix (S.written sink.old) (S.written sink.new) (tail_of recorded.now.keep h) }
     ensures cause { HasCause (S.faults sink.old) (S.faults sink.new) (result ≡ false) }
     ensures name { S.name sink.new ≡ S.name sink.old }
 {
-    write_tail_head(sink, recorded.first()) && write_entries(sink, recorded)
+    sink.write_piece(&tail_head_bytes(recorded.first())) && write_entries(sink, recorded)
 }

@@ -1,6 +1,7 @@
 //! What writes the counts while the workers run.
 
 ghost use Rattle.std.specs.Prelude.{◌≡◌, ◌≤◌, ℕ, List, Option};
+ghost use Rattle.tesla_run_receive.specs.Allowed.{MayWriteAll};
 ghost use Rattle.tesla_run_receive.specs.watch.Written.{Notes};
 
 use crate::Extra;
@@ -8,20 +9,21 @@ use crate::watch::due::Due;
 use crate::watch::line::line_of;
 use crate::watch::status::Status;
 use std::sync::Wait;
-use tesla_desk::{Clock, Desk, Sink};
+use tesla_desk::{Clock, Environment, Output};
 use tesla_front::Fault;
 use tesla_recorder::watched::{Reader, Watched};
 use tesla_session::{Beside, Ended};
 
 /// The file of the counts, the clock that its lines go by, and who reads the counts.
-pub(crate) struct Monitor<S: Sink, C: Clock> {
+pub(crate) struct Monitor<S: Output, C: Clock> {
     pub(crate) status: Status<S>,
     pub(crate) clock: C,
     pub(crate) reader: Reader,
     pub(crate) due: Due,
+    ghost allowed: { MayWriteAll S.name S.may_write (S.name status.sink) },
 }
 
-impl<S: Sink, C: Clock> Monitor<S, C> {
+impl<S: Output, C: Clock> Monitor<S, C> {
     // Writes a line of the counts as they are now.
     fn note(&mut self, now: u64)
         ensures notes { (before : Option (List ℕ)) (first : ℕ) → Notes self.old.reader.counts before (S.written self.old.status.sink) first (S.faults self.old.status.sink) self.old.status.failed → Notes self.new.reader.counts before (S.written self.new.status.sink) first (S.faults self.new.status.sink) self.new.status.failed }
@@ -52,7 +54,7 @@ impl<S: Sink, C: Clock> Monitor<S, C> {
     }
 }
 
-impl<S: Sink, C: Clock> Beside for Monitor<S, C> {
+impl<S: Output, C: Clock> Beside for Monitor<S, C> {
     ghost use Rattle.std.specs.Prelude.{◌≡◌, ℕ, List, Option};
     ghost use Rattle.tesla_run_receive.specs.watch.Written.{Notes};
 
@@ -76,32 +78,35 @@ pub(crate) struct Monitoring<'a> {
     ghost few: { every ≤ 3600 },
 }
 
-impl<D: Desk> Extra<D, Watched> for Monitoring<'_> {
+impl<D: Environment> Extra<D, Watched> for Monitoring<'_> {
     ghost use Rattle.std.specs.Prelude.{◌≡◌, List, Some, not};
     ghost use Rattle.std.proofs.Common.{◌∙◌};
     ghost use Rattle.tesla_receiver.specs.Stands.{Stands};
     ghost use Rattle.tesla_receiver.specs.declared.history.Entry.{Entry};
     ghost use Rattle.tesla_recorder.specs.watched.Counts.{no_counts};
     ghost use Rattle.tesla_recorder.specs.watched.Watched.{WatchedStands};
+    ghost use Rattle.tesla_run_receive.specs.Allowed.{MayWriteAll};
     ghost use Rattle.tesla_run_receive.specs.Running.{EndsBehind};
     ghost use Rattle.tesla_run_receive.specs.watch.Watch.{HoldsStatus};
     ghost use Rattle.tesla_run_receive.specs.watch.Written.{IsMonitored};
     ghost use Rattle.tesla_run_receive.specs.declared.watch.monitor.Monitoring.{Monitoring};
 
-    type Begun = Monitor<D::Out, D::Time>;
+    type Begun = Monitor<D::Pieces, D::Time>;
 
     ghost output = { λ it. Some it.status.now };
 
     ghost holds = { λ _. HoldsStatus };
 
+    ghost allowed = { λ it. MayWriteAll D.Pieces.name D.Pieces.may_write it.status.now };
+
     ghost fits = { λ it cfg. (it.reader.counters ≡ cfg.counters) × (it.reader.counts ≡ no_counts) };
 
-    ghost is_begun = { λ it cfg monitor. IsMonitored it.status.now cfg.counters (D.Out.name monitor.status.sink) monitor.reader.counters monitor.reader.counts (D.Out.written monitor.status.sink) (D.Out.faults monitor.status.sink) monitor.status.failed };
+    ghost is_begun = { λ it cfg monitor. IsMonitored it.status.now cfg.counters (D.Pieces.name monitor.status.sink) monitor.reader.counters monitor.reader.counts (D.Pieces.written monitor.status.sink) (D.Pieces.faults monitor.status.sink) monitor.status.failed };
 
     ghost still = { λ it cfg before now did begun. record { before = begun.before; empty = begun.empty; noted = did.0 begun.before 0 begun.noted; name_is = did.1 ∙ begun.name_is; counters_are = did.2 ∙ begun.counters_are } };
 
-    fn begin(self, desk: &mut D) -> Result<Monitor<D::Out, D::Time>, Fault> {
-        let sink = desk.open_sink(self.status)?;
+    fn begin(self, desk: &mut D) -> Result<Monitor<D::Pieces, D::Time>, Fault> {
+        let sink = desk.open_output(self.status)?;
         let mut clock = desk.clock();
         let due = Due::new(self.every, clock.now());
         let status = Status {
@@ -117,9 +122,9 @@ impl<D: Desk> Extra<D, Watched> for Monitoring<'_> {
     }
 
     // The last line is written.
-    fn end(begun: Monitor<D::Out, D::Time>, station: Watched, desk: &mut D) -> bool
-        requires { (extra : Monitoring) × (h : List Entry) × IsMonitored extra.status.now station.counters (D.Out.name begun.status.sink) begun.reader.counters begun.reader.counts (D.Out.written begun.status.sink) (D.Out.faults begun.status.sink) begun.status.failed × WatchedStands Stands station h }
-        ensures { (extra : Monitoring) (h : List Entry) → IsMonitored extra.status.now station.counters (D.Out.name begun.status.sink) begun.reader.counters begun.reader.counts (D.Out.written begun.status.sink) (D.Out.faults begun.status.sink) begun.status.failed → WatchedStands Stands station h → EndsBehind HoldsStatus (Some extra.status.now) h (D.told desk.old) (D.told desk.new) (not result) }
+    fn end(begun: Monitor<D::Pieces, D::Time>, station: Watched, desk: &mut D) -> bool
+        requires { (extra : Monitoring) × (h : List Entry) × IsMonitored extra.status.now station.counters (D.Pieces.name begun.status.sink) begun.reader.counters begun.reader.counts (D.Pieces.written begun.status.sink) (D.Pieces.faults begun.status.sink) begun.status.failed × WatchedStands Stands station h }
+        ensures { (extra : Monitoring) (h : List Entry) → IsMonitored extra.status.now station.counters (D.Pieces.name begun.status.sink) begun.reader.counters begun.reader.counts (D.Pieces.written begun.status.sink) (D.Pieces.faults begun.status.sink) begun.status.failed → WatchedStands Stands station h → EndsBehind HoldsStatus (Some extra.status.now) h (D.told desk.old) (D.told desk.new) (not result) }
     {
         let mut station = station;
         let Monitor {
@@ -131,7 +136,7 @@ impl<D: Desk> Extra<D, Watched> for Monitoring<'_> {
         station.compare(reader);
         status.put(&line_of(clock.now(), &station.counts()));
         let Status { sink, failed } = status;
-        desk.close_sink(sink);
+        desk.close_output(sink);
         !failed
     }
 }

@@ -1,12 +1,14 @@
 //! A run of the command `watch`.
 
-ghost use Rattle.std.specs.Prelude.{◌≡◌, ◌≤◌, [], ℕ, List, None, Some, map, string_bytes};
+ghost use Rattle.std.specs.Prelude.{◌≡◌, ◌≤◌, length, [], ℕ, List, None, Some, map, string_bytes};
 ghost use Rattle.tesla_fitting.specs.declared.config.Config.{Config};
 ghost use Rattle.tesla_front.specs.OutcomeView.{Usage, result_view, outcome_view};
 ghost use Rattle.tesla_front.specs.Command.{Performs, RunsAs};
 ghost use Rattle.tesla_receiver.specs.Stands.{Stands};
 ghost use Rattle.tesla_run_receive.specs.Arguments.{AreFew, workers_wanted};
-ghost use Rattle.tesla_run_receive.specs.OutputArguments.{arguments_of};
+ghost use Rattle.tesla_run_receive.specs.OutputArguments.{OutputArguments, arguments_of};
+ghost use Rattle.tesla_session.specs.Allowed.{MayAsk, MayReleaseAll};
+ghost use Rattle.tesla_run_receive.specs.Allowed.{MayWriteAll, MayWriteReleased};
 ghost use Rattle.tesla_run_receive.specs.Running.{RunsStation};
 ghost use Rattle.tesla_recorder.specs.declared.watched.watched.WatchedConfig.{WatchedConfig};
 ghost use Rattle.tesla_run_receive.specs.watch.Arguments.{IsWatch};
@@ -18,7 +20,7 @@ use crate::{OutputWords, StationResult, output_words_in, receiver_under, run_sta
 use std::alloc::Global;
 use std::sync::Wait;
 use std::thread::Threads;
-use tesla_desk::Desk;
+use tesla_desk::Environment;
 use tesla_front::{Fault, LiveRun, Outcome, Stop, outcome_of, without_history};
 use tesla_receiver::Receiver;
 use tesla_recorder::watched::Watched;
@@ -31,12 +33,15 @@ use tesla_turn::Last;
 /// appends a line of the counts to STATUS every EVERY seconds, by a clock of its own. It takes no turn. When the workers have
 /// ended, whatever they came to, a last line is written. A STATUS that fails gets no further line, and stops nothing. `Done`
 /// tells the counts. It waits for the links.
-pub fn run_watch<R: Threads + Wait + Sync, D: Desk>(
+pub fn run_watch<R: Threads + Wait + Sync, D: Environment>(
     rt: &R,
     alloc: Global,
     words: &[String],
     desk: &mut D,
 ) -> LiveRun<Last<Watched>>
+    requires asked { MayAsk D.Wire.brought D.Time.may_ask }
+    requires released { (arguments : OutputArguments) → IsWatch arguments (map string_bytes words.now) → MayWriteReleased D.Pieces.name D.Pieces.written D.Pieces.may_write D.Time.read_for arguments.receive (D.told desk.old) }
+    requires output { (arguments : OutputArguments) → IsWatch arguments (map string_bytes words.now) → MayWriteAll D.Pieces.name D.Pieces.may_write arguments.output }
     ensures runs { RunsAs (watching (D.told desk.old).live (D.told desk.new).live result.last) (map string_bytes words.now) (D.told desk.old) (D.told desk.new) (outcome_view result.outcome) }
     ensures none { outcome_view result.outcome ≡ Usage → result.last ≡ None }
 {
@@ -53,13 +58,16 @@ pub fn run_watch<R: Threads + Wait + Sync, D: Desk>(
 }
 
 // Does what the words of `watch` ask for.
-fn perform<R: Threads + Wait + Sync, D: Desk>(
+fn perform<R: Threads + Wait + Sync, D: Environment>(
     rt: &R,
     alloc: Global,
     arguments: &OutputWords<'_>,
     desk: &mut D,
 ) -> StationResult<Watched>
     requires form { (spelled : List (List ℕ)) × IsWatch (arguments_of arguments.now) spelled }
+    requires asked { MayAsk D.Wire.brought D.Time.may_ask }
+    requires released { MayWriteReleased D.Pieces.name D.Pieces.written D.Pieces.may_write D.Time.read_for (arguments_of arguments.now).receive (D.told desk.old) }
+    requires output { MayWriteAll D.Pieces.name D.Pieces.may_write (arguments_of arguments.now).output }
     ensures { Performs (watching (D.told desk.old).live (D.told desk.new).live result.1) (arguments_of arguments.now) (D.told desk.old) (D.told desk.new) (result_view result.0) }
 {
     match receiver_under(alloc, &arguments.receive, desk) {
@@ -69,7 +77,7 @@ fn perform<R: Threads + Wait + Sync, D: Desk>(
 }
 
 // Runs the workers over this receiver, and writes its counts.
-fn run_watched<R: Threads + Wait + Sync, D: Desk>(
+fn run_watched<R: Threads + Wait + Sync, D: Environment>(
     rt: &R,
     alloc: Global,
     arguments: &OutputWords<'_>,
@@ -79,6 +87,10 @@ fn run_watched<R: Threads + Wait + Sync, D: Desk>(
     requires few { AreFew (arguments_of arguments.now).receive }
     requires every { arguments.now.number ≤ 3600 }
     requires stands { Stands receiver [] }
+    requires ingests { receiver.config.ingests ≡ length (arguments_of arguments.now).receive.links }
+    requires asked { MayAsk D.Wire.brought D.Time.may_ask }
+    requires released { MayReleaseAll D.Pieces.name D.Pieces.written D.Pieces.may_write D.Time.read_for receiver.config 0 (arguments_of arguments.now).receive.sinks }
+    requires output { MayWriteAll D.Pieces.name D.Pieces.may_write arguments.now.output.now }
     ensures { (cfg : WatchedConfig Config) × RunsStation HoldsStatus (Some arguments.now.output.now) receiver.config (workers_wanted (arguments_of arguments.now).receive) cfg (D.told desk.old) (D.told desk.new) result.1 (result_view result.0) }
 {
     let Ok((watched, reader)) = Watched::open(alloc, receiver) else {

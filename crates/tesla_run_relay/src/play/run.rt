@@ -1,12 +1,14 @@
 //! A run of the command `play`.
 
-ghost use Rattle.std.specs.Prelude.{◌≡◌, ◌≤◌, ℕ, [], List, length, map, string_bytes, vec_capacity};
+ghost use Rattle.std.specs.Prelude.{◌≡◌, ◌≤◌, ℕ, [], List, length, map, string_bytes, true, vec_capacity};
 ghost use Rattle.tesla_desk.specs.Faults.{HasCause};
 ghost use Rattle.tesla_front.specs.OutcomeView.{outcome_view};
 ghost use Rattle.tesla_front.specs.Command.{Performs, RunsAs};
+ghost use Rattle.tesla_relay.specs.Due.{AreFirstOf, IsNextPlayed};
 ghost use Rattle.tesla_relay.specs.Opening.{name_of};
 ghost use Rattle.tesla_relay.specs.Posts.{PostSeen};
 ghost use Rattle.tesla_run_relay.specs.play.Arguments.{IsPlayForm, arguments_of};
+ghost use Rattle.tesla_run_relay.specs.play.Due.{AreFirstIn, IsDue, IsNextUnder};
 ghost use Rattle.tesla_run_relay.specs.play.Playing.{outcome_with, play};
 ghost use Rattle.tesla_run_relay.specs.play.Steps.{OpensAndPlays, PlaysMade, RunsOpened};
 
@@ -14,7 +16,7 @@ use crate::play::form::{Arguments, arguments_in};
 use std::alloc::Global;
 use std::sync::Wait;
 use tesla_base::Kind;
-use tesla_desk::Desk;
+use tesla_desk::Environment;
 use tesla_front::{Fault, Lines, Outcome, add_count, refused};
 use tesla_relay::{PlayEnd, close_posts, open_posts, play};
 
@@ -25,7 +27,16 @@ use tesla_relay::{PlayEnd, close_posts, open_posts, play};
 /// refused, and then the arrivals before it were sent. `Usage` exactly where the words are no form, and then nothing was
 /// opened. `Failed` with what went wrong first, `Read`, `Write` and `Open` only where the desk's count of that rose: after a
 /// failed read, or a post that failed, nothing is sent. It waits for the clock.
-pub fn run_play<R: Wait, D: Desk>(rt: &R, alloc: Global, words: &[String], desk: &mut D) -> Outcome
+///
+/// While it runs each of POSTS may send what comes next for it: the arrivals of CAPTURE, in order and each once, each
+/// once a clock gave its reading or a later one. Nothing else is sent, whether the run ends or not.
+pub fn run_play<R: Wait, D: Environment>(
+    rt: &R,
+    alloc: Global,
+    words: &[String],
+    desk: &mut D,
+) -> Outcome
+    requires due { (post : D.Port) (datagram : List ℕ) → IsDue D.Time.gave (D.told desk.old) (map string_bytes words.now) (D.Port.name post) (D.Port.sent post) datagram → D.Port.may_send post datagram ≡ true }
     ensures { RunsAs (play (D.told desk.old).live (D.told desk.new).live) (map string_bytes words.now) (D.told desk.old) (D.told desk.new) (outcome_view result) }
 {
     match arguments_in(words) {
@@ -35,13 +46,14 @@ pub fn run_play<R: Wait, D: Desk>(rt: &R, alloc: Global, words: &[String], desk:
 }
 
 // Does what the words ask for: takes room for the posts, opens the capture, and plays it.
-fn perform<R: Wait, D: Desk>(
+fn perform<R: Wait, D: Environment>(
     rt: &R,
     alloc: Global,
     arguments: &Arguments<'_>,
     desk: &mut D,
 ) -> Outcome
     requires form { (spelled : List (List ℕ)) × IsPlayForm (arguments_of arguments.now) spelled }
+    requires due { (post : D.Port) (datagram : List ℕ) → IsNextUnder D.Time.gave (AreFirstIn ((D.told desk.old).page (arguments_of arguments.now).capture)) (arguments_of arguments.now).posts (D.Port.name post) (D.Port.sent post) datagram → D.Port.may_send post datagram ≡ true }
     ensures { Performs (play (D.told desk.old).live (D.told desk.new).live) (arguments_of arguments.now) (D.told desk.old) (D.told desk.new) (outcome_view result) }
 {
     let Ok(posts) = Vec::with_capacity(alloc, arguments.posts.len()) else {
@@ -57,7 +69,7 @@ fn perform<R: Wait, D: Desk>(
 }
 
 // Plays an open capture to the posts under these names, and closes all.
-fn run_opened<R: Wait, D: Desk>(
+fn run_opened<R: Wait, D: Environment>(
     rt: &R,
     names: &[&str],
     mut source: D::In,
@@ -67,6 +79,7 @@ fn run_opened<R: Wait, D: Desk>(
     requires fresh { D.In.faults source ≡ 0 }
     requires empty { posts.items ≡ [] }
     requires room { length names.now ≤ vec_capacity posts }
+    requires due { (post : D.Port) (datagram : List ℕ) → IsNextUnder D.Time.gave (AreFirstOf (D.In.left source)) (map name_of names.now) (D.Port.name post) (D.Port.sent post) datagram → D.Port.may_send post datagram ≡ true }
     ensures { RunsOpened (map name_of names.now) (D.In.name source) (D.In.left source) (D.told desk.old) (D.told desk.new) (outcome_view result) }
 {
     let outcome = open_and_play(rt, names, &mut source, desk, &mut posts);
@@ -77,7 +90,7 @@ fn run_opened<R: Wait, D: Desk>(
 }
 
 // Opens the posts, and plays the capture to them.
-fn open_and_play<R: Wait, D: Desk>(
+fn open_and_play<R: Wait, D: Environment>(
     rt: &R,
     names: &[&str],
     source: &mut D::In,
@@ -86,6 +99,7 @@ fn open_and_play<R: Wait, D: Desk>(
 ) -> Outcome
     requires empty { posts.old.items ≡ [] }
     requires room { length names.now ≤ vec_capacity posts.old }
+    requires due { (post : D.Port) (datagram : List ℕ) → IsNextUnder D.Time.gave (AreFirstOf (D.In.left source.old)) (map name_of names.now) (D.Port.name post) (D.Port.sent post) datagram → D.Port.may_send post datagram ≡ true }
     ensures plays { OpensAndPlays (map name_of names.now) (D.In.left source.old) (D.In.left source.new) (D.In.faults source.old) (D.In.faults source.new) (D.told desk.old) (D.told desk.new) (map (λ post. record { name = D.Port.name post; sent = D.Port.sent post; faults = D.Port.faults post }) posts.new.items) (outcome_view result) }
     ensures name { D.In.name source.new ≡ D.In.name source.old }
 {
@@ -96,12 +110,14 @@ fn open_and_play<R: Wait, D: Desk>(
 }
 
 // Plays the capture to open posts, with a new clock and a new gate.
-fn play_made<R: Wait, D: Desk>(
+fn play_made<R: Wait, D: Environment>(
     rt: &R,
     source: &mut D::In,
     desk: &mut D,
     posts: &mut Vec<D::Port>,
 ) -> PlayEnd
+    requires due { let seen : D.Port → PostSeen = λ post. record { name = D.Port.name post; sent = D.Port.sent post; faults = D.Port.faults post } in
+        (post : D.Port) (datagram : List ℕ) → IsNextPlayed D.Time.gave (D.In.left source.old) (map seen posts.old.items) (seen post) datagram → D.Port.may_send post datagram ≡ true }
     ensures plays { let seen : List D.Port → List PostSeen = λ posts. map (λ post. record { name = D.Port.name post; sent = D.Port.sent post; faults = D.Port.faults post }) posts in
         PlaysMade result (D.In.left source.old) (D.In.left source.new) (seen posts.old.items) (seen posts.new.items) (D.told desk.old) (D.told desk.new) }
     ensures cause { HasCause (D.In.faults source.old) (D.In.faults source.new) (result ≡ PlayEnd.ReadFault) }

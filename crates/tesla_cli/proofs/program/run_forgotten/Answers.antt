@@ -5,7 +5,7 @@ use Rattle.tesla_cli.proofs.program.run_forgotten.Goals as goal
 
 pub returns-clause-runs : goal.returns-clause-runs
 returns-clause-runs g c =
-    let told = g.D.Desk.told c.args._desk.now in
+    let told = g.D.Environment.told c.args._desk.now in
     record {
       form = λ arguments form. record {
         named = tt;

@@ -9,10 +9,10 @@ use Rattle.tesla_cli.proofs.tools.run_printing.Goals as goal
 
 pub returns-in-Ok-clause-runs : goal.returns-in-Ok-clause-runs
 returns-in-Ok-clause-runs g c =
-    let old = g.D.Desk.told c.args.desk.now in
-    let opened = g.D.Desk.told c.open_console.new.desk in
-    let done = g.D.Desk.told c.run_show-printed.new.desk in
-    let new = g.D.Desk.told c.close_sink.new.self in
+    let old = g.D.Environment.told c.args.desk.now in
+    let opened = g.D.Environment.told c.open_console.new.desk in
+    let done = g.D.Environment.told c.run_show-printed.new.desk in
+    let new = g.D.Environment.told c.close_sink.new.self in
     let printed = c.run_show-printed.result in
     let reported = outcome_view c.tell_printed-reported.result in
     let mid = g.D.Out.Sink.written c.run_show-printed.new.console in

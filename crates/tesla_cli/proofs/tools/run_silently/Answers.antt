@@ -8,10 +8,10 @@ use Rattle.tesla_cli.proofs.tools.run_silently.Goals as goal
 pub returns-clause-runs : goal.returns-clause-runs
 returns-clause-runs g c =
     let words = map string_bytes c.args.words.now in
-    let old = g.D.Desk.told c.args.desk.now in
-    let new = g.D.Desk.told c.run_table-run.new.desk in
+    let old = g.D.Environment.told c.args.desk.now in
+    let new = g.D.Environment.told c.run_table-run.new.desk in
     subst (λ (lines : List ℕ). Runs (tool_of words) lines words old new (outcome_view c.run_table-run.result.outcome)) c.forms.ensures
-    (plain_run g.D.Desk.told _ (tool_of words) _ words _ _ _ (λ opened done run ran. ran.0) c.run_table-run.ensures)
+    (plain_run g.D.Environment.told _ (tool_of words) _ words _ _ _ (λ opened done run ran. ran.0) c.run_table-run.ensures)
 
 pub returns-clause-live : goal.returns-clause-live
-returns-clause-live g c = plain_live g.D.Desk.told _ _ _ _ _ (λ opened done run ran. ran.1) c.run_table-run.ensures
+returns-clause-live g c = plain_live g.D.Environment.told _ _ _ _ _ (λ opened done run ran. ran.1) c.run_table-run.ensures

@@ -16,8 +16,8 @@ causes_where false words old new reported own runs = status_causes (tool_of word
 pub returns-clause-causes : goal.returns-clause-causes
 returns-clause-causes g c =
     let words = map string_bytes c.args.words.now in
-    let old = g.D.Desk.told c.args.desk.now in
-    let new = g.D.Desk.told c.run_reported.new.desk in
+    let old = g.D.Environment.told c.args.desk.now in
+    let new = g.D.Environment.told c.run_reported.new.desk in
     let outcome = c.run_reported.result in
     subst (λ (status : ℕ). HasStatusCauses status old.faults new.faults) (sym c.status.ensures)
     (causes_where (names_show words) words old new (outcome_view outcome) (own_status outcome) c.run_reported.ensures.runs)

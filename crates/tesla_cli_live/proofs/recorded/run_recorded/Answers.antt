@@ -1,7 +1,7 @@
 use Rattle.std.proofs.Common.{Option, map, string_bytes}
 use Rattle.tesla_desk.specs.Live.{Live}
 use Rattle.tesla_front.specs.Command.{Command}
-use Rattle.tesla_front.proofs.Tables.{table_causes, table_run}
+use Rattle.tesla_front.proofs.Tables.{table_causes}
 use Rattle.tesla_receiver.specs.declared.history.Entry.{Entry}
 use Rattle.tesla_turn.specs.Held.{Ended}
 use Rattle.tesla_run_receive.specs.record.Record.{recording}
@@ -9,14 +9,10 @@ use Rattle.tesla_cli_live.specs.Commands.{record_usage}
 use Rattle.tesla_cli_live.proofs.recorded.run_recorded.Goals as goal
 
 pub returns-clause-outcome : goal.returns-clause-outcome
-returns-clause-outcome g c =
-    let words = map string_bytes c.args.words.now in
-    let command : Live → Live → Option (Ended Entry) → Command = recording in
-    (_, c.status.ensures, table_run g.D.Desk.told _ command (Unit {0}) record_usage words _ _ _ (λ opened done run ran. ran) c.run_table-run.ensures)
+returns-clause-outcome g c = (_, c.status.ensures, c.run_told-run.ensures)
 
 pub returns-clause-causes : goal.returns-clause-causes
 returns-clause-causes g c =
     let words = map string_bytes c.args.words.now in
     let command : Live → Live → Option (Ended Entry) → Command = recording in
-    table_causes command (Unit {0}) record_usage words _ _ _ c.run_table-run.result.outcome _ c.status.ensures
-    (table_run g.D.Desk.told _ command (Unit {0}) record_usage words _ _ _ (λ opened done run ran. ran) c.run_table-run.ensures)
+    table_causes command (Unit {0}) record_usage words _ _ _ c.run_told-run.result.outcome _ c.status.ensures c.run_told-run.ensures

@@ -1,18 +1,38 @@
-use Rattle.std.proofs.Common.{◌∙◌, refl, ap, arith}
-use denote.Enum.Bare.{sameb}
+use Rattle.std.proofs.Common.{◌∙◌, refl, sym, ap, arith, rules}
+use denote.Enum.Bare.{sameb, same_true}
 use Rattle.tesla_feed.specs.contracts.hearing.Hearing.{the_type}
 use Rattle.tesla_feed.specs.declared.hearing.Hearing.TheVariants as hearings
 use Rattle.tesla_relay.specs.Posts.{PostSeen}
 use Rattle.tesla_feed.proofs.Going.{both_ways}
-use Rattle.tesla_feed.proofs.Whole.{begun_stands, feeds_all, none_sent}
+use Rattle.tesla_feed.proofs.Permitted.{goes_on_begun, goes_on_own}
+use Rattle.tesla_feed.proofs.Whole.{begun_goes, feeds_all}
 use Rattle.tesla_feed.proofs.feeding.feed.Goals as goal
 
 pub hear_all-hearing-requires-clause-goes : goal.hear_all-hearing-requires-clause-goes
 hear_all-hearing-requires-clause-goes g c =
     let seen = λ (post : g.row.P.Denot). let it : PostSeen = record { name = g.P.Post.name post; sent = g.P.Post.sent post; faults = g.P.Post.faults post } in it in
+    begun_goes seen c.args.opened.sender.stream _ c.open-feeder.result c.wait_to_begin.new.feeder _ _ c.args.posts.now _ c.open-feeder.ensures.stands c.wait_to_begin.ensures (omega (arith, c.requires.few)) refl
+
+pub hear_all-hearing-requires-clause-going : goal.hear_all-hearing-requires-clause-going
+hear_all-hearing-requires-clause-going g c =
+    let seen = λ (post : g.row.P.Denot). let it : PostSeen = record { name = g.P.Post.name post; sent = g.P.Post.sent post; faults = g.P.Post.faults post } in it in
+    let goes = begun_goes seen c.args.opened.sender.stream _ c.open-feeder.result c.wait_to_begin.new.feeder _ _ c.args.posts.now _ c.open-feeder.ensures.stands c.wait_to_begin.ensures (omega (arith, c.requires.few)) refl in
+    goes_on_begun seen g.P.Post.may_send g.C.Clock.gave g.C.Clock.read_for c.args.opened.sender.stream c.args.opened.opening c.open-feeder.result c.wait_to_begin.new.feeder c.args.posts.now _ _ _
+    c.requires.opening c.requires.lasts c.requires.unsent c.requires.due c.open-feeder.ensures.stands c.wait_to_begin.ensures goes
+
+pub tell_rest-requires-clause-going : goal.tell_rest-requires-clause-going
+tell_rest-requires-clause-going g c =
+    let heard = c.hear_all-hearing in
+    let on = heard.ensures.going in
+    (on.0, goes_on_own _ _ _ _ _ _ on.0 heard.new.feeder heard.new.posts heard.new.failed on.1)
+
+pub returns-clause-cause : goal.returns-clause-cause
+returns-clause-cause g c =
+    let cause = c.hear_all-hearing.ensures.cause in
     record {
-      stands = begun_stands c.args.opened.sender.stream _ c.open-feeder.result c.wait_to_begin.new.feeder _ _ c.open-feeder.ensures.stands c.wait_to_begin.ensures;
-      sends = none_sent seen c.args.posts.now _ (omega (arith, c.requires.few)) refl;
+      stays = cause.stays;
+      rose = λ failed. cause.rose (same_true the_type (search rules) _ _ (sym c.eq.ensures ∙ failed));
+      still = λ none. cause.still (λ same. none (c.eq.ensures ∙ ap (λ h. sameb the_type h hearings.LinkFailed) same));
     }
 
 pub returns-clause-feeds : goal.returns-clause-feeds

@@ -1,7 +1,9 @@
-use Rattle.std.proofs.Common.{◌∙◌, take, refl, sym, rules}
+use Rattle.std.proofs.Common.{◌∙◌, suc, take, refl, sym, rules}
 use Rattle.tesla_desk.specs.declared.link.Letter.TheVariants as letters
+use Rattle.tesla_feed.specs.Fed.{Received}
 use Rattle.tesla_feed.specs.Feed.{Heard}
 use Rattle.tesla_feed.proofs.Going.{hears_more, hears_next, hears_none}
+use Rattle.tesla_feed.proofs.Permitted.{goes_on_more, goes_on_next, may_take}
 use Rattle.tesla_feed.proofs.hearing.hear_all.Goals as goal
 
 pub loop-init : goal.loop-init
@@ -11,33 +13,76 @@ loop-init g c = record {
   posts = refl;
   marks = refl;
   hears = hears_none c.args.feeder.now.sender.stream c.args.feeder.now.first c.args.feeder.now c.args.failed.now _ _ _ c.requires.goes;
+  going = (0, c.requires.none, c.requires.going);
   read = refl;
   name = refl;
 }
 
+pub returns-then-have_all_failed-clause-going : goal.returns-then-have_all_failed-clause-going
+returns-then-have_all_failed-clause-going g c = (c.loop.invariant.going.0, c.loop.invariant.going.2)
+
+pub returns-in-End-clause-going : goal.returns-in-End-clause-going
+returns-in-End-clause-going g c = (c.loop.invariant.going.0, c.loop.invariant.going.2)
+
+pub returns-in-Failed-clause-going : goal.returns-in-Failed-clause-going
+returns-in-Failed-clause-going g c = (c.loop.invariant.going.0, c.loop.invariant.going.2)
+
+pub now_for-reading-requires : goal.now_for-reading-requires
+now_for-reading-requires g c =
+    let number = c.loop.invariant.going.0 in
+    let numbered = c.in-Datagram.ensures.numbered number (c.wait_at_most.ensures.numbered number c.loop.invariant.going.1) in
+    record { asked = (number, c.requires.asks number _ numbered.0) }
+
+pub take_event-requires-clause-permitted : goal.take_event-requires-clause-permitted
+take_event-requires-clause-permitted g c =
+    let number = c.loop.invariant.going.0 in
+    let numbered = c.in-Datagram.ensures.numbered number (c.wait_at_most.ensures.numbered number c.loop.invariant.going.1) in
+    may_take _ _ _ _ _ _ number c.loop.feeder c.loop.posts c.loop.failed c.loop.invariant.going.2 (Received c.now_for-reading.result (letters.Datagram (take c.in-Datagram.length c.next-in-loop.new.into)))
+    (c.now_for-reading.ensures.gave, c.now_for-reading.ensures.read number (c.requires.asks number _ numbered.0))
+
 pub loop-preserved-in-Datagram : goal.loop-preserved-in-Datagram
 loop-preserved-in-Datagram g c =
-    let one : Heard = record { reading = c.now.result; letter = letters.Datagram (take c.in-Datagram.length c.next-in-loop.new.into) } in
+    let one : Heard = record { reading = c.now_for-reading.result; letter = letters.Datagram (take c.in-Datagram.length c.next-in-loop.new.into) } in
+    let number = c.loop.invariant.going.0 in
+    let numbered = c.in-Datagram.ensures.numbered number (c.wait_at_most.ensures.numbered number c.loop.invariant.going.1) in
     record {
       size = search rules;
       each = c.take_event.ensures.each.1 ∙ c.loop.invariant.each ∙ sym c.take_event.ensures.each.0;
       posts = c.take_event.ensures.each.0 ∙ c.loop.invariant.posts;
       marks = c.take_event.ensures.each.1 ∙ c.loop.invariant.marks;
-      hears = hears_more c.args.feeder.now.sender.stream c.args.feeder.now.first one c.loop.feeder c.take_event.new.feeder c.loop.failed _ _ _ _ _ _ _ _ _ _ c.loop.invariant.hears (sym c.wait_at_most.ensures.left ∙ c.in-Datagram.ensures.step.left) c.now.ensures c.take_event.ensures.goes;
+      hears = hears_more c.args.feeder.now.sender.stream c.args.feeder.now.first one c.loop.feeder c.take_event.new.feeder c.loop.failed _ _ _ _ _ _ _ _ _ _ c.loop.invariant.hears (sym c.wait_at_most.ensures.left ∙ c.in-Datagram.ensures.step.left) c.now_for-reading.ensures.ticks c.take_event.ensures.goes;
+      going = (
+        suc number,
+        numbered.1,
+        goes_on_more _ _ _ _ c.args.feeder.now.sender.stream c.args.feeder.now.first number c.loop.feeder c.loop.posts c.loop.failed c.loop.invariant.going.2 (Received one.reading one.letter) c.take_event.new.feeder c.take_event.new.posts c.take_event.new.failed
+            (c.now_for-reading.ensures.gave, c.now_for-reading.ensures.read number (c.requires.asks number _ numbered.0)) c.take_event.ensures.goes,
+      );
       read = c.in-Datagram.ensures.cause.still (λ e. absurd cc) ∙ c.wait_at_most.ensures.faults ∙ c.loop.invariant.read;
       name = c.in-Datagram.ensures.name ∙ c.wait_at_most.ensures.name ∙ c.loop.invariant.name;
     }
 
+pub take_event-requires-in-Quiet-clause-permitted : goal.take_event-requires-in-Quiet-clause-permitted
+take_event-requires-in-Quiet-clause-permitted g c =
+    may_take _ _ _ _ _ _ c.loop.invariant.going.0 c.loop.feeder c.loop.posts c.loop.failed c.loop.invariant.going.2 (Received c.now.result letters.Quiet) c.now.ensures.gave
+
 pub loop-preserved : goal.loop-preserved
 loop-preserved g c =
-    let one : Heard = record { reading = c.now-in-Quiet.result; letter = letters.Quiet } in
+    let one : Heard = record { reading = c.now.result; letter = letters.Quiet } in
     let stream = c.args.feeder.now.sender.stream in
+    let number = c.loop.invariant.going.0 in
     record {
       size = search rules;
       each = c.take_event-in-Quiet.ensures.each.1 ∙ c.loop.invariant.each ∙ sym c.take_event-in-Quiet.ensures.each.0;
       posts = c.take_event-in-Quiet.ensures.each.0 ∙ c.loop.invariant.posts;
       marks = c.take_event-in-Quiet.ensures.each.1 ∙ c.loop.invariant.marks;
-      hears = hears_next stream c.args.feeder.now.first c.take_event-in-Quiet.new.feeder c.make_next.new.self _ _ _ _ _ _ _ c.make_next.ensures (hears_more stream c.args.feeder.now.first one c.loop.feeder c.take_event-in-Quiet.new.feeder c.loop.failed _ _ _ _ _ _ _ _ _ _ c.loop.invariant.hears (sym c.wait_at_most.ensures.left ∙ c.in-Quiet.ensures.step) c.now-in-Quiet.ensures c.take_event-in-Quiet.ensures.goes);
+      hears = hears_next stream c.args.feeder.now.first c.take_event-in-Quiet.new.feeder c.make_next.new.self _ _ _ _ _ _ _ c.make_next.ensures (hears_more stream c.args.feeder.now.first one c.loop.feeder c.take_event-in-Quiet.new.feeder c.loop.failed _ _ _ _ _ _ _ _ _ _ c.loop.invariant.hears (sym c.wait_at_most.ensures.left ∙ c.in-Quiet.ensures.step) c.now.ensures.ticks c.take_event-in-Quiet.ensures.goes);
+      going = (
+        number,
+        c.in-Quiet.ensures.numbered number (c.wait_at_most.ensures.numbered number c.loop.invariant.going.1),
+        goes_on_next _ _ _ _ stream c.args.feeder.now.first number c.take_event-in-Quiet.new.feeder c.take_event-in-Quiet.new.posts c.take_event-in-Quiet.new.failed
+            (goes_on_more _ _ _ _ stream c.args.feeder.now.first number c.loop.feeder c.loop.posts c.loop.failed c.loop.invariant.going.2 (Received one.reading letters.Quiet) c.take_event-in-Quiet.new.feeder c.take_event-in-Quiet.new.posts c.take_event-in-Quiet.new.failed c.now.ensures.gave c.take_event-in-Quiet.ensures.goes)
+            c.make_next.new.self c.make_next.ensures,
+      );
       read = c.in-Quiet.ensures.cause.still (λ e. absurd cc) ∙ c.wait_at_most.ensures.faults ∙ c.loop.invariant.read;
       name = c.in-Quiet.ensures.name ∙ c.wait_at_most.ensures.name ∙ c.loop.invariant.name;
     }

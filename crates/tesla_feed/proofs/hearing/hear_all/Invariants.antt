@@ -1,11 +1,12 @@
-use Rattle.std.proofs.Common.{◌≡◌, List, length, map}
+use Rattle.std.proofs.Common.{◌≡◌, ℕ, List, length, map, true}
 use Rattle.tesla_relay.specs.Posts.{PostSeen}
-use Rattle.tesla_feed.specs.Steps.{Hears}
+use Rattle.tesla_feed.specs.Steps.{GoesOn, Hears}
 use Rattle.tesla_feed.proofs.hearing.hear_all.Given as goal
 
 abbrev pub invariant-loop : goal.invariant-loop
 invariant-loop g l =
-    let seen = λ (posts : List g.row.P.Denot). map (λ post. let it : PostSeen = record { name = g.P.Post.name post; sent = g.P.Post.sent post; faults = g.P.Post.faults post } in it) posts in
+    let one = λ (post : g.row.P.Denot). let it : PostSeen = record { name = g.P.Post.name post; sent = g.P.Post.sent post; faults = g.P.Post.faults post } in it in
+    let seen = λ (posts : List g.row.P.Denot). map one posts in
     let first = l.initial.feeder in
     record {
       size : length l.buffer ≡ 2048;
@@ -13,6 +14,7 @@ invariant-loop g l =
       posts : length l.posts ≡ length l.initial.posts;
       marks : length l.failed ≡ length l.initial.failed;
       hears : Hears first.sender.stream first.first l.feeder l.failed (g.K.Link.left l.initial.link) (g.K.Link.left l.link) (g.C.Clock.told l.initial.clock) (g.C.Clock.told l.clock) (seen l.initial.posts) (seen l.posts);
+      going : (number : ℕ) × (g.K.Link.has_brought l.link number ≡ true) × GoesOn one g.P.Post.may_send g.C.Clock.gave g.C.Clock.read_for first.sender.stream first.first number l.feeder l.posts l.failed;
       read : g.K.Link.faults l.link ≡ g.K.Link.faults l.initial.link;
       name : g.K.Link.name l.link ≡ g.K.Link.name l.initial.link;
     }

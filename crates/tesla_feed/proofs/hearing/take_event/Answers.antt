@@ -1,6 +1,11 @@
 use Rattle.tesla_feed.proofs.Going.{goes_none, goes_some}
 use Rattle.tesla_feed.proofs.hearing.take_event.Goals as goal
 
+pub hand-requires-clause-permitted : goal.hand-requires-clause-permitted
+hand-requires-clause-permitted g c =
+    let adds = (c.in-Some.ensures.makes c.requires.permitted.made c.requires.permitted.stands).adds in
+    c.requires.permitted.permitted adds.0 _ adds.1 adds.2
+
 pub returns-in-Some-clause-goes : goal.returns-in-Some-clause-goes
 returns-in-Some-clause-goes g c = λ made first_posts goes.
     let a = c.args.feeder.now in

@@ -1,17 +1,19 @@
-use Rattle.std.proofs.Common.{◌≡◌, List, length, map, true}
+use Rattle.std.proofs.Common.{◌≡◌, ℕ, List, length, map, true}
 use Rattle.std.specs.List.{list_all}
 use Rattle.tesla_relay.specs.Posts.{PostSeen}
 use Rattle.tesla_feed.specs.Fed.{Feeding}
 use Rattle.tesla_feed.specs.Feed.{has_failed}
-use Rattle.tesla_feed.specs.Steps.{Goes, Rests}
+use Rattle.tesla_feed.specs.Steps.{Goes, GoesOn, Rests}
 use Rattle.tesla_feed.proofs.hearing.tell_rest.Given as goal
 
 abbrev pub invariant-loop : goal.invariant-loop
 invariant-loop g l =
-    let seen = λ (posts : List g.row.P.Denot). map (λ post. let it : PostSeen = record { name = g.P.Post.name post; sent = g.P.Post.sent post; faults = g.P.Post.faults post } in it) posts in
+    let one = λ (post : g.row.P.Denot). let it : PostSeen = record { name = g.P.Post.name post; sent = g.P.Post.sent post; faults = g.P.Post.faults post } in it in
+    let seen = λ (posts : List g.row.P.Denot). map one posts in
     let first = l.initial.feeder in
     record {
       each : length l.failed ≡ length l.posts;
       stays : list_all has_failed l.initial.failed ≡ true → l.failed ≡ l.initial.failed;
+      going : (number : ℕ) × GoesOn one g.P.Post.may_send g.C.Clock.gave g.C.Clock.read_for first.sender.stream first.first number l.feeder l.posts l.failed;
       rests : (made : Feeding) (first_posts : List PostSeen) → Goes first.sender.stream first.first made first_posts first (seen l.initial.posts) l.initial.failed → Rests first.sender.stream first.first made first_posts l.feeder l.failed (g.C.Clock.told l.initial.clock) (g.C.Clock.told l.clock) (seen l.posts);
     }

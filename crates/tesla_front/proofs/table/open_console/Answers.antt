@@ -8,8 +8,8 @@ use Rattle.tesla_front.proofs.table.open_console.Goals as goal
 
 pub returns-in-Err-clause-refused : goal.returns-in-Err-clause-refused
 returns-in-Err-clause-refused g c fault is =
-    let old = g.D.Desk.told c.args.desk.now in
-    let new = g.D.Desk.told c.open_sink.new.self in
+    let old = g.D.Environment.told c.args.desk.now in
+    let new = g.D.Environment.told c.open_console.new.self in
     let one : c.from.result ≡ fault = cc in
     let same : unopened c.in-Err.refusal ≡ fault = sym c.from.ensures ∙ one in
     subst (λ (f : Fault). HasNoConsole old new (Failed f)) same (unopened_console _ c.in-Err.refusal old new c.in-Err.ensures.desk)

@@ -1,23 +1,16 @@
-use Rattle.std.proofs.Common.{◌∙◌, inr, refl, subst, List, ℕ}
-use Rattle.tesla_desk.specs.Outside.{ClosesSink}
+use Rattle.std.proofs.Common.{inr}
 use Rattle.tesla_front.proofs.table.run_table.Goals as goal
 
 pub returns-in-Ok : goal.returns-in-Ok
 returns-in-Ok g c =
-    let written = g.D.Out.Sink.written c.tell-reported.new.console in
-    let failed = g.D.Out.Sink.faults c.tell-reported.new.console in
+    let (written, failed, reports) = c.report_run.ensures.reports (g.D.Environment.told c.args.desk.now) _ c.in-Ok.ensures.opened in
     inr (record {
       opened = _;
-      run = c.run-outcome.result;
+      run = c.run-run.result;
       done = _;
-      runs = c.run-outcome.ensures;
-      last = refl;
+      runs = c.run-run.ensures;
+      last = c.report_run.ensures.last;
       written = written;
       failed = failed;
-      reports = record {
-        before = g.D.Out.Sink.written c.in-Ok.console;
-        opens = c.in-Ok.ensures.opened;
-        tells = c.tell-reported.ensures.tells;
-        closes = subst (λ (name : List ℕ). ClosesSink name written failed (g.D.Desk.told c.run-outcome.new.arg3) (g.D.Desk.told c.close_sink.new.self)) (c.tell-reported.ensures.name ∙ c.in-Ok.ensures.named) c.close_sink.ensures.desk;
-      };
+      reports = reports;
     })

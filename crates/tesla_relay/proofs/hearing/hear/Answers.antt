@@ -1,16 +1,28 @@
-use Rattle.std.proofs.Common.{◌∙◌, take, refl, rules}
+use Rattle.std.proofs.Common.{◌≡◌, ◌∙◌, ℕ, suc, Bool, List, [], ◌∷◌, take, refl, rules, subst, sym, arith, true}
+use Rattle.tesla_relay.specs.Lists.{HaveCome}
 use Rattle.tesla_relay.proofs.Causes.{cause_since}
-use Rattle.tesla_relay.proofs.Heard.{hears_same}
+use Rattle.tesla_relay.proofs.Heard.{have_come, hears_same}
 use Rattle.tesla_relay.proofs.HeardSoFar.{heard_more, heard_none, heard_quiet, left_none}
 use Rattle.tesla_relay.proofs.hearing.hear.Goals as goal
 
 pub loop-init : goal.loop-init
-loop-init g c = record { size = refl; heard = heard_none _ _ _ c.requires.feeding c.requires.serving; faults = refl; name = refl }
+loop-init g c = record { size = refl; heard = heard_none _ _ _ _ c.requires.feeding.0 c.requires.serving; numbered = (0, c.requires.link.0, c.requires.feeding.1); faults = refl; name = refl }
+
+pub hand_on-requires-clause-brought : goal.hand_on-requires-clause-brought
+hand_on-requires-clause-brought g c κs within =
+    let so_far = c.loop.invariant.numbered in
+    let brings = c.in-Datagram.ensures.numbered so_far.0 so_far.1 in
+    (so_far.0, so_far.2, subst (λ (brought : ℕ → List ℕ → Bool). brought so_far.0 (take c.in-Datagram.length c.next-in-loop.new.into) ≡ true) (sym c.requires.link.1) brings.0)
 
 pub loop-preserved-in-Datagram : goal.loop-preserved-in-Datagram
 loop-preserved-in-Datagram g c = record {
   size = search rules;
-  heard = heard_more (take c.in-Datagram.length c.next-in-loop.new.into) _ _ _ _ _ _ _ _ _ c.loop.invariant.heard c.in-Datagram.ensures.step.left c.hand_on.ensures.feeds c.hand_on.ensures.here;
+  heard = heard_more _ (take c.in-Datagram.length c.next-in-loop.new.into) _ _ _ _ _ _ _ _ _ c.loop.invariant.heard c.in-Datagram.ensures.step.left c.hand_on.ensures.feeds c.hand_on.ensures.here;
+  numbered =
+      let so_far = c.loop.invariant.numbered in
+      let brings = c.in-Datagram.ensures.numbered so_far.0 so_far.1 in
+      let come = have_come so_far.0 (take c.in-Datagram.length c.next-in-loop.new.into ∷ []) c.loop.feeds c.hand_on.new.feeds c.hand_on.ensures.feeds so_far.2 in
+      (suc so_far.0, brings.1, subst (λ (n : ℕ). HaveCome n c.hand_on.new.feeds) (omega arith) come);
   faults = c.in-Datagram.ensures.cause.still (λ e. absurd cc) ∙ c.loop.invariant.faults;
   name = c.next-in-loop.ensures.name ∙ c.loop.invariant.name;
 }
@@ -18,7 +30,8 @@ loop-preserved-in-Datagram g c = record {
 pub loop-preserved : goal.loop-preserved
 loop-preserved g c = record {
   size = search rules;
-  heard = heard_quiet _ _ _ _ _ _ _ c.loop.invariant.heard c.in-Quiet.ensures.step;
+  heard = heard_quiet _ _ _ _ _ _ _ _ c.loop.invariant.heard c.in-Quiet.ensures.step;
+  numbered = let so_far = c.loop.invariant.numbered in (so_far.0, c.in-Quiet.ensures.numbered so_far.0 so_far.1, so_far.2);
   faults = c.in-Quiet.ensures.cause.still (λ e. absurd cc) ∙ c.loop.invariant.faults;
   name = c.next-in-loop.ensures.name ∙ c.loop.invariant.name;
 }

@@ -3,7 +3,7 @@ use Rattle.tesla_relay.proofs.Moves.{begins, forks}
 use Rattle.tesla_relay.proofs.line.new_line.Goals as goal
 
 pub ruled-requires-clause-rule : goal.ruled-requires-clause-rule
-ruled-requires-clause-rule c = begins
+ruled-requires-clause-rule g c = begins _
 
 pub another-popped-requires-clause-rule : goal.another-popped-requires-clause-rule
-another-popped-requires-clause-rule c = forks _ _ (search rules) (search rules)
+another-popped-requires-clause-rule g c = forks _ _ _ (search rules) (search rules)

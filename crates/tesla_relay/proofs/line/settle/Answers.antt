@@ -3,7 +3,7 @@ use Rattle.tesla_relay.proofs.Moves.{merges, totals}
 use Rattle.tesla_relay.proofs.line.settle.Goals as goal
 
 pub absorb-requires-clause-rule : goal.absorb-requires-clause-rule
-absorb-requires-clause-rule c = merges _ _ _ _ (search rules) (search rules)
+absorb-requires-clause-rule g c = merges _ _ _ _ _ (search rules) (search rules)
 
 pub learn_as-requires-clause-rule : goal.learn_as-requires-clause-rule
-learn_as-requires-clause-rule c = totals _ _ (search rules) (search rules)
+learn_as-requires-clause-rule g c = totals _ _ _ (search rules) (search rules)

@@ -2,7 +2,9 @@ use Rattle.std.proofs.Common.{◌∙◌, ℕ, List, [], take, refl, ap, arith, r
 use Rattle.std.proofs.lemmas.List.{length-take}
 use Rattle.tesla_desk.specs.Outside.{after_bytes}
 use Rattle.tesla_relay.specs.Play.{Played, IsPlayed}
+use Rattle.tesla_relay.specs.Posts.{PostSeen}
 use Rattle.tesla_relay.proofs.Causes.{cause_since}
+use Rattle.tesla_relay.proofs.Due.{all_permitted}
 use Rattle.tesla_relay.proofs.Taken.{offset_rises, plays_arrival, plays_broken, plays_cut, plays_ended, plays_none, plays_refused, plays_take}
 use Rattle.tesla_relay.proofs.playing.play.Goals as goal
 
@@ -17,11 +19,17 @@ loop-init g c = record {
   plays = plays_none 0 _ _ _ _ _ refl c.new-reader.ensures.place (λ bytes told. ap (λ (p : List ℕ). after_bytes p (g.S.Source.left c.args.source.now)) c.new-reader.ensures.pending ∙ ap (after_bytes []) told);
 }
 
+pub hand-requires-clause-permitted : goal.hand-requires-clause-permitted
+hand-requires-clause-permitted g c =
+    let seen : g.row.P.Denot → PostSeen = λ post. record { name = g.P.Post.name post; sent = g.P.Post.sent post; faults = g.P.Post.faults post } in
+    all_permitted seen g.P.Post.may_send g.C.Clock.gave c.in-Arrival.reading (take c.in-Arrival.length c.next-in-loop.new.into) c.loop.posts c.args.posts.now c.loop.sent c.loop.reader.place c.next-in-loop.new.self.place _ _ _ _ _
+    c.loop.invariant.plays c.in-Arrival.ensures.gives c.wait_until.ensures.given c.requires.due
+
 pub returns-then-not-hand-clause-plays : goal.returns-then-not-hand-clause-plays
 returns-then-not-hand-clause-plays g c =
     let one : Played = record { reading = c.in-Arrival.reading; bytes = take c.in-Arrival.length c.next-in-loop.new.into } in
     let fits : IsPlayed one = (omega arith, omega (arith, length-take c.in-Arrival.length c.next-in-loop.new.into, c.in-Arrival.ensures.moves.1)) in
-    plays_broken one c.loop.sent c.loop.reader.place c.next-in-loop.new.self.place _ _ _ _ _ _ _ _ _ _ c.loop.invariant.plays c.in-Arrival.ensures.gives fits c.wait_until.ensures (c.if-not-hand.ensures)
+    plays_broken one c.loop.sent c.loop.reader.place c.next-in-loop.new.self.place _ _ _ _ _ _ _ _ _ _ c.loop.invariant.plays c.in-Arrival.ensures.gives fits c.wait_until.ensures.waits (c.if-not-hand.ensures)
 
 pub loop-preserved-in-Arrival : goal.loop-preserved-in-Arrival
 loop-preserved-in-Arrival g c =
@@ -34,7 +42,7 @@ loop-preserved-in-Arrival g c =
       limited = c.next-in-loop.ensures.limited;
       read = c.in-Arrival.ensures.cause.still (λ e. absurd cc) ∙ c.loop.invariant.read;
       name = c.next-in-loop.ensures.name ∙ c.loop.invariant.name;
-      plays = plays_arrival one c.loop.sent _ c.loop.reader.place c.next-in-loop.new.self.place _ _ _ _ _ _ _ _ _ c.loop.invariant.plays c.in-Arrival.ensures.gives fits c.wait_until.ensures (c.if-not-hand.ensures) refl;
+      plays = plays_arrival one c.loop.sent _ c.loop.reader.place c.next-in-loop.new.self.place _ _ _ _ _ _ _ _ _ c.loop.invariant.plays c.in-Arrival.ensures.gives fits c.wait_until.ensures.waits (c.if-not-hand.ensures) refl;
     }
 
 pub loop-preserved : goal.loop-preserved

@@ -22,20 +22,20 @@ unreachable-requires g t c =
 pub settle_one-post-requires : goal.settle_one-post-requires
 settle_one-post-requires g t c =
     let e = c.requires.ending in
-    let popped = back_pop (Ends e.0 e.1) e.2 c.pop-2.new.self.items c.in-Some-pop.feed c.pop.new.self.items c.in-Some.server (subst₂ (λ (fs : List Feed) (ss : List ServerSeen). Ending e.0 e.1 e.2 fs ss) c.in-Some-pop.ensures.items c.in-Some.ensures.items e.3) in
+    let popped = back_pop (Ends e.0 e.1) e.2 c.pop-2.new.self.items c.in-Some-pop.feed c.pop.new.self.items c.in-Some.server (subst₂ (λ (fs : List (Feed g.row.X.Denot)) (ss : List ServerSeen). Ending e.0 e.1 e.2 fs ss) c.in-Some-pop.ensures.items c.in-Some.ensures.items e.3) in
     ending_of e.0 e.1 popped.0 c.in-Some-pop.feed c.in-Some.server popped.3
 
 pub give_back-requires : goal.give_back-requires
 give_back-requires g t c κs within =
     let e = c.requires.ending in
-    let popped = back_pop (Ends e.0 e.1) e.2 c.pop-2.new.self.items c.in-Some-pop.feed c.pop.new.self.items c.in-Some.server (subst₂ (λ (fs : List Feed) (ss : List ServerSeen). Ending e.0 e.1 e.2 fs ss) c.in-Some-pop.ensures.items c.in-Some.ensures.items e.3) in
-    (search rules, (search rules, (search rules, ((e.0, e.1, popped.1, popped.4), (search rules, search rules)))))
+    let popped = back_pop (Ends e.0 e.1) e.2 c.pop-2.new.self.items c.in-Some-pop.feed c.pop.new.self.items c.in-Some.server (subst₂ (λ (fs : List (Feed g.row.X.Denot)) (ss : List ServerSeen). Ending e.0 e.1 e.2 fs ss) c.in-Some-pop.ensures.items c.in-Some.ensures.items e.3) in
+    (search rules, (search rules, (search rules, (search rules, ((e.0, e.1, popped.1, popped.4), (search rules, search rules))))))
 
 pub returns-clause-given : goal.returns-clause-given
 returns-clause-given g t c =
     let seen : g.row.P.Denot → PostSeen = λ post. record { name = g.P.Post.name post; sent = g.P.Post.sent post; faults = g.P.Post.faults post } in
     λ capacity arrived starts ending.
-    let popped = back_pop (Ends capacity arrived) starts c.pop-2.new.self.items c.in-Some-pop.feed c.pop.new.self.items c.in-Some.server (subst₂ (λ (fs : List Feed) (ss : List ServerSeen). Ending capacity arrived starts fs ss) c.in-Some-pop.ensures.items c.in-Some.ensures.items ending) in
+    let popped = back_pop (Ends capacity arrived) starts c.pop-2.new.self.items c.in-Some-pop.feed c.pop.new.self.items c.in-Some.server (subst₂ (λ (fs : List (Feed g.row.X.Denot)) (ss : List ServerSeen). Ending capacity arrived starts fs ss) c.in-Some-pop.ensures.items c.in-Some.ensures.items ending) in
     let posts = map seen c.args.posts.now.items in let more = map seen c.give_back.new.posts.items in
     let counts = c.args.counts.now.items in let others = c.give_back.new.counts.items in
     let post = c.settle_one-post.result.0 in let count = c.settle_one-post.result.1.1 in

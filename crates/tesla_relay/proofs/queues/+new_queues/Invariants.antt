@@ -1,4 +1,4 @@
 use Rattle.tesla_relay.proofs.queues.+new_queues.Given as goal
 
 abbrev pub decreases-new_queues : goal.decreases-new_queues
-decreases-new_queues l = l.count
+decreases-new_queues g l = l.count

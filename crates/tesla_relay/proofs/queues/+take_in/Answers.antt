@@ -23,9 +23,9 @@ returns-clause-starting g t c =
     let more = c.take_in.new.feeds.items in let others = c.take_in.new.servers.items in
     let queue = c.in-Some-pop-2.queue in
     λ capacity new.
-    let split = new_last capacity c.pop-3.new.self.items queue (subst (λ (qs : List Queue). AreNew capacity qs) c.in-Some-pop-2.ensures.items new) in
+    let split = new_last capacity c.pop-3.new.self.items queue (subst (λ (qs : List (Queue g.row.X.Denot)). AreNew capacity qs) c.in-Some-pop-2.ensures.items new) in
     let rest : Adds (Starting capacity) (map seen c.pop.new.self.items) (feeds ++ queue.feed ∷ []) more (servers ++ c.new.result ∷ []) others =
-    subst (λ (fs : List Feed). Adds (Starting capacity) (map seen c.pop.new.self.items) fs more (servers ++ c.new.result ∷ []) others) c.push_reserved.ensures.items
+    subst (λ (fs : List (Feed g.row.X.Denot)). Adds (Starting capacity) (map seen c.pop.new.self.items) fs more (servers ++ c.new.result ∷ []) others) c.push_reserved.ensures.items
     (subst (λ (ss : List ServerSeen). Adds (Starting capacity) (map seen c.pop.new.self.items) c.push_reserved.new.self.items more ss others) c.push_reserved-2.ensures.items (c.take_in.ensures.starting capacity split.0)) in
     let starts : Starts capacity (seen c.in-Some.post) queue.feed c.new.result = starts_new capacity queue (seen c.in-Some.post) c.new.result split.1 c.new.ensures.post c.new.ensures.pass.0 c.new.ensures.pass.1 c.new.ensures.counts.0 c.new.ensures.counts.1 in
     let all : map seen c.args.posts.now.items ≡ map seen c.pop.new.self.items ++ seen c.in-Some.post ∷ [] = (ap (λ ps. map seen ps) c.in-Some.ensures.items) ∙ map-append seen c.pop.new.self.items (c.in-Some.post ∷ []) in

@@ -1,14 +1,15 @@
 use Rattle.std.proofs.Common.{rules, ◌≡◌, ◌∙◌, List, map, ap, sym, subst, subst₂, length, arith}
+use Rattle.std.specs.List.{AllByRecursion, Contains}
 use Rattle.std.proofs.lemmas.List.{length-map, map-id}
 use Rattle.tesla_desk.specs.Links.{datagrams}
 use Rattle.tesla_relay.specs.Posts.{PostSeen}
 use Rattle.tesla_relay.specs.Feeding.{ServerSeen}
-use Rattle.tesla_relay.specs.Lists.{AreFeeding, AreServing, Each, FeedsAll, ServesAll}
+use Rattle.tesla_relay.specs.Lists.{AreFeeding, AreServing, Each, FeedsAll, HaveCome, ServesAll}
 use Rattle.tesla_relay.specs.Queues.{Ending, Starting}
 use Rattle.tesla_relay.specs.Relay.{RelaysPosts}
 use Rattle.tesla_relay.specs.declared.feed.Feed.{Feed}
 use Rattle.tesla_relay.specs.declared.relayed.PostCount.{PostCount}
-use Rattle.tesla_relay.proofs.Queued.{adds_all, all_written, each_length, gives_all, starting_ending, starting_feeding, starting_length, starting_serving}
+use Rattle.tesla_relay.proofs.Queued.{adds_all, all_written, among_all, each_length, gives_all, starting_ending, starting_come, starting_feeding, starting_length, starting_serving}
 use Rattle.tesla_relay.proofs.relaying.relay_in.Goals as goal
 
 pub run_all-end-requires-clause-some : goal.run_all-end-requires-clause-some
@@ -27,7 +28,7 @@ run_all-end-requires-clause-feeding g c κs within =
     let posts = map seen c.args.posts.now.items in let feeds = c.take_in.new.feeds.items in let servers = c.take_in.new.servers.items in
     let capacity = c.requires.new.0 in
     let starting : Starting capacity posts feeds servers = adds_all (Starting capacity) posts c.args.rooms.feeds.items feeds c.args.rooms.servers.items servers c.requires.rooms.0 c.requires.rooms.1 (c.take_in.ensures.starting capacity c.requires.new.1) in
-    subst AreFeeding (sym c.as_mut_slice.ensures.value) (starting_feeding capacity posts feeds servers starting)
+    (subst AreFeeding (sym c.as_mut_slice.ensures.value) (starting_feeding capacity posts feeds servers starting), subst (HaveCome 0) (sym c.as_mut_slice.ensures.value) (starting_come capacity posts feeds servers starting))
 
 pub run_all-end-requires-clause-serving : goal.run_all-end-requires-clause-serving
 run_all-end-requires-clause-serving g c κs within =
@@ -35,7 +36,9 @@ run_all-end-requires-clause-serving g c κs within =
     let posts = map seen c.args.posts.now.items in let feeds = c.take_in.new.feeds.items in let servers = c.take_in.new.servers.items in
     let capacity = c.requires.new.0 in
     let starting : Starting capacity posts feeds servers = adds_all (Starting capacity) posts c.args.rooms.feeds.items feeds c.args.rooms.servers.items servers c.requires.rooms.0 c.requires.rooms.1 (c.take_in.ensures.starting capacity c.requires.new.1) in
-    subst AreServing (sym (map-id c.as_mut_slice-2.result.now ∙ c.as_mut_slice-2.ensures.value)) (starting_serving capacity posts feeds servers starting)
+    let basis = g.X.Based.basis in
+    let among : AllByRecursion (Contains basis.posts) posts = subst (λ (all : List PostSeen). AllByRecursion (Contains all) posts) (sym c.requires.posts) (among_all posts) in
+    subst (AreServing basis) (sym (map-id c.as_mut_slice-2.result.now ∙ c.as_mut_slice-2.ensures.value)) (starting_serving basis capacity posts feeds servers among starting)
 
 pub give_back-requires-clause-ending : goal.give_back-requires-clause-ending
 give_back-requires-clause-ending g c =
@@ -44,13 +47,13 @@ give_back-requires-clause-ending g c =
     let capacity = c.requires.new.0 in let new = c.requires.new.1 in
     let starting : Starting capacity posts feeds servers = adds_all (Starting capacity) posts c.args.rooms.feeds.items feeds c.args.rooms.servers.items servers c.requires.rooms.0 c.requires.rooms.1 (c.take_in.ensures.starting capacity new) in
     let hears = c.run_all-end.ensures.hears.hears in let arrived = datagrams hears.taken in
-    let fed : Each (FeedsAll arrived) feeds c.run_all-end.new.feeds = subst (λ (l : List Feed). Each (FeedsAll arrived) l c.run_all-end.new.feeds) c.as_mut_slice.ensures.value hears.feeds in
+    let fed : Each (FeedsAll arrived) feeds c.run_all-end.new.feeds = subst (λ (l : List (Feed g.row.X.Denot)). Each (FeedsAll arrived) l c.run_all-end.new.feeds) c.as_mut_slice.ensures.value hears.feeds in
     let served : Each ServesAll servers c.run_all-end.new.servers =
     subst₂ (λ (a b : List ServerSeen). Each ServesAll a b) (map-id c.as_mut_slice-2.result.now ∙ c.as_mut_slice-2.ensures.value) (map-id c.run_all-end.new.servers) c.run_all-end.ensures.serves in
     let ending : Ending capacity arrived posts c.run_all-end.new.feeds c.run_all-end.new.servers = starting_ending capacity arrived posts feeds c.run_all-end.new.feeds servers c.run_all-end.new.servers starting fed served in
     let all_fed = all_written c.take_in.new.feeds.len c.run_all-end.new.feeds feeds (omega (arith, c.run_all-end.auto.feeds, c.as_mut_slice.ensures.len)) in
     let all_served = all_written c.take_in.new.servers.len c.run_all-end.new.servers servers (omega (arith, c.run_all-end.auto.servers, c.as_mut_slice-2.ensures.len)) in
-    (capacity, arrived, posts, subst₂ (λ (f : List Feed) (s : List ServerSeen). Ending capacity arrived posts f s) (sym all_fed) (sym all_served) ending)
+    (capacity, arrived, posts, subst₂ (λ (f : List (Feed g.row.X.Denot)) (s : List ServerSeen). Ending capacity arrived posts f s) (sym all_fed) (sym all_served) ending)
 
 pub give_back-requires-clause-space : goal.give_back-requires-clause-space
 give_back-requires-clause-space g c =
@@ -59,7 +62,7 @@ give_back-requires-clause-space g c =
     let capacity = c.requires.new.0 in let new = c.requires.new.1 in
     let starting : Starting capacity posts feeds servers = adds_all (Starting capacity) posts c.args.rooms.feeds.items feeds c.args.rooms.servers.items servers c.requires.rooms.0 c.requires.rooms.1 (c.take_in.ensures.starting capacity new) in
     let hears = c.run_all-end.ensures.hears.hears in let arrived = datagrams hears.taken in
-    let fed : Each (FeedsAll arrived) feeds c.run_all-end.new.feeds = subst (λ (l : List Feed). Each (FeedsAll arrived) l c.run_all-end.new.feeds) c.as_mut_slice.ensures.value hears.feeds in
+    let fed : Each (FeedsAll arrived) feeds c.run_all-end.new.feeds = subst (λ (l : List (Feed g.row.X.Denot)). Each (FeedsAll arrived) l c.run_all-end.new.feeds) c.as_mut_slice.ensures.value hears.feeds in
     let served : Each ServesAll servers c.run_all-end.new.servers =
     subst₂ (λ (a b : List ServerSeen). Each ServesAll a b) (map-id c.as_mut_slice-2.result.now ∙ c.as_mut_slice-2.ensures.value) (map-id c.run_all-end.new.servers) c.run_all-end.ensures.serves in
     let ending : Ending capacity arrived posts c.run_all-end.new.feeds c.run_all-end.new.servers = starting_ending capacity arrived posts feeds c.run_all-end.new.feeds servers c.run_all-end.new.servers starting fed served in
@@ -78,7 +81,7 @@ give_back-requires-clause-room g c =
     let capacity = c.requires.new.0 in let new = c.requires.new.1 in
     let starting : Starting capacity posts feeds servers = adds_all (Starting capacity) posts c.args.rooms.feeds.items feeds c.args.rooms.servers.items servers c.requires.rooms.0 c.requires.rooms.1 (c.take_in.ensures.starting capacity new) in
     let hears = c.run_all-end.ensures.hears.hears in let arrived = datagrams hears.taken in
-    let fed : Each (FeedsAll arrived) feeds c.run_all-end.new.feeds = subst (λ (l : List Feed). Each (FeedsAll arrived) l c.run_all-end.new.feeds) c.as_mut_slice.ensures.value hears.feeds in
+    let fed : Each (FeedsAll arrived) feeds c.run_all-end.new.feeds = subst (λ (l : List (Feed g.row.X.Denot)). Each (FeedsAll arrived) l c.run_all-end.new.feeds) c.as_mut_slice.ensures.value hears.feeds in
     let served : Each ServesAll servers c.run_all-end.new.servers =
     subst₂ (λ (a b : List ServerSeen). Each ServesAll a b) (map-id c.as_mut_slice-2.result.now ∙ c.as_mut_slice-2.ensures.value) (map-id c.run_all-end.new.servers) c.run_all-end.ensures.serves in
     let ending : Ending capacity arrived posts c.run_all-end.new.feeds c.run_all-end.new.servers = starting_ending capacity arrived posts feeds c.run_all-end.new.feeds servers c.run_all-end.new.servers starting fed served in
@@ -98,13 +101,13 @@ returns-clause-relays g c =
     λ capacity new.
     let starting : Starting capacity posts feeds servers = adds_all (Starting capacity) posts c.args.rooms.feeds.items feeds c.args.rooms.servers.items servers c.requires.rooms.0 c.requires.rooms.1 (c.take_in.ensures.starting capacity new) in
     let hears = c.run_all-end.ensures.hears.hears in let arrived = datagrams hears.taken in
-    let fed : Each (FeedsAll arrived) feeds c.run_all-end.new.feeds = subst (λ (l : List Feed). Each (FeedsAll arrived) l c.run_all-end.new.feeds) c.as_mut_slice.ensures.value hears.feeds in
+    let fed : Each (FeedsAll arrived) feeds c.run_all-end.new.feeds = subst (λ (l : List (Feed g.row.X.Denot)). Each (FeedsAll arrived) l c.run_all-end.new.feeds) c.as_mut_slice.ensures.value hears.feeds in
     let served : Each ServesAll servers c.run_all-end.new.servers =
     subst₂ (λ (a b : List ServerSeen). Each ServesAll a b) (map-id c.as_mut_slice-2.result.now ∙ c.as_mut_slice-2.ensures.value) (map-id c.run_all-end.new.servers) c.run_all-end.ensures.serves in
     let ending : Ending capacity arrived posts c.run_all-end.new.feeds c.run_all-end.new.servers = starting_ending capacity arrived posts feeds c.run_all-end.new.feeds servers c.run_all-end.new.servers starting fed served in
     let all_fed = all_written c.take_in.new.feeds.len c.run_all-end.new.feeds feeds (omega (arith, c.run_all-end.auto.feeds, c.as_mut_slice.ensures.len)) in
     let all_served = all_written c.take_in.new.servers.len c.run_all-end.new.servers servers (omega (arith, c.run_all-end.auto.servers, c.as_mut_slice-2.ensures.len)) in
-    let gives = c.give_back.ensures.given capacity arrived posts (subst₂ (λ (f : List Feed) (s : List ServerSeen). Ending capacity arrived posts f s) (sym all_fed) (sym all_served) ending) in
+    let gives = c.give_back.ensures.given capacity arrived posts (subst₂ (λ (f : List (Feed g.row.X.Denot)) (s : List ServerSeen). Ending capacity arrived posts f s) (sym all_fed) (sym all_served) ending) in
     let relays : RelaysPosts capacity arrived posts (map seen c.give_back.new.posts.items) c.give_back.new.counts.items =
     gives_all (RelaysPosts capacity arrived) posts _ (map seen c.give_back.new.posts.items) c.new-counts.result.items c.give_back.new.counts.items (ap (λ ps. map seen ps) c.take_in.ensures.empty.0) (search rules) gives in
     record {

@@ -1,7 +1,13 @@
 use Rattle.std.proofs.Common.{None, refl}
 use Rattle.tesla_run_receive.specs.Arguments.{arguments_of, workers_wanted}
+use Rattle.tesla_run_receive.proofs.Allowed.{releases_all}
 use Rattle.tesla_run_receive.proofs.Performed.{lives_none, lives_run, performs_receive, runs_as}
 use Rattle.tesla_run_receive.proofs.receive.perform.Goals as goal
+
+pub run_station-requires-clause-released : goal.run_station-requires-clause-released
+run_station-requires-clause-released g c κs within =
+    let (setup, found, config) = c.in-Ok.ensures.found in
+    releases_all g.D.Pieces.Output.name g.D.Pieces.Output.written g.D.Pieces.Output.may_write g.D.Time.Clock.read_for (arguments_of c.args.arguments.now) (g.D.Environment.told c.args.desk.now) setup c.in-Ok.receiver.config found config c.requires.released
 
 pub returns-in-Ok : goal.returns-in-Ok
 returns-in-Ok g c =

@@ -3,8 +3,8 @@ use Rattle.tesla_run_receive.proofs.receive.receiver_under.Goals as goal
 
 pub returns-in-Err-clause-causes : goal.returns-in-Err-clause-causes
 returns-in-Err-clause-causes g c =
-    let old = (g.D.Desk.told c.args.desk.now).faults in
-    let new = (g.D.Desk.told c.setup_under.new.desk).faults in
+    let old = (g.D.Environment.told c.args.desk.now).faults in
+    let new = (g.D.Environment.told c.setup_under.new.desk).faults in
     let causes = c.in-Err.ensures.causes in record {
       reads = cause_as old.reads new.reads causes.reads (λ e. cc) (λ e. cc);
       writes = cause_as old.writes new.writes causes.writes (λ e. cc) (λ e. cc);

@@ -6,11 +6,14 @@ use Rattle.tesla_run_relay.proofs.run.run_relay.Goals as goal
 
 pub returns-in-Some : goal.returns-in-Some
 returns-in-Some g c =
-    let old = g.D.Desk.told c.args.desk.now in
-    let new = g.D.Desk.told c.perform.new.desk in
+    let old = g.D.Environment.told c.args.desk.now in
+    let new = g.D.Environment.told c.perform.new.desk in
     runs_form (relay old.live new.live) arguments_of (map string_bytes c.args.words.now) c.arguments_in.result c.in-Some.arguments old new _ c.in-Some.is c.arguments_in.ensures.only c.in-Some.ensures.found c.perform.ensures
 
 pub returns-in-None : goal.returns-in-None
 returns-in-None g c =
-    let old = g.D.Desk.told c.args.desk.now in
+    let old = g.D.Environment.told c.args.desk.now in
     runs_usage (relay old.live old.live) arguments_of (map string_bytes c.args.words.now) c.arguments_in.result old c.in-None.is c.arguments_in.ensures.only
+
+pub perform-requires-clause-due : goal.perform-requires-clause-due
+perform-requires-clause-due g c κs within = λ post datagram due. c.requires.due post datagram (record { arguments = arguments_of c.in-Some.arguments; form = c.in-Some.ensures.found; next = due })

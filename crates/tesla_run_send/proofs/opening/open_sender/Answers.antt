@@ -8,11 +8,11 @@ use Rattle.tesla_run_send.proofs.opening.open_sender.Goals as goal
 pub returns-in_err-setup-clause-refused : goal.returns-in_err-setup-clause-refused
 returns-in_err-setup-clause-refused g c =
     let p = err_from_is_err_and c.from_residual.result c.from_residual.ensures.1 in
-    rw (p.1, p.2) (unset c.args.setup.now c.args.secret.now (g.D.Desk.told c.args.desk.now) c.in_err-setup.field-0.0 _ c.setup_under.ensures.opens c.setup_under.ensures.live c.in_err-setup.ensures.refused c.in_err-setup.ensures.causes)
+    rw (p.1, p.2) (unset c.args.setup.now c.args.secret.now (g.D.Environment.told c.args.desk.now) c.in_err-setup.field-0.0 _ c.setup_under.ensures.opens c.setup_under.ensures.live c.in_err-setup.ensures.refused c.in_err-setup.ensures.causes)
 
 pub returns-in_err-seeds-clause-refused : goal.returns-in_err-seeds-clause-refused
 returns-in_err-seeds-clause-refused g c =
-    let told = g.D.Desk.told in
+    let told = g.D.Environment.told in
     let secret = c.args.secret.now in
     let set = c.in_ok-setup.ensures in
     let p = err_from_is_err_and c.from_residual-in_err-seeds.result c.from_residual-in_err-seeds.ensures.1 in
@@ -21,7 +21,7 @@ returns-in_err-seeds-clause-refused g c =
 
 pub returns-clause-opened : goal.returns-clause-opened
 returns-clause-opened g c =
-    let told = g.D.Desk.told in
+    let told = g.D.Environment.told in
     let secret = c.args.secret.now in
     let set = c.in_ok-setup.ensures in
     let seeded = c.in_ok-seeds.ensures in
@@ -31,7 +31,7 @@ returns-clause-opened g c =
 
 pub returns-clause-refused : goal.returns-clause-refused
 returns-clause-refused g c =
-    let told = g.D.Desk.told in
+    let told = g.D.Environment.told in
     let secret = c.args.secret.now in
     let set = c.in_ok-setup.ensures in
     let seeded = c.in_ok-seeds.ensures in

@@ -6,8 +6,8 @@ use Rattle.tesla_run_weave.proofs.run.perform.Goals as goal
 pub returns-in_err-setup-clause-performs : goal.returns-in_err-setup-clause-performs
 returns-in_err-setup-clause-performs g c =
     let p = err_from_is_err_and c.from_residual.result c.from_residual.ensures.1 in
-    rw (p.1, p.2) (performs_unset (arguments_of c.args.arguments.now) (g.D.Desk.told c.args.desk.now) _ c.in_err-setup.field-0.0 c.requires.files c.setup_under.ensures.opens c.in_err-setup.ensures.refused c.in_err-setup.ensures.causes)
+    rw (p.1, p.2) (performs_unset (arguments_of c.args.arguments.now) (g.D.Environment.told c.args.desk.now) _ c.in_err-setup.field-0.0 c.requires.files c.setup_under.ensures.opens c.in_err-setup.ensures.refused c.in_err-setup.ensures.causes)
 
 pub returns-clause-performs : goal.returns-clause-performs
 returns-clause-performs g c =
-    performs_under (arguments_of c.args.arguments.now) c.in_ok-setup.setup (g.D.Desk.told c.args.desk.now) _ _ _ c.requires.files c.in_ok-setup.ensures.opened c.in_ok-setup.ensures.pages c.in_ok-setup.ensures.causes c.in_ok-setup.ensures.found c.weave_under.ensures.weaves
+    performs_under (arguments_of c.args.arguments.now) c.in_ok-setup.setup (g.D.Environment.told c.args.desk.now) _ _ _ c.requires.files c.in_ok-setup.ensures.opened c.in_ok-setup.ensures.pages c.in_ok-setup.ensures.causes c.in_ok-setup.ensures.found c.weave_under.ensures.weaves

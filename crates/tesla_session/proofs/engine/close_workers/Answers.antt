@@ -9,11 +9,11 @@ close_each-requires-clause-others g c κs within =
 
 pub close_each-requires-2-clause-own : goal.close_each-requires-2-clause-own
 close_each-requires-2-clause-own g c κs within =
-    (closes_same (map SeenSink c.args.session.sinks.items) (g.D.Desk.told c.args.desk.now) (g.D.Desk.told c.close_each.new.desk) c.args.session.first c.close_each.new.first c.close_each.ensures.closes).turn ∙ c.requires.own
+    (closes_same (map SeenSink c.args.session.sinks.items) (g.D.Environment.told c.args.desk.now) (g.D.Environment.told c.close_each.new.desk) c.args.session.first c.close_each.new.first c.close_each.ensures.closes).turn ∙ c.requires.own
 
 pub close_each-requires-2-clause-first : goal.close_each-requires-2-clause-first
 close_each-requires-2-clause-first g c κs within =
-    (closes_same (map SeenSink c.args.session.sinks.items) (g.D.Desk.told c.args.desk.now) (g.D.Desk.told c.close_each.new.desk) c.args.session.first c.close_each.new.first c.close_each.ensures.closes).number ∙ c.requires.first
+    (closes_same (map SeenSink c.args.session.sinks.items) (g.D.Environment.told c.args.desk.now) (g.D.Environment.told c.close_each.new.desk) c.args.session.first c.close_each.new.first c.close_each.ensures.closes).number ∙ c.requires.first
 
 pub close_each-requires-2-clause-others : goal.close_each-requires-2-clause-others
 close_each-requires-2-clause-others g c κs within =
@@ -21,5 +21,5 @@ close_each-requires-2-clause-others g c κs within =
 
 pub returns-clause-closes : goal.returns-clause-closes
 returns-clause-closes g c =
-    closes_both (map SeenLink c.args.session.links.items) (map SeenSink c.args.session.sinks.items) (g.D.Desk.told c.args.desk.now) (g.D.Desk.told c.close_each.new.desk) (g.D.Desk.told c.close_each-2.new.desk)
+    closes_both (map SeenLink c.args.session.links.items) (map SeenSink c.args.session.sinks.items) (g.D.Environment.told c.args.desk.now) (g.D.Environment.told c.close_each.new.desk) (g.D.Environment.told c.close_each-2.new.desk)
     c.args.session.first c.close_each.new.first c.close_each-2.new.first c.close_each.ensures.closes c.close_each-2.ensures.closes

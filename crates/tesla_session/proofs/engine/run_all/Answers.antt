@@ -1,6 +1,6 @@
 use Rattle.std.proofs.Common.{◌++◌, length, map, take, drop, sym, subst}
-use Rattle.tesla_session.specs.Session.{SeenLink, SeenSink, AreOf, HaveCalls, RunWorkers, workers_of}
-use Rattle.tesla_session.proofs.Sessions.{left_prefix, of_back, of_prefix, runs_both, written_back}
+use Rattle.tesla_session.specs.Session.{SeenLink, SeenSink, AreOf, AreReady, RunWorkers, workers_of}
+use Rattle.tesla_session.proofs.Sessions.{ready_back, ready_prefix, of_back, of_prefix, runs_both, written_back}
 use Rattle.tesla_session.proofs.engine.run_all.Goals as goal
 
 pub run_workers-requires-clause-links : goal.run_workers-requires-clause-links
@@ -8,10 +8,15 @@ run_workers-requires-clause-links g c κs within =
     let session = c.args.session.now in
     subst (λ links. AreOf session.turn (map SeenLink links)) (sym c.as_mut_slice.ensures.value) (of_prefix session.turn (map SeenLink session.links.items) (map SeenSink session.sinks.items) c.requires.own)
 
-pub run_workers-requires-clause-left : goal.run_workers-requires-clause-left
-run_workers-requires-clause-left g c κs within =
+pub run_workers-requires-clause-ready_links : goal.run_workers-requires-clause-ready_links
+run_workers-requires-clause-ready_links g c κs within =
     let session = c.args.session.now in
-    subst (λ links. HaveCalls (map SeenLink links)) (sym c.as_mut_slice.ensures.value) (left_prefix (map SeenLink session.links.items) (map SeenSink session.sinks.items) c.requires.left)
+    subst (λ links. AreReady (map SeenLink links)) (sym c.as_mut_slice.ensures.value) (ready_prefix (map SeenLink session.links.items) (map SeenSink session.sinks.items) c.requires.ready)
+
+pub run_workers-requires-clause-ready_sinks : goal.run_workers-requires-clause-ready_sinks
+run_workers-requires-clause-ready_sinks g c κs within =
+    let session = c.args.session.now in
+    subst (λ sinks. AreReady (map SeenSink sinks)) (sym c.as_mut_slice-2.ensures.value) (ready_back (map SeenLink session.links.items) (map SeenSink session.sinks.items) c.requires.ready)
 
 pub run_workers-requires-clause-sinks : goal.run_workers-requires-clause-sinks
 run_workers-requires-clause-sinks g c κs within =

@@ -1,7 +1,8 @@
-use Rattle.std.proofs.Common.{sym, subst, ap, ◌∙◌}
+use Rattle.std.proofs.Common.{Some, sym, subst, ap, ◌∙◌}
 use Rattle.tesla_turn.specs.Held.{TurnId}
+use Rattle.tesla_turn.specs.History.{HasCalls}
 use Rattle.tesla_session.specs.Session.{AreOf, ClosesWorkers, workers_of}
-use Rattle.tesla_session.proofs.Sessions.{closes_same, opened_left, opened_of, opened_same, runs_of}
+use Rattle.tesla_session.proofs.Sessions.{closes_same, opened_of, opened_ready, opened_same, runs_of}
 use Rattle.tesla_session.proofs.engine.run_opened.Goals as goal
 
 pub run_all-stop-requires-clause-own : goal.run_all-stop-requires-clause-own
@@ -10,11 +11,11 @@ run_all-stop-requires-clause-own g c κs within =
     let (wanted, cfg, before, now, opens) = c.requires in
     opened_of wanted cfg before now session.turn session.first (workers_of session.links.items session.sinks.items) opens
 
-pub run_all-stop-requires-clause-left : goal.run_all-stop-requires-clause-left
-run_all-stop-requires-clause-left g c κs within =
+pub run_all-stop-requires-clause-ready : goal.run_all-stop-requires-clause-ready
+run_all-stop-requires-clause-ready g c κs within =
     let session = c.args.session in
     let (wanted, cfg, before, now, opens) = c.requires in
-    opened_left wanted cfg before now session.turn session.first (workers_of session.links.items session.sinks.items) opens
+    opened_ready wanted cfg before now session.turn session.first (workers_of session.links.items session.sinks.items) opens
 
 pub close_workers-turn-requires-clause-own : goal.close_workers-turn-requires-clause-own
 close_workers-turn-requires-clause-own g c κs within =
@@ -42,7 +43,7 @@ close-station-requires-clause-own g c =
     let old = c.args.session in
     let done = c.run_all-stop.new.session in
     let (wanted, cfg, before, now, opens) = c.requires in
-    (closes_same (workers_of done.links.items done.sinks.items) (g.D.Desk.told c.args.desk.now) (g.D.Desk.told c.close_workers-turn.new.desk) done.first c.close_workers-turn.result.1 c.close_workers-turn.ensures.closes).turn
+    (closes_same (workers_of done.links.items done.sinks.items) (g.D.Environment.told c.args.desk.now) (g.D.Environment.told c.close_workers-turn.new.desk) done.first c.close_workers-turn.result.1 c.close_workers-turn.ensures.closes).turn
     ∙ ap (λ p. p.turn) c.run_all-stop.ensures.same.1 ∙ (opened_same wanted cfg before now old.turn old.first (workers_of old.links.items old.sinks.items) opens).turn ∙ sym c.run_all-stop.ensures.same.0 ∙ sym c.close_workers-turn.ensures.turn
 
 pub close-station-requires-clause-first : goal.close-station-requires-clause-first
@@ -50,7 +51,7 @@ close-station-requires-clause-first g c =
     let old = c.args.session in
     let done = c.run_all-stop.new.session in
     let (wanted, cfg, before, now, opens) = c.requires in
-    (closes_same (workers_of done.links.items done.sinks.items) (g.D.Desk.told c.args.desk.now) (g.D.Desk.told c.close_workers-turn.new.desk) done.first c.close_workers-turn.result.1 c.close_workers-turn.ensures.closes).number
+    (closes_same (workers_of done.links.items done.sinks.items) (g.D.Environment.told c.args.desk.now) (g.D.Environment.told c.close_workers-turn.new.desk) done.first c.close_workers-turn.result.1 c.close_workers-turn.ensures.closes).number
     ∙ ap (λ p. p.number) c.run_all-stop.ensures.same.1 ∙ (opened_same wanted cfg before now old.turn old.first (workers_of old.links.items old.sinks.items) opens).number
 
 pub returns-clause-runs : goal.returns-clause-runs
@@ -58,14 +59,14 @@ returns-clause-runs g c =
     let done = c.run_all-stop.new.session in
     let workers = workers_of done.links.items done.sinks.items in
     let later = c.close_workers-turn.result.1 in
-    let old = g.D.Desk.told c.args.desk.now in
-    let new = g.D.Desk.told c.close_workers-turn.new.desk in record {
+    let old = g.D.Environment.told c.args.desk.now in
+    let new = g.D.Environment.told c.close_workers-turn.new.desk in record {
       later = later;
       done = workers;
       runs = c.run_all-stop.ensures.runs;
       closes = subst (λ p. ClosesWorkers workers old new p later) c.run_all-stop.ensures.same.1 c.close_workers-turn.ensures.closes;
-      passes = c.close-station.ensures.passes;
-      calls = c.close-station.ensures.calls;
+      passes = ap (λ last. last.passes) c.of_value.ensures ∙ c.close-station.ensures.passes;
+      calls = subst (λ last. HasCalls last.history last.passes) (sym c.of_value.ensures) c.close-station.ensures.calls;
       stop_is = c.run_all-stop.ensures.stop;
     }
 
@@ -73,5 +74,6 @@ pub returns-clause-config : goal.returns-clause-config
 returns-clause-config g c =
     let done = c.run_all-stop.new.session in
     sym (ap (λ p. p.config) c.run_all-stop.ensures.same.1)
-    ∙ sym (closes_same (workers_of done.links.items done.sinks.items) (g.D.Desk.told c.args.desk.now) (g.D.Desk.told c.close_workers-turn.new.desk) done.first c.close_workers-turn.result.1 c.close_workers-turn.ensures.closes).config
+    ∙ sym (closes_same (workers_of done.links.items done.sinks.items) (g.D.Environment.told c.args.desk.now) (g.D.Environment.told c.close_workers-turn.new.desk) done.first c.close_workers-turn.result.1 c.close_workers-turn.ensures.closes).config
     ∙ c.close-station.ensures.value.1
+    ∙ ap (λ station. Some (g.V.Chronicle.config station)) (sym c.into_station.ensures)

@@ -13,7 +13,7 @@ close_each-requires-clause-others g t c κs within = are_of_prefix g.W.DeskWorke
 
 pub returns-clause-closes : goal.returns-clause-closes
 returns-clause-closes g t c =
-    let told = g.D.Desk.told in let first = c.args.first.now in let joined = c.join.new.into in
+    let told = g.D.Environment.told in let first = c.args.first.now in let joined = c.join.new.into in
     let joins = subst (λ pass. joined ≡ join_pass first pass) c.close-pass.ensures.pass c.join.ensures in
     rw c.in-Some.ensures.items
     (closes_seen g.W.DeskWorker.seen c.pop.new.self.items c.in-Some.worker (told c.args.desk.now) (told c.close-pass.new.desk) (told c.close_each.new.desk) first joined c.close_each.new.first c.close-pass.ensures.closes joins c.close_each.ensures.closes)

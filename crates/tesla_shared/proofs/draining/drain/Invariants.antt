@@ -1,5 +1,4 @@
-use Rattle.std.proofs.Common.{◌≡◌, []}
-use Rattle.tesla_capture.specs.Gathering.{gathered}
+use Rattle.std.proofs.Common.{◌≡◌}
 use Rattle.tesla_turn.specs.Held.{OnlyCalls}
 use Rattle.tesla_shared.specs.declared.draining.SinkEnd.TheVariants as ends
 use Rattle.tesla_shared.specs.Workers.{Drains}
@@ -8,9 +7,8 @@ use Rattle.tesla_shared.proofs.draining.drain.Given as goal
 abbrev pub invariant-loop : goal.invariant-loop
 invariant-loop g l = record {
   releaser : l.act.releaser ≡ l.number;
-  empty : gathered l.gatherer ≡ [];
   calls : OnlyCalls l.initial.pass l.pass;
-  drains : Drains l.number ends.Spent l.initial.pass.made l.pass.made (g.S.Sink.written l.initial.sink) (g.S.Sink.written l.sink);
-  faults : g.S.Sink.faults l.sink ≡ g.S.Sink.faults l.initial.sink;
-  name : g.S.Sink.name l.sink ≡ g.S.Sink.name l.initial.sink;
+  drains : Drains l.number ends.Spent l.initial.pass.made l.pass.made (g.S.Output.written l.initial.sink) (g.S.Output.written l.sink);
+  faults : g.S.Output.faults l.sink ≡ g.S.Output.faults l.initial.sink;
+  name : g.S.Output.name l.sink ≡ g.S.Output.name l.initial.sink;
 }

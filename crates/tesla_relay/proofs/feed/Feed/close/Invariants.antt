@@ -7,7 +7,7 @@ abbrev pub invariant-loop : goal.invariant-loop
 invariant-loop g l = record {
   line : l.self.line ≡ l.initial.self.line;
   capacity : l.self.capacity ≡ l.initial.self.capacity;
-  taken : l.self.taken ≡ l.initial.self.taken;
+  came : l.self.came ≡ l.initial.self.came;
   dropped : l.self.dropped ≡ l.initial.self.dropped;
   pass : IsSamePass l.initial.self.pass l.self.pass;
   known : view l.self.pass ≡ view l.initial.self.pass;

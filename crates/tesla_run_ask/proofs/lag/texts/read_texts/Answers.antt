@@ -24,4 +24,4 @@ returns-clause-opens g c =
 pub returns-in_err-reply-clause-causes : goal.returns-in_err-reply-clause-causes
 returns-in_err-reply-clause-causes g c =
     let p = err_from_is_err_and c.from_residual-in_err-reply.result c.from_residual-in_err-reply.ensures.1 in
-    rw (p.1, p.2) (causes_then_fault c.in_ok-ask.ask c.in_err-reply.field-0.0 (g.D.Desk.told c.args.desk.now).faults _ _ c.in_ok-ask.ensures.causes c.in_err-reply.ensures.causes)
+    rw (p.1, p.2) (causes_then_fault c.in_ok-ask.ask c.in_err-reply.field-0.0 (g.D.Environment.told c.args.desk.now).faults _ _ c.in_ok-ask.ensures.causes c.in_err-reply.ensures.causes)

@@ -20,4 +20,4 @@ returns-clause-opens g c = some_then (OfSource c.args.reply.now) (OfSource c.arg
 pub returns-in_err-key-clause-causes : goal.returns-in_err-key-clause-causes
 returns-in_err-key-clause-causes g c =
     let p = err_from_is_err_and c.from_residual-in_err-key.result c.from_residual-in_err-key.ensures.1 in
-    rw (p.1, p.2) (causes_then_fault c.in_ok-reply.reply c.in_err-key.field-0.0 (g.D.Desk.told c.args.desk.now).faults _ _ c.in_ok-reply.ensures.causes c.in_err-key.ensures.causes)
+    rw (p.1, p.2) (causes_then_fault c.in_ok-reply.reply c.in_err-key.field-0.0 (g.D.Environment.told c.args.desk.now).faults _ _ c.in_ok-reply.ensures.causes c.in_err-key.ensures.causes)

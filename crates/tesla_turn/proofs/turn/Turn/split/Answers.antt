@@ -7,7 +7,7 @@ use Rattle.tesla_turn.proofs.turn.Turn.split.Goals as goal
 
 pub split_seat-seat-requires : goal.split_seat-seat-requires
 split_seat-seat-requires g c = let p = c.pass.invariant in let some_room : c.pass.inside.room ≢ 0 = c.if-pass-eq0.false in
-    (search rules, search rules, splits g.V.Chronicle.config g.V.Chronicle.stands _ _ _ _ p.live.0 p.live.1 (first_number _ _ _ _ _ p some_room).0 p.idle.0 (room_tickets _ _ _ _ _ p some_room))
+    (search rules, search rules, splits g.V.Chronicle.config g.V.Chronicle.stands g.V.Permitting.permits _ _ _ _ p.live.0 p.live.1 (first_number _ _ _ _ _ p some_room).0 p.idle.0 (room_tickets _ _ _ _ _ p some_room))
 
 pub invariant_of-result : goal.invariant_of-result
 invariant_of-result g c = let some_room : c.pass.inside.room ≢ 0 = c.if-pass-eq0.false in let p = c.pass.inside in

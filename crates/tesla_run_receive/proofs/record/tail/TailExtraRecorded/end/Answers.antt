@@ -7,17 +7,17 @@ use Rattle.tesla_run_receive.proofs.record.tail.TailExtraRecorded.end.Goals as g
 
 pub returns : goal.returns
 returns g c extra h begun stands =
-    let fresh = g.D.Out.Sink.written c.args.begun.it in
+    let fresh = g.D.Pieces.Output.written c.args.begun.it in
     let sink = c.write_tail-written.new.sink in
-    let written = g.D.Out.Sink.written sink in
-    let count = g.D.Out.Sink.faults sink in
+    let written = g.D.Pieces.Output.written sink in
+    let count = g.D.Pieces.Output.faults sink in
     let made = c.write_tail-written.ensures in
-    let cause = subst (λ (n : ℕ). HasCause n count (c.write_tail-written.result ≡ false)) begun.2 made.cause in
+    let cause = subst (λ (n : ℕ). HasCause n count (c.write_tail-written.result ≡ false)) begun.0.2 made.cause in
     let keep = c.args.station.keep in
     record {
       written = written;
       faults = count;
-      holds = subst (λ (n : ℕ). HoldsTail n h (page_of written count)) begun.0 (holds_tail keep h fresh written count c.write_tail-written.result begun.1 (made.all h stands) (made.prefix h stands) cause);
+      holds = subst (λ (n : ℕ). HoldsTail n h (page_of written count)) begun.0.0 (holds_tail keep h fresh written count c.write_tail-written.result begun.0.1 (made.all h stands) (made.prefix h stands) cause);
       cause = fails_unwritten count c.write_tail-written.result cause;
-      closes = subst (λ (name : List ℕ). ClosesSink name written count (g.D.Desk.told c.args.desk.now) (g.D.Desk.told c.close_sink.new.self)) (made.name ∙ begun.3) c.close_sink.ensures.desk;
+      closes = subst (λ (name : List ℕ). ClosesSink name written count (g.D.Environment.told c.args.desk.now) (g.D.Environment.told c.close_output.new.self)) (made.name ∙ begun.0.3) c.close_output.ensures.desk;
     }

@@ -7,7 +7,7 @@ use Rattle.tesla_run_receive.proofs.watch.monitor.MonitoringExtraWatched.begin.G
 pub returns-clause-begun : goal.returns-clause-begun
 returns-clause-begun g c cfg fits =
     let made = c.in_ok-sink.ensures in
-    let fresh = g.D.Out.Sink.written c.in_ok-sink.sink in
-    let count = g.D.Out.Sink.faults c.in_ok-sink.sink in
+    let fresh = g.D.Pieces.Output.written c.in_ok-sink.sink in
+    let count = g.D.Pieces.Output.faults c.in_ok-sink.sink in
     let noted = subst (λ counts. Notes counts fresh fresh 0 count false) (sym fits.1) (subst (λ n. Notes no_counts fresh fresh 0 n false) (sym made.fresh) (notes_none fresh 0)) in
     record { before = fresh; empty = made.empty; noted = noted; name_is = made.named; counters_are = fits.0 }

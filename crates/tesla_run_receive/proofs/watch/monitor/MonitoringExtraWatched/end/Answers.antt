@@ -21,17 +21,17 @@ returns g c extra h begun stands =
     let old = monitor.status in
     let new = c.put.new.self in
     let counts = c.counts.result in
-    let written = g.D.Out.Sink.written new.sink in
-    let count = g.D.Out.Sink.faults new.sink in
+    let written = g.D.Pieces.Output.written new.sink in
+    let count = g.D.Pieces.Output.faults new.sink in
     let after = subst (λ s. WatchedStands Stands s h) (sym c.compare.ensures.same) stands in
     let counted = c.counts.ensures h after in
     let falls : NoneFalls monitor.reader.counts counts = subst (λ (cs : List ℕ). NoneFalls monitor.reader.counts cs) (stands.counted ∙ sym counted) c.compare.ensures.below in
-    let writes = writes_last h monitor.reader.counts counts c.now.result begun.before (g.D.Out.Sink.written old.sink) written (g.D.Out.Sink.faults old.sink) count old.failed new.failed (ap report_at counted ∙ report_whole h) begun.empty begun.noted falls
-    (subst (λ (text : List ℕ). Puts text (g.D.Out.Sink.written old.sink) written (g.D.Out.Sink.faults old.sink) count old.failed new.failed) {y = status_line c.now.result (report_at counts)} c.line_of.ensures c.put.ensures.puts) in
+    let writes = writes_last h monitor.reader.counts counts c.now.result begun.before (g.D.Pieces.Output.written old.sink) written (g.D.Pieces.Output.faults old.sink) count old.failed new.failed (ap report_at counted ∙ report_whole h) begun.empty begun.noted falls
+    (subst (λ (text : List ℕ). Puts text (g.D.Pieces.Output.written old.sink) written (g.D.Pieces.Output.faults old.sink) count old.failed new.failed) {y = status_line c.now.result (report_at counts)} c.line_of.ensures c.put.ensures.puts) in
     record {
       written = written;
       faults = count;
       holds = holds_status h begun.before written count new.failed writes;
       cause = subst (λ (failed : Bool). HasCause 0 count (failed ≡ true)) (not_not new.failed) writes.cause;
-      closes = subst (λ (name : List ℕ). ClosesSink name written count (g.D.Desk.told c.args.desk.now) (g.D.Desk.told c.close_sink.new.self)) (c.put.ensures.name ∙ begun.name_is) c.close_sink.ensures.desk;
+      closes = subst (λ (name : List ℕ). ClosesSink name written count (g.D.Environment.told c.args.desk.now) (g.D.Environment.told c.close_output.new.self)) (c.put.ensures.name ∙ begun.name_is) c.close_output.ensures.desk;
     }

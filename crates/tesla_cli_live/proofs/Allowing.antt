@@ -1,0 +1,33 @@
+-- An environment that permits each piece, each datagram and each asking allows what live commands need.
+use Rattle.std.proofs.Common.{◌≡◌, ℕ, Bool, true, List, Option}
+use Rattle.tesla_desk.specs.Outside.{Told}
+use Rattle.tesla_cli_live.specs.Allowed.{AllowsLive, AllowsLiveTools, AllowsRecorded}
+
+module _ {S : Type 0} (output_name : S → List ℕ) (written : S → Option (List ℕ)) (may_write : S → List ℕ → Bool)
+    {P : Type 0} (post_name : P → List ℕ) (sent : P → Option (List (List ℕ))) (may_send : P → List ℕ → Bool)
+    (brought may_ask : ℕ → List ℕ → Bool) (gave : ℕ → Bool) (read_for : ℕ → List ℕ → ℕ → Bool)
+    (writes : (it : S) (piece : List ℕ) → may_write it piece ≡ true) (sends : (post : P) (datagram : List ℕ) → may_send post datagram ≡ true)
+    (asks : (number : ℕ) (datagram : List ℕ) → may_ask number datagram ≡ true) (words : List (List ℕ)) (told : Told) where
+  pub live_allowed : AllowsLive output_name written may_write post_name sent may_send brought may_ask gave read_for words told
+  live_allowed = record {
+    asked = λ number datagram came. asks number datagram;
+    received = λ arguments is it piece due. writes it piece;
+    relayed = λ post datagram due. sends post datagram;
+    played = λ post datagram due. sends post datagram;
+  }
+
+  pub tools_allowed : AllowsLiveTools output_name written may_write post_name sent may_send brought may_ask gave read_for words told
+  tools_allowed = record {
+    asked = λ number datagram came. asks number datagram;
+    captured = λ it piece due. writes it piece;
+    fed = λ post datagram due. sends post datagram;
+    watched = λ arguments is it piece due. writes it piece;
+    status = λ arguments is it piece named. writes it piece;
+  }
+
+  pub recorded_allowed : AllowsRecorded output_name written may_write post_name sent may_send brought may_ask gave read_for words told
+  recorded_allowed = record {
+    asked = λ number datagram came. asks number datagram;
+    recorded = λ arguments is it piece due. writes it piece;
+    tail = λ arguments is it piece named. writes it piece;
+  }

@@ -1,0 +1,40 @@
+-- What live commands may ask, write and send while they run, whether or not they end, told their words and what their environment tells.
+use Rattle.std.specs.Prelude.{◌≡◌, ℕ, Bool, true, List, Option}
+use Rattle.tesla_desk.specs.Outside.{Told}
+use Rattle.tesla_run_capture.specs.Pieces as capturing
+use Rattle.tesla_run_feed.specs.Due as feeding
+use Rattle.tesla_run_relay.specs.Due as relaying
+use Rattle.tesla_run_relay.specs.play.Due as playing
+use Rattle.tesla_run_receive.specs.Allowed.{MayWriteAll, MayWriteReleased}
+use Rattle.tesla_run_receive.specs.Arguments.{IsReceive, ReceiveArguments}
+use Rattle.tesla_run_receive.specs.OutputArguments.{OutputArguments}
+use Rattle.tesla_run_receive.specs.record.Arguments.{IsRecord}
+use Rattle.tesla_run_receive.specs.watch.Arguments.{IsWatch}
+use Rattle.tesla_session.specs.Allowed.{MayAsk}
+
+-- the outputs, by name, what each tells to be written, and what it may write
+module _ {S : Type 0} (output_name : S → List ℕ) (written : S → Option (List ℕ)) (may_write : S → List ℕ → Bool)
+    -- the posts, by name, what each tells to be sent, and what it may send
+    {P : Type 0} (post_name : P → List ℕ) (sent : P → Option (List (List ℕ))) (may_send : P → List ℕ → Bool)
+    -- what links brought; what clocks may be asked for, what they gave, and what they gave when they were asked
+    (brought may_ask : ℕ → List ℕ → Bool) (gave : ℕ → Bool) (read_for : ℕ → List ℕ → ℕ → Bool) where
+  -- receive, relay and play: clocks may be asked for what links brought; sinks may write what is released to them; and posts may send what a relay, or a play, is to send next
+  pub record AllowsLive (words : List (List ℕ)) (told : Told) : Type 0 where
+    pub asked : MayAsk brought may_ask
+    pub received : (arguments : ReceiveArguments) → IsReceive arguments words → MayWriteReleased output_name written may_write read_for arguments told
+    pub relayed : (post : P) (datagram : List ℕ) → relaying.IsDue brought words (post_name post) (sent post) datagram → may_send post datagram ≡ true
+    pub played : (post : P) (datagram : List ℕ) → playing.IsDue gave told words (post_name post) (sent post) datagram → may_send post datagram ≡ true
+
+  -- capture, feed and watch: the same of what is captured, of the frames that are due of a feed, and of what is released; STATUS may be written
+  pub record AllowsLiveTools (words : List (List ℕ)) (told : Told) : Type 0 where
+    pub asked : MayAsk brought may_ask
+    pub captured : (it : S) (piece : List ℕ) → capturing.IsCapturedAs read_for words told.live (output_name it) (written it) piece → may_write it piece ≡ true
+    pub fed : (post : P) (datagram : List ℕ) → feeding.IsFedFrom gave read_for words told (post_name post) (sent post) datagram → may_send post datagram ≡ true
+    pub watched : (arguments : OutputArguments) → IsWatch arguments words → MayWriteReleased output_name written may_write read_for arguments.receive told
+    pub status : (arguments : OutputArguments) → IsWatch arguments words → MayWriteAll output_name may_write arguments.output
+
+  -- record: the same of what is released; TAIL may be written
+  pub record AllowsRecorded (words : List (List ℕ)) (told : Told) : Type 0 where
+    pub asked : MayAsk brought may_ask
+    pub recorded : (arguments : OutputArguments) → IsRecord arguments words → MayWriteReleased output_name written may_write read_for arguments.receive told
+    pub tail : (arguments : OutputArguments) → IsRecord arguments words → MayWriteAll output_name may_write arguments.output

@@ -1,0 +1,59 @@
+-- That each worker of a session may be opened.
+use Rattle.std.proofs.Common.{◌≡◌, ◌∙◌, ◌-◌, ◌≤◌, inl, inr, ℕ, suc, ◌+◌, Bool, true, List, [], ◌∷◌, drop, get_or, length, map, take, Option, Some, None, Ok, Result, refl, sym, ap, subst, length-append, arith}
+use Rattle.std.proofs.Math.Seq.{take-length}
+use denote.Ref.{Bor}
+use Rattle.tesla_desk.specs.Outside.{Told}
+use Rattle.tesla_fitting.specs.declared.config.Config.{Config}
+use Rattle.tesla_front.specs.declared.fault.Fault.{Fault}
+use Rattle.tesla_session.specs.Wanted.{Wanted, WantedLink, WantedSink}
+use Rattle.tesla_session.specs.Session.{PassSeen, Seen, SeenLink, SeenSink, OpensWorker, OpensWorkers, name_of, split_pass}
+use Rattle.tesla_session.specs.Allowed.{AllowsLink, AllowsSink, AreAllowed, MayAsk, MayReleaseAll}
+
+module _ {C : Type 0} where
+  -- one pass more was given
+  joined_more : (first : PassSeen C) → length (split_pass first).joined ≡ suc (length first.joined)
+  joined_more first = length-append first.joined (None ∷ []) ∙ (let one : length first.joined + 1 ≡ suc (length first.joined) = omega arith in one)
+
+  pub opens_split : (wanted : Wanted) (before now : Told) (first later : PassSeen C) (worker : Seen C) → OpensWorker wanted before now first later worker → later ≡ split_pass first
+  opens_split (WantedLink ingest name) before now first later (SeenLink worker) it = it.later_is
+  opens_split (WantedSink releaser name) before now first later (SeenSink worker) it = it.later_is
+  opens_split (WantedLink ingest name) before now first later (SeenSink worker) it = absurd it
+  opens_split (WantedSink releaser name) before now first later (SeenLink worker) it = absurd it
+
+  -- a pass was given for each worker
+  pub opens_joined : (wanted : List Wanted) (before now : Told) (first later : PassSeen C) (workers : List (Seen C)) → OpensWorkers wanted before now first later workers (Ok tt) → length later.joined ≡ length first.joined + length wanted
+  opens_joined [] before now first later workers it = omega (arith, ap (λ (p : PassSeen C). length p.joined) it.2)
+  opens_joined (wanted ∷ others) before now first later workers (inl (fault, refused, same, none, is)) = absurd cc
+  opens_joined (wanted ∷ others) before now first later workers (inr (worker, ws, mid, middle, are, opens, opened)) =
+      let one : length middle.joined ≡ suc (length first.joined) = ap (λ (p : PassSeen C). length p.joined) (opens_split wanted before mid first middle worker opens) ∙ joined_more first in
+      omega (arith, one, opens_joined others mid now middle later ws opened)
+
+  module _ (allowed : PassSeen C → ℕ → List ℕ → Type 0) where
+    -- the first of some workers may be opened
+    pub allowed_first : (first : PassSeen C) (number : ℕ) (names : List (Bor (List ℕ))) (d : Bor (List ℕ)) → 1 ≤ length names → AreAllowed allowed first number (map name_of names) → allowed first number (get_or names 0 d).now
+    allowed_first first number [] d some are = absurd (omega arith)
+    allowed_first first number (name ∷ names) d some are = are.0
+
+    -- and the others once it is
+    pub allowed_others : (wanted : Wanted) (before now : Told) (first later : PassSeen C) (worker : Seen C) (number : ℕ) (names : List (Bor (List ℕ))) → 1 ≤ length names → OpensWorker wanted before now first later worker
+        → AreAllowed allowed first number (map name_of names) → AreAllowed allowed later (number + 1) (map name_of (take (length names - 1) (drop 1 names)))
+    allowed_others wanted before now first later worker number [] some opens are = absurd (omega arith)
+    allowed_others wanted before now first later worker number (name ∷ names) some opens are =
+        let size : length (name ∷ names) - 1 ≡ length names = omega arith in
+        let others : take (length (name ∷ names) - 1) names ≡ names = ap (λ n. take n names) size ∙ take-length names in
+        subst (λ (ns : List (Bor (List ℕ))). AreAllowed allowed later (number + 1) (map name_of ns)) (sym others)
+        (subst (λ (pass : PassSeen C). AreAllowed allowed pass (number + 1) (map name_of names)) (sym (opens_split wanted before now first later worker opens)) are.1)
+
+  pub links_allowed : (brought may_ask : ℕ → List ℕ → Bool) (first : PassSeen C) (number : ℕ) (names : List (List ℕ)) → MayAsk brought may_ask → length first.joined ≡ suc number → AreAllowed (AllowsLink brought may_ask) first number names
+  links_allowed brought may_ask first number [] asked many = tt
+  links_allowed brought may_ask first number (name ∷ names) asked many =
+      ((many, asked), links_allowed brought may_ask (split_pass first) (number + 1) names asked (omega (arith, joined_more first, many)))
+
+  module _ {S : Type 0} (name : S → List ℕ) (written : S → Option (List ℕ)) (may_write : S → List ℕ → Bool) (read_for : ℕ → List ℕ → ℕ → Bool) (receiver : C → Config) where
+    pub sinks_allowed : (first : PassSeen C) (number : ℕ) (names : List (List ℕ)) → ((cfg : C) → first.config ≡ Some cfg → MayReleaseAll name written may_write read_for (receiver cfg) number names)
+        → ((cfg : C) → first.config ≡ Some cfg → length first.joined ≡ suc ((receiver cfg).ingests + number)) → AreAllowed (AllowsSink name written may_write read_for receiver) first number names
+    sinks_allowed first number [] release many = tt
+    sinks_allowed first number (under ∷ names) release many = (
+      λ cfg is. (many cfg is, (release cfg is).0),
+      sinks_allowed (split_pass first) (number + 1) names (λ cfg is. (release cfg is).1) (λ cfg is. omega (arith, joined_more first, many cfg is)),
+    )
