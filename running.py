@@ -1,6 +1,7 @@
 """What the scripts share that run the built program: its files, ports, processes, and streams that it makes."""
 import glob
 import os
+import re
 import shutil
 import signal
 import socket
@@ -155,6 +156,11 @@ def printed_by(words, seconds=120, **more):
     return status, printed.decode(errors="replace")
 
 
+def without_said(printed):
+    """What was printed, without the lines that the program tells on standard error."""
+    return re.sub(r"^tesla: .*\n", "", printed, flags=re.MULTILINE)
+
+
 def numbers(printed):
     """The lines of a word and a number."""
     lines = (line.split() for line in printed.splitlines())
@@ -198,6 +204,7 @@ def done(program, folder, *words):
 def make_stream(program, folder, start, length, last, delays, tag=None, number=0xa7):
     """Makes the setup of a stream by the program, of version 2 where a length of tags is told, and its seeds."""
     write(f"{folder}/secret", seeds_text(seeds(len(delays))))
+    os.chmod(f"{folder}/secret", 0o600)
     command, more = ("chain", delays) if tag is None else ("chain2", [tag, *delays])
     done(program, folder, command, "setup", "secret", f"{number:016x}", start, length, last, *more)
 

@@ -25,6 +25,9 @@ sys.path.insert(0, os.path.dirname(HERE))
 from running import (  # noqa: E402
     DATA as FOLDER, end, is_bound, make_stream, microseconds, processes, read, started, told_by, write)
 
+# A line on standard error, and the statuses of runs in which something failed or whose words are none of a form.
+LINE = re.compile(r"tesla: (?:[a-z0-9]+|--help|--version)?.*")
+FAILED = (1, 4, 5, 7, 8)
 # Seconds that a machine stands still for where it is told, and how often a trial is made at most.
 STILL, TRIES = 0.1, 3
 # The seconds that were waited for a calm machine.
@@ -47,6 +50,8 @@ TOOLS = b"""\
 usage: ask READING ASK-OUT
 usage: reply ASK KEY READING REPLY-OUT
 usage: show TRACE
+usage: seeds COUNT SECRET-OUT
+usage: info SETUP
 """
 LIVE = b"usage: receive SETUP LAG CAPACITY LINKS SINKS\nusage: relay CAPACITY LINK POSTS\nusage: play CAPTURE POSTS\n"
 LIVE_TOOLS = b"""\
@@ -159,7 +164,8 @@ class Trials:
         for words, status, printed in runs:
             came = told_by(started(words, cwd=folder, env=env, stderr=subprocess.PIPE, **user))
             by = f" by {' '.join(words[1:])}" if len(runs) > 1 else ""
-            found += zip((f"the status{by}", f"printed{by}", f"of the system{by}"), came, (status, printed, b""))
+            found += zip((f"the status{by}", f"printed{by}"), came, (status, printed))
+            found += [(f"on standard error{by}", line, "another line") for line in misplaced(status, came[2])]
         found += [(name, read(f"{folder}/{name}"), data) for name, data in {**files, **held}.items()]
         return [f"{what} {shown(one)}, and not {shown(other)}" for what, one, other in found if one != other]
 
@@ -184,6 +190,16 @@ class Trials:
         """Counts a trial of that name, and prints what it came to."""
         self.counts[kind] += 1
         print(f"{kind:7} {name}", *said, sep="\n        ", flush=True)
+
+
+def misplaced(status, said):
+    """The lines on standard error that don't belong to a run of this status: all of another form, and of a run in which nothing
+    failed all but those that tell of a secret file which others may read. A run in which something failed tells it."""
+    lines = said.decode(errors="replace").splitlines()
+    wrong = [line for line in lines if not LINE.fullmatch(line)]
+    if status not in FAILED:
+        return wrong + [line for line in lines if "may be read by others" not in line]
+    return wrong
 
 
 def shown(it):

@@ -4,12 +4,14 @@ import subprocess
 
 # A line that tells what words of a form are: `LAG: how many microseconds ..`, or `START, INTERVAL: microseconds ..`.
 TOLD = re.compile(r"^([A-Z][A-Z0-9-]*(?:, [A-Z][A-Z0-9-]*)*): (.*)$")
+# The line before an example: `Example:`, or `Example, a drift of 0.01 seconds:`, which may go on in the next line.
+EXAMPLE = re.compile(r"^Example[:,]")
 STATUS = re.compile(r"(\d+) ([^,.]+)[,.]")
 
 # What kind of thing a word of a form is, for completions. A word that isn't here is refused, so a new one has to be added.
 KINDS = {
     "file": {"SETUP", "SECRET", "SCRIPT", "CAPTURE", "ASK", "REPLY", "KEY", "TRACE",
-             "SETUP-OUT", "SCRIPT-OUT", "OUT", "ASK-OUT", "REPLY-OUT", "TAIL", "STATUS"},
+             "SETUP-OUT", "SECRET-OUT", "SCRIPT-OUT", "OUT", "ASK-OUT", "REPLY-OUT", "TAIL", "STATUS"},
     "files": {"SINKS"},
     "address": {"LINK", "LINKS", "POSTS"},
     "number": {"LAG", "CAPACITY", "STREAM", "START", "INTERVAL", "LAST", "TAG", "DELAY", "DRIFT", "READING", "SEED", "COUNT",
@@ -18,18 +20,25 @@ KINDS = {
 
 
 class Form:
-    """A form of a command: its line, the words of it, what the command does, and what its words are."""
+    """A form of a command: its line, the words of it, what the command does, what its words are, and an example of it with what
+    is told of that."""
 
     def __init__(self, line):
         self.line = line
         self.command, *self.words = line.split()[1:]
         self.does = []
         self.told = []
+        self.about_example = []
+        self.example = ""
 
     def add(self, line):
         """Takes a further line of what is told of the form."""
         found = TOLD.match(line)
-        if found:
+        if self.about_example and line.startswith("tesla "):
+            self.example = line
+        elif self.about_example or EXAMPLE.match(line):
+            self.about_example.append(line)
+        elif found:
             self.told.append([found[1].split(", "), found[2]])
         elif self.told:
             self.told[-1][1] += f" {line}"

@@ -1,24 +1,43 @@
 """Which files are installed, and where: the one table for packaging/install, packaging/remove and packaging/package."""
+import glob
 import gzip
 import os
 import tempfile
 
 HERE = os.path.dirname(os.path.abspath(__file__))
+TOP = os.path.dirname(HERE)
 PROGRAM = os.path.normpath(f"{HERE}/../crates/tesla/out/tesla")
 LIST = "share/tesla/installed"
 # What is written in the sources for the folder under which all is installed.
 WRITTEN = ("/usr/bin/tesla ", "/usr/libexec/tesla/")
 
+# The pages of the guide, and those beside it that it names, below the top of the repository. They lie there as here, so that
+# the links between them lead to files.
+GUIDE = ["README.md", "docs/COSTS.md", "docs/FORMATS.md", "docs/LAWS.md", "docs/OPERATING.md", "docs/PROTOCOL.md", "docs/RECEIVER.md",
+         "docs/TRUST.md", *sorted(glob.glob("docs/operating/*.md", root_dir=TOP))]
+MANUALS = ["tesla.1", "tesla-capture-to-pcap.1", "tesla-pcap-to-capture.1", "tesla-text-to-script.1", "tesla-readers.3",
+           "tesla-formats.5", "tesla-units.7", "tesla-wireshark.7"]
+SCRIPTS = ["tesla-capture-to-pcap", "tesla-pcap-to-capture", "tesla-text-to-script"]
+
 # A source below this folder, where it goes below the prefix, and its rights. In a path that ends with .gz it is compressed.
 FILES = [
-    ("manuals/tesla.1", "share/man/man1/tesla.1.gz", 0o644),
-    ("manuals/tesla-formats.5", "share/man/man5/tesla-formats.5.gz", 0o644),
+    *((f"../converters/{name}", f"bin/{name}", 0o755) for name in SCRIPTS),
+    *((f"manuals/{name}", f"share/man/man{name[-1]}/{name}.gz", 0o644) for name in MANUALS),
     ("completions/tesla.bash", "share/bash-completion/completions/tesla", 0o644),
     ("completions/_tesla", "share/zsh/site-functions/_tesla", 0o644),
     ("systemd/tesla-receive@.service", "lib/systemd/system/tesla-receive@.service", 0o644),
     ("systemd/tesla-feed@.service", "lib/systemd/system/tesla-feed@.service", 0o644),
     ("systemd/sinks", "libexec/tesla/sinks", 0o755),
     ("systemd/stream.env", "share/doc/tesla/examples/stream.env", 0o644),
+    *((f"../crates/tesla/data/{name}", f"share/doc/tesla/examples/data/{name}", 0o644)
+      for name in ("setup", "secret", "script", "capture")),
+    ("../readers/tesla_release.h", "include/tesla_release.h", 0o644),
+    ("../readers/tesla_order.h", "include/tesla_order.h", 0o644),
+    ("../readers/tesla_release.py", "share/tesla/readers/tesla_release.py", 0o644),
+    ("../readers/tesla_order.py", "share/tesla/readers/tesla_order.py", 0o644),
+    ("../readers/show.py", "share/tesla/readers/show.py", 0o755),
+    ("../readers/show.c", "share/tesla/readers/show.c", 0o644),
+    *((f"../{page}", f"share/doc/tesla/{page}", 0o644) for page in GUIDE),
     ("wireshark/tesla.lua", "lib/wireshark/plugins/tesla.lua", 0o644),
 ]
 # Where Debian wants something else.

@@ -1,13 +1,16 @@
-"""The texts that are generated of what `tesla --help` tells: parts of the manual page, and the completions."""
+"""The texts that are generated of what `tesla --help` and the scripts tell: manual pages or parts of them, and completions."""
+import ast
 import os
 import re
 import textwrap
 
 from forms import kind_of
+from layout import SCRIPTS
 
 HERE = os.path.dirname(os.path.abspath(__file__))
 MARKED = '.\\" This file is generated of tesla.1.in and of `tesla --help` by packaging/generate.\n'
 SCRIPT = "# This file is generated of `tesla --help` by packaging/generate.\n"
+OF_SCRIPT = '.\\" This file is generated of converters/{} by packaging/generate.\n'
 
 
 def of_words(words):
@@ -69,6 +72,8 @@ def commands(told):
                 lines.append(f".It Ar {' , '.join(words)}")
                 lines += prose(sentence(text), marked)
             lines.append(".El")
+        if form.example:
+            lines += [".Pp", *prose(" ".join(form.about_example), marked), f".Dl $ {form.example}"]
     return "\n".join(lines + [".El"])
 
 
@@ -77,6 +82,25 @@ def manual(told):
     with open(f"{HERE}/manuals/tesla.1.in", encoding="utf-8") as file:
         text = file.read()
     return MARKED + text.replace("@SYNOPSIS@", synopsis(told)).replace("@COMMANDS@", commands(told))
+
+
+def paragraph(text, marked):
+    """A paragraph of what a script tells of itself, as lines of mdoc; an indented one as it stands."""
+    if text.startswith("    "):
+        return [".Bd -literal -offset indent", *textwrap.dedent(text).replace("\\", "\\e").splitlines(), ".Ed"]
+    return [".Pp", *prose(re.sub(r"`([^`]*)`", r"\\(oq\1\\(cq", text), marked)]
+
+
+def manual_of(name, date):
+    """The manual page of a script of converters/, of what it tells without words."""
+    with open(f"{HERE}/../converters/{name}", encoding="utf-8") as file:
+        head, *rest = ast.get_docstring(ast.parse(file.read())).split("\n\n")
+    does, _, line = head.partition(": ")
+    words = line.split()[1:]
+    lines = [f".Dd {date}", f".Dt {name.upper()} 1", ".Os", ".Sh NAME", f".Nm {name}", f".Nd {does[:1].lower()}{does[1:]}",
+             ".Sh SYNOPSIS", ".Nm", f".Ar {' '.join(words)}", ".Sh DESCRIPTION"]
+    told = [line for text in rest for line in paragraph(text, words)]
+    return OF_SCRIPT.format(name) + "\n".join([*lines, *told[told[0] == ".Pp":], ".Sh SEE ALSO", ".Xr tesla 1 ,", ".Xr tesla-formats 5", ""])
 
 
 def bash_case(form):
@@ -166,4 +190,7 @@ _tesla "$@"
 
 def generated(told):
     """The files that are generated, by their names below this folder."""
-    return {"manuals/tesla.1": manual(told), "completions/tesla.bash": bash(told), "completions/_tesla": zsh(told)}
+    page = manual(told)
+    date = re.search(r"^\.Dd (.*)$", page, re.MULTILINE)[1]
+    scripts = {f"manuals/{name}.1": manual_of(name, date) for name in SCRIPTS}
+    return {"manuals/tesla.1": page, "completions/tesla.bash": bash(told), "completions/_tesla": zsh(told), **scripts}

@@ -7,7 +7,7 @@ _tesla()
     local place=$((${#words[@]} - 1)) word=${words[-1]%_}
     COMPREPLY=()
     if [ "$place" -eq 1 ]; then
-        COMPREPLY=($(compgen -W "replay chain chain2 send lag stress roll weave early trace audit receive relay play record capture feed watch ask reply show --help --version" -- "$word"))
+        COMPREPLY=($(compgen -W "replay chain chain2 send lag stress roll weave early trace audit receive relay play record capture feed watch ask reply show seeds info --help --version" -- "$word"))
         return
     fi
     case ${words[1]} in
@@ -32,6 +32,8 @@ _tesla()
         ask) kinds=(number file) ;;
         reply) kinds=(file file number file) ;;
         show) kinds=(file) ;;
+        seeds) kinds=(number file) ;;
+        info) kinds=(file) ;;
     esac
     case ${kinds[place - 2]} in
         file) ;;

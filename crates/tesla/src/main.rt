@@ -1,22 +1,32 @@
 //! The program `tesla`.
 #![tactic(auto)]
 
+use std::env;
 use std::process::ExitCode;
 use tesla_cli::program::{run_program, words};
+use tesla_cli::{FORMS, TOOLS};
 use tesla_cli_live::{
     is_live, is_live_tool, is_recorded, live, live_tools, recorded, run_live, run_live_tools,
     run_recorded,
 };
-use tesla_live::{Command, Gates, LiveDesk};
+use tesla_live::{Command, Events, Gates, LiveDesk, label_of};
+use tesla_reasons::reason_of;
+
+/// The variable of the environment that has the path at which something is put to end a live command.
+const STOP: &str = "TESLA_STOP";
 
 fn main(rt: HostRuntime) -> ExitCode {
-    let gates = Gates::new();
     let words = words(&rt);
-    let command = match &words {
-        Ok(words) => command_in(words.as_slice()),
-        Err(_) => Command::Other,
+    let (command, label, sinks) = match &words {
+        Ok(words) => told_by(words.as_slice()),
+        Err(_) => (Command::Other, "run", 0),
     };
-    let mut desk = LiveDesk::new(&rt, &gates, command);
+    if let Ok(words) = &words {
+        tell_reason(&rt, words.as_slice());
+    }
+    let stop = env::var(&rt, STOP).ok();
+    let gates = Gates::of(Events::new(stop, sinks, command == Command::Watch));
+    let mut desk = LiveDesk::labelled(&rt, &gates, command, label);
     if let Ok(words) = &words {
         if is_live(words.as_slice()) {
             let done = run_live(&rt, rt.alloc(), words.as_slice(), &mut desk);
@@ -39,10 +49,58 @@ fn main(rt: HostRuntime) -> ExitCode {
     run_program(rt.alloc(), words, &further, &mut desk)
 }
 
-// The command that the first word names.
-fn command_in(words: &[String]) -> Command {
+// The command that the first word names, under which name it tells, and how many sinks of records its words have.
+fn told_by(words: &[String]) -> (Command, &'static str, u64) {
     match words {
-        [name, ..] => Command::named(name.as_str()),
-        [] => Command::Other,
+        [name, rest @ ..] => {
+            let command = Command::named(name.as_str());
+            (command, label_of(name.as_str()), sinks_in(command, rest))
+        }
+        [] => (Command::Other, "run", 0),
     }
+}
+
+// How many names stand in the word SINKS, which is the fifth one behind the name of a command that has sinks.
+fn sinks_in(command: Command, words: &[String]) -> u64 {
+    match (command, words) {
+        (Command::Receive | Command::Record | Command::Watch, [_, _, _, _, sinks, ..]) => sinks
+            .as_str()
+            .split(',')
+            .count() as u64,
+        _ => 0,
+    }
+}
+
+// Tells on standard error why the words are none of a form, where that is known. What is done with them is the tables' own.
+fn tell_reason<R: Eprint>(rt: &R, words: &[String]) {
+    if let [word] = words {
+        if word.as_str() == "--help" || word.as_str() == "--version" {
+            return;
+        }
+    }
+    if let Some(reason) = reason_of(words, form_in(words)) {
+        let _ = eprintln!(rt; "tesla: {reason}");
+    }
+}
+
+// The form of the command that the first word names.
+fn form_in(words: &[String]) -> Option<&'static str> {
+    let [name, ..] = words else {
+        return None;
+    };
+    let tables = [
+        FORMS.as_slice(),
+        TOOLS.as_slice(),
+        live::FORMS.as_slice(),
+        recorded::FORMS.as_slice(),
+        live_tools::FORMS.as_slice(),
+    ];
+    for table in tables {
+        for form in table {
+            if form.words.split(' ').next() == Some(name.as_str()) {
+                return Some(form.words);
+            }
+        }
+    }
+    None
 }

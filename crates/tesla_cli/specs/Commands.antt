@@ -19,6 +19,10 @@ use Rattle.tesla_run_early.specs.Early.{early}
 use Rattle.tesla_run_early.specs.Usage as earlies
 use Rattle.tesla_run_ask.specs.lag.Lag.{lag}
 use Rattle.tesla_run_ask.specs.lag.Arguments as lags
+use Rattle.tesla_run_info.specs.info.Telling.{info}
+use Rattle.tesla_run_info.specs.info.Arguments as infos
+use Rattle.tesla_run_info.specs.seeds.Drawing.{seeds}
+use Rattle.tesla_run_info.specs.seeds.Arguments as drawings
 use Rattle.tesla_run_replay.specs.Replay.{replay}
 use Rattle.tesla_run_replay.specs.Usage as replays
 use Rattle.tesla_run_roll.specs.Roll.{roll}
@@ -73,11 +77,16 @@ usage = flat_map usage_line forms
 
 -- the first word names a tool
 abbrev pub IsTool : List (List ℕ) → Type 0
-IsTool words = is_named (codes "ask" ∷ codes "reply" ∷ codes "show" ∷ []) words ≡ true
+IsTool words = is_named (codes "ask" ∷ codes "reply" ∷ codes "show" ∷ codes "seeds" ∷ codes "info" ∷ []) words ≡ true
 
 -- the tool that a word names, of those that print nothing before their end
 abbrev pub tool_named : List ℕ → Command
-tool_named word = where_named (bytes_eq word (codes "ask")) ask (where_named (bytes_eq word (codes "reply")) reply no_command)
+tool_named word =
+    where_named (bytes_eq word (codes "ask")) ask (
+    where_named (bytes_eq word (codes "reply")) reply (
+    where_named (bytes_eq word (codes "seeds")) seeds (
+    where_named (bytes_eq word (codes "info")) info
+    no_command)))
 
 -- the tool of these words: the first of them names it
 abbrev pub tool_of : List (List ℕ) → Command
@@ -85,7 +94,7 @@ tool_of words = command_in tool_named words
 
 -- the words of each form, in the order in which they are told
 abbrev pub tool_forms : List (List ℕ)
-tool_forms = asks.usages ++ shows.usage ∷ []
+tool_forms = asks.usages ++ shows.usage ∷ drawings.usage ∷ infos.usage ∷ []
 
 -- the usage lines of all
 abbrev pub tool_usage : List ℕ

@@ -1,5 +1,5 @@
-//! The tools beside the protocol, of an exchange of times and of traces: their forms, which word names each, and one
-//! run of them.
+//! The tools beside the protocol, of an exchange of times, of traces and for an operator: their forms, which word names
+//! each, and one run of them.
 
 ghost use Rattle.std.specs.Prelude.{◌≡◌, true, false, map, string_bytes};
 ghost use Rattle.tesla_front.specs.OutcomeView.{OutcomeView, outcome_view, status_of};
@@ -15,16 +15,18 @@ use tesla_desk::Desk;
 use tesla_front::{FormText, LiveRun, Outcome, is_named, open_console, run_table, tell_printed};
 use tesla_run_ask::{ASK, REPLY, run_ask, run_reply};
 use tesla_run_audit::show::{SHOW, run_show};
+use tesla_run_info::info::{INFO, run_info};
+use tesla_run_info::seeds::{SEEDS, run_seeds};
 
 /// The forms of the tools, in the order in which they are told.
-pub const TOOLS: [FormText; 3] = [ASK, REPLY, SHOW];
+pub const TOOLS: [FormText; 5] = [ASK, REPLY, SHOW, SEEDS, INFO];
 
 /// Whether the words are for this table: the first of them names one of its tools.
 pub fn is_tool(words: &[String]) -> bool
     ensures yes { result ≡ true → IsTool (map string_bytes words.now) }
     ensures no { result ≡ false → IsTool (map string_bytes words.now) → ⊥ }
 {
-    is_named(words, &["ask", "reply", "show"])
+    is_named(words, &["ask", "reply", "show", "seeds", "info"])
 }
 
 // Whether the first of the words names `show`, which prints lines while it goes.
@@ -37,8 +39,8 @@ fn is_show(words: &[String]) -> bool
     }
 }
 
-// Runs the words as those of the tool that the first of them names, `ask` or `reply`. `Usage` where it names neither,
-// or there is no word, and then nothing was opened.
+// Runs the words as those of the tool that the first of them names, other than `show`. `Usage` where it names none, or
+// there is no word, and then nothing was opened.
 fn run_words<D: Desk>(alloc: Global, words: &[String], desk: &mut D) -> Outcome
     ensures runs { RunsAs (tool_of (map string_bytes words.now)) (map string_bytes words.now) (D.told desk.old) (D.told desk.new) (outcome_view result) }
     ensures live { (D.told desk.new).live ≡ (D.told desk.old).live }
@@ -46,6 +48,8 @@ fn run_words<D: Desk>(alloc: Global, words: &[String], desk: &mut D) -> Outcome
     match words {
         [word, ..] if word.as_str() == "ask" => run_ask(words, desk),
         [word, ..] if word.as_str() == "reply" => run_reply(alloc, words, desk),
+        [word, ..] if word.as_str() == "seeds" => run_seeds(alloc, words, desk),
+        [word, ..] if word.as_str() == "info" => run_info(alloc, words, desk),
         _ => Outcome::Usage,
     }
 }
@@ -56,9 +60,10 @@ fn run_words<D: Desk>(alloc: Global, words: &[String], desk: &mut D) -> Outcome
 /// comes. What the command came to is told on the console: it is the first thing that went wrong. `show` prints its
 /// lines before that, while it reads; once a write of them failed nothing more is written.
 ///
-/// 0: it came to its end, and its lines were told. 1: the words are no form of a tool. 3: ASK isn't an ask, or KEY
-/// isn't a key, and no output was opened; or TRACE is refused, behind the lines of the entries before. 4: a read
-/// failed. 5: a write failed. 6: there was no memory. 7: something wasn't opened.
+/// 0: it came to its end, and its lines were told. 1: the words are no form of a tool. 2: SETUP isn't a setup, or two of
+/// its chains have the same commitment. 3: ASK isn't an ask, or KEY isn't a key, or the random bytes ended early or give
+/// a seed that is all zeros or stands twice, and no output was opened; or TRACE is refused, behind the lines of the
+/// entries before. 4: a read failed. 5: a write failed. 6: there was no memory. 7: something wasn't opened.
 ///
 /// At 0 to 3, 6 and 7 no read and no write of a file failed, at 5 no read, and at 4 no write. No link, post or clock is
 /// made.

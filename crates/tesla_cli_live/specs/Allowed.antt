@@ -1,6 +1,7 @@
 -- What live commands may ask, write and send while they run, whether or not they end, told their words and what their environment tells.
-use Rattle.std.specs.Prelude.{◌≡◌, ℕ, Bool, true, List, Option}
+use Rattle.std.specs.Prelude.{◌≡◌, ℕ, Bool, true, List, Option, codes}
 use Rattle.tesla_desk.specs.Outside.{Told}
+use Rattle.tesla_front.specs.Table.{IsFirst}
 use Rattle.tesla_run_capture.specs.Pieces as capturing
 use Rattle.tesla_run_feed.specs.Due as feeding
 use Rattle.tesla_run_relay.specs.Due as relaying
@@ -10,23 +11,28 @@ use Rattle.tesla_run_receive.specs.Arguments.{IsReceive, ReceiveArguments}
 use Rattle.tesla_run_receive.specs.OutputArguments.{OutputArguments}
 use Rattle.tesla_run_receive.specs.record.Arguments.{IsRecord}
 use Rattle.tesla_run_receive.specs.watch.Arguments.{IsWatch}
-use Rattle.tesla_session.specs.Allowed.{MayAsk}
+use Rattle.tesla_session.specs.Allowed.{MayAsk, MayAskLinks}
 
 -- the outputs, by name, what each tells to be written, and what it may write
 module _ {S : Type 0} (output_name : S → List ℕ) (written : S → Option (List ℕ)) (may_write : S → List ℕ → Bool)
     -- the posts, by name, what each tells to be sent, and what it may send
     {P : Type 0} (post_name : P → List ℕ) (sent : P → Option (List (List ℕ))) (may_send : P → List ℕ → Bool)
-    -- what links brought; what clocks may be asked for, what they gave, and what they gave when they were asked
-    (brought may_ask : ℕ → List ℕ → Bool) (gave : ℕ → Bool) (read_for : ℕ → List ℕ → ℕ → Bool) where
-  -- receive, relay and play: clocks may be asked for what links brought; sinks may write what is released to them; and posts may send what a relay, or a play, is to send next
-  pub record AllowsLive (words : List (List ℕ)) (told : Told) : Type 0 where
-    pub asked : MayAsk brought may_ask
-    pub received : (arguments : ReceiveArguments) → IsReceive arguments words → MayWriteReleased output_name written may_write read_for arguments told
-    pub relayed : (post : P) (datagram : List ℕ) → relaying.IsDue brought words (post_name post) (sent post) datagram → may_send post datagram ≡ true
-    pub played : (post : P) (datagram : List ℕ) → playing.IsDue gave told words (post_name post) (sent post) datagram → may_send post datagram ≡ true
+    -- what links brought, and which may be asked; what clocks may be asked for, what they gave, and what they gave when they were asked
+    (brought : ℕ → List ℕ → Bool) {K : Type 0} (may_ask_link : K → Bool) (may_ask : ℕ → List ℕ → Bool) (gave : ℕ → Bool) (read_for : ℕ → List ℕ → ℕ → Bool) where
+  -- how many datagrams each link has brought; which were put into which queue before a post, and which queue was full when which had come
+  module _ (has_brought : K → ℕ → Bool) (was_put : (ℕ → List ℕ → Bool) → ℕ → ℕ → Bool) (was_full : (ℕ → List ℕ → Bool) → ℕ → ℕ → ℕ → Bool) where
+    -- receive, relay and play: clocks may be asked for what links brought; outputs may write what is released to them; posts may send what a relay, or a play, is to send next; and links may be asked, that of a relay once it has offered what that has brought to all its posts
+    pub record AllowsLive (words : List (List ℕ)) (told : Told) : Type 0 where
+      pub any_link : IsFirst (codes "receive") words → MayAskLinks may_ask_link
+      pub relay_link : relaying.MayAskForWords (was_put brought) (was_full brought) has_brought may_ask_link words
+      pub asked : MayAsk brought may_ask
+      pub received : (arguments : ReceiveArguments) → IsReceive arguments words → MayWriteReleased output_name written may_write read_for arguments told
+      pub relayed : (post : P) (datagram : List ℕ) → relaying.IsDue brought words (post_name post) (sent post) datagram → may_send post datagram ≡ true
+      pub played : (post : P) (datagram : List ℕ) → playing.IsDue gave told words (post_name post) (sent post) datagram → may_send post datagram ≡ true
 
   -- capture, feed and watch: the same of what is captured, of the frames that are due of a feed, and of what is released; STATUS may be written
   pub record AllowsLiveTools (words : List (List ℕ)) (told : Told) : Type 0 where
+    pub any_link : MayAskLinks may_ask_link
     pub asked : MayAsk brought may_ask
     pub captured : (it : S) (piece : List ℕ) → capturing.IsCapturedAs read_for words told.live (output_name it) (written it) piece → may_write it piece ≡ true
     pub fed : (post : P) (datagram : List ℕ) → feeding.IsFedFrom gave read_for words told (post_name post) (sent post) datagram → may_send post datagram ≡ true
@@ -35,6 +41,7 @@ module _ {S : Type 0} (output_name : S → List ℕ) (written : S → Option (Li
 
   -- record: the same of what is released; TAIL may be written
   pub record AllowsRecorded (words : List (List ℕ)) (told : Told) : Type 0 where
+    pub any_link : MayAskLinks may_ask_link
     pub asked : MayAsk brought may_ask
     pub recorded : (arguments : OutputArguments) → IsRecord arguments words → MayWriteReleased output_name written may_write read_for arguments.receive told
     pub tail : (arguments : OutputArguments) → IsRecord arguments words → MayWriteAll output_name may_write arguments.output

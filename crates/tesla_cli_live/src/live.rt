@@ -17,6 +17,7 @@ use tesla_front::{
     FormText, LiveRun, Outcome, is_named, open_console, report_run, without_history,
 };
 use tesla_receiver::Receiver;
+use tesla_relay::PostQueues;
 use tesla_run_receive::{RECEIVE, run_receive};
 use tesla_run_relay::play::{PLAY, run_play};
 use tesla_run_relay::{RELAY, run_relay};
@@ -35,13 +36,13 @@ pub fn is_live(words: &[String]) -> bool
 
 // Runs the words as those of the command that the first of them names. `Usage` where it names none, or there is no
 // word, and then nothing was opened. There is a history behind `receive` alone.
-fn run_words<R: Threads + Wait + Sync, D: Environment>(
+fn run_words<R: Threads + Wait + Sync, D: Environment + PostQueues>(
     rt: &R,
     alloc: Global,
     words: &[String],
     desk: &mut D,
 ) -> LiveRun<Last<Receiver>>
-    requires { AllowsLive D.Pieces.name D.Pieces.written D.Pieces.may_write D.Port.name D.Port.sent D.Port.may_send D.Wire.brought D.Time.may_ask D.Time.gave D.Time.read_for (map string_bytes words.now) (D.told desk.old) }
+    requires { AllowsLive D.Pieces.name D.Pieces.written D.Pieces.may_write D.Port.name D.Port.sent D.Port.may_send D.Wire.brought D.Wire.may_ask D.Time.may_ask D.Time.gave D.Time.read_for D.Wire.has_brought D.was_put D.was_full (map string_bytes words.now) (D.told desk.old) }
     ensures runs { RunsAs (live_of (D.told desk.old).live (D.told desk.new).live result.last (map string_bytes words.now)) (map string_bytes words.now) (D.told desk.old) (D.told desk.new) (outcome_view result.outcome) }
     ensures none { outcome_view result.outcome ≡ Usage → result.last ≡ None }
     ensures others { (IsReceive (map string_bytes words.now) → ⊥) → result.last ≡ None }
@@ -57,13 +58,13 @@ fn run_words<R: Threads + Wait + Sync, D: Environment>(
 }
 
 // Opens the console, runs the words, tells the console what they came to, and closes it.
-fn run_told<R: Threads + Wait + Sync, D: Environment>(
+fn run_told<R: Threads + Wait + Sync, D: Environment + PostQueues>(
     rt: &R,
     alloc: Global,
     words: &[String],
     desk: &mut D,
 ) -> LiveRun<Last<Receiver>>
-    requires allowed { (told : Told) (before : Option (List ℕ)) → OpensConsole (D.told desk.old) told before → AllowsLive D.Pieces.name D.Pieces.written D.Pieces.may_write D.Port.name D.Port.sent D.Port.may_send D.Wire.brought D.Time.may_ask D.Time.gave D.Time.read_for (map string_bytes words.now) told }
+    requires allowed { (told : Told) (before : Option (List ℕ)) → OpensConsole (D.told desk.old) told before → AllowsLive D.Pieces.name D.Pieces.written D.Pieces.may_write D.Port.name D.Port.sent D.Port.may_send D.Wire.brought D.Wire.may_ask D.Time.may_ask D.Time.gave D.Time.read_for D.Wire.has_brought D.was_put D.was_full (map string_bytes words.now) told }
     ensures { RunsLive (map string_bytes words.now) (D.told desk.old) (D.told desk.new) result.last (outcome_view result.outcome) }
 {
     match open_console(desk) {
@@ -95,13 +96,13 @@ pub struct Done {
 /// CAPTURE is no capture, and the arrivals before the place that is refused were sent. 4: a link, or a read of SETUP or
 /// CAPTURE, failed. 5: a write or a post failed. 6: there was no memory, and nothing was received or sent. 7: something
 /// wasn't opened. 11: the calls of a worker were spent.
-pub fn run_live<R: Threads + Wait + Sync, D: Environment>(
+pub fn run_live<R: Threads + Wait + Sync, D: Environment + PostQueues>(
     rt: &R,
     alloc: Global,
     words: &[String],
     desk: &mut D,
 ) -> Done
-    requires allowed { (told : Told) (before : Option (List ℕ)) → OpensConsole (D.told desk.old) told before → AllowsLive D.Pieces.name D.Pieces.written D.Pieces.may_write D.Port.name D.Port.sent D.Port.may_send D.Wire.brought D.Time.may_ask D.Time.gave D.Time.read_for (map string_bytes words.now) told }
+    requires allowed { (told : Told) (before : Option (List ℕ)) → OpensConsole (D.told desk.old) told before → AllowsLive D.Pieces.name D.Pieces.written D.Pieces.may_write D.Port.name D.Port.sent D.Port.may_send D.Wire.brought D.Wire.may_ask D.Time.may_ask D.Time.gave D.Time.read_for D.Wire.has_brought D.was_put D.was_full (map string_bytes words.now) told }
     ensures outcome { (reported : OutcomeView) × (result.status ≡ status_of reported) × RunsLive (map string_bytes words.now) (D.told desk.old) (D.told desk.new) result.last reported }
     ensures causes { HasStatusCauses result.status (D.told desk.old).faults (D.told desk.new).faults }
 {

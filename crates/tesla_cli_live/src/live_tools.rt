@@ -41,7 +41,7 @@ fn run_words<R: Threads + Wait + Sync, D: Environment>(
     words: &[String],
     desk: &mut D,
 ) -> LiveRun<Last<Watched>>
-    requires { AllowsLiveTools D.Pieces.name D.Pieces.written D.Pieces.may_write D.Port.name D.Port.sent D.Port.may_send D.Wire.brought D.Time.may_ask D.Time.gave D.Time.read_for (map string_bytes words.now) (D.told desk.old) }
+    requires { AllowsLiveTools D.Pieces.name D.Pieces.written D.Pieces.may_write D.Port.name D.Port.sent D.Port.may_send D.Wire.brought D.Wire.may_ask D.Time.may_ask D.Time.gave D.Time.read_for (map string_bytes words.now) (D.told desk.old) }
     ensures runs { RunsAs (live_tool_of (D.told desk.old).live (D.told desk.new).live result.last (map string_bytes words.now)) (map string_bytes words.now) (D.told desk.old) (D.told desk.new) (outcome_view result.outcome) }
     ensures none { outcome_view result.outcome ≡ Usage → result.last ≡ None }
     ensures others { (IsWatching (map string_bytes words.now) → ⊥) → result.last ≡ None }
@@ -63,7 +63,7 @@ fn run_told<R: Threads + Wait + Sync, D: Environment>(
     words: &[String],
     desk: &mut D,
 ) -> LiveRun<Last<Watched>>
-    requires allowed { (told : Told) (before : Option (List ℕ)) → OpensConsole (D.told desk.old) told before → AllowsLiveTools D.Pieces.name D.Pieces.written D.Pieces.may_write D.Port.name D.Port.sent D.Port.may_send D.Wire.brought D.Time.may_ask D.Time.gave D.Time.read_for (map string_bytes words.now) told }
+    requires allowed { (told : Told) (before : Option (List ℕ)) → OpensConsole (D.told desk.old) told before → AllowsLiveTools D.Pieces.name D.Pieces.written D.Pieces.may_write D.Port.name D.Port.sent D.Port.may_send D.Wire.brought D.Wire.may_ask D.Time.may_ask D.Time.gave D.Time.read_for (map string_bytes words.now) told }
     ensures { RunsLiveTools (map string_bytes words.now) (D.told desk.old) (D.told desk.new) result.last (outcome_view result.outcome) }
 {
     match open_console(desk) {
@@ -100,7 +100,7 @@ pub fn run_live_tools<R: Threads + Wait + Sync, D: Environment>(
     words: &[String],
     desk: &mut D,
 ) -> LiveToolsDone
-    requires allowed { (told : Told) (before : Option (List ℕ)) → OpensConsole (D.told desk.old) told before → AllowsLiveTools D.Pieces.name D.Pieces.written D.Pieces.may_write D.Port.name D.Port.sent D.Port.may_send D.Wire.brought D.Time.may_ask D.Time.gave D.Time.read_for (map string_bytes words.now) told }
+    requires allowed { (told : Told) (before : Option (List ℕ)) → OpensConsole (D.told desk.old) told before → AllowsLiveTools D.Pieces.name D.Pieces.written D.Pieces.may_write D.Port.name D.Port.sent D.Port.may_send D.Wire.brought D.Wire.may_ask D.Time.may_ask D.Time.gave D.Time.read_for (map string_bytes words.now) told }
     ensures outcome { (reported : OutcomeView) × (result.status ≡ status_of reported) × RunsLiveTools (map string_bytes words.now) (D.told desk.old) (D.told desk.new) result.last reported }
     ensures causes { HasStatusCauses result.status (D.told desk.old).faults (D.told desk.new).faults }
 {

@@ -37,7 +37,7 @@ fn run_told<R: Threads + Wait + Sync, D: Environment>(
     words: &[String],
     desk: &mut D,
 ) -> LiveRun<Last<Recorded>>
-    requires allowed { (told : Told) (before : Option (List ℕ)) → OpensConsole (D.told desk.old) told before → AllowsRecorded D.Pieces.name D.Pieces.written D.Pieces.may_write D.Port.name D.Port.sent D.Port.may_send D.Wire.brought D.Time.may_ask D.Time.gave D.Time.read_for (map string_bytes words.now) told }
+    requires allowed { (told : Told) (before : Option (List ℕ)) → OpensConsole (D.told desk.old) told before → AllowsRecorded D.Pieces.name D.Pieces.written D.Pieces.may_write D.Port.name D.Port.sent D.Port.may_send D.Wire.brought D.Wire.may_ask D.Time.may_ask D.Time.gave D.Time.read_for (map string_bytes words.now) told }
     ensures { RunsRecorded (map string_bytes words.now) (D.told desk.old) (D.told desk.new) result.last (outcome_view result.outcome) }
 {
     match open_console(desk) {
@@ -72,7 +72,7 @@ pub fn run_recorded<R: Threads + Wait + Sync, D: Environment>(
     words: &[String],
     desk: &mut D,
 ) -> RecordedDone
-    requires allowed { (told : Told) (before : Option (List ℕ)) → OpensConsole (D.told desk.old) told before → AllowsRecorded D.Pieces.name D.Pieces.written D.Pieces.may_write D.Port.name D.Port.sent D.Port.may_send D.Wire.brought D.Time.may_ask D.Time.gave D.Time.read_for (map string_bytes words.now) told }
+    requires allowed { (told : Told) (before : Option (List ℕ)) → OpensConsole (D.told desk.old) told before → AllowsRecorded D.Pieces.name D.Pieces.written D.Pieces.may_write D.Port.name D.Port.sent D.Port.may_send D.Wire.brought D.Wire.may_ask D.Time.may_ask D.Time.gave D.Time.read_for (map string_bytes words.now) told }
     ensures outcome { (reported : OutcomeView) × (result.status ≡ status_of reported) × RunsRecorded (map string_bytes words.now) (D.told desk.old) (D.told desk.new) result.last reported }
     ensures causes { HasStatusCauses result.status (D.told desk.old).faults (D.told desk.new).faults }
 {

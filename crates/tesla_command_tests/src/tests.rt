@@ -2,8 +2,10 @@
 //! out. All is plain text, so that a proof has little to look at.
 
 mod counting;
+mod draws;
 mod feeds;
 mod flags;
+mod infos;
 mod live;
 mod loads;
 mod long;
@@ -128,6 +130,8 @@ fn commands_that_fail(rt: HostRuntime) -> Result<(), Fail> {
         streams::FAULTS,
         loads::FAULTS,
         times::FAULTS,
+        draws::FAULTS,
+        infos::FAULTS,
         traces::FAULTS,
         texts::PROGRAM,
         live::RUNS,

@@ -80,6 +80,11 @@ pub first_bounds : (version : Version) → (6 ≤ first_line version) × (first_
 first_bounds One = (omega arith, omega arith)
 first_bounds Two = (omega arith, omega arith)
 
+-- no version has more than eight chains
+pub end_bound : (version : Version) → end_line version ≤ first_line version + 8
+end_bound One = omega arith
+end_bound Two = omega arith
+
 pub same_line : (line other : ℕ) → line ≡ other → eqb line other ≡ true
 same_line line other h = grind (arith, nat_tests)
 

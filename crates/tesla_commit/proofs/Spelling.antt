@@ -291,7 +291,7 @@ answer_found text (Err e) h = tt
 not_both : (parts : Parts) (e : ℕ × SetupKind) (r : Result Parts (ℕ × SetupKind)) → r ≡ Err e → r ≡ Ok parts → ⊥
 not_both parts e r h k = cc
 
-pub answer_only : (text : List ℕ) (r : Result Parts SetupRefusal) (parts : Parts) → Answers (λ setup. setup) r (judged text) → IsSetup text parts → (r ≡ Ok parts) ⊎ (r ≡ Err refusals.NoMemory)
-answer_only text (Ok setup) parts h k = inl (ap Ok (ok_is setup parts (judged text) h (judged_again text parts k)))
+pub answer_only : (text : List ℕ) (r : Result Parts SetupRefusal) (parts : Parts) → Answers (λ setup. setup) r (judged text) → IsSetup text parts → r ≡ Ok parts
+answer_only text (Ok setup) parts h k = ap Ok (ok_is setup parts (judged text) h (judged_again text parts k))
 answer_only text (Err (refusals.At number kind)) parts h k = absurd (not_both parts (number, kind) (judged text) h (judged_again text parts k))
-answer_only text (Err refusals.NoMemory) parts h k = inr refl
+answer_only text (Err refusals.NoMemory) parts h k = absurd h

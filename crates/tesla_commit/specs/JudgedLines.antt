@@ -31,12 +31,12 @@ abbrev pub SaysOfLines : {X Y : Type 0} → (X → Y) → Result X LineRefusal �
 SaysOfLines view (Ok x) judged = judged ≡ Ok (view x)
 SaysOfLines view (Err refusal) judged = judged ≡ Err (refusal.line, refusal.kind)
 
--- an answer refuses what is judged to be refused, unless memory ran out
+-- an answer refuses what is judged to be refused; want of memory is none
 abbrev pub Refuses : {Y : Type 0} → SetupRefusal → Result Y (ℕ × SetupKind) → Type 0
 Refuses (refusals.At line kind) judged = judged ≡ Err (line, kind)
-Refuses refusals.NoMemory judged = Unit {0}
+Refuses refusals.NoMemory judged = ⊥
 
--- an answer, seen by view, is what is judged, unless memory ran out
+-- an answer, seen by view, is what is judged
 abbrev pub Answers : {X Y : Type 0} → (X → Y) → Result X SetupRefusal → Result Y (ℕ × SetupKind) → Type 0
 Answers view (Ok x) judged = judged ≡ Ok (view x)
 Answers view (Err e) judged = Refuses e judged

@@ -1,6 +1,6 @@
 //! The commitment of one key chain.
 
-use tesla_base::Key;
+use tesla_base::{KEY_BYTES, Key};
 
 /// One key chain of a setup (RFC 4082, section 3.3).
 #[derive(Clone, Copy, Debug, PartialEq, Eq)]
@@ -11,4 +11,15 @@ pub struct ChainRow {
     pub index: u32,
     /// The committed key.
     pub key: Key,
+}
+
+// What stands in the unused places of a list of rows.
+impl Default for ChainRow {
+    fn default() -> ChainRow {
+        ChainRow {
+            delay: 0,
+            index: 0,
+            key: Key([0; KEY_BYTES]),
+        }
+    }
 }

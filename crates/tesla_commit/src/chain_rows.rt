@@ -70,6 +70,7 @@ pub fn judge_row(
 pub fn judge_rows(version: Version, last: u32, rows: &[ChainRow]) -> Result<(), LineRefusal>
     ensures judged { SaysOfLines (λ _. rows.now) result (rows_judged version last (first_line version) 0 rows.now) }
     ensures keys { IfOk result (λ _. AllByRecursion HasKey rows.now) }
+    ensures few { IfOk result (λ _. length rows.now ≤ 8) }
 {
     let first = first_line(version);
     let end = end_line(version);

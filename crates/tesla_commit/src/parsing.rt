@@ -1,7 +1,6 @@
 //! Reading a setup's text.
 
-ghost use Rattle.std.specs.Prelude.{◌≡◌, ◌⊎◌, IfOk};
-ghost use Rattle.tesla_commit.specs.declared.refusal.SetupRefusal.TheVariants as refusals;
+ghost use Rattle.std.specs.Prelude.{◌≡◌, IfOk, Ok};
 ghost use Rattle.tesla_commit.specs.Parts.{Parts};
 ghost use Rattle.tesla_commit.specs.SetupText.{IsSetup};
 ghost use Rattle.tesla_base.specs.Version.{IsTagLength};
@@ -14,7 +13,9 @@ use crate::chain_rows::{end_line, first_line};
 use crate::line_words::{at, next_line};
 use crate::lines::{chain_in, limited_in, start_in, stream_in, title_in};
 use crate::refusal::{LineRefusal, TAG_LINE};
+use crate::setup::MOST_ROWS;
 use crate::{ChainRow, Setup, SetupKind, SetupRefusal};
+use arrayvec::ArrayVec;
 use std::alloc::Global;
 use tesla_base::{StreamId, Version};
 use tesla_clock::Schedule;
@@ -76,35 +77,34 @@ fn tag_length(version: Version, text: &[u8]) -> Result<(u8, &[u8]), LineRefusal>
 
 /// The chains, which end the text.
 fn chains(
-    alloc: Global,
     version: Version,
     last: u32,
     text: &[u8],
-) -> Result<Vec<ChainRow>, SetupRefusal>
-    ensures { Answers (λ rows. rows.items) result (chains_judged version last (first_line version) 0 (lines text.now)) }
+) -> Result<ArrayVec<ChainRow, MOST_ROWS>, LineRefusal>
+    ensures { SaysOfLines (λ rows. rows.items) result (chains_judged version last (first_line version) 0 (lines text.now)) }
 {
     let first = first_line(version);
     let end = end_line(version);
-    let mut rows = Vec::new(alloc);
+    let mut rows = ArrayVec::new();
     let mut number = first;
     let mut before = 0;
     let mut rest = text;
     while number < end && !rest.is_empty() {
         let (line, after) = next_line(number, rest)?;
         let row = at(number, chain_in(last, before, line))?;
-        rows.push(row)?;
+        rows.push(row);
         before = row.delay;
         rest = after;
         number += 1;
     }
     if !rest.is_empty() {
-        return Err(SetupRefusal::At {
+        return Err(LineRefusal {
             line: number,
             kind: SetupKind::TooManyChains,
         });
     }
     if number == first {
-        return Err(SetupRefusal::At {
+        return Err(LineRefusal {
             line: number,
             kind: SetupKind::NoChain,
         });
@@ -115,25 +115,21 @@ fn chains(
 /// What the lines after those of the intervals are judged to say.
 #[tactic(auto, unfolding(crate::specs::Parsing::rest_judged))]
 fn rest(
-    alloc: Global,
     version: Version,
     stream: StreamId,
     schedule: Schedule,
     text: &[u8],
-) -> Result<Setup, SetupRefusal>
-    ensures { Answers (λ setup. setup) result (rest_judged version stream schedule (lines text.now)) }
+) -> Result<Setup, LineRefusal>
+    ensures { SaysOfLines (λ setup. setup) result (rest_judged version stream schedule (lines text.now)) }
 {
-    let (size, text) = match tag_length(version, text) {
-        Ok((size, text)) => (size, text),
-        Err(refusal) => return Err(refusal.into()),
-    };
-    let rows = chains(alloc, version, schedule.last(), text)?;
+    let (size, text) = tag_length(version, text)?;
+    let rows = chains(version, schedule.last(), text)?;
     Ok(Setup::assemble(version, stream, schedule, size, rows))
 }
 
 /// What a whole text is judged to say.
 #[tactic(auto, unfolding(crate::specs::Parsing::judged))]
-fn all(alloc: Global, text: &[u8]) -> Result<Setup, SetupRefusal>
+fn all(text: &[u8]) -> Result<Setup, SetupRefusal>
     ensures { Answers (λ setup. setup) result (judged text.now) }
 {
     if text.len() > 4096 {
@@ -150,7 +146,7 @@ fn all(alloc: Global, text: &[u8]) -> Result<Setup, SetupRefusal>
         Ok((schedule, text)) => (schedule, text),
         Err(refusal) => return Err(refusal.into()),
     };
-    rest(alloc, version, stream, schedule, text)
+    Ok(rest(version, stream, schedule, text)?)
 }
 
 /// The setup that a text spells (RFC 4082, section 3.3, says what it has to tell receivers). Each setup has
@@ -183,14 +179,14 @@ fn all(alloc: Global, text: &[u8]) -> Result<Setup, SetupRefusal>
 /// | `DelaysNotRising` | the delay isn't above that of the line before |
 /// | `IndexPastLast` | the index is above `last` |
 ///
-/// `NoMemory` where the allocator had none.
-pub fn read_setup(alloc: Global, text: &[u8]) -> Result<Setup, SetupRefusal>
-    // Which setup, or which line and kind, unless memory runs out.
+/// It takes no memory, and `NoMemory` is never its answer.
+pub fn read_setup(_alloc: Global, text: &[u8]) -> Result<Setup, SetupRefusal>
+    // Which setup, or which line and kind.
     ensures exact { Answers (λ setup. setup) result (judged text.now) }
     // What is read is spelled so.
     ensures found { IfOk result (λ setup. IsSetup text.now setup) }
-    // What is spelled so is read, unless memory runs out.
-    ensures only { (setup : Parts) → IsSetup text.now setup → (result ≡ Ok setup) ⊎ (result ≡ Err refusals.NoMemory) }
+    // What is spelled so is read.
+    ensures only { (setup : Parts) → IsSetup text.now setup → result ≡ Ok setup }
 {
-    all(alloc, text)
+    all(text)
 }

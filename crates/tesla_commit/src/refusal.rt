@@ -4,7 +4,6 @@ ghost use Rattle.std.specs.Prelude.{◌≡◌, Some};
 ghost use Rattle.tesla_commit.specs.Names.{kind_name};
 ghost use Rattle.tesla_commit.specs.declared.refusal.SetupRefusal.TheVariants as refusals;
 
-use std::alloc::{AllocError, AllocFailed};
 use std::fmt;
 use tesla_base::Kind;
 
@@ -76,7 +75,7 @@ pub enum SetupRefusal {
     /// `6 + k` in version 1. In version 2 line 6 is that of the length of tags, and row `k` has line
     /// `7 + k`.
     At { line: u32, kind: SetupKind },
-    /// The allocator had no memory.
+    /// There was no memory. A setup takes none, so no call here answers it.
     NoMemory,
 }
 
@@ -88,21 +87,5 @@ impl From<LineRefusal> for SetupRefusal {
             line: refusal.line,
             kind: refusal.kind,
         }
-    }
-}
-
-impl From<AllocError> for SetupRefusal {
-    ghost from_gives = { λ _ e. e ≡ refusals.NoMemory };
-
-    fn from(_: AllocError) -> SetupRefusal {
-        SetupRefusal::NoMemory
-    }
-}
-
-impl<T: Drop> From<AllocFailed<T>> for SetupRefusal {
-    ghost from_gives = { λ _ e. e ≡ refusals.NoMemory };
-
-    fn from(_: AllocFailed<T>) -> SetupRefusal {
-        SetupRefusal::NoMemory
     }
 }

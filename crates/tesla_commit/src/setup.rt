@@ -1,20 +1,25 @@
 //! A setup and its parts.
 
-ghost use Rattle.std.specs.Prelude.{◌≡◌, ℕ, ◌<◌, ◌≤◌, List, length, slice_get, IfOk};
+ghost use Rattle.std.specs.Prelude.{◌≡◌, ℕ, ◌<◌, ◌≤◌, List, length, slice_get, Ok};
 ghost use Rattle.std.specs.List.{AllByRecursion};
 ghost use Rattle.tesla_base.specs.Version.{number_of, most_chains, shortest_tag, IsTagLength};
 ghost use Rattle.tesla_base.specs.declared.version.Version.TheVariants.{One, Two};
 ghost use Rattle.tesla_commit.specs.Parts.{Parts, IsRow, IsSetupOf};
 ghost use Rattle.tesla_commit.specs.SetupText.{HasKey};
-ghost use Rattle.tesla_commit.specs.JudgedLines.{Answers};
+ghost use Rattle.tesla_commit.specs.JudgedLines.{Answers, SaysOfLines};
 ghost use Rattle.tesla_commit.specs.ChainRows.{parts_judged};
 
 use crate::chain_rows::{judge_rows, judge_tag};
+use crate::refusal::LineRefusal;
 use crate::{ChainRow, SetupRefusal};
+use arrayvec::ArrayVec;
 use std::alloc::Global;
 use std::marker::Model;
 use tesla_base::{NoMemory, StreamId, Version};
 use tesla_clock::Schedule;
+
+/// How many chains a setup of any version has at most.
+pub(crate) const MOST_ROWS: usize = 8;
 
 /// What receivers trust beforehand of a stream (RFC 4082, section 3.3): the version of its frames, its
 /// number, its intervals, the length of its tags, and its key chains, with strictly rising disclosure
@@ -26,7 +31,7 @@ pub struct Setup {
     stream: StreamId,
     schedule: Schedule,
     tag_length: u8,
-    rows: Vec<ChainRow>,
+    rows: ArrayVec<ChainRow, MOST_ROWS>,
 }
 
 impl Model for Setup {
@@ -42,14 +47,26 @@ impl Model for Setup {
     ghost invariant = { λ s. IsSetupOf (record { version = s.version; stream = s.stream; times = s.schedule; tag_length = s.tag_length; rows = s.rows.items }) × AllByRecursion HasKey s.rows.items };
 }
 
+// The list of these rows.
+fn list_of(rows: &[ChainRow]) -> ArrayVec<ChainRow, MOST_ROWS>
+    requires { length rows.now ≤ 8 }
+    ensures { result.items ≡ rows.now }
+{
+    let mut list = ArrayVec::new();
+    if list.try_extend_from_slice(rows).is_err() {
+        unreachable!()
+    }
+    list
+}
+
 impl Setup {
     /// The setup of version 1 with these parts: tags have 16 bytes. It is refused at the first refused
     /// line, where row `k` has line `6 + k`: `NoChain` at line 6 where there is no row, `TooManyChains`
     /// at line 10 where there is a fifth, and in a row, in this order, `LimitPassed` where the delay is
     /// not 1 to 4,096, `DelaysNotRising` where it is not above that of the row before, `IndexPastLast`
-    /// where the index is above the last interval.
+    /// where the index is above the last interval. It takes no memory, and `NoMemory` is never its answer.
     pub fn new(
-        alloc: Global,
+        _alloc: Global,
         stream: StreamId,
         schedule: Schedule,
         rows: &[ChainRow],
@@ -57,22 +74,16 @@ impl Setup {
         ensures { Answers (λ setup. setup) result (parts_judged One stream schedule (shortest_tag One) rows.now) }
     {
         let version = Version::One;
-        Setup::of_version(
-            alloc,
-            version,
-            stream,
-            schedule,
-            version.shortest_tag(),
-            rows,
-        )
+        let tag = version.shortest_tag();
+        Ok(Setup::of_version(version, stream, schedule, tag, rows)?)
     }
 
     /// The setup of version 2 with these parts, whose tags have `tag` bytes. It is refused at the first
     /// refused line: `LimitPassed` at line 6 where `tag` is not 10 to 32; and then, where row `k` has
     /// line `7 + k`, `NoChain` at line 7 where there is no row, `TooManyChains` at line 15 where there
-    /// is a ninth, and in a row the kinds that [`Setup::new`] has, in its order.
+    /// is a ninth, and in a row the kinds that [`Setup::new`] has, in its order. It takes no memory.
     pub fn new2(
-        alloc: Global,
+        _alloc: Global,
         stream: StreamId,
         schedule: Schedule,
         tag: u8,
@@ -80,24 +91,23 @@ impl Setup {
     ) -> Result<Setup, SetupRefusal>
         ensures { Answers (λ setup. setup) result (parts_judged Two stream schedule tag rows.now) }
     {
-        Setup::of_version(alloc, Version::Two, stream, schedule, tag, rows)
+        Ok(Setup::of_version(Version::Two, stream, schedule, tag, rows)?)
     }
 
     /// The setup of these parts in either version.
     #[tactic(auto, unfolding(crate::specs::ChainRows::parts_judged))]
     fn of_version(
-        alloc: Global,
         version: Version,
         stream: StreamId,
         schedule: Schedule,
         tag: u8,
         rows: &[ChainRow],
-    ) -> Result<Setup, SetupRefusal>
-        ensures { Answers (λ setup. setup) result (parts_judged version stream schedule tag rows.now) }
+    ) -> Result<Setup, LineRefusal>
+        ensures { SaysOfLines (λ setup. setup) result (parts_judged version stream schedule tag rows.now) }
     {
         judge_tag(version, tag)?;
         judge_rows(version, schedule.last(), rows)?;
-        let rows = Vec::from_slice(alloc, rows)?;
+        let rows = list_of(rows);
         Ok(Setup::assemble(version, stream, schedule, tag, rows))
     }
 
@@ -107,7 +117,7 @@ impl Setup {
         stream: StreamId,
         schedule: Schedule,
         tag_length: u8,
-        rows: Vec<ChainRow>,
+        rows: ArrayVec<ChainRow, MOST_ROWS>,
     ) -> Setup
         requires limits { IsSetupOf (record { version = version; stream = stream; times = schedule; tag_length = tag_length; rows = rows.items }) }
         requires keys { AllByRecursion HasKey rows.items }
@@ -179,16 +189,16 @@ impl Setup {
         self.rows[chain as usize]
     }
 
-    /// The same setup once more.
-    pub fn copy(&self, alloc: Global) -> Result<Setup, NoMemory>
-        ensures { IfOk result (λ setup. setup ≡ self.now) }
+    /// The same setup once more. It takes no memory, and `NoMemory` is never its answer.
+    pub fn copy(&self, _alloc: Global) -> Result<Setup, NoMemory>
+        ensures { result ≡ Ok self.now }
     {
         Ok(Setup {
             version: self.version,
             stream: self.stream,
             schedule: self.schedule,
             tag_length: self.tag_length,
-            rows: Vec::from_slice(alloc, self.rows.as_slice())?,
+            rows: list_of(self.rows.as_slice()),
         })
     }
 }

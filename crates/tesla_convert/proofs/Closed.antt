@@ -61,7 +61,8 @@ wants_page : (meaning : Meaning) (input : Page) (before written : Option (List �
 wants_page meaning input before written count opened wants = record {
   there = opened_there input before opened;
   may = wants.0;
-  prefix = holds_page written count (λ done told bytes failed is. wants.2 bytes done (opened_holds input before bytes failed is opened) told);
+  prefix = holds_page written count (λ done told bytes failed is. (wants.2 bytes done (opened_holds input before bytes failed is opened) told).0);
+  wanting = holds_page written count (λ done told bytes failed is. (wants.2 bytes done (opened_holds input before bytes failed is opened) told).1);
   sound = sound_page written count wants.1;
 }
 

@@ -1,6 +1,7 @@
 pub mod Unread
 pub mod Held
 mod Made
+mod Wanting
 mod Offsets
 mod Opened
 pub mod Closed

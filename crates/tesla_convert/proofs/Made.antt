@@ -66,11 +66,15 @@ module _ (G : Grammar) (is : IsGrammar G) (Kind : Type 0) (rule : Rule G Kind) w
   at_end Has bytes offset ahead written held at ends =
       let outline = one_step G is offset at.rest AtEnd ends in
       let records = records_here Has bytes offset ahead written held at None outline in
+      let all : outline_of G bytes ≡ with_records at.records (record { records = []; fault = None }) = taken_outline G is bytes at.records offset at.rest at.taken ∙ ap (with_records at.records) outline in
+      let unread : made_of G Kind rule Unread 5 [] at.records ≡ record { text = at.text ++ []; refused = None } = ap (λ (rs : List G.Record). made_of G Kind rule Unread 5 [] rs) (sym (append-nil at.records)) ∙ at.passed Unread [] in
       record {
         text = rule.begins ++ at.text;
         has = subst Has (sym records) at.has;
         made_is = made_here Has bytes offset ahead written held at (record { records = []; fault = None }) outline
             ∙ ap (λ (rs : List G.Record). let it : Made Kind = record { text = (rule.begins ++ at.text) ++ rule.ends rs; refused = None } in it) (sym records);
+        whole = ap (λ (o : Outline G.Record). o.fault) all;
+        text_is = ap (λ (t : List ℕ). rule.begins ++ t) (sym (append-nil at.text) ∙ sym (ap (λ (m : Made Kind). m.text) unread)) ∙ ap (λ (rs : List G.Record). rule.begins ++ (made_of G Kind rule Unread 5 [] rs).text) (sym records);
         holds = at.holds;
       }
 

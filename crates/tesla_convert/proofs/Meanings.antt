@@ -30,5 +30,11 @@ module _ (first second : Meaning) (same : SaysSame first second) (before left wr
   between_same (Failed faults.Write) between = (between.0, λ bytes done told written_is. subst (λ (t : List ℕ). IsPrefix t done) (same.makes bytes) (between.1 bytes done told written_is))
   between_same (Failed faults.NoMemory) (inl unbegun) = inl unbegun
   between_same (Failed faults.NoMemory) (inr wants) =
-      inr (same.may wants.0, wants.1, λ bytes done told written_is. subst (λ (t : List ℕ). IsPrefix t done) (same.makes bytes) (wants.2 bytes done told written_is))
+      inr (
+        same.may wants.0,
+        wants.1,
+        λ bytes done told written_is.
+            let it = wants.2 bytes done told written_is in
+            (subst (λ (t : List ℕ). IsPrefix t done) (same.makes bytes) it.0, same.wanting bytes done it.1),
+      )
   between_same (Failed faults.Open) between = absurd between

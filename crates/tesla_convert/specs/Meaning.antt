@@ -18,6 +18,8 @@ pub record Meaning : Type 1 where
   pub IsUnrefused : List ℕ → Type 0
   -- memory may be wanting once records were converted
   pub MayWant : Type 0
+  -- where it is wanting at a place of this input, this is what was written
+  pub IsWanting : List ℕ → List ℕ → Type 0
 
 -- what the first says of an input the second says too
 pub record SaysSame (first second : Meaning) : Type 0 where
@@ -26,6 +28,7 @@ pub record SaysSame (first second : Meaning) : Type 0 where
   pub so_far : (read : List ℕ) → first.so_far read ≡ second.so_far read
   pub unrefused : (read : List ℕ) → first.IsUnrefused read → second.IsUnrefused read
   pub may : first.MayWant → second.MayWant
+  pub wanting : (bytes written : List ℕ) → first.IsWanting bytes written → second.IsWanting bytes written
 
 -- the fact holds of the bytes of a page, where they are told
 abbrev pub Where : Page → (List ℕ → Type 0) → Type 0
@@ -59,11 +62,12 @@ pub record HoldsNothing (input : Page) (left : Option (List ℕ)) (out : Page) :
   pub unread : Where input (λ bytes. left ≡ Some bytes)
   pub nothing : IsUnwritten out
 
--- memory was wanting once records were converted, where that may be: the output holds a prefix of its text, and no write to it failed
+-- memory was wanting once records were converted, where that may be: the output holds a prefix of its text, which ends where memory was wanting, and no write to it failed
 pub record StopsWanting (meaning : Meaning) (input out : Page) : Type 0 where
   pub there : input ≢ Absent
   pub may : meaning.MayWant
   pub prefix : HoldsWhere out (λ written. Where input (λ bytes. IsPrefix (meaning.makes bytes) written))
+  pub wanting : HoldsWhere out (λ written. Where input (λ bytes. meaning.IsWanting bytes written))
   pub sound : (written : List ℕ) (failed : _) → out ≡ Holds written failed → failed ≡ false
 
 -- what converting the input comes to, with what was left of it, and what the output is before and afterwards
@@ -93,7 +97,8 @@ abbrev pub IsUnbegun : Option (List ℕ) → Option (List ℕ) → Option (List 
 IsUnbegun before left written failed = (left ≡ before) × IfSome written (λ bytes. bytes ≡ []) × (failed ≡ 0)
 
 abbrev pub WantsBetween : Meaning → Option (List ℕ) → Option (List ℕ) → ℕ → Type 0
-WantsBetween meaning before written failed = meaning.MayWant × (failed ≡ 0) × ((bytes done : List ℕ) → before ≡ Some bytes → written ≡ Some done → IsPrefix (meaning.makes bytes) done)
+WantsBetween meaning before written failed = meaning.MayWant × (failed ≡ 0)
+    × ((bytes done : List ℕ) → before ≡ Some bytes → written ≡ Some done → IsPrefix (meaning.makes bytes) done × meaning.IsWanting bytes done)
 
 abbrev pub ConvertsBetween : Meaning → Option (List ℕ) → Option (List ℕ) → Option (List ℕ) → ℕ → OutcomeView → Type 0
 ConvertsBetween meaning before left written failed (Done lines) = EndsBetween meaning before written (Done lines)

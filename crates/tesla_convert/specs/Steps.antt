@@ -1,12 +1,12 @@
 -- What the inner steps of a conversion come to.
-use Rattle.std.specs.Prelude.{◌≡◌, ◌⊎◌, ℕ, ◌<◌, ◌≤◌, true, Option, Some, None, Result, Ok, Err, List, [], ◌++◌}
+use Rattle.std.specs.Prelude.{◌≡◌, ◌⊎◌, ℕ, ◌<◌, ◌≤◌, true, Option, Some, None, Result, Ok, Err, List, [], ◌∷◌, ◌++◌}
 use Rattle.tesla_capture.specs.Grammar.{Grammar, limit}
 use Rattle.tesla_capture.specs.Records.{outline_of, record_offset}
 use Rattle.tesla_capture.specs.Steps.{Progress}
 use Rattle.tesla_capture.specs.Taken.{HoldsNoRefusal, IsTaken}
 use Rattle.tesla_desk.specs.Outside.{AppendsPrefix, with_bytes}
 use Rattle.tesla_convert.specs.Held.{HoldsText, HoldsPrefix}
-use Rattle.tesla_convert.specs.Rule.{Behind, Rule, made, made_of, made_so_far, with_text}
+use Rattle.tesla_convert.specs.Rule.{Behind, Rule, Unread, made, made_of, made_so_far, with_text}
 use Rattle.tesla_convert.specs.declared.converter.Converted.{Converted}
 use Rattle.tesla_convert.specs.declared.converter.Converted.TheVariants as conversions
 use Rattle.tesla_convert.specs.declared.converter.Converted.TheVariants.{Whole, WriteFault, NoMemory}
@@ -38,6 +38,8 @@ pub record IsAtEnd (G : Grammar) (Kind : Type 0) (rule : Rule G Kind) (Has : Lis
   pub text : List ℕ
   pub has : Has (outline_of G bytes).records
   pub made_is : made G Kind rule bytes ≡ record { text = text ++ rule.ends (outline_of G bytes).records; refused = None }
+  pub whole : (outline_of G bytes).fault ≡ None
+  pub text_is : text ≡ rule.begins ++ (made_of G Kind rule Unread 5 [] (outline_of G bytes).records).text
   pub holds : HoldsText written held text
 
 -- the records of the file were converted, and this is the first place that is refused, or none is and its end was taken
@@ -54,6 +56,20 @@ pub record IsCutOff (G : Grammar) (Kind : Type 0) (rule : Rule G Kind) (bytes : 
   pub none : HoldsNoRefusal G read
   pub taken : (made_so_far G Kind rule read).refused ≡ None
   pub holds : HoldsText written held (made_so_far G Kind rule read).text
+
+-- behind these records of a file stands that one, or with them the file ends
+abbrev pub StandsNext : (G : Grammar) → List ℕ → List G.Record → Option G.Record → Type 0
+StandsNext G bytes records (Some first) = (rest : List G.Record) × ((outline_of G bytes).records ≡ records ++ first ∷ rest)
+StandsNext G bytes records None = ((outline_of G bytes).records ≡ records) × ((outline_of G bytes).fault ≡ None)
+
+-- memory was wanting behind these records of the file, at the next one or at the end: what is made of them is written, and this of that
+pub record IsWanting (G : Grammar) (Kind : Type 0) (rule : Rule G Kind) (Wants : List G.Record → Option G.Record → List ℕ → Type 0) (bytes : List ℕ) (written : Option (List ℕ)) : Type 0 where
+  pub records : List G.Record
+  pub next : Option G.Record
+  pub piece : List ℕ
+  pub stands : StandsNext G bytes records next
+  pub wants : Wants records next piece
+  pub holds : HoldsText written [] (rule.begins ++ (made_of G Kind rule Unread 5 [] records).text ++ piece)
 
 -- the next record was converted, or there was none, or it is refused, or the conversion stopped
 abbrev pub StepsTo : (G : Grammar) (Kind : Type 0) → Rule G Kind → (List G.Record → Type 0) → Result (Option (Ending Kind)) Stopped → List ℕ → ℕ → Option (List ℕ) → Option (List ℕ) → Option (List ℕ) → List ℕ → Type 0

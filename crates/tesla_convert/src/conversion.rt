@@ -8,7 +8,7 @@ ghost use Rattle.tesla_capture.specs.Steps.{ahead};
 ghost use Rattle.tesla_desk.specs.Faults.{HasCause, HasCauseBeside};
 ghost use Rattle.tesla_convert.specs.Held.{HoldsText};
 ghost use Rattle.tesla_convert.specs.Records.{Answers};
-ghost use Rattle.tesla_convert.specs.Steps.{AllTo, Converts, GoesUp, IsAt, RecordsTo, StepsTo, ending_at};
+ghost use Rattle.tesla_convert.specs.Steps.{AllTo, Converts, GoesUp, IsAt, IsWanting, RecordsTo, StepsTo, ending_at};
 
 use crate::converter::{Converted, Converter, Halt, TakenRecord};
 use crate::settling::settle;
@@ -94,7 +94,8 @@ impl<C: Converter> Conversion<C> {
             Answers C.grammar (C.rule self.old.converter) (C.has self.new.converter) rs (C.grammar.carrying reading (take length self.old.room)) result (O.written out.old) (O.written out.new) (gathered self.old.gatherer) (gathered self.new.gatherer) }
         ensures rule { C.rule self.new.converter ≡ C.rule self.old.converter }
         ensures calls { C.calls self.new.converter ≤ C.calls self.old.converter + 1 }
-        ensures wants { result ≡ Converted.NoMemory → C.may_want ≡ true }
+        ensures wants { let first = C.grammar.carrying reading (take length self.old.room) in
+            result ≡ Converted.NoMemory → (C.may_want ≡ true) × ((rs : List C.grammar.Record) → C.has self.old.converter rs → C.wants rs (Some first) ((C.rule self.old.converter).adds rs first)) }
         ensures cause { HasCause (O.faults out.old) (O.faults out.new) (result ≡ Converted.WriteFault) }
         ensures name { O.name out.new ≡ O.name out.old }
     {
@@ -111,7 +112,8 @@ impl<C: Converter> Conversion<C> {
             Answers C.grammar (C.rule self.old.converter) (C.has self.new.converter) rs (C.grammar.bare reading) result (O.written out.old) (O.written out.new) (gathered self.old.gatherer) (gathered self.new.gatherer) }
         ensures rule { C.rule self.new.converter ≡ C.rule self.old.converter }
         ensures calls { C.calls self.new.converter ≤ C.calls self.old.converter + 1 }
-        ensures wants { result ≡ Converted.NoMemory → C.may_want ≡ true }
+        ensures wants { let first = C.grammar.bare reading in
+            result ≡ Converted.NoMemory → (C.may_want ≡ true) × ((rs : List C.grammar.Record) → C.has self.old.converter rs → C.wants rs (Some first) ((C.rule self.old.converter).adds rs first)) }
         ensures cause { HasCause (O.faults out.old) (O.faults out.new) (result ≡ Converted.WriteFault) }
         ensures name { O.name out.new ≡ O.name out.old }
     {
@@ -134,7 +136,9 @@ impl<C: Converter> Conversion<C> {
         ensures rule { C.rule self.new.converter ≡ C.rule self.old.converter }
         ensures calls { C.calls self.new.converter ≤ C.calls self.old.converter + 1 }
         ensures rises { result ≡ Ok None → GoesUp reader.old reader.new }
-        ensures wants { result ≡ Err Stopped.Memory → C.may_want ≡ true }
+        ensures wants { result ≡ Err Stopped.Memory → (C.may_want ≡ true)
+            × ((bytes : List ℕ) → IsAt C.grammar C.Kind (C.rule self.old.converter) (C.has self.old.converter) bytes reader.old.place (ahead reader.old (S.left source.old)) (O.written out.old) (gathered self.old.gatherer) →
+            IsWanting C.grammar C.Kind (C.rule self.old.converter) C.wants bytes (O.written out.new)) }
         ensures reads { HasCause (S.faults source.old) (S.faults source.new) (result ≡ Err Stopped.Read) }
         ensures writes { HasCause (O.faults out.old) (O.faults out.new) (result ≡ Err Stopped.Write) }
         ensures input { S.name source.new ≡ S.name source.old }
@@ -167,7 +171,9 @@ impl<C: Converter> Conversion<C> {
             RecordsTo C.grammar C.Kind (C.rule self.old.converter) (C.has self.new.converter) result bytes (S.left source.new) (O.written out.new) (gathered self.new.gatherer) }
         ensures rule { C.rule self.new.converter ≡ C.rule self.old.converter }
         ensures calls { C.calls self.new.converter ≤ limit + 1 }
-        ensures wants { result ≡ Err Stopped.Memory → C.may_want ≡ true }
+        ensures wants { result ≡ Err Stopped.Memory → (C.may_want ≡ true)
+            × ((bytes : List ℕ) → S.left source.old ≡ Some bytes → C.has self.old.converter [] → HoldsText (O.written out.old) (gathered self.old.gatherer) (C.rule self.old.converter).begins →
+            IsWanting C.grammar C.Kind (C.rule self.old.converter) C.wants bytes (O.written out.new)) }
         ensures reads { HasCause (S.faults source.old) (S.faults source.new) (result ≡ Err Stopped.Read) }
         ensures writes { HasCause (O.faults out.old) (O.faults out.new) (result ≡ Err Stopped.Write) }
         ensures input { S.name source.new ≡ S.name source.old }
@@ -193,7 +199,9 @@ impl<C: Converter> Conversion<C> {
         requires sound { O.faults out.old ≡ 0 }
         ensures converts { (bytes : List ℕ) → S.left source.old ≡ Some bytes → C.has self.old.converter [] → HoldsText (O.written out.old) (gathered self.old.gatherer) (C.rule self.old.converter).begins →
             AllTo C.grammar C.Kind (C.rule self.old.converter) (C.ended self.new.converter) result bytes (S.left source.new) (O.written out.new) (gathered self.new.gatherer) }
-        ensures wants { result ≡ Err Stopped.Memory → C.may_want ≡ true }
+        ensures wants { result ≡ Err Stopped.Memory → (C.may_want ≡ true)
+            × ((bytes : List ℕ) → S.left source.old ≡ Some bytes → C.has self.old.converter [] → HoldsText (O.written out.old) (gathered self.old.gatherer) (C.rule self.old.converter).begins →
+            IsWanting C.grammar C.Kind (C.rule self.old.converter) C.wants bytes (O.written out.new)) }
         ensures reads { HasCause (S.faults source.old) (S.faults source.new) (result ≡ Err Stopped.Read) }
         ensures writes { HasCause (O.faults out.old) (O.faults out.new) (result ≡ Err Stopped.Write) }
         ensures input { S.name source.new ≡ S.name source.old }
@@ -220,7 +228,9 @@ impl<C: Converter> Conversion<C> {
         requires sound { O.faults out.old ≡ 0 }
         ensures converts { (bytes : List ℕ) → S.left source.old ≡ Some bytes → C.has self.old.converter [] → HoldsText (O.written out.old) (gathered self.old.gatherer) [] →
             AllTo C.grammar C.Kind (C.rule self.old.converter) (C.ended self.new.converter) result bytes (S.left source.new) (O.written out.new) (gathered self.new.gatherer) }
-        ensures wants { result ≡ Err Stopped.Memory → C.may_want ≡ true }
+        ensures wants { result ≡ Err Stopped.Memory → (C.may_want ≡ true)
+            × ((bytes : List ℕ) → S.left source.old ≡ Some bytes → C.has self.old.converter [] → HoldsText (O.written out.old) (gathered self.old.gatherer) [] →
+            IsWanting C.grammar C.Kind (C.rule self.old.converter) C.wants bytes (O.written out.new)) }
         ensures reads { HasCause (S.faults source.old) (S.faults source.new) (result ≡ Err Stopped.Read) }
         ensures writes { HasCause (O.faults out.old) (O.faults out.new) (result ≡ Err Stopped.Write) }
         ensures input { S.name source.new ≡ S.name source.old }
@@ -240,7 +250,7 @@ impl<C: Converter> Conversion<C> {
     ///
     /// `Read` exactly where the source's count of faults rose, and `Write` exactly where the sink's did, but for the last
     /// write behind a failed read. `Memory` only where the converter's `may_want` is true: what is written is a prefix of
-    /// what is made of the file.
+    /// what is made of the file, up to and with what the converter's `wants` tells of the place where memory was wanting.
     pub fn convert<S: Source, O: Sink>(
         mut self,
         source: &mut S,
@@ -253,7 +263,8 @@ impl<C: Converter> Conversion<C> {
         requires fresh { S.faults source.old ≡ 0 }
         requires sound { O.faults out.old ≡ 0 }
         ensures converts { (bytes : List ℕ) → S.left source.old ≡ Some bytes → Converts C.grammar C.Kind (C.rule self.converter) (C.ended result.0) result.1 bytes (S.left source.new) (O.written out.new) (O.faults out.new) }
-        ensures wants { result.1 ≡ Err Stopped.Memory → C.may_want ≡ true }
+        ensures wants { result.1 ≡ Err Stopped.Memory → (C.may_want ≡ true)
+            × ((bytes : List ℕ) → S.left source.old ≡ Some bytes → IsWanting C.grammar C.Kind (C.rule self.converter) C.wants bytes (O.written out.new)) }
         ensures reads { HasCause 0 (S.faults source.new) (result.1 ≡ Err Stopped.Read) }
         ensures writes { HasCauseBeside ((result.1 ≡ Err Stopped.Read) × (0 < O.faults out.new)) 0 (O.faults out.new) (result.1 ≡ Err Stopped.Write) }
         ensures input { S.name source.new ≡ S.name source.old }

@@ -1,13 +1,13 @@
 //! What is made of the records of a file.
 
-ghost use Rattle.std.specs.Prelude.{◌≡◌, ◌+◌, ◌≤◌, ◌++◌, [], List, ℕ, Bool, true, false, Some, Err, IfOk, IfErr, drop, length};
+ghost use Rattle.std.specs.Prelude.{◌≡◌, ◌+◌, ◌≤◌, ◌++◌, [], List, ℕ, Bool, true, false, Option, Some, None, Err, IfOk, IfErr, drop, length};
 ghost use Rattle.tesla_capture.specs.Gathering.{gathered, Gathers};
 ghost use Rattle.tesla_capture.specs.Grammar.{Grammar, limit};
 ghost use Rattle.tesla_capture.specs.Formats.{IsGrammar};
 ghost use Rattle.tesla_capture.specs.Found.{AwaitsAt};
 ghost use Rattle.tesla_capture.specs.Steps.{pending, ahead, Gives, Moves, goes_on};
 ghost use Rattle.tesla_desk.specs.Faults.{HasCause};
-ghost use Rattle.tesla_desk.specs.Outside.{AppendsPrefix};
+ghost use Rattle.tesla_desk.specs.Outside.{AppendsPrefix, with_bytes};
 ghost use Rattle.tesla_convert.specs.Rule.{Rule};
 ghost use Rattle.tesla_convert.specs.Records.{Answers, IsWithin, record_of};
 
@@ -71,6 +71,9 @@ pub trait Converter {
     /// Whether memory may be wanting once records were converted.
     ghost may_want: { Bool };
 
+    /// Where memory is wanting behind these records, at the next one or at the end, this is written of that.
+    ghost wants: { List grammar.Record → Option grammar.Record → List ℕ → Type 0 };
+
     /// How many calls it has had at most.
     ghost calls: { Self → ℕ };
 
@@ -105,7 +108,7 @@ pub trait Converter {
         ensures name { O.name out.new ≡ O.name out.old };
 
     /// Takes a record. What is written of it is put behind what is gathered. `NoMemory` comes only where
-    /// `may_want` is true.
+    /// `may_want` is true, and then that was written, as `wants` says.
     fn convert<O: Sink>(
         &mut self,
         taken: TakenRecord<'_>,
@@ -119,19 +122,20 @@ pub trait Converter {
             Answers grammar (rule self.old) (has self.new) rs (record_of grammar taken.entry) result (O.written out.old) (O.written out.new) (gathered gatherer.old) (gathered gatherer.new) }
         ensures rule { rule self.new ≡ rule self.old }
         ensures calls { calls self.new ≤ calls self.old + 1 }
-        ensures wants { result ≡ Converted.NoMemory → may_want ≡ true }
+        ensures wants { result ≡ Converted.NoMemory → (may_want ≡ true) × ((rs : List grammar.Record) → has self.old rs → wants rs (Some (record_of grammar taken.entry)) ((rule self.old).adds rs (record_of grammar taken.entry))) }
         ensures cause { HasCause (O.faults out.old) (O.faults out.new) (result ≡ Converted.WriteFault) }
         ensures name { O.name out.new ≡ O.name out.old };
 
     /// Takes the end of the file. Where it halts, a prefix of what was gathered and of what is written of the end was
-    /// written. `NoMemory` comes only where `may_want` is true.
+    /// written. `NoMemory` comes only where `may_want` is true, and then what `wants` says was written of the end.
     fn finish<O: Sink>(&mut self, gatherer: &mut Gatherer, out: &mut O) -> Result<(), Halt>
         requires calls { calls self.old ≤ limit + 1 }
         requires sound { O.faults out.old ≡ 0 }
         ensures ended { IfOk result (λ _. (rs : List grammar.Record) → has self.old rs → ended self.new rs) }
         ensures writes { IfOk result (λ _. (rs : List grammar.Record) → has self.old rs → Gathers (O.written out.old) (O.written out.new) (gathered gatherer.new) (gathered gatherer.old ++ (rule self.old).ends rs)) }
         ensures halts { IfErr result (λ _. (rs : List grammar.Record) → has self.old rs → AppendsPrefix (O.written out.old) (O.written out.new) (gathered gatherer.old ++ (rule self.old).ends rs)) }
-        ensures wants { result ≡ Err Halt.NoMemory → (may_want ≡ true) × (gathered gatherer.new ≡ []) }
+        ensures wants { result ≡ Err Halt.NoMemory → (may_want ≡ true) × (gathered gatherer.new ≡ [])
+            × ((rs : List grammar.Record) → has self.old rs → (piece : List ℕ) × wants rs None piece × (O.written out.new ≡ with_bytes (O.written out.old) (gathered gatherer.old ++ piece))) }
         ensures cause { HasCause (O.faults out.old) (O.faults out.new) (result ≡ Err Halt.WriteFault) }
         ensures name { O.name out.new ≡ O.name out.old };
 

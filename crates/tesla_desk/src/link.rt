@@ -63,9 +63,13 @@ pub trait Link {
     /// A link brought these bytes as its datagram of this number, counted from 0.
     ghost brought: { ℕ → List ℕ → Bool } = { λ _ _. true };
 
-    /// Takes the next letter, and puts a datagram, of at most 2,048 bytes, at the front of the buffer.
+    /// The link may be asked for its next letter.
+    ghost may_ask: { Self → Bool } = { λ _. true };
+
+    /// Takes the next letter, which the link may be asked for, and puts a datagram, of at most 2,048 bytes, at the front of the buffer.
     /// `Failed` is answered exactly where the count of faults rose.
     fn next(&mut self, into: &mut [u8; MOST_DATAGRAM]) -> Got
+        requires permitted { may_ask self.old ≡ true }
         ensures step { Gets (left self.old) (left self.new) into.new result }
         ensures cause { HasCause (faults self.old) (faults self.new) (result ≡ Got.Failed) }
         ensures name { name self.new ≡ name self.old }

@@ -61,6 +61,7 @@ pub fn feed<R: Wait, L: Ledger, K: Link, C: Clock, P: Post, G: Gate>(
     requires unsent { let seen : P → PostSeen = λ post. record { name = P.name post; sent = P.sent post; faults = P.faults post } in
         AreUnsent (map seen posts.old) }
     requires asks { (number : ℕ) (bytes : List ℕ) → K.brought number bytes ≡ true → C.may_ask number bytes ≡ true }
+    requires any_link { (link : K) → K.may_ask link ≡ true }
     requires due { let seen : P → PostSeen = λ post. record { name = P.name post; sent = P.sent post; faults = P.faults post } in
         MaySendDue seen P.may_send C.gave C.read_for (map post_name (map seen posts.old)) opened.sender.stream }
     ensures feeds { let seen : List P → List PostSeen = λ posts. map (λ post. record { name = P.name post; sent = P.sent post; faults = P.faults post }) posts in

@@ -83,6 +83,7 @@ pub fn hear_all<R: Wait, L: Ledger, K: Link, C: Clock, P: Post>(
     requires goes { let seen : List P → List PostSeen = λ posts. map (λ post. record { name = P.name post; sent = P.sent post; faults = P.faults post }) posts in
         Goes feeder.old.sender.stream feeder.old.first nothing_fed (seen posts.old) feeder.old (seen posts.old) failed.old }
     requires asks { (number : ℕ) (bytes : List ℕ) → K.brought number bytes ≡ true → C.may_ask number bytes ≡ true }
+    requires any_link { (link : K) → K.may_ask link ≡ true }
     requires none { K.has_brought link.old 0 ≡ true }
     requires going { let seen : P → PostSeen = λ post. record { name = P.name post; sent = P.sent post; faults = P.faults post } in
         GoesOn seen P.may_send C.gave C.read_for feeder.old.sender.stream feeder.old.first 0 feeder.old posts.old failed.old }

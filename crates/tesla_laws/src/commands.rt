@@ -15,6 +15,10 @@ ghost use Rattle.tesla_run_audit.specs.Audit.{audit};
 ghost use Rattle.tesla_run_chain.specs.Chain.{chain};
 ghost use Rattle.tesla_run_early.specs.Early.{early};
 ghost use Rattle.tesla_run_ask.specs.lag.Lag.{lag};
+ghost use Rattle.tesla_run_info.specs.info.Arguments.{InfoArguments, IsInfoForm};
+ghost use Rattle.tesla_run_info.specs.info.Telling.{info};
+ghost use Rattle.tesla_run_info.specs.seeds.Arguments.{IsSeedsForm, SeedsArguments};
+ghost use Rattle.tesla_run_info.specs.seeds.Drawing.{seeds};
 ghost use Rattle.tesla_run_replay.specs.Replay.{replay};
 ghost use Rattle.tesla_run_roll.specs.Roll.{roll};
 ghost use Rattle.tesla_run_send.specs.Send.{send};
@@ -32,11 +36,13 @@ use tesla_memory_desk::SureDesk;
 /// table: the first word of each form names it.
 pub fn forms_are_named()
     ensures commands { NamesForms command_of replay × NamesForms command_of chain × NamesForms command_of send × NamesForms command_of lag × NamesForms command_of stress × NamesForms command_of roll × NamesForms command_of weave × NamesForms command_of early × NamesForms command_of trace × NamesForms command_of audit }
-    ensures tools { NamesForms tool_of ask × NamesForms tool_of reply }
+    ensures tools { NamesForms tool_of ask × NamesForms tool_of reply × NamesForms tool_of seeds × NamesForms tool_of info }
     ensures shows { (arguments : ShowArguments) (words : List (List ℕ)) (old new : Told) (outcome : OutcomeView) → IsShowForm arguments words → RunsTool words old new outcome → HasNoConsole old new outcome ⊎ IsPrintedAs show arguments tool_usage old new outcome }
     ensures ask_is { (arguments : AskArguments) (words : List (List ℕ)) → IsAskForm arguments words → IsTool words }
     ensures reply_is { (arguments : ReplyArguments) (words : List (List ℕ)) → IsReplyForm arguments words → IsTool words }
     ensures show_is { (arguments : ShowArguments) (words : List (List ℕ)) → IsShowForm arguments words → IsTool words }
+    ensures seeds_is { (arguments : SeedsArguments) (words : List (List ℕ)) → IsSeedsForm arguments words → IsTool words }
+    ensures info_is { (arguments : InfoArguments) (words : List (List ℕ)) → IsInfoForm arguments words → IsTool words }
 {}
 
 /// Runs the words as the top call does, over a desk on which no call from outside fails. The status is never 4, 5 or 7.

@@ -10,6 +10,7 @@ use std::sync::Wait;
 use std::time;
 use std::time::Duration;
 use tesla_desk::Clock;
+use tesla_reports::Tally;
 
 /// How many seconds a run waits before it asks again for a clock that can't be read.
 const PAUSE: u64 = 1;
@@ -42,6 +43,7 @@ pub struct MachineClock<'a, R> {
     command: Command,
     anchor: Anchor,
     notices: &'a Notices,
+    held: &'a Tally,
 }
 
 impl<'a, R> MachineClock<'a, R> {
@@ -57,6 +59,7 @@ impl<'a, R> MachineClock<'a, R> {
             command,
             anchor,
             notices: &gates.notices,
+            held: &gates.events.tallies.held,
         }
     }
 }
@@ -91,10 +94,22 @@ impl<'a, R: time::Clock + Eprint> Clock for MachineClock<'a, R> {
     fn now(&mut self) -> u64 {
         let now = times_now(self.rt);
         self.tell_difference(now);
-        self.command.reading(&self.anchor, now)
+        let reading = self.command.reading(&self.anchor, now);
+        if is_held(now, reading) {
+            self.held.raise();
+        }
+        reading
     }
 
     fn now_for(&mut self, _datagram: &[u8]) -> u64 {
         self.now()
+    }
+}
+
+// Whether a reading at these times isn't the system's: by more than what is told, or since that can't be read.
+fn is_held(now: Times, reading: u64) -> bool {
+    match now.since_1970 {
+        Some(since_1970) => since_1970.abs_diff(reading) > DIFFERENCE,
+        None => true,
     }
 }

@@ -4,16 +4,20 @@ ghost use Rattle.std.specs.Prelude.{◌≡◌, ◌≢◌, codes};
 ghost use Rattle.tesla_live.specs.Rule as rule;
 
 use crate::rule::{Anchor, Times, receiver_reading, sender_reading};
+use tesla_files_live::Making;
 
 /// A command that runs over live links, posts and clocks, or another one.
 #[derive(Clone, Copy, Debug, PartialEq, Eq)]
 pub enum Command {
     Capture,
+    Chain,
     Feed,
     Play,
     Receive,
     Record,
     Relay,
+    Seeds,
+    Send,
     Watch,
     /// One that runs over files alone.
     Other,
@@ -39,13 +43,34 @@ impl Command {
     pub fn name(self) -> &'static str {
         match self {
             Command::Capture => "capture",
+            Command::Chain => "chain",
             Command::Feed => "feed",
             Command::Play => "play",
             Command::Receive => "receive",
             Command::Record => "record",
             Command::Relay => "relay",
+            Command::Seeds => "seeds",
+            Command::Send => "send",
             Command::Watch => "watch",
             Command::Other => "run",
+        }
+    }
+
+    /// Which of the sources that it opens has seeds, counted from 0; `None` where none has.
+    pub fn secret(self) -> Option<u64> {
+        match self {
+            Command::Chain => Some(0),
+            Command::Feed | Command::Send => Some(1),
+            _ => None,
+        }
+    }
+
+    /// How its outputs are made.
+    pub fn making(self) -> Making {
+        match self {
+            Command::Seeds => Making::NewSecret,
+            Command::Send => Making::Secret,
+            _ => Making::Usual,
         }
     }
 
@@ -71,9 +96,12 @@ fn receiving(name: &str) -> Command
 {
     match name {
         "capture" => Command::Capture,
+        "chain" | "chain2" => Command::Chain,
         "receive" => Command::Receive,
         "record" => Command::Record,
         "relay" => Command::Relay,
+        "seeds" => Command::Seeds,
+        "send" => Command::Send,
         "watch" => Command::Watch,
         _ => Command::Other,
     }

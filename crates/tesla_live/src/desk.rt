@@ -1,23 +1,23 @@
 //! The desk of the running system.
 
-ghost use Rattle.std.specs.Prelude.{◌≡◌, None, Err, IfOk};
+ghost use Rattle.std.specs.Prelude.{◌≡◌, None, Err};
 ghost use Rattle.tesla_desk.specs.Faults.{HasCause, no_faults, raised_where_failed};
 ghost use Rattle.tesla_desk.specs.Live.{untold};
 ghost use Rattle.tesla_desk.specs.Outside.{Untold};
 
 use crate::clock::anchor_of;
-use crate::files::OpenedFiles;
+use crate::feeding::name_of_feed;
 use crate::gate::{Gates, LiveGate};
-use crate::object::OpenObject;
-use crate::sink::Target;
-use crate::{Anchor, Command, FileSink, FileSource, MachineClock, UdpLink, UdpPost, link, post};
-use std::io;
+use crate::{Anchor, Command, MachineClock};
 use std::net::Net;
 use std::rt::Files;
 use std::sync::Wait;
 use std::time::Clock;
 use tesla_base::Text;
 use tesla_desk::{CONSOLE, Desk, Environment, OpenRefusal, SinkOutput};
+use tesla_files_live::{FRONT, FileSink, FileSource, Making, Opened, OpenedFiles, Target};
+use tesla_net_live::{HeldName, Listening, Sending, UdpLink, UdpPost, bind, direct, hold};
+use tesla_reports::{Cause, Reporter};
 
 /// The files of the system, standard output under the name of the console, UDP sockets as links and posts, clocks over the
 /// system's, and gates that wake one another. It tells no bytes, no letters, no mail and no readings.
@@ -27,17 +27,35 @@ use tesla_desk::{CONSOLE, Desk, Environment, OpenRefusal, SinkOutput};
 ///
 /// A regular file that it opened before, or that is standard output, is refused as a sink, whatever the
 /// name, and is neither cut nor written.
+///
+/// What isn't opened, and what fails, it tells on standard error, with the name and the system's words.
 #[derive(Drop)]
 pub struct LiveDesk<'a, R> {
     rt: &'a R,
     gates: &'a Gates,
     command: Command,
+    // Under which name it tells.
+    label: &'static str,
     // When the run began: none before its first live end is opened.
     anchor: Option<Anchor>,
     opened: OpenedFiles,
+    // How many of each were opened or refused.
+    numbers: Numbers,
+    // The front of the first source that was closed, and what a feed holds.
+    front: Option<[u8; FRONT]>,
+    held: Option<HeldName>,
     reads: u64,
     writes: u64,
     openings: u64,
+}
+
+/// How many openings were asked for, of each kind.
+#[derive(Clone, Copy)]
+struct Numbers {
+    sources: u64,
+    outputs: u64,
+    links: u64,
+    posts: u64,
 }
 
 impl<'a, R: Files + Net + Clock + Eprint + Print + AllocGlobal + Wait + Sync> LiveDesk<'a, R>
@@ -48,16 +66,99 @@ where
     pub fn new(rt: &'a R, gates: &'a Gates, command: Command) -> LiveDesk<'a, R>
         ensures { (⟦<LiveDesk<'a, R> as Environment>⟧.told result).faults ≡ no_faults }
     {
+        LiveDesk::labelled(rt, gates, command, command.name())
+    }
+
+    /// The same, which tells on standard error under this name.
+    pub fn labelled(
+        rt: &'a R,
+        gates: &'a Gates,
+        command: Command,
+        label: &'static str,
+    ) -> LiveDesk<'a, R>
+        ensures { (⟦<LiveDesk<'a, R> as Environment>⟧.told result).faults ≡ no_faults }
+    {
         LiveDesk {
             rt,
             gates,
             command,
+            label,
             anchor: None,
             opened: OpenedFiles::new(rt.alloc()),
+            numbers: Numbers {
+                sources: 0,
+                outputs: 0,
+                links: 0,
+                posts: 0,
+            },
+            front: None,
+            held: None,
             reads: 0,
             writes: 0,
             openings: 0,
         }
+    }
+}
+
+impl<'a, R: Files + Net + Eprint> LiveDesk<'a, R> {
+    // Where the parts of the run tell what happened.
+    fn reporter(&self) -> Reporter<'a, R> {
+        Reporter::new(self.rt, self.label)
+    }
+
+    // Tells that a file isn't opened, where that isn't for want of memory.
+    fn tell_unopened(&self, what: &str, name: &str, cause: &Cause) {
+        if !cause.is_of_memory() {
+            self.reporter().cannot(what, name, cause);
+        }
+    }
+
+    // The same of a link or a post of this number.
+    fn tell_unbound(&self, what: &str, number: u64, name: &str, cause: &Cause) {
+        if !cause.is_of_memory() {
+            self.reporter().cannot_number(what, number, name, cause);
+        }
+    }
+
+    // Tells that others than its owner may read a file that is to be secret.
+    fn tell_readable(&self, is_secret: bool, name: &str, mode: u32) {
+        if is_secret && mode & 0o077 != 0 {
+            self.reporter().readable(name, mode);
+        }
+    }
+
+    // Refuses to begin where something stands already at the path that ends the links of the run.
+    fn look_for_stop(&self) -> Result<(), Cause> {
+        match self.gates.events.ending.stands(self.rt) {
+            Some(_) => Err(Cause::Form("something stands at the path of TESLA_STOP")),
+            None => Ok(()),
+        }
+    }
+
+    // What a feed holds, so that no other one of its stream runs on this machine.
+    fn hold_stream(&self) -> Result<Option<HeldName>, Cause> {
+        match (self.command, self.front) {
+            (Command::Feed, Some(front)) => {
+                let (name, length) = name_of_feed(&front);
+                Ok(Some(hold(self.rt, &name[..length])?))
+            }
+            _ => Ok(None),
+        }
+    }
+
+    // The socket of a link, and what a feed holds.
+    fn listening(&self, name: &str) -> Result<(Option<HeldName>, Listening), Cause> {
+        self.look_for_stop()?;
+        let held = self.hold_stream()?;
+        Ok((held, bind(self.rt, name)?))
+    }
+
+    // The socket of a post. A run that has opened a link has begun with that, and ends by it.
+    fn sending(&self, name: &str) -> Result<Sending, Cause> {
+        if self.numbers.links == 0 {
+            self.look_for_stop()?;
+        }
+        direct(self.rt, name)
     }
 }
 
@@ -66,15 +167,15 @@ impl<'a, R: Files + Net + Clock + Eprint + Print + AllocGlobal + Wait + Sync> En
 where
     R::File: Send,
 {
-    type In = FileSource<R::File>;
+    type In = FileSource<'a, R, R::File>;
 
     type Out = FileSink<'a, R>;
 
     type Pieces = SinkOutput<FileSink<'a, R>>;
 
-    type Wire = UdpLink;
+    type Wire = UdpLink<'a, R>;
 
-    type Port = UdpPost;
+    type Port = UdpPost<'a, R>;
 
     type Time = MachineClock<'a, R>;
 
@@ -82,37 +183,79 @@ where
 
     ghost told = { λ desk. record { page = λ _. Untold; left = λ _. None; faults = record { reads = desk.reads; writes = desk.writes; openings = desk.openings }; openings = None; live = untold } };
 
-    fn open_source(&mut self, name: &str) -> Result<FileSource<R::File>, OpenRefusal> {
+    fn open_source(&mut self, name: &str) -> Result<FileSource<'a, R, R::File>, OpenRefusal> {
         let source_name = Text::new(self.rt.alloc(), name.as_bytes())?;
-        let opened = self.opened.open(self.rt, name);
-        object_of(&mut self.openings, source_name, opened)
+        let number = take_number(&mut self.numbers.sources);
+        match self.opened.open(self.rt, name) {
+            Ok(Opened { file, mode }) => {
+                self.tell_readable(self.command.secret() == Some(number), name, mode);
+                Ok(FileSource::new(source_name, file, self.reporter()))
+            }
+            Err(cause) => {
+                self.tell_unopened("open to read", name, &cause);
+                Err(refusal_of(&mut self.openings, &cause))
+            }
+        }
     }
 
     fn open_console(&mut self) -> Result<FileSink<'a, R>, OpenRefusal> {
         let sink_name = Text::new(self.rt.alloc(), CONSOLE.as_bytes())?;
-        Ok(FileSink::new(sink_name, Target::Console(self.rt)))
+        Ok(FileSink::new(sink_name, Target::Console(self.rt), self.reporter()))
     }
 
     fn open_output(&mut self, name: &str) -> Result<SinkOutput<FileSink<'a, R>>, OpenRefusal> {
+        let number = take_number(&mut self.numbers.outputs);
         match self.open_sink(name) {
-            Ok(sink) => Ok(SinkOutput { sink }),
+            Ok(sink) => {
+                if number < self.gates.events.sinks() {
+                    let sink = sink.of_records(&self.gates.events);
+                    return Ok(SinkOutput { sink });
+                }
+                Ok(SinkOutput { sink })
+            }
             Err(refusal) => Err(refusal),
         }
     }
 
-    fn open_link(&mut self, name: &str) -> Result<UdpLink, OpenRefusal> {
+    fn open_link(&mut self, name: &str) -> Result<UdpLink<'a, R>, OpenRefusal> {
         let _began = begin(&mut self.anchor, self.rt, self.command);
         let link_name = Text::new(self.rt.alloc(), name.as_bytes())?;
-        object_of(&mut self.openings, link_name, link::bind(self.rt, name))
+        let number = take_number(&mut self.numbers.links);
+        match self.listening(name) {
+            Ok((held, listening)) => {
+                self.held = held;
+                let ending = &self.gates.events.ending;
+                let reporter = self.reporter();
+                Ok(UdpLink::new(link_name, listening, ending, reporter, number))
+            }
+            Err(cause) => {
+                self.tell_unbound("bind link", number, name, &cause);
+                Err(refusal_of(&mut self.openings, &cause))
+            }
+        }
     }
 
-    fn open_post(&mut self, name: &str) -> Result<UdpPost, OpenRefusal> {
+    fn open_post(&mut self, name: &str) -> Result<UdpPost<'a, R>, OpenRefusal> {
         let _began = begin(&mut self.anchor, self.rt, self.command);
         let post_name = Text::new(self.rt.alloc(), name.as_bytes())?;
-        object_of(&mut self.openings, post_name, post::direct(self.rt, name))
+        let number = take_number(&mut self.numbers.posts);
+        match self.sending(name) {
+            Ok(sending) => {
+                let unsent = &self.gates.events.tallies.unsent;
+                let reporter = self.reporter();
+                Ok(UdpPost::new(post_name, sending, unsent, reporter, number))
+            }
+            Err(cause) => {
+                self.tell_unbound("send to post", number, name, &cause);
+                Err(refusal_of(&mut self.openings, &cause))
+            }
+        }
     }
 
-    fn close_source(&mut self, it: FileSource<R::File>) {
+    fn close_source(&mut self, it: FileSource<'a, R, R::File>) {
+        if self.front.is_none() {
+            self.front = Some(it.front());
+        }
         count_failed(&mut self.reads, it.faults);
     }
 
@@ -125,11 +268,11 @@ where
         self.close_sink(sink);
     }
 
-    fn close_link(&mut self, it: UdpLink) {
+    fn close_link(&mut self, it: UdpLink<'a, R>) {
         count_failed(&mut self.reads, it.faults);
     }
 
-    fn close_post(&mut self, it: UdpPost) {
+    fn close_post(&mut self, it: UdpPost<'a, R>) {
         count_failed(&mut self.writes, it.faults);
     }
 
@@ -153,11 +296,27 @@ where
             return self.open_console();
         }
         let sink_name = Text::new(self.rt.alloc(), name.as_bytes())?;
-        match self.opened.create(self.rt, name) {
-            Ok(file) => Ok(FileSink::new(sink_name, Target::File(file))),
-            Err(error) => Err(refusal_of(&mut self.openings, error)),
+        let making = self.command.making();
+        match self.opened.create(self.rt, name, making) {
+            Ok(Opened { file, mode }) => {
+                self.tell_readable(making != Making::Usual, name, mode);
+                Ok(FileSink::new(sink_name, Target::File(file), self.reporter()))
+            }
+            Err(cause) => {
+                self.tell_unopened("open to write", name, &cause);
+                Err(refusal_of(&mut self.openings, &cause))
+            }
         }
     }
+}
+
+// The number of the next opening of a kind, counted from 0. It stands still at 2^64 - 1.
+fn take_number(count: &mut u64) -> u64
+    ensures { result ≡ count.old }
+{
+    let number = *count;
+    *count = count.saturating_add(1);
+    number
 }
 
 // Counts an object that failed, by how often it did.
@@ -169,27 +328,11 @@ fn count_failed(count: &mut u64, faults: u64)
     }
 }
 
-// The object that was opened under a name, or what its error means.
-fn object_of<T>(
-    openings: &mut u64,
-    name: Text,
-    opened: io::Result<T>,
-) -> Result<OpenObject<T>, OpenRefusal>
-    ensures named { IfOk result (λ it. it.name ≡ name) }
-    ensures fresh { IfOk result (λ it. it.faults ≡ 0) }
-    ensures cause { HasCause openings.old openings.new (result ≡ Err OpenRefusal.Failed) }
-{
-    match opened {
-        Ok(it) => Ok(OpenObject::new(name, it)),
-        Err(error) => Err(refusal_of(openings, error)),
-    }
-}
-
-// What an error of the system means for an opening. All but want of memory are faults.
-fn refusal_of(openings: &mut u64, error: io::Error) -> OpenRefusal
+// What it means for an opening that something can't be had. All but want of memory are faults.
+fn refusal_of(openings: &mut u64, cause: &Cause) -> OpenRefusal
     ensures { HasCause openings.old openings.new (result ≡ OpenRefusal.Failed) }
 {
-    if error.kind() == io::ErrorKind::OutOfMemory {
+    if cause.is_of_memory() {
         return OpenRefusal::NoMemory;
     }
     *openings = openings.saturating_add(1);

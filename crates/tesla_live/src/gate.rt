@@ -6,6 +6,7 @@ use std::sync::atomic::AtomicU64;
 use std::sync::atomic::Ordering::SeqCst;
 use std::time::Duration;
 use tesla_desk::Gate;
+use tesla_reports::Events;
 
 /// How many microseconds a gate rests at most.
 const REST: u64 = 100_000;
@@ -15,6 +16,8 @@ const REST: u64 = 100_000;
 pub struct Gates {
     // What the clocks told.
     pub(crate) notices: Notices,
+    // What all parts of the run share.
+    pub(crate) events: Events,
     // How often something was released.
     generation: AtomicU64,
     // How many gates rest.
@@ -22,10 +25,16 @@ pub struct Gates {
 }
 
 impl Gates {
-    /// Nothing was released yet, and no gate rests.
+    /// Nothing was released yet, and no gate rests. Nothing ends the links of the run from without.
     pub fn new() -> Gates {
+        Gates::of(Events::new(None, 0, false))
+    }
+
+    /// The same of a run of which this is told.
+    pub fn of(events: Events) -> Gates {
         Gates {
             notices: Notices::new(),
+            events,
             generation: AtomicU64::new(0),
             resting: AtomicU64::new(0),
         }

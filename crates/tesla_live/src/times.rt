@@ -4,24 +4,15 @@ ghost use Rattle.std.specs.Prelude.{◌≡◌, ◌/◌, ◌-◌, ◌^◌, min};
 ghost use Rattle.std.specs.Duration.{as_nanos};
 
 use crate::rule::Times;
-use libc::types::timespec;
 use std::time::{Clock, Duration};
-
-/// The number of the clock that counts from the machine's start, goes on while it is suspended and can't be set
-/// (`CLOCK_BOOTTIME` of Linux).
-const SINCE_BOOT: i32 = 7;
+use tesla_reports::{SINCE_BOOT, read_clock};
 
 /// What both clocks of the system read now.
 pub fn times_now<R: Clock>(rt: &R) -> Times {
     Times {
         since_1970: since_1970(rt),
-        since_boot: read(SINCE_BOOT),
+        since_boot: read_clock(SINCE_BOOT),
     }
-}
-
-/// Microseconds of a clock that is never set back, from some moment on.
-pub(crate) fn monotonic() -> u64 {
-    read(libc::CLOCK_MONOTONIC).unwrap_or(0)
 }
 
 // Microseconds since 1970. `None` where the clock can't be read or stands before 1970.
@@ -37,17 +28,4 @@ fn micros(since: Duration) -> u64
     ensures { result ≡ min (as_nanos since / 1000) (2 ^ 64 - 1) }
 {
     u64::try_from(since.as_micros()).unwrap_or(u64::MAX)
-}
-
-// Microseconds of the system's clock of this number. `None` where it can't be read.
-fn read(clock: i32) -> Option<u64> {
-    let mut time = timespec {
-        tv_sec: 0,
-        tv_nsec: 0,
-    };
-    if libc::clock_gettime(clock, &mut time) != 0 {
-        return None;
-    }
-    let seconds = time.tv_sec.unsigned_abs().saturating_mul(1_000_000);
-    Some(seconds.saturating_add(time.tv_nsec.unsigned_abs() / 1_000))
 }

@@ -15,11 +15,11 @@ use Rattle.tesla_relay.specs.declared.relayed.RelayEnd.TheVariants.{Ended}
 -- ---- feeds
 
 same_feeds : {X : Type 0} (a b c : Feed X) → IsSameFeed a b → IsSameFeed b c → IsSameFeed a c
-same_feeds a b c one two = record { table = two.table ∙ one.table; capacity = two.capacity ∙ one.capacity }
+same_feeds a b c one two = record { table = two.table ∙ one.table; capacity = two.capacity ∙ one.capacity; post = two.post ∙ one.post }
 
 pub feeds_none : {X : Type 0} (feeds : List (Feed X)) → AreFeeding feeds → Each (FeedsOn []) feeds feeds
 feeds_none [] feeding = tt
-feeds_none (feed ∷ feeds) feeding = (record { feeding = feeding.0; same = record { table = refl; capacity = refl }; fed = λ before fed. subst (λ (all : List (List ℕ)). Fed all feed) (sym (append-nil before)) fed; came = omega (arith, feeding.0.counts) }, feeds_none feeds feeding.1)
+feeds_none (feed ∷ feeds) feeding = (record { feeding = feeding.0; same = record { table = refl; capacity = refl; post = refl }; fed = λ before fed. subst (λ (all : List (List ℕ)). Fed all feed) (sym (append-nil before)) fed; came = omega (arith, feeding.0.counts) }, feeds_none feeds feeding.1)
 
 feeds_then : {X : Type 0} (arrived more : List (List ℕ)) (a b c : List (Feed X)) → Each (FeedsOn arrived) a b → Each (FeedsOn more) b c → Each (FeedsOn (arrived ++ more)) a c
 feeds_then arrived more [] [] [] one two = tt

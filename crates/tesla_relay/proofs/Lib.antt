@@ -1,3 +1,4 @@
+mod Balanced
 pub mod Causes
 pub mod Due
 pub mod Feeding
@@ -5,6 +6,7 @@ pub mod Heard
 pub mod HeardSoFar
 pub mod Moves
 pub mod Numbered
+mod Offering
 pub mod Queued
 pub mod Sending
 pub mod Settled

@@ -68,6 +68,7 @@ Closed arrived feed = (items : List Item) × (view feed.pass ≡ put_log (items 
 pub record IsSameFeed {X : Type 0} (old new : Feed X) : Type 0 where
   pub table : new.pass.table_id ≡ old.pass.table_id
   pub capacity : new.capacity ≡ old.capacity
+  pub post : new.post ≡ old.post
 
 -- ---- the server
 

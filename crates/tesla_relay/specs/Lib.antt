@@ -1,5 +1,7 @@
 pub mod Line
+pub mod Buffers
 pub mod Numbered
+pub mod Offers
 pub mod Relay
 pub mod Feeding
 pub mod Lists

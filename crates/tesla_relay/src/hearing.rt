@@ -3,10 +3,12 @@
 ghost use Rattle.std.specs.Prelude.{All, ◌≡◌, ◌<◌, ◌≤◌, ◌-◌, ◌^◌, ◌∷◌, [], ℕ, List, IfSome, take, length, map, true};
 ghost use Rattle.tesla_desk.specs.Faults.{HasCause};
 ghost use Rattle.tesla_relay.specs.Feeding.{IsFeeding, ServesOn};
-ghost use Rattle.tesla_relay.specs.Lists.{AreFeeding, AreServing, Each, FeedsAll, FeedsOn, HaveCome, HearsLink, HearsOn, MayServe};
+ghost use Rattle.tesla_relay.specs.Lists.{AreFeeding, AreServing, Each, FeedsAll, HaveCome, HearsLink, HearsOn, MayServe};
+ghost use Rattle.tesla_relay.specs.Offers.{MayHear, Offers};
 
 use crate::basis::Based;
 use crate::feed::Feed;
+use crate::post_queues::PostQueues;
 use crate::relayed::RelayEnd;
 use crate::server::Serve;
 use std::sync::Wait;
@@ -14,22 +16,22 @@ use std::thread::{Threads, for_each_mut};
 use tesla_base::MOST_DATAGRAM;
 use tesla_desk::{Gate, Got, Link};
 
-// Puts a datagram, which stands at the start of these bytes, into each queue that has room. All is done in this thread.
-fn offer_all<R: Threads + Wait + Sync, X: Based + Send + Sync>(
+// Puts a datagram, which stands at the start of these bytes, into each queue that has room, one after another.
+fn offer_all<R: Wait, X: Based, Q: PostQueues>(
     rt: &R,
     feeds: &mut [Feed<X>],
     length: u16,
     bytes: &[u8; MOST_DATAGRAM],
 )
-    requires feeding { All IsFeeding feeds.old }
-    requires brought { All (λ feed. feed.came < 2 ^ 62 - 2 → X.basis.brought feed.came (take length bytes.now) ≡ true) feeds.old }
-    ensures { Each (FeedsOn (take length bytes.now ∷ [])) feeds.old feeds.new }
+    requires feeding { AreFeeding feeds.old }
+    requires brought { (number : ℕ) × HaveCome number feeds.old × (X.basis.brought number (take length bytes.now) ≡ true) }
+    ensures { Each (Offers (Q.was_put X.basis.brought) (Q.was_full X.basis.brought) (take length bytes.now)) feeds.old feeds.new }
 {
-    let offer = |_place: usize, feed: &mut Feed<X>|
-        requires { IsFeeding feed.now × (feed.now.came < 2 ^ 62 - 2 → X.basis.brought feed.now.came (take length bytes.now) ≡ true) }
-        ensures { FeedsOn (take length bytes.entry.now ∷ []) feed.entry.now feed.exit.now }
-    { feed.offer(rt, length, bytes) };
-    for_each_mut(rt, feeds, 1, &offer);
+    let Some((feed, others)) = feeds.split_first_mut() else {
+        return;
+    };
+    feed.offer::<R, Q>(rt, length, bytes);
+    offer_all::<R, X, Q>(rt, others, length, bytes);
 }
 
 // Puts the end into each queue. All is done in this thread.
@@ -57,7 +59,13 @@ fn empty_all<R: Threads + Wait + Sync, W: Serve + Send>(rt: &R, servers: &mut [W
 }
 
 // Puts a datagram into the queues, with the gate around it, and serves those that stand here.
-fn hand_on<R: Threads + Wait + Sync, X: Based + Send + Sync, G: Gate, W: Serve + Send>(
+fn hand_on<
+    R: Threads + Wait + Sync,
+    X: Based + Send + Sync,
+    Q: PostQueues,
+    G: Gate,
+    W: Serve + Send,
+>(
     rt: &R,
     gate: &mut G,
     feeds: &mut [Feed<X>],
@@ -69,25 +77,27 @@ fn hand_on<R: Threads + Wait + Sync, X: Based + Send + Sync, G: Gate, W: Serve +
     requires brought { (number : ℕ) × HaveCome number feeds.old × (X.basis.brought number (take length bytes.now) ≡ true) }
     requires feeding { AreFeeding feeds.old }
     requires serving { AreServing W.basis (map W.seen here.old) }
-    ensures feeds { Each (FeedsOn (take length bytes.now ∷ [])) feeds.old feeds.new }
+    ensures feeds { Each (Offers (Q.was_put X.basis.brought) (Q.was_full X.basis.brought) (take length bytes.now)) feeds.old feeds.new }
     ensures here { Each ServesOn (map W.seen here.old) (map W.seen here.new) }
 {
     gate.before();
-    offer_all(rt, feeds, length as u16, bytes);
+    offer_all::<R, X, Q>(rt, feeds, length as u16, bytes);
     gate.released();
     gate.after();
     empty_all(rt, here);
 }
 
 // Puts each datagram of the link into the queues, until the link ends or fails.
-fn hear<R: Threads + Wait + Sync, X: Based + Send + Sync, K: Link, G: Gate, W: Serve + Send>(
-    rt: &R,
-    link: &mut K,
-    gate: &mut G,
-    feeds: &mut [Feed<X>],
-    here: &mut [W],
-) -> RelayEnd
+fn hear<
+    R: Threads + Wait + Sync,
+    X: Based + Send + Sync,
+    Q: PostQueues,
+    K: Link,
+    G: Gate,
+    W: Serve + Send,
+>(rt: &R, link: &mut K, gate: &mut G, feeds: &mut [Feed<X>], here: &mut [W]) -> RelayEnd
     requires link { (K.has_brought link.old 0 ≡ true) × (X.basis.brought ≡ K.brought) }
+    requires next { MayHear (Q.was_put K.brought) (Q.was_full K.brought) K.has_brought K.may_ask feeds.old }
     requires feeding { AreFeeding feeds.old × HaveCome 0 feeds.old }
     requires serving { AreServing W.basis (map W.seen here.old) }
     ensures hears { HearsOn (K.left link.old) (K.left link.new) feeds.old feeds.new }
@@ -99,7 +109,9 @@ fn hear<R: Threads + Wait + Sync, X: Based + Send + Sync, K: Link, G: Gate, W: S
     let mut buffer = [0; MOST_DATAGRAM];
     for _ in rt.forever() {
         match link.next(&mut buffer) {
-            Got::Datagram(length) => hand_on(rt, gate, feeds, here, length, &buffer),
+            Got::Datagram(length) => hand_on::<R, X, Q, G, W>(
+                rt, gate, feeds, here, length, &buffer,
+            ),
             Got::Quiet => {}
             Got::End => return RelayEnd::Ended,
             Got::Failed => return RelayEnd::Failed,
@@ -114,17 +126,19 @@ fn hear<R: Threads + Wait + Sync, X: Based + Send + Sync, K: Link, G: Gate, W: S
 pub fn hear_all<
     R: Threads + Wait + Sync,
     X: Based + Send + Sync,
+    Q: PostQueues,
     K: Link,
     G: Gate,
     W: Serve + Send,
 >(rt: &R, link: &mut K, gate: &mut G, feeds: &mut [Feed<X>], here: &mut [W]) -> RelayEnd
     requires link { (K.has_brought link.old 0 ≡ true) × (X.basis.brought ≡ K.brought) }
+    requires next { MayHear (Q.was_put K.brought) (Q.was_full K.brought) K.has_brought K.may_ask feeds.old }
     requires feeding { AreFeeding feeds.old × HaveCome 0 feeds.old }
     requires serving { AreServing W.basis (map W.seen here.old) }
     ensures hears { HearsLink result (K.left link.old) (K.left link.new) (K.faults link.old) (K.faults link.new) (K.name link.old) (K.name link.new) feeds.old feeds.new }
     ensures here { Each ServesOn (map W.seen here.old) (map W.seen here.new) }
 {
-    let end = hear(rt, link, gate, feeds, here);
+    let end = hear::<R, X, Q, K, G, W>(rt, link, gate, feeds, here);
     gate.before();
     close_all(rt, feeds);
     gate.released();

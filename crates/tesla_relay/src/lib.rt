@@ -7,6 +7,7 @@ mod feed;
 mod hearing;
 mod line;
 mod playing;
+mod post_queues;
 mod posts;
 mod queues;
 mod relayed;
@@ -15,6 +16,7 @@ mod server;
 mod serving;
 
 pub use playing::{PlayEnd, play};
+pub use post_queues::PostQueues;
 pub use posts::{close_posts, open_posts};
 pub use relayed::{PostCount, RelayEnd, Relayed};
 pub use relaying::relay;

@@ -1,10 +1,11 @@
 //! The queues before the posts, from their making to the counts.
 
-ghost use Rattle.std.specs.Prelude.{◌≡◌, ◌<◌, ◌≤◌, ◌+◌, [], ℕ, List, IfOk, length, map, true, vec_len, vec_capacity};
+ghost use Rattle.std.specs.Prelude.{◌≡◌, ◌<◌, ◌≤◌, ◌+◌, ◌++◌, [], ℕ, List, IfOk, length, map, true, vec_len, vec_capacity};
 ghost use Rattle.std.specs.Arc.{arc_value};
 ghost use Rattle.tesla_relay.specs.Due.{IsNextRelayed};
 ghost use Rattle.tesla_relay.specs.Posts.{PostSeen};
 ghost use Rattle.tesla_relay.specs.Lists.{Ends};
+ghost use Rattle.tesla_relay.specs.Offers.{AreNumbered};
 ghost use Rattle.tesla_relay.specs.Queues.{Adds, AreNew, Ending, GivesBack, IsEnding, IsNew, Starting};
 ghost use Rattle.tesla_relay.specs.Relay.{RelaysPost, RelaysPosts};
 
@@ -26,7 +27,7 @@ pub struct Queue<X: Based> {
     pub feed: Feed<X>,
     pub line: Arc<Line<X>>,
     pub pass: LinePass,
-    pub free: Arc<FreeBuffers>,
+    pub free: FreeBuffers,
 }
 
 // Two owners of a value.
@@ -44,7 +45,7 @@ fn new_queue<X: Based>(alloc: Global, capacity: usize) -> Result<Queue<X>, NoMem
     requires { (1 ≤ capacity) × (capacity ≤ 4096) }
     ensures { IfOk result (λ queue. IsNew capacity queue) }
 {
-    let (free, same) = shared(alloc, new_buffers(alloc, capacity + 3)?)?;
+    let (free, same) = new_buffers(alloc, capacity + 3)?;
     let (line, put, popped) = new_line(alloc, capacity + 1)?;
     let (line, other) = shared(alloc, line)?;
     Ok(Queue {
@@ -88,6 +89,7 @@ pub fn take_in<X: Based, P: Post, G: Gate>(
     requires space { (vec_len feeds.old + length posts.old.items ≤ vec_capacity feeds.old) × (vec_len servers.old + length posts.old.items ≤ vec_capacity servers.old) }
     requires due { (post : P) (datagram : List ℕ) → IsNextRelayed X.basis (record { name = P.name post; sent = P.sent post; faults = P.faults post }) datagram → P.may_send post datagram ≡ true }
     ensures starting { (capacity : ℕ) → AreNew capacity queues.old.items → Adds (Starting capacity) (map (λ post. record { name = P.name post; sent = P.sent post; faults = P.faults post }) posts.old.items) feeds.old.items feeds.new.items servers.old.items servers.new.items }
+    ensures numbered { (own : List (Feed X)) × (feeds.new.items ≡ feeds.old.items ++ own) × AreNumbered own × (length own ≡ length posts.old.items) }
     ensures empty { (posts.new.items ≡ []) × (gates.new.items ≡ []) }
     ensures capacity { (vec_capacity posts.new ≡ vec_capacity posts.old) × (vec_capacity gates.new ≡ vec_capacity gates.old) }
 {
@@ -101,11 +103,12 @@ pub fn take_in<X: Based, P: Post, G: Gate>(
         unreachable!()
     };
     let Queue {
-        feed,
+        mut feed,
         line,
         pass,
         free,
     } = queue;
+    feed.post = posts.len();
     feeds.push_reserved(feed);
     servers.push_reserved(Server::new(post, gate, line, pass, free));
     take_in(queues, posts, gates, feeds, servers);
@@ -123,6 +126,7 @@ fn settle_one<X: Based, P: Post, G: Gate>(
         line,
         pass: mut put,
         free: _,
+        post: _,
         capacity: _,
         came: _,
         dropped,

@@ -3,6 +3,7 @@
 ghost use Rattle.std.specs.Prelude.{◌≡◌, ◌≤◌, [], ℕ, List, IfOk, MatchResult, OnErr, map, length, true, vec_capacity};
 ghost use Rattle.tesla_desk.specs.Faults.{HasCause};
 ghost use Rattle.tesla_relay.specs.Due.{IsNextRelayed};
+ghost use Rattle.tesla_relay.specs.Offers.{MayAskNext};
 ghost use Rattle.tesla_relay.specs.Posts.{PostSeen};
 ghost use Rattle.tesla_relay.specs.Queues.{AreNew};
 ghost use Rattle.tesla_relay.specs.Relay.{Relays};
@@ -10,6 +11,7 @@ ghost use Rattle.tesla_relay.specs.declared.relayed.RelayEnd.TheVariants.{Failed
 
 use crate::basis::Based;
 use crate::feed::Feed;
+use crate::post_queues::PostQueues;
 use crate::queues::{Queue, give_back, new_queues, take_in};
 use crate::relayed::Relayed;
 use crate::server::Server;
@@ -55,6 +57,7 @@ fn make_rooms<X: Based, P: Post, G: Gate>(
 fn relay_in<
     R: Threads + Wait + Sync,
     X: Based + Send + Sync,
+    Q: PostQueues,
     K: Link,
     P: Post + Send,
     G: Gate + Send,
@@ -68,7 +71,7 @@ fn relay_in<
 ) -> Relayed
     requires some { (1 ≤ length posts.old.items) × (length posts.old.items ≤ 32) × (length gates.old.items ≡ length posts.old.items) }
     requires rooms { (rooms.feeds.items ≡ []) × (rooms.servers.items ≡ []) × (length rooms.queues.items ≡ length posts.old.items) × (length posts.old.items ≤ vec_capacity rooms.feeds) × (length posts.old.items ≤ vec_capacity rooms.servers) }
-    requires new { (capacity : ℕ) × AreNew capacity rooms.queues.items }
+    requires new { (capacity : ℕ) × AreNew capacity rooms.queues.items × MayAskNext (Q.was_put K.brought) (Q.was_full K.brought) K.has_brought K.may_ask capacity (length posts.old.items) }
     requires link { (K.has_brought link.old 0 ≡ true) × (X.basis.brought ≡ K.brought) }
     requires posts { X.basis.posts ≡ map (λ post. record { name = P.name post; sent = P.sent post; faults = P.faults post }) posts.old.items }
     requires due { (post : P) (datagram : List ℕ) → IsNextRelayed X.basis (record { name = P.name post; sent = P.sent post; faults = P.faults post }) datagram → P.may_send post datagram ≡ true }
@@ -82,7 +85,13 @@ fn relay_in<
         mut servers,
     } = rooms;
     take_in(&mut queues, posts, gates, &mut feeds, &mut servers);
-    let end = run_all(rt, link, gate, feeds.as_mut_slice(), servers.as_mut_slice());
+    let end = run_all::<R, X, Q, K, G, Server<X, P, G>>(
+        rt,
+        link,
+        gate,
+        feeds.as_mut_slice(),
+        servers.as_mut_slice(),
+    );
     let mut counts = ArrayVec::new();
     give_back(&mut feeds, &mut servers, posts, gates, &mut counts);
     servers.destroy_empty();
@@ -93,6 +102,7 @@ fn relay_in<
 fn relay_based<
     R: Threads + Wait + Sync,
     X: Based + Send + Sync,
+    Q: PostQueues,
     K: Link,
     P: Post + Send,
     G: Gate + Send,
@@ -109,6 +119,7 @@ fn relay_based<
     requires gates { length gates.old.items ≡ length posts.old.items }
     requires capacity { (1 ≤ capacity) × (capacity ≤ 4096) }
     requires link { (K.has_brought link.old 0 ≡ true) × (X.basis.brought ≡ K.brought) }
+    requires next { MayAskNext (Q.was_put K.brought) (Q.was_full K.brought) K.has_brought K.may_ask capacity (length posts.old.items) }
     requires posts { X.basis.posts ≡ map (λ post. record { name = P.name post; sent = P.sent post; faults = P.faults post }) posts.old.items }
     requires due { (post : P) (datagram : List ℕ) → IsNextRelayed X.basis (record { name = P.name post; sent = P.sent post; faults = P.faults post }) datagram → P.may_send post datagram ≡ true }
     ensures relays { IfOk result (λ it. Relays capacity (K.left link.old) (K.left link.new) (map (λ post. record { name = P.name post; sent = P.sent post; faults = P.faults post }) posts.old.items) (map (λ post. record { name = P.name post; sent = P.sent post; faults = P.faults post }) posts.new.items) it.end it.counts.items) }
@@ -118,7 +129,7 @@ fn relay_based<
     ensures name { K.name link.new ≡ K.name link.old }
 {
     match make_rooms::<X, P, G>(alloc, posts.len(), capacity as usize) {
-        Ok(rooms) => Ok(relay_in(rt, link, gate, posts, gates, rooms)),
+        Ok(rooms) => Ok(relay_in::<R, X, Q, K, P, G>(rt, link, gate, posts, gates, rooms)),
         Err(refusal) => Err(refusal),
     }
 }
@@ -128,7 +139,8 @@ fn relay_based<
 /// any behind the first 2^62 - 2 of the link.
 ///
 /// Each post may send what comes next for it: datagrams that the link brought, in order and each once. Nothing else is
-/// sent, whether the run ends or not.
+/// sent, whether the run ends or not. The link may be asked for its next letter once each datagram that it brought was put
+/// into the queue of each post, or found `capacity` items there, or lies behind the first 2^62 - 2 (`MayAskNext`).
 ///
 /// The caller reads the link, with `gate` around each datagram that it puts into the queues, and around the end. Each post
 /// sends in a thread of its own, with its own gate around each datagram; where so many threads can't be made, the caller
@@ -136,7 +148,7 @@ fn relay_based<
 /// their gates are given back in their order.
 ///
 /// `Err`: there was no memory, and nothing was read. It waits for the link, and nothing is promised of when it ends.
-pub fn relay<R: Threads + Wait + Sync, K: Link, P: Post + Send, G: Gate + Send>(
+pub fn relay<R: Threads + Wait + Sync, Q: PostQueues, K: Link, P: Post + Send, G: Gate + Send>(
     rt: &R,
     alloc: Global,
     link: &mut K,
@@ -149,6 +161,7 @@ pub fn relay<R: Threads + Wait + Sync, K: Link, P: Post + Send, G: Gate + Send>(
     requires gates { length gates.old.items ≡ length posts.old.items }
     requires capacity { (1 ≤ capacity) × (capacity ≤ 4096) }
     requires new { K.has_brought link.old 0 ≡ true }
+    requires next { MayAskNext (Q.was_put K.brought) (Q.was_full K.brought) K.has_brought K.may_ask capacity (length posts.old.items) }
     requires due { let seen : P → PostSeen = λ post. record { name = P.name post; sent = P.sent post; faults = P.faults post } in
         (post : P) (datagram : List ℕ) → IsNextRelayed (record { brought = K.brought; posts = map seen posts.old.items }) (seen post) datagram → P.may_send post datagram ≡ true }
     ensures relays { IfOk result (λ it. Relays capacity (K.left link.old) (K.left link.new) (map (λ post. record { name = P.name post; sent = P.sent post; faults = P.faults post }) posts.old.items) (map (λ post. record { name = P.name post; sent = P.sent post; faults = P.faults post }) posts.new.items) it.end it.counts.items) }
@@ -157,5 +170,5 @@ pub fn relay<R: Threads + Wait + Sync, K: Link, P: Post + Send, G: Gate + Send>(
     ensures cause { HasCause (K.faults link.old) (K.faults link.new) (MatchResult result (λ it. it.end ≡ Failed) (λ _. ⊥)) }
     ensures name { K.name link.new ≡ K.name link.old }
 {
-    relay_based::<R, Brand, K, P, G>(rt, alloc, link, gate, posts, gates, capacity)
+    relay_based::<R, Brand, Q, K, P, G>(rt, alloc, link, gate, posts, gates, capacity)
 }

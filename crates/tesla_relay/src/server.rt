@@ -67,7 +67,7 @@ pub struct Server<X: Based, P: Post, G: Gate> {
     pub line: Arc<Line<X>>,
     pub pass: LinePass,
     // Where a buffer goes once its datagram is sent.
-    pub free: Arc<FreeBuffers>,
+    pub free: FreeBuffers,
     /// How many were sent. The count stands still at 2^64 - 1.
     pub sent: u64,
     /// Whether the post failed.
@@ -92,7 +92,7 @@ impl<X: Based, P: Post, G: Gate> Server<X, P, G> {
         gate: G,
         line: Arc<Line<X>>,
         pass: LinePass,
-        free: Arc<FreeBuffers>,
+        free: FreeBuffers,
     ) -> Server<X, P, G>
         requires due { (post : P) (datagram : List ℕ) → IsNextRelayed X.basis (record { name = P.name post; sent = P.sent post; faults = P.faults post }) datagram → P.may_send post datagram ≡ true }
         ensures post { result.post ≡ record { name = P.name post; sent = P.sent post; faults = P.faults post } }
@@ -141,7 +141,7 @@ impl<X: Based, P: Post, G: Gate> Server<X, P, G> {
                 },
             ) => {
                 self.send(datagram_in(length, &bytes));
-                give_buffer(rt, &self.free, bytes);
+                give_buffer(rt, &mut self.free, bytes);
                 Served::Datagram
             }
             Some(Item::End) => Served::End,

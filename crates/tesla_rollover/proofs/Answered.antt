@@ -106,33 +106,27 @@ setups_of_given (Given h p ∷ replies) = append-nil (setup_in p)
 setups_of_given (Empty ∷ replies) = setups_of_given replies
 setups_of_given (Over ∷ replies) = setups_of_given replies
 
-judged_from : (configs : List Config) (old spent none : Bool) (newest : ℕ) (r : Result Parts (ℕ × SetupKind)) → cond old (nexts.Old newest) (cond spent nexts.EpochsSpent (cond none nexts.NoMemory (next_judged configs r))) ≡ nexts.Opened → next_judged configs r ≡ nexts.Opened
-judged_from configs true spent none newest r is = absurd cc
-judged_from configs false true none newest r is = absurd cc
-judged_from configs false false true newest r is = absurd cc
-judged_from configs false false false newest r is = is
+judged_from : (old spent : Bool) (newest : ℕ) (spelled : Next) → cond old (nexts.Old newest) (cond spent nexts.EpochsSpent spelled) ≡ nexts.Opened → (spent ≡ false) × (spelled ≡ nexts.Opened)
+judged_from true spent newest spelled is = absurd cc
+judged_from false true newest spelled is = absurd cc
+judged_from false false newest spelled is = (refl, is)
 
-opened_setup : (configs : List Config) (r : Result Parts (ℕ × SetupKind)) → next_judged configs r ≡ nexts.Opened → (setup : Parts) × (setup_judged r ≡ setup ∷ [])
-opened_setup configs (Err refused) is = absurd cc
-opened_setup configs (Ok setup) is = (setup, refl)
+opened_setup : (configs : List Config) (enough : Bool) (r : Result Parts (ℕ × SetupKind)) → next_judged configs enough r ≡ nexts.Opened → (setup : Parts) × (setup_judged r ≡ setup ∷ [])
+opened_setup configs enough (Err refused) is = absurd cc
+opened_setup configs enough (Ok setup) is = (setup, refl)
 
 spelled_setup : (configs : List Config) (epoch : ℕ) (enough : Bool) (text : Option (List ℕ)) → next_spelled configs epoch enough text ≡ nexts.Opened → (setup : Parts) × (setup_spelled text ≡ setup ∷ [])
 spelled_setup configs epoch enough None is = absurd cc
 spelled_setup configs epoch enough (Some text) is =
-    opened_setup configs (judged text) (judged_from configs (not (suc epoch == length configs)) (length configs == most_epochs) (not enough) (length configs - 1) (judged text) is)
+    opened_setup configs enough (judged text) (judged_from (not (suc epoch == length configs)) (length configs == most_epochs) (length configs - 1) (next_judged configs enough (judged text)) is).1
 
 -- a payload that opens an epoch spells its setup
 pub opens_setup : (configs : List Config) (epoch : ℕ) (enough : Bool) (payload : List ℕ) → next_of configs epoch enough payload ≡ nexts.Opened → (setup : Parts) × (setup_in payload ≡ setup ∷ [])
 opens_setup configs epoch enough payload is = spelled_setup configs epoch enough (handover_text payload) is
 
-room_from : (configs : List Config) (old spent none : Bool) (newest : ℕ) (r : Result Parts (ℕ × SetupKind)) → cond old (nexts.Old newest) (cond spent nexts.EpochsSpent (cond none nexts.NoMemory (next_judged configs r))) ≡ nexts.Opened → spent ≡ false
-room_from configs true spent none newest r is = absurd cc
-room_from configs false true none newest r is = absurd cc
-room_from configs false false none newest r is = refl
-
 spelled_room : (configs : List Config) (epoch : ℕ) (enough : Bool) (text : Option (List ℕ)) → next_spelled configs epoch enough text ≡ nexts.Opened → (length configs == most_epochs) ≡ false
 spelled_room configs epoch enough None is = absurd cc
-spelled_room configs epoch enough (Some text) is = room_from configs (not (suc epoch == length configs)) (length configs == most_epochs) (not enough) (length configs - 1) (judged text) is
+spelled_room configs epoch enough (Some text) is = (judged_from (not (suc epoch == length configs)) (length configs == most_epochs) (length configs - 1) (next_judged configs enough (judged text)) is).0
 
 -- a payload opens an epoch only where not all are open that may be
 pub opens_room : (configs : List Config) (epoch : ℕ) (enough : Bool) (payload : List ℕ) → next_of configs epoch enough payload ≡ nexts.Opened → (length configs == most_epochs) ≡ false

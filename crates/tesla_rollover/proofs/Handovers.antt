@@ -70,26 +70,25 @@ record OpensOwn (configs : List Config) (epoch : ℕ) (setups : List Parts) : Ty
   newest : suc epoch ≡ length configs
   own : list_any (has_stream setup.stream) configs ≡ false
 
-judged_own : (configs : List Config) (r : Result Parts (ℕ × SetupKind)) → next_judged configs r ≡ nexts.Opened → (setup : Parts) × (setup_judged r ≡ setup ∷ []) × (list_any (has_stream setup.stream) configs ≡ false)
-judged_own configs (Err refused) is = absurd cc
-judged_own configs (Ok setup) is = (setup, refl, unused (list_any (has_stream setup.stream) configs) is)
+judged_own : (configs : List Config) (enough : Bool) (r : Result Parts (ℕ × SetupKind)) → next_judged configs enough r ≡ nexts.Opened
+    → (setup : Parts) × (setup_judged r ≡ setup ∷ []) × (list_any (has_stream setup.stream) configs ≡ false)
+judged_own configs enough (Err refused) is = absurd cc
+judged_own configs enough (Ok setup) is = (setup, refl, unused (list_any (has_stream setup.stream) configs) is)
   where
-    unused : (used : Bool) → cond used (nexts.UsedStream setup.stream) nexts.Opened ≡ nexts.Opened → used ≡ false
+    unused : (used : Bool) → cond used (nexts.UsedStream setup.stream) (cond enough nexts.Opened nexts.NoMemory) ≡ nexts.Opened → used ≡ false
     unused true is = absurd cc
     unused false is = refl
 
-judged_newest : (configs : List Config) (old spent none : Bool) (newest : ℕ) (r : Result Parts (ℕ × SetupKind)) → cond (not old) (nexts.Old newest) (cond spent nexts.EpochsSpent (cond none nexts.NoMemory (next_judged configs r))) ≡ nexts.Opened
-    → (old ≡ true) × (next_judged configs r ≡ nexts.Opened)
-judged_newest configs false spent none newest r is = absurd cc
-judged_newest configs true true none newest r is = absurd cc
-judged_newest configs true false true newest r is = absurd cc
-judged_newest configs true false false newest r is = (refl, is)
+judged_newest : (last spent : Bool) (newest : ℕ) (spelled : Next) → cond (not last) (nexts.Old newest) (cond spent nexts.EpochsSpent spelled) ≡ nexts.Opened → (last ≡ true) × (spelled ≡ nexts.Opened)
+judged_newest false spent newest spelled is = absurd cc
+judged_newest true true newest spelled is = absurd cc
+judged_newest true false newest spelled is = (refl, is)
 
 spelled_own : (configs : List Config) (epoch : ℕ) (enough : Bool) (text : Option (List ℕ)) → next_spelled configs epoch enough text ≡ nexts.Opened → OpensOwn configs epoch (setup_spelled text)
 spelled_own configs epoch enough None is = absurd cc
 spelled_own configs epoch enough (Some text) is =
-    let it = judged_newest configs (suc epoch == length configs) (length configs == most_epochs) (not enough) (length configs - 1) (judged text) is in
-    let setup = judged_own configs (judged text) it.1 in
+    let it = judged_newest (suc epoch == length configs) (length configs == most_epochs) (length configs - 1) (next_judged configs enough (judged text)) is in
+    let setup = judged_own configs enough (judged text) it.1 in
     let last : (suc epoch == length configs) ≡ true = it.0 in
     record { setup = setup.0; spelled = setup.1; newest = grind (arith, nat_tests, last); own = setup.2 }
 

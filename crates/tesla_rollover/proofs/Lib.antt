@@ -13,5 +13,6 @@ pub mod Taken
 pub mod Prefixes
 pub mod Epochs
 pub mod Spelled
+pub mod Memory
 pub mod Handovers
 pub mod Finishing

@@ -76,17 +76,18 @@ no_end_made first state n has below tells is old_stands history stands =
 
 -- ---- what its setup comes to
 
--- a setup whose stream has an epoch is refused, and one whose stream has none is opened
-pub next_is : (epochs found_in : List Epoch) (setup : Parts) (stream : StreamId) (spelled : Result Parts (ℕ × SetupKind)) (found : Option ℕ) (used : Bool)
+-- a setup whose stream has an epoch is refused, and one whose stream has none is opened, where there is memory
+pub next_is : (epochs found_in : List Epoch) (setup : Parts) (stream : StreamId) (spelled : Result Parts (ℕ × SetupKind)) (found : Option ℕ) (used enough : Bool)
     → found_in ≡ epochs → stream ≡ setup.stream → spelled ≡ Ok setup → found ≡ position (has_stream stream) (configs_of found_in) → used ≡ is_some found
-    → cond used (UsedStream stream) Opened ≡ next_judged (configs_of epochs) spelled
-next_is epochs found_in setup stream spelled found used same own is place some =
+    → cond used (UsedStream stream) (cond enough Opened NoMemory) ≡ next_judged (configs_of epochs) enough spelled
+next_is epochs found_in setup stream spelled found used enough same own is place some =
     let any : used ≡ list_any (has_stream setup.stream) (configs_of epochs) =
     some ∙ ap (λ (o : Option ℕ). is_some o) place ∙ ap (λ (es : List Epoch). is_some (position (has_stream stream) (configs_of es))) same
     ∙ ap (λ (s : StreamId). is_some (position (has_stream s) (configs_of epochs))) own ∙ sym (any_position_found (has_stream setup.stream) (configs_of epochs)) in
-    ap (λ (s : StreamId). cond used (UsedStream s) Opened) own
-    ∙ ap (λ (b : Bool). cond b (UsedStream setup.stream) Opened) any
-    ∙ sym (ap (λ (judged : Result Parts (ℕ × SetupKind)). next_judged (configs_of epochs) judged) is)
+    let unused : Next = cond enough Opened NoMemory in
+    ap (λ (s : StreamId). cond used (UsedStream s) unused) own
+    ∙ ap (λ (b : Bool). cond b (UsedStream setup.stream) unused) any
+    ∙ sym (ap (λ (judged : Result Parts (ℕ × SetupKind)). next_judged (configs_of epochs) enough judged) is)
 
 -- the receiver of the first epoch
 pub first_is : (epochs : List Epoch) (epoch : Epoch) (first : State) (rest : List State) → get_or epochs 0 epoch ≡ epoch → receivers_of epochs ≡ first ∷ rest → epoch.receiver ≡ first
@@ -95,28 +96,18 @@ first_is (own ∷ epochs) epoch first rest is receivers = let same : own.receive
 
 -- ---- what a packet's payload comes to
 
--- what was judged, unless there was no memory for it
-unless_none : (next other : Next) → (had_memory next ≡ true → next ≡ other) → next ≡ cond (not (had_memory next)) NoMemory other
-unless_none NoMemory other is = refl
-unless_none Plain other is = is refl
-unless_none (Old newest) other is = is refl
-unless_none EpochsSpent other is = is refl
-unless_none (BadSetup line kind) other is = is refl
-unless_none (UsedStream stream) other is = is refl
-unless_none Opened other is = is refl
-
 -- a handover by the newest of less than sixteen epochs comes to what its text is judged
 pub next_newest : (configs : List Config) (number : ℕ) (payload text : List ℕ) (next : Next)
-    → handover_text payload ≡ Some text → suc number ≡ length configs → (length configs ≡ 16 → ⊥) → (had_memory next ≡ true → next ≡ next_judged configs (judged text))
+    → handover_text payload ≡ Some text → suc number ≡ length configs → (length configs ≡ 16 → ⊥) → next ≡ next_judged configs (had_memory next) (judged text)
     → next ≡ next_of configs number (had_memory next) payload
 next_newest configs number payload text next is newest few judged_is =
-    let enough : Next = cond (not (had_memory next)) NoMemory (next_judged configs (judged text)) in
-    let few_enough : Next = cond (eqb (length configs) 16) EpochsSpent enough in
+    let spelled : Next = next_judged configs (had_memory next) (judged text) in
+    let few_enough : Next = cond (eqb (length configs) 16) EpochsSpent spelled in
     let apart : eqb (length configs) 16 ≡ false = ne_eqb (length configs) 16 few in
-    unless_none next (next_judged configs (judged text)) judged_is
+    judged_is
     ∙ sym (ap (next_spelled configs number (had_memory next)) is
     ∙ ap (λ (b : Bool). cond (not b) (Old (length configs - 1)) few_enough) (eq-eqb (suc number) (length configs) newest)
-    ∙ ap (λ (b : Bool). cond b EpochsSpent enough) apart)
+    ∙ ap (λ (b : Bool). cond b EpochsSpent spelled) apart)
 
 -- the setup that it hands over to
 pub spelled_setup : (payload text : List ℕ) (setup : Parts) → handover_text payload ≡ Some text → judged text ≡ Ok setup → setup_in payload ≡ setup ∷ []

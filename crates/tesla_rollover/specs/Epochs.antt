@@ -70,10 +70,12 @@ payload_given (Given head payload ∷ replies) = Some payload
 payload_given (Empty ∷ replies) = payload_given replies
 payload_given (Over ∷ replies) = payload_given replies
 
--- what a text of a setup comes to, while these epochs are open
-abbrev pub next_judged : List Config → Result Parts (ℕ × SetupKind) → Next
-next_judged configs (Err refused) = BadSetup refused.0 refused.1
-next_judged configs (Ok setup) = if list_any (has_stream setup.stream) configs then UsedStream setup.stream else Opened
+-- what a text of a setup comes to, while these epochs are open: a text that is none and a stream that has an epoch are told whatever memory there is
+abbrev pub next_judged : List Config → Bool → Result Parts (ℕ × SetupKind) → Next
+next_judged configs enough (Err refused) = BadSetup refused.0 refused.1
+next_judged configs enough (Ok setup) =
+    if list_any (has_stream setup.stream) configs then UsedStream setup.stream
+    else (if enough then Opened else NoMemory)
 
 -- what a packet of an epoch comes to, told whether there is memory for a further epoch: a payload that isn't a handover is plain; only the newest epoch hands over, to at most sixteen in all, by a text that spells a setup, to a stream of its own
 abbrev pub next_spelled : List Config → ℕ → Bool → Option (List ℕ) → Next
@@ -81,7 +83,7 @@ next_spelled configs epoch enough None = Plain
 next_spelled configs epoch enough (Some text) =
     if not (suc epoch == length configs) then Old (length configs - 1)
     else (if length configs == most_epochs then EpochsSpent
-    else (if not enough then NoMemory else next_judged configs (judged text)))
+    else next_judged configs enough (judged text))
 
 abbrev pub next_of : List Config → ℕ → Bool → List ℕ → Next
 next_of configs epoch enough payload = next_spelled configs epoch enough (handover_text payload)

@@ -1,13 +1,14 @@
 //! What is so of every history of epochs, as contracts of functions that do nothing.
 
-ghost use Rattle.std.specs.Prelude.{◌≡◌, ◌↔◌, ◌++◌, ℕ, List, Some};
+ghost use Rattle.std.specs.Prelude.{◌≡◌, ◌≢◌, ◌↔◌, ◌++◌, ℕ, List, Some, true, false};
 ghost use Rattle.tesla_fitting.specs.declared.config.Config.{Config};
 ghost use Rattle.tesla_receiver.specs.History.{IsLegal};
 ghost use Rattle.tesla_receiver.specs.declared.history.Entry.{Entry};
-ghost use Rattle.tesla_rollover.specs.Epochs.{IsRollLegal};
+ghost use Rattle.tesla_rollover.specs.Epochs.{IsRollLegal, next_of};
 ghost use Rattle.tesla_rollover.specs.Handover.{IsHandover, handover_text};
 ghost use Rattle.tesla_rollover.specs.History.{RollEntry, config_at, configs_in, history_at};
 ghost use Rattle.tesla_rollover.specs.Laws.{GivenAreReleased, RollFinishes, SetupsAreHandedOver};
+ghost use Rattle.tesla_rollover.specs.declared.answers.Next.TheVariants.{NoMemory, Opened};
 
 /// Each epoch's part of a legal history is a legal history of a receiver with the epoch's configuration: so each law of
 /// one receiver holds of each epoch.
@@ -39,6 +40,13 @@ pub fn prefixes()
 /// A payload hands over to a text exactly where it is the mark and this text behind it.
 pub fn handover()
     ensures { (payload text : List ℕ) → (handover_text payload ≡ Some text ↔ IsHandover payload text) }
+{}
+
+/// Want of memory is told only of a packet that would have opened an epoch; what other payloads come to is told whatever
+/// memory there is.
+pub fn memory()
+    ensures wanting { (configs : List Config) (epoch : ℕ) (payload : List ℕ) → next_of configs epoch false payload ≡ NoMemory → next_of configs epoch true payload ≡ Opened }
+    ensures alike { (configs : List Config) (epoch : ℕ) (payload : List ℕ) → next_of configs epoch true payload ≢ Opened → next_of configs epoch false payload ≡ next_of configs epoch true payload }
 {}
 
 /// What a legal history is finished with, where there is one ingest: its end, a take that gives for each packet that waits

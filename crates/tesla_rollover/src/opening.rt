@@ -1,6 +1,6 @@
 //! The opening of a further epoch.
 
-ghost use Rattle.std.specs.Prelude.{◌≡◌, ◌≢◌, ◌≤◌, ◌<◌, ◌+◌, ◌++◌, ◌∷◌, [], List, IfOk, Ok, true, length, vec_capacity};
+ghost use Rattle.std.specs.Prelude.{◌≡◌, ◌≢◌, ◌≤◌, ◌<◌, ◌+◌, ◌++◌, ◌∷◌, [], List, IfOk, Ok, length, vec_capacity};
 ghost use Rattle.std.specs.List.{AllByRecursion};
 ghost use Rattle.tesla_commit.specs.Parsing.{judged};
 ghost use Rattle.tesla_commit.specs.Parts.{Parts};
@@ -55,7 +55,8 @@ fn open_epoch(
 }
 
 /// What the payload of a packet of the epoch of that number comes to. Where it hands over to a stream of its own, the next
-/// epoch is opened; else every epoch is as before. `NoMemory`: there was none for the setup or for its receiver.
+/// epoch is opened; else every epoch is as before. `NoMemory`: the text is a setup of a stream that no epoch has, and there
+/// was none for its receiver.
 pub fn hand_over(
     alloc: Global,
     config: &Config,
@@ -99,7 +100,7 @@ fn open_next(alloc: Global, config: &Config, epochs: &mut Vec<Epoch>, text: &[u8
     requires few { config.now.capacity ≤ 4096 }
     requires quota { config.now.quota ≡ config.now.capacity }
     requires ingests { 1 ≤ config.now.ingests }
-    ensures next { (had_memory result ≡ true) → result ≡ next_judged (configs_of epochs.old.items) (judged text.now) }
+    ensures next { result ≡ next_judged (configs_of epochs.old.items) (had_memory result) (judged text.now) }
     ensures opened { (first : State) (rest : List State) → receivers_of epochs.old.items ≡ first ∷ rest → result ≡ Next.Opened →
         (setup : Parts) × (epoch : Epoch) × (judged text.now ≡ Ok setup) × (epochs.new.items ≡ epochs.old.items ++ epoch ∷ []) × OpensEpoch config.now first setup epoch }
     ensures kept { result ≢ Next.Opened → epochs.new.items ≡ epochs.old.items }
@@ -108,7 +109,7 @@ fn open_next(alloc: Global, config: &Config, epochs: &mut Vec<Epoch>, text: &[u8
     let setup = match read_setup(alloc, text) {
         Ok(setup) => setup,
         Err(SetupRefusal::At { line, kind }) => return Next::BadSetup { line, kind },
-        Err(SetupRefusal::NoMemory) => return Next::NoMemory,
+        Err(SetupRefusal::NoMemory) => unreachable!(),
     };
     let stream = setup.stream();
     if epoch_of(epochs.as_slice(), stream).is_some() {

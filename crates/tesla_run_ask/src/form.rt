@@ -10,7 +10,9 @@ use tesla_front::{FormText, Name, is_among, words_in};
 pub const ASK: FormText = FormText {
     words: "ask READING ASK-OUT",
     about: "    writes to ASK-OUT a receiver's ask for the sender's time.
-    READING: microseconds of the receiver's clock
+    READING: what the receiver's clock shows, in microseconds
+    Example:
+    tesla ask $(date +%s%6N) ask
 ",
 };
 
@@ -19,7 +21,9 @@ pub const REPLY: FormText = FormText {
     words: "reply ASK KEY READING REPLY-OUT",
     about: "    answers ASK as its sender, under the shared key in KEY, and writes the
     reply to REPLY-OUT.
-    READING: microseconds of the sender's clock
+    READING: what the sender's clock shows, in microseconds
+    Example:
+    tesla reply ask key $(date +%s%6N) reply
 ",
 };
 

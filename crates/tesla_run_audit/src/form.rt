@@ -15,6 +15,8 @@ pub const AUDIT: FormText = FormText {
     LAG: how many microseconds the sender's clock is ahead at most
     CAPACITY: how many packets are held at most, 1 to 65536; behind a slash,
     how many of one interval
+    Example, the trace of a receiver with that lag and that capacity:
+    tesla audit setup 30000 256/40 trace
 ",
 };
 

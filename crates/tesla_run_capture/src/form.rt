@@ -15,6 +15,8 @@ pub const CAPTURE: FormText = FormText {
     LINK: ADDRESS:PORT/QUIETS; the link ends after so many tenths of a second in
     a row with no datagram, 0 for never
     CAPTURE: the name of a file, which is opened once the link is there
+    Example, a link that ends after 3 quiet seconds:
+    tesla capture 127.0.0.1:5002/30 capture
 ",
 };
 

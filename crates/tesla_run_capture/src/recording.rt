@@ -34,6 +34,7 @@ fn hear_all<R: Wait, K: Link, C: Clock, S: Output>(
     requires hears { HearsOn C.read_for recorder.old (K.left link.old) (K.left link.old) (C.told clock.old) (C.told clock.old) (S.written output.old) (S.written output.old) }
     requires number { K.has_brought link.old recorder.old.count ≡ true }
     requires asks { (number : ℕ) (bytes : List ℕ) → K.brought number bytes ≡ true → C.may_ask number bytes ≡ true }
+    requires any_link { (link : K) → K.may_ask link ≡ true }
     requires begun { IfSome (S.written output.old) (λ bytes. bytes ≡ head) }
     requires due { (it : S) (piece : List ℕ) → S.name it ≡ S.name output.old → IsNextPiece C.read_for (K.left link.old) (C.told clock.old) (S.written it) piece → S.may_write it piece ≡ true }
     ensures hears { HearsAll C.read_for result recorder.new (K.left link.old) (K.left link.new) (C.told clock.old) (C.told clock.new) (S.written output.old) (S.written output.new) }
@@ -81,6 +82,7 @@ pub fn record_link<R: Wait, K: Link, C: Clock, S: Output>(
     requires fresh { S.faults output.old ≡ 0 }
     requires none { K.has_brought link.old 0 ≡ true }
     requires asks { (number : ℕ) (bytes : List ℕ) → K.brought number bytes ≡ true → C.may_ask number bytes ≡ true }
+    requires any_link { (link : K) → K.may_ask link ≡ true }
     requires begun { IfSome (S.written output.old) (λ bytes. bytes ≡ head) }
     requires due { (it : S) (piece : List ℕ) → S.name it ≡ S.name output.old → IsNextPiece C.read_for (K.left link.old) (C.told clock.old) (S.written it) piece → S.may_write it piece ≡ true }
     ensures records { Records result (K.left link.old) (K.left link.new) (C.told clock.old) (C.told clock.new) (S.written output.old) (S.written output.new) (S.faults output.new) }

@@ -36,6 +36,7 @@ use tesla_front::{Fault, Lines, Outcome, add_count};
 /// openings.
 pub fn run_capture<R: Wait, D: Environment>(rt: &R, words: &[String], desk: &mut D) -> Outcome
     requires asks { (number : ℕ) (bytes : List ℕ) → D.Wire.brought number bytes ≡ true → D.Time.may_ask number bytes ≡ true }
+    requires any_link { (link : D.Wire) → D.Wire.may_ask link ≡ true }
     requires due { (it : D.Pieces) (piece : List ℕ) → IsCapturedAs D.Time.read_for (map string_bytes words.now) (D.told desk.old).live (D.Pieces.name it) (D.Pieces.written it) piece → D.Pieces.may_write it piece ≡ true }
     ensures { RunsAs (capture (D.told desk.old).live (D.told desk.new).live) (map string_bytes words.now) (D.told desk.old) (D.told desk.new) (outcome_view result) }
 {
@@ -49,6 +50,7 @@ pub fn run_capture<R: Wait, D: Environment>(rt: &R, words: &[String], desk: &mut
 fn perform<R: Wait, D: Environment>(rt: &R, arguments: &Arguments<'_>, desk: &mut D) -> Outcome
     requires files { AreFiles (files_of_capture (arguments_of arguments.now)) }
     requires asks { (number : ℕ) (bytes : List ℕ) → D.Wire.brought number bytes ≡ true → D.Time.may_ask number bytes ≡ true }
+    requires any_link { (link : D.Wire) → D.Wire.may_ask link ≡ true }
     requires due { (it : D.Pieces) (piece : List ℕ) → D.Pieces.name it ≡ (arguments_of arguments.now).out → IsCapturePiece D.Time.read_for (D.told desk.old).live (arguments_of arguments.now).link (D.Pieces.written it) piece → D.Pieces.may_write it piece ≡ true }
     ensures { Performs (capture (D.told desk.old).live (D.told desk.new).live) (arguments_of arguments.now) (D.told desk.old) (D.told desk.new) (outcome_view result) }
 {
@@ -76,6 +78,7 @@ fn run_opened<R: Wait, D: Environment>(
     requires none { D.Wire.has_brought link 0 ≡ true }
     requires empty { IfSome (D.Pieces.written output) (λ bytes. bytes ≡ []) }
     requires asks { (number : ℕ) (bytes : List ℕ) → D.Wire.brought number bytes ≡ true → D.Time.may_ask number bytes ≡ true }
+    requires any_link { (link : D.Wire) → D.Wire.may_ask link ≡ true }
     requires due { (it : D.Pieces) (piece : List ℕ) → D.Pieces.name it ≡ D.Pieces.name output → IsNextPiece D.Time.read_for (D.Wire.left link) (clock_told (D.told desk.old).live.readings (D.told desk.old).live.made) (D.Pieces.written it) piece → D.Pieces.may_write it piece ≡ true }
     ensures { RunsOpened (D.Wire.name link) (D.Pieces.name output) (D.Wire.left link) (D.Pieces.written output) (D.told desk.old) (D.told desk.new) (outcome_view result) }
 {
@@ -107,6 +110,7 @@ fn record_opened<R: Wait, D: Environment>(
     requires none { D.Wire.has_brought link.old 0 ≡ true }
     requires empty { IfSome (D.Pieces.written output.old) (λ bytes. bytes ≡ []) }
     requires asks { (number : ℕ) (bytes : List ℕ) → D.Wire.brought number bytes ≡ true → D.Time.may_ask number bytes ≡ true }
+    requires any_link { (link : D.Wire) → D.Wire.may_ask link ≡ true }
     requires due { (it : D.Pieces) (piece : List ℕ) → D.Pieces.name it ≡ D.Pieces.name output.old → IsNextPiece D.Time.read_for (D.Wire.left link.old) (clock_told (D.told desk.old).live.readings (D.told desk.old).live.made) (D.Pieces.written it) piece → D.Pieces.may_write it piece ≡ true }
     ensures records { RecordsFile result (D.Wire.left link.old) (D.Wire.left link.new) (D.told desk.old).live.readings (D.told desk.old).live.made (D.Pieces.written output.old) (D.Pieces.written output.new) (D.Pieces.faults output.new) }
     ensures read { HasCause (D.Wire.faults link.old) (D.Wire.faults link.new) (result ≡ Err Fault.Read) }

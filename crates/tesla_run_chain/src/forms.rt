@@ -10,8 +10,11 @@ pub const CHAIN: FormText = FormText {
     STREAM: the number of the stream, 16 lower-case hexadecimal digits
     START, INTERVAL: microseconds of the sender's clock at which interval 0
     begins, and of each interval, 1000 to 3600000000
-    LAST: the last interval, 1 to 1048576
+    LAST: the number of the last interval, 1 to 1048576
     DELAY: after how many intervals keys are disclosed, 1 to 4096, rising
+    Example, from now on for an hour, in intervals of 0.1 seconds, whose keys are
+    disclosed 0.2 and 0.5 seconds later:
+    tesla chain live.setup live.secret 00000000000000a7 $(date +%s%6N) 100000 36000 2 5
 ",
 };
 
@@ -19,6 +22,9 @@ pub const CHAIN: FormText = FormText {
 pub const CHAIN_TWO: FormText = FormText {
     words: "chain2 SETUP-OUT SECRET STREAM START INTERVAL LAST TAG DELAY [DELAY] [DELAY] [DELAY] [DELAY] [DELAY] [DELAY] [DELAY]",
     about: "    is chain for version 2.
+    STREAM, START, INTERVAL, LAST, DELAY: as of chain
     TAG: how many bytes a tag has, 10 to 32
+    Example, the same with tags of 10 bytes:
+    tesla chain2 live.setup live.secret 00000000000000a7 $(date +%s%6N) 100000 36000 10 2 5
 ",
 };

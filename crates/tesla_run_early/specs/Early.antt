@@ -16,7 +16,7 @@ IsEarly = IsPlayed (limits_form (codes "early"))
 
 -- what a capture comes to, as functions of its bytes: the counts of the history that it plays or the refused place are told, and the record of each packet that is given in it and of each early arrival is written, in the order of its entries; memory is wanting before the capture is read or not at all
 abbrev pub meaning : Config → Meaning
-meaning cfg = meaning_of (played cfg) early_text (early_records_of promises 0) ⊥
+meaning cfg = meaning_of (played cfg) early_text (early_records_of promises 0)
 
 -- the command: its words, and what a capture comes to under a setup
 abbrev pub played_early : PlayedCommand

@@ -12,5 +12,7 @@ pub const EARLY: FormText = FormText {
     LAG: how many microseconds the sender's clock is ahead at most
     CAPACITY: how many packets are held at most, 1 to 65536; behind a slash,
     how many of one interval
+    Example, a lag of 0.03 seconds, 256 packets and 40 of one interval:
+    tesla early setup 30000 256/40 capture out
 ",
 };

@@ -60,6 +60,7 @@ due_before gave read_for words before now name sent datagram same due =
         named = fed.named;
         stream = fed.stream;
         is = record { found = found; right = fed.is.right };
+        sound = fed.sound;
         due = fed.due;
       };
     }

@@ -1,12 +1,13 @@
 -- What was done with a sender, from the openings and closings of the link and the posts.
-use Rattle.std.proofs.Common.{◌≡◌, ◌∙◌, ◌⊎◌, inl, inr, ℕ, suc, ◌≤◌, true, false, Ok, Err, List, [], ◌∷◌, ◌++◌, map, length, Option, refl, sym, ap, subst, arith, append_assoc}
+use Rattle.std.proofs.Common.{◌≡◌, ◌∙◌, ◌⊎◌, inl, inr, ℕ, suc, ◌≤◌, true, false, Ok, Err, List, [], ◌∷◌, ◌++◌, map, length, Option, None, refl, sym, ap, subst, arith, append_assoc}
 use Rattle.std.proofs.lemmas.List.{length-map}
 use Rattle.std.specs.Option.{option_map}
 use Rattle.tesla_desk.specs.Clocks.{Gives, Ticking}
 use Rattle.tesla_desk.specs.Faults.{Faults, HasCause, HasCausesBeside, after_source, raised}
-use Rattle.tesla_desk.specs.Live.{LeavesAll, Live, OpenedLink, Remainder, clock_told, remainder_of}
-use Rattle.tesla_desk.specs.Outside.{ClosesLink, MakesClock, OfLink, OfPost, OpensLink, Told}
+use Rattle.tesla_desk.specs.Live.{LeavesAll, Live, OpenedLink, Remainder, Wire, clock_told, remainder_of}
+use Rattle.tesla_desk.specs.Outside.{ClosesLink, MakesClock, OfLink, OfPost, Opening, OpensLink, Told}
 use Rattle.tesla_desk.specs.declared.desk.OpenRefusal.{OpenRefusal}
+use Rattle.tesla_desk.specs.declared.desk.OpenRefusal.TheVariants as refusals
 use Rattle.tesla_desk.specs.declared.link.Letter.{Letter}
 use Rattle.tesla_desk.proofs.Told.{leaves_all}
 use Rattle.tesla_desk.proofs.Counts.{cause_none, causes_plain, causes_source, causes_then, counts_stay}
@@ -28,16 +29,18 @@ use Rattle.tesla_relay.specs.Opening.{ClosesPosts, OpensPosts}
 use Rattle.tesla_relay.specs.Posts.{PostSeen}
 use Rattle.tesla_relay.proofs.Closings.{closes_to, fresh_counts, fresh_mails, mails_same}
 use Rattle.tesla_relay.proofs.Clocks.{clock_alone, clock_made, clock_opens, read_where}
-use Rattle.tesla_relay.proofs.Links.{left_where, link_tried}
+use Rattle.tesla_relay.proofs.Links.{left_where}
 use Rattle.tesla_relay.proofs.Mails.{faulty_told, unsent_on}
 use Rattle.tesla_relay.proofs.Openings.{none_of_opened, opens_new, opens_still, refused_not_all}
 use Rattle.tesla_relay.proofs.Stopped.{outcome_cause, memory_counts, not_all_counts}
 use Rattle.tesla_run_feed.specs.Arguments.{FeedArguments, IsFeedForm, live_files}
-use Rattle.tesla_run_feed.specs.Feeding.{EndsAs, FeedsLink, FindsOver, SendPosts, Stops, TouchesLive}
+use Rattle.tesla_run_feed.specs.Feeding.{EndsAs, FeedsLink, FindsOver, SendPosts, TouchesLive}
 use Rattle.tesla_run_feed.specs.Lines.{outcome_with, stream_over}
-use Rattle.tesla_run_feed.specs.Steps.{FeedsFiles, FeedsPosts, RunsLinked, TriesToFeed}
+use Rattle.tesla_run_feed.specs.Steps.{FeedsFiles, FeedsPosts, LacksSender, RunsLinked, TriesToFeed}
 use Rattle.tesla_run_feed.proofs.Ended.{end_read, ends_by, failed_either, no_open, read_end, write_failed}
 use Rattle.tesla_run_feed.proofs.Mailed.{each_reported, faulty_marked, marked_faulty, names_kept, sends_posts}
+use Rattle.tesla_run_send.specs.Sender.{IsNoSender, wrong_line}
+use Rattle.tesla_run_send.proofs.Sender.{no_sender_fault}
 use Rattle.tesla_sender.specs.Made.{Stream}
 
 -- ---- nothing was opened
@@ -50,35 +53,32 @@ touches_nothing link posts before now same = record {
   readings = ap (λ (l : Live). l.readings) same;
 }
 
-stops_nothing : (arguments : FeedArguments) (before now : Live) (outcome : OutcomeView) → now ≡ before → (outcome ≡ Failed faults.Open) ⊎ (outcome ≡ Failed faults.NoMemory) → Stops arguments before now outcome
-stops_nothing arguments before now outcome same cause = record {
-  unheard = inl (ap (λ (l : Live). l.left arguments.link) same);
-  unsent = λ name. inl (ap (λ (l : Live). l.mail name) same);
-  made = inl (ap (λ (l : Live). l.made) same);
-  cause = cause;
-}
-
 -- there was no room for the posts
 pub fed_roomless : (stream : Stream) (arguments : FeedArguments) (told : Told) → FeedsFiles stream arguments told told (Failed faults.NoMemory)
 fed_roomless stream arguments told = record {
   opened = 0;
   opens = opens_none (live_files arguments) told told refl (λ name. refl) (λ name. refl);
   touches = touches_nothing arguments.link arguments.posts told.live told.live refl;
-  does = inl (stops_nothing arguments told.live told.live (Failed faults.NoMemory) refl (inr refl));
+  does = inl (record { few = omega arith; same = refl; cause = inr refl });
   counts = memory_counts told.faults told.faults refl;
 }
 
 -- ---- the link wasn't opened
 
+-- at most the link was asked for
+link_asked : {A : Type 0} (link : List ℕ) (files : List Opening) (refusal : OpenRefusal) (before now : Told) → OpensLink {A = A} link (Err refusal) before now → (n : ℕ) × (n ≤ 1) × Opens (OfLink link ∷ files) n before now
+link_asked link files refusals.Failed before now tried = (1, omega arith, opens_first (OfLink link) files before now tried.asked (λ name none. tried.pages name) (λ name none. tried.lefts name))
+link_asked link files refusals.NoMemory before now tried = (0, omega arith, opens_none (OfLink link ∷ files) before now tried.asked tried.pages tried.lefts)
+
 pub fed_unlinked : {A : Type 0} (stream : Stream) (arguments : FeedArguments) (refusal : OpenRefusal) (fault : Fault) (before now : Told) → fault ≡ unopened refusal → OpensLink {A = A} arguments.link (Err refusal) before now → FeedsFiles stream arguments before now (Failed fault)
 fed_unlinked {A} stream arguments refusal fault before now is tried =
-    let it = link_tried {A = A} arguments.link (map OfPost arguments.posts) refusal before now tried in
+    let it = link_asked {A = A} arguments.link (map OfPost arguments.posts) refusal before now tried in
     let not_all = refused_not_all {A = A} refusal before now tried.counts in
     subst (λ (f : Fault). FeedsFiles stream arguments before now (Failed f)) (sym is) (record {
       opened = it.0;
-      opens = it.1;
+      opens = it.2;
       touches = touches_nothing arguments.link arguments.posts before.live now.live tried.live;
-      does = inl (stops_nothing arguments before.live now.live (Failed (unopened refusal)) tried.live (outcome_cause (unopened refusal) not_all.cause));
+      does = inl (record { few = omega (arith, it.1); same = tried.live; cause = outcome_cause (unopened refusal) not_all.cause });
       counts = not_all_counts (unopened refusal) before now not_all;
     })
 
@@ -103,6 +103,74 @@ over_counts {hidden} before now same = causes_plain {hidden = hidden} before now
   writes = cause_none before.writes now.writes (ap (λ (f : Faults). f.writes) same) (λ e. absurd cc);
   openings = cause_none before.openings now.openings (ap (λ (f : Faults). f.openings) same) (λ e. absurd cc);
 })
+
+-- ---- a link of which nothing was taken
+
+left_unheard : (wire : Wire) (left later : Option (List Letter)) (missed : ℕ) (now : Option Remainder) → OpenedLink wire left → now ≡ remainder_of later missed → later ≡ left → missed ≡ 0 → LeavesAll wire now
+left_unheard wire left later missed now opened own left_is missed_is =
+    subst (λ (r : Option Remainder). LeavesAll wire r) (sym own)
+    (subst (λ (l : Option (List Letter)). LeavesAll wire (remainder_of l missed)) (sym left_is) (leaves_all wire left missed opened missed_is))
+
+-- ---- there was no sender, and the link was closed
+
+-- no count rises
+lacks_counts : {hidden : Type 0} (stream : Stream) (outcome : OutcomeView) (before now : Faults) → IsNoSender stream outcome → now ≡ before → HasCausesBeside hidden before now (outcome ≡ Failed faults.Read) (outcome ≡ Failed faults.Write) (outcome ≡ Failed faults.Open)
+lacks_counts {hidden} stream outcome before now why same = causes_plain {hidden = hidden} before now (record {
+  reads = cause_none before.reads now.reads (ap (λ (f : Faults). f.reads) same) (no_sender_fault stream outcome faults.Read why (λ e. cc));
+  writes = cause_none before.writes now.writes (ap (λ (f : Faults). f.writes) same) (no_sender_fault stream outcome faults.Write why (λ e. cc));
+  openings = cause_none before.openings now.openings (ap (λ (f : Faults). f.openings) same) (no_sender_fault stream outcome faults.Open why (λ e. cc));
+})
+
+module _ (stream : Stream) (arguments : FeedArguments) (left : Option (List Letter)) (before linked tried closed now : Told) (outcome : OutcomeView) (link_opened : OpenedLink (before.live.wire arguments.link) left) (link_live : linked.live ≡ before.live) (link_counts : linked.faults ≡ before.faults) (link_opens : Opens (OfLink arguments.link ∷ []) 1 before linked) (posts : List PostSeen) (later : Option (List Letter)) (missed : ℕ)
+    (posts_closed : ClosesPosts posts tried closed) (link_closed : ClosesLink arguments.link later missed closed now) (lacks : LacksSender stream posts linked tried outcome) (left_is : later ≡ left) (missed_is : missed ≡ 0) where
+  senderless_closes : ClosesTo posts tried closed
+  senderless_closes = closes_to posts tried closed posts_closed
+
+  senderless_live : tried.live ≡ before.live
+  senderless_live = ap (λ (t : Told). t.live) lacks.same ∙ link_live
+
+  senderless_none : (name : List ℕ) → IsNoneOf name (map post_name posts)
+  senderless_none name = subst (λ (ps : List PostSeen). IsNoneOf name (map post_name ps)) (sym lacks.none) tt
+
+  senderless_mails : (name : List ℕ) → now.live.mail name ≡ before.live.mail name
+  senderless_mails name = link_closed.mails name ∙ senderless_closes.others name (senderless_none name) ∙ ap (λ (l : Live). l.mail name) senderless_live
+
+  senderless_opens : Opens (live_files arguments) 1 before now
+  senderless_opens =
+      let closes = senderless_closes in
+      let none = opens_none (map OfPost arguments.posts) linked tried (ap (λ (t : Told). t.openings) lacks.same) (λ name. ap (λ (t : Told). t.page name) lacks.same) (λ name. ap (λ (t : Told). t.left name) lacks.same) in
+      opens_then (OfLink arguments.link) (map OfPost arguments.posts) 0 before linked now link_opens
+      (opens_still (map OfPost arguments.posts) 0 linked tried now none (link_closed.asked ∙ closes.asked) (λ name. link_closed.pages name ∙ closes.pages name) (λ name. link_closed.lefts name ∙ closes.lefts name))
+
+  senderless_faults : now.faults ≡ before.faults
+  senderless_faults =
+      let fresh : AreFresh posts = subst AreFresh (sym lacks.none) tt in
+      link_closed.counts ∙ ap (λ (n : ℕ). after_source closed.faults n) missed_is ∙ fresh_counts posts tried closed fresh senderless_closes
+      ∙ ap (λ (t : Told). t.faults) lacks.same ∙ link_counts
+
+  fed_senderless : FeedsFiles stream arguments before now outcome
+  fed_senderless =
+      let closes = senderless_closes in
+      record {
+        opened = 1;
+        opens = senderless_opens;
+        touches = record {
+          wires = λ name. link_closed.wires name ∙ closes.wires name ∙ ap (λ (l : Live). l.wire name) senderless_live;
+          others = λ name other. link_closed.others name other ∙ closes.remainders name ∙ ap (λ (l : Live). l.left name) senderless_live;
+          mails = λ name none. senderless_mails name;
+          readings = link_closed.clocks.0 ∙ closes.clocks.0 ∙ ap (λ (l : Live). l.readings) senderless_live;
+        };
+        does = inr (inl (
+          refl,
+          record {
+            unheard = left_unheard (before.live.wire arguments.link) left later missed (now.live.left arguments.link) link_opened link_closed.own left_is missed_is;
+            unsent = senderless_mails;
+            made = link_closed.clocks.1 ∙ closes.clocks.1 ∙ ap (λ (l : Live). l.made) senderless_live;
+            why = lacks.why;
+          },
+        ));
+        counts = lacks_counts stream outcome before.faults now.faults lacks.why senderless_faults;
+      }
 
 -- ---- a link that was opened, and closed behind the clock and the posts
 
@@ -143,16 +211,14 @@ module _ (stream : Stream) (arguments : FeedArguments) (left : Option (List Lett
 
   module _ (same : (later ≡ left) × (missed ≡ 0)) where
     all_unheard : LeavesAll (before.live.wire arguments.link) (now.live.left arguments.link)
-    all_unheard =
-        subst (λ (r : Option Remainder). LeavesAll (before.live.wire arguments.link) r) (sym link_closed.own)
-        (subst (λ (l : Option (List Letter)). LeavesAll (before.live.wire arguments.link) (remainder_of l missed)) (sym same.0) (leaves_all (before.live.wire arguments.link) left missed link_opened same.1))
+    all_unheard = left_unheard (before.live.wire arguments.link) left later missed (now.live.left arguments.link) link_opened link_closed.own same.0 same.1
 
     all_faults : AreFresh posts → now.faults ≡ tried.faults
     all_faults fresh = link_closed.counts ∙ ap (λ (n : ℕ). after_source closed.faults n) same.1 ∙ fresh_counts posts tried closed fresh closes
 
   -- ---- the stream was over
 
-  module _ (opening : ℕ) (opens_at : OpensAt opening (clock_told before.live.readings before.live.made) ticking) (over : has_ended stream opening ≡ true) (none : posts ≡ []) (same : tried ≡ clocked) (unheard : (later ≡ left) × (missed ≡ 0)) where
+  module _ (opening : ℕ) (opens_at : OpensAt opening (clock_told before.live.readings before.live.made) ticking) (right : wrong_line stream ≡ None) (over : has_ended stream opening ≡ true) (none : posts ≡ []) (same : tried ≡ clocked) (unheard : (later ≡ left) × (missed ≡ 0)) where
     over_fresh : AreFresh posts
     over_fresh = subst AreFresh (sym none) tt
 
@@ -184,13 +250,13 @@ module _ (stream : Stream) (arguments : FeedArguments) (left : Option (List Lett
       opened = 1;
       opens = all_opens 0 over_opens;
       touches = all_touches over_live (λ name other. over_none name);
-      does = inr (inl (refl, over_found));
+      does = inr (inr (right, inr (inl (refl, over_found))));
       counts = over_counts before.faults now.faults (all_faults unheard over_fresh ∙ ap (λ (t : Told). t.faults) same ∙ clock_counts);
     }
 
   -- ---- the opening of a post was refused
 
-  module _ (fault : Fault) (posts_open : OpensPosts arguments.posts clocked tried [] posts (Err fault)) (unheard : (later ≡ left) × (missed ≡ 0)) where
+  module _ (right : wrong_line stream ≡ None) (fault : Fault) (posts_open : OpensPosts arguments.posts clocked tried [] posts (Err fault)) (unheard : (later ≡ left) × (missed ≡ 0)) where
     refused_to : OpensTo arguments.posts posts clocked tried (Err fault)
     refused_to = opens_new arguments.posts clocked tried posts (Err fault) posts_open
 
@@ -208,18 +274,21 @@ module _ (stream : Stream) (arguments : FeedArguments) (left : Option (List Lett
           opened = suc refused_to.opened;
           opens = all_opens refused_to.opened refused_to.opens;
           touches = all_touches refused_to.live (λ name none. none_of_opened name arguments.posts posts clocked tried (Err fault) refused_to none);
-          does = inl (record {
-            unheard = inr (all_unheard unheard);
-            unsent = refused_unsent;
-            made = inr (all_made refused_to.live);
-            cause = outcome_cause fault not_all.cause;
-          });
+          does = inr (inr (
+            right,
+            inl (record {
+              unheard = all_unheard unheard;
+              unsent = refused_unsent;
+              made = all_made refused_to.live;
+              cause = outcome_cause fault not_all.cause;
+            }),
+          ));
           counts = subst (λ (f : Faults). HasCausesBeside hidden before.faults f (Failed fault ≡ Failed faults.Read) (Failed fault ≡ Failed faults.Write) (Failed fault ≡ Failed faults.Open)) (sym (all_faults unheard refused_to.fresh)) counts;
         }
 
   -- ---- all were opened
 
-  module _ (some : 1 ≤ length arguments.posts) (distinct : AreDistinct arguments.posts) (opening : ℕ) (opens_at : OpensAt opening (clock_told before.live.readings before.live.made) ticking) (lasts : has_ended stream opening ≡ false) (fresh : List PostSeen) (posts_open : OpensPosts arguments.posts clocked tried [] fresh (Ok tt)) (end : FeedEnd) (fed : FeedsPosts stream opening end left later ticking fresh posts) (link_read : HasCause 0 missed (end.link_failed ≡ true)) where
+  module _ (right : wrong_line stream ≡ None) (some : 1 ≤ length arguments.posts) (distinct : AreDistinct arguments.posts) (opening : ℕ) (opens_at : OpensAt opening (clock_told before.live.readings before.live.made) ticking) (lasts : has_ended stream opening ≡ false) (fresh : List PostSeen) (posts_open : OpensPosts arguments.posts clocked tried [] fresh (Ok tt)) (end : FeedEnd) (fed : FeedsPosts stream opening end left later ticking fresh posts) (link_read : HasCause 0 missed (end.link_failed ≡ true)) where
     fed_to : OpensTo arguments.posts fresh clocked tried (Ok tt)
     fed_to = opens_new arguments.posts clocked tried fresh (Ok tt) posts_open
 
@@ -332,7 +401,7 @@ module _ (stream : Stream) (arguments : FeedArguments) (left : Option (List Lett
           opened = suc fed_to.opened;
           opens = all_opens fed_to.opened fed_to.opens;
           touches = all_touches fed_to.live (λ name none. subst (λ (ns : List (List ℕ)). IsNoneOf name ns) (sym fed_names) none);
-          does = inr (inr (let all = (fed_to.whole refl).all in omega (arith, all), fed_feeds));
+          does = inr (inr (right, inr (inr (let all = (fed_to.whole refl).all in omega (arith, all), fed_feeds))));
           counts = causes_then before.faults tried.faults now.faults fed_faults fed_causes;
         }
 
@@ -340,22 +409,24 @@ module _ (stream : Stream) (arguments : FeedArguments) (left : Option (List Lett
 
 fed_tried : (stream : Stream) (arguments : FeedArguments) (left : Option (List Letter)) (before linked now : Told) (link_opened : OpenedLink (before.live.wire arguments.link) left) (link_live : linked.live ≡ before.live) (link_counts : linked.faults ≡ before.faults) (link_opens : Opens (OfLink arguments.link ∷ []) 1 before linked) (posts : List PostSeen) (tried closed : Told) (later : Option (List Letter)) (missed : ℕ)
     (posts_closed : ClosesPosts posts tried closed) (link_closed : ClosesLink arguments.link later missed closed now) (some : 1 ≤ length arguments.posts) (distinct : AreDistinct arguments.posts) (outcome : OutcomeView) → TriesToFeed stream arguments.posts left later 0 missed linked tried posts outcome → FeedsFiles stream arguments before now outcome
-fed_tried stream arguments left before linked now link_opened link_live link_counts link_opens posts tried closed later missed posts_closed link_closed some distinct outcome (inl (inl ends, left_is, missed_is)) =
+fed_tried stream arguments left before linked now link_opened link_live link_counts link_opens posts tried closed later missed posts_closed link_closed some distinct outcome (inl (inl lacks, left_is, missed_is)) =
+    fed_senderless stream arguments left before linked tried closed now outcome link_opened link_live link_counts link_opens posts later missed posts_closed link_closed lacks left_is missed_is
+fed_tried stream arguments left before linked now link_opened link_live link_counts link_opens posts tried closed later missed posts_closed link_closed some distinct outcome (inl (inr (right, inl ends), left_is, missed_is)) =
     let opens = ends.opens.opens in
     let makes = ends.opens.makes in
     let at = opens_at_first stream arguments left before linked tried now link_opened link_live link_counts link_opens ends.ticking makes posts tried closed later missed posts_closed link_closed opens.0 opens.1 in
     subst (λ (c : OutcomeView). FeedsFiles stream arguments before now c) (sym ends.outcome_is)
-    (fed_over stream arguments left before linked tried now link_opened link_live link_counts link_opens ends.ticking makes posts tried closed later missed posts_closed link_closed opens.0 at opens.2 ends.none refl (left_is, missed_is))
-fed_tried stream arguments left before linked now link_opened link_live link_counts link_opens posts tried closed later missed posts_closed link_closed some distinct outcome (inl (inr refuses, left_is, missed_is)) =
+    (fed_over stream arguments left before linked tried now link_opened link_live link_counts link_opens ends.ticking makes posts tried closed later missed posts_closed link_closed opens.0 at right opens.2 ends.none refl (left_is, missed_is))
+fed_tried stream arguments left before linked now link_opened link_live link_counts link_opens posts tried closed later missed posts_closed link_closed some distinct outcome (inl (inr (right, inr refuses), left_is, missed_is)) =
     subst (λ (c : OutcomeView). FeedsFiles stream arguments before now c) (sym refuses.outcome_is)
-    (fed_refused stream arguments left before linked refuses.opens.clocked now link_opened link_live link_counts link_opens refuses.ticking refuses.opens.opens.makes posts tried closed later missed posts_closed link_closed refuses.fault refuses.opens.posts_open (left_is, missed_is))
-fed_tried stream arguments left before linked now link_opened link_live link_counts link_opens posts tried closed later missed posts_closed link_closed some distinct outcome (inr feeds) =
+    (fed_refused stream arguments left before linked refuses.opens.clocked now link_opened link_live link_counts link_opens refuses.ticking refuses.opens.opens.makes posts tried closed later missed posts_closed link_closed right refuses.fault refuses.opens.posts_open (left_is, missed_is))
+fed_tried stream arguments left before linked now link_opened link_live link_counts link_opens posts tried closed later missed posts_closed link_closed some distinct outcome (inr (right, feeds)) =
     let opens = feeds.opens.opens.opens in
     let makes = feeds.opens.opens.makes in
     let opening = feeds.feed.opening in
     let at = opens_at_first stream arguments left before linked feeds.opens.clocked now link_opened link_live link_counts link_opens feeds.ticking makes posts tried closed later missed posts_closed link_closed opening opens.0 in
     subst (λ (c : OutcomeView). FeedsFiles stream arguments before now c) (sym feeds.outcome_is)
-    (fed_all stream arguments left before linked feeds.opens.clocked now link_opened link_live link_counts link_opens feeds.ticking makes posts tried closed later missed posts_closed link_closed some distinct opening at opens.1 feeds.fresh feeds.opens.posts_open feeds.end
+    (fed_all stream arguments left before linked feeds.opens.clocked now link_opened link_live link_counts link_opens feeds.ticking makes posts tried closed later missed posts_closed link_closed right some distinct opening at opens.1 feeds.fresh feeds.opens.posts_open feeds.end
     (subst (λ (s : Stream). FeedsPosts s opening feeds.end left later feeds.ticking feeds.fresh posts) opens.2 feeds.fed) feeds.read)
 
 -- the link was opened, what follows was tried, and all was closed

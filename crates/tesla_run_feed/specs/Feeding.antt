@@ -1,12 +1,13 @@
 -- What the command feed does.
-use Rattle.std.specs.Prelude.{◌≡◌, ◌≢◌, ◌⊎◌, ℕ, ◌+◌, Bool, true, false, List, [], ◌∷◌, ◌++◌, length, map, take, Option, Some, None}
+use Rattle.std.specs.Prelude.{codes, ◌≡◌, ◌≢◌, ◌⊎◌, ℕ, ◌+◌, ◌≤◌, Bool, true, false, List, [], ◌∷◌, ◌++◌, length, map, take, Option, Some, None}
 use Rattle.std.specs.List.{AllByRecursion, list_all, list_any}
 use Rattle.std.specs.Option.{option_map}
 use Rattle.tesla_desk.specs.Faults.{raised}
 use Rattle.tesla_desk.specs.Live.{Live, Remainder, LeavesAll, Mail}
 use Rattle.tesla_feed.specs.Fed.{Feeding, counts_of, datagrams_of, fed, first_interval, has_begun, has_ended, is_all_disclosed, is_unread, reading_of}
 use Rattle.tesla_feed.specs.Feed.{AreNeeded, Heard, received_of, events_of, has_failed, letter_of}
-use Rattle.tesla_front.specs.OutcomeView.{OutcomeView, Done, Failed}
+use Rattle.tesla_front.specs.OutcomeView.{OutcomeView, Done, Failed, Refused}
+use Rattle.tesla_front.specs.Refusal.{refused_line}
 use Rattle.tesla_front.specs.Command.{Command}
 use Rattle.tesla_front.specs.Openings.{File}
 use Rattle.tesla_front.specs.declared.fault.Fault.TheVariants as faults
@@ -17,16 +18,51 @@ use Rattle.tesla_relay.specs.Counts.{IsSentCount}
 use Rattle.tesla_relay.specs.Links.{HasBroken, HasEnded, LeftWhere}
 use Rattle.tesla_run_feed.specs.Arguments.{FeedArguments, IsFeedForm, files_of_feed}
 use Rattle.tesla_run_feed.specs.Lines.{lines_of, stream_over}
-use Rattle.tesla_run_send.specs.Sender.{IsStreamIn, LacksSender}
+use Rattle.tesla_run_send.specs.Sender.{IsFoundIn, IsNoSender, LacksSeeds, wrong_line}
+use Rattle.tesla_seeds.specs.Weak.{AreSound, IsFirstWeak, weak_name}
+use Rattle.tesla_seeds.specs.declared.weak.WeakSeed.{WeakSeed}
 use Rattle.tesla_sender.specs.Made.{Stream}
+
+-- ---- weak seeds
+
+-- the line of the first seed that gives no safety, with the cause: that of chain 0 is the second line
+abbrev pub weak_seed : ℕ → WeakSeed → OutcomeView
+weak_seed chain kind = Refused 3 (refused_line (codes "seeds") (chain + 2) (weak_name kind))
+
+-- the seeds were found, and one is all zeros, or a chain before has the same; no file behind them was asked for
+pub record HasWeakSeeds (setup secret : File) (opened : ℕ) (outcome : OutcomeView) : Type 0 where
+  pub stream : Stream
+  pub found : IsFoundIn setup.page secret.page stream
+  pub few : opened ≤ 2
+  pub chain : ℕ
+  pub kind : WeakSeed
+  pub weak : IsFirstWeak stream.seeds chain kind
+  pub outcome_is : outcome ≡ weak_seed chain kind
+
+-- why there are no sound seeds: there are none, or one is weak
+abbrev pub LacksSoundSeeds : File → File → ℕ → OutcomeView → Type 0
+LacksSoundSeeds setup secret opened outcome = LacksSeeds setup secret opened outcome ⊎ HasWeakSeeds setup secret opened outcome
 
 -- ---- nothing was fed
 
--- the link or a post wasn't opened, or there was no memory: no letter left the link, no post sent anything, and at most the next clock was made
-pub record Stops (arguments : FeedArguments) (before now : Live) (outcome : OutcomeView) : Type 0 where
-  pub unheard : (now.left arguments.link ≡ before.left arguments.link) ⊎ LeavesAll (before.wire arguments.link) (now.left arguments.link)
+-- the link wasn't opened, or there was no memory before: nothing else was done
+pub record FindsNoLink (before now : Live) (opened : ℕ) (outcome : OutcomeView) : Type 0 where
+  pub few : opened ≤ 3
+  pub same : now ≡ before
+  pub cause : (outcome ≡ Failed faults.Open) ⊎ (outcome ≡ Failed faults.NoMemory)
+
+-- the link was opened, and then no sender of the stream: no letter left the link, no clock was made, and the mail under each name is as before
+pub record FindsNoSender (arguments : FeedArguments) (stream : Stream) (before now : Live) (outcome : OutcomeView) : Type 0 where
+  pub unheard : LeavesAll (before.wire arguments.link) (now.left arguments.link)
+  pub unsent : (name : List ℕ) → now.mail name ≡ before.mail name
+  pub made : now.made ≡ before.made
+  pub why : IsNoSender stream outcome
+
+-- the link was opened, and a post wasn't: no letter left the link, no post sent anything, and the next clock was made
+pub record FindsNoPost (arguments : FeedArguments) (before now : Live) (outcome : OutcomeView) : Type 0 where
+  pub unheard : LeavesAll (before.wire arguments.link) (now.left arguments.link)
   pub unsent : (name : List ℕ) → (now.mail name ≡ before.mail name) ⊎ IsUnsent (now.mail name)
-  pub made : (now.made ≡ before.made) ⊎ (now.made ≡ option_map raised before.made)
+  pub made : now.made ≡ option_map raised before.made
   pub cause : (outcome ≡ Failed faults.Open) ⊎ (outcome ≡ Failed faults.NoMemory)
 
 -- the link was opened, and by the next clock the stream was over: no letter left the link, the mail under each name is as before, and the setup is refused
@@ -109,20 +145,28 @@ pub record FeedsLink (arguments : FeedArguments) (stream : Stream) (before now :
   pub needed : AreNeeded stream (first_interval stream.setup.times opening) (fed stream opening (map received_of heard)) rests
   pub ends : EndsAs stream (now.left arguments.link) made failed outcome
 
--- what is done with a sender of the stream, told how many files were asked to be opened: nothing was fed, or the link was the last of them and the stream was over, or all were opened, and the link was fed to the posts
+-- what is done with a sender of the stream, told how many files were asked to be opened: a post wasn't opened, or the link was the last of them and the stream was over, or all were opened, and the link was fed to the posts
 abbrev pub FeedsOrStops : FeedArguments → Stream → ℕ → Live → Live → OutcomeView → Type 0
 FeedsOrStops arguments stream opened before now outcome =
-    Stops arguments before now outcome
+    FindsNoPost arguments before now outcome
     ⊎ ((opened ≡ 3) × FindsOver arguments stream before now outcome)
     ⊎ ((opened ≡ 3 + length arguments.posts) × FeedsLink arguments stream before now outcome)
 
+-- what is done with a stream: the link wasn't opened; or it was the last of the files, and there was no sender; or the seeds are right, and what follows was done with the sender
+abbrev pub FeedsStream : FeedArguments → Stream → ℕ → Live → Live → OutcomeView → Type 0
+FeedsStream arguments stream opened before now outcome =
+    FindsNoLink before now opened outcome
+    ⊎ ((opened ≡ 3) × FindsNoSender arguments stream before now outcome)
+    ⊎ ((wrong_line stream ≡ None) × FeedsOrStops arguments stream opened before now outcome)
+
 -- ---- the command
 
--- the link was fed by the sender of a setup and seeds, or nothing was
+-- the link was fed by the sender of a setup and seeds that were found and are sound, or nothing was
 pub record FeedsWith (arguments : FeedArguments) (setup secret : File) (before now : Live) (opened : ℕ) (outcome : OutcomeView) : Type 0 where
   pub stream : Stream
-  pub is : IsStreamIn setup secret stream
-  pub does : FeedsOrStops arguments stream opened before now outcome
+  pub found : IsFoundIn setup.page secret.page stream
+  pub sound : AreSound stream.seeds
+  pub does : FeedsStream arguments stream opened before now outcome
 
 -- what is told of links, posts and clocks is as before, but for what is left of this link, the mail of these posts and how many clocks were made
 pub record TouchesLive (link : List ℕ) (posts : List (List ℕ)) (before now : Live) : Type 0 where
@@ -131,11 +175,11 @@ pub record TouchesLive (link : List ℕ) (posts : List (List ℕ)) (before now :
   pub mails : (name : List ℕ) → IsNoneOf name posts → now.mail name ≡ before.mail name
   pub readings : now.readings ≡ before.readings
 
--- what the run does, told the files in the order of the words: there is no sender, or what follows was done with it
+-- what the run does, told the files in the order of the words: there are no sound seeds, or what follows was done with them
 abbrev pub DoesFeed : Live → Live → FeedArguments → ℕ → List File → List File → OutcomeView → Type 0
 DoesFeed before now arguments opened (setup ∷ secret ∷ files) files_now outcome =
     TouchesLive arguments.link arguments.posts before now
-    × ((LacksSender setup secret opened outcome × (now ≡ before)) ⊎ FeedsWith arguments setup secret before now opened outcome)
+    × ((LacksSoundSeeds setup secret opened outcome × (now ≡ before)) ⊎ FeedsWith arguments setup secret before now opened outcome)
 DoesFeed before now arguments opened files files_now outcome = ⊥
 
 -- the command, told what the desk has of links, posts and clocks before and afterwards: its words, its files and what it does

@@ -20,6 +20,8 @@ pub const FEED: FormText = FormText {
     a row with no datagram, 0 for never
     POSTS: ADDRESS:PORT, 1 to 32 of them with a comma between two, no two the
     same; they are opened in order once the link is there
+    Example, a link that ends after 2 quiet seconds:
+    tesla feed live.setup live.secret 127.0.0.1:5000/20 127.0.0.1:5001,127.0.0.1:5002
 ",
 };
 

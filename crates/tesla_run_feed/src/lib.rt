@@ -1,10 +1,12 @@
 //! The command `feed`: the live datagrams of a link are sent as the messages of a stream, with keys on time.
 #![tactic(auto)]
 
+mod chains;
 mod form;
 mod lines;
 mod ready;
 mod run;
+mod seeds;
 
 pub use form::FEED;
 pub use run::run_feed;

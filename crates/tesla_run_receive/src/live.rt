@@ -6,7 +6,7 @@ ghost use Rattle.tesla_front.specs.OutcomeView.{result_view};
 ghost use Rattle.tesla_receiver.specs.History.{IsLegal};
 ghost use Rattle.tesla_receiver.specs.Report.{report_of};
 ghost use Rattle.tesla_receiver.specs.declared.history.Entry.{Entry};
-ghost use Rattle.tesla_session.specs.Allowed.{MayAsk, MayReleaseAll};
+ghost use Rattle.tesla_session.specs.Allowed.{MayAsk, MayAskLinks, MayReleaseAll};
 ghost use Rattle.tesla_session.specs.Session.{OpensAll, calls_most, workers_of};
 ghost use Rattle.tesla_session.specs.Wanted.{Wanted};
 ghost use Rattle.tesla_turn.specs.Held.{first_pass};
@@ -45,6 +45,7 @@ pub fn run_station<R: Threads + Wait + Sync, D: Environment, V: Station + Send, 
     requires ingests { (V.receiver (V.config station)).ingests ≡ length (arguments_of arguments.now).links }
     requires allowed { E.allowed extra }
     requires asked { MayAsk D.Wire.brought D.Time.may_ask }
+    requires any_link { MayAskLinks D.Wire.may_ask }
     requires released { MayReleaseAll D.Pieces.name D.Pieces.written D.Pieces.may_write D.Time.read_for (V.receiver (V.config station)) 0 (arguments_of arguments.now).sinks }
     ensures { RunsStation (E.holds extra) (E.output extra) (V.receiver (V.config station)) (workers_wanted (arguments_of arguments.now)) (V.config station) (D.told desk.old) (D.told desk.new) result.1 (result_view result.0) }
 {
@@ -69,6 +70,7 @@ fn run_session<R: Threads + Wait + Sync, D: Environment, V: Station + Send, E: E
     requires ingests { (cfg : V.Config) → session.first.config ≡ Some cfg → (V.receiver cfg).ingests ≡ length arguments.now.links }
     requires allowed { E.allowed extra }
     requires asked { MayAsk D.Wire.brought D.Time.may_ask }
+    requires any_link { MayAskLinks D.Wire.may_ask }
     requires released { (cfg : V.Config) → session.first.config ≡ Some cfg → MayReleaseAll D.Pieces.name D.Pieces.written D.Pieces.may_write D.Time.read_for (V.receiver cfg) 0 arguments.now.sinks }
     ensures { (cfg : V.Config) → session.first ≡ first_pass session.turn cfg (1 + length arguments.now.links + length arguments.now.sinks) calls_most → E.fits extra cfg →
         RunsStation (E.holds extra) (E.output extra) (V.receiver cfg) (workers_wanted (arguments_of arguments.now)) cfg (D.told desk.old) (D.told desk.new) result.1 (result_view result.0) }

@@ -9,7 +9,7 @@ ghost use Rattle.tesla_front.specs.Openings.{Opens, OpensSome};
 ghost use Rattle.tesla_front.specs.Refusal.{StopCauses};
 ghost use Rattle.tesla_front.specs.Setup.{IsNoSetup, IsSetupIn};
 ghost use Rattle.tesla_receiver.specs.Stands.{Stands};
-ghost use Rattle.tesla_session.specs.Allowed.{MayAsk};
+ghost use Rattle.tesla_session.specs.Allowed.{MayAsk, MayAskLinks};
 ghost use Rattle.tesla_run_receive.specs.Allowed.{MayWriteReleased};
 ghost use Rattle.tesla_run_receive.specs.Arguments.{AreFew, IsReceive, ReceiveArguments, arguments_of};
 ghost use Rattle.tesla_run_receive.specs.Receive.{config_of, receive};
@@ -40,6 +40,7 @@ pub fn run_receive<R: Threads + Wait + Sync, D: Environment>(
     desk: &mut D,
 ) -> LiveRun<Last<Receiver>>
     requires asked { MayAsk D.Wire.brought D.Time.may_ask }
+    requires any_link { MayAskLinks D.Wire.may_ask }
     requires released { (arguments : ReceiveArguments) → IsReceive arguments (map string_bytes words.now) → MayWriteReleased D.Pieces.name D.Pieces.written D.Pieces.may_write D.Time.read_for arguments (D.told desk.old) }
     ensures runs { RunsAs (receive (D.told desk.old).live (D.told desk.new).live result.last) (map string_bytes words.now) (D.told desk.old) (D.told desk.new) (outcome_view result.outcome) }
     ensures none { outcome_view result.outcome ≡ Usage → result.last ≡ None }
@@ -65,6 +66,7 @@ fn perform<R: Threads + Wait + Sync, D: Environment>(
 ) -> StationResult<Receiver>
     requires form { (spelled : List (List ℕ)) × IsReceive (arguments_of arguments.now) spelled }
     requires asked { MayAsk D.Wire.brought D.Time.may_ask }
+    requires any_link { MayAskLinks D.Wire.may_ask }
     requires released { MayWriteReleased D.Pieces.name D.Pieces.written D.Pieces.may_write D.Time.read_for (arguments_of arguments.now) (D.told desk.old) }
     ensures { Performs (receive (D.told desk.old).live (D.told desk.new).live result.1) (arguments_of arguments.now) (D.told desk.old) (D.told desk.new) (result_view result.0) }
 {

@@ -19,7 +19,7 @@ use Rattle.tesla_run_relay.specs.Steps.{RunsPosts}
 
 module _ {P : Type 0} (seen : P → PostSeen) (names wanted : List (List ℕ)) (before mid : Told) (old : List PostSeen) (posts : List P) where
   -- there are as many posts as names
-  opened_wanted : names ≡ wanted → OpensPosts names before mid old (map seen posts) (Ok tt) → old ≡ [] → length posts ≡ length wanted
+  pub opened_wanted : names ≡ wanted → OpensPosts names before mid old (map seen posts) (Ok tt) → old ≡ [] → length posts ≡ length wanted
   opened_wanted is opens none = opened_size seen names before mid old posts opens none ∙ ap (λ (ns : List (List ℕ)). length ns) is
 
   pub opened_some : names ≡ wanted → OpensPosts names before mid old (map seen posts) (Ok tt) → old ≡ [] → (1 ≤ length wanted) × (length wanted ≤ 32) → (1 ≤ length posts) × (length posts ≤ 32)

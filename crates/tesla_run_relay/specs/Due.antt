@@ -1,7 +1,8 @@
--- Which datagram a post is to send next in a run of the command relay.
-use Rattle.std.specs.Prelude.{◌≡◌, ℕ, Bool, List, [], ◌∷◌, ◌++◌, map, Option, IfSome}
+-- Which datagram a post is to send next in a run of the command relay, and when its link may be asked.
+use Rattle.std.specs.Prelude.{◌≡◌, ℕ, Bool, List, [], ◌∷◌, ◌++◌, length, map, Option, IfSome}
 use Rattle.std.specs.List.{Contains}
 use Rattle.tesla_relay.specs.Numbered.{AreBrought, Numbered, datagram_of}
+use Rattle.tesla_relay.specs.Offers.{MayAskNext}
 use Rattle.tesla_run_relay.specs.Arguments.{RelayArguments, IsRelayForm}
 
 -- a post under one of these names: it has sent datagrams that the link brought before this one, in order and each once, where it tells what it sent
@@ -17,3 +18,8 @@ pub record IsDue (brought : ℕ → List ℕ → Bool) (words : List (List ℕ))
   pub arguments : RelayArguments
   pub form : IsRelayForm arguments words
   pub next : IsNextUnder brought arguments.posts name sent datagram
+
+-- where the words are of the form, a link may be asked for its next letter once each datagram that it has brought was offered to the queue of each of POSTS: it was put in, or the queue held CAPACITY items, or it is behind those of which a queue takes any
+abbrev pub MayAskForWords : {K : Type 0} → (was_put : ℕ → ℕ → Bool) → (was_full : ℕ → ℕ → ℕ → Bool) → (has_brought : K → ℕ → Bool) → (may_ask : K → Bool) → List (List ℕ) → Type 0
+MayAskForWords was_put was_full has_brought may_ask words =
+    (arguments : RelayArguments) → IsRelayForm arguments words → MayAskNext was_put was_full has_brought may_ask arguments.capacity (length arguments.posts)

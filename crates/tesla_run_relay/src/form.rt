@@ -17,6 +17,8 @@ pub const RELAY: FormText = FormText {
     a row with no datagram, 0 for never
     POSTS: ADDRESS:PORT, 1 to 32 of them with a comma between two, no two the
     same; they are opened in order once the link is there
+    Example, queues of 1024 datagrams, and a link that ends after 2 quiet seconds:
+    tesla relay 1024 127.0.0.1:5003/20 127.0.0.1:5001,127.0.0.1:5002
 ",
 };
 

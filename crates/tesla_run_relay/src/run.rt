@@ -5,11 +5,12 @@ ghost use Rattle.tesla_desk.specs.Faults.{HasCause};
 ghost use Rattle.tesla_front.specs.OutcomeView.{outcome_view};
 ghost use Rattle.tesla_front.specs.Command.{Performs, RunsAs};
 ghost use Rattle.tesla_relay.specs.Due.{IsNextRelayed};
+ghost use Rattle.tesla_relay.specs.Offers.{MayAskNext};
 ghost use Rattle.tesla_relay.specs.Posts.{PostSeen};
 ghost use Rattle.tesla_relay.specs.Relay.{Relays};
 ghost use Rattle.tesla_relay.specs.declared.relayed.RelayEnd.TheVariants as ends;
 ghost use Rattle.tesla_run_relay.specs.Arguments.{IsRelayForm, arguments_of};
-ghost use Rattle.tesla_run_relay.specs.Due.{IsDue, IsNextUnder};
+ghost use Rattle.tesla_run_relay.specs.Due.{IsDue, IsNextUnder, MayAskForWords};
 ghost use Rattle.tesla_run_relay.specs.Relay.{relay};
 ghost use Rattle.tesla_run_relay.specs.Steps.{RunsLinked, RunsPosts};
 
@@ -23,7 +24,7 @@ use std::thread::Threads;
 use tesla_base::NoMemory;
 use tesla_desk::Environment;
 use tesla_front::{Fault, Outcome};
-use tesla_relay::{Relayed, close_posts, open_posts, relay};
+use tesla_relay::{PostQueues, Relayed, close_posts, open_posts, relay};
 
 /// Runs the words as those of `relay`: hands each datagram that leaves LINK on to all POSTS, before each of which stands a
 /// queue of CAPACITY datagrams; one that finds it full is dropped for that post. All memory but that of the openings is asked
@@ -35,13 +36,16 @@ use tesla_relay::{Relayed, close_posts, open_posts, relay};
 /// relayed. `Read`, `Write` and `Open` come only where the desk's count of that rose. It waits for the link.
 ///
 /// While it runs each of POSTS may send what comes next for it: datagrams that LINK brought, in order and each once.
-/// Nothing else is sent, whether the run ends or not.
-pub fn run_relay<R: Threads + Wait + Sync, D: Environment>(
+/// LINK may be asked for its next letter once each datagram that it brought was put into the queue of each of POSTS, or
+/// found CAPACITY items there, or lies behind the first 2^62 - 2. Nothing else is sent or asked for, whether the run ends
+/// or not.
+pub fn run_relay<R: Threads + Wait + Sync, D: Environment + PostQueues>(
     rt: &R,
     alloc: Global,
     words: &[String],
     desk: &mut D,
 ) -> Outcome
+    requires asks { MayAskForWords (D.was_put D.Wire.brought) (D.was_full D.Wire.brought) D.Wire.has_brought D.Wire.may_ask (map string_bytes words.now) }
     requires due { (post : D.Port) (datagram : List ℕ) → IsDue D.Wire.brought (map string_bytes words.now) (D.Port.name post) (D.Port.sent post) datagram → D.Port.may_send post datagram ≡ true }
     ensures { RunsAs (relay (D.told desk.old).live (D.told desk.new).live) (map string_bytes words.now) (D.told desk.old) (D.told desk.new) (outcome_view result) }
 {
@@ -52,13 +56,14 @@ pub fn run_relay<R: Threads + Wait + Sync, D: Environment>(
 }
 
 // Does what the words ask for: takes the room, opens the link, and relays it to the posts.
-fn perform<R: Threads + Wait + Sync, D: Environment>(
+fn perform<R: Threads + Wait + Sync, D: Environment + PostQueues>(
     rt: &R,
     alloc: Global,
     arguments: &Arguments<'_>,
     desk: &mut D,
 ) -> Outcome
     requires form { (spelled : List (List ℕ)) × IsRelayForm (arguments_of arguments.now) spelled }
+    requires asks { MayAskNext (D.was_put D.Wire.brought) (D.was_full D.Wire.brought) D.Wire.has_brought D.Wire.may_ask arguments.now.capacity (length arguments.now.posts) }
     requires due { (post : D.Port) (datagram : List ℕ) → IsNextUnder D.Wire.brought arguments.now.posts (D.Port.name post) (D.Port.sent post) datagram → D.Port.may_send post datagram ≡ true }
     ensures { Performs (relay (D.told desk.old).live (D.told desk.new).live) (arguments_of arguments.now) (D.told desk.old) (D.told desk.new) (outcome_view result) }
 {
@@ -100,7 +105,7 @@ fn give_back<D: Environment>(room: Room<D>)
 }
 
 // Opens the posts, relays an open link to them, and closes them and the link.
-fn run_linked<R: Threads + Wait + Sync, D: Environment>(
+fn run_linked<R: Threads + Wait + Sync, D: Environment + PostQueues>(
     rt: &R,
     alloc: Global,
     arguments: &Arguments<'_>,
@@ -112,6 +117,7 @@ fn run_linked<R: Threads + Wait + Sync, D: Environment>(
     requires posts { (room.posts.items ≡ []) × (length arguments.now.posts ≤ vec_capacity room.posts) }
     requires gates { (room.gates.items ≡ []) × (length arguments.now.posts ≤ vec_capacity room.gates) }
     requires fresh { (D.Wire.faults link ≡ 0) × (D.Wire.has_brought link 0 ≡ true) }
+    requires asks { MayAskNext (D.was_put D.Wire.brought) (D.was_full D.Wire.brought) D.Wire.has_brought D.Wire.may_ask arguments.now.capacity (length arguments.now.posts) }
     requires due { (post : D.Port) (datagram : List ℕ) → IsNextUnder D.Wire.brought arguments.now.posts (D.Port.name post) (D.Port.sent post) datagram → D.Port.may_send post datagram ≡ true }
     ensures { RunsLinked arguments.now.capacity arguments.now.posts (D.Wire.name link) (D.Wire.left link) (D.told desk.old) (D.told desk.new) (outcome_view result) }
 {
@@ -123,7 +129,7 @@ fn run_linked<R: Threads + Wait + Sync, D: Environment>(
 }
 
 // Opens the posts, and relays an open link to them.
-fn run_posts<R: Threads + Wait + Sync, D: Environment>(
+fn run_posts<R: Threads + Wait + Sync, D: Environment + PostQueues>(
     rt: &R,
     alloc: Global,
     arguments: &Arguments<'_>,
@@ -135,6 +141,7 @@ fn run_posts<R: Threads + Wait + Sync, D: Environment>(
     requires posts { (room.old.posts.items ≡ []) × (length arguments.now.posts ≤ vec_capacity room.old.posts) }
     requires gates { (room.old.gates.items ≡ []) × (length arguments.now.posts ≤ vec_capacity room.old.gates) }
     requires new { D.Wire.has_brought link.old 0 ≡ true }
+    requires asks { MayAskNext (D.was_put D.Wire.brought) (D.was_full D.Wire.brought) D.Wire.has_brought D.Wire.may_ask arguments.now.capacity (length arguments.now.posts) }
     requires due { (post : D.Port) (datagram : List ℕ) → IsNextUnder D.Wire.brought arguments.now.posts (D.Port.name post) (D.Port.sent post) datagram → D.Port.may_send post datagram ≡ true }
     ensures runs { RunsPosts arguments.now.capacity arguments.now.posts (D.Wire.left link.old) (D.Wire.left link.new) (D.Wire.faults link.old) (D.Wire.faults link.new) (D.told desk.old) (D.told desk.new) (map (λ post. record { name = D.Port.name post; sent = D.Port.sent post; faults = D.Port.faults post }) room.new.posts.items) (outcome_view result) }
     ensures name { D.Wire.name link.new ≡ D.Wire.name link.old }
@@ -149,7 +156,7 @@ fn run_posts<R: Threads + Wait + Sync, D: Environment>(
 }
 
 // Relays an open link to open posts.
-fn relay_opened<R: Threads + Wait + Sync, D: Environment>(
+fn relay_opened<R: Threads + Wait + Sync, D: Environment + PostQueues>(
     rt: &R,
     alloc: Global,
     capacity: u32,
@@ -161,6 +168,7 @@ fn relay_opened<R: Threads + Wait + Sync, D: Environment>(
     requires gates { (room.old.gates.items ≡ []) × (length room.old.posts.items ≤ vec_capacity room.old.gates) }
     requires capacity { (1 ≤ capacity) × (capacity ≤ 4096) }
     requires new { D.Wire.has_brought link.old 0 ≡ true }
+    requires asks { MayAskNext (D.was_put D.Wire.brought) (D.was_full D.Wire.brought) D.Wire.has_brought D.Wire.may_ask capacity (length room.old.posts.items) }
     requires due { let seen : D.Port → PostSeen = λ post. record { name = D.Port.name post; sent = D.Port.sent post; faults = D.Port.faults post } in
         (post : D.Port) (datagram : List ℕ) → IsNextRelayed (record { brought = D.Wire.brought; posts = map seen room.old.posts.items }) (seen post) datagram → D.Port.may_send post datagram ≡ true }
     ensures relays { IfOk result (λ it. Relays capacity (D.Wire.left link.old) (D.Wire.left link.new) (map (λ post. record { name = D.Port.name post; sent = D.Port.sent post; faults = D.Port.faults post }) room.old.posts.items) (map (λ post. record { name = D.Port.name post; sent = D.Port.sent post; faults = D.Port.faults post }) room.new.posts.items) it.end it.counts.items) }
@@ -173,5 +181,5 @@ fn relay_opened<R: Threads + Wait + Sync, D: Environment>(
     let mut gate = desk.gate();
     let Room { posts, gates } = room;
     make_gates(desk, posts.len(), gates);
-    relay(rt, alloc, link, &mut gate, posts, gates, capacity)
+    relay::<R, D, D::Wire, D::Port, D::Pause>(rt, alloc, link, &mut gate, posts, gates, capacity)
 }

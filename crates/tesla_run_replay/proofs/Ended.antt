@@ -9,14 +9,15 @@ use Rattle.tesla_front.specs.declared.fault.Fault.TheVariants as faults
 use Rattle.tesla_receiver.specs.History.{Event}
 use Rattle.tesla_convert.specs.Held.{HoldsText, HoldsPrefix}
 use Rattle.tesla_convert.specs.Meaning.{ConvertsBetween}
-use Rattle.tesla_convert.specs.Steps.{Converts}
+use Rattle.tesla_convert.specs.Steps.{Converts, IsWanting}
 use Rattle.tesla_convert.specs.declared.conversion.Ending.{Ending}
 use Rattle.tesla_convert.specs.declared.conversion.Ending.TheVariants as endings
 use Rattle.tesla_convert.specs.declared.conversion.Stopped.{Stopped}
 use Rattle.tesla_convert.specs.declared.conversion.Stopped.TheVariants.{Read, Write, Memory}
-use Rattle.tesla_run_replay.specs.Playing.{EventRule, end_by_rule, events_in, meaning_by, record_rule, with_end}
+use Rattle.tesla_run_replay.specs.Playing.{EventRule, WantsNext, end_by_rule, events_in, meaning_by, record_rule, with_end}
 use Rattle.tesla_run_replay.specs.Steps.{TellsEnd}
 use Rattle.tesla_run_replay.proofs.Made.{refused_is, so_far_is, text_is}
+use Rattle.tesla_run_replay.proofs.Wanting.{wants_at}
 
 -- ---- what is told is the fault that came
 
@@ -86,9 +87,13 @@ module _ (may_want : Bool) (rule last : EventRule) (Had : List Event → Type 0)
       let told : text ≡ last.tells (with_end last (events_in records)) = tells records (subst (λ (r : EventRule). Had (with_end r (events_in records))) (sym same) had) in
       ap (λ t. Done t) (told ∙ ap (λ (r : EventRule). r.tells (with_end r (events_in records))) same) ∙ ended_at rule records (outline_of bytes).fault none
 
+  -- memory was wanting, while no write failed
+  abbrev WantsMemory : Type 0
+  WantsMemory = (may_want ≡ true) × (failed ≡ 0) × ((bytes : List ℕ) → left ≡ Some bytes → IsWanting capture RecordKind (record_rule rule) (WantsNext rule) bytes written)
+
   by_end : (ended : Result (Ending RecordKind) Stopped) (outcome : OutcomeView)
       → ((bytes : List ℕ) → left ≡ Some bytes → Converts capture RecordKind (record_rule rule) (λ records. (last ≡ rule) × Had (with_end rule (events_in records))) ended bytes left_now written failed)
-      → TellsEnd last (λ records. Had (with_end last (events_in records))) ended outcome → (ended ≡ Err Write → 0 < failed) → (ended ≡ Err Memory → (may_want ≡ true) × (failed ≡ 0)) → ConvertsBetween (meaning_by may_want rule) left left_now written failed outcome
+      → TellsEnd last (λ records. Had (with_end last (events_in records))) ended outcome → (ended ≡ Err Write → 0 < failed) → (ended ≡ Err Memory → WantsMemory) → ConvertsBetween (meaning_by may_want rule) left left_now written failed outcome
   by_end (Ok endings.End) outcome converts tells some wants =
       subst (λ (c : OutcomeView). ConvertsBetween (meaning_by may_want rule) left left_now written failed c) (sym tells.1) (record {
         end = λ bytes told.
@@ -110,13 +115,15 @@ module _ (may_want : Bool) (rule last : EventRule) (Had : List Event → Type 0)
       (some refl, λ bytes done told written_is. part written done _ _ (converts bytes told) (text_is rule bytes) written_is)
   by_end (Err Memory) outcome converts tells some wants =
       subst (λ (c : OutcomeView). ConvertsBetween (meaning_by may_want rule) left left_now written failed c) (sym tells)
-      (inr ((wants refl).0, (wants refl).1, λ bytes done told written_is. part written done _ _ (converts bytes told) (text_is rule bytes) written_is))
+      (inr ((wants refl).0, (wants refl).1, λ bytes done told written_is. (part written done _ _ (converts bytes told) (text_is rule bytes) written_is, wants_at rule bytes written ((wants refl).2 bytes told) done written_is)))
 
   -- the same, told the rule of the target before, and that by which was converted: both are the one that was named
   pub ends_between : (first by : EventRule) (ended : Result (Ending RecordKind) Stopped) (outcome : OutcomeView) → rule ≡ first → rule ≡ by
       → ((bytes : List ℕ) → left ≡ Some bytes → Converts capture RecordKind (record_rule by) (λ records. (last ≡ rule) × Had (with_end rule (events_in records))) ended bytes left_now written failed)
-      → TellsEnd last (λ records. Had (with_end last (events_in records))) ended outcome → (ended ≡ Err Write → 0 < failed) → (ended ≡ Err Memory → (may_want ≡ true) × (failed ≡ 0)) → ConvertsBetween (meaning_by may_want first) left left_now written failed outcome
+      → TellsEnd last (λ records. Had (with_end last (events_in records))) ended outcome → (ended ≡ Err Write → 0 < failed) → (ended ≡ Err Memory → (may_want ≡ true) × (failed ≡ 0) × ((bytes : List ℕ) → left ≡ Some bytes → IsWanting capture RecordKind (record_rule by) (WantsNext rule) bytes written))
+      → ConvertsBetween (meaning_by may_want first) left left_now written failed outcome
   ends_between first by ended outcome start same converts tells some wants =
       subst (λ (r : EventRule). ConvertsBetween (meaning_by may_want r) left left_now written failed outcome) start
       (by_end ended outcome (λ bytes told.
-      subst (λ (r : EventRule). Converts capture RecordKind (record_rule r) (λ records. (last ≡ rule) × Had (with_end rule (events_in records))) ended bytes left_now written failed) (sym same) (converts bytes told)) tells some wants)
+      subst (λ (r : EventRule). Converts capture RecordKind (record_rule r) (λ records. (last ≡ rule) × Had (with_end rule (events_in records))) ended bytes left_now written failed) (sym same) (converts bytes told)) tells some
+      (λ e. let it = wants e in (it.0, it.1, λ bytes told. subst (λ (r : EventRule). IsWanting capture RecordKind (record_rule r) (WantsNext rule) bytes written) (sym same) (it.2 bytes told))))

@@ -3,5 +3,6 @@ pub mod Made
 pub mod Takes
 pub mod Targets
 pub mod Meanings
+pub mod Wanting
 pub mod Ended
 pub mod Under

@@ -49,8 +49,11 @@ text_is rule bytes =
     ap (λ (m : Made RecordKind). rule.begins ++ m.text) (made_all rule (behind_of capture RecordKind (record_rule rule) (outline_of bytes).fault) 5 [] (outline_of bytes).records)
     ∙ ap (λ (t : List ℕ). rule.begins ++ t) (text_behind rule (outline_of bytes).fault (outline_of bytes).records)
 
+-- what is made of records alone is the text of their events
+pub unread_text : (rule : EventRule) (records : List Record) → (made_of capture RecordKind (record_rule rule) Unread 5 [] records).text ≡ events_text rule (events_in records)
+unread_text rule records = ap (λ (m : Made RecordKind). m.text) (made_all rule Unread 5 [] records) ∙ append-nil (events_text rule (events_in records))
+
 -- what is made of the first bytes of a file is the text of theirs, behind the same
 pub so_far_is : (rule : EventRule) (read : List ℕ) → (made_so_far capture RecordKind (record_rule rule) read).text ≡ rule.begins ++ events_text rule (events_in (outline_of read).records)
 so_far_is rule read =
-    ap (λ (m : Made RecordKind). rule.begins ++ m.text) (made_all rule Unread 5 [] (outline_of read).records)
-    ∙ ap (λ (t : List ℕ). rule.begins ++ t) (append-nil (events_text rule (events_in (outline_of read).records)))
+    ap (λ (t : List ℕ). rule.begins ++ t) (unread_text rule (outline_of read).records)

@@ -21,7 +21,7 @@ all_released cfg (Some fault) records = refl
 says_released : (cfg : Config) → SaysSame (meaning_by false (rule_of cfg)) (meaning cfg)
 says_released cfg =
     let it = says_received cfg [] (λ h e. record_in 0 e) history_report (records_of 0) refl (records_more 0) in
-    record { comes = it.comes; makes = λ bytes. it.makes bytes ∙ all_released cfg (outline_of bytes).fault (outline_of bytes).records; so_far = it.so_far; unrefused = it.unrefused; may = it.may }
+    record { comes = it.comes; makes = λ bytes. it.makes bytes ∙ all_released cfg (outline_of bytes).fault (outline_of bytes).records; so_far = it.so_far; unrefused = it.unrefused; may = it.may; wanting = it.wanting }
 
 -- what is said by the rule of a receiver of such a configuration is said by its histories
 pub says_same : (cfg other : Config) → other ≡ cfg → SaysSame (meaning_by false (rule_of other)) (meaning cfg)

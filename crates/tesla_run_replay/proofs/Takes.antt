@@ -15,14 +15,14 @@ takes_more : (n : ℕ) → replicate (suc n) (Takes 0) ≡ replicate n (Takes 0)
 takes_more zero = refl
 takes_more (suc n) = ap (λ (l : List Event). Takes 0 ∷ l) (takes_more n)
 
-next_take : (n : ℕ) → replicate (n + 1) (Takes 0) ≡ replicate n (Takes 0) ++ Takes 0 ∷ []
+pub next_take : (n : ℕ) → replicate (n + 1) (Takes 0) ≡ replicate n (Takes 0) ++ Takes 0 ∷ []
 next_take n = ap (λ k. replicate k (Takes 0)) (add-one n) ∙ takes_more n
 
 -- one take more behind some events and takes
 pub take_more : (events : List Event) (n : ℕ) → (events ++ replicate n (Takes 0)) ++ Takes 0 ∷ [] ≡ events ++ replicate (n + 1) (Takes 0)
 take_more events n = append_assoc events (replicate n (Takes 0)) (Takes 0 ∷ []) ∙ ap (λ l. events ++ l) (sym (next_take n))
 
-takes_apart : (n i : ℕ) → i ≤ n → replicate n (Takes 0) ≡ replicate i (Takes 0) ++ replicate (n - i) (Takes 0)
+pub takes_apart : (n i : ℕ) → i ≤ n → replicate n (Takes 0) ≡ replicate i (Takes 0) ++ replicate (n - i) (Takes 0)
 takes_apart n zero h = ap (λ k. replicate k (Takes 0)) (omega arith)
 takes_apart zero (suc i) h = absurd (omega arith)
 takes_apart (suc n) (suc i) h =

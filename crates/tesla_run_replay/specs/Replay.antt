@@ -39,7 +39,7 @@ text_so_far cfg read = records_of 0 (played cfg (outline_of read).records false)
 
 -- all of that, as functions of the capture's bytes: memory is wanting before the capture is read or not at all
 abbrev pub meaning : Config → Meaning
-meaning cfg = record { comes = end_of cfg; makes = out_text cfg; so_far = text_so_far cfg; IsUnrefused = HoldsNoRefusal capture; MayWant = ⊥ }
+meaning cfg = record { comes = end_of cfg; makes = out_text cfg; so_far = text_so_far cfg; IsUnrefused = HoldsNoRefusal capture; MayWant = ⊥; IsWanting = λ bytes written. ⊥ }
 
 -- the command: its words, and what a capture comes to under a setup
 abbrev pub replayed : PlayedCommand

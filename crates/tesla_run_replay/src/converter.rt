@@ -4,12 +4,12 @@ ghost use Rattle.std.specs.Prelude.{◌≡◌, ◌+◌, ◌^◌, ◌≤◌, ◌+
 ghost use Rattle.tesla_capture.specs.Capture.{capture};
 ghost use Rattle.tesla_capture.specs.Gathering.{gathered, Gathers};
 ghost use Rattle.tesla_desk.specs.Faults.{HasCause};
-ghost use Rattle.tesla_desk.specs.Outside.{AppendsPrefix};
+ghost use Rattle.tesla_desk.specs.Outside.{AppendsPrefix, with_bytes};
 ghost use Rattle.tesla_convert.specs.Records.{IsWithin, record_of};
 ghost use Rattle.tesla_receiver.specs.History.{Event, Takes};
 ghost use Rattle.tesla_replay.specs.Played.{event_in};
 ghost use Rattle.tesla_state.specs.Releases.{each_after};
-ghost use Rattle.tesla_run_replay.specs.Playing.{EventFits, EventRule, event_of, silent};
+ghost use Rattle.tesla_run_replay.specs.Playing.{EventFits, EventRule, WantsIn, event_of, silent};
 
 use crate::target::{PlayedEvent, Target};
 use std::marker::Brand;
@@ -66,7 +66,8 @@ fn take_times<L: Ledger, T: Target, O: Sink>(
         Gathers (O.written out.old) (O.written out.new) (gathered gatherer.new) (gathered gatherer.old ++ each_after (T.rule target.old).adds es (replicate times (Takes 0)))) }
     ensures halts { IfErr result (λ _. (es : List Event) → T.has target.old es →
         AppendsPrefix (O.written out.old) (O.written out.new) (gathered gatherer.old ++ each_after (T.rule target.old).adds es (replicate times (Takes 0)))) }
-    ensures wants { result ≡ Err Halt.NoMemory → (T.may_want ≡ true) × (gathered gatherer.new ≡ []) }
+    ensures wants { result ≡ Err Halt.NoMemory → (T.may_want ≡ true) × (gathered gatherer.new ≡ [])
+        × ((es : List Event) → T.has target.old es → (piece : List ℕ) × WantsIn (T.rule target.old) es (replicate times (Takes 0)) piece × (O.written out.new ≡ with_bytes (O.written out.old) (gathered gatherer.old ++ piece))) }
     ensures cause { HasCause (O.faults out.old) (O.faults out.new) (result ≡ Err Halt.WriteFault) }
     ensures name { O.name out.new ≡ O.name out.old }
 {
@@ -98,7 +99,7 @@ impl<L: ReplayLedger, T: Target> Converter for ReplayConverter<L, T> {
     ghost use Rattle.std.specs.Prelude.{◌≡◌};
     ghost use Rattle.tesla_capture.specs.Capture.{capture};
     ghost use Rattle.tesla_capture.specs.Formats.{capture_is};
-    ghost use Rattle.tesla_run_replay.specs.Playing.{events_in, record_rule, with_end};
+    ghost use Rattle.tesla_run_replay.specs.Playing.{WantsNext, events_in, record_rule, with_end};
 
     type Input = CaptureFormat;
 
@@ -113,6 +114,8 @@ impl<L: ReplayLedger, T: Target> Converter for ReplayConverter<L, T> {
     ghost ended = { λ c records. (T.rule c.target ≡ L.rule) × T.has c.target (with_end L.rule (events_in records)) };
 
     ghost may_want = { T.may_want };
+
+    ghost wants = { WantsNext L.rule };
 
     ghost calls = { λ c. T.calls c.target };
 

@@ -41,7 +41,7 @@ pub trait Target {
     ghost command: { PlayedCommand };
 
     /// What is written before all events and of each event after those before it, and after some events how many packets
-    /// wait and which lines tell what was played.
+    /// wait and which lines tell what was played, and at which event memory may be wanting.
     ghost rule: { Self → EventRule };
 
     /// It has had these events, in this order, and no others.
@@ -80,7 +80,7 @@ pub trait Target {
     /// Plays an event, whose datagram has at most 2,048 bytes. What is written of it is put behind what is gathered.
     ///
     /// `WriteFault`: a prefix of both was written, and the sink's count of faults rose. `NoMemory` comes only where
-    /// `may_want` is true, and then both were written.
+    /// `may_want` is true and the rule says that memory may be wanting at the event, and then both were written.
     fn play<L: Ledger, O: Sink>(
         &mut self,
         event: PlayedEvent<'_>,
@@ -97,7 +97,8 @@ pub trait Target {
         ensures halts { result ≡ Err Halt.WriteFault → (es : List Event) → has self.old es →
             AppendsPrefix (O.written out.old) (O.written out.new) (gathered gatherer.old ++ (rule self.old).adds es (event_of event.entry)) }
         ensures wants { result ≡ Err Halt.NoMemory → (may_want ≡ true) × (gathered gatherer.new ≡ [])
-            × ((es : List Event) → has self.old es → O.written out.new ≡ with_bytes (O.written out.old) (gathered gatherer.old ++ (rule self.old).adds es (event_of event.entry))) }
+            × ((es : List Event) → has self.old es → O.written out.new ≡ with_bytes (O.written out.old) (gathered gatherer.old ++ (rule self.old).adds es (event_of event.entry)))
+            × ((es : List Event) → has self.old es → (rule self.old).wants es (event_of event.entry) ≡ true) }
         ensures calls { calls self.new ≤ calls self.old + 1 }
         ensures cause { HasCause (O.faults out.old) (O.faults out.new) (result ≡ Err Halt.WriteFault) }
         ensures name { O.name out.new ≡ O.name out.old };

@@ -1,4 +1,5 @@
 pub mod Events
 pub mod Texts
 pub mod Flushed
+pub mod Wanting
 pub mod Meanings

@@ -11,5 +11,7 @@ pub const ROLL: FormText = FormText {
     counts.
     LAG: how many microseconds the sender's clock is ahead at most
     CAPACITY: how many packets each epoch holds at most, 1 to 4096
+    Example, a lag of 0.03 seconds:
+    tesla roll setup 30000 256 capture out
 ",
 };

@@ -58,7 +58,7 @@ pub performs_unsent : (arguments : SendArguments) (before now : Told) (outcome :
 performs_unsent arguments before now outcome named none = record {
   named = named;
   opened = none.opened;
-  opens = opens_no_more arguments.setup arguments.secret (OfSource arguments.script ∷ OfSink arguments.out ∷ []) outcome before now none;
+  opens = opens_no_more (OfSource arguments.setup) (OfSource arguments.secret) (OfSource arguments.script ∷ OfSink arguments.out ∷ []) none.opened before now none.few none.opens;
   does = inl none.why;
   counts = causes_plain before.faults now.faults none.causes;
 }
@@ -71,7 +71,7 @@ performs_sent arguments stream before mid now outcome named opens sends =
     record {
       named = named;
       opened = suc (suc sends.opened);
-      opens = opens_behind arguments.setup arguments.secret (OfSource script ∷ OfSink out ∷ []) sends.opened stream before mid now opens sends.opens;
+      opens = opens_behind arguments.setup arguments.secret (OfSource script ∷ OfSink out ∷ []) sends.opened before mid now opens.opens opens.pages sends.opens;
       does = inr (record {
         stream = stream;
         is = opens.is;

@@ -22,7 +22,7 @@ use Rattle.tesla_sender.specs.Made.{Chain, Stream, chains_of}
 use Rattle.tesla_sender.specs.Opening.{first_wrong}
 use Rattle.tesla_sender.specs.declared.refusal.SenderRefusal.{SenderRefusal}
 use Rattle.tesla_sender.specs.declared.refusal.SenderRefusal.TheVariants as unopened_for
-use Rattle.tesla_run_send.specs.Sender.{IsFoundIn, IsNoSender, IsStreamIn, OpensNoSender, OpensSender, wrong_line}
+use Rattle.tesla_run_send.specs.Sender.{IsFoundIn, IsNoSender, IsStreamIn, LacksSeeds, LacksSender, OpensNoSender, OpensSender, ReadsNoStream, ReadsStream, wrong_line}
 
 -- ---- a wrong seed
 
@@ -43,7 +43,7 @@ seed_is_wrong stream refusal number line status text made is told three spelled 
 )
 
 -- why no sender is opened is no fault but want of memory
-no_sender_fault : (stream : Stream) (outcome : OutcomeView) (fault : Fault) → IsNoSender stream outcome → (fault ≡ faults.NoMemory → ⊥) → outcome ≡ Failed fault → ⊥
+pub no_sender_fault : (stream : Stream) (outcome : OutcomeView) (fault : Fault) → IsNoSender stream outcome → (fault ≡ faults.NoMemory → ⊥) → outcome ≡ Failed fault → ⊥
 no_sender_fault stream outcome fault (inl (line, wrong, told)) other e = cc
 no_sender_fault stream outcome fault (inr told) other e = let memory : fault ≡ faults.NoMemory = cc in other memory
 
@@ -57,7 +57,7 @@ stop_causes {A} stop old new causes =
 
 module _ (setup secret : List ℕ) (old : Told) where
   -- there was no setup
-  pub unset : (stop : Stop) (new : Told) → OpensSome (OfSource setup ∷ []) old new → new.live ≡ old.live → IsNoSetup (old.page setup) (stop_view stop) → StopCauses {A = Parts} (Err stop) old.faults new.faults → OpensNoSender setup secret (stop_view stop) old new
+  pub unset : (stop : Stop) (new : Told) → OpensSome (OfSource setup ∷ []) old new → new.live ≡ old.live → IsNoSetup (old.page setup) (stop_view stop) → StopCauses {A = Parts} (Err stop) old.faults new.faults → ReadsNoStream setup secret (stop_view stop) old new
   unset stop new opens live why causes =
       let it = opens_some (OfSource setup) (OfSource secret ∷ []) old new opens in
       record { opened = it.0; few = omega (arith, it.1); opens = it.2; live = live; why = inl (record { alone = it.1; why = why }); causes = stop_causes stop old.faults new.faults causes }
@@ -68,7 +68,7 @@ module _ (setup secret : List ℕ) (old : Told) where
     set_counts = causes_none old.faults mid.faults still (λ e. absurd cc) (λ e. absurd cc) (λ e. absurd cc)
 
     -- there were no seeds
-    pub unseeded : (stop : Stop) (new : Told) → OpensSome (OfSource secret ∷ []) mid new → new.live ≡ mid.live → IsNoSeeds (length parts.rows) (mid.page secret) (stop_view stop) → StopCauses {A = List Key} (Err stop) mid.faults new.faults → OpensNoSender setup secret (stop_view stop) old new
+    pub unseeded : (stop : Stop) (new : Told) → OpensSome (OfSource secret ∷ []) mid new → new.live ≡ mid.live → IsNoSeeds (length parts.rows) (mid.page secret) (stop_view stop) → StopCauses {A = List Key} (Err stop) mid.faults new.faults → ReadsNoStream setup secret (stop_view stop) old new
     unseeded stop new opens same why causes =
         let it = opens_some (OfSource secret) [] mid new opens in
         record {
@@ -76,7 +76,7 @@ module _ (setup secret : List ℕ) (old : Told) where
           few = omega (arith, it.1);
           opens = opens_then (OfSource setup) (OfSource secret ∷ []) it.0 old mid new first it.2;
           live = same ∙ live;
-          why = inr (inl (record { parts = parts; found = found; few = omega (arith, it.1); why = subst (λ (p : Page). IsNoSeeds (length parts.rows) p (stop_view stop)) (pages secret) why }));
+          why = inr (record { parts = parts; found = found; few = omega (arith, it.1); why = subst (λ (p : Page). IsNoSeeds (length parts.rows) p (stop_view stop)) (pages secret) why });
           causes = subst (λ (f : Faults). HasCauses f new.faults (stop_view stop ≡ Failed faults.Read) (stop_view stop ≡ Failed faults.Write) (stop_view stop ≡ Failed faults.Open)) set_counts (stop_causes stop mid.faults new.faults causes);
         }
 
@@ -91,30 +91,50 @@ module _ (setup secret : List ℕ) (old : Told) where
       both_found : IsFoundIn (old.page setup) (old.page secret) (record { setup = parts; seeds = seeds })
       both_found = record { setup_found = found; count = count; seeds_found = subst (λ (p : Page). IsSeedsIn (length parts.rows) p seeds) (pages secret) seeds_found }
 
-      -- but no sender with them
-      pub unopened : (outcome : OutcomeView) → IsNoSender (record { setup = parts; seeds = seeds }) outcome → OpensNoSender setup secret outcome old new
-      unopened outcome why = record {
-        opened = 2;
-        few = omega arith;
-        opens = both;
-        live = same ∙ live;
-        why = inr (inr (record { stream = record { setup = parts; seeds = seeds }; found = both_found; few = omega arith; why = why }));
-        causes = record {
-          reads = cause_none old.faults.reads new.faults.reads (ap (λ (f : Faults). f.reads) both_counts) (no_sender_fault (record { setup = parts; seeds = seeds }) outcome faults.Read why (λ e. cc));
-          writes = cause_none old.faults.writes new.faults.writes (ap (λ (f : Faults). f.writes) both_counts) (no_sender_fault (record { setup = parts; seeds = seeds }) outcome faults.Write why (λ e. cc));
-          openings = cause_none old.faults.openings new.faults.openings (ap (λ (f : Faults). f.openings) both_counts) (no_sender_fault (record { setup = parts; seeds = seeds }) outcome faults.Open why (λ e. cc));
-        };
-      }
+      -- which are read
+      pub seeded : ReadsStream setup secret (record { setup = parts; seeds = seeds }) old new
+      seeded = record { opens = both; pages = λ name. pages_then name ∙ pages name; live = same ∙ live; counts = both_counts; is = both_found }
 
-      -- and the sender of both
-      pub opened : (stream : Stream) → stream ≡ record { setup = parts; seeds = seeds } → wrong_line (record { setup = parts; seeds = seeds }) ≡ None → OpensSender setup secret stream old new
-      opened stream is right = record {
-        opens = both;
-        pages = λ name. pages_then name ∙ pages name;
-        live = same ∙ live;
-        counts = both_counts;
-        is = subst (λ (s : Stream). IsStreamIn (file_told old setup) (file_told old secret) s) (sym is) (record { found = both_found; right = right });
-      }
+-- ---- the sender
+
+-- without seeds there is no sender
+pub unread : (setup secret : List ℕ) (outcome : OutcomeView) (old new : Told) → ReadsNoStream setup secret outcome old new → OpensNoSender setup secret outcome old new
+unread setup secret outcome old new none = record {
+  opened = none.opened;
+  few = none.few;
+  opens = none.opens;
+  live = none.live;
+  why = lacks none.why;
+  causes = none.causes;
+} where
+  lacks : LacksSeeds (file_told old setup) (file_told old secret) none.opened outcome → LacksSender (file_told old setup) (file_told old secret) none.opened outcome
+  lacks (inl alone) = inl alone
+  lacks (inr at) = inr (inl at)
+
+-- there are seeds, but no sender with them
+pub unopened : (setup secret : List ℕ) (stream : Stream) (outcome : OutcomeView) (old new : Told) → ReadsStream setup secret stream old new → IsNoSender stream outcome → OpensNoSender setup secret outcome old new
+unopened setup secret stream outcome old new read why = record {
+  opened = 2;
+  few = omega arith;
+  opens = read.opens;
+  live = read.live;
+  why = inr (inr (record { stream = stream; found = read.is; few = omega arith; why = why }));
+  causes = record {
+    reads = cause_none old.faults.reads new.faults.reads (ap (λ (f : Faults). f.reads) read.counts) (no_sender_fault stream outcome faults.Read why (λ e. cc));
+    writes = cause_none old.faults.writes new.faults.writes (ap (λ (f : Faults). f.writes) read.counts) (no_sender_fault stream outcome faults.Write why (λ e. cc));
+    openings = cause_none old.faults.openings new.faults.openings (ap (λ (f : Faults). f.openings) read.counts) (no_sender_fault stream outcome faults.Open why (λ e. cc));
+  };
+}
+
+-- and the sender of both
+pub opened : (setup secret : List ℕ) (stream sent : Stream) (old new : Told) → ReadsStream setup secret stream old new → sent ≡ stream → wrong_line stream ≡ None → OpensSender setup secret sent old new
+opened setup secret stream sent old new read is right = record {
+  opens = read.opens;
+  pages = read.pages;
+  live = read.live;
+  counts = read.counts;
+  is = subst (λ (s : Stream). IsStreamIn (file_told old setup) (file_told old secret) s) (sym is) (record { found = read.is; right = right });
+}
 
 -- ---- the files of a command that begins with both
 
@@ -122,15 +142,12 @@ openings_more : (told : Option (List Opening)) (first others : List Opening) →
 openings_more None first others = refl
 openings_more (Some before) first others = ap (λ openings. Some openings) (append_assoc before first others)
 
-few_by : (first second : Opening) (files : List Opening) (opened : ℕ) (before now : Told) → opened ≤ 2 → Opens (first ∷ second ∷ []) opened before now → Opens (first ∷ second ∷ files) opened before now
-few_by first second files zero before now few opens = record { asked = opens.asked; pages = opens.pages; lefts = opens.lefts }
-few_by first second files (suc zero) before now few opens = record { asked = opens.asked; pages = opens.pages; lefts = opens.lefts }
-few_by first second files (suc (suc zero)) before now few opens = record { asked = opens.asked; pages = opens.pages; lefts = opens.lefts }
-few_by first second files (suc (suc (suc n))) before now few opens = absurd (omega (arith, few))
-
 -- no file behind both was asked for
-pub opens_no_more : (setup secret : List ℕ) (files : List Opening) (outcome : OutcomeView) (before now : Told) → (none : OpensNoSender setup secret outcome before now) → Opens (OfSource setup ∷ OfSource secret ∷ files) none.opened before now
-opens_no_more setup secret files outcome before now none = few_by (OfSource setup) (OfSource secret) files none.opened before now none.few none.opens
+pub opens_no_more : (first second : Opening) (files : List Opening) (opened : ℕ) (before now : Told) → opened ≤ 2 → Opens (first ∷ second ∷ []) opened before now → Opens (first ∷ second ∷ files) opened before now
+opens_no_more first second files zero before now few opens = record { asked = opens.asked; pages = opens.pages; lefts = opens.lefts }
+opens_no_more first second files (suc zero) before now few opens = record { asked = opens.asked; pages = opens.pages; lefts = opens.lefts }
+opens_no_more first second files (suc (suc zero)) before now few opens = record { asked = opens.asked; pages = opens.pages; lefts = opens.lefts }
+opens_no_more first second files (suc (suc (suc n))) before now few opens = absurd (omega (arith, few))
 
 both_alone : (opening first second : Opening) (others : List Opening) → (IsAmong opening (first ∷ second ∷ others) → ⊥) → IsAmong opening (first ∷ second ∷ []) → ⊥
 both_alone opening first second others none (inl same) = none (inl same)
@@ -138,9 +155,9 @@ both_alone opening first second others none (inr (inl same)) = none (inr (inl sa
 both_alone opening first second others none (inr (inr never)) = never
 
 -- both were opened, and then so many of the others
-pub opens_behind : (setup secret : List ℕ) (files : List Opening) (opened : ℕ) (stream : Stream) (before mid now : Told) → OpensSender setup secret stream before mid → Opens files opened mid now → Opens (OfSource setup ∷ OfSource secret ∷ files) (suc (suc opened)) before now
-opens_behind setup secret files opened stream before mid now both then = record {
-  asked = then.asked ∙ ap (λ told. with_openings told (take opened files)) both.opens.asked ∙ openings_more before.openings (OfSource setup ∷ OfSource secret ∷ []) (take opened files);
-  pages = λ name none. then.pages name (λ among. none (inr (inr among))) ∙ both.pages name;
-  lefts = λ name none. then.lefts name (λ among. none (inr (inr among))) ∙ both.opens.lefts name (both_alone (OfSource name) (OfSource setup) (OfSource secret) (take opened files) none);
+pub opens_behind : (setup secret : List ℕ) (files : List Opening) (opened : ℕ) (before mid now : Told) → Opens (OfSource setup ∷ OfSource secret ∷ []) 2 before mid → ((name : List ℕ) → mid.page name ≡ before.page name) → Opens files opened mid now → Opens (OfSource setup ∷ OfSource secret ∷ files) (suc (suc opened)) before now
+opens_behind setup secret files opened before mid now both pages then = record {
+  asked = then.asked ∙ ap (λ told. with_openings told (take opened files)) both.asked ∙ openings_more before.openings (OfSource setup ∷ OfSource secret ∷ []) (take opened files);
+  pages = λ name none. then.pages name (λ among. none (inr (inr among))) ∙ pages name;
+  lefts = λ name none. then.lefts name (λ among. none (inr (inr among))) ∙ both.lefts name (both_alone (OfSource name) (OfSource setup) (OfSource secret) (take opened files) none);
 }

@@ -44,6 +44,7 @@ meaning stream = record {
   so_far = λ read. sent_text (sending_so_far stream read).sent;
   IsUnrefused = λ read. HoldsNoRefusal script read × ((sending_so_far stream read).refused ≡ None);
   MayWant = ⊥;
+  IsWanting = λ bytes written. ⊥;
 }
 
 -- what sending a script comes to, with what is told of both files before and afterwards, and how many files were asked for, of which the setup and the seeds are the first two

@@ -12,7 +12,12 @@ use Rattle.tesla_front.specs.Seeds.{IsSeedsIn, IsNoSeeds}
 use Rattle.tesla_front.specs.Setup.{IsSetupIn}
 use Rattle.tesla_front.specs.declared.fault.Fault.TheVariants as faults
 use Rattle.tesla_sender.specs.Made.{Chain, Stream, chains_of}
+use Rattle.tesla_run_send.specs.declared.opening.SeededSetup.{SeededSetup}
 use Rattle.tesla_sender.specs.Opening.{first_wrong}
+
+-- the stream of a setup and its seeds that were read
+abbrev pub stream_in : SeededSetup → Stream
+stream_in seeded = record { setup = seeded.setup; seeds = seeded.seeds }
 
 -- ---- the seeds
 
@@ -50,6 +55,10 @@ pub record StopsAtSender (setup secret : Page) (opened : ℕ) (outcome : Outcome
   pub few : opened ≤ 2
   pub why : IsNoSender stream outcome
 
+-- why there are no seeds: there is no setup, or there are no seeds under it
+abbrev pub LacksSeeds : File → File → ℕ → OutcomeView → Type 0
+LacksSeeds setup secret opened outcome = StopsAtSetup setup opened outcome ⊎ StopsAtSeeds setup.page secret.page opened outcome
+
 -- why there is no sender: there is no setup, there are no seeds under it, or no sender is opened with them
 abbrev pub LacksSender : File → File → ℕ → OutcomeView → Type 0
 LacksSender setup secret opened outcome = StopsAtSetup setup opened outcome ⊎ StopsAtSeeds setup.page secret.page opened outcome ⊎ StopsAtSender setup.page secret.page opened outcome
@@ -58,6 +67,25 @@ LacksSender setup secret opened outcome = StopsAtSetup setup opened outcome ⊎ 
 pub record IsStreamIn (setup secret : File) (stream : Stream) : Type 0 where
   pub found : IsFoundIn setup.page secret.page stream
   pub right : wrong_line stream ≡ None
+
+-- ---- the files of both
+
+-- the setup was opened and read, then the seeds, and they are those of the stream; all else is as before
+pub record ReadsStream (setup secret : List ℕ) (stream : Stream) (old new : Told) : Type 0 where
+  pub opens : Opens (OfSource setup ∷ OfSource secret ∷ []) 2 old new
+  pub pages : (name : List ℕ) → new.page name ≡ old.page name
+  pub live : new.live ≡ old.live
+  pub counts : new.faults ≡ old.faults
+  pub is : IsFoundIn (old.page setup) (old.page secret) stream
+
+-- there are no seeds, so many of both were opened, and each failure raised its count
+pub record ReadsNoStream (setup secret : List ℕ) (outcome : OutcomeView) (old new : Told) : Type 0 where
+  pub opened : ℕ
+  pub few : opened ≤ 2
+  pub opens : Opens (OfSource setup ∷ OfSource secret ∷ []) opened old new
+  pub live : new.live ≡ old.live
+  pub why : LacksSeeds (file_told old setup) (file_told old secret) opened outcome
+  pub causes : HasCauses old.faults new.faults (outcome ≡ Failed faults.Read) (outcome ≡ Failed faults.Write) (outcome ≡ Failed faults.Open)
 
 -- ---- the opening
 

@@ -182,6 +182,8 @@ impl<L: SendLedger> Converter for SendConverter<L> {
 
     ghost may_want = { false };
 
+    ghost wants = { λ records next piece. ⊥ };
+
     ghost calls = { λ c. c.frames };
 
     ghost is = { script_is };

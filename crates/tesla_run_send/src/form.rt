@@ -11,6 +11,8 @@ pub const SEND: FormText = FormText {
     about: "    makes the frames of the messages and disclosures in SCRIPT, as the sender
     of SETUP with the seeds in SECRET, writes them to CAPTURE, with a take
     behind each, and prints how many there are.
+    Example:
+    tesla send setup secret script capture
 ",
 };
 

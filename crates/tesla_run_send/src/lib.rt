@@ -10,6 +10,6 @@ mod script_kind;
 
 pub use converter::message_kind;
 pub use form::SEND;
-pub use opening::open_sender;
+pub use opening::{SeededSetup, no_sender, open_sender, read_seeded};
 pub use run::run_send;
 pub use script_kind::ScriptKind;

@@ -11,8 +11,10 @@ pub const STRESS: FormText = FormText {
     words: "stress SEED COUNT",
     about: "    makes COUNT messages, plays them to a receiver, of which by SEED some are
     lost, altered, late, early or there twice, and prints the counts.
-    SEED: 0 to 65535
-    COUNT: 1 to 100000
+    SEED: the number of a load, 0 to 65535
+    COUNT: how many messages, 1 to 100000
+    Example, 1000 messages of load 7:
+    tesla stress 7 1000
 ",
 };
 

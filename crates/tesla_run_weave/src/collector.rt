@@ -183,6 +183,8 @@ impl<U: Under> Converter for Collector<U> {
 
     ghost may_want = { true };
 
+    ghost wants = { λ records next piece. Unit {0} };
+
     ghost calls = { λ c. 0 };
 
     ghost is = { script_is };

@@ -11,7 +11,9 @@ pub const WEAVE: FormText = FormText {
     about: "    puts before each message in SCRIPT the promise of the message GAP places
     behind it, its name under SETUP and the digest of its payload, writes the
     script to SCRIPT-OUT, and prints how many messages it has.
-    GAP: 1 to 1000000
+    GAP: how many messages later the promised one comes, 1 to 1000000
+    Example, each message promises the third one behind it:
+    tesla weave setup script woven 3
 ",
 };
 

@@ -2,3 +2,4 @@ pub mod Judging
 pub mod Spelled
 pub mod Texts
 pub mod Stops
+pub mod Written

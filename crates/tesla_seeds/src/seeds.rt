@@ -29,13 +29,20 @@ impl Model for Seeds {
 }
 
 impl Seeds {
-    /// The seeds that are these keys.
-    pub(crate) fn assemble(keys: Vec<Key>) -> Seeds
+    /// The seeds that are these keys, one for each chain.
+    pub fn assemble(keys: Vec<Key>) -> Seeds
         requires few { length keys.items < 256 }
         requires keys { AllByRecursion IsKey keys.items }
         ensures { result ≡ keys.items }
     {
         Seeds { keys }
+    }
+
+    /// The seeds, in the order of the chains.
+    pub fn as_slice(&self) -> &[Key]
+        ensures { result.now ≡ self.now }
+    {
+        self.keys.as_slice()
     }
 
     /// How many seeds there are: one for each chain.

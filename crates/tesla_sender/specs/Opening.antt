@@ -1,10 +1,10 @@
 -- What a sender is opened with, and when it is refused.
-use Rattle.std.specs.Prelude.{◌≡◌, ℕ, ◌⊎◌, not, List, map, find, option_map, Option, Some, Result, Ok, Err}
+use Rattle.std.specs.Prelude.{◌≡◌, ℕ, ◌^◌, ◌<◌, ◌≤◌, ◌⊎◌, not, List, length, map, find, option_map, slice_index_or, Option, Some, None, Result, Ok, Err}
 use Rattle.std.specs.List.{All, sum_by}
 use Rattle.tesla_sender.specs.declared.refusal.SenderRefusal.{SenderRefusal}
 use Rattle.tesla_sender.specs.declared.refusal.SenderRefusal.TheVariants.{NoMemory}
 use Rattle.tesla_sender.specs.Made.{Chain}
-use Rattle.tesla_sender.specs.Chains.{Progress, chain_in, is_right, left_in, wrong_seed}
+use Rattle.tesla_sender.specs.Chains.{IsFresh, IsRefusedFor, Progress, chain_in, is_right, left_in, wrong_seed}
 use Rattle.tesla_sender.specs.Stands.{State}
 
 -- the first chain whose seed doesn't give the key of the setup
@@ -33,3 +33,37 @@ left_of (Err refusal) = 0
 abbrev pub left_of_all : {E : Type 0} → Result (List Progress) E → ℕ
 left_of_all (Ok chains) = sum_by left_in chains
 left_of_all (Err refusal) = 0
+
+-- ---- chains that are opened on their own
+
+-- what a contract sees of the opening of a chain: the chain, and what came of it once it was opened
+pub record OpeningSeen : Type 0 where
+  pub chain : Chain
+  pub came : Option (Result Progress SenderRefusal)
+
+abbrev pub opening_chain : OpeningSeen → Chain
+opening_chain opening = opening.chain
+
+-- a chain of so many keys can be opened, with a row of the key of this index
+pub record IsOpenable (index last : ℕ) : Type 0 where
+  pub least : 1 ≤ last
+  pub most : last ≤ 2 ^ 20
+  pub within : index ≤ last
+
+-- the chain was opened, or it was refused
+abbrev pub HasCome : Chain → Option (Result Progress SenderRefusal) → Type 0
+HasCome chain None = ⊥
+HasCome chain (Some (Ok now)) = IsFresh chain now
+HasCome chain (Some (Err refusal)) = IsRefusedFor chain refusal
+
+abbrev pub IsOpened : OpeningSeen → Type 0
+IsOpened opening = HasCome opening.chain opening.came
+
+-- what an opening is once its chain was opened
+pub record OpensChain (before now : OpeningSeen) : Type 0 where
+  pub chain : now.chain ≡ before.chain
+  pub opened : IsOpened now
+
+-- the same of each
+abbrev pub AreOpened : List OpeningSeen → List OpeningSeen → Type 0
+AreOpened before now = (length now ≡ length before) × ((k : ℕ) (d : OpeningSeen) → k < length before → OpensChain (slice_index_or before k d) (slice_index_or now k d))

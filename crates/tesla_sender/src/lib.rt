@@ -2,6 +2,7 @@
 #![tactic(auto)]
 
 mod chain;
+mod chain_opening;
 mod judging;
 pub mod laws;
 mod limits;
@@ -12,6 +13,7 @@ mod rows;
 mod sender;
 mod writing;
 
+pub use chain_opening::{ChainOpening, chain_openings};
 pub use namer::Namer;
 pub use refusal::{DiscloseRefusal, SendRefusal, SenderRefusal};
 pub use sender::Sender;

@@ -1,14 +1,16 @@
 //! The calls of a sender.
 
-ghost use Rattle.std.specs.Prelude.{◌≡◌, ◌+◌, ◌*◌, ◌^◌, ◌<◌, ◌≤◌, true, List, [], length, None, Some, codes, IfErr, IfOk, OnErr};
+ghost use Rattle.std.specs.Prelude.{◌≡◌, ◌+◌, ◌*◌, ◌^◌, ◌<◌, ◌≤◌, true, List, [], length, map, None, Some, codes, IfErr, IfOk, OnErr};
+ghost use Rattle.std.specs.List.{All};
 ghost use Rattle.tesla_frame.specs.Frame.{Frame};
 ghost use Rattle.tesla_sender.specs.Made.{Call, Message, Disclose, any_due, chains_of, disclosure_frame, interval_at, made_disclosure, made_message, message_frame, tells_all, tells_newer};
 ghost use Rattle.tesla_chain.specs.Cost.{W, bits};
 ghost use Rattle.tesla_sender.specs.Cost.{steps_between};
-ghost use Rattle.tesla_sender.specs.Opening.{IsRefusal, left_of, seeds_refused};
+ghost use Rattle.tesla_sender.specs.Opening.{IsOpened, IsRefusal, left_of, opening_chain, seeds_refused};
 ghost use Rattle.tesla_sender.specs.Stands.{Answers, IsWritten, Spells, Stands, gone_on, interval_next, log_after, name_next, sent_in, returned_disclosure, returned_message};
 
 use crate::chain::SendingChain;
+use crate::chain_opening::{ChainOpening, opened_chains};
 use crate::judging::{interval_at, judge_disclosure, judge_message};
 use crate::opening::open_chains;
 use crate::rows::{advance_all, any_due, prepare_all, tells_all, tells_newer};
@@ -82,6 +84,33 @@ impl Sender {
         ensures cost { steps.new + left_of result ≤ steps.old + length setup.rows * (W setup.times.last + setup.times.last) }
     {
         match open_chains(alloc, &setup, seeds, steps) {
+            Ok(chains) => Ok(Sender {
+                setup,
+                chains,
+                latest: 0,
+                used: 0,
+            }),
+            Err(refusal) => Err(refusal),
+        }
+    }
+
+    /// The same, of chains that were opened each on its own, as side by side: the openings are those of this setup with
+    /// these seeds (`chain_openings`), and each was opened. Evaluations are counted where that was.
+    pub fn open_from(
+        alloc: Global,
+        setup: Setup,
+        _seeds: &Seeds,
+        openings: Vec<ChainOpening>,
+    ) -> Result<Sender, SenderRefusal>
+        requires count { length _seeds.now ≡ length setup.rows }
+        requires same { map opening_chain openings.items ≡ chains_of (record { setup = setup; seeds = _seeds.now }) }
+        requires opened { All IsOpened openings.items }
+        ensures stands { IfOk result (λ sender. Stands sender []) }
+        ensures stream { IfOk result (λ sender. sender.stream ≡ record { setup = setup; seeds = _seeds.now }) }
+        ensures right { IfOk result (λ _. seeds_refused (chains_of (record { setup = setup; seeds = _seeds.now })) ≡ None) }
+        ensures refused { IfErr result (IsRefusal (chains_of (record { setup = setup; seeds = _seeds.now }))) }
+    {
+        match opened_chains(alloc, openings) {
             Ok(chains) => Ok(Sender {
                 setup,
                 chains,

@@ -7,7 +7,7 @@ use Rattle.tesla_fitting.specs.declared.config.Config.{Config}
 use Rattle.tesla_front.specs.declared.fault.Fault.{Fault}
 use Rattle.tesla_session.specs.Wanted.{Wanted, WantedLink, WantedSink}
 use Rattle.tesla_session.specs.Session.{PassSeen, Seen, SeenLink, SeenSink, OpensWorker, OpensWorkers, name_of, split_pass}
-use Rattle.tesla_session.specs.Allowed.{AllowsLink, AllowsSink, AreAllowed, MayAsk, MayReleaseAll}
+use Rattle.tesla_session.specs.Allowed.{AllowsLink, AllowsSink, AreAllowed, MayAsk, MayAskLinks, MayReleaseAll}
 
 module _ {C : Type 0} where
   -- one pass more was given
@@ -44,10 +44,11 @@ module _ {C : Type 0} where
         subst (λ (ns : List (Bor (List ℕ))). AreAllowed allowed later (number + 1) (map name_of ns)) (sym others)
         (subst (λ (pass : PassSeen C). AreAllowed allowed pass (number + 1) (map name_of names)) (sym (opens_split wanted before now first later worker opens)) are.1)
 
-  pub links_allowed : (brought may_ask : ℕ → List ℕ → Bool) (first : PassSeen C) (number : ℕ) (names : List (List ℕ)) → MayAsk brought may_ask → length first.joined ≡ suc number → AreAllowed (AllowsLink brought may_ask) first number names
-  links_allowed brought may_ask first number [] asked many = tt
-  links_allowed brought may_ask first number (name ∷ names) asked many =
-      ((many, asked), links_allowed brought may_ask (split_pass first) (number + 1) names asked (omega (arith, joined_more first, many)))
+  module _ {K : Type 0} (brought may_ask : ℕ → List ℕ → Bool) (may_ask_link : K → Bool) where
+    pub links_allowed : (first : PassSeen C) (number : ℕ) (names : List (List ℕ)) → MayAsk brought may_ask → MayAskLinks may_ask_link → length first.joined ≡ suc number → AreAllowed (AllowsLink brought may_ask may_ask_link) first number names
+    links_allowed first number [] asked any_link many = tt
+    links_allowed first number (name ∷ names) asked any_link many =
+        ((many, asked, any_link), links_allowed (split_pass first) (number + 1) names asked any_link (omega (arith, joined_more first, many)))
 
   module _ {S : Type 0} (name : S → List ℕ) (written : S → Option (List ℕ)) (may_write : S → List ℕ → Bool) (read_for : ℕ → List ℕ → ℕ → Bool) (receiver : C → Config) where
     pub sinks_allowed : (first : PassSeen C) (number : ℕ) (names : List (List ℕ)) → ((cfg : C) → first.config ≡ Some cfg → MayReleaseAll name written may_write read_for (receiver cfg) number names)

@@ -1,4 +1,4 @@
--- What a session needs to be allowed: that clocks may be asked for what links brought, and that outputs may write what is due.
+-- What a session needs to be allowed: that links may be asked, and clocks for what links brought, and that outputs may write what is due.
 use Rattle.std.specs.Prelude.{◌≡◌, ℕ, suc, ◌+◌, Bool, true, List, [], ◌∷◌, length, Option, Some}
 use Rattle.tesla_base.specs.declared.release.Head.{Head}
 use Rattle.tesla_fitting.specs.declared.config.Config.{Config}
@@ -25,9 +25,13 @@ module _ {S : Type 0} (name : S → List ℕ) (written : S → Option (List ℕ)
   abbrev pub AllowsSink : {C : Type 0} → (C → Config) → PassSeen C → ℕ → List ℕ → Type 0
   AllowsSink {C} receiver first releaser under = (cfg : C) → first.config ≡ Some cfg → (length first.joined ≡ suc ((receiver cfg).ingests + releaser)) × MayRelease (receiver cfg) releaser under
 
+-- each link may be asked for its next letter
+abbrev pub MayAskLinks : {K : Type 0} → (K → Bool) → Type 0
+MayAskLinks {K} may_ask_link = (link : K) → may_ask_link link ≡ true
+
 -- a worker for the link of this number may have the next pass
-abbrev pub AllowsLink : {C : Type 0} → (ℕ → List ℕ → Bool) → (ℕ → List ℕ → Bool) → PassSeen C → ℕ → List ℕ → Type 0
-AllowsLink brought may_ask first ingest under = (length first.joined ≡ suc ingest) × MayAsk brought may_ask
+abbrev pub AllowsLink : {C K : Type 0} → (ℕ → List ℕ → Bool) → (ℕ → List ℕ → Bool) → (K → Bool) → PassSeen C → ℕ → List ℕ → Type 0
+AllowsLink brought may_ask may_ask_link first ingest under = (length first.joined ≡ suc ingest) × MayAsk brought may_ask × MayAskLinks may_ask_link
 
 module _ {C : Type 0} where
   -- each of these workers, numbered from here on, may have the next pass

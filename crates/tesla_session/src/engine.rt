@@ -6,7 +6,7 @@ ghost use Rattle.tesla_desk.specs.Outside.{Told};
 ghost use Rattle.tesla_front.specs.OutcomeView.{stop_view};
 ghost use Rattle.tesla_turn.specs.Held.{first_pass};
 ghost use Rattle.tesla_turn.specs.History.{entries};
-ghost use Rattle.tesla_session.specs.Allowed.{MayAsk, MayReleaseAll};
+ghost use Rattle.tesla_session.specs.Allowed.{MayAsk, MayAskLinks, MayReleaseAll};
 ghost use Rattle.tesla_session.specs.Wanted.{Wanted, wanted_for};
 ghost use Rattle.tesla_session.specs.Session.{AreOf, AreReady, ClosesWorkers, OpensAll, OpensWorkers, RefusedSession, RunWorkers, RunsOpened, calls_most, stop_of, workers_of};
 
@@ -99,6 +99,7 @@ fn open_all<D: Environment, V: Station>(
     requires alone { length session.old.first.joined ≡ 1 }
     requires ingests { (cfg : V.Config) → session.old.first.config ≡ Some cfg → (V.receiver cfg).ingests ≡ length links.now }
     requires asked { MayAsk D.Wire.brought D.Time.may_ask }
+    requires any_link { MayAskLinks D.Wire.may_ask }
     requires released { (cfg : V.Config) → session.old.first.config ≡ Some cfg → MayReleaseAll D.Pieces.name D.Pieces.written D.Pieces.may_write D.Time.read_for (V.receiver cfg) 0 sinks.now }
     ensures opens { OpensWorkers (wanted_for links.now sinks.now) (D.told desk.old) (D.told desk.new) session.old.first session.new.first (workers_of session.new.links.items session.new.sinks.items) result }
     ensures turn { session.new.turn ≡ session.old.turn }
@@ -116,7 +117,7 @@ fn open_all<D: Environment, V: Station>(
 }
 
 /// Opens the links in order, each with the next clock, and then the sinks. Where an opening is refused, those that were opened
-/// are closed. Its clocks may be asked for what its links bring, and its outputs may write the records of packets that are due.
+/// are closed. Its links may be asked, its clocks may be asked for what these bring, and its outputs may write the records of packets that are due.
 pub fn open_session<D: Environment, V: Station>(
     links: &Names<'_>,
     sinks: &Names<'_>,
@@ -130,6 +131,7 @@ pub fn open_session<D: Environment, V: Station>(
     requires first { (cfg : V.Config) × (session.first ≡ first_pass session.turn cfg (1 + length links.now + length sinks.now) calls_most) }
     requires ingests { (cfg : V.Config) → session.first.config ≡ Some cfg → (V.receiver cfg).ingests ≡ length links.now }
     requires asked { MayAsk D.Wire.brought D.Time.may_ask }
+    requires any_link { MayAskLinks D.Wire.may_ask }
     requires released { (cfg : V.Config) → session.first.config ≡ Some cfg → MayReleaseAll D.Pieces.name D.Pieces.written D.Pieces.may_write D.Time.read_for (V.receiver cfg) 0 sinks.now }
     ensures opened { IfOk result (λ it. (cfg : V.Config) → session.first ≡ first_pass session.turn cfg (1 + length links.now + length sinks.now) calls_most → OpensAll (wanted_for links.now sinks.now) cfg (D.told desk.old) (D.told desk.new) it.turn it.first (workers_of it.links.items it.sinks.items)) }
     ensures refused { (fault : _) → result ≡ Err fault → (cfg : V.Config) → session.first ≡ first_pass session.turn cfg (1 + length links.now + length sinks.now) calls_most → RefusedSession (wanted_for links.now sinks.now) cfg (D.told desk.old) (D.told desk.new) fault }

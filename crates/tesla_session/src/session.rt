@@ -76,7 +76,7 @@ impl<D: Environment, V: Station> DeskWorker<D, Shared<D, V>>
 
     ghost wanted = { WantedLink };
 
-    ghost allowed = { AllowsLink D.Wire.brought D.Time.may_ask };
+    ghost allowed = { AllowsLink D.Wire.brought D.Time.may_ask D.Wire.may_ask };
 
     fn open(
         desk: &mut D,

@@ -24,6 +24,7 @@ pub struct LinkWorker<V: Station, K: Link, C: Clock, G: Gate> {
     /// Why it ended last.
     pub end: LinkEnd,
     ghost asked: { (number : ℕ) (bytes : List ℕ) → K.brought number bytes ≡ true → C.may_ask number bytes ≡ true },
+    ghost any_link: { (it : K) → K.may_ask it ≡ true },
     ghost own: { pass.number ≡ suc ingest },
     ghost none: { pass.made ≡ [] → K.has_brought link 0 ≡ true },
 }

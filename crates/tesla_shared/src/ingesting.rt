@@ -44,6 +44,7 @@ pub fn ingest<R: Wait, V: Station + Permitting, K: Link, C: Clock, G: Gate>(
     requires own { pass.old.turn ≡ turn.now }
     requires left { 0 < left_of pass.old }
     requires asked { (number : ℕ) (bytes : List ℕ) → K.brought number bytes ≡ true → C.may_ask number bytes ≡ true }
+    requires any_link { (link : K) → K.may_ask link ≡ true }
     requires none { K.has_brought link.old 0 ≡ true }
     requires arrivals { PermitsArrivals V.permits C.read_for number pass.old }
     requires end { PermitsEnd V.permits number pass.old }
@@ -73,6 +74,7 @@ fn hear_all<R: Wait, V: Station + Permitting, K: Link, C: Clock, G: Gate>(
     requires own { pass.old.turn ≡ turn.now }
     requires left { 0 < left_of pass.old }
     requires asked { (number : ℕ) (bytes : List ℕ) → K.brought number bytes ≡ true → C.may_ask number bytes ≡ true }
+    requires any_link { (link : K) → K.may_ask link ≡ true }
     requires none { K.has_brought link.old 0 ≡ true }
     requires arrivals { PermitsArrivals V.permits C.read_for number pass.old }
     ensures hears { HearsAll number pass.old.made pass.new.made (K.left link.old) (K.left link.new) (C.told clock.old) (C.told clock.new) }

@@ -152,6 +152,16 @@ silent one,two
 * SECRET has another seed $ feed setup wrong-seeds in one,two
 told 3 refused seeds 3 WrongSeed\n
 silent one,two
+* SECRET has another seed, and LINK is missing $ feed setup wrong-seeds none one,two
+# LINK is opened before the seeds are tried.
+told 7 open fault\n
+silent one,two
+* SECRET has a seed twice, and LINK is missing $ feed setup equal-seeds none one,two
+told 3 refused seeds 3 EqualSeeds\n
+silent one,two
+* SECRET has zeros alone, and LINK is missing $ feed setup zero-seed none one,two
+told 3 refused seeds 2 ZeroSeed\n
+silent one,two
 * LINK is missing $ feed setup secret none one,two
 told 7 open fault\n
 silent one,two

@@ -10,6 +10,7 @@ use std::sync::atomic::Ordering::SeqCst;
 use std::test::*;
 use std::thread::{Threads, yield_now};
 use tesla_desk::{Gate, Got, Link, Post, PostStep};
+use tesla_memory_desk::MemoryDesk;
 use tesla_relay::{PostCount, relay};
 
 /// How often a gate looks whether it may go on, at most.
@@ -159,7 +160,7 @@ fn relayed<R: Threads + Wait + Sync>(
         hold: link_hold,
         is_of_link: true,
     };
-    let relayed = relay(
+    let relayed = relay::<_, MemoryDesk, _, _, _>(
         rt, alloc, &mut link, &mut gate, &mut posts, &mut gates, capacity,
     )?;
     let (disordered, missed) = (pace.disordered.load(SeqCst), pace.missed.load(SeqCst));

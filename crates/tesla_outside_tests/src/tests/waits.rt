@@ -1,10 +1,14 @@
 //! A link of the local machine that is told a wait.
 
+ghost use Rattle.std.specs.Prelude.{◌≡◌, true};
+
 use tesla_desk::{Environment, Got, Link};
 use tesla_live::{Command, Gates, LiveDesk};
 
 // How many quiets a link tells that is told a wait of 5 milliseconds, and what it answers behind them.
-fn quiets_of<K: Link>(link: &mut K) -> (u32, Got) {
+fn quiets_of<K: Link>(link: &mut K) -> (u32, Got)
+    requires { (link : K) → K.may_ask link ≡ true }
+{
     link.wait_at_most(5_000);
     let mut into = [0; 2048];
     for quiets in 0..100 {

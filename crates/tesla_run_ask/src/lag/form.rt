@@ -12,6 +12,8 @@ pub const LAG: FormText = FormText {
     replay takes as LAG, from the receiver's ASK and the sender's REPLY to it.
     KEY: the file of the key that both share
     DRIFT: how many microseconds the clocks drift apart, 0 to 4294967295
+    Example, a drift of 0.01 seconds:
+    tesla lag ask reply key 10000
 ",
 };
 

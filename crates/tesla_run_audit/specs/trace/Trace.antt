@@ -15,7 +15,7 @@ IsTraceForm = IsPlayed (limits_form (codes "trace"))
 
 -- what a capture comes to, as functions of its bytes: the report or the refused place is told, as replay tells it, and the trace of the history that it plays is written, of one ingest; memory is wanting before the capture is read or not at all
 abbrev pub meaning : Config → Meaning
-meaning cfg = meaning_of (played cfg) history_report (trace_text 1) ⊥
+meaning cfg = meaning_of (played cfg) history_report (trace_text 1)
 
 -- the command: its words, and what a capture comes to under a setup
 abbrev pub traced : PlayedCommand

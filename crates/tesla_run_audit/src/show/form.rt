@@ -12,6 +12,8 @@ pub const SHOW: FormText = FormText {
     answer; of a datagram the ingest, the clock's reading, and the interval and
     number of a message at the end.
     TRACE: the file of a trace, as trace writes it, or of a tail, as record does
+    Example:
+    tesla show trace
 ",
 };
 

@@ -8,7 +8,7 @@ ghost use Rattle.tesla_receiver.specs.Stands.{Stands};
 ghost use Rattle.tesla_recorder.specs.declared.recorded.RecordedConfig.{RecordedConfig};
 ghost use Rattle.tesla_run_receive.specs.Arguments.{AreFew, workers_wanted};
 ghost use Rattle.tesla_run_receive.specs.OutputArguments.{OutputArguments, arguments_of};
-ghost use Rattle.tesla_session.specs.Allowed.{MayAsk, MayReleaseAll};
+ghost use Rattle.tesla_session.specs.Allowed.{MayAsk, MayAskLinks, MayReleaseAll};
 ghost use Rattle.tesla_run_receive.specs.Allowed.{MayWriteAll, MayWriteReleased};
 ghost use Rattle.tesla_run_receive.specs.Running.{RunsStation};
 ghost use Rattle.tesla_run_receive.specs.record.Arguments.{IsRecord};
@@ -38,6 +38,7 @@ pub fn run_record<R: Threads + Wait + Sync, D: Environment>(
     desk: &mut D,
 ) -> LiveRun<Last<Recorded>>
     requires asked { MayAsk D.Wire.brought D.Time.may_ask }
+    requires any_link { MayAskLinks D.Wire.may_ask }
     requires released { (arguments : OutputArguments) → IsRecord arguments (map string_bytes words.now) → MayWriteReleased D.Pieces.name D.Pieces.written D.Pieces.may_write D.Time.read_for arguments.receive (D.told desk.old) }
     requires output { (arguments : OutputArguments) → IsRecord arguments (map string_bytes words.now) → MayWriteAll D.Pieces.name D.Pieces.may_write arguments.output }
     ensures runs { RunsAs (recording (D.told desk.old).live (D.told desk.new).live result.last) (map string_bytes words.now) (D.told desk.old) (D.told desk.new) (outcome_view result.outcome) }
@@ -64,6 +65,7 @@ fn perform<R: Threads + Wait + Sync, D: Environment>(
 ) -> StationResult<Recorded>
     requires form { (spelled : List (List ℕ)) × IsRecord (arguments_of arguments.now) spelled }
     requires asked { MayAsk D.Wire.brought D.Time.may_ask }
+    requires any_link { MayAskLinks D.Wire.may_ask }
     requires released { MayWriteReleased D.Pieces.name D.Pieces.written D.Pieces.may_write D.Time.read_for (arguments_of arguments.now).receive (D.told desk.old) }
     requires output { MayWriteAll D.Pieces.name D.Pieces.may_write (arguments_of arguments.now).output }
     ensures { Performs (recording (D.told desk.old).live (D.told desk.new).live result.1) (arguments_of arguments.now) (D.told desk.old) (D.told desk.new) (result_view result.0) }
@@ -87,6 +89,7 @@ fn run_recorded<R: Threads + Wait + Sync, D: Environment>(
     requires stands { Stands receiver [] }
     requires ingests { receiver.config.ingests ≡ length (arguments_of arguments.now).receive.links }
     requires asked { MayAsk D.Wire.brought D.Time.may_ask }
+    requires any_link { MayAskLinks D.Wire.may_ask }
     requires released { MayReleaseAll D.Pieces.name D.Pieces.written D.Pieces.may_write D.Time.read_for receiver.config 0 (arguments_of arguments.now).receive.sinks }
     requires output { MayWriteAll D.Pieces.name D.Pieces.may_write arguments.now.output.now }
     ensures { (cfg : RecordedConfig Config) × RunsStation (HoldsTail arguments.now.number) (Some arguments.now.output.now) receiver.config (workers_wanted (arguments_of arguments.now).receive) cfg (D.told desk.old) (D.told desk.new) result.1 (result_view result.0) }

@@ -10,6 +10,9 @@ use Rattle.tesla_run_receive.specs.record.Record.{recording}
 use Rattle.tesla_cli_live.specs.Commands.{record_usage}
 use Rattle.tesla_cli_live.proofs.recorded.run_told.Goals as goal
 
+pub run_record-run-requires-clause-any_link : goal.run_record-run-requires-clause-any_link
+run_record-run-requires-clause-any_link g c κs within = (c.requires.allowed _ _ c.in-Ok.ensures.opened).any_link
+
 pub run_record-run-requires-clause-asked : goal.run_record-run-requires-clause-asked
 run_record-run-requires-clause-asked g c κs within = (c.requires.allowed _ _ c.in-Ok.ensures.opened).asked
 

@@ -3,7 +3,7 @@ use Rattle.std.specs.List.{AllByRecursion}
 use Rattle.std.proofs.lemmas.List.{take_all}
 use Rattle.tesla_commit.specs.SetupText.{HasKey}
 use Rattle.tesla_commit.specs.declared.chain_row.ChainRow.{ChainRow}
-use Rattle.tesla_commit.proofs.RowLaws.{at_step, keys_more, at_refused, at_over, at_none, at_end}
+use Rattle.tesla_commit.proofs.RowLaws.{at_step, keys_more, at_refused, at_over, at_none, at_end, end_bound}
 use Rattle.tesla_commit.proofs.chain_rows.judge_rows.Goals as goal
 
 pub returns-then-line-end-clause-judged : goal.returns-then-line-end-clause-judged
@@ -34,6 +34,12 @@ pub returns-clause-judged : goal.returns-clause-judged
 returns-clause-judged c =
     let done : length c.args.rows.now ≤ c.loop-row.row-index = omega arith in
     sym c.loop-row.invariant.so_far ∙ at_end _ _ _ _ _ _ done (rw c.first_line-first.ensures at c.if-line-first.false)
+
+pub returns-clause-few : goal.returns-clause-few
+returns-clause-few c =
+    let place = c.loop-row.invariant.place in
+    let few = c.loop-row.invariant.few in
+    omega (arith, end_bound c.args.version)
 
 pub returns-clause-keys : goal.returns-clause-keys
 returns-clause-keys c =

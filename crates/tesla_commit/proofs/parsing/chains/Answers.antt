@@ -26,7 +26,8 @@ loop-number-preserved c =
     record {
       low = omega arith;
       high = omega arith;
-      so_far = rw c.in_ok-push.ensures.items (sym (chains_step _ _ _ _ _ _ _ _ _ ne c.in_ok-line.ensures (sym c.chain_in.ensures ∙ at_ok _ _ _ c.in_ok-row.ensures)) ∙ c.loop-number.invariant.so_far);
+      count = omega (arith, c.push.ensures.len, c.loop-number.invariant.count);
+      so_far = rw c.push.ensures.items (sym (chains_step _ _ _ _ _ _ _ _ _ ne c.in_ok-line.ensures (sym c.chain_in.ensures ∙ at_ok _ _ _ c.in_ok-row.ensures)) ∙ c.loop-number.invariant.so_far);
     }
 
 pub returns-then-not-is_empty-2 : goal.returns-then-not-is_empty-2

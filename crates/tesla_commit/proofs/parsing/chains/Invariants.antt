@@ -1,4 +1,4 @@
-use Rattle.std.proofs.Common.{◌-◌, ◌≡◌, ◌≤◌}
+use Rattle.std.proofs.Common.{◌+◌, ◌-◌, ◌≡◌, ◌≤◌, length}
 use Rattle.tesla_commit.specs.ChainRows.{first_line, end_line}
 use Rattle.tesla_commit.specs.Parsing.{lines, chains_judged}
 use Rattle.tesla_commit.proofs.RowLaws.{onto}
@@ -8,6 +8,7 @@ abbrev pub invariant-loop-number : goal.invariant-loop-number
 invariant-loop-number l = record {
   low : first_line l.fn.version ≤ l.number;
   high : l.number ≤ end_line l.fn.version;
+  count : l.number ≡ first_line l.fn.version + length l.rows.items;
   so_far : onto l.rows.items (chains_judged l.fn.version l.last l.number l.before (lines l.rest)) ≡ chains_judged l.fn.version l.last (first_line l.fn.version) 0 (lines l.text);
 }
 

@@ -7,9 +7,9 @@ use Rattle.tesla_commit.proofs.parsing.rest.Goals as goal
 
 pub assemble-requires-clause-limits : goal.assemble-requires-clause-limits
 assemble-requires-clause-limits c =
-    let parts : Parts = record { version = c.args.version; stream = c.args.stream; times = c.args.schedule; tag_length = c.in-Ok.size; rows = c.in_ok-rows.rows.items } in
+    let parts : Parts = record { version = c.args.version; stream = c.args.stream; times = c.args.schedule; tag_length = c.in_ok-size.size; rows = c.in_ok-rows.rows.items } in
     let stream : c.args.stream.0 < 2 ^ 64 = search rules in
-    setup_is parts _ stream c.last.ensures.start c.last.ensures.limits c.in-Ok.ensures.limits (chains_are _ _ _ _ _ _ (rw c.last.ensures.value at c.in_ok-rows.ensures))
+    setup_is parts _ stream c.last.ensures.start c.last.ensures.limits c.in_ok-size.ensures.limits (chains_are _ _ _ _ _ _ (rw c.last.ensures.value at c.in_ok-rows.ensures))
 
 pub assemble-requires-clause-keys : goal.assemble-requires-clause-keys
 assemble-requires-clause-keys c = (chains_found _ _ _ _ _ _ c.in_ok-rows.ensures).1

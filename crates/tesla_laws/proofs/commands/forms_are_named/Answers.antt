@@ -38,6 +38,8 @@ pub returns-clause-tools : goal.returns-clause-tools
 returns-clause-tools c = (
   λ arguments words old new outcome is runs. (as_spelled tool_of words _ old new outcome (begins_with_name (codes "ask") words is) runs).form arguments is,
   λ arguments words old new outcome is runs. (as_spelled tool_of words _ old new outcome (begins_with_name (codes "reply") words is.spelled) runs).form arguments is,
+  λ arguments words old new outcome is runs. (as_spelled tool_of words _ old new outcome (begins_with_name (codes "seeds") words is.spelled) runs).form arguments is,
+  λ arguments words old new outcome is runs. (as_spelled tool_of words _ old new outcome (begins_with_name (codes "info") words is) runs).form arguments is,
 )
 
 shown : (arguments : ShowArguments) (words : List (List ℕ)) (old new : Told) (outcome : OutcomeView) → IsShowForm arguments words
@@ -59,3 +61,9 @@ returns-clause-reply_is c arguments words is = subst IsTool (sym (begins_with_na
 
 pub returns-clause-show_is : goal.returns-clause-show_is
 returns-clause-show_is c arguments words is = subst IsTool (sym (begins_with_name (codes "show") words is)) refl
+
+pub returns-clause-seeds_is : goal.returns-clause-seeds_is
+returns-clause-seeds_is c arguments words is = subst IsTool (sym (begins_with_name (codes "seeds") words is.spelled)) refl
+
+pub returns-clause-info_is : goal.returns-clause-info_is
+returns-clause-info_is c arguments words is = subst IsTool (sym (begins_with_name (codes "info") words is)) refl

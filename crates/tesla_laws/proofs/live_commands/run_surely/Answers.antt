@@ -4,7 +4,7 @@ use Rattle.tesla_cli_live.proofs.Allowing.{live_allowed}
 use Rattle.tesla_laws.proofs.live_commands.run_surely.Goals as goal
 
 pub run_live-requires-clause-allowed : goal.run_live-requires-clause-allowed
-run_live-requires-clause-allowed g c κs within = λ told before opens. live_allowed _ _ _ _ _ _ _ _ _ _ (λ it piece. refl) (λ post datagram. refl) (λ number datagram. refl) _ told
+run_live-requires-clause-allowed g c κs within = λ told before opens. live_allowed _ _ _ _ _ _ _ _ _ _ _ (λ it piece. refl) (λ post datagram. refl) (λ link. refl) (λ number datagram. refl) _ told _ _ _
 
 pub returns-clause-unfailed : goal.returns-clause-unfailed
 returns-clause-unfailed g c = never_failed c.run_live.result.status c.run_live.ensures.causes

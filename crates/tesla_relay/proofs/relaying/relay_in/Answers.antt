@@ -1,14 +1,16 @@
-use Rattle.std.proofs.Common.{rules, ◌≡◌, ◌∙◌, List, map, ap, sym, subst, subst₂, length, arith}
+use Rattle.std.proofs.Common.{rules, ◌≡◌, ◌∙◌, List, ◌++◌, map, ap, sym, subst, subst₂, length, arith}
 use Rattle.std.specs.List.{AllByRecursion, Contains}
 use Rattle.std.proofs.lemmas.List.{length-map, map-id}
 use Rattle.tesla_desk.specs.Links.{datagrams}
 use Rattle.tesla_relay.specs.Posts.{PostSeen}
 use Rattle.tesla_relay.specs.Feeding.{ServerSeen}
 use Rattle.tesla_relay.specs.Lists.{AreFeeding, AreServing, Each, FeedsAll, HaveCome, ServesAll}
+use Rattle.tesla_relay.specs.Offers.{AreNumbered, HaveOffered, MayAskNext, MayHear}
 use Rattle.tesla_relay.specs.Queues.{Ending, Starting}
 use Rattle.tesla_relay.specs.Relay.{RelaysPosts}
 use Rattle.tesla_relay.specs.declared.feed.Feed.{Feed}
 use Rattle.tesla_relay.specs.declared.relayed.PostCount.{PostCount}
+use Rattle.tesla_relay.proofs.Offering.{starting_offered}
 use Rattle.tesla_relay.proofs.Queued.{adds_all, all_written, among_all, each_length, gives_all, starting_ending, starting_come, starting_feeding, starting_length, starting_serving}
 use Rattle.tesla_relay.proofs.relaying.relay_in.Goals as goal
 
@@ -39,6 +41,21 @@ run_all-end-requires-clause-serving g c κs within =
     let basis = g.X.Based.basis in
     let among : AllByRecursion (Contains basis.posts) posts = subst (λ (all : List PostSeen). AllByRecursion (Contains all) posts) (sym c.requires.posts) (among_all posts) in
     subst (AreServing basis) (sym (map-id c.as_mut_slice-2.result.now ∙ c.as_mut_slice-2.ensures.value)) (starting_serving basis capacity posts feeds servers among starting)
+
+pub run_all-end-requires-clause-next : goal.run_all-end-requires-clause-next
+run_all-end-requires-clause-next g c κs within =
+    let seen : g.row.P.Denot → PostSeen = λ post. record { name = g.P.Post.name post; sent = g.P.Post.sent post; faults = g.P.Post.faults post } in
+    let posts = map seen c.args.posts.now.items in let feeds = c.take_in.new.feeds.items in let servers = c.take_in.new.servers.items in
+    let capacity = c.requires.new.0 in
+    let starting : Starting capacity posts feeds servers = adds_all (Starting capacity) posts c.args.rooms.feeds.items feeds c.args.rooms.servers.items servers c.requires.rooms.0 c.requires.rooms.1 (c.take_in.ensures.starting capacity c.requires.new.1) in
+    let link = g.K.Link in
+    let put = g.Q.PostQueues.was_put link.brought in let full = g.Q.PostQueues.was_full link.brought in
+    let numbered = c.take_in.ensures.numbered in
+    let own : feeds ≡ numbered.0 = numbered.1 ∙ ap (λ (fs : List (Feed g.row.X.Denot)). fs ++ numbered.0) c.requires.rooms.0 in
+    let size : length feeds ≡ length c.args.posts.now.items = ap (λ (fs : List (Feed g.row.X.Denot)). length fs) own ∙ numbered.3 in
+    let offered : HaveOffered put full capacity 0 feeds = starting_offered put full capacity posts feeds servers starting (subst AreNumbered (sym own) numbered.2) in
+    subst (MayHear put full link.has_brought link.may_ask) (sym c.as_mut_slice.ensures.value)
+    (capacity, offered, subst (MayAskNext put full link.has_brought link.may_ask capacity) (sym size) c.requires.new.2)
 
 pub give_back-requires-clause-ending : goal.give_back-requires-clause-ending
 give_back-requires-clause-ending g c =

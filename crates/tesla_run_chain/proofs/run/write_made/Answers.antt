@@ -12,3 +12,9 @@ returns-in_default-write_setup-clause-opens g c =
     let told = g.D.Environment.told c.args.desk.now in
     let none : 0 ≤ 1 = omega arith in
     (0, none, opens_none (OfSink c.args.arguments.now.out.now ∷ []) told told refl (λ name. refl) (λ name. refl))
+
+pub returns-in_default-clause-opens : goal.returns-in_default-clause-opens
+returns-in_default-clause-opens g c =
+    let told = g.D.Environment.told c.args.desk.now in
+    let none : 0 ≤ 1 = omega arith in
+    (0, none, opens_none (OfSink c.args.arguments.now.out.now ∷ []) told told refl (λ name. refl) (λ name. refl))

@@ -7,6 +7,9 @@ use Rattle.tesla_run_feed.proofs.ready.feed_ready.Goals as goal
 pub feed-requires-clause-asks : goal.feed-requires-clause-asks
 feed-requires-clause-asks g c = c.requires.asks
 
+pub feed-requires-clause-any_link : goal.feed-requires-clause-any_link
+feed-requires-clause-any_link g c = c.requires.any_link
+
 pub feed-requires-clause-due : goal.feed-requires-clause-due
 feed-requires-clause-due g c =
     let post = g.P.Post in let clock = g.C.Clock in

@@ -1,11 +1,32 @@
-use Rattle.std.proofs.Common.{ap, map}
+use Rattle.std.proofs.Common.{inl, inr, Ok, ap, map, refl, subst}
+use Rattle.std.proofs.lemmas.Result.{MatchResult-weaker, err_from_is_err_and}
+use Rattle.tesla_front.specs.OutcomeView.{stop_view}
 use Rattle.tesla_relay.specs.Opening.{name_of}
 use Rattle.tesla_relay.specs.Posts.{PostSeen}
-use Rattle.tesla_run_feed.proofs.Steps.{opened_each}
+use Rattle.tesla_run_feed.specs.Steps.{OpensFeeding, OpensNoFeeding}
 use Rattle.tesla_run_feed.proofs.ready.open_ready.Goals as goal
+use Rattle.tesla_sender.specs.Made.{Stream}
 
-pub returns-clause-size : goal.returns-clause-size
-returns-clause-size g c =
+pub returns-in_err-sender-clause-refused : goal.returns-in_err-sender-clause-refused
+returns-in_err-sender-clause-refused g c =
+    let port = g.D.Port.Post in
+    let seen : g.row.D-Port.Denot → PostSeen = λ post. record { name = port.name post; sent = port.sent post; faults = port.faults post } in
+    let p = err_from_is_err_and c.from_residual.result c.from_residual.ensures.1 in
+    rw (p.1, p.2) (inl (record { none = ap (map seen) c.requires.empty; same = refl; why = c.in_err-sender.ensures.refused }))
+
+pub returns-clause-ready : goal.returns-clause-ready
+returns-clause-ready g c =
     let told = g.D.Environment.told in let port = g.D.Port.Post in
     let seen : g.row.D-Port.Denot → PostSeen = λ post. record { name = port.name post; sent = port.sent post; faults = port.faults post } in
-    opened_each seen name_of c.args.names.now _ (told c.open_posts.new.desk) (map seen c.args.posts.now.items) c.open_posts.new.posts.items c.in_ok-open_posts.ensures (ap (map seen) c.requires.empty)
+    MatchResult-weaker c.open_feeding.result c.open_feeding.ensures.ready
+    (λ ready opens. subst (λ (s : Stream). OpensFeeding s (map name_of c.args.names.now) ready.opened (g.D.Time.Clock.told ready.clock) (map seen c.open_feeding.new.posts.items) (Ok tt) (told c.args.desk.now) (told c.open_feeding.new.desk)) c.in_ok-sender.ensures.opened.0 opens) (λ stop all. all)
+
+pub returns-clause-right : goal.returns-clause-right
+returns-clause-right g c = MatchResult-weaker c.open_feeding.result c.open_feeding.ensures.lasts (λ ready lasts. c.in_ok-sender.ensures.opened.1) (λ stop all. all)
+
+pub returns-clause-refused : goal.returns-clause-refused
+returns-clause-refused g c =
+    let told = g.D.Environment.told in let port = g.D.Port.Post in
+    let seen : g.row.D-Port.Denot → PostSeen = λ post. record { name = port.name post; sent = port.sent post; faults = port.faults post } in
+    MatchResult-weaker c.open_feeding.result c.open_feeding.ensures.refused (λ ready all. all)
+    (λ stop why. inr (c.in_ok-sender.ensures.opened.1, subst (λ (s : Stream). OpensNoFeeding s (map name_of c.args.names.now) (map seen c.open_feeding.new.posts.items) (told c.args.desk.now) (told c.open_feeding.new.desk) (stop_view stop)) c.in_ok-sender.ensures.opened.0 why))

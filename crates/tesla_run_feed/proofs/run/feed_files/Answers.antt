@@ -3,24 +3,28 @@ use Rattle.tesla_feed.specs.Due.{MaySendDue}
 use Rattle.tesla_relay.specs.Posts.{PostSeen}
 use Rattle.tesla_run_feed.specs.Arguments.{arguments_of}
 use Rattle.tesla_run_feed.proofs.Fed.{fed_linked, fed_roomless, fed_unlinked}
+use Rattle.tesla_run_send.specs.Sender.{stream_in}
 use Rattle.tesla_run_feed.proofs.run.feed_files.Goals as goal
 
 pub run_linked-requires-clause-asks : goal.run_linked-requires-clause-asks
 run_linked-requires-clause-asks g c = λ lifetimes within. c.requires.asks
 
+pub run_linked-requires-clause-any_link : goal.run_linked-requires-clause-any_link
+run_linked-requires-clause-any_link g c = λ lifetimes within. c.requires.any_link
+
 pub run_linked-requires-clause-due : goal.run_linked-requires-clause-due
-run_linked-requires-clause-due g c = λ lifetimes within.
+run_linked-requires-clause-due g c = λ lifetimes within right.
     let port = g.D.Port.Post in let clock = g.D.Time.Clock in
     let seen : g.row.D-Port.Denot → PostSeen = λ post. record { name = port.name post; sent = port.sent post; faults = port.faults post } in
-    subst (λ (names : List (List ℕ)). MaySendDue seen port.may_send clock.gave clock.read_for names c.args.sender.stream) (sym c.as_slice.ensures) c.requires.due
+    subst (λ (names : List (List ℕ)). MaySendDue seen port.may_send clock.gave clock.read_for names (stream_in c.args.seeded)) (sym c.as_slice.ensures) (c.requires.due right)
 
 pub returns-in_default : goal.returns-in_default
-returns-in_default g c = fed_roomless c.args.sender.stream (arguments_of c.args.arguments.now) (g.D.Environment.told c.args.desk.now)
+returns-in_default g c = fed_roomless (stream_in c.args.seeded) (arguments_of c.args.arguments.now) (g.D.Environment.told c.args.desk.now)
 
 pub returns-in-Ok-open_link : goal.returns-in-Ok-open_link
 returns-in-Ok-open_link g c =
-    fed_linked c.args.sender.stream (arguments_of c.args.arguments.now) c.requires.form.0 c.in-Ok-open_link.link _ _ _ (g.D.Environment.told c.args.desk.now) (g.D.Environment.told c.open_link.new.self) (g.D.Environment.told c.run_linked.new.desk) _ c.requires.form.1 c.in-Ok-open_link.ensures.named c.as_slice.ensures c.in-Ok-open_link.ensures.opened c.in-Ok-open_link.ensures.desk c.run_linked.ensures
+    fed_linked (stream_in c.args.seeded) (arguments_of c.args.arguments.now) c.requires.form.0 c.in-Ok-open_link.link _ _ _ (g.D.Environment.told c.args.desk.now) (g.D.Environment.told c.open_link.new.self) (g.D.Environment.told c.run_linked.new.desk) _ c.requires.form.1 c.in-Ok-open_link.ensures.named c.as_slice.ensures c.in-Ok-open_link.ensures.opened c.in-Ok-open_link.ensures.desk c.run_linked.ensures
 
 pub returns-in-Err : goal.returns-in-Err
 returns-in-Err g c =
-    fed_unlinked c.args.sender.stream (arguments_of c.args.arguments.now) c.in-Err.refusal _ (g.D.Environment.told c.args.desk.now) (g.D.Environment.told c.open_link.new.self) c.from.ensures c.in-Err.ensures.desk
+    fed_unlinked (stream_in c.args.seeded) (arguments_of c.args.arguments.now) c.in-Err.refusal _ (g.D.Environment.told c.args.desk.now) (g.D.Environment.told c.open_link.new.self) c.from.ensures c.in-Err.ensures.desk

@@ -7,6 +7,9 @@ use Rattle.tesla_run_feed.proofs.run.run_feed.Goals as goal
 pub perform-requires-clause-asks : goal.perform-requires-clause-asks
 perform-requires-clause-asks g c = λ lifetimes within. c.requires.asks
 
+pub perform-requires-clause-any_link : goal.perform-requires-clause-any_link
+perform-requires-clause-any_link g c = λ lifetimes within. c.requires.any_link
+
 pub perform-requires-clause-due : goal.perform-requires-clause-due
 perform-requires-clause-due g c = λ lifetimes within post datagram fed. c.requires.due post datagram (record { arguments = arguments_of c.in-Some.arguments; form = c.in-Some.ensures.found; fed = fed })
 

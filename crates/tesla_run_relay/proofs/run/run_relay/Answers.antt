@@ -17,3 +17,6 @@ returns-in-None g c =
 
 pub perform-requires-clause-due : goal.perform-requires-clause-due
 perform-requires-clause-due g c κs within = λ post datagram due. c.requires.due post datagram (record { arguments = arguments_of c.in-Some.arguments; form = c.in-Some.ensures.found; next = due })
+
+pub perform-requires-clause-asks : goal.perform-requires-clause-asks
+perform-requires-clause-asks g c κs within = c.requires.asks (arguments_of c.in-Some.arguments) c.in-Some.ensures.found

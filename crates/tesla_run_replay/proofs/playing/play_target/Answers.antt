@@ -18,7 +18,7 @@ returns-clause-plays g c =
     (rule c.args.target) (rule c.new.result.converter.target) c.convert-converter.result.1 outcome c.requires.rule same c.convert-converter.ensures.converts
     (tells_same rule g.T.Target.has c.convert-converter.result.1 outcome target c.target.result.now c.target.ensures c.ending_result.ensures)
     (λ e. rose_some 0 (g.O.Sink.faults c.convert-converter.new.out) refl (c.convert-converter.ensures.writes.rose e))
-    (λ e. (c.convert-converter.ensures.wants e, c.convert-converter.ensures.writes.still (λ f. absurd cc) (λ f. absurd cc)))
+    (λ e. let wants = c.convert-converter.ensures.wants e in (wants.0, c.convert-converter.ensures.writes.still (λ f. absurd cc) (λ f. absurd cc), wants.1))
 
 pub returns-clause-reads : goal.returns-clause-reads
 returns-clause-reads g c =

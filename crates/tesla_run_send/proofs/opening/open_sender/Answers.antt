@@ -1,40 +1,23 @@
-use Rattle.std.proofs.Common.{◌∙◌, ℕ, subst}
 use Rattle.std.proofs.lemmas.Result.{MatchResult-weaker, err_from_is_err_and}
 use Rattle.tesla_front.specs.OutcomeView.{stop_view}
-use Rattle.tesla_front.specs.Seeds.{IsNoSeeds, IsSeedsIn}
-use Rattle.tesla_run_send.proofs.Sender.{opened, unopened, unseeded, unset}
+use Rattle.tesla_run_send.specs.Sender.{stream_in}
+use Rattle.tesla_run_send.proofs.Sender.{opened, unopened, unread}
 use Rattle.tesla_run_send.proofs.opening.open_sender.Goals as goal
 
-pub returns-in_err-setup-clause-refused : goal.returns-in_err-setup-clause-refused
-returns-in_err-setup-clause-refused g c =
-    let p = err_from_is_err_and c.from_residual.result c.from_residual.ensures.1 in
-    rw (p.1, p.2) (unset c.args.setup.now c.args.secret.now (g.D.Environment.told c.args.desk.now) c.in_err-setup.field-0.0 _ c.setup_under.ensures.opens c.setup_under.ensures.live c.in_err-setup.ensures.refused c.in_err-setup.ensures.causes)
-
-pub returns-in_err-seeds-clause-refused : goal.returns-in_err-seeds-clause-refused
-returns-in_err-seeds-clause-refused g c =
+pub returns-in_err-seeded-clause-refused : goal.returns-in_err-seeded-clause-refused
+returns-in_err-seeded-clause-refused g c =
     let told = g.D.Environment.told in
-    let secret = c.args.secret.now in
-    let set = c.in_ok-setup.ensures in
-    let p = err_from_is_err_and c.from_residual-in_err-seeds.result c.from_residual-in_err-seeds.ensures.1 in
-    rw (p.1, p.2) (unseeded c.args.setup.now secret (told c.args.desk.now) c.in_ok-setup.setup (told c.setup_under.new.desk) set.opened set.pages set.live set.causes set.found c.in_err-seeds.field-0.0 _ c.seeds_under.ensures.opens c.seeds_under.ensures.live
-    (subst (λ (n : ℕ). IsNoSeeds n ((told c.setup_under.new.desk).page secret) (stop_view c.in_err-seeds.field-0.0)) c.count.ensures.value c.in_err-seeds.ensures.refused) c.in_err-seeds.ensures.causes)
+    let p = err_from_is_err_and c.from_residual.result c.from_residual.ensures.1 in
+    rw (p.1, p.2) (unread c.args.setup.now c.args.secret.now (stop_view c.in_err-seeded.field-0.0) (told c.args.desk.now) _ c.in_err-seeded.ensures.refused)
 
 pub returns-clause-opened : goal.returns-clause-opened
 returns-clause-opened g c =
     let told = g.D.Environment.told in
-    let secret = c.args.secret.now in
-    let set = c.in_ok-setup.ensures in
-    let seeded = c.in_ok-seeds.ensures in
     MatchResult-weaker c.sender_of.result c.sender_of.ensures.opened
-    (λ sender is. opened c.args.setup.now secret (told c.args.desk.now) c.in_ok-setup.setup (told c.setup_under.new.desk) set.opened set.pages set.live set.causes set.found c.in_ok-seeds.seeds (told c.seeds_under.new.desk) seeded.opened seeded.pages seeded.live seeded.causes (seeded.count ∙ c.count.ensures.value)
-    (subst (λ (n : ℕ). IsSeedsIn n ((told c.setup_under.new.desk).page secret) c.in_ok-seeds.seeds) c.count.ensures.value seeded.found) sender.stream is.0 is.1) (λ stop all. all)
+    (λ sender is. opened c.args.setup.now c.args.secret.now (stream_in c.in_ok-seeded.seeded) sender.stream (told c.args.desk.now) _ c.in_ok-seeded.ensures.read is.0 is.1) (λ stop all. all)
 
 pub returns-clause-refused : goal.returns-clause-refused
 returns-clause-refused g c =
     let told = g.D.Environment.told in
-    let secret = c.args.secret.now in
-    let set = c.in_ok-setup.ensures in
-    let seeded = c.in_ok-seeds.ensures in
     MatchResult-weaker c.sender_of.result c.sender_of.ensures.refused (λ sender all. all)
-    (λ stop why. unopened c.args.setup.now secret (told c.args.desk.now) c.in_ok-setup.setup (told c.setup_under.new.desk) set.opened set.pages set.live set.causes set.found c.in_ok-seeds.seeds (told c.seeds_under.new.desk) seeded.opened seeded.pages seeded.live seeded.causes (seeded.count ∙ c.count.ensures.value)
-    (subst (λ (n : ℕ). IsSeedsIn n ((told c.setup_under.new.desk).page secret) c.in_ok-seeds.seeds) c.count.ensures.value seeded.found) (stop_view stop) why)
+    (λ stop why. unopened c.args.setup.now c.args.secret.now (stream_in c.in_ok-seeded.seeded) (stop_view stop) (told c.args.desk.now) _ c.in_ok-seeded.ensures.read why)

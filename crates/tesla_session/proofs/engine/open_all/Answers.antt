@@ -54,7 +54,7 @@ returns-in-Err-clause-opens g c =
 
 pub open_each-requires-clause-allowed : goal.open_each-requires-clause-allowed
 open_each-requires-clause-allowed g c κs within =
-    links_allowed g.D.Wire.Link.brought g.D.Time.Clock.may_ask c.args.session.now.first 0 (map name_of c.as_slice.result.now) c.requires.asked c.requires.alone
+    links_allowed g.D.Wire.Link.brought g.D.Time.Clock.may_ask g.D.Wire.Link.may_ask c.args.session.now.first 0 (map name_of c.as_slice.result.now) c.requires.asked c.requires.any_link c.requires.alone
 
 pub open_each-requires-in-Ok-clause-allowed : goal.open_each-requires-in-Ok-clause-allowed
 open_each-requires-in-Ok-clause-allowed g c κs within =

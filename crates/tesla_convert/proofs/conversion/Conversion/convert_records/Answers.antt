@@ -1,7 +1,9 @@
 use Rattle.std.proofs.Common.{◌∙◌, Option, Ok, List, ℕ, [], arith, refl, sym, ap}
 use Rattle.tesla_desk.specs.Outside.{after_bytes}
 use Rattle.tesla_convert.specs.declared.conversion.Ending.{Ending}
+use Rattle.tesla_convert.specs.declared.conversion.Stopped.TheVariants as stops
 use Rattle.tesla_convert.proofs.Made.{at_same, at_start, breaks, ends, goes_on}
+use Rattle.tesla_convert.proofs.Wanting.{stopped_so, wanting_same}
 use Rattle.tesla_convert.proofs.conversion.Conversion.convert_records.Goals as goal
 
 pub loop-ending-init : goal.loop-ending-init
@@ -44,3 +46,12 @@ pub returns-in-Err-clause-converts : goal.returns-in-Err-clause-converts
 returns-in-Err-clause-converts g c bytes told has holds =
     breaks g.C.Converter.grammar _ _ _ (g.C.Converter.has c.step.new.self.converter) c.in-Err.stopped bytes _ _ (g.S.Source.left c.step.new.source) _ _ c.loop-ending.invariant.rule
     (c.in-Err.ensures.steps bytes (at_same g.C.Converter.grammar _ _ _ _ bytes _ _ _ _ (sym c.loop-ending.invariant.rule) (c.loop-ending.invariant.at bytes told has holds)))
+
+pub returns-in-Err-clause-wants : goal.returns-in-Err-clause-wants
+returns-in-Err-clause-wants g c memory =
+    let wants = c.in-Err.ensures.wants (stopped_so c.in-Err.stopped stops.Memory memory) in (
+      wants.0,
+      λ bytes told has holds.
+          wanting_same g.C.Converter.grammar _ g.C.Converter.wants _ _ bytes _ c.loop-ending.invariant.rule
+          (wants.1 bytes (at_same g.C.Converter.grammar _ _ _ _ bytes _ _ _ _ (sym c.loop-ending.invariant.rule) (c.loop-ending.invariant.at bytes told has holds))),
+    )

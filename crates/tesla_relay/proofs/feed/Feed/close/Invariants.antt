@@ -9,6 +9,7 @@ invariant-loop g l = record {
   capacity : l.self.capacity ≡ l.initial.self.capacity;
   came : l.self.came ≡ l.initial.self.came;
   dropped : l.self.dropped ≡ l.initial.self.dropped;
+  post : l.self.post ≡ l.initial.self.post;
   pass : IsSamePass l.initial.self.pass l.self.pass;
   known : view l.self.pass ≡ view l.initial.self.pass;
 }

@@ -11,10 +11,11 @@ use Rattle.tesla_rollover.proofs.rollover.Rollover.open.Goals as goal
 pub returns-clause-stands : goal.returns-clause-stands
 returns-clause-stands c =
     let a = c.args in
+    let own : a.setup ≡ c.in_ok-copy.field-0 = let copied = c.in_ok-copy.ensures in cc in
     let cfg : Config = record { setup = c.in_ok-copy.field-0; lag = to_z w64 (of_z w64 a.lag); capacity = a.capacity; quota = a.capacity; ingests = a.ingests } in
     let same : c.in_ok-receiver.receiver.config ≡ cfg =
     c.in_ok-receiver.ensures.config
-    ∙ ap (λ (s : Parts). record { setup = s; lag = to_z w64 (of_z w64 a.lag); capacity = a.capacity; quota = a.capacity; ingests = a.ingests }) (sym c.in_ok-copy.ensures) in
+    ∙ ap (λ (s : Parts). record { setup = s; lag = to_z w64 (of_z w64 a.lag); capacity = a.capacity; quota = a.capacity; ingests = a.ingests }) own in
     let receivers = receivers_first _ _ _ c.push_reserved.ensures.items c.in_ok-epochs.ensures.items in
     subst (λ (ss : List State). RollStands (record { config = cfg; receivers = ss; given = 0; calls = 0 }) []) (sym receivers)
     (roll_opened cfg c.in_ok-receiver.receiver same c.in_ok-receiver.ensures.stands)

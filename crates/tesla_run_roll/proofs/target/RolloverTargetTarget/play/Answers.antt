@@ -12,6 +12,7 @@ use Rattle.tesla_rollover.specs.Stands.{RollStands}
 use Rattle.tesla_run_roll.specs.Roll.{roll_rule}
 use Rattle.tesla_run_roll.proofs.Events.{stands_on}
 use Rattle.tesla_run_roll.proofs.Texts.{memory_none, text_none, text_given}
+use Rattle.tesla_run_roll.proofs.Wanting.{take_answered}
 use Rattle.tesla_run_roll.proofs.target.RolloverTargetTarget.play.Goals as goal
 
 pub returns-in-Arrival-clause-rule : goal.returns-in-Arrival-clause-rule
@@ -59,6 +60,8 @@ returns-in-Given-clause-wants g c wanting =
       it.1,
       λ es stands. let cfg = c.args.self.now.rollover.config in let h = roll_after_events cfg [] es in
           it.2 ∙ ap (λ (t : List ℕ). with_bytes (g.O.Sink.written c.args.out.now) (gathered c.args.gatherer.now ++ t)) (text_given cfg h _ (ap event_of c.in-Take.is) c.take.result c.take.new.into (c.take.ensures.answer h stands) c.in-Given.epoch c.in-Given.head c.in-Given.next c.in-Given.is),
+      λ es stands. let cfg = c.args.self.now.rollover.config in let h = roll_after_events cfg [] es in
+          take_answered cfg h _ (ap event_of c.in-Take.is) c.take.result c.take.new.into c.in-Given.epoch c.in-Given.head c.in-Given.next c.in-Given.is it.0 (c.take.ensures.answer h stands),
     )
 
 pub returns-in-Empty-clause-has : goal.returns-in-Empty-clause-has

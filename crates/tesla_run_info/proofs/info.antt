@@ -1,0 +1,4 @@
+pub mod Others
+pub mod Years
+pub mod Chains
+pub mod Runs

@@ -1,0 +1,3 @@
+pub mod Drawn
+pub mod Runs
+pub mod Complete

@@ -1,0 +1,5 @@
+pub mod Arguments
+pub mod Calendar
+pub mod Lines
+pub mod Equal
+pub mod Telling

@@ -1,0 +1,3 @@
+pub mod Arguments
+pub mod Drawn
+pub mod Drawing
