@@ -273,6 +273,7 @@ where
     }
 
     fn close_post(&mut self, it: UdpPost<'a, R>) {
+        it.tell_lost();
         count_failed(&mut self.writes, it.faults);
     }
 

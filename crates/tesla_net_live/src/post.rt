@@ -45,7 +45,9 @@ pub struct UdpPost<'a, R> {
     /// How often its calls failed.
     pub faults: u64,
     sending: Sending,
+    // What all posts of the run lost, and what this one did.
     unsent: &'a Tally,
+    lost: u64,
     reporter: Reporter<'a, R>,
     number: u64,
     limit: Limit,
@@ -68,6 +70,7 @@ impl<'a, R> UdpPost<'a, R> {
             faults: 0,
             sending,
             unsent,
+            lost: 0,
             reporter,
             number,
             limit: Limit::new(),
@@ -82,10 +85,19 @@ impl<'a, R: Eprint> UdpPost<'a, R> {
         ensures name { self.new.name ≡ self.old.name }
     {
         self.unsent.raise();
+        self.lost = self.lost.saturating_add(1);
         let Some(left_out) = self.limit.admit(monotonic()) else {
             return;
         };
         self.tell_of_pass(cause, left_out);
+    }
+
+    /// Tells how many datagrams the system refused to send, where it refused any.
+    pub fn tell_lost(&self) {
+        if 0 < self.lost {
+            let name = str::from_utf8(self.name.bytes()).unwrap_or("");
+            self.reporter.unsent(self.number, name, self.lost);
+        }
     }
 
     // Tells that it went on behind an error, and how many such lines were left out.

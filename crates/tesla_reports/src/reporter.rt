@@ -65,4 +65,12 @@ impl<'a, R: Eprint> Reporter<'a, R> {
             self.command
         );
     }
+
+    /// Tells how many datagrams the system refused to send by the post of this number.
+    pub fn unsent(&self, number: u64, name: &str, count: u64) {
+        let _ = eprintln!(self.rt;
+            "tesla: {}: post {number} {name:?}: unsent {count}",
+            self.command
+        );
+    }
 }
