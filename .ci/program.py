@@ -28,6 +28,8 @@ from running import (  # noqa: E402
 # A line on standard error, and the statuses of runs in which something failed or whose words are none of a form.
 LINE = re.compile(r"tesla: (?:[a-z0-9]+|--help|--version)?.*")
 FAILED = (1, 4, 5, 7, 8)
+# What lines on standard error say that belong to a run of any status.
+ADVICE = ("may be read by others", "are equal", "is all zeros")
 # Seconds that a machine stands still for where it is told, and how often a trial is made at most.
 STILL, TRIES = 0.1, 3
 # The seconds that were waited for a calm machine.
@@ -194,11 +196,12 @@ class Trials:
 
 def misplaced(status, said):
     """The lines on standard error that don't belong to a run of this status: all of another form, and of a run in which nothing
-    failed all but those that tell of a secret file which others may read. A run in which something failed tells it."""
+    failed all but advice on a secret file which others may read, or on keys that give no safety. A run in which something failed
+    tells it."""
     lines = said.decode(errors="replace").splitlines()
     wrong = [line for line in lines if not LINE.fullmatch(line)]
     if status not in FAILED:
-        return wrong + [line for line in lines if "may be read by others" not in line]
+        return wrong + [line for line in lines if not any(it in line for it in ADVICE)]
     return wrong
 
 

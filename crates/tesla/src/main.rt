@@ -3,17 +3,22 @@
 
 use std::env;
 use std::process::ExitCode;
+use std::rt::Files;
 use tesla_cli::program::{run_program, words};
 use tesla_cli::{FORMS, TOOLS};
 use tesla_cli_live::{
     is_live, is_live_tool, is_recorded, live, live_tools, recorded, run_live, run_live_tools,
     run_recorded,
 };
+use tesla_files_live::read_front;
 use tesla_live::{Command, Events, Gates, LiveDesk, label_of};
-use tesla_reasons::reason_of;
+use tesla_reasons::{key_file, reason_of, weak_keys};
 
 /// The variable of the environment that has the path at which something is put to end a live command.
 const STOP: &str = "TESLA_STOP";
+
+/// How much is read of a file whose keys are looked at: a byte more than a setup or seeds have.
+const MOST_TEXT: usize = 4097;
 
 fn main(rt: HostRuntime) -> ExitCode {
     let words = words(&rt);
@@ -22,7 +27,9 @@ fn main(rt: HostRuntime) -> ExitCode {
         Err(_) => (Command::Other, "run", 0),
     };
     if let Ok(words) = &words {
-        tell_reason(&rt, words.as_slice());
+        if !tell_reason(&rt, words.as_slice()) {
+            tell_weak_keys(&rt, words.as_slice(), label);
+        }
     }
     let stop = env::var(&rt, STOP).ok();
     let gates = Gates::of(Events::new(stop, sinks, command == Command::Watch));
@@ -71,15 +78,35 @@ fn sinks_in(command: Command, words: &[String]) -> u64 {
     }
 }
 
-// Tells on standard error why the words are none of a form, where that is known. What is done with them is the tables' own.
-fn tell_reason<R: Eprint>(rt: &R, words: &[String]) {
+// Tells on standard error why the words are none of a form, and gives whether that is known. What is done with them is the
+// tables' own.
+fn tell_reason<R: Eprint>(rt: &R, words: &[String]) -> bool {
     if let [word] = words {
         if word.as_str() == "--help" || word.as_str() == "--version" {
-            return;
+            return false;
         }
     }
-    if let Some(reason) = reason_of(words, form_in(words)) {
-        let _ = eprintln!(rt; "tesla: {reason}");
+    match reason_of(words, form_in(words)) {
+        Some(reason) => {
+            let _ = eprintln!(rt; "tesla: {reason}");
+            true
+        }
+        None => false,
+    }
+}
+
+// Tells on standard error which keys give their chains no safety in the file that the words name, where that is a regular file,
+// and never a key. The command reads the file itself, and what it does with the keys hangs on none of this.
+fn tell_weak_keys<R: Files + Eprint + AllocGlobal>(rt: &R, words: &[String], label: &str) {
+    let Some(file) = key_file(words, form_in(words)) else {
+        return;
+    };
+    let mut text = [0; MOST_TEXT];
+    let Some(length) = read_front(rt, file.name, &mut text) else {
+        return;
+    };
+    for weak in weak_keys(rt.alloc(), file, &text[..length]).iter() {
+        let _ = eprintln!(rt; "tesla: {label}: {weak}");
     }
 }
 

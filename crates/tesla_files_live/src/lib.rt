@@ -3,9 +3,11 @@
 
 mod files;
 mod identity;
+mod regular;
 mod sink;
 mod source;
 
 pub use files::{Making, Opened, OpenedFiles};
+pub use regular::read_front;
 pub use sink::{FileSink, Target};
 pub use source::{FRONT, FileSource};
