@@ -26,7 +26,7 @@ module _ {S : Type 0} (output_name : S → List ℕ) (written : S → Option (Li
     captured = λ it piece due. writes it piece;
     fed = λ post datagram due. sends post datagram;
     watched = λ arguments is it piece due. writes it piece;
-    status = λ arguments is it piece named. writes it piece;
+    status = λ arguments is it piece named next. writes it piece;
   }
 
   pub recorded_allowed : AllowsRecorded output_name written may_write post_name sent may_send brought may_ask_link may_ask gave read_for words told

@@ -1,16 +1,17 @@
 -- Lines that are written to STATUS, one after another.
-use Rattle.std.proofs.Common.{◌≡◌, ◌∙◌, inl, inr, ℕ, Bool, true, false, List, [], ◌∷◌, ◌++◌, flat_map, Option, IfSome, append-nil, append_assoc, refl, sym, ap, subst, arith}
+use Rattle.std.proofs.Common.{◌≡◌, ◌∙◌, inl, inr, ℕ, Bool, true, false, List, [], ◌∷◌, ◌++◌, flat_map, Option, Some, None, IfSome, append-nil, append_assoc, refl, sym, ap, subst, arith}
 use Rattle.std.proofs.lemmas.List.Concat.{flat_map-append}
-use Rattle.tesla_recorder.specs.watched.Counts.{NoneFalls, no_counts}
+use Rattle.tesla_recorder.specs.watched.Counts.{NoneFalls}
 use Rattle.tesla_desk.specs.Faults.{HasCause}
 use Rattle.tesla_desk.specs.Outside.{AppendsPrefix, with_bytes}
 use Rattle.tesla_desk.proofs.Counts.{cause_as, cause_both, cause_none}
-use Rattle.tesla_desk.proofs.Told.{appends_none, prefix_after, prefix_longer, prefix_none, with_more}
+use Rattle.tesla_desk.proofs.Told.{appends_none, first_written, prefix_after, prefix_longer, prefix_none, with_more}
 use Rattle.tesla_receiver.specs.Report.{report_of}
 use Rattle.tesla_receiver.specs.declared.history.Entry.{Entry}
 use Rattle.tesla_state.specs.declared.report.Report.{Report}
+use Rattle.tesla_run_receive.specs.watch.Allowed.{IsNextLine}
 use Rattle.tesla_run_receive.specs.watch.Lines.{AddsUp, Follow, NoneFall, StatusLine, line_text, no_report, report_at, status_line}
-use Rattle.tesla_run_receive.specs.watch.Written.{EndsWith, Notes, Puts, WritesStatus, report_behind}
+use Rattle.tesla_run_receive.specs.watch.Written.{AreNoted, EndsWith, Notes, Puts, WritesStatus, report_behind}
 
 -- ---- text
 
@@ -123,6 +124,28 @@ notes_more earlier counts time before old new first faults count false is noted 
   cause = caused earlier counts time before old new first faults count noted is (puts.cause refl);
 }
 
+-- a sink that was new has the lines that were noted, and then one more
+pub are_more : (earlier counts : List ℕ) (time : ℕ) (old new : Option (List ℕ)) (faults count : ℕ) (was is : Bool) → AreNoted earlier old faults was → NoneFalls earlier counts → Puts (status_line time (report_at counts)) old new faults count was is → AreNoted counts new count is
+are_more earlier counts time old new faults count was is are falls puts = record { before = are.before; empty = are.empty; noted = notes_more earlier counts time are.before old new 0 faults count was is are.noted falls puts }
+
+-- ---- the next line
+
+-- what a sink that was new has is what was written to it
+has_written : (fresh written : Option (List ℕ)) (bytes : List ℕ) → IfSome fresh (λ prefix. prefix ≡ []) → written ≡ with_bytes fresh bytes → IfSome written (λ held. held ≡ bytes)
+has_written fresh None bytes empty is = tt
+has_written fresh (Some held) bytes empty is = first_written fresh (Some held) bytes held empty is refl
+
+-- the line of counts that didn't fall, at a reading that a clock gave, comes next while the sink hasn't failed
+pub next_line : (gave : ℕ → Bool) (earlier counts : List ℕ) (time : ℕ) (old : Option (List ℕ)) (faults : ℕ) (was : Bool) → AreNoted earlier old faults was → was ≡ false → NoneFalls earlier counts → gave time ≡ true → IsNextLine gave old (status_line time (report_at counts))
+next_line gave earlier counts time old faults was are still falls given = record {
+  lines = are.noted.lines;
+  line = line_at time counts;
+  piece_is = refl;
+  written_is = has_written are.before old (flat_map line_text are.noted.lines) are.empty (are.noted.all still);
+  follow = follows earlier counts time are.before old 0 faults was are.noted falls;
+  given = given;
+}
+
 -- ---- the last line
 
 -- the last line, of the counts of a history whose report this is
@@ -151,12 +174,20 @@ writes_last history earlier counts time before old new faults count false is who
 -- ---- before the first line
 
 -- nothing was noted
-pub notes_none : (before : Option (List ℕ)) (faults : ℕ) → Notes no_counts before before faults faults false
-notes_none before faults = record {
+pub notes_none : (counts : List ℕ) (before : Option (List ℕ)) (faults : ℕ) → Notes counts before before faults faults false
+notes_none counts before faults = record {
   lines = [];
   follow = tt;
-  within = falls_not [];
+  within = falls_at [] counts (λ place. omega arith);
   all = λ none. appends_none before;
   prefix = prefix_none before [];
   cause = cause_none faults faults refl (λ e. absurd cc);
+}
+
+-- nothing was noted to a sink that is new
+pub are_none : (counts : List ℕ) (fresh : Option (List ℕ)) (faults : ℕ) → IfSome fresh (λ bytes. bytes ≡ []) → faults ≡ 0 → AreNoted counts fresh faults false
+are_none counts fresh faults empty none = record {
+  before = fresh;
+  empty = empty;
+  noted = subst (λ (n : ℕ). Notes counts fresh fresh 0 n false) (sym none) (notes_none counts fresh 0);
 }

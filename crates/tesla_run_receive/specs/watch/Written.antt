@@ -46,6 +46,12 @@ pub record WritesStatus (history : List Entry) (before written : Option (List �
   pub prefix : AppendsPrefix before written (flat_map line_text lines)
   pub cause : HasCause 0 faults (failed ≡ true)
 
+-- the sink was new, and has the lines that were noted until now of the counts that are these
+pub record AreNoted (counts : List ℕ) (written : Option (List ℕ)) (faults : ℕ) (failed : Bool) : Type 0 where
+  pub before : Option (List ℕ)
+  pub empty : IfSome before (λ bytes. bytes ≡ [])
+  pub noted : Notes counts before written 0 faults failed
+
 -- the sink under this name was new, and has the lines that were noted until now of the counts that are these
 pub record IsMonitored (name : List ℕ) (counters : CountersId) (named : List ℕ) (own : CountersId) (counts : List ℕ) (written : Option (List ℕ)) (faults : ℕ) (failed : Bool) : Type 0 where
   pub before : Option (List ℕ)

@@ -1,8 +1,8 @@
 //! What writes the counts while the workers run.
 
-ghost use Rattle.std.specs.Prelude.{◌≡◌, ◌≤◌, ℕ, List, Option};
-ghost use Rattle.tesla_run_receive.specs.Allowed.{MayWriteAll};
-ghost use Rattle.tesla_run_receive.specs.watch.Written.{Notes};
+ghost use Rattle.std.specs.Prelude.{◌≡◌, ◌≤◌, ℕ, List, Option, true};
+ghost use Rattle.tesla_run_receive.specs.watch.Allowed.{MayWriteLines};
+ghost use Rattle.tesla_run_receive.specs.watch.Written.{AreNoted, Notes};
 
 use crate::Extra;
 use crate::watch::due::Due;
@@ -20,12 +20,14 @@ pub(crate) struct Monitor<S: Output, C: Clock> {
     pub(crate) clock: C,
     pub(crate) reader: Reader,
     pub(crate) due: Due,
-    ghost allowed: { MayWriteAll S.name S.may_write (S.name status.sink) },
+    ghost allowed: { MayWriteLines S.name S.written S.may_write C.gave (S.name status.sink) },
+    ghost noted: { ∥ AreNoted reader.counts (S.written status.sink) (S.faults status.sink) status.failed ∥₁ },
 }
 
 impl<S: Output, C: Clock> Monitor<S, C> {
-    // Writes a line of the counts as they are now.
+    // Writes a line of the counts as they are now, at this reading of a clock.
     fn note(&mut self, now: u64)
+        requires given { C.gave now ≡ true }
         ensures notes { (before : Option (List ℕ)) (first : ℕ) → Notes self.old.reader.counts before (S.written self.old.status.sink) first (S.faults self.old.status.sink) self.old.status.failed → Notes self.new.reader.counts before (S.written self.new.status.sink) first (S.faults self.new.status.sink) self.new.status.failed }
         ensures name { S.name self.new.status.sink ≡ S.name self.old.status.sink }
         ensures counters { self.new.reader.counters ≡ self.old.reader.counters }
@@ -85,8 +87,8 @@ impl<D: Environment> Extra<D, Watched> for Monitoring<'_> {
     ghost use Rattle.tesla_receiver.specs.declared.history.Entry.{Entry};
     ghost use Rattle.tesla_recorder.specs.watched.Counts.{no_counts};
     ghost use Rattle.tesla_recorder.specs.watched.Watched.{WatchedStands};
-    ghost use Rattle.tesla_run_receive.specs.Allowed.{MayWriteAll};
     ghost use Rattle.tesla_run_receive.specs.Running.{EndsBehind};
+    ghost use Rattle.tesla_run_receive.specs.watch.Allowed.{MayWriteLines};
     ghost use Rattle.tesla_run_receive.specs.watch.Watch.{HoldsStatus};
     ghost use Rattle.tesla_run_receive.specs.watch.Written.{IsMonitored};
     ghost use Rattle.tesla_run_receive.specs.declared.watch.monitor.Monitoring.{Monitoring};
@@ -97,7 +99,7 @@ impl<D: Environment> Extra<D, Watched> for Monitoring<'_> {
 
     ghost holds = { λ _. HoldsStatus };
 
-    ghost allowed = { λ it. MayWriteAll D.Pieces.name D.Pieces.may_write it.status.now };
+    ghost allowed = { λ it. MayWriteLines D.Pieces.name D.Pieces.written D.Pieces.may_write D.Time.gave it.status.now };
 
     ghost fits = { λ it cfg. (it.reader.counters ≡ cfg.counters) × (it.reader.counts ≡ no_counts) };
 

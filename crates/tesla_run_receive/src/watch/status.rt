@@ -1,7 +1,6 @@
 //! The file of the counts.
 
-ghost use Rattle.std.specs.Prelude.{◌≡◌};
-ghost use Rattle.tesla_run_receive.specs.Allowed.{MayWriteAll};
+ghost use Rattle.std.specs.Prelude.{◌≡◌, true, false};
 ghost use Rattle.tesla_run_receive.specs.watch.Written.{Puts};
 
 use tesla_desk::Output;
@@ -14,9 +13,9 @@ pub(crate) struct Status<S: Output> {
 }
 
 impl<S: Output> Status<S> {
-    /// Writes a line in one piece, where no line before it failed.
+    /// Writes a line in one piece, where no line before it failed, and then it may be written.
     pub(crate) fn put(&mut self, line: &Lines)
-        requires allowed { MayWriteAll S.name S.may_write (S.name self.old.sink) }
+        requires allowed { self.old.failed ≡ false → S.may_write self.old.sink line.now.bytes ≡ true }
         ensures puts { Puts line.now.bytes (S.written self.old.sink) (S.written self.new.sink) (S.faults self.old.sink) (S.faults self.new.sink) self.old.failed self.new.failed }
         ensures name { S.name self.new.sink ≡ S.name self.old.sink }
     {

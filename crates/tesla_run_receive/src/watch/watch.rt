@@ -8,9 +8,10 @@ ghost use Rattle.tesla_receiver.specs.Stands.{Stands};
 ghost use Rattle.tesla_run_receive.specs.Arguments.{AreFew, workers_wanted};
 ghost use Rattle.tesla_run_receive.specs.OutputArguments.{OutputArguments, arguments_of};
 ghost use Rattle.tesla_session.specs.Allowed.{MayAsk, MayAskLinks, MayReleaseAll};
-ghost use Rattle.tesla_run_receive.specs.Allowed.{MayWriteAll, MayWriteReleased};
+ghost use Rattle.tesla_run_receive.specs.Allowed.{MayWriteReleased};
 ghost use Rattle.tesla_run_receive.specs.Running.{RunsStation};
 ghost use Rattle.tesla_recorder.specs.declared.watched.watched.WatchedConfig.{WatchedConfig};
+ghost use Rattle.tesla_run_receive.specs.watch.Allowed.{MayWriteLines};
 ghost use Rattle.tesla_run_receive.specs.watch.Arguments.{IsWatch};
 ghost use Rattle.tesla_run_receive.specs.watch.Watch.{HoldsStatus, watching};
 
@@ -42,7 +43,7 @@ pub fn run_watch<R: Threads + Wait + Sync, D: Environment>(
     requires asked { MayAsk D.Wire.brought D.Time.may_ask }
     requires any_link { MayAskLinks D.Wire.may_ask }
     requires released { (arguments : OutputArguments) → IsWatch arguments (map string_bytes words.now) → MayWriteReleased D.Pieces.name D.Pieces.written D.Pieces.may_write D.Time.read_for arguments.receive (D.told desk.old) }
-    requires output { (arguments : OutputArguments) → IsWatch arguments (map string_bytes words.now) → MayWriteAll D.Pieces.name D.Pieces.may_write arguments.output }
+    requires output { (arguments : OutputArguments) → IsWatch arguments (map string_bytes words.now) → MayWriteLines D.Pieces.name D.Pieces.written D.Pieces.may_write D.Time.gave arguments.output }
     ensures runs { RunsAs (watching (D.told desk.old).live (D.told desk.new).live result.last) (map string_bytes words.now) (D.told desk.old) (D.told desk.new) (outcome_view result.outcome) }
     ensures none { outcome_view result.outcome ≡ Usage → result.last ≡ None }
 {
@@ -69,7 +70,7 @@ fn perform<R: Threads + Wait + Sync, D: Environment>(
     requires asked { MayAsk D.Wire.brought D.Time.may_ask }
     requires any_link { MayAskLinks D.Wire.may_ask }
     requires released { MayWriteReleased D.Pieces.name D.Pieces.written D.Pieces.may_write D.Time.read_for (arguments_of arguments.now).receive (D.told desk.old) }
-    requires output { MayWriteAll D.Pieces.name D.Pieces.may_write (arguments_of arguments.now).output }
+    requires output { MayWriteLines D.Pieces.name D.Pieces.written D.Pieces.may_write D.Time.gave (arguments_of arguments.now).output }
     ensures { Performs (watching (D.told desk.old).live (D.told desk.new).live result.1) (arguments_of arguments.now) (D.told desk.old) (D.told desk.new) (result_view result.0) }
 {
     match receiver_under(alloc, &arguments.receive, desk) {
@@ -93,7 +94,7 @@ fn run_watched<R: Threads + Wait + Sync, D: Environment>(
     requires asked { MayAsk D.Wire.brought D.Time.may_ask }
     requires any_link { MayAskLinks D.Wire.may_ask }
     requires released { MayReleaseAll D.Pieces.name D.Pieces.written D.Pieces.may_write D.Time.read_for receiver.config 0 (arguments_of arguments.now).receive.sinks }
-    requires output { MayWriteAll D.Pieces.name D.Pieces.may_write arguments.now.output.now }
+    requires output { MayWriteLines D.Pieces.name D.Pieces.written D.Pieces.may_write D.Time.gave arguments.now.output.now }
     ensures { (cfg : WatchedConfig Config) × RunsStation HoldsStatus (Some arguments.now.output.now) receiver.config (workers_wanted (arguments_of arguments.now).receive) cfg (D.told desk.old) (D.told desk.new) result.1 (result_view result.0) }
 {
     let Ok((watched, reader)) = Watched::open(alloc, receiver) else {

@@ -4,16 +4,35 @@ use Rattle.tesla_desk.specs.Outside.{ClosesSink}
 use Rattle.tesla_receiver.specs.Stands.{Stands}
 use Rattle.tesla_recorder.specs.watched.Counts.{NoneFalls}
 use Rattle.tesla_recorder.specs.watched.Watched.{WatchedStands}
+use Rattle.std.proofs.Math.Logic.{∥∥₁_elim}
+use mathlib.Core.Bool.{Bool-set}
+use Rattle.tesla_run_receive.specs.watch.Allowed.{IsNextLine}
 use Rattle.tesla_run_receive.specs.watch.Lines.{report_at, status_line}
 use Rattle.tesla_run_receive.specs.watch.Written.{Puts}
 use Rattle.tesla_run_receive.proofs.watch.Counts.{report_whole}
 use Rattle.tesla_run_receive.proofs.watch.Held.{holds_status}
-use Rattle.tesla_run_receive.proofs.watch.Noted.{writes_last}
+use Rattle.tesla_run_receive.proofs.watch.Noted.{next_line, writes_last}
 use Rattle.tesla_run_receive.proofs.watch.monitor.MonitoringExtraWatched.end.Goals as goal
 
 not_not : (b : Bool) → b ≡ not (not b)
 not_not true = refl
 not_not false = refl
+
+pub put-requires : goal.put-requires
+put-requires g c =
+    let (extra, h, begun, stands) = c.requires in
+    let monitor = c.args.begun in
+    let old = monitor.status in
+    let counts = c.counts.result in
+    let gave = g.D.Time.Clock.gave in
+    let after = subst (λ s. WatchedStands Stands s h) (sym c.compare.ensures.same) stands in
+    let counted = c.counts.ensures h after in
+    let falls : NoneFalls monitor.reader.counts counts = subst (λ (cs : List ℕ). NoneFalls monitor.reader.counts cs) (stands.counted ∙ sym counted) c.compare.ensures.below in
+    record {
+      allowed = λ still. ∥∥₁_elim monitor.noted (Bool-set _ _) (λ are. monitor.allowed _ _ refl
+          (subst (λ (piece : List ℕ). IsNextLine gave (g.D.Pieces.Output.written old.sink) piece) {x = status_line c.now.result (report_at counts)} (sym c.line_of.ensures)
+          (next_line gave monitor.reader.counts counts c.now.result (g.D.Pieces.Output.written old.sink) (g.D.Pieces.Output.faults old.sink) old.failed are still falls c.now.ensures.gave)));
+    }
 
 pub returns : goal.returns
 returns g c extra h begun stands =
