@@ -34,5 +34,5 @@ module _ {S : Type 0} (output_name : S → List ℕ) (written : S → Option (Li
     any_link = links;
     asked = λ number datagram came. asks number datagram;
     recorded = λ arguments is it piece due. writes it piece;
-    tail = λ arguments is it piece named. writes it piece;
+    tail = λ arguments is setup spelled it piece named part. writes it piece;
   }

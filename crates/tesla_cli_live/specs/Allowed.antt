@@ -6,9 +6,10 @@ use Rattle.tesla_run_capture.specs.Pieces as capturing
 use Rattle.tesla_run_feed.specs.Due as feeding
 use Rattle.tesla_run_relay.specs.Due as relaying
 use Rattle.tesla_run_relay.specs.play.Due as playing
-use Rattle.tesla_run_receive.specs.Allowed.{MayWriteAll, MayWriteReleased}
+use Rattle.tesla_run_receive.specs.Allowed.{MayWriteReleased}
 use Rattle.tesla_run_receive.specs.Arguments.{IsReceive, ReceiveArguments}
 use Rattle.tesla_run_receive.specs.OutputArguments.{OutputArguments}
+use Rattle.tesla_run_receive.specs.record.Allowed.{MayWriteTail}
 use Rattle.tesla_run_receive.specs.record.Arguments.{IsRecord}
 use Rattle.tesla_run_receive.specs.watch.Allowed.{MayWriteLines}
 use Rattle.tesla_run_receive.specs.watch.Arguments.{IsWatch}
@@ -40,9 +41,9 @@ module _ {S : Type 0} (output_name : S → List ℕ) (written : S → Option (Li
     pub watched : (arguments : OutputArguments) → IsWatch arguments words → MayWriteReleased output_name written may_write read_for arguments.receive told
     pub status : (arguments : OutputArguments) → IsWatch arguments words → MayWriteLines output_name written may_write gave arguments.output
 
-  -- record: the same of what is released; TAIL may be written
+  -- record: the same of what is released; TAIL may have each piece of the last entries of a history
   pub record AllowsRecorded (words : List (List ℕ)) (told : Told) : Type 0 where
     pub any_link : MayAskLinks may_ask_link
     pub asked : MayAsk brought may_ask
     pub recorded : (arguments : OutputArguments) → IsRecord arguments words → MayWriteReleased output_name written may_write read_for arguments.receive told
-    pub tail : (arguments : OutputArguments) → IsRecord arguments words → MayWriteAll output_name may_write arguments.output
+    pub tail : (arguments : OutputArguments) → IsRecord arguments words → MayWriteTail output_name written may_write read_for arguments told

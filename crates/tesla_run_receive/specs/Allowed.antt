@@ -10,10 +10,6 @@ use Rattle.tesla_state.specs.declared.replies.Reply.TheVariants.{Given}
 use Rattle.tesla_run_receive.specs.Arguments.{IsReceive, ReceiveArguments}
 use Rattle.tesla_run_receive.specs.Receive.{config_of}
 
--- the outputs of this name may write any piece
-abbrev pub MayWriteAll : {S : Type 0} → (S → List ℕ) → (S → List ℕ → Bool) → List ℕ → Type 0
-MayWriteAll {S} name may_write under = (it : S) (piece : List ℕ) → name it ≡ under → may_write it piece ≡ true
-
 -- The piece is the record of a packet that is due to the sink of this name, which has this written: under the setup that SETUP spells, with what these words ask for
 pub record IsReleased (read_for : ℕ → List ℕ → ℕ → Bool) (arguments : ReceiveArguments) (told : Told) (name : List ℕ) (written : Option (List ℕ)) (piece : List ℕ) : Type 0 where
   pub setup : Parts

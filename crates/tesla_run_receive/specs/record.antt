@@ -1,3 +1,4 @@
+pub mod Allowed
 pub mod Arguments
 pub mod Record
 pub mod Usage

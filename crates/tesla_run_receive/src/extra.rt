@@ -6,6 +6,10 @@ ghost use Rattle.tesla_front.specs.declared.fault.Fault.{Fault};
 ghost use Rattle.tesla_receiver.specs.declared.history.Entry.{Entry};
 ghost use Rattle.tesla_session.specs.Session.{RefusesWorker};
 ghost use Rattle.tesla_session.specs.Wanted.{WantedSink};
+ghost use Rattle.tesla_shared.specs.Due.{IsOfWorker};
+ghost use Rattle.tesla_turn.specs.History.{entries};
+ghost use Rattle.tesla_turn.specs.Permitted.{ArePermitted};
+ghost use Rattle.tesla_turn.specs.declared.view.Call.{Call};
 ghost use Rattle.tesla_run_receive.specs.Running.{EndsBehind, OpensBehind, RefusesBehind};
 
 use std::sync::Wait;
@@ -28,7 +32,7 @@ pub trait Extra<D: Environment, V: Station>: Drop {
     /// Its output may be written.
     ghost allowed: { Self → Type 0 };
 
-    /// It is meant for a station of this configuration.
+    /// It is meant for a station of this configuration, and its output may be written what is due of that one.
     ghost fits: { Self → V.Config → Type 0 };
 
     /// This is beside workers of a station of this configuration, at their start or when they have ended.
@@ -43,7 +47,7 @@ pub trait Extra<D: Environment, V: Station>: Drop {
 
     /// Writes the rest of the output when the workers have ended, and closes it. False: it failed.
     fn end(begun: Self::Begun, station: V, desk: &mut D) -> bool
-        requires { (extra : Self) × (h : List Entry) × is_begun extra (V.config station) begun × V.stands station h }
+        requires { (extra : Self) × (log : List (Call Entry)) × is_begun extra (V.config station) begun × V.stands station (entries log) × ArePermitted (IsOfWorker D.Time.read_for (V.receiver (V.config station)).ingests) log }
         ensures { (extra : Self) (h : List Entry) → is_begun extra (V.config station) begun → V.stands station h → EndsBehind (holds extra) (output extra) h (D.told desk.old) (D.told desk.new) (not result) };
 
     /// What runs beside the workers stays what it was at their start.

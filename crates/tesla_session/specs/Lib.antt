@@ -1,3 +1,4 @@
 pub mod Wanted
 pub mod Session
 pub mod Allowed
+pub mod Worked

@@ -5,10 +5,10 @@ ghost use Rattle.std.specs.Option.{option_map};
 ghost use Rattle.tesla_desk.specs.Outside.{Told};
 ghost use Rattle.tesla_front.specs.OutcomeView.{stop_view};
 ghost use Rattle.tesla_turn.specs.Held.{first_pass};
-ghost use Rattle.tesla_turn.specs.History.{entries};
 ghost use Rattle.tesla_session.specs.Allowed.{MayAsk, MayAskLinks, MayReleaseAll};
 ghost use Rattle.tesla_session.specs.Wanted.{Wanted, wanted_for};
 ghost use Rattle.tesla_session.specs.Session.{AreOf, AreReady, ClosesWorkers, OpensAll, OpensWorkers, RefusedSession, RunWorkers, RunsOpened, calls_most, stop_of, workers_of};
+ghost use Rattle.tesla_session.specs.Worked.{StandsForCalls};
 
 use crate::beside::Beside;
 use crate::running::run_workers;
@@ -210,7 +210,7 @@ pub fn run_opened<R: Threads + Wait + Sync, D: Environment, V: Station + Send, B
 ) -> Ran<V>
     requires { (wanted : List Wanted) × (cfg : V.Config) × (before : Told) × (now : Told) × OpensAll wanted cfg before now session.turn session.first (workers_of session.links.items session.sinks.items) }
     ensures runs { RunsOpened session.first (workers_of session.links.items session.sinks.items) (D.told desk.old) (D.told desk.new) result.last (option_map stop_view result.stop) }
-    ensures stands { V.stands result.station (entries result.last.history) }
+    ensures stands { StandsForCalls V.config V.stands V.receiver D.Time.read_for result.station result.last.history }
     ensures config { session.first.config ≡ Some (V.config result.station) }
     ensures beside { B.did beside.old beside.new }
 {

@@ -9,8 +9,9 @@ ghost use Rattle.tesla_recorder.specs.declared.recorded.RecordedConfig.{Recorded
 ghost use Rattle.tesla_run_receive.specs.Arguments.{AreFew, workers_wanted};
 ghost use Rattle.tesla_run_receive.specs.OutputArguments.{OutputArguments, arguments_of};
 ghost use Rattle.tesla_session.specs.Allowed.{MayAsk, MayAskLinks, MayReleaseAll};
-ghost use Rattle.tesla_run_receive.specs.Allowed.{MayWriteAll, MayWriteReleased};
+ghost use Rattle.tesla_run_receive.specs.Allowed.{MayWriteReleased};
 ghost use Rattle.tesla_run_receive.specs.Running.{RunsStation};
+ghost use Rattle.tesla_run_receive.specs.record.Allowed.{MayWriteTail, MayWriteTailOf};
 ghost use Rattle.tesla_run_receive.specs.record.Arguments.{IsRecord};
 ghost use Rattle.tesla_run_receive.specs.record.Record.{HoldsTail, recording};
 
@@ -40,7 +41,7 @@ pub fn run_record<R: Threads + Wait + Sync, D: Environment>(
     requires asked { MayAsk D.Wire.brought D.Time.may_ask }
     requires any_link { MayAskLinks D.Wire.may_ask }
     requires released { (arguments : OutputArguments) → IsRecord arguments (map string_bytes words.now) → MayWriteReleased D.Pieces.name D.Pieces.written D.Pieces.may_write D.Time.read_for arguments.receive (D.told desk.old) }
-    requires output { (arguments : OutputArguments) → IsRecord arguments (map string_bytes words.now) → MayWriteAll D.Pieces.name D.Pieces.may_write arguments.output }
+    requires output { (arguments : OutputArguments) → IsRecord arguments (map string_bytes words.now) → MayWriteTail D.Pieces.name D.Pieces.written D.Pieces.may_write D.Time.read_for arguments (D.told desk.old) }
     ensures runs { RunsAs (recording (D.told desk.old).live (D.told desk.new).live result.last) (map string_bytes words.now) (D.told desk.old) (D.told desk.new) (outcome_view result.outcome) }
     ensures none { outcome_view result.outcome ≡ Usage → result.last ≡ None }
 {
@@ -67,7 +68,7 @@ fn perform<R: Threads + Wait + Sync, D: Environment>(
     requires asked { MayAsk D.Wire.brought D.Time.may_ask }
     requires any_link { MayAskLinks D.Wire.may_ask }
     requires released { MayWriteReleased D.Pieces.name D.Pieces.written D.Pieces.may_write D.Time.read_for (arguments_of arguments.now).receive (D.told desk.old) }
-    requires output { MayWriteAll D.Pieces.name D.Pieces.may_write (arguments_of arguments.now).output }
+    requires output { MayWriteTail D.Pieces.name D.Pieces.written D.Pieces.may_write D.Time.read_for (arguments_of arguments.now) (D.told desk.old) }
     ensures { Performs (recording (D.told desk.old).live (D.told desk.new).live result.1) (arguments_of arguments.now) (D.told desk.old) (D.told desk.new) (result_view result.0) }
 {
     match receiver_under(alloc, &arguments.receive, desk) {
@@ -91,7 +92,7 @@ fn run_recorded<R: Threads + Wait + Sync, D: Environment>(
     requires asked { MayAsk D.Wire.brought D.Time.may_ask }
     requires any_link { MayAskLinks D.Wire.may_ask }
     requires released { MayReleaseAll D.Pieces.name D.Pieces.written D.Pieces.may_write D.Time.read_for receiver.config 0 (arguments_of arguments.now).receive.sinks }
-    requires output { MayWriteAll D.Pieces.name D.Pieces.may_write arguments.now.output.now }
+    requires output { MayWriteTailOf D.Pieces.name D.Pieces.written D.Pieces.may_write D.Time.read_for receiver.config arguments.now.number arguments.now.output.now }
     ensures { (cfg : RecordedConfig Config) × RunsStation (HoldsTail arguments.now.number) (Some arguments.now.output.now) receiver.config (workers_wanted (arguments_of arguments.now).receive) cfg (D.told desk.old) (D.told desk.new) result.1 (result_view result.0) }
 {
     let Ok(recorded) = Recorded::open(alloc, receiver, arguments.number) else {

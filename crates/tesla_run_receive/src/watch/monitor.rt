@@ -87,6 +87,10 @@ impl<D: Environment> Extra<D, Watched> for Monitoring<'_> {
     ghost use Rattle.tesla_receiver.specs.declared.history.Entry.{Entry};
     ghost use Rattle.tesla_recorder.specs.watched.Counts.{no_counts};
     ghost use Rattle.tesla_recorder.specs.watched.Watched.{WatchedStands};
+    ghost use Rattle.tesla_shared.specs.Due.{IsOfWorker};
+    ghost use Rattle.tesla_turn.specs.History.{entries};
+    ghost use Rattle.tesla_turn.specs.Permitted.{ArePermitted};
+    ghost use Rattle.tesla_turn.specs.declared.view.Call.{Call};
     ghost use Rattle.tesla_run_receive.specs.Running.{EndsBehind};
     ghost use Rattle.tesla_run_receive.specs.watch.Allowed.{MayWriteLines};
     ghost use Rattle.tesla_run_receive.specs.watch.Watch.{HoldsStatus};
@@ -125,7 +129,7 @@ impl<D: Environment> Extra<D, Watched> for Monitoring<'_> {
 
     // The last line is written.
     fn end(begun: Monitor<D::Pieces, D::Time>, station: Watched, desk: &mut D) -> bool
-        requires { (extra : Monitoring) × (h : List Entry) × IsMonitored extra.status.now station.counters (D.Pieces.name begun.status.sink) begun.reader.counters begun.reader.counts (D.Pieces.written begun.status.sink) (D.Pieces.faults begun.status.sink) begun.status.failed × WatchedStands Stands station h }
+        requires { (extra : Monitoring) × (log : List (Call Entry)) × IsMonitored extra.status.now station.counters (D.Pieces.name begun.status.sink) begun.reader.counters begun.reader.counts (D.Pieces.written begun.status.sink) (D.Pieces.faults begun.status.sink) begun.status.failed × WatchedStands Stands station (entries log) × ArePermitted (IsOfWorker D.Time.read_for station.station.config.ingests) log }
         ensures { (extra : Monitoring) (h : List Entry) → IsMonitored extra.status.now station.counters (D.Pieces.name begun.status.sink) begun.reader.counters begun.reader.counts (D.Pieces.written begun.status.sink) (D.Pieces.faults begun.status.sink) begun.status.failed → WatchedStands Stands station h → EndsBehind HoldsStatus (Some extra.status.now) h (D.told desk.old) (D.told desk.new) (not result) }
     {
         let mut station = station;

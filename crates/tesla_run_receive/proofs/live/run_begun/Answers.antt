@@ -18,7 +18,7 @@ end-written-requires g c =
     let first = opened_same wanted cfg before now session.turn session.first (workers_of session.links.items session.sinks.items) opens in
     let configured : Some cfg ≡ Some (g.V.Chronicle.config ran.result.station) = sym first.config ∙ ran.ensures.config in
     let same : cfg ≡ g.V.Chronicle.config ran.result.station = cc in
-    (extra, entries ran.result.last.history, subst (λ own. g.E.Extra.is_begun extra own ran.new.beside) same (g.met.E.Extra.still extra cfg _ _ ran.ensures.beside begun), ran.ensures.stands)
+    (extra, ran.result.last.history, subst (λ own. g.E.Extra.is_begun extra own ran.new.beside) same (g.met.E.Extra.still extra cfg _ _ ran.ensures.beside begun), ran.ensures.stands.stood, ran.ensures.stands.calls)
 
 pub returns : goal.returns
 returns g c cfg extra first begun =
@@ -34,8 +34,8 @@ returns g c cfg extra first begun =
       stop = option_map stop_view ran.result.stop;
       ran = runs;
       failed = not c.end-written.result;
-      ends = c.end-written.ensures extra history (subst (λ own. g.E.Extra.is_begun extra own ran.new.beside) same (g.met.E.Extra.still extra cfg _ _ ran.ensures.beside begun)) ran.ensures.stands;
+      ends = c.end-written.ensures extra history (subst (λ own. g.E.Extra.is_begun extra own ran.new.beside) same (g.met.E.Extra.still extra cfg _ _ ran.ensures.beside begun)) ran.ensures.stands.stood;
       last_is = refl;
-      legal = subst (λ own. IsLegal (g.V.Station.receiver own) history) (sym same) (c.report_in-report.ensures.legal history ran.ensures.stands);
-      outcome_is = outcome_as _ (option_map stop_view c.stop_with.result) _ (report_text c.report_in-report.result) _ c.ended.ensures stop (ap report_text (c.report_in-report.ensures.report history ran.ensures.stands));
+      legal = subst (λ own. IsLegal (g.V.Station.receiver own) history) (sym same) (c.report_in-report.ensures.legal history ran.ensures.stands.stood);
+      outcome_is = outcome_as _ (option_map stop_view c.stop_with.result) _ (report_text c.report_in-report.result) _ c.ended.ensures stop (ap report_text (c.report_in-report.ensures.report history ran.ensures.stands.stood));
     }

@@ -3,6 +3,7 @@ use Rattle.tesla_turn.specs.Held.{TurnId}
 use Rattle.tesla_turn.specs.History.{HasCalls}
 use Rattle.tesla_session.specs.Session.{AreOf, ClosesWorkers, workers_of}
 use Rattle.tesla_session.proofs.Sessions.{closes_same, opened_of, opened_ready, opened_same, runs_of}
+use Rattle.tesla_session.specs.Worked.{StandsForCalls}
 use Rattle.tesla_session.proofs.engine.run_opened.Goals as goal
 
 pub run_all-stop-requires-clause-own : goal.run_all-stop-requires-clause-own
@@ -69,6 +70,14 @@ returns-clause-runs g c =
       calls = subst (λ last. HasCalls last.history last.passes) (sym c.of_value.ensures) c.close-station.ensures.calls;
       stop_is = c.run_all-stop.ensures.stop;
     }
+
+pub returns-clause-stands : goal.returns-clause-stands
+returns-clause-stands g c =
+    let closed = c.close-station in
+    let read_for = g.D.Time.Clock.read_for in
+    subst (λ station. StandsForCalls g.V.Chronicle.config g.V.Chronicle.stands g.V.Station.receiver read_for station c.of_value.result.history) (sym c.into_station.ensures)
+    (subst (λ last. StandsForCalls g.V.Chronicle.config g.V.Chronicle.stands g.V.Station.receiver read_for closed.result.0.station last.history) (sym c.of_value.ensures)
+    (record { stood = closed.ensures.value.0; calls = closed.ensures.permitted }))
 
 pub returns-clause-config : goal.returns-clause-config
 returns-clause-config g c =

@@ -1,8 +1,10 @@
-use Rattle.std.proofs.Common.{Some, refl}
+use Rattle.std.proofs.Common.{Some, refl, subst, sym}
+use Rattle.tesla_fitting.specs.declared.config.Config.{Config}
 use Rattle.tesla_run_receive.proofs.Allowed.{releases_all}
 use Rattle.tesla_run_receive.proofs.Performed.{lives_none, lives_run, performs_with, runs_as}
 use Rattle.tesla_run_receive.specs.Arguments.{workers_wanted}
 use Rattle.tesla_run_receive.specs.OutputArguments.{arguments_of}
+use Rattle.tesla_run_receive.specs.record.Allowed.{MayWriteTailOf}
 use Rattle.tesla_run_receive.specs.record.Record.{form_of_record}
 use Rattle.tesla_run_receive.proofs.record.record.perform.Goals as goal
 
@@ -10,6 +12,12 @@ pub run_recorded-requires-clause-released : goal.run_recorded-requires-clause-re
 run_recorded-requires-clause-released g c κs within =
     let (setup, found, config) = c.in-Ok.ensures.found in
     releases_all g.D.Pieces.Output.name g.D.Pieces.Output.written g.D.Pieces.Output.may_write g.D.Time.Clock.read_for (arguments_of c.args.arguments.now).receive (g.D.Environment.told c.args.desk.now) setup c.in-Ok.receiver.config found config c.requires.released
+
+pub run_recorded-requires-clause-output : goal.run_recorded-requires-clause-output
+run_recorded-requires-clause-output g c κs within =
+    let arguments = arguments_of c.args.arguments.now in
+    let (setup, found, config) = c.in-Ok.ensures.found in
+    subst (λ (cfg : Config). MayWriteTailOf g.D.Pieces.Output.name g.D.Pieces.Output.written g.D.Pieces.Output.may_write g.D.Time.Clock.read_for cfg arguments.number arguments.output) (sym config) (c.requires.output setup found)
 
 pub returns-in-Ok : goal.returns-in-Ok
 returns-in-Ok g c =

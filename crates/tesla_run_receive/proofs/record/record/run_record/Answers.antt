@@ -7,6 +7,9 @@ use Rattle.tesla_run_receive.proofs.record.record.run_record.Goals as goal
 pub perform-outcome-requires-clause-released : goal.perform-outcome-requires-clause-released
 perform-outcome-requires-clause-released g c κs within = c.requires.released (arguments_of c.in-Some.arguments) c.in-Some.ensures.found
 
+pub perform-outcome-requires-clause-output : goal.perform-outcome-requires-clause-output
+perform-outcome-requires-clause-output g c κs within = c.requires.output (arguments_of c.in-Some.arguments) c.in-Some.ensures.found
+
 pub returns-in-Some-clause-runs : goal.returns-in-Some-clause-runs
 returns-in-Some-clause-runs g c =
     let old = g.D.Environment.told c.args.desk.now in

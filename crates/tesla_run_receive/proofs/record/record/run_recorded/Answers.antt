@@ -1,9 +1,17 @@
-use Rattle.std.proofs.Common.{ap, inl, refl}
+use Rattle.std.proofs.Common.{ap, inl, refl, subst, sym}
 use Rattle.tesla_run_receive.proofs.Performed.{runs_as}
 use Rattle.tesla_run_receive.specs.Arguments.{workers_wanted}
 use Rattle.tesla_run_receive.specs.OutputArguments.{arguments_of}
+use Rattle.tesla_run_receive.specs.record.Allowed.{MayWriteTailOf}
 use Rattle.tesla_state.specs.State.{State}
 use Rattle.tesla_run_receive.proofs.record.record.run_recorded.Goals as goal
+
+pub run_station-requires-clause-fits : goal.run_station-requires-clause-fits
+run_station-requires-clause-fits g c κs within =
+    let arguments = c.args.arguments.now in (
+      c.in-Ok.ensures.keep,
+      subst (λ (state : State). MayWriteTailOf g.D.Pieces.Output.name g.D.Pieces.Output.written g.D.Pieces.Output.may_write g.D.Time.Clock.read_for state.config arguments.number arguments.output.now) (sym c.in-Ok.ensures.station) c.requires.output,
+    )
 
 pub returns : goal.returns
 returns g c =

@@ -1,9 +1,28 @@
 use Rattle.std.proofs.Common.{◌≡◌, ◌∙◌, ℕ, false, List, subst}
 use Rattle.tesla_desk.specs.Faults.{HasCause}
 use Rattle.tesla_desk.specs.Outside.{ClosesSink, page_of}
-use Rattle.tesla_run_receive.specs.record.Record.{HoldsTail}
+use Rattle.tesla_turn.specs.History.{entries}
+use Rattle.tesla_run_receive.specs.record.Allowed.{GoesOn}
+use Rattle.tesla_run_receive.specs.record.Record.{HoldsTail, tail_of}
 use Rattle.tesla_run_receive.proofs.record.Tailed.{fails_unwritten, holds_tail}
 use Rattle.tesla_run_receive.proofs.record.tail.TailExtraRecorded.end.Goals as goal
+
+pub write_tail-written-requires-clause-empty : goal.write_tail-written-requires-clause-empty
+write_tail-written-requires-clause-empty g c =
+    let (extra, log, begun, stands, calls) = c.requires in begun.0.1
+
+pub write_tail-written-requires-clause-allowed : goal.write_tail-written-requires-clause-allowed
+write_tail-written-requires-clause-allowed g c =
+    let (extra, log, begun, stands, calls) = c.requires in (
+      entries log,
+      stands,
+      λ it piece named goes. begun.1 it piece (named ∙ begun.0.3) (record {
+        log = log;
+        legal = stands.stood.legal;
+        calls = calls;
+        goes_on = subst (λ (n : ℕ). GoesOn (tail_of n (entries log)) (g.D.Pieces.Output.written it) piece) begun.0.0 goes;
+      }),
+    )
 
 pub returns : goal.returns
 returns g c extra h begun stands =

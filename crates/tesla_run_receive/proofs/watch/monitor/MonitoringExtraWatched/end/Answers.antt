@@ -4,6 +4,7 @@ use Rattle.tesla_desk.specs.Outside.{ClosesSink}
 use Rattle.tesla_receiver.specs.Stands.{Stands}
 use Rattle.tesla_recorder.specs.watched.Counts.{NoneFalls}
 use Rattle.tesla_recorder.specs.watched.Watched.{WatchedStands}
+use Rattle.tesla_turn.specs.History.{entries}
 use Rattle.std.proofs.Math.Logic.{∥∥₁_elim}
 use mathlib.Core.Bool.{Bool-set}
 use Rattle.tesla_run_receive.specs.watch.Allowed.{IsNextLine}
@@ -20,13 +21,13 @@ not_not false = refl
 
 pub put-requires : goal.put-requires
 put-requires g c =
-    let (extra, h, begun, stands) = c.requires in
+    let (extra, log, begun, stands, calls) = c.requires in
     let monitor = c.args.begun in
     let old = monitor.status in
     let counts = c.counts.result in
     let gave = g.D.Time.Clock.gave in
-    let after = subst (λ s. WatchedStands Stands s h) (sym c.compare.ensures.same) stands in
-    let counted = c.counts.ensures h after in
+    let after = subst (λ s. WatchedStands Stands s (entries log)) (sym c.compare.ensures.same) stands in
+    let counted = c.counts.ensures (entries log) after in
     let falls : NoneFalls monitor.reader.counts counts = subst (λ (cs : List ℕ). NoneFalls monitor.reader.counts cs) (stands.counted ∙ sym counted) c.compare.ensures.below in
     record {
       allowed = λ still. ∥∥₁_elim monitor.noted (Bool-set _ _) (λ are. monitor.allowed _ _ refl
