@@ -1,5 +1,7 @@
 mod Counting
 pub mod Kept
+mod Given
+mod Noted
 mod Going
 mod Whole
 mod Permitted

@@ -1,30 +1,22 @@
 -- What may be sent, as events come one after another.
 use Rattle.std.proofs.Common.{◌≡◌, ◌∙◌, ℕ, Bool, true, false, IfSome, List, [], ◌∷◌, ◌++◌, length, map, take, Option, Some, None, refl, sym, ap, subst, arith}
-use Rattle.std.specs.List.{Contains, fold}
+use Rattle.std.specs.List.{Contains}
 use Rattle.std.proofs.lemmas.List.{take_all}
 use Rattle.std.proofs.lemmas.List.Elements.{Contains-append_left, Contains-append_right, Contains-push}
-use Rattle.std.proofs.lemmas.List.Sums.{fold-append}
 use Rattle.tesla_desk.specs.Clocks.{Ticking}
 use Rattle.tesla_relay.specs.Opened.{post_name}
 use Rattle.tesla_relay.specs.Posts.{PostSeen, with_datagrams}
 use Rattle.tesla_sender.specs.Made.{Call, Stream}
-use Rattle.tesla_feed.specs.Due.{AreGiven, AreUnsent, IsDue, IsGiven, MaySendDue, datagrams_by}
-use Rattle.tesla_feed.specs.Fed.{Event, Feeding, after_event, datagram_of, datagrams_of, fed, first_interval, has_ended, nothing_fed}
+use Rattle.tesla_feed.specs.Due.{AreUnsent, IsDue, IsGiven, IsWholeGiven, MayNoteAll, MaySendDue, datagrams_by}
+use Rattle.tesla_feed.specs.Fed.{Event, Feeding, after_event, counts_of, datagram_of, datagrams_of, fed, first_interval, has_ended, nothing_fed, reading_of}
 use Rattle.tesla_feed.specs.Feed.{SendPosts, SendsPost}
-use Rattle.tesla_feed.specs.Steps.{Awaits, ComesOfGiven, Goes, GoesOn, MayHand, MayTake, StandsFor, fed_after}
+use Rattle.tesla_feed.specs.Notes.{Note, notes_from}
+use Rattle.tesla_feed.specs.Steps.{Awaits, ComesOfGiven, Goes, GoesOn, MayHand, MayTake, NotesOn, StandsFor, fed_after}
 use Rattle.tesla_feed.specs.declared.feeder.Feeder.{Feeder}
-use Rattle.tesla_feed.proofs.Going.{MakesNext, TakesEvent, datagrams_added, fed_more, goes_next, takes_as}
+use Rattle.tesla_feed.proofs.Given.{all_given, all_made}
+use Rattle.tesla_feed.proofs.Going.{MakesNext, TakesEvent, datagrams_added, goes_next, takes_as}
+use Rattle.tesla_feed.proofs.Noted.{noting_may, noting_more}
 use Rattle.tesla_feed.proofs.Whole.{lasting_fed, of_equal}
-
--- ---- readings that the clock gave
-
--- one event more
-given_more : (gave : ℕ → Bool) (read_for : ℕ → List ℕ → ℕ → Bool) (number : ℕ) (events : List Event) (event : Event)
-    → AreGiven gave read_for number events → IsGiven gave read_for (fold datagrams_by number events) event
-    → AreGiven gave read_for number (events ++ event ∷ [])
-given_more gave read_for number [] event given one = (one, tt)
-given_more gave read_for number (first ∷ events) event given one =
-    (given.0, given_more gave read_for (datagrams_by number first) events event given.1 one)
 
 -- ---- what a post may send
 
@@ -73,29 +65,6 @@ module _ {P : Type 0} (seen : P → PostSeen) (may_send : P → List ℕ → Boo
 module _ (gave : ℕ → Bool) (read_for : ℕ → List ℕ → ℕ → Bool) (stream : Stream) (first number : ℕ) (made : Feeding)
     (event : Event) (comes : ComesOfGiven gave read_for stream first number made)
     (given : IsGiven gave read_for number event) where
-  -- the events and this one
-  all_given : AreGiven gave read_for 0 (comes.events ++ event ∷ [])
-  all_given = given_more gave read_for 0 comes.events event comes.given
-      (subst (λ (n : ℕ). IsGiven gave read_for n event) (sym comes.number_is) given)
-
-  all_made : fed_after stream first nothing_fed (comes.events ++ event ∷ []) ≡ after_event stream first made event
-  all_made = fed_more stream first nothing_fed comes.events event
-      ∙ ap (λ (m : Feeding). after_event stream first m event) comes.made_is
-
-  pub comes_more : ComesOfGiven gave read_for stream first (datagrams_by number event)
-      (after_event stream first made event)
-  comes_more = record {
-    opening = comes.opening;
-    opened = comes.opened;
-    lasts = comes.lasts;
-    first_is = comes.first_is;
-    events = comes.events ++ event ∷ [];
-    given = all_given;
-    number_is = fold-append datagrams_by 0 comes.events (event ∷ [])
-        ∙ ap (λ (n : ℕ). datagrams_by n event) comes.number_is;
-    made_is = all_made;
-  }
-
   -- the frame that the event adds is due at a post that sent all before it
   frame_due : (call : Call) (datagram : List ℕ) (sent : Option (List (List ℕ)))
       → (after_event stream first made event).log ≡ made.log ++ call ∷ []
@@ -105,12 +74,13 @@ module _ (gave : ℕ → Bool) (read_for : ℕ → List ℕ → ℕ → Bool) (s
       let events = comes.events ++ event ∷ [] in
       let whole : fed stream comes.opening events ≡ after_event stream first made event =
       lasting_fed stream comes.opening events comes.lasts
-      ∙ ap (λ (f : ℕ). fed_after stream f nothing_fed events) comes.first_is ∙ all_made in
+      ∙ ap (λ (f : ℕ). fed_after stream f nothing_fed events) comes.first_is
+      ∙ all_made gave read_for stream first number made event comes given in
       record {
         opening = comes.opening;
         opened = comes.opened;
         events = events;
-        given = all_given;
+        given = all_given gave read_for stream first number made event comes given;
         before = datagrams_of stream made.log;
         last = ap (λ (m : Feeding). datagrams_of stream m.log) whole
             ∙ datagrams_added stream made.log (after_event stream first made event).log call datagram adds is;
@@ -119,15 +89,17 @@ module _ (gave : ℕ → Bool) (read_for : ℕ → List ℕ → ℕ → Bool) (s
 
 -- ---- a feed that goes on
 
-module _ {P : Type 0} (seen : P → PostSeen) (may_send : P → List ℕ → Bool) (gave : ℕ → Bool)
-    (read_for : ℕ → List ℕ → ℕ → Bool) (stream : Stream) (first number : ℕ) (feeder : Feeder) (posts : List P)
-    (failed : List Bool) (on : GoesOn seen may_send gave read_for stream first number feeder posts failed) where
+module _ {P N : Type 0} (seen : P → PostSeen) (may_send : P → List ℕ → Bool) (was_told : N → List Note → Type 0) (may_note : N → Note → Bool)
+    (gave : ℕ → Bool) (read_for : ℕ → List ℕ → ℕ → Bool) (stream : Stream) (first number : ℕ) (feeder : Feeder) (posts : List P)
+    (failed : List Bool) (notes : N)
+    (on : GoesOn seen may_send was_told may_note gave read_for stream first number feeder posts failed notes) where
   -- told by the feeder's own stream and first interval
-  pub goes_on_own : GoesOn seen may_send gave read_for feeder.sender.stream feeder.first number feeder posts failed
+  pub goes_on_own : GoesOn seen may_send was_told may_note gave read_for feeder.sender.stream feeder.first number feeder posts
+      failed notes
   goes_on_own =
       let stands = on.goes.stands in
-      of_equal (λ s f. GoesOn seen may_send gave read_for s f number feeder posts failed) stream feeder.sender.stream
-      first feeder.first (sym stands.stream_is) (sym stands.first_is) on
+      of_equal (λ s f. GoesOn seen may_send was_told may_note gave read_for s f number feeder posts failed notes) stream
+      feeder.sender.stream first feeder.first (sym stands.stream_is) (sym stands.first_is) on
 
   -- the frame that an event adds may be sent
   pub may_take : (event : Event) → IsGiven gave read_for number event
@@ -141,60 +113,78 @@ module _ {P : Type 0} (seen : P → PostSeen) (may_send : P → List ℕ → Boo
         permitted = λ call datagram adds is. may_hand seen may_send (datagrams_of stream on.made.log) datagram
             on.first_posts (map post_name on.first_posts) posts failed
             (λ post named all. on.due post datagram named
-            (frame_due gave read_for stream first number on.made event on.comes given call datagram
+            (frame_due gave read_for stream first number on.made event on.noting.comes given call datagram
             (seen post).sent adds is all))
             (λ name has. has) on.unsent on.goes.sends;
       } in
       of_equal (λ s f. MayTake may_send s f feeder (λ made. after_event s f made event) posts failed) stream
       feeder.sender.stream first feeder.first (sym stands.stream_is) (sym stands.first_is) it
 
-  -- an event more came
-  pub goes_on_more : (event : Event) (now : Feeder) (posts_now : List P) (failed_now : List Bool)
-      → IsGiven gave read_for number event
-      → TakesEvent event feeder now (map seen posts) (map seen posts_now) failed failed_now
-      → GoesOn seen may_send gave read_for stream first (datagrams_by number event) now posts_now failed_now
-  goes_on_more event now posts_now failed_now given takes = record {
-    first_posts = on.first_posts;
-    unsent = on.unsent;
-    due = on.due;
-    made = after_event stream first on.made event;
-    comes = comes_more gave read_for stream first number on.made event on.comes given;
-    goes = takes_as stream first event on.made on.first_posts feeder now (map seen posts) (map seen posts_now) failed
-        failed_now takes on.goes;
-  }
+  module _ (event : Event) (now : Feeder) (posts_now : List P) (failed_now : List Bool) (given : IsGiven gave read_for number event)
+      (takes : TakesEvent event feeder now (map seen posts) (map seen posts_now) failed failed_now) where
+    takes_now : Goes stream first (after_event stream first on.made event) on.first_posts now (map seen posts_now) failed_now
+    takes_now = takes_as stream first event on.made on.first_posts feeder now (map seen posts) (map seen posts_now) failed
+        failed_now takes on.goes
+
+    -- the counts behind an event may be told
+    pub may_tell : may_note notes (record { reading = reading_of event; counts = now.counts }) ≡ true
+    may_tell = noting_may was_told may_note gave read_for stream first number on.made notes on.noting event given now.counts
+        takes_now.stands.counts
+
+    -- an event more came, and they were
+    pub goes_on_more : (notes_now : N)
+        → ((before : List Note) → was_told notes before
+        → was_told notes_now (before ++ record { reading = reading_of event; counts = now.counts } ∷ []))
+        → GoesOn seen may_send was_told may_note gave read_for stream first (datagrams_by number event) now posts_now failed_now
+        notes_now
+    goes_on_more notes_now noted = record {
+      first_posts = on.first_posts;
+      unsent = on.unsent;
+      due = on.due;
+      made = after_event stream first on.made event;
+      noting = noting_more was_told may_note gave read_for stream first number on.made notes on.noting event given now.counts
+          takes_now.stands.counts notes_now noted;
+      goes = takes_now;
+    }
+
+  -- all counts are those of what came
+  pub whole_given : IsWholeGiven gave read_for stream feeder.counts (was_told notes)
+  whole_given =
+      let comes = on.noting.comes in
+      record {
+        opening = comes.opening;
+        opened = comes.opened;
+        lasts = comes.lasts;
+        events = comes.events;
+        given = comes.given;
+        noted = subst (λ (f : ℕ). was_told notes (notes_from stream f nothing_fed comes.events)) (sym comes.first_is)
+            on.noting.noted;
+        counts_are = on.goes.stands.counts
+            ∙ ap counts_of (sym (lasting_fed stream comes.opening comes.events comes.lasts
+            ∙ ap (λ (f : ℕ). fed_after stream f nothing_fed comes.events) comes.first_is ∙ comes.made_is));
+      }
 
   -- the next keys were made
   pub goes_on_next : (now : Feeder) → MakesNext feeder now
-      → GoesOn seen may_send gave read_for stream first number now posts failed
+      → GoesOn seen may_send was_told may_note gave read_for stream first number now posts failed notes
   goes_on_next now next = record {
     first_posts = on.first_posts;
     unsent = on.unsent;
     due = on.due;
     made = on.made;
-    comes = on.comes;
+    noting = on.noting;
     goes = goes_next stream first on.made on.first_posts feeder now (map seen posts) failed next on.goes;
   }
 
--- a feed was opened, and its first interval has begun
-pub goes_on_begun : {P : Type 0} (seen : P → PostSeen) (may_send : P → List ℕ → Bool) (gave : ℕ → Bool)
-    (read_for : ℕ → List ℕ → ℕ → Bool) (stream : Stream) (opening : ℕ) (opened begun : Feeder) (posts : List P)
-    (failed : List Bool) (before after : Option Ticking)
-    → gave opening ≡ true → has_ended stream opening ≡ false → AreUnsent (map seen posts)
-    → MaySendDue seen may_send gave read_for (map post_name (map seen posts)) stream
-    → StandsFor stream (first_interval stream.setup.times opening) opened nothing_fed → Awaits opened begun before after
-    → Goes begun.sender.stream begun.first nothing_fed (map seen posts) begun (map seen posts) failed
-    → GoesOn seen may_send gave read_for begun.sender.stream begun.first 0 begun posts failed
-goes_on_begun seen may_send gave read_for stream opening opened begun posts failed before after given lasts unsent due
-    stands awaits goes =
+-- a feed was opened, and nothing was told of it
+pub noting_opened : {N : Type 0} (was_told : N → List Note → Type 0) (may_note : N → Note → Bool) (gave : ℕ → Bool)
+    (read_for : ℕ → List ℕ → ℕ → Bool) (stream : Stream) (opening : ℕ) (opened : Feeder) (notes : N)
+    → gave opening ≡ true → has_ended stream opening ≡ false → was_told notes [] → MayNoteAll was_told may_note gave read_for stream
+    → StandsFor stream (first_interval stream.setup.times opening) opened nothing_fed
+    → NotesOn was_told may_note gave read_for opened.sender.stream opened.first 0 nothing_fed notes
+noting_opened was_told may_note gave read_for stream opening opened notes given lasts untold may stands =
     let from = first_interval stream.setup.times opening in
-    let same_stream : begun.sender.stream ≡ stream =
-    ap (λ (f : Feeder). f.sender.stream) awaits.same ∙ stands.stream_is in
-    let same_first : begun.first ≡ from = ap (λ (f : Feeder). f.first) awaits.same ∙ stands.first_is in
-    let on : GoesOn seen may_send gave read_for stream from 0 begun posts failed = record {
-      first_posts = map seen posts;
-      unsent = unsent;
-      due = due;
-      made = nothing_fed;
+    let on : NotesOn was_told may_note gave read_for stream from 0 nothing_fed notes = record {
       comes = record {
         opening = opening;
         opened = given;
@@ -205,7 +195,33 @@ goes_on_begun seen may_send gave read_for stream opening opened begun posts fail
         number_is = refl;
         made_is = refl;
       };
-      goes = of_equal (λ s f. Goes s f nothing_fed (map seen posts) begun (map seen posts) failed) begun.sender.stream
-          stream begun.first from same_stream same_first goes;
+      noted = untold;
+      may = may;
     } in
-    goes_on_own seen may_send gave read_for stream from 0 begun posts failed on
+    of_equal (λ s f. NotesOn was_told may_note gave read_for s f 0 nothing_fed notes) stream opened.sender.stream from opened.first
+    (sym stands.stream_is) (sym stands.first_is) on
+
+-- and its first interval has begun
+pub goes_on_begun : {P N : Type 0} (seen : P → PostSeen) (may_send : P → List ℕ → Bool) (was_told : N → List Note → Type 0)
+    (may_note : N → Note → Bool) (gave : ℕ → Bool) (read_for : ℕ → List ℕ → ℕ → Bool) (stream : Stream) (opening : ℕ)
+    (opened begun : Feeder) (posts : List P) (failed : List Bool) (notes : N) (before after : Option Ticking)
+    (told is_told : List Note → Type 0)
+    → AreUnsent (map seen posts) → MaySendDue seen may_send gave read_for (map post_name (map seen posts)) stream
+    → StandsFor stream (first_interval stream.setup.times opening) opened nothing_fed → Awaits opened begun before after told is_told
+    → NotesOn was_told may_note gave read_for opened.sender.stream opened.first 0 nothing_fed notes
+    → Goes begun.sender.stream begun.first nothing_fed (map seen posts) begun (map seen posts) failed
+    → GoesOn seen may_send was_told may_note gave read_for begun.sender.stream begun.first 0 begun posts failed notes
+goes_on_begun seen may_send was_told may_note gave read_for stream opening opened begun posts failed notes before after told is_told
+    unsent due stands awaits noting goes =
+    let same_stream : begun.sender.stream ≡ opened.sender.stream = ap (λ (f : Feeder). f.sender.stream) awaits.same in
+    let same_first : begun.first ≡ opened.first = ap (λ (f : Feeder). f.first) awaits.same in
+    record {
+      first_posts = map seen posts;
+      unsent = unsent;
+      due = subst (λ (s : Stream). MaySendDue seen may_send gave read_for (map post_name (map seen posts)) s)
+          (sym (same_stream ∙ stands.stream_is)) due;
+      made = nothing_fed;
+      noting = of_equal (λ s f. NotesOn was_told may_note gave read_for s f 0 nothing_fed notes) opened.sender.stream
+          begun.sender.stream opened.first begun.first (sym same_stream) (sym same_first) noting;
+      goes = goes;
+    }

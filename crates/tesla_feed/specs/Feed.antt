@@ -10,6 +10,7 @@ use Rattle.tesla_relay.specs.Posts.{PostSeen, with_datagrams}
 use Rattle.tesla_sender.specs.Made.{Stream}
 use Rattle.tesla_sender.specs.Stands.{Stands}
 use Rattle.tesla_feed.specs.Fed.{Event, Received, Rested, Feeding, after_event, counts_of, datagrams_of, fed, first_interval, has_begun, is_all_disclosed, has_ended, is_unread, reading_of}
+use Rattle.tesla_feed.specs.Notes.{Note, notes_of}
 use Rattle.tesla_feed.specs.declared.feeding.FeedEnd.{FeedEnd}
 use Rattle.tesla_feed.specs.declared.opening.OpenFeed.{OpenFeed}
 
@@ -73,8 +74,8 @@ OpensFeed stream (Some feed) before after = OpensAt feed.opening before after ×
 
 -- ---- a run
 
--- what the feed of a stream that was opened at this reading comes to, over a link that has this left before and that afterwards, with a clock that told this before and that afterwards, and posts that are seen so before and so now
-pub record Feeds (stream : Stream) (opening : ℕ) (result : FeedEnd) (left later : Option (List Letter)) (before after : Option Ticking) (posts posts_now : List PostSeen) : Type 0 where
+-- what the feed of a stream that was opened at this reading comes to, over a link that has this left before and that afterwards, with a clock that told this before and that afterwards, and posts that are seen so before and so now; it was told this of its counts
+pub record Feeds (stream : Stream) (opening : ℕ) (result : FeedEnd) (left later : Option (List Letter)) (before after : Option Ticking) (posts posts_now : List PostSeen) (was_told : List Note → Type 0) : Type 0 where
   -- the readings behind the opening: those before the first interval had begun, the first one then, and one for each event
   pub early : List ℕ
   pub begun : ℕ
@@ -94,6 +95,8 @@ pub record Feeds (stream : Stream) (opening : ℕ) (result : FeedEnd) (left late
   pub needed : AreNeeded stream (first_interval stream.setup.times opening) (fed stream opening (map received_of heard)) rests
   pub keys_disclosed : list_all has_failed failed ≡ false → is_all_disclosed stream made.log ≡ true
   pub ended : list_all has_failed failed ≡ false → result.link_failed ≡ false → IfSome later (λ rest. rest ≡ [])
+  -- what was told while it ran: each reading but the first one of the first interval, with the counts by then. Before that interval nothing is made
+  pub noted : was_told (notes_of stream opening (map rested_at early ++ events_of heard rests))
   -- what it tells
   pub counts : result.counts ≡ counts_of made
   pub some_failed : result.post_failed ≡ list_any has_failed failed

@@ -1,4 +1,5 @@
 pub mod Fed
+pub mod Notes
 pub mod Feed
 pub mod Due
 pub mod Steps

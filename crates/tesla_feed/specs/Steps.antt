@@ -13,9 +13,10 @@ use Rattle.tesla_relay.specs.Posts.{PostSeen, with_datagrams}
 use Rattle.tesla_sender.specs.Made.{Call, Chain, Stream, chains_of, index_disclosed, latest_of, messages_of, tells_all, tells_newer}
 use Rattle.tesla_sender.specs.declared.refusal.SendRefusal.{SendRefusal}
 use Rattle.tesla_sender.specs.declared.refusal.SendRefusal.TheVariants as unsent
-use Rattle.tesla_feed.specs.Due.{AreGiven, AreUnsent, MaySendDue, datagrams_by}
+use Rattle.tesla_feed.specs.Due.{AreGiven, AreUnsent, MayNoteAll, MaySendDue, datagrams_by}
 use Rattle.tesla_feed.specs.Fed.{Event, Received, Feeding, after_event, after_none, counts_of, datagram_of, datagrams_of, first_interval, has_begun, has_ended, is_unread, last_message, latest_from, nothing_fed, reading_of, disclosed_by}
 use Rattle.tesla_feed.specs.Feed.{AreNeeded, Heard, SendPosts, received_of, has_failed, letter_of, rested_at}
+use Rattle.tesla_feed.specs.Notes.{Note, notes_from}
 use Rattle.tesla_feed.specs.declared.counts.FeedCounts.{FeedCounts}
 use Rattle.tesla_feed.specs.declared.feeder.Feeder.{Feeder}
 use Rattle.tesla_feed.specs.declared.hearing.Hearing.{Hearing}
@@ -136,16 +137,22 @@ pub record Misses (before after : Option Ticking) : Type 0 where
   pub gives : Gives unread before after
   pub missed : AllByRecursion (λ reading. is_unread reading ≡ true) unread
 
--- the clock gave readings at which the feeder's first interval hadn't begun
-pub record WaitsOn (feeder now : Feeder) (before after : Option Ticking) : Type 0 where
+-- the notes of these events were told behind whatever was told before them
+abbrev pub Tells : Stream → ℕ → Feeding → List Event → (List Note → Type 0) → (List Note → Type 0) → Type 0
+Tells stream first made events was_told is_told =
+    (before : List Note) → was_told before → is_told (before ++ notes_from stream first made events)
+
+-- the clock gave readings at which the feeder's first interval hadn't begun, each of which was told
+pub record WaitsOn (feeder now : Feeder) (before after : Option Ticking) (was_told is_told : List Note → Type 0) : Type 0 where
   pub early : List ℕ
   pub gives : Gives early before after
   pub waits : AllByRecursion (λ reading. has_begun feeder.sender.stream.setup.times feeder.first reading ≡ false) early
   pub last : ℕ
   pub same : now ≡ record feeder { reading = last }
+  pub noted : Tells feeder.sender.stream feeder.first nothing_fed (map rested_at early) was_told is_told
 
--- the clock was read until the feeder's first interval had begun
-pub record Awaits (feeder now : Feeder) (before after : Option Ticking) : Type 0 where
+-- the clock was read until the feeder's first interval had begun, and each reading before that was told
+pub record Awaits (feeder now : Feeder) (before after : Option Ticking) (was_told is_told : List Note → Type 0) : Type 0 where
   pub early : List ℕ
   pub begun : ℕ
   pub gives : Gives (early ++ begun ∷ []) before after
@@ -153,6 +160,7 @@ pub record Awaits (feeder now : Feeder) (before after : Option Ticking) : Type 0
   pub begins : has_begun feeder.sender.stream.setup.times feeder.first begun ≡ true
   pub last : ℕ
   pub same : now ≡ record feeder { reading = last }
+  pub noted : Tells feeder.sender.stream feeder.first nothing_fed (map rested_at early) was_told is_told
 
 -- what these events make of what was made before
 abbrev pub fed_after : Stream → ℕ → Feeding → List Event → Feeding
@@ -170,23 +178,31 @@ pub record ComesOfGiven (gave : ℕ → Bool) (read_for : ℕ → List ℕ → �
   pub number_is : fold datagrams_by 0 events ≡ number
   pub made_is : fed_after stream first nothing_fed events ≡ made
 
+-- what was made came of such events, their notes were told and nothing else, and what follows may be told
+pub record NotesOn {N : Type 0} (was_told : N → List Note → Type 0) (may_note : N → Note → Bool) (gave : ℕ → Bool)
+    (read_for : ℕ → List ℕ → ℕ → Bool) (stream : Stream) (first number : ℕ) (made : Feeding) (notes : N) : Type 0 where
+  pub comes : ComesOfGiven gave read_for stream first number made
+  pub noted : was_told notes (notes_from stream first nothing_fed comes.events)
+  pub may : MayNoteAll was_told may_note gave read_for stream
+
 -- a feed goes on: what was made came of such events, the posts sent that and nothing else, and may send what is due
-pub record GoesOn {P : Type 0} (seen : P → PostSeen) (may_send : P → List ℕ → Bool) (gave : ℕ → Bool)
-    (read_for : ℕ → List ℕ → ℕ → Bool) (stream : Stream) (first number : ℕ) (feeder : Feeder) (posts : List P)
-    (failed : List Bool) : Type 0 where
+pub record GoesOn {P N : Type 0} (seen : P → PostSeen) (may_send : P → List ℕ → Bool) (was_told : N → List Note → Type 0)
+    (may_note : N → Note → Bool) (gave : ℕ → Bool) (read_for : ℕ → List ℕ → ℕ → Bool) (stream : Stream) (first number : ℕ)
+    (feeder : Feeder) (posts : List P) (failed : List Bool) (notes : N) : Type 0 where
   pub first_posts : List PostSeen
   pub unsent : AreUnsent first_posts
   pub due : MaySendDue seen may_send gave read_for (map post_name first_posts) stream
   pub made : Feeding
-  pub comes : ComesOfGiven gave read_for stream first number made
+  pub noting : NotesOn was_told may_note gave read_for stream first number made notes
   pub goes : Goes stream first made first_posts feeder (map seen posts) failed
 
 -- items left the link, and what they ask for was done
-pub record Hears (stream : Stream) (first : ℕ) (feeder : Feeder) (failed : List Bool) (left later : Option (List Letter)) (before after : Option Ticking) (posts posts_now : List PostSeen) : Type 0 where
+pub record Hears (stream : Stream) (first : ℕ) (feeder : Feeder) (failed : List Bool) (left later : Option (List Letter)) (before after : Option Ticking) (posts posts_now : List PostSeen) (was_told is_told : List Note → Type 0) : Type 0 where
   pub heard : List Heard
   pub gives : Gives (map reading_of (map received_of heard)) before after
   pub left_is : left ≡ after_letters (map letter_of heard) later
   pub goes : Goes stream first (fed_after stream first nothing_fed (map received_of heard)) posts feeder posts_now failed
+  pub noted : Tells stream first nothing_fed (map received_of heard) was_told is_told
 
 -- why no more items were taken
 abbrev pub StopsHearing : Hearing → List Bool → Option (List Letter) → Type 0
@@ -195,8 +211,9 @@ StopsHearing hearings.LinkFailed failed later = Unit {0}
 StopsHearing hearings.Unheard failed later = list_all has_failed failed ≡ true
 
 -- the gate rested, and what that asks for was done
-pub record Rests (stream : Stream) (first : ℕ) (made : Feeding) (first_posts : List PostSeen) (feeder : Feeder) (failed : List Bool) (before after : Option Ticking) (posts : List PostSeen) : Type 0 where
+pub record Rests (stream : Stream) (first : ℕ) (made : Feeding) (first_posts : List PostSeen) (feeder : Feeder) (failed : List Bool) (before after : Option Ticking) (posts : List PostSeen) (was_told is_told : List Note → Type 0) : Type 0 where
   pub rests : List ℕ
   pub gives : Gives (map reading_of (map rested_at rests)) before after
   pub needed : AreNeeded stream first made rests
   pub goes : Goes stream first (fed_after stream first made (map rested_at rests)) first_posts feeder posts failed
+  pub noted : Tells stream first made (map rested_at rests) was_told is_told

@@ -5,14 +5,14 @@ ghost use Rattle.tesla_desk.specs.Faults.{HasCause};
 ghost use Rattle.tesla_relay.specs.Opened.{post_name};
 ghost use Rattle.tesla_relay.specs.Posts.{PostSeen};
 ghost use Rattle.tesla_sender.specs.Stands.{Stands};
-ghost use Rattle.tesla_feed.specs.Due.{AreUnsent, MaySendDue};
+ghost use Rattle.tesla_feed.specs.Due.{AreUnsent, IsWholeGiven, MayNoteAll, MaySendDue};
 ghost use Rattle.tesla_feed.specs.Fed.{has_ended};
 ghost use Rattle.tesla_feed.specs.Feed.{Feeds};
 
 use crate::feeder::Feeder;
 use crate::hearing::{Hearing, hear_all, tell_rest, wait_to_begin};
 use crate::posts::has_one_failed;
-use crate::{FeedCounts, OpenFeed};
+use crate::{FeedCounts, Notes, OpenFeed};
 use std::sync::Wait;
 use std::sync::ledger::Ledger;
 use tesla_base::Steps;
@@ -20,6 +20,30 @@ use tesla_desk::{Clock, Gate, Link, Post};
 
 /// How many posts a feed has at most.
 pub const MOST_POSTS: usize = 32;
+
+/// What a feed goes by: the clock that it reads, the gate at which it rests, and who is told of its counts.
+#[derive(Drop)]
+pub struct Instruments<C, G, N> {
+    pub clock: C,
+    pub gate: G,
+    pub notes: N,
+    /// How many microseconds behind the last reading the counts are to be told again: at once, as long as they weren't.
+    pub rest: u64,
+}
+
+impl<C, G, N> Instruments<C, G, N> {
+    /// With these, and nothing told yet.
+    pub fn new(clock: C, gate: G, notes: N) -> Instruments<C, G, N>
+        ensures { result ≡ record { clock = clock; gate = gate; notes = notes; rest = 0 } }
+    {
+        Instruments {
+            clock,
+            gate,
+            notes,
+            rest: 0,
+        }
+    }
+}
 
 /// What a feed came to.
 #[derive(Clone, Copy, Debug, PartialEq, Eq)]
@@ -41,16 +65,18 @@ pub struct FeedEnd {
 /// on every chain. A post that fails sends no more; where all have failed the feed ends. It waits for the clock and for
 /// the link, and takes no memory.
 ///
+/// The counts are told behind each event, at its reading, and before the first interval at each reading. The link is asked to
+/// wait, and the gate to rest, at most until the next key may be due and until the counts are to be told again.
+///
 /// Also in a run that never returns, each post is sent only what is due: the frames of one log of the sender, in order
 /// and each once, made of all datagrams that the link brought, at readings that the clock gave when it was asked for
-/// them, and of keys that are due at readings that it gave.
-pub fn feed<R: Wait, L: Ledger, K: Link, C: Clock, P: Post, G: Gate>(
+/// them, and of keys that are due at readings that it gave. And only the counts of these are told, at such readings.
+pub fn feed<R: Wait, L: Ledger, K: Link, C: Clock, P: Post, G: Gate, N: Notes>(
     rt: &R,
     opened: OpenFeed,
     link: &mut K,
-    clock: &mut C,
+    instruments: &mut Instruments<C, G, N>,
     posts: &mut [P],
-    gate: &mut G,
     steps: &mut Steps<L>,
 ) -> FeedEnd
     requires fresh { Stands opened.sender [] }
@@ -64,18 +90,21 @@ pub fn feed<R: Wait, L: Ledger, K: Link, C: Clock, P: Post, G: Gate>(
     requires any_link { (link : K) → K.may_ask link ≡ true }
     requires due { let seen : P → PostSeen = λ post. record { name = P.name post; sent = P.sent post; faults = P.faults post } in
         MaySendDue seen P.may_send C.gave C.read_for (map post_name (map seen posts.old)) opened.sender.stream }
+    requires untold { N.was_told instruments.old.notes [] }
+    requires notes { MayNoteAll N.was_told N.may_note C.gave C.read_for opened.sender.stream }
     ensures feeds { let seen : List P → List PostSeen = λ posts. map (λ post. record { name = P.name post; sent = P.sent post; faults = P.faults post }) posts in
-        Feeds opened.sender.stream opened.opening result (K.left link.old) (K.left link.new) (C.told clock.old) (C.told clock.new) (seen posts.old) (seen posts.new) }
+        Feeds opened.sender.stream opened.opening result (K.left link.old) (K.left link.new) (C.told instruments.old.clock) (C.told instruments.new.clock) (seen posts.old) (seen posts.new) (N.was_told instruments.new.notes) }
+    ensures given { IsWholeGiven C.gave C.read_for opened.sender.stream result.counts (N.was_told instruments.new.notes) }
     ensures cause { HasCause (K.faults link.old) (K.faults link.new) (result.link_failed ≡ true) }
     ensures name { K.name link.new ≡ K.name link.old }
 {
     let OpenFeed { sender, opening } = opened;
     let mut feeder = Feeder::open(sender, opening, steps);
-    wait_to_begin(rt, &mut feeder, clock, gate);
+    wait_to_begin(rt, &mut feeder, instruments);
     let mut marks = [false; MOST_POSTS];
     let failed = &mut marks[..posts.len()];
-    let hearing = hear_all(rt, &mut feeder, link, clock, posts, failed, steps);
-    tell_rest(rt, &mut feeder, clock, posts, failed, gate, steps);
+    let hearing = hear_all(rt, &mut feeder, link, instruments, posts, failed, steps);
+    tell_rest(rt, &mut feeder, instruments, posts, failed, steps);
     FeedEnd {
         link_failed: hearing == Hearing::LinkFailed,
         post_failed: has_one_failed(failed),

@@ -1,15 +1,17 @@
 //! What a feed does at each event, and the two loops of it: while the link brings items, and afterwards.
 
-ghost use Rattle.std.specs.Prelude.{◌≡◌, ◌≤◌, ℕ, List, false, length, map, true};
+ghost use Rattle.std.specs.Prelude.{◌≡◌, ◌≤◌, ◌++◌, ◌∷◌, [], ℕ, List, false, length, map, true};
 ghost use Rattle.tesla_desk.specs.Faults.{HasCause};
 ghost use Rattle.tesla_relay.specs.Posts.{PostSeen};
 ghost use Rattle.std.specs.List.{list_all};
 ghost use Rattle.tesla_feed.specs.Feed.{has_failed};
-ghost use Rattle.tesla_feed.specs.Fed.{Feeding, nothing_fed};
-ghost use Rattle.tesla_feed.specs.Steps.{Awaits, Goes, GoesOn, Hears, MayTake, Rests, StopsHearing, StandsFor, is_disclosed_after, after_item, bytes_in};
+ghost use Rattle.tesla_feed.specs.Fed.{Feeding, counts_of, nothing_fed};
+ghost use Rattle.tesla_feed.specs.Notes.{Note};
+ghost use Rattle.tesla_feed.specs.Steps.{Awaits, Goes, GoesOn, Hears, MayTake, NotesOn, Rests, StopsHearing, StandsFor, is_disclosed_after, after_item, bytes_in};
 
 use crate::feeder::Feeder;
 use crate::posts::{hand, have_all_failed};
+use crate::{Instruments, Notes};
 use std::sync::Wait;
 use std::sync::ledger::Ledger;
 use tesla_base::{MOST_DATAGRAM, Steps};
@@ -26,20 +28,35 @@ pub enum Hearing {
     Unheard,
 }
 
-/// Reads the clock until the first interval of the feed has begun. The gate rests between two readings.
-pub fn wait_to_begin<R: Wait, C: Clock, G: Gate>(
+// Tells the counts at this reading, and gives how many microseconds later they are to be told again at the latest.
+fn tell<N: Notes>(feeder: &Feeder, reading: u64, notes: &mut N) -> u64
+    requires permitted { N.may_note notes.old (record { reading = reading; counts = feeder.now.counts }) ≡ true }
+    ensures told { (before : List Note) → N.was_told notes.old before → N.was_told notes.new (before ++ record { reading = reading; counts = feeder.now.counts } ∷ []) }
+{
+    notes.note(reading, &feeder.counts())
+}
+
+/// Reads the clock until the first interval of the feed has begun. The gate rests between two readings, and the counts, which
+/// are all 0, are told at each reading before that interval.
+pub fn wait_to_begin<R: Wait, C: Clock, G: Gate, N: Notes>(
     rt: &R,
     feeder: &mut Feeder,
-    clock: &mut C,
-    gate: &mut G,
+    instruments: &mut Instruments<C, G, N>,
 )
-    ensures { Awaits feeder.old feeder.new (C.told clock.old) (C.told clock.new) }
+    requires none { feeder.old.counts ≡ counts_of nothing_fed }
+    requires noting { NotesOn N.was_told N.may_note C.gave C.read_for feeder.old.sender.stream feeder.old.first 0 nothing_fed instruments.old.notes }
+    ensures awaits { Awaits feeder.old feeder.new (C.told instruments.old.clock) (C.told instruments.new.clock) (N.was_told instruments.old.notes) (N.was_told instruments.new.notes) }
+    ensures noting { NotesOn N.was_told N.may_note C.gave C.read_for feeder.old.sender.stream feeder.old.first 0 nothing_fed instruments.new.notes }
 {
     for _ in rt.forever() {
-        if feeder.has_begun(clock.now()) {
+        let reading = instruments.clock.now();
+        if feeder.has_begun(reading) {
             return;
         }
-        gate.rest_for(feeder.until_first());
+        instruments.rest = tell(feeder, reading, &mut instruments.notes);
+        instruments
+            .gate
+            .rest_for(feeder.until_first().min(instruments.rest));
     }
     unreachable!()
 }
@@ -69,12 +86,12 @@ fn take_event<L: Ledger, P: Post>(
 
 /// Takes one item after another off the link, and does what it asks for at one reading of the clock, until the link
 /// ends or fails or all posts have failed. Where no message came the keys of the next interval are made. It waits for
-/// the link. The clock is asked for each datagram that came, and only what is due is sent.
-pub fn hear_all<R: Wait, L: Ledger, K: Link, C: Clock, P: Post>(
+/// the link. The clock is asked for each datagram that came, and only what is due is sent. The counts are told behind each item.
+pub fn hear_all<R: Wait, L: Ledger, K: Link, C: Clock, P: Post, G: Gate, N: Notes>(
     rt: &R,
     feeder: &mut Feeder,
     link: &mut K,
-    clock: &mut C,
+    instruments: &mut Instruments<C, G, N>,
     posts: &mut [P],
     failed: &mut [bool],
     steps: &mut Steps<L>,
@@ -86,12 +103,12 @@ pub fn hear_all<R: Wait, L: Ledger, K: Link, C: Clock, P: Post>(
     requires any_link { (link : K) → K.may_ask link ≡ true }
     requires none { K.has_brought link.old 0 ≡ true }
     requires going { let seen : P → PostSeen = λ post. record { name = P.name post; sent = P.sent post; faults = P.faults post } in
-        GoesOn seen P.may_send C.gave C.read_for feeder.old.sender.stream feeder.old.first 0 feeder.old posts.old failed.old }
+        GoesOn seen P.may_send N.was_told N.may_note C.gave C.read_for feeder.old.sender.stream feeder.old.first 0 feeder.old posts.old failed.old instruments.old.notes }
     ensures hears { let seen : List P → List PostSeen = λ posts. map (λ post. record { name = P.name post; sent = P.sent post; faults = P.faults post }) posts in
-        Hears feeder.old.sender.stream feeder.old.first feeder.new failed.new (K.left link.old) (K.left link.new) (C.told clock.old) (C.told clock.new) (seen posts.old) (seen posts.new) }
+        Hears feeder.old.sender.stream feeder.old.first feeder.new failed.new (K.left link.old) (K.left link.new) (C.told instruments.old.clock) (C.told instruments.new.clock) (seen posts.old) (seen posts.new) (N.was_told instruments.old.notes) (N.was_told instruments.new.notes) }
     ensures going { let seen : P → PostSeen = λ post. record { name = P.name post; sent = P.sent post; faults = P.faults post } in
         let stream = feeder.old.sender.stream in
-        (number : ℕ) × GoesOn seen P.may_send C.gave C.read_for stream feeder.old.first number feeder.new posts.new failed.new }
+        (number : ℕ) × GoesOn seen P.may_send N.was_told N.may_note C.gave C.read_for stream feeder.old.first number feeder.new posts.new failed.new instruments.new.notes }
     ensures stops { StopsHearing result failed.new (K.left link.new) }
     ensures cause { HasCause (K.faults link.old) (K.faults link.new) (result ≡ Hearing.LinkFailed) }
     ensures name { K.name link.new ≡ K.name link.old }
@@ -102,15 +119,18 @@ pub fn hear_all<R: Wait, L: Ledger, K: Link, C: Clock, P: Post>(
         if have_all_failed(failed) {
             return Hearing::Unheard;
         }
-        link.wait_at_most(feeder.until_next());
+        link.wait_at_most(feeder.until_next().min(instruments.rest));
         match link.next(&mut buffer) {
             Got::Datagram(length) => {
                 let datagram = &buffer[..length];
-                let reading = clock.now_for(datagram);
+                let reading = instruments.clock.now_for(datagram);
                 take_event(feeder, reading, Some(datagram), posts, failed, steps);
+                instruments.rest = tell(feeder, reading, &mut instruments.notes);
             }
             Got::Quiet => {
-                take_event(feeder, clock.now(), None, posts, failed, steps);
+                let reading = instruments.clock.now();
+                take_event(feeder, reading, None, posts, failed, steps);
+                instruments.rest = tell(feeder, reading, &mut instruments.notes);
                 feeder.make_next(steps);
             }
             Got::End => return Hearing::Ended,
@@ -121,23 +141,25 @@ pub fn hear_all<R: Wait, L: Ledger, K: Link, C: Clock, P: Post>(
 }
 
 /// Lets the gate rest until the next interval begins, and does what is due then, until the key of the last message was
-/// told on every chain or all posts have failed. Only what is due is sent.
-pub fn tell_rest<R: Wait, L: Ledger, C: Clock, P: Post, G: Gate>(
+/// told on every chain or all posts have failed. Only what is due is sent. The counts are told behind each rest.
+pub fn tell_rest<R: Wait, L: Ledger, C: Clock, P: Post, G: Gate, N: Notes>(
     rt: &R,
     feeder: &mut Feeder,
-    clock: &mut C,
+    instruments: &mut Instruments<C, G, N>,
     posts: &mut [P],
     failed: &mut [bool],
-    gate: &mut G,
     steps: &mut Steps<L>,
 )
     requires each { length failed.old ≡ length posts.old }
     requires going { let seen : P → PostSeen = λ post. record { name = P.name post; sent = P.sent post; faults = P.faults post } in
         let stream = feeder.old.sender.stream in
-        (number : ℕ) × GoesOn seen P.may_send C.gave C.read_for stream feeder.old.first number feeder.old posts.old failed.old }
+        (number : ℕ) × GoesOn seen P.may_send N.was_told N.may_note C.gave C.read_for stream feeder.old.first number feeder.old posts.old failed.old instruments.old.notes }
     ensures rests { let seen : List P → List PostSeen = λ posts. map (λ post. record { name = P.name post; sent = P.sent post; faults = P.faults post }) posts in
         (made : Feeding) (first_posts : List PostSeen) → Goes feeder.old.sender.stream feeder.old.first made first_posts feeder.old (seen posts.old) failed.old
-        → Rests feeder.old.sender.stream feeder.old.first made first_posts feeder.new failed.new (C.told clock.old) (C.told clock.new) (seen posts.new) }
+        → Rests feeder.old.sender.stream feeder.old.first made first_posts feeder.new failed.new (C.told instruments.old.clock) (C.told instruments.new.clock) (seen posts.new) (N.was_told instruments.old.notes) (N.was_told instruments.new.notes) }
+    ensures going { let seen : P → PostSeen = λ post. record { name = P.name post; sent = P.sent post; faults = P.faults post } in
+        let stream = feeder.old.sender.stream in
+        (number : ℕ) × GoesOn seen P.may_send N.was_told N.may_note C.gave C.read_for stream feeder.old.first number feeder.new posts.new failed.new instruments.new.notes }
     ensures stays { list_all has_failed failed.old ≡ true → failed.new ≡ failed.old }
     ensures ends { list_all has_failed failed.new ≡ false → is_disclosed_after feeder.new.sender.stream feeder.new.message feeder.new.latest ≡ true }
 {
@@ -145,9 +167,12 @@ pub fn tell_rest<R: Wait, L: Ledger, C: Clock, P: Post, G: Gate>(
         if have_all_failed(failed) || feeder.has_disclosed_all() {
             return;
         }
-        gate.rest_for(feeder.until_next());
-        let reading = clock.now();
+        instruments
+            .gate
+            .rest_for(feeder.until_next().min(instruments.rest));
+        let reading = instruments.clock.now();
         take_event(feeder, reading, None, posts, failed, steps);
+        instruments.rest = tell(feeder, reading, &mut instruments.notes);
         feeder.make_next(steps);
     }
     unreachable!()

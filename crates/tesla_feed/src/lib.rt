@@ -7,10 +7,12 @@ mod feeder;
 mod feeding;
 mod hearing;
 pub mod laws;
+mod notes;
 mod opening;
 mod posts;
 mod readings;
 
 pub use counts::FeedCounts;
-pub use feeding::{FeedEnd, MOST_POSTS, feed};
+pub use feeding::{FeedEnd, Instruments, MOST_POSTS, feed};
+pub use notes::{NoNotes, Notes};
 pub use opening::{OpenFeed, open_feed};

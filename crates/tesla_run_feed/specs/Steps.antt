@@ -94,7 +94,7 @@ IsUnready stream names posts before now outcome =
 -- an open link was fed to open posts, with a clock that told this before
 pub record FeedsPosts (stream : Stream) (opening : ℕ) (end : FeedEnd) (left later : Option (List Letter)) (ticking : Option Ticking) (posts posts_now : List PostSeen) : Type 0 where
   pub after : Option Ticking
-  pub feeds : Feeds stream opening end left later ticking after posts posts_now
+  pub feeds : Feeds stream opening end left later ticking after posts posts_now (λ notes. Unit {0})
 
 -- all was opened, and the link was fed to the posts
 pub record FeedsOpen (stream : Stream) (names : List (List ℕ)) (left later : Option (List Letter)) (missed missed_now : ℕ) (before now : Told) (posts : List PostSeen) (outcome : OutcomeView) : Type 0 where

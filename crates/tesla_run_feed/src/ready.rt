@@ -20,7 +20,7 @@ use std::sync::ledger::{Blank, Ledger};
 use std::thread::Threads;
 use tesla_base::Steps;
 use tesla_desk::{Clock, Environment, Gate, Link, Post};
-use tesla_feed::{FeedEnd, OpenFeed, feed, open_feed};
+use tesla_feed::{FeedEnd, Instruments, NoNotes, OpenFeed, feed, open_feed};
 use tesla_front::Stop;
 use tesla_relay::open_posts;
 use tesla_run_send::{SeededSetup, no_sender};
@@ -139,17 +139,17 @@ pub fn feed_ready<L: Ledger, R: Wait, K: Link, C: Clock + Drop, P: Post, G: Gate
 {
     let ReadyFeed {
         opened,
-        mut clock,
-        mut gate,
+        clock,
+        gate,
     } = ready;
+    let mut instruments = Instruments::new(clock, gate, NoNotes);
     let mut steps = Steps::<L>::new(blank);
     feed(
         rt,
         opened,
         link,
-        &mut clock,
+        &mut instruments,
         posts.as_mut_slice(),
-        &mut gate,
         &mut steps,
     )
 }

@@ -1,30 +1,50 @@
-use Rattle.std.proofs.Common.{◌∙◌, refl, sym, ap, arith, rules}
+use Rattle.std.proofs.Common.{◌∙◌, refl, sym, ap, subst, arith, rules}
 use denote.Enum.Bare.{sameb, same_true}
 use Rattle.tesla_feed.specs.contracts.hearing.Hearing.{the_type}
 use Rattle.tesla_feed.specs.declared.hearing.Hearing.TheVariants as hearings
 use Rattle.tesla_relay.specs.Posts.{PostSeen}
+use Rattle.tesla_sender.specs.Made.{Stream}
+use Rattle.tesla_feed.specs.Due.{IsWholeGiven}
+use Rattle.tesla_feed.specs.declared.counts.FeedCounts.{FeedCounts}
+use Rattle.tesla_feed.specs.declared.feeder.Feeder.{Feeder}
 use Rattle.tesla_feed.proofs.Going.{both_ways}
-use Rattle.tesla_feed.proofs.Permitted.{goes_on_begun, goes_on_own}
+use Rattle.tesla_feed.proofs.Permitted.{goes_on_begun, goes_on_own, noting_opened, whole_given}
 use Rattle.tesla_feed.proofs.Whole.{begun_goes, feeds_all}
 use Rattle.tesla_feed.proofs.feeding.feed.Goals as goal
+
+pub wait_to_begin-requires-clause-noting : goal.wait_to_begin-requires-clause-noting
+wait_to_begin-requires-clause-noting g c =
+    noting_opened g.N.Notes.was_told g.N.Notes.may_note g.C.Clock.gave g.C.Clock.read_for c.args.opened.sender.stream c.args.opened.opening c.open-feeder.result c.args.instruments.now.notes c.requires.opening c.requires.lasts c.requires.untold c.requires.notes c.open-feeder.ensures.stands
 
 pub hear_all-hearing-requires-clause-goes : goal.hear_all-hearing-requires-clause-goes
 hear_all-hearing-requires-clause-goes g c =
     let seen = λ (post : g.row.P.Denot). let it : PostSeen = record { name = g.P.Post.name post; sent = g.P.Post.sent post; faults = g.P.Post.faults post } in it in
-    begun_goes seen c.args.opened.sender.stream _ c.open-feeder.result c.wait_to_begin.new.feeder _ _ c.args.posts.now _ c.open-feeder.ensures.stands c.wait_to_begin.ensures (omega (arith, c.requires.few)) refl
+    begun_goes seen c.args.opened.sender.stream _ c.open-feeder.result c.wait_to_begin.new.feeder _ _ _ _ c.args.posts.now _ c.open-feeder.ensures.stands c.wait_to_begin.ensures.awaits (omega (arith, c.requires.few)) refl
 
 pub hear_all-hearing-requires-clause-going : goal.hear_all-hearing-requires-clause-going
 hear_all-hearing-requires-clause-going g c =
     let seen = λ (post : g.row.P.Denot). let it : PostSeen = record { name = g.P.Post.name post; sent = g.P.Post.sent post; faults = g.P.Post.faults post } in it in
-    let goes = begun_goes seen c.args.opened.sender.stream _ c.open-feeder.result c.wait_to_begin.new.feeder _ _ c.args.posts.now _ c.open-feeder.ensures.stands c.wait_to_begin.ensures (omega (arith, c.requires.few)) refl in
-    goes_on_begun seen g.P.Post.may_send g.C.Clock.gave g.C.Clock.read_for c.args.opened.sender.stream c.args.opened.opening c.open-feeder.result c.wait_to_begin.new.feeder c.args.posts.now _ _ _
-    c.requires.opening c.requires.lasts c.requires.unsent c.requires.due c.open-feeder.ensures.stands c.wait_to_begin.ensures goes
+    let goes = begun_goes seen c.args.opened.sender.stream _ c.open-feeder.result c.wait_to_begin.new.feeder _ _ _ _ c.args.posts.now _ c.open-feeder.ensures.stands c.wait_to_begin.ensures.awaits (omega (arith, c.requires.few)) refl in
+    goes_on_begun seen g.P.Post.may_send g.N.Notes.was_told g.N.Notes.may_note g.C.Clock.gave g.C.Clock.read_for c.args.opened.sender.stream c.args.opened.opening c.open-feeder.result c.wait_to_begin.new.feeder c.args.posts.now _ c.wait_to_begin.new.instruments.notes _ _ _ _
+    c.requires.unsent c.requires.due c.open-feeder.ensures.stands c.wait_to_begin.ensures.awaits c.wait_to_begin.ensures.noting goes
 
 pub tell_rest-requires-clause-going : goal.tell_rest-requires-clause-going
 tell_rest-requires-clause-going g c =
     let heard = c.hear_all-hearing in
     let on = heard.ensures.going in
-    (on.0, goes_on_own _ _ _ _ _ _ on.0 heard.new.feeder heard.new.posts heard.new.failed on.1)
+    (on.0, goes_on_own _ _ _ _ _ _ _ _ on.0 heard.new.feeder heard.new.posts heard.new.failed heard.new.instruments.notes on.1)
+
+pub returns-clause-given : goal.returns-clause-given
+returns-clause-given g c =
+    let told = c.tell_rest in
+    let on = told.ensures.going in
+    let stream = c.args.opened.sender.stream in
+    let counts = c.counts.ensures in
+    let same = ap (λ (f : Feeder). f.sender.stream) c.wait_to_begin.ensures.awaits.same ∙ c.open-feeder.ensures.stands.stream_is in
+    let heard = c.hear_all-hearing.ensures.going.1.goes.stands.stream_is in
+    subst (λ (n : FeedCounts). IsWholeGiven g.C.Clock.gave g.C.Clock.read_for stream n (g.N.Notes.was_told told.new.instruments.notes)) (sym counts)
+    (subst (λ (s : Stream). IsWholeGiven g.C.Clock.gave g.C.Clock.read_for s told.new.feeder.counts (g.N.Notes.was_told told.new.instruments.notes)) (heard ∙ same)
+    (whole_given _ _ _ _ _ _ _ _ on.0 told.new.feeder told.new.posts told.new.failed told.new.instruments.notes on.1))
 
 pub returns-clause-cause : goal.returns-clause-cause
 returns-clause-cause g c =
@@ -37,11 +57,12 @@ returns-clause-cause g c =
 
 pub returns-clause-feeds : goal.returns-clause-feeds
 returns-clause-feeds g c =
-    feeds_all c.args.opened.sender.stream c.args.opened.opening c.open-feeder.result c.wait_to_begin.new.feeder c.hear_all-hearing.new.feeder c.tell_rest.new.feeder c.hear_all-hearing.new.failed c.tell_rest.new.failed c.hear_all-hearing.result _ _ _ _ _ _ _ _ _ _
+    feeds_all c.args.opened.sender.stream c.args.opened.opening c.open-feeder.result c.wait_to_begin.new.feeder c.hear_all-hearing.new.feeder c.tell_rest.new.feeder c.hear_all-hearing.new.failed c.tell_rest.new.failed c.hear_all-hearing.result _ _ _ _ _ _ _ _ _ _ _ _ _ _
     (record {
       lasts = c.requires.lasts;
       stands = c.open-feeder.ensures.stands;
-      awaits = c.wait_to_begin.ensures;
+      untold_yet = c.requires.untold;
+      awaits = c.wait_to_begin.ensures.awaits;
       hears = c.hear_all-hearing.ensures.hears;
       stops = c.hear_all-hearing.ensures.stops;
       rests = c.tell_rest.ensures.rests;

@@ -3,7 +3,7 @@ use Rattle.tesla_desk.specs.declared.link.Letter.TheVariants as letters
 use Rattle.tesla_feed.specs.Fed.{Received}
 use Rattle.tesla_feed.specs.Feed.{Heard}
 use Rattle.tesla_feed.proofs.Going.{hears_more, hears_next, hears_none}
-use Rattle.tesla_feed.proofs.Permitted.{goes_on_more, goes_on_next, may_take}
+use Rattle.tesla_feed.proofs.Permitted.{goes_on_more, goes_on_next, may_take, may_tell}
 use Rattle.tesla_feed.proofs.hearing.hear_all.Goals as goal
 
 pub loop-init : goal.loop-init
@@ -12,7 +12,7 @@ loop-init g c = record {
   each = c.requires.each;
   posts = refl;
   marks = refl;
-  hears = hears_none c.args.feeder.now.sender.stream c.args.feeder.now.first c.args.feeder.now c.args.failed.now _ _ _ c.requires.goes;
+  hears = hears_none c.args.feeder.now.sender.stream c.args.feeder.now.first c.args.feeder.now c.args.failed.now _ _ _ _ c.requires.goes;
   going = (0, c.requires.none, c.requires.going);
   read = refl;
   name = refl;
@@ -37,8 +37,16 @@ pub take_event-requires-clause-permitted : goal.take_event-requires-clause-permi
 take_event-requires-clause-permitted g c =
     let number = c.loop.invariant.going.0 in
     let numbered = c.in-Datagram.ensures.numbered number (c.wait_at_most.ensures.numbered number c.loop.invariant.going.1) in
-    may_take _ _ _ _ _ _ number c.loop.feeder c.loop.posts c.loop.failed c.loop.invariant.going.2 (Received c.now_for-reading.result (letters.Datagram (take c.in-Datagram.length c.next-in-loop.new.into)))
+    may_take _ _ _ _ _ _ _ _ number c.loop.feeder c.loop.posts c.loop.failed _ c.loop.invariant.going.2 (Received c.now_for-reading.result (letters.Datagram (take c.in-Datagram.length c.next-in-loop.new.into)))
     (c.now_for-reading.ensures.gave, c.now_for-reading.ensures.read number (c.requires.asks number _ numbered.0))
+
+pub tell-instruments-requires : goal.tell-instruments-requires
+tell-instruments-requires g c =
+    let number = c.loop.invariant.going.0 in
+    let numbered = c.in-Datagram.ensures.numbered number (c.wait_at_most.ensures.numbered number c.loop.invariant.going.1) in
+    let permitted = may_tell _ _ _ _ _ _ _ _ number c.loop.feeder c.loop.posts c.loop.failed _ c.loop.invariant.going.2 (Received c.now_for-reading.result (letters.Datagram (take c.in-Datagram.length c.next-in-loop.new.into))) c.take_event.new.feeder c.take_event.new.posts c.take_event.new.failed
+    (c.now_for-reading.ensures.gave, c.now_for-reading.ensures.read number (c.requires.asks number _ numbered.0)) c.take_event.ensures.goes in
+    record { permitted = permitted }
 
 pub loop-preserved-in-Datagram : goal.loop-preserved-in-Datagram
 loop-preserved-in-Datagram g c =
@@ -50,12 +58,12 @@ loop-preserved-in-Datagram g c =
       each = c.take_event.ensures.each.1 ∙ c.loop.invariant.each ∙ sym c.take_event.ensures.each.0;
       posts = c.take_event.ensures.each.0 ∙ c.loop.invariant.posts;
       marks = c.take_event.ensures.each.1 ∙ c.loop.invariant.marks;
-      hears = hears_more c.args.feeder.now.sender.stream c.args.feeder.now.first one c.loop.feeder c.take_event.new.feeder c.loop.failed _ _ _ _ _ _ _ _ _ _ c.loop.invariant.hears (sym c.wait_at_most.ensures.left ∙ c.in-Datagram.ensures.step.left) c.now_for-reading.ensures.ticks c.take_event.ensures.goes;
+      hears = hears_more c.args.feeder.now.sender.stream c.args.feeder.now.first one c.loop.feeder c.take_event.new.feeder c.loop.failed _ _ _ _ _ _ _ _ _ _ _ _ _ c.loop.invariant.hears (sym c.wait_at_most.ensures.left ∙ c.in-Datagram.ensures.step.left) c.now_for-reading.ensures.ticks c.take_event.ensures.goes c.tell-instruments.ensures.told;
       going = (
         suc number,
         numbered.1,
-        goes_on_more _ _ _ _ c.args.feeder.now.sender.stream c.args.feeder.now.first number c.loop.feeder c.loop.posts c.loop.failed c.loop.invariant.going.2 (Received one.reading one.letter) c.take_event.new.feeder c.take_event.new.posts c.take_event.new.failed
-            (c.now_for-reading.ensures.gave, c.now_for-reading.ensures.read number (c.requires.asks number _ numbered.0)) c.take_event.ensures.goes,
+        goes_on_more _ _ _ _ _ _ c.args.feeder.now.sender.stream c.args.feeder.now.first number c.loop.feeder c.loop.posts c.loop.failed c.loop.instruments.notes c.loop.invariant.going.2 (Received one.reading one.letter) c.take_event.new.feeder c.take_event.new.posts c.take_event.new.failed
+            (c.now_for-reading.ensures.gave, c.now_for-reading.ensures.read number (c.requires.asks number _ numbered.0)) c.take_event.ensures.goes c.tell-instruments.new.notes c.tell-instruments.ensures.told,
       );
       read = c.in-Datagram.ensures.cause.still (λ e. absurd cc) ∙ c.wait_at_most.ensures.faults ∙ c.loop.invariant.read;
       name = c.in-Datagram.ensures.name ∙ c.wait_at_most.ensures.name ∙ c.loop.invariant.name;
@@ -63,11 +71,16 @@ loop-preserved-in-Datagram g c =
 
 pub take_event-requires-in-Quiet-clause-permitted : goal.take_event-requires-in-Quiet-clause-permitted
 take_event-requires-in-Quiet-clause-permitted g c =
-    may_take _ _ _ _ _ _ c.loop.invariant.going.0 c.loop.feeder c.loop.posts c.loop.failed c.loop.invariant.going.2 (Received c.now.result letters.Quiet) c.now.ensures.gave
+    may_take _ _ _ _ _ _ _ _ c.loop.invariant.going.0 c.loop.feeder c.loop.posts c.loop.failed _ c.loop.invariant.going.2 (Received c.now-reading.result letters.Quiet) c.now-reading.ensures.gave
+
+pub tell-instruments-requires-in-Quiet : goal.tell-instruments-requires-in-Quiet
+tell-instruments-requires-in-Quiet g c =
+    let permitted = may_tell _ _ _ _ _ _ _ _ c.loop.invariant.going.0 c.loop.feeder c.loop.posts c.loop.failed _ c.loop.invariant.going.2 (Received c.now-reading.result letters.Quiet) c.take_event-in-Quiet.new.feeder c.take_event-in-Quiet.new.posts c.take_event-in-Quiet.new.failed c.now-reading.ensures.gave c.take_event-in-Quiet.ensures.goes in
+    record { permitted = permitted }
 
 pub loop-preserved : goal.loop-preserved
 loop-preserved g c =
-    let one : Heard = record { reading = c.now.result; letter = letters.Quiet } in
+    let one : Heard = record { reading = c.now-reading.result; letter = letters.Quiet } in
     let stream = c.args.feeder.now.sender.stream in
     let number = c.loop.invariant.going.0 in
     record {
@@ -75,12 +88,12 @@ loop-preserved g c =
       each = c.take_event-in-Quiet.ensures.each.1 ∙ c.loop.invariant.each ∙ sym c.take_event-in-Quiet.ensures.each.0;
       posts = c.take_event-in-Quiet.ensures.each.0 ∙ c.loop.invariant.posts;
       marks = c.take_event-in-Quiet.ensures.each.1 ∙ c.loop.invariant.marks;
-      hears = hears_next stream c.args.feeder.now.first c.take_event-in-Quiet.new.feeder c.make_next.new.self _ _ _ _ _ _ _ c.make_next.ensures (hears_more stream c.args.feeder.now.first one c.loop.feeder c.take_event-in-Quiet.new.feeder c.loop.failed _ _ _ _ _ _ _ _ _ _ c.loop.invariant.hears (sym c.wait_at_most.ensures.left ∙ c.in-Quiet.ensures.step) c.now.ensures.ticks c.take_event-in-Quiet.ensures.goes);
+      hears = hears_next stream c.args.feeder.now.first c.take_event-in-Quiet.new.feeder c.make_next.new.self _ _ _ _ _ _ _ _ _ c.make_next.ensures (hears_more stream c.args.feeder.now.first one c.loop.feeder c.take_event-in-Quiet.new.feeder c.loop.failed _ _ _ _ _ _ _ _ _ _ _ _ _ c.loop.invariant.hears (sym c.wait_at_most.ensures.left ∙ c.in-Quiet.ensures.step) c.now-reading.ensures.ticks c.take_event-in-Quiet.ensures.goes c.tell-instruments-in-Quiet.ensures.told);
       going = (
         number,
         c.in-Quiet.ensures.numbered number (c.wait_at_most.ensures.numbered number c.loop.invariant.going.1),
-        goes_on_next _ _ _ _ stream c.args.feeder.now.first number c.take_event-in-Quiet.new.feeder c.take_event-in-Quiet.new.posts c.take_event-in-Quiet.new.failed
-            (goes_on_more _ _ _ _ stream c.args.feeder.now.first number c.loop.feeder c.loop.posts c.loop.failed c.loop.invariant.going.2 (Received one.reading letters.Quiet) c.take_event-in-Quiet.new.feeder c.take_event-in-Quiet.new.posts c.take_event-in-Quiet.new.failed c.now.ensures.gave c.take_event-in-Quiet.ensures.goes)
+        goes_on_next _ _ _ _ _ _ stream c.args.feeder.now.first number c.take_event-in-Quiet.new.feeder c.take_event-in-Quiet.new.posts c.take_event-in-Quiet.new.failed c.tell-instruments-in-Quiet.new.notes
+            (goes_on_more _ _ _ _ _ _ stream c.args.feeder.now.first number c.loop.feeder c.loop.posts c.loop.failed c.loop.instruments.notes c.loop.invariant.going.2 (Received one.reading letters.Quiet) c.take_event-in-Quiet.new.feeder c.take_event-in-Quiet.new.posts c.take_event-in-Quiet.new.failed c.now-reading.ensures.gave c.take_event-in-Quiet.ensures.goes c.tell-instruments-in-Quiet.new.notes c.tell-instruments-in-Quiet.ensures.told)
             c.make_next.new.self c.make_next.ensures,
       );
       read = c.in-Quiet.ensures.cause.still (λ e. absurd cc) ∙ c.wait_at_most.ensures.faults ∙ c.loop.invariant.read;

@@ -8,13 +8,15 @@ invariant-loop g l =
     let one = λ (post : g.row.P.Denot). let it : PostSeen = record { name = g.P.Post.name post; sent = g.P.Post.sent post; faults = g.P.Post.faults post } in it in
     let seen = λ (posts : List g.row.P.Denot). map one posts in
     let first = l.initial.feeder in
+    let was_told = g.N.Notes.was_told in
+    let told = g.C.Clock.told in
     record {
       size : length l.buffer ≡ 2048;
       each : length l.failed ≡ length l.posts;
       posts : length l.posts ≡ length l.initial.posts;
       marks : length l.failed ≡ length l.initial.failed;
-      hears : Hears first.sender.stream first.first l.feeder l.failed (g.K.Link.left l.initial.link) (g.K.Link.left l.link) (g.C.Clock.told l.initial.clock) (g.C.Clock.told l.clock) (seen l.initial.posts) (seen l.posts);
-      going : (number : ℕ) × (g.K.Link.has_brought l.link number ≡ true) × GoesOn one g.P.Post.may_send g.C.Clock.gave g.C.Clock.read_for first.sender.stream first.first number l.feeder l.posts l.failed;
+      hears : Hears first.sender.stream first.first l.feeder l.failed (g.K.Link.left l.initial.link) (g.K.Link.left l.link) (told l.initial.instruments.clock) (told l.instruments.clock) (seen l.initial.posts) (seen l.posts) (was_told l.initial.instruments.notes) (was_told l.instruments.notes);
+      going : (number : ℕ) × (g.K.Link.has_brought l.link number ≡ true) × GoesOn one g.P.Post.may_send was_told g.N.Notes.may_note g.C.Clock.gave g.C.Clock.read_for first.sender.stream first.first number l.feeder l.posts l.failed l.instruments.notes;
       read : g.K.Link.faults l.link ≡ g.K.Link.faults l.initial.link;
       name : g.K.Link.name l.link ≡ g.K.Link.name l.initial.link;
     }

@@ -11,9 +11,11 @@ invariant-loop g l =
     let one = λ (post : g.row.P.Denot). let it : PostSeen = record { name = g.P.Post.name post; sent = g.P.Post.sent post; faults = g.P.Post.faults post } in it in
     let seen = λ (posts : List g.row.P.Denot). map one posts in
     let first = l.initial.feeder in
+    let was_told = g.N.Notes.was_told in
+    let told = g.C.Clock.told in
     record {
       each : length l.failed ≡ length l.posts;
       stays : list_all has_failed l.initial.failed ≡ true → l.failed ≡ l.initial.failed;
-      going : (number : ℕ) × GoesOn one g.P.Post.may_send g.C.Clock.gave g.C.Clock.read_for first.sender.stream first.first number l.feeder l.posts l.failed;
-      rests : (made : Feeding) (first_posts : List PostSeen) → Goes first.sender.stream first.first made first_posts first (seen l.initial.posts) l.initial.failed → Rests first.sender.stream first.first made first_posts l.feeder l.failed (g.C.Clock.told l.initial.clock) (g.C.Clock.told l.clock) (seen l.posts);
+      going : (number : ℕ) × GoesOn one g.P.Post.may_send was_told g.N.Notes.may_note g.C.Clock.gave g.C.Clock.read_for first.sender.stream first.first number l.feeder l.posts l.failed l.instruments.notes;
+      rests : (made : Feeding) (first_posts : List PostSeen) → Goes first.sender.stream first.first made first_posts first (seen l.initial.posts) l.initial.failed → Rests first.sender.stream first.first made first_posts l.feeder l.failed (told l.initial.instruments.clock) (told l.instruments.clock) (seen l.posts) (was_told l.initial.instruments.notes) (was_told l.instruments.notes);
     }

@@ -1,0 +1,34 @@
+//! Who is told of the counts of a feed while it runs.
+
+ghost use Rattle.std.specs.Prelude.{◌≡◌, ◌++◌, ◌∷◌, [], Bool, List, true};
+ghost use Rattle.tesla_feed.specs.Notes.{Note};
+
+use crate::FeedCounts;
+
+/// Who is told of the counts of a feed behind each of its events.
+pub trait Notes {
+    /// It was told this, in order: readings of the clock, each with the counts by then.
+    ghost was_told: { Self → List Note → Type 0 };
+
+    /// It may be told this.
+    ghost may_note: { Self → Note → Bool } = { λ _ _. true };
+
+    /// Is told the counts at a reading of the clock, in microseconds; where the clock couldn't be read that is 2^64 - 1.
+    /// It takes no memory. It gives how many microseconds later it is to be told again at the latest; nothing is claimed
+    /// of that.
+    fn note(&mut self, reading: u64, counts: &FeedCounts) -> u64
+        requires permitted { may_note self.old (record { reading = reading; counts = counts.now }) ≡ true }
+        ensures told { (before : List Note) → was_told self.old before → was_told self.new (before ++ record { reading = reading; counts = counts.now } ∷ []) };
+}
+
+/// Nobody is told.
+#[derive(Drop)]
+pub struct NoNotes;
+
+impl Notes for NoNotes {
+    ghost was_told = { λ _ _. Unit {0} };
+
+    fn note(&mut self, _reading: u64, _counts: &FeedCounts) -> u64 {
+        u64::MAX
+    }
+}
