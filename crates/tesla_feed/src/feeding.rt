@@ -95,6 +95,7 @@ pub fn feed<R: Wait, L: Ledger, K: Link, C: Clock, P: Post, G: Gate, N: Notes>(
     ensures feeds { let seen : List P → List PostSeen = λ posts. map (λ post. record { name = P.name post; sent = P.sent post; faults = P.faults post }) posts in
         Feeds opened.sender.stream opened.opening result (K.left link.old) (K.left link.new) (C.told instruments.old.clock) (C.told instruments.new.clock) (seen posts.old) (seen posts.new) (N.was_told instruments.new.notes) }
     ensures given { IsWholeGiven C.gave C.read_for opened.sender.stream result.counts (N.was_told instruments.new.notes) }
+    ensures fixed { N.fixed instruments.new.notes ≡ N.fixed instruments.old.notes }
     ensures cause { HasCause (K.faults link.old) (K.faults link.new) (result.link_failed ≡ true) }
     ensures name { K.name link.new ≡ K.name link.old }
 {

@@ -32,6 +32,7 @@ pub enum Hearing {
 fn tell<N: Notes>(feeder: &Feeder, reading: u64, notes: &mut N) -> u64
     requires permitted { N.may_note notes.old (record { reading = reading; counts = feeder.now.counts }) ≡ true }
     ensures told { (before : List Note) → N.was_told notes.old before → N.was_told notes.new (before ++ record { reading = reading; counts = feeder.now.counts } ∷ []) }
+    ensures fixed { N.fixed notes.new ≡ N.fixed notes.old }
 {
     notes.note(reading, &feeder.counts())
 }
@@ -46,6 +47,7 @@ pub fn wait_to_begin<R: Wait, C: Clock, G: Gate, N: Notes>(
     requires none { feeder.old.counts ≡ counts_of nothing_fed }
     requires noting { NotesOn N.was_told N.may_note C.gave C.read_for feeder.old.sender.stream feeder.old.first 0 nothing_fed instruments.old.notes }
     ensures awaits { Awaits feeder.old feeder.new (C.told instruments.old.clock) (C.told instruments.new.clock) (N.was_told instruments.old.notes) (N.was_told instruments.new.notes) }
+    ensures fixed { N.fixed instruments.new.notes ≡ N.fixed instruments.old.notes }
     ensures noting { NotesOn N.was_told N.may_note C.gave C.read_for feeder.old.sender.stream feeder.old.first 0 nothing_fed instruments.new.notes }
 {
     for _ in rt.forever() {
@@ -109,6 +111,7 @@ pub fn hear_all<R: Wait, L: Ledger, K: Link, C: Clock, P: Post, G: Gate, N: Note
     ensures going { let seen : P → PostSeen = λ post. record { name = P.name post; sent = P.sent post; faults = P.faults post } in
         let stream = feeder.old.sender.stream in
         (number : ℕ) × GoesOn seen P.may_send N.was_told N.may_note C.gave C.read_for stream feeder.old.first number feeder.new posts.new failed.new instruments.new.notes }
+    ensures fixed { N.fixed instruments.new.notes ≡ N.fixed instruments.old.notes }
     ensures stops { StopsHearing result failed.new (K.left link.new) }
     ensures cause { HasCause (K.faults link.old) (K.faults link.new) (result ≡ Hearing.LinkFailed) }
     ensures name { K.name link.new ≡ K.name link.old }
@@ -160,6 +163,7 @@ pub fn tell_rest<R: Wait, L: Ledger, C: Clock, P: Post, G: Gate, N: Notes>(
     ensures going { let seen : P → PostSeen = λ post. record { name = P.name post; sent = P.sent post; faults = P.faults post } in
         let stream = feeder.old.sender.stream in
         (number : ℕ) × GoesOn seen P.may_send N.was_told N.may_note C.gave C.read_for stream feeder.old.first number feeder.new posts.new failed.new instruments.new.notes }
+    ensures fixed { N.fixed instruments.new.notes ≡ N.fixed instruments.old.notes }
     ensures stays { list_all has_failed failed.old ≡ true → failed.new ≡ failed.old }
     ensures ends { list_all has_failed failed.new ≡ false → is_disclosed_after feeder.new.sender.stream feeder.new.message feeder.new.latest ≡ true }
 {

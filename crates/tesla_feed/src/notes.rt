@@ -7,6 +7,12 @@ use crate::FeedCounts;
 
 /// Who is told of the counts of a feed behind each of its events.
 pub trait Notes {
+    /// What stays the same, whatever it is told.
+    type Fixed;
+
+    /// That of this one.
+    ghost fixed: { Self → Self.Fixed };
+
     /// It was told this, in order: readings of the clock, each with the counts by then.
     ghost was_told: { Self → List Note → Type 0 };
 
@@ -18,7 +24,8 @@ pub trait Notes {
     /// of that.
     fn note(&mut self, reading: u64, counts: &FeedCounts) -> u64
         requires permitted { may_note self.old (record { reading = reading; counts = counts.now }) ≡ true }
-        ensures told { (before : List Note) → was_told self.old before → was_told self.new (before ++ record { reading = reading; counts = counts.now } ∷ []) };
+        ensures told { (before : List Note) → was_told self.old before → was_told self.new (before ++ record { reading = reading; counts = counts.now } ∷ []) }
+        ensures fixed { fixed self.new ≡ fixed self.old };
 }
 
 /// Nobody is told.
@@ -26,6 +33,10 @@ pub trait Notes {
 pub struct NoNotes;
 
 impl Notes for NoNotes {
+    type Fixed = ();
+
+    ghost fixed = { λ _. tt };
+
     ghost was_told = { λ _ _. Unit {0} };
 
     fn note(&mut self, _reading: u64, _counts: &FeedCounts) -> u64 {

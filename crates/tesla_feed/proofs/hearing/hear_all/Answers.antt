@@ -14,6 +14,7 @@ loop-init g c = record {
   marks = refl;
   hears = hears_none c.args.feeder.now.sender.stream c.args.feeder.now.first c.args.feeder.now c.args.failed.now _ _ _ _ c.requires.goes;
   going = (0, c.requires.none, c.requires.going);
+  fixed = refl;
   read = refl;
   name = refl;
 }
@@ -65,6 +66,7 @@ loop-preserved-in-Datagram g c =
         goes_on_more _ _ _ _ _ _ c.args.feeder.now.sender.stream c.args.feeder.now.first number c.loop.feeder c.loop.posts c.loop.failed c.loop.instruments.notes c.loop.invariant.going.2 (Received one.reading one.letter) c.take_event.new.feeder c.take_event.new.posts c.take_event.new.failed
             (c.now_for-reading.ensures.gave, c.now_for-reading.ensures.read number (c.requires.asks number _ numbered.0)) c.take_event.ensures.goes c.tell-instruments.new.notes c.tell-instruments.ensures.told,
       );
+      fixed = c.tell-instruments.ensures.fixed ∙ c.loop.invariant.fixed;
       read = c.in-Datagram.ensures.cause.still (λ e. absurd cc) ∙ c.wait_at_most.ensures.faults ∙ c.loop.invariant.read;
       name = c.in-Datagram.ensures.name ∙ c.wait_at_most.ensures.name ∙ c.loop.invariant.name;
     }
@@ -96,6 +98,7 @@ loop-preserved g c =
             (goes_on_more _ _ _ _ _ _ stream c.args.feeder.now.first number c.loop.feeder c.loop.posts c.loop.failed c.loop.instruments.notes c.loop.invariant.going.2 (Received one.reading letters.Quiet) c.take_event-in-Quiet.new.feeder c.take_event-in-Quiet.new.posts c.take_event-in-Quiet.new.failed c.now-reading.ensures.gave c.take_event-in-Quiet.ensures.goes c.tell-instruments-in-Quiet.new.notes c.tell-instruments-in-Quiet.ensures.told)
             c.make_next.new.self c.make_next.ensures,
       );
+      fixed = c.tell-instruments-in-Quiet.ensures.fixed ∙ c.loop.invariant.fixed;
       read = c.in-Quiet.ensures.cause.still (λ e. absurd cc) ∙ c.wait_at_most.ensures.faults ∙ c.loop.invariant.read;
       name = c.in-Quiet.ensures.name ∙ c.wait_at_most.ensures.name ∙ c.loop.invariant.name;
     }

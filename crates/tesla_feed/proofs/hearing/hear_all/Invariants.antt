@@ -17,6 +17,7 @@ invariant-loop g l =
       marks : length l.failed ≡ length l.initial.failed;
       hears : Hears first.sender.stream first.first l.feeder l.failed (g.K.Link.left l.initial.link) (g.K.Link.left l.link) (told l.initial.instruments.clock) (told l.instruments.clock) (seen l.initial.posts) (seen l.posts) (was_told l.initial.instruments.notes) (was_told l.instruments.notes);
       going : (number : ℕ) × (g.K.Link.has_brought l.link number ≡ true) × GoesOn one g.P.Post.may_send was_told g.N.Notes.may_note g.C.Clock.gave g.C.Clock.read_for first.sender.stream first.first number l.feeder l.posts l.failed l.instruments.notes;
+      fixed : g.N.Notes.fixed l.instruments.notes ≡ g.N.Notes.fixed l.initial.instruments.notes;
       read : g.K.Link.faults l.link ≡ g.K.Link.faults l.initial.link;
       name : g.K.Link.name l.link ≡ g.K.Link.name l.initial.link;
     }

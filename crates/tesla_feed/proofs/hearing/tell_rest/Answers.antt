@@ -7,7 +7,7 @@ use Rattle.tesla_feed.proofs.Permitted.{goes_on_more, goes_on_next, may_take, ma
 use Rattle.tesla_feed.proofs.hearing.tell_rest.Goals as goal
 
 pub loop-init : goal.loop-init
-loop-init g c = record { each = c.requires.each; stays = λ all. refl; going = c.requires.going; rests = λ made first_posts goes. rests_none c.args.feeder.now.sender.stream c.args.feeder.now.first made first_posts c.args.feeder.now c.args.failed.now _ _ _ goes }
+loop-init g c = record { each = c.requires.each; stays = λ all. refl; fixed = refl; going = c.requires.going; rests = λ made first_posts goes. rests_none c.args.feeder.now.sender.stream c.args.feeder.now.first made first_posts c.args.feeder.now c.args.failed.now _ _ _ goes }
 
 pub take_event-requires-clause-permitted : goal.take_event-requires-clause-permitted
 take_event-requires-clause-permitted g c =
@@ -26,6 +26,7 @@ loop-preserved g c =
     record {
       each = c.take_event.ensures.each.1 ∙ c.loop.invariant.each ∙ sym c.take_event.ensures.each.0;
       stays = λ all. absurd (both_ways (list_all has_failed c.loop.failed) (ap (list_all has_failed) (c.loop.invariant.stays all) ∙ all) (sym c.have_all_failed.ensures ∙ c.if-have_all_failed.false));
+      fixed = c.tell-instruments.ensures.fixed ∙ c.loop.invariant.fixed;
       going = (
         number,
         goes_on_next _ _ _ _ _ _ stream first number c.take_event.new.feeder c.take_event.new.posts c.take_event.new.failed c.tell-instruments.new.notes

@@ -16,6 +16,7 @@ invariant-loop g l =
     record {
       each : length l.failed ≡ length l.posts;
       stays : list_all has_failed l.initial.failed ≡ true → l.failed ≡ l.initial.failed;
+      fixed : g.N.Notes.fixed l.instruments.notes ≡ g.N.Notes.fixed l.initial.instruments.notes;
       going : (number : ℕ) × GoesOn one g.P.Post.may_send was_told g.N.Notes.may_note g.C.Clock.gave g.C.Clock.read_for first.sender.stream first.first number l.feeder l.posts l.failed l.instruments.notes;
       rests : (made : Feeding) (first_posts : List PostSeen) → Goes first.sender.stream first.first made first_posts first (seen l.initial.posts) l.initial.failed → Rests first.sender.stream first.first made first_posts l.feeder l.failed (told l.initial.instruments.clock) (told l.instruments.clock) (seen l.posts) (was_told l.initial.instruments.notes) (was_told l.instruments.notes);
     }

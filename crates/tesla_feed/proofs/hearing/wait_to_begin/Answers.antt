@@ -1,4 +1,4 @@
-use Rattle.std.proofs.Common.{◌≡◌, ◌∙◌, false, sym, ap, subst}
+use Rattle.std.proofs.Common.{◌≡◌, ◌∙◌, false, refl, sym, ap, subst}
 use Rattle.tesla_feed.specs.Fed.{Rested, has_begun, nothing_fed}
 use Rattle.tesla_feed.specs.declared.feeder.Feeder.{Feeder}
 use Rattle.tesla_feed.proofs.Going.{awaits, waits_more, waits_none}
@@ -6,7 +6,7 @@ use Rattle.tesla_feed.proofs.Noted.{early_counts, early_noting, noting_may}
 use Rattle.tesla_feed.proofs.hearing.wait_to_begin.Goals as goal
 
 pub loop-init : goal.loop-init
-loop-init g c = record { waits = waits_none c.args.feeder.now _ _; noting = c.requires.noting }
+loop-init g c = record { waits = waits_none c.args.feeder.now _ _; fixed = refl; noting = c.requires.noting }
 
 pub returns-then-has_begun-clause-awaits : goal.returns-then-has_begun-clause-awaits
 returns-then-has_begun-clause-awaits g c = awaits c.args.feeder.now c.loop.feeder c.has_begun.new.self c.now-reading.result _ _ _ _ _ _ c.loop.invariant.waits c.now-reading.ensures.ticks c.has_begun.ensures.same (sym c.has_begun.ensures.begun ∙ c.if-has_begun.true)
@@ -31,5 +31,6 @@ loop-preserved g c =
     let none = subst (λ (f : Feeder). has_begun f.sender.stream.setup.times f.first c.now-reading.result ≡ false) on.same not_begun in
     record {
       waits = waits_more c.args.feeder.now c.loop.feeder now c.now-reading.result _ _ _ _ _ _ _ on c.now-reading.ensures.ticks c.has_begun.ensures.same not_begun c.requires.none c.tell-instruments.ensures.told;
+      fixed = c.tell-instruments.ensures.fixed ∙ c.loop.invariant.fixed;
       noting = early_noting _ _ _ _ c.args.feeder.now.sender.stream c.args.feeder.now.first 0 c.loop.instruments.notes c.loop.invariant.noting c.now-reading.result c.now-reading.ensures.gave now.counts none counts c.tell-instruments.new.notes c.tell-instruments.ensures.told;
     }
