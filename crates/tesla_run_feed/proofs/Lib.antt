@@ -4,3 +4,4 @@ mod Mailed
 mod Fed
 mod Performed
 pub mod Due
+mod Told

@@ -1,5 +1,6 @@
 pub mod Arguments
 pub mod Lines
+pub mod Status
 pub mod Feeding
 pub mod Due
 pub mod Steps

@@ -3,10 +3,12 @@
 
 mod chains;
 mod form;
+mod line;
 mod lines;
 mod ready;
 mod run;
 mod seeds;
+mod telling;
 
 pub use form::FEED;
 pub use run::run_feed;

@@ -1,0 +1,139 @@
+-- What is written to STATUS, as notes come one after another.
+use Rattle.std.proofs.Common.{◌≡◌, ◌∙◌, inl, inr, ℕ, Bool, true, false, List, [], ◌∷◌, ◌++◌, flat_map, Option, IfSome, append-nil, append_assoc, refl, sym, ap, subst}
+use Rattle.std.specs.Prelude.{◌&&◌, if◌then◌else◌, not}
+use Rattle.std.proofs.lemmas.List.Concat.{flat_map-append}
+use Rattle.std.proofs.lemmas.List.Sums.{fold-append}
+use Rattle.tesla_clock.specs.Schedule.{Times}
+use Rattle.tesla_desk.specs.Faults.{HasCause}
+use Rattle.tesla_desk.specs.Outside.{AppendsPrefix}
+use Rattle.tesla_desk.proofs.Counts.{cause_as, cause_both, cause_none}
+use Rattle.tesla_desk.proofs.Told.{appends_none, prefix_after, prefix_longer, prefix_none, with_more}
+use Rattle.tesla_feed.specs.Fed.{is_unread}
+use Rattle.tesla_feed.specs.Notes.{Note}
+use Rattle.tesla_feed.specs.declared.counts.FeedCounts.{FeedCounts}
+use Rattle.tesla_run_feed.specs.Status.{HasAllLines, HasLines, PutsAll, due_notes, end_line, has_line, last_reading, lines_of_notes, note_where, since_at, since_behind, time_line}
+use Rattle.tesla_status.specs.Due.{is_due_at, since_after}
+use Rattle.tesla_status.specs.Written.{Puts}
+
+-- ---- text
+
+-- nothing was put yet
+pub puts_none : (before : Option (List ℕ)) (faults : ℕ) → faults ≡ 0 → PutsAll [] before before faults false
+puts_none before faults none = record { all = λ no. appends_none before; prefix = prefix_none before []; cause = cause_none 0 faults none (λ e. absurd cc) }
+
+-- a text more was
+pub puts_more : (text more : List ℕ) (before old new : Option (List ℕ)) (faults count : ℕ) (was is : Bool) → PutsAll text before old faults was → Puts more old new faults count was is → PutsAll (text ++ more) before new count is
+puts_more text more before old new faults count true is all puts =
+    let still = puts.still refl in
+    record {
+      all = λ no. absurd (let clash : true ≡ false = sym still.0 ∙ no in cc);
+      prefix = subst (λ (w : Option (List ℕ)). AppendsPrefix before w (text ++ more)) (sym still.1) (prefix_longer before old text more all.prefix);
+      cause = subst (λ (n : ℕ). HasCause 0 n (is ≡ true)) (sym still.2) (cause_as 0 faults all.cause (λ e. refl) (λ e. still.0));
+    }
+puts_more text more before old new faults count false is all puts = record {
+  all = λ no. with_more before old new text more (all.all refl) (puts.all no).1;
+  prefix = prefix_after before old new text more (all.all refl) (puts.prefix refl);
+  cause = cause_both 0 faults count all.cause (puts.cause refl) (λ now. inr now) (λ either. elim either [ inl never ↦ absurd cc | inr now ↦ now ]);
+}
+
+-- ---- notes
+
+-- those that have a line, and one note more
+pub due_more : (every since : ℕ) (notes : List Note) (note : Note) → due_notes every since (notes ++ note ∷ []) ≡ due_notes every since notes ++ note_where (has_line every (since_behind every since notes) note.reading) note
+due_more every since [] note = append-nil (note_where (has_line every since note.reading) note)
+due_more every since (first ∷ notes) note =
+    let one = note_where (has_line every since first.reading) first in
+    let later = since_at every since first.reading in
+    ap (λ (ns : List Note). one ++ ns) (due_more every later notes note)
+    ∙ sym (append_assoc one (due_notes every later notes) (note_where (has_line every (since_behind every later notes) note.reading) note))
+
+lines_then : (times : Times) (every since : ℕ) (notes : List Note) (note : Note) (due : Bool) → has_line every (since_behind every since notes) note.reading ≡ due → lines_of_notes times every since (notes ++ note ∷ []) ≡ lines_of_notes times every since notes ++ flat_map (time_line times) (note_where due note)
+lines_then times every since notes note due is =
+    ap (λ (ns : List Note). flat_map (time_line times) ns) (due_more every since notes note)
+    ∙ flat_map-append (time_line times) (due_notes every since notes) (note_where (has_line every (since_behind every since notes) note.reading) note)
+    ∙ ap (λ (b : Bool). lines_of_notes times every since notes ++ flat_map (time_line times) (note_where b note)) is
+
+-- one that has a line
+pub lines_more : (times : Times) (every since : ℕ) (notes : List Note) (note : Note) → has_line every (since_behind every since notes) note.reading ≡ true → lines_of_notes times every since (notes ++ note ∷ []) ≡ lines_of_notes times every since notes ++ time_line times note
+lines_more times every since notes note due = lines_then times every since notes note true due ∙ ap (λ (bytes : List ℕ). lines_of_notes times every since notes ++ bytes) (append-nil (time_line times note))
+
+-- or none
+pub lines_same : (times : Times) (every since : ℕ) (notes : List Note) (note : Note) → has_line every (since_behind every since notes) note.reading ≡ false → lines_of_notes times every since (notes ++ note ∷ []) ≡ lines_of_notes times every since notes
+lines_same times every since notes note none = lines_then times every since notes note false none ∙ append-nil (lines_of_notes times every since notes)
+
+-- ---- what was told
+
+since_more : (every since : ℕ) (notes : List Note) (note : Note) → since_behind every since (notes ++ note ∷ []) ≡ since_at every (since_behind every since notes) note.reading
+since_more every since notes note = fold-append (λ s n. since_at every s n.reading) since notes (note ∷ [])
+
+last_more : (opening : ℕ) (notes : List Note) (note : Note) → last_reading opening (notes ++ note ∷ []) ≡ (if is_unread note.reading then last_reading opening notes else note.reading)
+last_more opening notes note = fold-append (λ last n. if is_unread n.reading then last else n.reading) opening notes (note ∷ [])
+
+module _ (times : Times) (every opening since last : ℕ) (notes : List Note) (note : Note) (old new : Option (List ℕ)) (faults count : ℕ) (was is : Bool) (has : HasLines times every opening since last notes old faults was) where
+  line_is : (unread due : Bool) → is_unread note.reading ≡ unread → is_due_at every since note.reading ≡ due → has_line every (since_behind every opening notes) note.reading ≡ (not unread && due)
+  line_is unread due read due_is = ap (λ (b : Bool). not b && is_due_at every (since_behind every opening notes) note.reading) read ∙ ap (λ (s : ℕ). not unread && is_due_at every s note.reading) (sym has.since_is) ∙ ap (λ (b : Bool). not unread && b) due_is
+
+  since_now : is_unread note.reading ≡ false → since_after every since note.reading ≡ since_behind every opening (notes ++ note ∷ [])
+  since_now read =
+      let s = since_behind every opening notes in
+      ap (λ (s : ℕ). since_after every s note.reading) has.since_is
+      ∙ sym (since_more every opening notes note ∙ ap (λ (b : Bool). if b then s else since_after every s note.reading) read)
+
+  last_now : is_unread note.reading ≡ false → note.reading ≡ last_reading opening (notes ++ note ∷ [])
+  last_now read = sym (last_more opening notes note ∙ ap (λ (b : Bool). if b then last_reading opening notes else note.reading) read)
+
+  -- a note at which the clock couldn't be read
+  pub told_unread : is_unread note.reading ≡ true → HasLines times every opening since last (notes ++ note ∷ []) old faults was
+  told_unread unread =
+      let s = since_behind every opening notes in
+      record {
+        before = has.before;
+        empty = has.empty;
+        since_is = has.since_is ∙ sym (since_more every opening notes note ∙ ap (λ (b : Bool). if b then s else since_after every s note.reading) unread);
+        last_is = has.last_is ∙ sym (last_more opening notes note ∙ ap (λ (b : Bool). if b then last_reading opening notes else note.reading) unread);
+        puts = subst (λ (text : List ℕ). PutsAll text has.before old faults was) (sym (lines_same times every opening notes note (line_is true (is_due_at every since note.reading) unread refl))) has.puts;
+      }
+
+  -- one that has no line
+  pub told_undue : is_unread note.reading ≡ false → is_due_at every since note.reading ≡ false → HasLines times every opening (since_after every since note.reading) note.reading (notes ++ note ∷ []) old faults was
+  told_undue read undue = record {
+    before = has.before;
+    empty = has.empty;
+    since_is = since_now read;
+    last_is = last_now read;
+    puts = subst (λ (text : List ℕ). PutsAll text has.before old faults was) (sym (lines_same times every opening notes note (line_is false false read undue))) has.puts;
+  }
+
+  -- one that has a line, which was put
+  pub told_due : is_unread note.reading ≡ false → is_due_at every since note.reading ≡ true → Puts (time_line times note) old new faults count was is → HasLines times every opening (since_after every since note.reading) note.reading (notes ++ note ∷ []) new count is
+  told_due read due puts = record {
+    before = has.before;
+    empty = has.empty;
+    since_is = since_now read;
+    last_is = last_now read;
+    puts = subst (λ (text : List ℕ). PutsAll text has.before new count is) (sym (lines_more times every opening notes note (line_is false true read due)))
+        (puts_more (lines_of_notes times every opening notes) (time_line times note) has.before old new faults count was is has.puts puts);
+  }
+
+  -- the last line was put
+  pub told_end : (counts : FeedCounts) → Puts (end_line times (record { reading = last; counts = counts })) old new faults count was is → HasAllLines times every opening notes counts new count is
+  told_end counts puts = record {
+    before = has.before;
+    empty = has.empty;
+    puts = subst (λ (r : ℕ). PutsAll (lines_of_notes times every opening notes ++ end_line times (record { reading = r; counts = counts })) has.before new count is) has.last_is
+        (puts_more (lines_of_notes times every opening notes) (end_line times (record { reading = last; counts = counts })) has.before old new faults count was is has.puts puts);
+  }
+
+-- nothing was told yet
+pub told_none : (times : Times) (every opening : ℕ) (written : Option (List ℕ)) (faults : ℕ) → IfSome written (λ bytes. bytes ≡ []) → faults ≡ 0 → HasLines times every opening opening opening [] written faults false
+told_none times every opening written faults empty none = record { before = written; empty = empty; since_is = refl; last_is = refl; puts = puts_none written faults none }
+
+-- the same of equal parts
+pub has_as : (times own : Times) (every every_now opening opening_now since since_now last last_now : ℕ) (notes : List Note) (written : Option (List ℕ)) (faults : ℕ) (failed : Bool) → own ≡ times → every_now ≡ every → opening_now ≡ opening → since_now ≡ since → last_now ≡ last → HasLines times every opening since last notes written faults failed
+    → HasLines own every_now opening_now since_now last_now notes written faults failed
+has_as times own every every_now opening opening_now since since_now last last_now notes written faults failed same_times same_every same_opening same_since same_last has =
+    subst (λ (t : Times). HasLines t every_now opening_now since_now last_now notes written faults failed) (sym same_times)
+    (subst (λ (n : ℕ). HasLines times n opening_now since_now last_now notes written faults failed) (sym same_every)
+    (subst (λ (n : ℕ). HasLines times every n since_now last_now notes written faults failed) (sym same_opening)
+    (subst (λ (n : ℕ). HasLines times every opening n last_now notes written faults failed) (sym same_since)
+    (subst (λ (n : ℕ). HasLines times every opening since n notes written faults failed) (sym same_last) has))))

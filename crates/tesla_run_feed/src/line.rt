@@ -1,0 +1,52 @@
+//! The lines of STATUS.
+
+ghost use Rattle.std.specs.Prelude.{◌≡◌, ◌+◌, ◌≤◌, ◌++◌, codes, length};
+ghost use Rattle.arrayvec.specs.ArrayString.{array_string_len};
+ghost use Rattle.tesla_run_feed.specs.Status.{counts_text, left_at, status_line};
+
+use tesla_clock::Schedule;
+use tesla_feed::FeedCounts;
+use tesla_front::Lines;
+use tesla_status::add_number;
+
+// Adds the counts, each with its name. These are at most 416 bytes.
+fn add_counts(line: &mut Lines, counts: &FeedCounts)
+    requires room { array_string_len line.old + 416 ≤ 2048 }
+    ensures text { line.new.bytes ≡ line.old.bytes ++ counts_text counts.now }
+    ensures few { array_string_len line.new ≤ array_string_len line.old + 416 }
+{
+    add_number(line, " messages=", u128::from(counts.messages));
+    add_number(line, " disclosures=", u128::from(counts.disclosures));
+    add_number(line, " toolong=", u128::from(counts.too_long));
+    add_number(line, " early=", u128::from(counts.early));
+    add_number(line, " over=", u128::from(counts.over));
+    add_number(line, " backward=", u128::from(counts.backward));
+    add_number(line, " full=", u128::from(counts.full));
+    add_number(line, " unread=", u128::from(counts.unread));
+}
+
+/// The line of the counts at a reading of the clock, which stands behind a word of at most 5 bytes, and of how many intervals are
+/// left, with its LF. It takes no memory.
+#[tactic(auto, unfolding(crate::specs::Status::status_line))]
+pub(crate) fn line_of(word: &str, reading: u64, counts: &FeedCounts, left: u64) -> Lines
+    requires short { length word.now ≤ 5 }
+    ensures { result.bytes ≡ status_line word.now reading counts.now left }
+{
+    let mut line = Lines::new();
+    add_number(&mut line, word, u128::from(reading));
+    add_counts(&mut line, counts);
+    add_number(&mut line, " left=", u128::from(left));
+    line.push_str("\n");
+    line
+}
+
+/// How many intervals of a stream haven't ended by a reading of the clock: 0 behind the last one.
+pub(crate) fn left_at(schedule: Schedule, reading: u64) -> u64
+    ensures { result ≡ left_at schedule reading }
+{
+    let intervals = u64::from(schedule.last()) + 1;
+    match schedule.interval_at(reading) {
+        Some(interval) => intervals.saturating_sub(interval),
+        None => intervals,
+    }
+}

@@ -1,0 +1,138 @@
+//! What writes the counts of a feed to STATUS while it runs.
+
+ghost use Rattle.std.specs.Prelude.{◌≡◌, ◌≤◌, ◌*◌, ◌++◌, ◌∷◌, [], codes, false, length, true, IfSome, List};
+ghost use Rattle.tesla_feed.specs.Fed.{is_unread};
+ghost use Rattle.tesla_feed.specs.Notes.{Note};
+ghost use Rattle.tesla_run_feed.specs.Status.{HasAllLines, HasLines, end_line, last_reading, left_at, status_line, time_line};
+ghost use Rattle.tesla_status.specs.Written.{Puts};
+
+use crate::line::{left_at, line_of};
+use std::collections::LinkedList;
+use tesla_clock::Schedule;
+use tesla_desk::Output;
+use tesla_feed::{FeedCounts, Notes};
+use tesla_status::{Due, Status};
+
+/// How many microseconds a feed waits at most until its counts are told again, where the clock couldn't be read.
+const REST: u64 = 1_000_000;
+
+/// What stays the same while counts are told: the schedule of the stream, the reading of the opening, how many microseconds pass
+/// from a line to the next, and the name of the output.
+pub(crate) struct Telling {
+    pub(crate) schedule: Schedule,
+    pub(crate) opening: u64,
+    pub(crate) every: u64,
+    pub(crate) name: LinkedList<u8>,
+}
+
+/// The file of the counts of a feed, and when its next line is due.
+pub(crate) struct StatusNotes<S: Output> {
+    status: Status<S>,
+    due: Due,
+    schedule: Schedule,
+    // The reading of the opening.
+    opening: u64,
+    // The last reading since then that could be had.
+    last: u64,
+}
+
+impl<S: Output> StatusNotes<S> {
+    /// Over a new output, with a line every so many seconds, from the reading of the opening on.
+    pub(crate) fn new(sink: S, schedule: Schedule, every: u32, opening: u64) -> StatusNotes<S>
+        requires every { (1 ≤ every) × (every ≤ 3600) }
+        requires empty { IfSome (S.written sink) (λ bytes. bytes ≡ []) }
+        requires fresh { S.faults sink ≡ 0 }
+        ensures sink { result.status ≡ record { sink = sink; failed = false } }
+        ensures fixed { (result.schedule ≡ schedule) × (result.opening ≡ opening) × (result.due.every ≡ every * 1000000) }
+        ensures lines { HasLines schedule (every * 1000000) opening result.due.since result.last [] (S.written sink) (S.faults sink) false }
+    {
+        StatusNotes {
+            status: Status {
+                sink,
+                failed: false,
+            },
+            due: Due::new(every, opening),
+            schedule,
+            opening,
+            last: opening,
+        }
+    }
+
+    // Puts a line of these counts, behind a word.
+    fn put(&mut self, word: &str, reading: u64, counts: &FeedCounts)
+        requires short { length word.now ≤ 5 }
+        requires permitted { S.may_write self.old.status.sink (status_line word.now reading counts.now (left_at self.old.schedule reading)) ≡ true }
+        ensures puts { Puts (status_line word.now reading counts.now (left_at self.old.schedule reading)) (S.written self.old.status.sink) (S.written self.new.status.sink) (S.faults self.old.status.sink) (S.faults self.new.status.sink) self.old.status.failed self.new.status.failed }
+        ensures name { S.name self.new.status.sink ≡ S.name self.old.status.sink }
+        ensures fixed { (self.new.schedule ≡ self.old.schedule) × (self.new.opening ≡ self.old.opening) × (self.new.due ≡ self.old.due) × (self.new.last ≡ self.old.last) }
+    {
+        let left = left_at(self.schedule, reading);
+        self.status.put(&line_of(word, reading, counts, left));
+    }
+
+    // Takes a note, and writes its line where one is due.
+    fn tell(&mut self, reading: u64, counts: &FeedCounts) -> u64
+        requires permitted { S.may_write self.old.status.sink (time_line self.old.schedule (record { reading = reading; counts = counts.now })) ≡ true }
+        ensures lines { (notes : List Note) → HasLines self.old.schedule self.old.due.every self.old.opening self.old.due.since self.old.last notes (S.written self.old.status.sink) (S.faults self.old.status.sink) self.old.status.failed
+            → HasLines self.new.schedule self.new.due.every self.new.opening self.new.due.since self.new.last (notes ++ record { reading = reading; counts = counts.now } ∷ []) (S.written self.new.status.sink) (S.faults self.new.status.sink) self.new.status.failed }
+        ensures name { S.name self.new.status.sink ≡ S.name self.old.status.sink }
+        ensures fixed { (self.new.schedule ≡ self.old.schedule) × (self.new.opening ≡ self.old.opening) × (self.new.due.every ≡ self.old.due.every) }
+    {
+        if is_unread(reading) {
+            return REST;
+        }
+        self.last = reading;
+        if !self.due.is_due(reading) {
+            return self.due.rest_at(reading);
+        }
+        self.put("time=", reading, counts);
+        self.due.rest_at(reading)
+    }
+
+    /// Writes the last line, of these counts at the last reading that could be had.
+    pub(crate) fn end(&mut self, counts: &FeedCounts)
+        requires permitted { S.may_write self.old.status.sink (end_line self.old.schedule (record { reading = self.old.last; counts = counts.now })) ≡ true }
+        ensures lines { (notes : List Note) → HasLines self.old.schedule self.old.due.every self.old.opening self.old.due.since self.old.last notes (S.written self.old.status.sink) (S.faults self.old.status.sink) self.old.status.failed
+            → HasAllLines self.old.schedule self.old.due.every self.old.opening notes counts.now (S.written self.new.status.sink) (S.faults self.new.status.sink) self.new.status.failed }
+        ensures name { S.name self.new.status.sink ≡ S.name self.old.status.sink }
+    {
+        self.put("end=", self.last, counts);
+    }
+
+    /// The output, and whether it failed.
+    pub(crate) fn into_status(self) -> Status<S>
+        ensures { result ≡ self.status }
+    {
+        let StatusNotes {
+            status,
+            due: _,
+            schedule: _,
+            opening: _,
+            last: _,
+        } = self;
+        status
+    }
+}
+
+// Whether a clock gave this in place of a reading, since it couldn't be read.
+fn is_unread(reading: u64) -> bool
+    ensures { result ≡ is_unread reading }
+{
+    reading == u64::MAX
+}
+
+impl<S: Output> Notes for StatusNotes<S> {
+    ghost use Rattle.tesla_run_feed.specs.Status.{HasLines, time_line};
+
+    type Fixed = Telling;
+
+    ghost fixed = { λ it. record { schedule = it.schedule; opening = it.opening; every = it.due.every; name = S.name it.status.sink } };
+
+    ghost was_told = { λ it notes. HasLines it.schedule it.due.every it.opening it.due.since it.last notes (S.written it.status.sink) (S.faults it.status.sink) it.status.failed };
+
+    ghost may_note = { λ it note. S.may_write it.status.sink (time_line it.schedule note) };
+
+    fn note(&mut self, reading: u64, counts: &FeedCounts) -> u64 {
+        self.tell(reading, counts)
+    }
+}
