@@ -62,11 +62,34 @@ const HEAD: &[u8] = b"TCAP\x01";
 /// The record of an arrival of no byte, at reading 1.
 const RECORD: &[u8] = b"\x01\0\0\0\0\0\0\0\x01\0\0";
 
+/// What a source brings before its records, or one of these.
+#[derive(Clone, Copy)]
+enum Part {
+    Setup,
+    Seeds,
+    Head,
+    Record,
+}
+
+impl Part {
+    // Its bytes.
+    fn bytes(self) -> &'static [u8] {
+        match self {
+            Part::Setup => SETUP.as_bytes(),
+            Part::Seeds => SEEDS.as_bytes(),
+            Part::Head => HEAD,
+            Part::Record => RECORD,
+        }
+    }
+}
+
 /// A text, and so many records behind it.
 #[derive(Drop)]
 pub struct Records {
     name: Text,
-    rest: &'static [u8],
+    part: Part,
+    // How many bytes of the part were read.
+    place: usize,
     records: u64,
 }
 
@@ -80,17 +103,18 @@ impl Source for Records {
     ghost name = { λ it. it.name };
 
     fn read(&mut self, into: &mut [u8]) -> ReadStep {
-        if self.rest.is_empty() && 0 < self.records {
+        if self.part.bytes().len() <= self.place && 0 < self.records {
             self.records -= 1;
-            self.rest = RECORD;
+            self.part = Part::Record;
+            self.place = 0;
         }
-        let count = into.len().min(self.rest.len());
+        let rest = self.part.bytes().get(self.place..).unwrap_or(&[]);
+        let count = into.len().min(rest.len());
         if count == 0 {
             return ReadStep::End;
         }
-        let (front, rest) = self.rest.split_at(count);
-        into[..count].copy_from_slice(front);
-        self.rest = rest;
+        into[..count].copy_from_slice(&rest[..count]);
+        self.place = self.place.saturating_add(count);
         ReadStep::Got(count)
     }
 }
@@ -313,15 +337,16 @@ impl<'a> Environment for UntoldDesk<'a> {
     ghost told = { λ _. record { page = λ _. Untold; left = λ _. None; faults = no_faults; openings = None; live = untold } };
 
     fn open_source(&mut self, name: &str) -> Result<Records, OpenRefusal> {
-        let (rest, records) = match name {
-            "setup" => (SETUP.as_bytes(), 0),
-            "secret" => (SEEDS.as_bytes(), 0),
-            _ => (HEAD, self.plan.datagrams),
+        let (part, records) = match name {
+            "setup" => (Part::Setup, 0),
+            "secret" => (Part::Seeds, 0),
+            _ => (Part::Head, self.plan.datagrams),
         };
         let name = Text::new(self.alloc, name.as_bytes())?;
         Ok(Records {
             name,
-            rest,
+            part,
+            place: 0,
             records,
         })
     }
