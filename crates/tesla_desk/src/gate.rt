@@ -1,7 +1,13 @@
 //! A gate, at which a worker waits.
 
-/// What a worker does around its turns, as pausing, waking others or counting. Nothing is claimed of it.
+ghost use Rattle.std.specs.Prelude.{◌≡◌, Bool, false, true};
+
+/// What a worker does around its turns, as pausing, waking others or counting. Nothing is claimed of it, but that only a
+/// gate's call gives that the run was asked to end.
 pub trait Gate {
+    /// The run was asked to end.
+    ghost over: { Bool } = { false };
+
     /// Is called before each turn.
     fn before(&mut self);
 
@@ -22,6 +28,13 @@ pub trait Gate {
     /// Is called where a link was quiet. A link that waits by itself needs no further rest.
     fn quiet(&mut self) {
         self.rest();
+    }
+
+    /// Whether the run was asked to end. Where nobody can ask that it is false.
+    fn is_over(&mut self) -> bool
+        ensures asked { result ≡ true → over ≡ true }
+    {
+        false
     }
 }
 

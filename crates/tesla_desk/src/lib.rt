@@ -17,7 +17,7 @@ pub use clock::Clock;
 pub use desk::{CONSOLE, Desk, OpenRefusal};
 pub use environment::Environment;
 pub use gate::{Gate, OpenGate};
-pub use incidents::Incidents;
+pub use incidents::{Incidents, NoIncidents, Observed};
 pub use link::{Got, Letter, Link};
 pub use output::{Output, SinkOutput};
 pub use post::{Post, PostStep};
