@@ -73,11 +73,11 @@ pub record IsNoted (gave : ℕ → Bool) (read_for : ℕ → List ℕ → ℕ �
   pub last : notes_of stream opening events ≡ before ++ note ∷ []
 
 -- whoever was told so may be told what follows
-abbrev pub MayNoteAll : {N : Type 0} → (N → List Note → Type 0) → (N → Note → Bool) → (ℕ → Bool) → (ℕ → List ℕ → ℕ → Bool)
+abbrev pub MayNoteAll : {N : Type 0} → (N → List Note → Type 0) → (N → Note → Type 0) → (ℕ → Bool) → (ℕ → List ℕ → ℕ → Bool)
     → Stream → Type 0
 MayNoteAll {N} was_told may_note gave read_for stream =
     (it : N) (before : List Note) (note : Note) → was_told it before → IsNoted gave read_for stream before note
-    → may_note it note ≡ true
+    → may_note it note
 
 -- all counts are those of such events, of which the notes were told
 pub record IsWholeGiven (gave : ℕ → Bool) (read_for : ℕ → List ℕ → ℕ → Bool) (stream : Stream) (counts : FeedCounts)

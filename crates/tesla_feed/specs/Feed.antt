@@ -1,5 +1,5 @@
 -- What a run of a feed comes to: which readings of the clock and which items of the link it took, and what each post sent.
-use Rattle.std.specs.Prelude.{◌≡◌, ℕ, Bool, true, false, List, [], ◌∷◌, ◌++◌, map, take, Option, Some, None, IfSome}
+use Rattle.std.specs.Prelude.{◌≡◌, ◌⊎◌, ℕ, Bool, true, false, List, [], ◌∷◌, ◌++◌, map, take, Option, Some, None, IfSome}
 use Rattle.std.specs.List.{AllByRecursion, list_all, list_any}
 use Rattle.tesla_desk.specs.Clocks.{Gives, Ticking}
 use Rattle.tesla_desk.specs.Faults.{HasCause}
@@ -9,7 +9,7 @@ use Rattle.tesla_relay.specs.Counts.{IsSentCount}
 use Rattle.tesla_relay.specs.Posts.{PostSeen, with_datagrams}
 use Rattle.tesla_sender.specs.Made.{Stream}
 use Rattle.tesla_sender.specs.Stands.{Stands}
-use Rattle.tesla_feed.specs.Fed.{Event, Received, Rested, Feeding, after_event, counts_of, datagrams_of, fed, first_interval, has_begun, is_all_disclosed, has_ended, is_unread, reading_of}
+use Rattle.tesla_feed.specs.Fed.{Event, Received, Rested, Feeding, after_event, counts_of, datagrams_of, fed, first_interval, has_begun, is_all_disclosed, has_ended, is_unread, nothing_fed, reading_of}
 use Rattle.tesla_feed.specs.Notes.{Note, notes_of}
 use Rattle.tesla_feed.specs.declared.feeding.FeedEnd.{FeedEnd}
 use Rattle.tesla_feed.specs.declared.opening.OpenFeed.{OpenFeed}
@@ -100,3 +100,23 @@ pub record Feeds (stream : Stream) (opening : ℕ) (result : FeedEnd) (left late
   -- what it tells
   pub counts : result.counts ≡ counts_of made
   pub some_failed : result.post_failed ≡ list_any has_failed failed
+
+-- a feed that was opened at this reading was asked to end before its first interval had begun: nothing was made, and the link and the posts are as before
+pub record StopsEarly (over : Bool) (stream : Stream) (opening : ℕ) (result : FeedEnd) (left later : Option (List Letter)) (before after : Option Ticking) (posts posts_now : List PostSeen) (was_told : List Note → Type 0) : Type 0 where
+  -- the gate told so
+  pub asked : over ≡ true
+  -- the readings behind the opening, at each of which that interval hadn't begun
+  pub early : List ℕ
+  pub gives : Gives early before after
+  pub waits : AllByRecursion (λ reading. has_begun stream.setup.times (first_interval stream.setup.times opening) reading ≡ false) early
+  pub left_is : later ≡ left
+  pub posts_are : posts_now ≡ posts
+  -- what was told while it waited, and what it tells
+  pub noted : was_told (notes_of stream opening (map rested_at early))
+  pub result_is : result ≡ record { link_failed = false; post_failed = false; counts = counts_of nothing_fed }
+
+-- what a feed comes to, told whether its gate may tell that the run was asked to end
+abbrev pub ComesTo : Bool → Stream → ℕ → FeedEnd → Option (List Letter) → Option (List Letter) → Option Ticking → Option Ticking → List PostSeen → List PostSeen → (List Note → Type 0) → Type 0
+ComesTo over stream opening result left later before after posts posts_now was_told =
+    Feeds stream opening result left later before after posts posts_now was_told
+    ⊎ StopsEarly over stream opening result left later before after posts posts_now was_told

@@ -179,7 +179,7 @@ pub record ComesOfGiven (gave : ℕ → Bool) (read_for : ℕ → List ℕ → �
   pub made_is : fed_after stream first nothing_fed events ≡ made
 
 -- what was made came of such events, their notes were told and nothing else, and what follows may be told
-pub record NotesOn {N : Type 0} (was_told : N → List Note → Type 0) (may_note : N → Note → Bool) (gave : ℕ → Bool)
+pub record NotesOn {N : Type 0} (was_told : N → List Note → Type 0) (may_note : N → Note → Type 0) (gave : ℕ → Bool)
     (read_for : ℕ → List ℕ → ℕ → Bool) (stream : Stream) (first number : ℕ) (made : Feeding) (notes : N) : Type 0 where
   pub comes : ComesOfGiven gave read_for stream first number made
   pub noted : was_told notes (notes_from stream first nothing_fed comes.events)
@@ -187,7 +187,7 @@ pub record NotesOn {N : Type 0} (was_told : N → List Note → Type 0) (may_not
 
 -- a feed goes on: what was made came of such events, the posts sent that and nothing else, and may send what is due
 pub record GoesOn {P N : Type 0} (seen : P → PostSeen) (may_send : P → List ℕ → Bool) (was_told : N → List Note → Type 0)
-    (may_note : N → Note → Bool) (gave : ℕ → Bool) (read_for : ℕ → List ℕ → ℕ → Bool) (stream : Stream) (first number : ℕ)
+    (may_note : N → Note → Type 0) (gave : ℕ → Bool) (read_for : ℕ → List ℕ → ℕ → Bool) (stream : Stream) (first number : ℕ)
     (feeder : Feeder) (posts : List P) (failed : List Bool) (notes : N) : Type 0 where
   pub first_posts : List PostSeen
   pub unsent : AreUnsent first_posts

@@ -7,7 +7,7 @@ ghost use Rattle.tesla_relay.specs.Posts.{PostSeen};
 ghost use Rattle.tesla_sender.specs.Stands.{Stands};
 ghost use Rattle.tesla_feed.specs.Due.{AreUnsent, IsWholeGiven, MayNoteAll, MaySendDue};
 ghost use Rattle.tesla_feed.specs.Fed.{has_ended};
-ghost use Rattle.tesla_feed.specs.Feed.{Feeds};
+ghost use Rattle.tesla_feed.specs.Feed.{ComesTo};
 
 use crate::feeder::Feeder;
 use crate::hearing::{Hearing, hear_all, tell_rest, wait_to_begin};
@@ -63,7 +63,8 @@ pub struct FeedEnd {
 /// The feed makes no call in the interval of its opening or an earlier one, and asks the link for nothing before the
 /// next one has begun. After the link's end or failure it goes on until the key of the last message's interval was disclosed
 /// on every chain. A post that fails sends no more; where all have failed the feed ends. It waits for the clock and for
-/// the link, and takes no memory.
+/// the link, and takes no memory. Where the gate tells before its first interval that the run was asked to end it ends there,
+/// and has made nothing.
 ///
 /// The counts are told behind each event, at its reading, and before the first interval at each reading. The link is asked to
 /// wait, and the gate to rest, at most until the next key may be due and until the counts are to be told again.
@@ -93,7 +94,7 @@ pub fn feed<R: Wait, L: Ledger, K: Link, C: Clock, P: Post, G: Gate, N: Notes>(
     requires untold { N.was_told instruments.old.notes [] }
     requires notes { MayNoteAll N.was_told N.may_note C.gave C.read_for opened.sender.stream }
     ensures feeds { let seen : List P → List PostSeen = λ posts. map (λ post. record { name = P.name post; sent = P.sent post; faults = P.faults post }) posts in
-        Feeds opened.sender.stream opened.opening result (K.left link.old) (K.left link.new) (C.told instruments.old.clock) (C.told instruments.new.clock) (seen posts.old) (seen posts.new) (N.was_told instruments.new.notes) }
+        ComesTo G.over opened.sender.stream opened.opening result (K.left link.old) (K.left link.new) (C.told instruments.old.clock) (C.told instruments.new.clock) (seen posts.old) (seen posts.new) (N.was_told instruments.new.notes) }
     ensures given { IsWholeGiven C.gave C.read_for opened.sender.stream result.counts (N.was_told instruments.new.notes) }
     ensures fixed { N.fixed instruments.new.notes ≡ N.fixed instruments.old.notes }
     ensures cause { HasCause (K.faults link.old) (K.faults link.new) (result.link_failed ≡ true) }
@@ -101,7 +102,13 @@ pub fn feed<R: Wait, L: Ledger, K: Link, C: Clock, P: Post, G: Gate, N: Notes>(
 {
     let OpenFeed { sender, opening } = opened;
     let mut feeder = Feeder::open(sender, opening, steps);
-    wait_to_begin(rt, &mut feeder, instruments);
+    if !wait_to_begin(rt, &mut feeder, instruments) {
+        return FeedEnd {
+            link_failed: false,
+            post_failed: false,
+            counts: feeder.counts(),
+        };
+    }
     let mut marks = [false; MOST_POSTS];
     let failed = &mut marks[..posts.len()];
     let hearing = hear_all(rt, &mut feeder, link, instruments, posts, failed, steps);

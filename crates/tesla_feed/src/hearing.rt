@@ -30,20 +30,21 @@ pub enum Hearing {
 
 // Tells the counts at this reading, and gives how many microseconds later they are to be told again at the latest.
 fn tell<N: Notes>(feeder: &Feeder, reading: u64, notes: &mut N) -> u64
-    requires permitted { N.may_note notes.old (record { reading = reading; counts = feeder.now.counts }) ≡ true }
+    requires permitted { N.may_note notes.old (record { reading = reading; counts = feeder.now.counts }) }
     ensures told { (before : List Note) → N.was_told notes.old before → N.was_told notes.new (before ++ record { reading = reading; counts = feeder.now.counts } ∷ []) }
     ensures fixed { N.fixed notes.new ≡ N.fixed notes.old }
 {
     notes.note(reading, &feeder.counts())
 }
 
-/// Reads the clock until the first interval of the feed has begun. The gate rests between two readings, and the counts, which
-/// are all 0, are told at each reading before that interval.
+/// Reads the clock until the first interval of the feed has begun, or the gate tells that the run was asked to end; true where
+/// it has begun. The gate rests between two readings, and the counts, which are all 0, are told at each reading before that
+/// interval.
 pub fn wait_to_begin<R: Wait, C: Clock, G: Gate, N: Notes>(
     rt: &R,
     feeder: &mut Feeder,
     instruments: &mut Instruments<C, G, N>,
-)
+) -> bool
     requires none { feeder.old.counts ≡ counts_of nothing_fed }
     requires noting { NotesOn N.was_told N.may_note C.gave C.read_for feeder.old.sender.stream feeder.old.first 0 nothing_fed instruments.old.notes }
     ensures awaits { Awaits feeder.old feeder.new (C.told instruments.old.clock) (C.told instruments.new.clock) (N.was_told instruments.old.notes) (N.was_told instruments.new.notes) }
@@ -53,9 +54,12 @@ pub fn wait_to_begin<R: Wait, C: Clock, G: Gate, N: Notes>(
     for _ in rt.forever() {
         let reading = instruments.clock.now();
         if feeder.has_begun(reading) {
-            return;
+            return true;
         }
         instruments.rest = tell(feeder, reading, &mut instruments.notes);
+        if instruments.gate.is_over() {
+            return false;
+        }
         instruments
             .gate
             .rest_for(feeder.until_first().min(instruments.rest));

@@ -1,6 +1,6 @@
 //! Who is told of the counts of a feed while it runs.
 
-ghost use Rattle.std.specs.Prelude.{◌≡◌, ◌++◌, ◌∷◌, [], Bool, List, true};
+ghost use Rattle.std.specs.Prelude.{◌≡◌, ◌++◌, ◌∷◌, [], List};
 ghost use Rattle.tesla_feed.specs.Notes.{Note};
 
 use crate::FeedCounts;
@@ -17,13 +17,13 @@ pub trait Notes {
     ghost was_told: { Self → List Note → Type 0 };
 
     /// It may be told this.
-    ghost may_note: { Self → Note → Bool } = { λ _ _. true };
+    ghost may_note: { Self → Note → Type 0 } = { λ _ _. Unit {0} };
 
     /// Is told the counts at a reading of the clock, in microseconds; where the clock couldn't be read that is 2^64 - 1.
     /// It takes no memory. It gives how many microseconds later it is to be told again at the latest; nothing is claimed
     /// of that.
     fn note(&mut self, reading: u64, counts: &FeedCounts) -> u64
-        requires permitted { may_note self.old (record { reading = reading; counts = counts.now }) ≡ true }
+        requires permitted { may_note self.old (record { reading = reading; counts = counts.now }) }
         ensures told { (before : List Note) → was_told self.old before → was_told self.new (before ++ record { reading = reading; counts = counts.now } ∷ []) }
         ensures fixed { fixed self.new ≡ fixed self.old };
 }
