@@ -1,7 +1,8 @@
 -- What is written to STATUS, as notes come one after another.
-use Rattle.std.proofs.Common.{◌≡◌, ◌∙◌, inl, inr, ℕ, Bool, true, false, List, [], ◌∷◌, ◌++◌, flat_map, Option, IfSome, append-nil, append_assoc, refl, sym, ap, subst}
+use Rattle.std.proofs.Common.{◌≡◌, ◌∙◌, inl, inr, ℕ, Bool, true, false, List, [], ◌∷◌, ◌++◌, flat_map, map, Option, IfSome, append-nil, append_assoc, refl, sym, ap, subst}
 use Rattle.std.specs.Prelude.{◌&&◌, if◌then◌else◌, not}
 use Rattle.std.proofs.lemmas.List.Concat.{flat_map-append}
+use mathlib.Core.List.{map-append}
 use Rattle.std.proofs.lemmas.List.Sums.{fold-append}
 use Rattle.tesla_clock.specs.Schedule.{Times}
 use Rattle.tesla_desk.specs.Faults.{HasCause}
@@ -11,7 +12,8 @@ use Rattle.tesla_desk.proofs.Told.{appends_none, prefix_after, prefix_longer, pr
 use Rattle.tesla_feed.specs.Fed.{is_unread}
 use Rattle.tesla_feed.specs.Notes.{Note}
 use Rattle.tesla_feed.specs.declared.counts.FeedCounts.{FeedCounts}
-use Rattle.tesla_run_feed.specs.Status.{HasAllLines, HasLines, PutsAll, due_notes, end_line, has_line, last_reading, lines_of_notes, note_where, since_at, since_behind, time_line}
+use Rattle.tesla_run_feed.specs.Status.{AreLinesOf, HasAllLines, HasLines, Line, PutsAll, due_notes, end_line, has_line, last_reading, line_text, note_of, note_where, since_at, since_behind, time_line}
+use Rattle.tesla_run_feed.specs.declared.line.SystemCounts.{SystemCounts}
 use Rattle.tesla_status.specs.Due.{is_due_at, since_after}
 use Rattle.tesla_status.specs.Written.{Puts}
 
@@ -47,19 +49,22 @@ due_more every since (first ∷ notes) note =
     ap (λ (ns : List Note). one ++ ns) (due_more every later notes note)
     ∙ sym (append_assoc one (due_notes every later notes) (note_where (has_line every (since_behind every later notes) note.reading) note))
 
-lines_then : (times : Times) (every since : ℕ) (notes : List Note) (note : Note) (due : Bool) → has_line every (since_behind every since notes) note.reading ≡ due → lines_of_notes times every since (notes ++ note ∷ []) ≡ lines_of_notes times every since notes ++ flat_map (time_line times) (note_where due note)
-lines_then times every since notes note due is =
-    ap (λ (ns : List Note). flat_map (time_line times) ns) (due_more every since notes note)
-    ∙ flat_map-append (time_line times) (due_notes every since notes) (note_where (has_line every (since_behind every since notes) note.reading) note)
-    ∙ ap (λ (b : Bool). lines_of_notes times every since notes ++ flat_map (time_line times) (note_where b note)) is
+due_then : (every since : ℕ) (notes : List Note) (note : Note) (due : Bool) → has_line every (since_behind every since notes) note.reading ≡ due → due_notes every since (notes ++ note ∷ []) ≡ due_notes every since notes ++ note_where due note
+due_then every since notes note due is = due_more every since notes note ∙ ap (λ (b : Bool). due_notes every since notes ++ note_where b note) is
 
--- one that has a line
-pub lines_more : (times : Times) (every since : ℕ) (notes : List Note) (note : Note) → has_line every (since_behind every since notes) note.reading ≡ true → lines_of_notes times every since (notes ++ note ∷ []) ≡ lines_of_notes times every since notes ++ time_line times note
-lines_more times every since notes note due = lines_then times every since notes note true due ∙ ap (λ (bytes : List ℕ). lines_of_notes times every since notes ++ bytes) (append-nil (time_line times note))
+-- the lines, where that note has one
+pub are_more : (every since : ℕ) (notes : List Note) (line : Line) (lines : List Line) → has_line every (since_behind every since notes) line.note.reading ≡ true → AreLinesOf every since notes lines → AreLinesOf every since (notes ++ line.note ∷ []) (lines ++ line ∷ [])
+are_more every since notes line lines due are =
+    map-append note_of lines (line ∷ []) ∙ ap (λ (ns : List Note). ns ++ line.note ∷ []) are ∙ sym (due_then every since notes line.note true due)
 
--- or none
-pub lines_same : (times : Times) (every since : ℕ) (notes : List Note) (note : Note) → has_line every (since_behind every since notes) note.reading ≡ false → lines_of_notes times every since (notes ++ note ∷ []) ≡ lines_of_notes times every since notes
-lines_same times every since notes note none = lines_then times every since notes note false none ∙ append-nil (lines_of_notes times every since notes)
+-- and where it has none
+pub are_same : (every since : ℕ) (notes : List Note) (note : Note) (lines : List Line) → has_line every (since_behind every since notes) note.reading ≡ false → AreLinesOf every since notes lines → AreLinesOf every since (notes ++ note ∷ []) lines
+are_same every since notes note lines none are = are ∙ sym (due_then every since notes note false none ∙ append-nil (due_notes every since notes))
+
+-- their text
+text_more : (times : Times) (lines : List Line) (line : Line) → flat_map (line_text times) (lines ++ line ∷ []) ≡ flat_map (line_text times) lines ++ line_text times line
+text_more times lines line =
+    flat_map-append (line_text times) lines (line ∷ []) ∙ ap (λ (bytes : List ℕ). flat_map (line_text times) lines ++ bytes) (append-nil (line_text times line))
 
 -- ---- what was told
 
@@ -91,7 +96,9 @@ module _ (times : Times) (every opening since last : ℕ) (notes : List Note) (n
         empty = has.empty;
         since_is = has.since_is ∙ sym (since_more every opening notes note ∙ ap (λ (b : Bool). if b then s else since_after every s note.reading) unread);
         last_is = has.last_is ∙ sym (last_more opening notes note ∙ ap (λ (b : Bool). if b then last_reading opening notes else note.reading) unread);
-        puts = subst (λ (text : List ℕ). PutsAll text has.before old faults was) (sym (lines_same times every opening notes note (line_is true (is_due_at every since note.reading) unread refl))) has.puts;
+        lines = has.lines;
+        are = are_same every opening notes note has.lines (line_is true (is_due_at every since note.reading) unread refl) has.are;
+        puts = has.puts;
       }
 
   -- one that has no line
@@ -101,32 +108,39 @@ module _ (times : Times) (every opening since last : ℕ) (notes : List Note) (n
     empty = has.empty;
     since_is = since_now read;
     last_is = last_now read;
-    puts = subst (λ (text : List ℕ). PutsAll text has.before old faults was) (sym (lines_same times every opening notes note (line_is false false read undue))) has.puts;
+    lines = has.lines;
+    are = are_same every opening notes note has.lines (line_is false false read undue) has.are;
+    puts = has.puts;
   }
 
   -- one that has a line, which was put
-  pub told_due : is_unread note.reading ≡ false → is_due_at every since note.reading ≡ true → Puts (time_line times note) old new faults count was is → HasLines times every opening (since_after every since note.reading) note.reading (notes ++ note ∷ []) new count is
-  told_due read due puts = record {
+  pub told_due : is_unread note.reading ≡ false → is_due_at every since note.reading ≡ true → (system : SystemCounts) → Puts (time_line times system note) old new faults count was is → HasLines times every opening (since_after every since note.reading) note.reading (notes ++ note ∷ []) new count is
+  told_due read due system puts = let line : Line = record { note = note; system = system } in record {
     before = has.before;
     empty = has.empty;
     since_is = since_now read;
     last_is = last_now read;
-    puts = subst (λ (text : List ℕ). PutsAll text has.before new count is) (sym (lines_more times every opening notes note (line_is false true read due)))
-        (puts_more (lines_of_notes times every opening notes) (time_line times note) has.before old new faults count was is has.puts puts);
+    lines = has.lines ++ line ∷ [];
+    are = are_more every opening notes line has.lines (line_is false true read due) has.are;
+    puts = subst (λ (text : List ℕ). PutsAll text has.before new count is) (sym (text_more times has.lines line))
+        (puts_more (flat_map (line_text times) has.lines) (time_line times system note) has.before old new faults count was is has.puts puts);
   }
 
   -- the last line was put
-  pub told_end : (counts : FeedCounts) → Puts (end_line times (record { reading = last; counts = counts })) old new faults count was is → HasAllLines times every opening notes counts new count is
-  told_end counts puts = record {
+  pub told_end : (counts : FeedCounts) (system : SystemCounts) → Puts (end_line times system (record { reading = last; counts = counts })) old new faults count was is → HasAllLines times every opening notes counts new count is
+  told_end counts system puts = record {
     before = has.before;
     empty = has.empty;
-    puts = subst (λ (r : ℕ). PutsAll (lines_of_notes times every opening notes ++ end_line times (record { reading = r; counts = counts })) has.before new count is) has.last_is
-        (puts_more (lines_of_notes times every opening notes) (end_line times (record { reading = last; counts = counts })) has.before old new faults count was is has.puts puts);
+    lines = has.lines;
+    are = has.are;
+    system = system;
+    puts = subst (λ (r : ℕ). PutsAll (flat_map (line_text times) has.lines ++ end_line times system (record { reading = r; counts = counts })) has.before new count is) has.last_is
+        (puts_more (flat_map (line_text times) has.lines) (end_line times system (record { reading = last; counts = counts })) has.before old new faults count was is has.puts puts);
   }
 
 -- nothing was told yet
 pub told_none : (times : Times) (every opening : ℕ) (written : Option (List ℕ)) (faults : ℕ) → IfSome written (λ bytes. bytes ≡ []) → faults ≡ 0 → HasLines times every opening opening opening [] written faults false
-told_none times every opening written faults empty none = record { before = written; empty = empty; since_is = refl; last_is = refl; puts = puts_none written faults none }
+told_none times every opening written faults empty none = record { before = written; empty = empty; since_is = refl; last_is = refl; lines = []; are = refl; puts = puts_none written faults none }
 
 -- the same of equal parts
 pub has_as : (times own : Times) (every every_now opening opening_now since since_now last last_now : ℕ) (notes : List Note) (written : Option (List ℕ)) (faults : ℕ) (failed : Bool) → own ≡ times → every_now ≡ every → opening_now ≡ opening → since_now ≡ since → last_now ≡ last → HasLines times every opening since last notes written faults failed

@@ -1,5 +1,5 @@
 -- The lines of STATUS, and which notes of a feed have one.
-use Rattle.std.specs.Prelude.{◌≡◌, ℕ, ◌+◌, ◌-◌, Bool, true, false, not, ◌&&◌, List, [], ◌∷◌, ◌++◌, flat_map, Option, IfSome, codes, if◌then◌else◌}
+use Rattle.std.specs.Prelude.{◌≡◌, ℕ, ◌+◌, ◌-◌, Bool, true, false, not, ◌&&◌, List, [], ◌∷◌, ◌++◌, flat_map, map, Option, IfSome, codes, if◌then◌else◌}
 use Rattle.std.specs.List.{fold}
 use Rattle.tesla_clock.specs.Schedule.{Times}
 use Rattle.tesla_desk.specs.Faults.{HasCause}
@@ -7,6 +7,7 @@ use Rattle.tesla_desk.specs.Outside.{AppendsPrefix, with_bytes}
 use Rattle.tesla_feed.specs.Fed.{is_unread}
 use Rattle.tesla_feed.specs.Notes.{Note}
 use Rattle.tesla_feed.specs.declared.counts.FeedCounts.{FeedCounts}
+use Rattle.tesla_run_feed.specs.declared.line.SystemCounts.{SystemCounts}
 use Rattle.tesla_sender.specs.Made.{interval_at}
 use Rattle.tesla_status.specs.Due.{is_due_at, since_after}
 use Rattle.tesla_status.specs.Lines.{number_text}
@@ -24,16 +25,20 @@ counts_text counts =
     ++ number_text (codes " early=") counts.early ++ number_text (codes " over=") counts.over ++ number_text (codes " backward=") counts.backward
     ++ number_text (codes " full=") counts.full ++ number_text (codes " unread=") counts.unread
 
--- the line of counts at a reading, which stands behind this word, told how many intervals are left
-unfoldable pub status_line : List ℕ → ℕ → FeedCounts → ℕ → List ℕ
-status_line word reading counts left = number_text word reading ++ counts_text counts ++ number_text (codes " left=") left ++ codes "\n"
+-- what the system tells beside the counts, of which nothing is claimed: how often a clock gave another reading than the system's, and how many datagrams the system refused to send
+unfoldable pub system_text : SystemCounts → List ℕ
+system_text system = number_text (codes " held=") system.held ++ number_text (codes " unsent=") system.unsent
+
+-- the line of counts at a reading, which stands behind this word, told what the system tells beside them, and how many intervals are left
+unfoldable pub status_line : List ℕ → ℕ → FeedCounts → SystemCounts → ℕ → List ℕ
+status_line word reading counts system left = number_text word reading ++ counts_text counts ++ system_text system ++ number_text (codes " left=") left ++ codes "\n"
 
 -- the line of a note, and the last line of a feed, of which this is the last note
-abbrev pub time_line : Times → Note → List ℕ
-time_line times note = status_line (codes "time=") note.reading note.counts (left_at times note.reading)
+abbrev pub time_line : Times → SystemCounts → Note → List ℕ
+time_line times system note = status_line (codes "time=") note.reading note.counts system (left_at times note.reading)
 
-abbrev pub end_line : Times → Note → List ℕ
-end_line times note = status_line (codes "end=") note.reading note.counts (left_at times note.reading)
+abbrev pub end_line : Times → SystemCounts → Note → List ℕ
+end_line times system note = status_line (codes "end=") note.reading note.counts system (left_at times note.reading)
 
 -- ---- which notes have a line
 
@@ -57,9 +62,16 @@ abbrev pub due_notes : ℕ → ℕ → List Note → List Note
 due_notes every since [] = []
 due_notes every since (note ∷ notes) = note_where (has_line every since note.reading) note ++ due_notes every (since_at every since note.reading) notes
 
--- their lines
-abbrev pub lines_of_notes : Times → ℕ → ℕ → List Note → List ℕ
-lines_of_notes times every since notes = flat_map (time_line times) (due_notes every since notes)
+-- a note that has a line, with what the system told beside it
+pub record Line : Type 0 where
+  pub note : Note
+  pub system : SystemCounts
+
+abbrev pub note_of : Line → Note
+note_of line = line.note
+
+abbrev pub line_text : Times → Line → List ℕ
+line_text times line = time_line times line.system line.note
 
 -- the last reading of the notes that could be had, and else that of the opening
 abbrev pub last_reading : ℕ → List Note → ℕ
@@ -73,16 +85,25 @@ pub record PutsAll (text : List ℕ) (before written : Option (List ℕ)) (fault
   pub prefix : AppendsPrefix before written text
   pub cause : HasCause 0 faults (failed ≡ true)
 
+-- these are the lines of the notes that have one, each with what the system told beside it
+abbrev pub AreLinesOf : ℕ → ℕ → List Note → List Line → Type 0
+AreLinesOf every since notes lines = map note_of lines ≡ due_notes every since notes
+
 -- a new output has the lines of these notes, told when it was opened
 pub record HasLines (times : Times) (every opening since last : ℕ) (notes : List Note) (written : Option (List ℕ)) (faults : ℕ) (failed : Bool) : Type 0 where
   pub before : Option (List ℕ)
   pub empty : IfSome before (λ bytes. bytes ≡ [])
   pub since_is : since ≡ since_behind every opening notes
   pub last_is : last ≡ last_reading opening notes
-  pub puts : PutsAll (lines_of_notes times every opening notes) before written faults failed
+  pub lines : List Line
+  pub are : AreLinesOf every opening notes lines
+  pub puts : PutsAll (flat_map (line_text times) lines) before written faults failed
 
 -- and then the last line, of these counts
 pub record HasAllLines (times : Times) (every opening : ℕ) (notes : List Note) (counts : FeedCounts) (written : Option (List ℕ)) (faults : ℕ) (failed : Bool) : Type 0 where
   pub before : Option (List ℕ)
   pub empty : IfSome before (λ bytes. bytes ≡ [])
-  pub puts : PutsAll (lines_of_notes times every opening notes ++ end_line times (record { reading = last_reading opening notes; counts = counts })) before written faults failed
+  pub lines : List Line
+  pub are : AreLinesOf every opening notes lines
+  pub system : SystemCounts
+  pub puts : PutsAll (flat_map (line_text times) lines ++ end_line times system (record { reading = last_reading opening notes; counts = counts })) before written faults failed

@@ -2,9 +2,10 @@
 
 ghost use Rattle.std.specs.Prelude.{◌≡◌, ◌+◌, ◌≤◌, ◌++◌, codes, length};
 ghost use Rattle.arrayvec.specs.ArrayString.{array_string_len};
-ghost use Rattle.tesla_run_feed.specs.Status.{counts_text, left_at, status_line};
+ghost use Rattle.tesla_run_feed.specs.Status.{counts_text, left_at, status_line, system_text};
 
 use tesla_clock::Schedule;
+use tesla_desk::Incidents;
 use tesla_feed::FeedCounts;
 use tesla_front::Lines;
 use tesla_status::add_number;
@@ -25,16 +26,52 @@ fn add_counts(line: &mut Lines, counts: &FeedCounts)
     add_number(line, " unread=", u128::from(counts.unread));
 }
 
-/// The line of the counts at a reading of the clock, which stands behind a word of at most 5 bytes, and of how many intervals are
-/// left, with its LF. It takes no memory.
+/// What the system tells beside the counts.
+#[derive(Clone, Copy)]
+pub(crate) struct SystemCounts {
+    /// How often a clock gave another reading than the system's.
+    pub(crate) held: u64,
+    /// How many datagrams the system refused to send.
+    pub(crate) unsent: u64,
+}
+
+impl SystemCounts {
+    /// What it tells by now.
+    pub(crate) fn of<I: Incidents>(incidents: &I) -> SystemCounts {
+        SystemCounts {
+            held: incidents.held(),
+            unsent: incidents.unsent(),
+        }
+    }
+}
+
+// Adds what the system tells, each number with its name. These are at most 104 bytes.
+fn add_system(line: &mut Lines, system: SystemCounts)
+    requires room { array_string_len line.old + 104 ≤ 2048 }
+    ensures text { line.new.bytes ≡ line.old.bytes ++ system_text system }
+    ensures few { array_string_len line.new ≤ array_string_len line.old + 104 }
+{
+    add_number(line, " held=", u128::from(system.held));
+    add_number(line, " unsent=", u128::from(system.unsent));
+}
+
+/// The line of the counts at a reading of the clock, which stands behind a word of at most 5 bytes, of what the system tells beside
+/// them, and of how many intervals are left, with its LF. It takes no memory.
 #[tactic(auto, unfolding(crate::specs::Status::status_line))]
-pub(crate) fn line_of(word: &str, reading: u64, counts: &FeedCounts, left: u64) -> Lines
+pub(crate) fn line_of(
+    word: &str,
+    reading: u64,
+    counts: &FeedCounts,
+    system: SystemCounts,
+    left: u64,
+) -> Lines
     requires short { length word.now ≤ 5 }
-    ensures { result.bytes ≡ status_line word.now reading counts.now left }
+    ensures { result.bytes ≡ status_line word.now reading counts.now system left }
 {
     let mut line = Lines::new();
     add_number(&mut line, word, u128::from(reading));
     add_counts(&mut line, counts);
+    add_system(&mut line, system);
     add_number(&mut line, " left=", u128::from(left));
     line.push_str("\n");
     line

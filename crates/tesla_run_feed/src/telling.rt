@@ -4,12 +4,13 @@ ghost use Rattle.std.specs.Prelude.{◌≡◌, ◌≤◌, ◌*◌, ◌++◌, ◌
 ghost use Rattle.tesla_feed.specs.Fed.{is_unread};
 ghost use Rattle.tesla_feed.specs.Notes.{Note};
 ghost use Rattle.tesla_run_feed.specs.Status.{HasAllLines, HasLines, end_line, last_reading, left_at, status_line, time_line};
+ghost use Rattle.tesla_run_feed.specs.declared.line.SystemCounts.{SystemCounts};
 ghost use Rattle.tesla_status.specs.Written.{Puts};
 
-use crate::line::{left_at, line_of};
+use crate::line::{SystemCounts, left_at, line_of};
 use std::collections::LinkedList;
 use tesla_clock::Schedule;
-use tesla_desk::Output;
+use tesla_desk::{Incidents, Output};
 use tesla_feed::{FeedCounts, Notes};
 use tesla_status::{Due, Status};
 
@@ -26,8 +27,9 @@ pub(crate) struct Telling {
 }
 
 /// The file of the counts of a feed, and when its next line is due.
-pub(crate) struct StatusNotes<S: Output> {
+pub(crate) struct StatusNotes<S: Output, I: Incidents + Drop> {
     status: Status<S>,
+    incidents: I,
     due: Due,
     schedule: Schedule,
     // The reading of the opening.
@@ -36,9 +38,15 @@ pub(crate) struct StatusNotes<S: Output> {
     last: u64,
 }
 
-impl<S: Output> StatusNotes<S> {
+impl<S: Output, I: Incidents + Drop> StatusNotes<S, I> {
     /// Over a new output, with a line every so many seconds, from the reading of the opening on.
-    pub(crate) fn new(sink: S, schedule: Schedule, every: u32, opening: u64) -> StatusNotes<S>
+    pub(crate) fn new(
+        sink: S,
+        incidents: I,
+        schedule: Schedule,
+        every: u32,
+        opening: u64,
+    ) -> StatusNotes<S, I>
         requires every { (1 ≤ every) × (every ≤ 3600) }
         requires empty { IfSome (S.written sink) (λ bytes. bytes ≡ []) }
         requires fresh { S.faults sink ≡ 0 }
@@ -51,6 +59,7 @@ impl<S: Output> StatusNotes<S> {
                 sink,
                 failed: false,
             },
+            incidents,
             due: Due::new(every, opening),
             schedule,
             opening,
@@ -61,18 +70,20 @@ impl<S: Output> StatusNotes<S> {
     // Puts a line of these counts, behind a word.
     fn put(&mut self, word: &str, reading: u64, counts: &FeedCounts)
         requires short { length word.now ≤ 5 }
-        requires permitted { S.may_write self.old.status.sink (status_line word.now reading counts.now (left_at self.old.schedule reading)) ≡ true }
-        ensures puts { Puts (status_line word.now reading counts.now (left_at self.old.schedule reading)) (S.written self.old.status.sink) (S.written self.new.status.sink) (S.faults self.old.status.sink) (S.faults self.new.status.sink) self.old.status.failed self.new.status.failed }
+        requires permitted { (system : SystemCounts) → S.may_write self.old.status.sink (status_line word.now reading counts.now system (left_at self.old.schedule reading)) ≡ true }
+        ensures puts { (system : SystemCounts) × Puts (status_line word.now reading counts.now system (left_at self.old.schedule reading)) (S.written self.old.status.sink) (S.written self.new.status.sink) (S.faults self.old.status.sink) (S.faults self.new.status.sink) self.old.status.failed self.new.status.failed }
         ensures name { S.name self.new.status.sink ≡ S.name self.old.status.sink }
         ensures fixed { (self.new.schedule ≡ self.old.schedule) × (self.new.opening ≡ self.old.opening) × (self.new.due ≡ self.old.due) × (self.new.last ≡ self.old.last) }
     {
+        let system = SystemCounts::of(&self.incidents);
         let left = left_at(self.schedule, reading);
-        self.status.put(&line_of(word, reading, counts, left));
+        self.status
+            .put(&line_of(word, reading, counts, system, left));
     }
 
     // Takes a note, and writes its line where one is due.
     fn tell(&mut self, reading: u64, counts: &FeedCounts) -> u64
-        requires permitted { S.may_write self.old.status.sink (time_line self.old.schedule (record { reading = reading; counts = counts.now })) ≡ true }
+        requires permitted { (system : SystemCounts) → S.may_write self.old.status.sink (time_line self.old.schedule system (record { reading = reading; counts = counts.now })) ≡ true }
         ensures lines { (notes : List Note) → HasLines self.old.schedule self.old.due.every self.old.opening self.old.due.since self.old.last notes (S.written self.old.status.sink) (S.faults self.old.status.sink) self.old.status.failed
             → HasLines self.new.schedule self.new.due.every self.new.opening self.new.due.since self.new.last (notes ++ record { reading = reading; counts = counts.now } ∷ []) (S.written self.new.status.sink) (S.faults self.new.status.sink) self.new.status.failed }
         ensures name { S.name self.new.status.sink ≡ S.name self.old.status.sink }
@@ -91,7 +102,7 @@ impl<S: Output> StatusNotes<S> {
 
     /// Writes the last line, of these counts at the last reading that could be had.
     pub(crate) fn end(&mut self, counts: &FeedCounts)
-        requires permitted { S.may_write self.old.status.sink (end_line self.old.schedule (record { reading = self.old.last; counts = counts.now })) ≡ true }
+        requires permitted { (system : SystemCounts) → S.may_write self.old.status.sink (end_line self.old.schedule system (record { reading = self.old.last; counts = counts.now })) ≡ true }
         ensures lines { (notes : List Note) → HasLines self.old.schedule self.old.due.every self.old.opening self.old.due.since self.old.last notes (S.written self.old.status.sink) (S.faults self.old.status.sink) self.old.status.failed
             → HasAllLines self.old.schedule self.old.due.every self.old.opening notes counts.now (S.written self.new.status.sink) (S.faults self.new.status.sink) self.new.status.failed }
         ensures name { S.name self.new.status.sink ≡ S.name self.old.status.sink }
@@ -105,6 +116,7 @@ impl<S: Output> StatusNotes<S> {
     {
         let StatusNotes {
             status,
+            incidents: _,
             due: _,
             schedule: _,
             opening: _,
@@ -121,8 +133,10 @@ fn is_unread(reading: u64) -> bool
     reading == u64::MAX
 }
 
-impl<S: Output> Notes for StatusNotes<S> {
+impl<S: Output, I: Incidents + Drop> Notes for StatusNotes<S, I> {
+    ghost use Rattle.std.specs.Prelude.{◌≡◌, true};
     ghost use Rattle.tesla_run_feed.specs.Status.{HasLines, time_line};
+    ghost use Rattle.tesla_run_feed.specs.declared.line.SystemCounts.{SystemCounts};
 
     type Fixed = Telling;
 
@@ -130,7 +144,7 @@ impl<S: Output> Notes for StatusNotes<S> {
 
     ghost was_told = { λ it notes. HasLines it.schedule it.due.every it.opening it.due.since it.last notes (S.written it.status.sink) (S.faults it.status.sink) it.status.failed };
 
-    ghost may_note = { λ it note. S.may_write it.status.sink (time_line it.schedule note) };
+    ghost may_note = { λ it note. (system : SystemCounts) → S.may_write it.status.sink (time_line it.schedule system note) ≡ true };
 
     fn note(&mut self, reading: u64, counts: &FeedCounts) -> u64 {
         self.tell(reading, counts)

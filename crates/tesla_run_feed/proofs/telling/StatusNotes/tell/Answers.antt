@@ -31,4 +31,4 @@ returns-clause-lines g c = λ notes has.
     let note : Note = record { reading = c.args.reading; counts = c.args.counts.now } in
     let same = c.put.ensures.fixed in
     has_as it.schedule now.schedule it.due.every now.due.every it.opening now.opening _ now.due.since c.args.reading now.last _ _ _ _ same.0 (ap (λ (d : Due). d.every) same.2 ∙ c.is_due.ensures.every) same.1 (ap (λ (d : Due). d.since) same.2 ∙ c.is_due.ensures.since) same.3
-    (told_due it.schedule it.due.every it.opening it.due.since it.last notes note written _ faults _ it.status.failed _ has (sym c.is_unread.ensures ∙ c.if-is_unread.false) (sym c.is_due.ensures.is ∙ c.if-not-is_due.false) c.put.ensures.puts)
+    (told_due it.schedule it.due.every it.opening it.due.since it.last notes note written _ faults _ it.status.failed _ has (sym c.is_unread.ensures ∙ c.if-is_unread.false) (sym c.is_due.ensures.is ∙ c.if-not-is_due.false) c.put.ensures.puts.0 c.put.ensures.puts.1)
