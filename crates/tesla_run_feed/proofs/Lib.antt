@@ -5,3 +5,4 @@ mod Fed
 mod Performed
 pub mod Due
 mod Told
+mod Numbers
