@@ -14,10 +14,10 @@ use std::rt::Files;
 use std::sync::Wait;
 use std::time::Clock;
 use tesla_base::Text;
-use tesla_desk::{CONSOLE, Desk, Environment, OpenRefusal, SinkOutput};
+use tesla_desk::{CONSOLE, Desk, Environment, Observed, OpenRefusal, SinkOutput};
 use tesla_files_live::{FRONT, FileSink, FileSource, Making, Opened, OpenedFiles, Target};
 use tesla_net_live::{HeldName, Listening, Sending, UdpLink, UdpPost, bind, direct, hold};
-use tesla_reports::{Cause, Reporter};
+use tesla_reports::{Cause, LiveIncidents, Reporter};
 
 /// The files of the system, standard output under the name of the console, UDP sockets as links and posts, clocks over the
 /// system's, and gates that wake one another. It tells no bytes, no letters, no mail and no readings.
@@ -307,6 +307,20 @@ where
                 self.tell_unopened("open to write", name, &cause);
                 Err(refusal_of(&mut self.openings, &cause))
             }
+        }
+    }
+}
+
+impl<'a, R: Files + Net + Clock + Eprint + Print + AllocGlobal + Wait + Sync> Observed
+    for LiveDesk<'a, R>
+where
+    R::File: Send,
+{
+    type Events = LiveIncidents<'a>;
+
+    fn incidents(&mut self) -> LiveIncidents<'a> {
+        LiveIncidents {
+            tallies: &self.gates.events.tallies,
         }
     }
 }

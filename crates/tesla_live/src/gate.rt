@@ -1,6 +1,7 @@
 //! Gates at which workers of the running system wait for one another.
 
 use crate::notices::Notices;
+use std::rt::Files;
 use std::sync::Wait;
 use std::sync::atomic::AtomicU64;
 use std::sync::atomic::Ordering::SeqCst;
@@ -86,7 +87,11 @@ impl<'a, R> LiveGate<'a, R> {
     }
 }
 
-impl<'a, R: Wait> Gate for LiveGate<'a, R> {
+impl<'a, R: Files + Wait> Gate for LiveGate<'a, R> {
+    ghost use Rattle.std.specs.Prelude.{true};
+
+    ghost over = { true };
+
     fn before(&mut self) {
         self.seen = self.gates.generation();
         self.marked = false;
@@ -115,4 +120,8 @@ impl<'a, R: Wait> Gate for LiveGate<'a, R> {
 
     /// Does nothing, since a link waits by itself.
     fn quiet(&mut self) {}
+    /// Whether something stands at the path that ends the run. It looks there each 100 milliseconds at most.
+    fn is_over(&mut self) -> bool {
+        self.gates.events.ending.has_begun(self.rt)
+    }
 }

@@ -23,7 +23,9 @@ use crate::stored_mail::StoredMails;
 use crate::{Heap, Letters, Outbox, Pages, Readings};
 use std::alloc::Global;
 use tesla_base::NoMemory;
-use tesla_desk::{CONSOLE, Desk, Environment, Letter, OpenGate, OpenRefusal, SinkOutput};
+use tesla_desk::{
+    CONSOLE, Desk, Environment, Letter, NoIncidents, Observed, OpenGate, OpenRefusal, SinkOutput,
+};
 
 /// A desk whose pages, letters, mail and readings are in memory. It tells all of them, and the openings that it was asked for.
 #[derive(Drop)]
@@ -393,6 +395,15 @@ impl Environment for MemoryDesk {
         ensures rest { rest_of self.new ≡ rest_of self.old }
     {
         OpenGate
+    }
+}
+
+/// There are no incidents.
+impl Observed for MemoryDesk {
+    type Events = NoIncidents;
+
+    fn incidents(&mut self) -> NoIncidents {
+        NoIncidents
     }
 }
 

@@ -18,7 +18,9 @@ use crate::sure_parts::{SurePages, SureRests};
 use crate::{Readings, SureLink, SurePost, SureSink, SureSource};
 use std::alloc::Global;
 use tesla_base::NoMemory;
-use tesla_desk::{CONSOLE, Desk, Environment, Letter, OpenGate, OpenRefusal, SinkOutput};
+use tesla_desk::{
+    CONSOLE, Desk, Environment, Letter, NoIncidents, Observed, OpenGate, OpenRefusal, SinkOutput,
+};
 
 /// A desk in memory on which no call from outside fails: its counts of faults are the constant 0.
 ///
@@ -238,6 +240,15 @@ impl Environment for SureDesk {
 
     fn gate(&mut self) -> OpenGate {
         OpenGate
+    }
+}
+
+/// There are no incidents.
+impl Observed for SureDesk {
+    type Events = NoIncidents;
+
+    fn incidents(&mut self) -> NoIncidents {
+        NoIncidents
     }
 }
 
