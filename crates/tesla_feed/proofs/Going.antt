@@ -13,10 +13,10 @@ use Rattle.tesla_sender.specs.Made.{Call, Stream}
 use Rattle.tesla_feed.specs.Fed.{Event, Feeding, Rested, after_event, counts_of, datagram_of, datagrams_from, datagrams_of, has_begun, is_all_disclosed, is_unread, nothing_fed, reading_of}
 use Rattle.tesla_feed.specs.Feed.{AreNeeded, Heard, OpensAt, SendPosts, SendsPost, received_of, letter_of, rested_at}
 use Rattle.tesla_feed.specs.Notes.{Note}
-use Rattle.tesla_feed.specs.Steps.{Awaits, Goes, HandPosts, HandsPost, Hears, Makes, Misses, Rests, StandsFor, Tells, WaitsOn, fed_after, is_disclosed_after}
+use Rattle.tesla_feed.specs.Steps.{Awaits, Goes, HandPosts, HandsPost, Hears, Makes, Misses, NotesOn, Rests, StandsFor, Tells, WaitsOn, fed_after, is_disclosed_after}
 use Rattle.tesla_feed.specs.declared.feeder.Feeder.{Feeder}
 use Rattle.tesla_feed.proofs.Kept.{disclosed_is}
-use Rattle.tesla_feed.proofs.Noted.{tells_more, tells_none, waits_fed, waits_made}
+use Rattle.tesla_feed.proofs.Noted.{early_noting, tells_more, tells_none, waits_fed, waits_made}
 
 -- ---- posts
 
@@ -144,6 +144,19 @@ waits_more feeder mid now reading last before then after was_told then_told is_t
       noted = subst (λ (es : List Event). Tells stream feeder.first nothing_fed es was_told is_told) (sym (map_more rested_at on.early reading))
           (tells_more stream feeder.first nothing_fed events (Rested reading) now.counts was_told then_told is_told on.noted counts note);
     }
+
+-- it was told, and what follows may be told
+pub waits_told : {N : Type 0} (was_told : N → List Note → Type 0) (may_note : N → Note → Type 0) (gave : ℕ → Bool) (read_for : ℕ → List ℕ → ℕ → Bool) (feeder mid now : Feeder) (reading last : ℕ) (before then after : Option Ticking) (untold notes notes_now : N)
+    → WaitsOn feeder mid before then (was_told untold) (was_told notes) → NotesOn was_told may_note gave read_for feeder.sender.stream feeder.first 0 nothing_fed notes → feeder.counts ≡ counts_of nothing_fed
+    → Ticks then after reading → gave reading ≡ true → now ≡ record mid { reading = last } → has_begun mid.sender.stream.setup.times mid.first reading ≡ false
+    → ((told : List Note) → was_told notes told → was_told notes_now (told ++ record { reading = reading; counts = now.counts } ∷ []))
+    → WaitsOn feeder now before after (was_told untold) (was_told notes_now) × NotesOn was_told may_note gave read_for feeder.sender.stream feeder.first 0 nothing_fed notes_now
+waits_told was_told may_note gave read_for feeder mid now reading last before then after untold notes notes_now on noting none ticks given noted early note =
+    let none_begun = subst (λ (f : Feeder). has_begun f.sender.stream.setup.times f.first reading ≡ false) on.same early in
+    let counts = ap (λ (f : Feeder). f.counts) noted ∙ ap (λ (f : Feeder). f.counts) on.same ∙ none in (
+      waits_more feeder mid now reading last before then after (was_told untold) (was_told notes) (was_told notes_now) on ticks noted early none note,
+      early_noting was_told may_note gave read_for feeder.sender.stream feeder.first 0 notes noting reading given now.counts none_begun counts notes_now note,
+    )
 
 -- and one at which it had
 pub awaits : (feeder mid now : Feeder) (reading last : ℕ) (before then after : Option Ticking) (was_told is_told : List Note → Type 0) → WaitsOn feeder mid before then was_told is_told → Ticks then after reading → now ≡ record mid { reading = last } → has_begun mid.sender.stream.setup.times mid.first reading ≡ true → Awaits feeder now before after was_told is_told

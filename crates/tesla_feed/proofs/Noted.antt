@@ -64,7 +64,7 @@ waits_fed stream first made (reading ∷ early) waits = ap (λ (m : Feeding). fe
 
 -- ---- what may be told
 
-module _ {N : Type 0} (was_told : N → List Note → Type 0) (may_note : N → Note → Bool) (gave : ℕ → Bool) (read_for : ℕ → List ℕ → ℕ → Bool) (stream : Stream) (first number : ℕ) (made : Feeding) (notes : N) (on : NotesOn was_told may_note gave read_for stream first number made notes) (event : Event)
+module _ {N : Type 0} (was_told : N → List Note → Type 0) (may_note : N → Note → Type 0) (gave : ℕ → Bool) (read_for : ℕ → List ℕ → ℕ → Bool) (stream : Stream) (first number : ℕ) (made : Feeding) (notes : N) (on : NotesOn was_told may_note gave read_for stream first number made notes) (event : Event)
     (given : IsGiven gave read_for number event) (counts : FeedCounts) (counts_are : counts ≡ counts_of (after_event stream first made event)) where
   -- the note of the event
   abbrev pub one : Note
@@ -79,7 +79,7 @@ module _ {N : Type 0} (was_told : N → List Note → Type 0) (may_note : N → 
       ∙ ap (λ (c : FeedCounts). let it : Note = record { reading = reading_of event; counts = c } in notes ++ it ∷ []) (sym counts_are)
 
   -- it may be told
-  pub noting_may : may_note notes one ≡ true
+  pub noting_may : may_note notes one
   noting_may =
       let comes = on.comes in
       on.may notes (notes_from stream first nothing_fed comes.events) one on.noted (record {
@@ -105,7 +105,7 @@ module _ {N : Type 0} (was_told : N → List Note → Type 0) (may_note : N → 
 pub early_counts : (stream : Stream) (first reading : ℕ) (counts : FeedCounts) → has_begun stream.setup.times first reading ≡ false → counts ≡ counts_of nothing_fed → counts ≡ counts_of (after_event stream first nothing_fed (Rested reading))
 early_counts stream first reading counts none is = is ∙ sym (ap counts_of (waits_made stream first nothing_fed reading none))
 
-pub early_noting : {N : Type 0} (was_told : N → List Note → Type 0) (may_note : N → Note → Bool) (gave : ℕ → Bool) (read_for : ℕ → List ℕ → ℕ → Bool) (stream : Stream) (first number : ℕ) (notes : N) → NotesOn was_told may_note gave read_for stream first number nothing_fed notes
+pub early_noting : {N : Type 0} (was_told : N → List Note → Type 0) (may_note : N → Note → Type 0) (gave : ℕ → Bool) (read_for : ℕ → List ℕ → ℕ → Bool) (stream : Stream) (first number : ℕ) (notes : N) → NotesOn was_told may_note gave read_for stream first number nothing_fed notes
     → (reading : ℕ) → gave reading ≡ true → (counts : FeedCounts) → has_begun stream.setup.times first reading ≡ false → counts ≡ counts_of nothing_fed → (now : N)
     → ((before : List Note) → was_told notes before → was_told now (before ++ record { reading = reading; counts = counts } ∷ [])) → NotesOn was_told may_note gave read_for stream first number nothing_fed now
 early_noting was_told may_note gave read_for stream first number notes on reading given counts none is now noted =

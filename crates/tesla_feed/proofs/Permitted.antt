@@ -12,6 +12,7 @@ use Rattle.tesla_feed.specs.Fed.{Event, Feeding, after_event, counts_of, datagra
 use Rattle.tesla_feed.specs.Feed.{SendPosts, SendsPost}
 use Rattle.tesla_feed.specs.Notes.{Note, notes_from}
 use Rattle.tesla_feed.specs.Steps.{Awaits, ComesOfGiven, Goes, GoesOn, MayHand, MayTake, NotesOn, StandsFor, fed_after}
+use Rattle.tesla_feed.specs.declared.counts.FeedCounts.{FeedCounts}
 use Rattle.tesla_feed.specs.declared.feeder.Feeder.{Feeder}
 use Rattle.tesla_feed.proofs.Given.{all_given, all_made}
 use Rattle.tesla_feed.proofs.Going.{MakesNext, TakesEvent, datagrams_added, goes_next, takes_as}
@@ -87,9 +88,30 @@ module _ (gave : ℕ → Bool) (read_for : ℕ → List ℕ → ℕ → Bool) (s
         sent_before = all;
       }
 
+-- ---- what was told
+
+-- all counts are those of what came, where they are those of what was made
+pub noted_given : {N : Type 0} (was_told : N → List Note → Type 0) (may_note : N → Note → Type 0) (gave : ℕ → Bool)
+    (read_for : ℕ → List ℕ → ℕ → Bool) (stream : Stream) (first number : ℕ) (made : Feeding) (notes : N)
+    → NotesOn was_told may_note gave read_for stream first number made notes → (counts : FeedCounts) → counts ≡ counts_of made
+    → IsWholeGiven gave read_for stream counts (was_told notes)
+noted_given was_told may_note gave read_for stream first number made notes on counts counts_are =
+    let comes = on.comes in
+    record {
+      opening = comes.opening;
+      opened = comes.opened;
+      lasts = comes.lasts;
+      events = comes.events;
+      given = comes.given;
+      noted = subst (λ (f : ℕ). was_told notes (notes_from stream f nothing_fed comes.events)) (sym comes.first_is) on.noted;
+      counts_are = counts_are
+          ∙ ap counts_of (sym (lasting_fed stream comes.opening comes.events comes.lasts
+          ∙ ap (λ (f : ℕ). fed_after stream f nothing_fed comes.events) comes.first_is ∙ comes.made_is));
+    }
+
 -- ---- a feed that goes on
 
-module _ {P N : Type 0} (seen : P → PostSeen) (may_send : P → List ℕ → Bool) (was_told : N → List Note → Type 0) (may_note : N → Note → Bool)
+module _ {P N : Type 0} (seen : P → PostSeen) (may_send : P → List ℕ → Bool) (was_told : N → List Note → Type 0) (may_note : N → Note → Type 0)
     (gave : ℕ → Bool) (read_for : ℕ → List ℕ → ℕ → Bool) (stream : Stream) (first number : ℕ) (feeder : Feeder) (posts : List P)
     (failed : List Bool) (notes : N)
     (on : GoesOn seen may_send was_told may_note gave read_for stream first number feeder posts failed notes) where
@@ -127,7 +149,7 @@ module _ {P N : Type 0} (seen : P → PostSeen) (may_send : P → List ℕ → B
         failed_now takes on.goes
 
     -- the counts behind an event may be told
-    pub may_tell : may_note notes (record { reading = reading_of event; counts = now.counts }) ≡ true
+    pub may_tell : may_note notes (record { reading = reading_of event; counts = now.counts })
     may_tell = noting_may was_told may_note gave read_for stream first number on.made notes on.noting event given now.counts
         takes_now.stands.counts
 
@@ -149,20 +171,8 @@ module _ {P N : Type 0} (seen : P → PostSeen) (may_send : P → List ℕ → B
 
   -- all counts are those of what came
   pub whole_given : IsWholeGiven gave read_for stream feeder.counts (was_told notes)
-  whole_given =
-      let comes = on.noting.comes in
-      record {
-        opening = comes.opening;
-        opened = comes.opened;
-        lasts = comes.lasts;
-        events = comes.events;
-        given = comes.given;
-        noted = subst (λ (f : ℕ). was_told notes (notes_from stream f nothing_fed comes.events)) (sym comes.first_is)
-            on.noting.noted;
-        counts_are = on.goes.stands.counts
-            ∙ ap counts_of (sym (lasting_fed stream comes.opening comes.events comes.lasts
-            ∙ ap (λ (f : ℕ). fed_after stream f nothing_fed comes.events) comes.first_is ∙ comes.made_is));
-      }
+  whole_given = noted_given was_told may_note gave read_for stream first number on.made notes on.noting feeder.counts
+      on.goes.stands.counts
 
   -- the next keys were made
   pub goes_on_next : (now : Feeder) → MakesNext feeder now
@@ -177,7 +187,7 @@ module _ {P N : Type 0} (seen : P → PostSeen) (may_send : P → List ℕ → B
   }
 
 -- a feed was opened, and nothing was told of it
-pub noting_opened : {N : Type 0} (was_told : N → List Note → Type 0) (may_note : N → Note → Bool) (gave : ℕ → Bool)
+pub noting_opened : {N : Type 0} (was_told : N → List Note → Type 0) (may_note : N → Note → Type 0) (gave : ℕ → Bool)
     (read_for : ℕ → List ℕ → ℕ → Bool) (stream : Stream) (opening : ℕ) (opened : Feeder) (notes : N)
     → gave opening ≡ true → has_ended stream opening ≡ false → was_told notes [] → MayNoteAll was_told may_note gave read_for stream
     → StandsFor stream (first_interval stream.setup.times opening) opened nothing_fed
@@ -203,7 +213,7 @@ noting_opened was_told may_note gave read_for stream opening opened notes given 
 
 -- and its first interval has begun
 pub goes_on_begun : {P N : Type 0} (seen : P → PostSeen) (may_send : P → List ℕ → Bool) (was_told : N → List Note → Type 0)
-    (may_note : N → Note → Bool) (gave : ℕ → Bool) (read_for : ℕ → List ℕ → ℕ → Bool) (stream : Stream) (opening : ℕ)
+    (may_note : N → Note → Type 0) (gave : ℕ → Bool) (read_for : ℕ → List ℕ → ℕ → Bool) (stream : Stream) (opening : ℕ)
     (opened begun : Feeder) (posts : List P) (failed : List Bool) (notes : N) (before after : Option Ticking)
     (told is_told : List Note → Type 0)
     → AreUnsent (map seen posts) → MaySendDue seen may_send gave read_for (map post_name (map seen posts)) stream

@@ -7,10 +7,11 @@ use Rattle.tesla_desk.specs.Clocks.{Gives, Ticking}
 use Rattle.tesla_desk.specs.declared.link.Letter.{Letter}
 use Rattle.tesla_relay.specs.Posts.{PostSeen, with_datagrams}
 use Rattle.tesla_sender.specs.Made.{Stream}
-use Rattle.tesla_feed.specs.Fed.{Event, Feeding, after_event, fed, first_interval, has_begun, has_ended, nothing_fed, reading_of}
+use Rattle.tesla_feed.specs.Fed.{Event, Feeding, after_event, counts_of, fed, first_interval, has_begun, has_ended, nothing_fed, reading_of}
 use Rattle.tesla_feed.specs.Notes.{Note}
-use Rattle.tesla_feed.specs.Feed.{AreNeeded, Feeds, SendPosts, received_of, has_failed, rested_at}
-use Rattle.tesla_feed.specs.Steps.{Awaits, Goes, Hears, Rests, StandsFor, StopsHearing, Tells, fed_after, is_disclosed_after}
+use Rattle.tesla_feed.specs.Feed.{AreNeeded, Feeds, SendPosts, StopsEarly, received_of, has_failed, rested_at}
+use Rattle.tesla_feed.specs.Steps.{Awaits, EndsWaiting, Goes, Hears, Rests, StandsFor, StopsHearing, Tells, WaitsOn, fed_after, is_disclosed_after}
+use Rattle.tesla_feed.specs.declared.counts.FeedCounts.{FeedCounts}
 use Rattle.tesla_feed.specs.declared.feeder.Feeder.{Feeder}
 use Rattle.tesla_feed.specs.declared.feeding.FeedEnd.{FeedEnd}
 use Rattle.tesla_feed.specs.declared.hearing.Hearing.{Hearing}
@@ -138,4 +139,37 @@ feeds_all stream opening opened begun heard told marks failed hearing result lef
       noted = telling [] parts.untold_yet;
       counts = counts ∙ rests.goes.stands.counts;
       some_failed = post_failed;
+    }
+
+-- ---- a feed that was asked to end before it began
+
+-- the first interval has begun where the wait tells so
+pub has_waited : (over begun : Bool) (feeder now : Feeder) (before after : Option Ticking) (told is_told : List Note → Type 0) → begun ≡ true → EndsWaiting over begun feeder now before after told is_told → Awaits feeder now before after told is_told
+has_waited over true feeder now before after told is_told is waits = waits
+has_waited over false feeder now before after told is_told is waits = absurd cc
+
+-- else the gate told that the run was asked to end
+pub was_asked : (over begun : Bool) (feeder now : Feeder) (before after : Option Ticking) (told is_told : List Note → Type 0) → begun ≡ false → EndsWaiting over begun feeder now before after told is_told → (over ≡ true) × WaitsOn feeder now before after told is_told
+was_asked over true feeder now before after told is_told is waits = absurd cc
+was_asked over false feeder now before after told is_told is waits = waits
+
+-- what was counted by then is nothing
+pub waits_counts : (stream : Stream) (first : ℕ) (feeder now : Feeder) (before after : Option Ticking) (told is_told : List Note → Type 0) → StandsFor stream first feeder nothing_fed → WaitsOn feeder now before after told is_told → now.counts ≡ counts_of nothing_fed
+waits_counts stream first feeder now before after told is_told stands on = ap (λ (f : Feeder). f.counts) on.same ∙ stands.counts
+
+-- and then it stops
+pub stops_early : (over : Bool) (stream : Stream) (opening : ℕ) (opened now : Feeder) (result : FeedEnd) (left : Option (List Letter)) (first last : Option Ticking) (posts : List PostSeen) (untold told : List Note → Type 0) → StandsFor stream (first_interval stream.setup.times opening) opened nothing_fed → untold []
+    → (over ≡ true) × WaitsOn opened now first last untold told → result ≡ record { link_failed = false; post_failed = false; counts = now.counts } → StopsEarly over stream opening result left left first last posts posts told
+stops_early over stream opening opened now result left first last posts untold told stands untold_yet asked is =
+    let on = asked.1 in
+    let from = first_interval stream.setup.times opening in
+    record {
+      asked = asked.0;
+      early = on.early;
+      gives = on.gives;
+      waits = of_equal (λ s f. AllByRecursion (λ reading. has_begun s.setup.times f reading ≡ false) on.early) opened.sender.stream stream opened.first from stands.stream_is stands.first_is on.waits;
+      left_is = refl;
+      posts_are = refl;
+      noted = of_equal (λ s f. Tells s f nothing_fed (map rested_at on.early) untold told) opened.sender.stream stream opened.first from stands.stream_is stands.first_is on.noted [] untold_yet;
+      result_is = is ∙ ap (λ (c : FeedCounts). let it : FeedEnd = record { link_failed = false; post_failed = false; counts = c } in it) (waits_counts stream from opened now first last untold told stands on);
     }

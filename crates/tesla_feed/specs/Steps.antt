@@ -162,6 +162,11 @@ pub record Awaits (feeder now : Feeder) (before after : Option Ticking) (was_tol
   pub same : now ≡ record feeder { reading = last }
   pub noted : Tells feeder.sender.stream feeder.first nothing_fed (map rested_at early) was_told is_told
 
+-- what the wait for the first interval comes to, told whether it has begun: else the gate told that the run was asked to end
+abbrev pub EndsWaiting : Bool → Bool → Feeder → Feeder → Option Ticking → Option Ticking → (List Note → Type 0) → (List Note → Type 0) → Type 0
+EndsWaiting over true feeder now before after was_told is_told = Awaits feeder now before after was_told is_told
+EndsWaiting over false feeder now before after was_told is_told = (over ≡ true) × WaitsOn feeder now before after was_told is_told
+
 -- what these events make of what was made before
 abbrev pub fed_after : Stream → ℕ → Feeding → List Event → Feeding
 fed_after stream first made events = fold (after_event stream first) made events

@@ -7,7 +7,7 @@ ghost use Rattle.std.specs.List.{list_all};
 ghost use Rattle.tesla_feed.specs.Feed.{has_failed};
 ghost use Rattle.tesla_feed.specs.Fed.{Feeding, counts_of, nothing_fed};
 ghost use Rattle.tesla_feed.specs.Notes.{Note};
-ghost use Rattle.tesla_feed.specs.Steps.{Awaits, Goes, GoesOn, Hears, MayTake, NotesOn, Rests, StopsHearing, StandsFor, is_disclosed_after, after_item, bytes_in};
+ghost use Rattle.tesla_feed.specs.Steps.{EndsWaiting, Goes, GoesOn, Hears, MayTake, NotesOn, Rests, StopsHearing, StandsFor, is_disclosed_after, after_item, bytes_in};
 
 use crate::feeder::Feeder;
 use crate::posts::{hand, have_all_failed};
@@ -47,7 +47,7 @@ pub fn wait_to_begin<R: Wait, C: Clock, G: Gate, N: Notes>(
 ) -> bool
     requires none { feeder.old.counts ≡ counts_of nothing_fed }
     requires noting { NotesOn N.was_told N.may_note C.gave C.read_for feeder.old.sender.stream feeder.old.first 0 nothing_fed instruments.old.notes }
-    ensures awaits { Awaits feeder.old feeder.new (C.told instruments.old.clock) (C.told instruments.new.clock) (N.was_told instruments.old.notes) (N.was_told instruments.new.notes) }
+    ensures waits { EndsWaiting G.over result feeder.old feeder.new (C.told instruments.old.clock) (C.told instruments.new.clock) (N.was_told instruments.old.notes) (N.was_told instruments.new.notes) }
     ensures fixed { N.fixed instruments.new.notes ≡ N.fixed instruments.old.notes }
     ensures noting { NotesOn N.was_told N.may_note C.gave C.read_for feeder.old.sender.stream feeder.old.first 0 nothing_fed instruments.new.notes }
 {
