@@ -110,7 +110,7 @@ fn tell_weak_keys<R: Files + Eprint + AllocGlobal>(rt: &R, words: &[String], lab
     }
 }
 
-// The form of the command that the first word names.
+// The form of the command that the first word names; of several the one that has as many words as these, and else the first.
 fn form_in(words: &[String]) -> Option<&'static str> {
     let [name, ..] = words else {
         return None;
@@ -122,12 +122,17 @@ fn form_in(words: &[String]) -> Option<&'static str> {
         recorded::FORMS.as_slice(),
         live_tools::FORMS.as_slice(),
     ];
+    let mut first = None;
     for table in tables {
         for form in table {
-            if form.words.split(' ').next() == Some(name.as_str()) {
+            if form.words.split(' ').next() != Some(name.as_str()) {
+                continue;
+            }
+            if form.words.split(' ').count() == words.len() {
                 return Some(form.words);
             }
+            first = first.or(Some(form.words));
         }
     }
-    None
+    first
 }

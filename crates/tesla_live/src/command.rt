@@ -99,7 +99,7 @@ fn receiving(name: &str) -> Command
         "chain" | "chain2" => Command::Chain,
         "receive" => Command::Receive,
         "record" => Command::Record,
-        "relay" => Command::Relay,
+        "relay" | "watch-relay" => Command::Relay,
         "seeds" => Command::Seeds,
         "send" => Command::Send,
         "watch" => Command::Watch,

@@ -1,7 +1,7 @@
 //! The names of commands, as lines on standard error begin with them.
 
 /// The names of all commands, and of the two words that ask for a text.
-const LABELS: [&str; 25] = [
+const LABELS: [&str; 26] = [
     "ask",
     "audit",
     "capture",
@@ -24,6 +24,7 @@ const LABELS: [&str; 25] = [
     "stress",
     "trace",
     "watch",
+    "watch-relay",
     "weave",
     "--help",
     "--version",
