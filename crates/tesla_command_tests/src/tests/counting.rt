@@ -52,12 +52,16 @@ record setup 30000 16 both out 1 tail: open 5, read setup 23, read both 5, write
 # Two lines of 24 bytes.
 relay 4 both p,q: open 4, read both 5, write p 2, write q 2, print - 5
 play taken p,q: open 4, read taken 19, write p 2, write q 2, print - 1
-# The last line has between 112 and 120 bytes.
-watch setup 30000 16 both out status 3600: open 5, read setup 23, read both 5, write out 2, print status 12, print - 11
+# The last line has 156 bytes.
+watch setup 30000 16 both out status 3600: open 5, read setup 23, read both 5, write out 2, print status 16, print - 11
+# Two lines of 24 bytes, and the last one of STATUS of 59.
+watch-relay 4 both p,q status 3600: open 5, read both 5, write p 2, write q 2, print status 6, print - 5
 # The head of 5 bytes, and what is gathered at the second quiet, 71 bytes, and at the end, 103.
 capture both out: open 3, read both 5, write out 20, print - 2
 # Keys at the quiet, the frame, and keys in the intervals 7, 9 and 10. The lines have 77 bytes.
 feed setup secret hi p,q: open 6, read setup 23, read secret 17, read hi 3, write p 5, write q 5, print - 8
+# The same, and the last line of STATUS of 112 bytes.
+feed setup secret hi p,q status 3600: open 7, read setup 23, read secret 17, read hi 3, write p 5, write q 5, print status 12, print - 8
 ";
 
 /// How many bytes a call moves at most.

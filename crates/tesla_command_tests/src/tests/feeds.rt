@@ -126,6 +126,28 @@ set fails 1 in,fails 1 two
 told 4 read fault\n
 sent one DATA_1_0_HI KEYS_0_1 KEYS_0_4_AND_1_1
 sent two DATA_1_0_HI
+* messages after the last interval, and a line each second since the opening $ feed setup secret in one,two status 1
+# The third line isn't due before 10000000.
+link in 'e 'x . 'y . . 'z
+clock 0 1700000 1800000 1850000 1900000 2000000 2050000 4000000 4100000 9000000 9900000
+told 0 messages 1\ndisclosures 3\ntoolong 0\nearly 0\nover 3\nbackward 0\nfull 0\nunread 0\n
+sent one,two DATA_8_0_E KEYS_0_7_AND_1_4 KEYS_0_8_AND_1_5 KEYS_0_8_AND_1_8
+holds status 'time=4000000 messages=1 disclosures=3 toolong=0 early=0 over=2 backward=0 full=0 unread=0 held=0 unsent=0 left=0+0a+'time=9000000 messages=1 disclosures=3 toolong=0 early=0 over=3 backward=0 full=0 unread=0 held=0 unsent=0 left=0+0a+'end=9000000 messages=1 disclosures=3 toolong=0 early=0 over=3 backward=0 full=0 unread=0 held=0 unsent=0 left=0+0a
+* lines before the first interval and behind the last message, and none where the clock can't be read $ feed setup secret in one,two status 1
+# It is opened a second before the start, and interval 1 begins at 1100000.
+link in 'a .
+clock 0 18446744073709551615 0 1000000 1050000 18446744073709551615 1100000 1150000 1350000 2400000
+told 0 messages 1\ndisclosures 2\ntoolong 0\nearly 0\nover 0\nbackward 0\nfull 0\nunread 0\n
+sent one,two BARE_1_0_A KEYS_0_1 KEYS_0_8_AND_1_8
+holds status 'time=1000000 messages=0 disclosures=0 toolong=0 early=0 over=0 backward=0 full=0 unread=0 held=0 unsent=0 left=9+0a+'time=2400000 messages=1 disclosures=2 toolong=0 early=0 over=0 backward=0 full=0 unread=0 held=0 unsent=0 left=0+0a+'end=2400000 messages=1 disclosures=2 toolong=0 early=0 over=0 backward=0 full=0 unread=0 held=0 unsent=0 left=0+0a
+* STATUS has no room for its first line $ feed setup secret in one,two status 1
+# All else goes on.
+link in 'e 'x . 'y . . 'z
+clock 0 1700000 1800000 1850000 1900000 2000000 2050000 4000000 4100000 9000000 9900000
+set room 20 status
+told 5 write fault\n
+sent one,two DATA_8_0_E KEYS_0_7_AND_1_4 KEYS_0_8_AND_1_5 KEYS_0_8_AND_1_8
+holds status 'time=4000000 message
 * a date that is set ahead behind the opening, where another clock goes on by 10 milliseconds from reading to reading $ feed setup secret in one
 # What a sender then reads is told by `tesla_outside_tests`. All keys are told in their intervals by it.
 link in 'a
@@ -173,6 +195,15 @@ silent one,two
 set room 18446744073709551615 two
 told 6 no memory\n
 silent one,two
+* no memory has so much room for STATUS $ feed setup secret in one,two status 1
+set room 18446744073709551615 status
+told 6 no memory\n
+silent one,two
+* STATUS can't be opened $ feed setup secret in one,two status 1
+# It is the seventh of the openings.
+set unopened 6
+told 7 open fault\n
+silent one,two
 ";
 
 /// A quiet stands before each datagram. The opening of LINK is 1, and that of CAPTURE 2.
@@ -214,5 +245,5 @@ holds out 54434150010100000000000000010002616202
 clock 1 1700000
 told 0 arrivals 1\nmalformed 1\nforeign 0\nmisfit 0\nfuture 0\nbadkey 0\nlate 0\nrepeat 0\nfull 0\nkept 0\nkeys 0\ngiven 0\n
 holds out
-holds status 'time=1700000 arrivals=1 malformed=1 foreign=0 misfit=0 future=0 badkey=0 late=0 repeat=0 full=0 kept=0 keys=0 given=0+0a
+holds status 'end=1700000 arrivals=1 malformed=1 foreign=0 misfit=0 future=0 badkey=0 late=0 repeat=0 full=0 kept=0 keys=0 given=0 chain0=0 chain1=0 held=0 failedsinks=0+0a
 ";

@@ -64,6 +64,25 @@ set fails 1 p
 told 5 write fault\n
 sent p 61
 sent q 61 6263 64
+* relay to two posts, and its counts $ watch-relay 4 three p,q status 3600
+clock 0 1700000
+told 0 post 0 sent 3 dropped 0\npost 1 sent 3 dropped 0\n
+sent p,q 61 6263 64
+holds status 'end=1700000 sent0=3 dropped0=0 sent1=3 dropped1=0 unsent=0+0a
+* relay to two posts, and its counts: the second send of the first post $ watch-relay 4 three p,q status 3600
+# The other post goes on, and the last line tells what both sent.
+clock 0 1700000
+set fails 1 p
+told 5 write fault\n
+sent p 61
+sent q 61 6263 64
+holds status 'end=1700000 sent0=1 dropped0=0 sent1=3 dropped1=0 unsent=0+0a
+* relay to two posts, and its counts, which can't be written $ watch-relay 4 three p,q status 3600
+clock 0 1700000
+set room 5 status
+told 5 write fault\n
+sent p,q 61 6263 64
+holds status 'end=1
 * play waits for its time: nothing fails $ play hi-taken p
 clock 0 1000000 1149999 1150000
 told 0 played 1\n
