@@ -59,7 +59,9 @@ LIVE = b"usage: receive SETUP LAG CAPACITY LINKS SINKS\nusage: relay CAPACITY LI
 LIVE_TOOLS = b"""\
 usage: capture LINK CAPTURE
 usage: feed SETUP SECRET LINK POSTS
+usage: feed SETUP SECRET LINK POSTS STATUS EVERY
 usage: watch SETUP LAG CAPACITY LINKS SINKS STATUS EVERY
+usage: watch-relay CAPACITY LINK POSTS STATUS EVERY
 """
 RECORDED = b"usage: record SETUP LAG CAPACITY LINKS SINKS KEEP TAIL\n"
 # What a feed tells to which nothing comes, of a stream that has just ended: the last keys are sent, once.
