@@ -1,3 +1,2 @@
+pub mod Chains
 pub mod Counted
-pub mod Falling
-pub mod StepsKept

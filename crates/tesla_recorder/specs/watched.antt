@@ -1,3 +1,2 @@
+pub mod Chains
 pub mod Watched
-pub mod Counts
-pub mod Steps

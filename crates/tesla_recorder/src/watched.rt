@@ -1,14 +1,7 @@
 //! A receiver whose counts are read while it works.
 
-mod counters;
-mod plays;
-mod reader;
-mod rule;
-mod view;
+mod laws;
 mod watched;
-mod writer;
 
-pub use counters::{COUNTS, Counters};
-pub use reader::Reader;
-pub use watched::{Watched, WatchedConfig};
-pub use writer::Writer;
+pub use laws::chains_add_up;
+pub use watched::{CHAINS, COUNTS, REPORT_COUNTS, Watched, WatchedConfig};

@@ -1,26 +1,36 @@
 //! A station, with its counts beside it.
 
-ghost use Rattle.std.specs.Prelude.{◌≡◌, ◌++◌, ◌∷◌, [], List, IfOk};
+ghost use Rattle.std.specs.Prelude.{◌≡◌, ◌+◌, ◌<◌, ◌^◌, ◌++◌, ◌∷◌, [], ℕ, List, IfOk, cond, length, map, if◌then◌else◌, nat_lt, slice_index_or, slice_set};
+ghost use Rattle.std.specs.List.{range_with_len};
 ghost use Rattle.tesla_receiver.specs.declared.history.Entry.{Entry};
-ghost use Rattle.tesla_receiver.specs.Report.{report_of};
-ghost use Rattle.tesla_recorder.specs.watched.Counts.{NoneFalls, no_counts};
-ghost use Rattle.tesla_recorder.specs.watched.Watched.{WatchedStands, counts_in};
+ghost use Rattle.tesla_receiver.specs.declared.history.Entry.TheVariants.{Taken};
+ghost use Rattle.tesla_state.specs.Replies.{reply_shown};
+ghost use Rattle.tesla_counters.specs.Counts.{NoneFalls, no_counts};
+ghost use Rattle.tesla_recorder.specs.watched.Chains.{chain_in, is_chain};
+ghost use Rattle.tesla_recorder.specs.watched.Watched.{WatchedStands, counts_in, counts_of};
 
-use crate::watched::counters::{COUNTS, Counters};
-use crate::watched::reader::Reader;
-use crate::watched::writer::Writer;
 use std::alloc::Global;
 use std::marker::Model;
 use std::sync::ledger::Ledger;
 use tesla_base::{Chronicle, MOST_PAYLOAD, NoMemory, Steps};
+use tesla_counters::{Counters, Reader, Writer};
 use tesla_receiver::{Config, Entry, Receiver, Report, Take, Verdict};
 use tesla_shared::Station;
+
+/// How many counts of a report there are, but for its arrivals.
+pub const REPORT_COUNTS: usize = 11;
+
+/// How many chains a setup has at most.
+pub const CHAINS: usize = 8;
+
+/// How many counts there are: those of a report but for its arrivals, in the order of its lines, and then one for each chain.
+pub const COUNTS: usize = 19;
 
 /// A station, and the counts of its history, which another thread may read at any time.
 #[derive(Drop)]
 pub struct Watched<V = Receiver> {
     station: V,
-    counts: Writer,
+    counts: Writer<COUNTS>,
 }
 
 /// What a station is set up with, and which counts are those of its history.
@@ -28,7 +38,7 @@ pub struct WatchedConfig<C = Config> {
     /// What the station is set up with.
     pub config: C,
     /// The counts that are read.
-    pub counters: Counters,
+    pub counters: Counters<COUNTS>,
 }
 
 impl<V> Model for Watched<V> {
@@ -51,9 +61,30 @@ impl<V: Station> Chronicle for Watched<V> {
     ghost stands = { WatchedStands V.stands };
 }
 
-// The counts of a report but for its arrivals, in the order of its lines.
-fn counts_of(report: &Report) -> [u64; COUNTS]
-    ensures { result ≡ counts_in report.now }
+// The chain on which the packet that was given was released.
+fn chain_of(reply: Take) -> Option<u8>
+    ensures { (releaser : ℕ) (into : List ℕ) → chain_in (Taken releaser (reply_shown reply into)) ≡ result }
+{
+    match reply {
+        Take::Given(head) => Some(head.chain),
+        Take::Empty | Take::Over => None,
+    }
+}
+
+// One packet more was released on this chain.
+fn raise(counts: &mut [u64; COUNTS], chain: u8)
+    requires { (k : ℕ) → slice_index_or counts.old (11 + k) 0 + 1 < 2 ^ 64 }
+    ensures { counts.new ≡ (if nat_lt chain 8 then slice_set counts.old (11 + chain) (slice_index_or counts.old (11 + chain) 0 + 1) else counts.old) }
+{
+    let chain = usize::from(chain);
+    if chain < CHAINS {
+        counts[REPORT_COUNTS + chain] += 1;
+    }
+}
+
+// The counts of a report but for its arrivals, in the order of its lines, and behind them those by chain as they were.
+fn counts_with(report: &Report, before: &[u64; COUNTS]) -> [u64; COUNTS]
+    ensures { result ≡ counts_in report.now ++ map (λ k. slice_index_or before.now (11 + k) 0) (range_with_len 0 8) }
 {
     [
         report.malformed,
@@ -67,32 +98,56 @@ fn counts_of(report: &Report) -> [u64; COUNTS]
         report.kept,
         report.keys,
         report.given,
+        before[11],
+        before[12],
+        before[13],
+        before[14],
+        before[15],
+        before[16],
+        before[17],
+        before[18],
     ]
+}
+
+// The counts behind an event, with this report: where a packet was given, one more was released on its chain.
+fn counts_after(report: &Report, before: &[u64; COUNTS], chain: Option<u8>) -> [u64; COUNTS]
+    requires { (k : ℕ) → slice_index_or before.now (11 + k) 0 + 1 < 2 ^ 64 }
+    ensures { result ≡ counts_in report.now ++ map (λ k. cond (is_chain k chain) (slice_index_or before.now (11 + k) 0 + 1) (slice_index_or before.now (11 + k) 0)) (range_with_len 0 8) }
+{
+    let mut counts = counts_with(report, before);
+    match chain {
+        Some(chain) => {
+            raise(&mut counts, chain);
+            counts
+        }
+        None => counts,
+    }
 }
 
 impl<V: Station> Watched<V> {
     /// Counts from now on what this station answers, which has had no event. The reader has the counts as they stand at any
     /// time. `NoMemory`: there wasn't enough.
-    pub fn open(alloc: Global, station: V) -> Result<(Watched<V>, Reader), NoMemory>
+    pub fn open(alloc: Global, station: V) -> Result<(Watched<V>, Reader<COUNTS>), NoMemory>
         requires { V.stands station [] }
         ensures stands { IfOk result (λ it. WatchedStands V.stands it.0 []) }
         ensures station { IfOk result (λ it. it.0.station ≡ station) }
         ensures counters { IfOk result (λ it. it.1.counters ≡ it.0.counters) }
-        ensures zero { IfOk result (λ it. it.1.counts ≡ no_counts) }
+        ensures zero { IfOk result (λ it. it.1.counts ≡ no_counts 19) }
     {
         let (counts, reader) = Counters::open(alloc)?;
         Ok((Watched { station, counts }, reader))
     }
 
-    /// The counts of the whole history but for its arrivals, in the order of the lines of a report.
+    /// The counts of the whole history: those of its report but for its arrivals, in the order of its lines, and then how many
+    /// packets were released on each chain.
     pub fn counts(&self) -> [u64; COUNTS]
-        ensures { (h : List Entry) → WatchedStands V.stands self.now h → result ≡ counts_in (report_of h) }
+        ensures { (h : List Entry) → WatchedStands V.stands self.now h → result ≡ counts_of h }
     {
-        counts_of(&self.station.report())
+        *self.counts.counts()
     }
 
     /// Takes the reader back. What it read last is not above the counts.
-    pub fn compare(&mut self, reader: Reader)
+    pub fn compare(&mut self, reader: Reader<COUNTS>)
         requires { reader.counters ≡ self.old.counters }
         ensures below { NoneFalls reader.counts self.old.counts }
         ensures same { self.new ≡ self.old }
@@ -100,13 +155,14 @@ impl<V: Station> Watched<V> {
         self.counts.compare(reader);
     }
 
-    // Sets the counts behind an event, to those of the history that the station stands for now.
-    fn count(&mut self)
-        requires { (h : List Entry) × (entry : Entry) × V.stands self.old.station (h ++ entry ∷ []) × (self.old.counts ≡ counts_in (report_of h)) }
-        ensures stands { (h : List Entry) → V.stands self.old.station h → WatchedStands V.stands self.new h }
+    // Sets the counts behind an event, to those of the history that the station stands for now, told the chain on which the
+    // packet was released that was given.
+    fn count(&mut self, chain: Option<u8>)
+        requires { (h : List Entry) × (entry : Entry) × (length h < 2 ^ 63) × V.stands self.old.station (h ++ entry ∷ []) × (self.old.counts ≡ counts_of h) × (chain_in entry ≡ chain) }
+        ensures stands { (h : List Entry) (entry : Entry) → V.stands self.old.station (h ++ entry ∷ []) → self.old.counts ≡ counts_of h → chain_in entry ≡ chain → WatchedStands V.stands self.new (h ++ entry ∷ []) }
         ensures same { (self.new.station ≡ self.old.station) × (self.new.counters ≡ self.old.counters) }
     {
-        let counts = counts_of(&self.station.report());
+        let counts = counts_after(&self.station.report(), self.counts.counts(), chain);
         self.counts.set(&counts);
     }
 }
@@ -124,19 +180,19 @@ impl<V: Station> Station for Watched<V> {
         steps: &mut Steps<L>,
     ) -> Verdict {
         let verdict = self.station.arrive(ingest, reading, bytes, steps);
-        self.count();
+        self.count(None);
         verdict
     }
 
     fn take(&mut self, releaser: u8, into: &mut [u8; MOST_PAYLOAD]) -> Take {
         let reply = self.station.take(releaser, into);
-        self.count();
+        self.count(chain_of(reply));
         reply
     }
 
     fn end(&mut self, ingest: u8) {
         self.station.end(ingest);
-        self.count();
+        self.count(None);
     }
 
     fn may_wait(&self) -> bool {

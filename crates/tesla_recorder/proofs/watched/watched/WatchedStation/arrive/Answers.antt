@@ -1,11 +1,12 @@
+use Rattle.std.proofs.Common.{refl}
 use Rattle.tesla_recorder.proofs.watched.Counted.{counts_stand, stands_counted}
 use Rattle.tesla_recorder.proofs.watched.watched.WatchedStation.arrive.Goals as goal
 
 pub count-requires : goal.count-requires
 count-requires g c =
     let (h, few, stood) = c.requires.stood in
-    counts_stand g.V.Chronicle.stands _ _ _ _ _ h _ c.self.view_is stood (λ before. c.arrive-verdict.ensures.stands h few before)
+    counts_stand g.V.Chronicle.stands _ _ _ _ _ h _ _ few c.self.view_is stood (λ before. c.arrive-verdict.ensures.stands h few before) refl
 
 pub returns-clause-stands : goal.returns-clause-stands
 returns-clause-stands g c h few stood =
-    stands_counted g.V.Chronicle.stands _ _ _ _ _ _ h _ c.self.view_is stood (λ before. c.arrive-verdict.ensures.stands h few before) c.count.ensures.stands
+    stands_counted g.V.Chronicle.stands _ _ _ _ _ _ h _ _ c.self.view_is stood (λ before. c.arrive-verdict.ensures.stands h few before) refl c.count.ensures.stands
