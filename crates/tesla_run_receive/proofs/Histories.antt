@@ -218,11 +218,11 @@ module _ {C : Type 0} where
   pub receives : (arguments : ReceiveArguments) (words : List (List ℕ)) (parts : Parts) (setup : File) (cfg : C) (before opened running now : Told) (end : Ended Entry) (stop : Option OutcomeView) (write : Bool) (last : Option (Ended Entry)) (outcome : OutcomeView) → IsReceive arguments words
       → (it : RanSession (workers_wanted arguments) cfg before opened running now end stop) → IsLegal (config_of arguments parts) (entries end.history) → IsSetupIn setup.page parts → last ≡ Some end → (write ≡ false → list_any sink_failed it.ran.done ≡ false)
       → outcome ≡ outcome_by (stop_by (list_any link_failed it.ran.done) write (list_any has_spent it.ran.done)) (report_text (report_of (entries end.history)))
-      → Receives arguments before.live now.live last setup (drop (length arguments.links) (files_told now (map opening_for (workers_wanted arguments)))) outcome
+      → (received : Receives arguments before.live now.live last setup (drop (length arguments.links) (files_told now (map opening_for (workers_wanted arguments)))) outcome) × (received.parts ≡ parts)
   receives arguments words parts setup cfg before opened running now end stop write last outcome is it legal found last_is wrote outcome_is =
       let config : Config = config_of arguments parts in
       let history : List Entry = entries end.history in
-      let works = works_of arguments config cfg before opened running now end stop is.links_are.distinct is.sinks_are.distinct it legal in record {
+      let works = works_of arguments config cfg before opened running now end stop is.links_are.distinct is.sinks_are.distinct it legal in (record {
         parts = parts;
         found = found;
         end = end;
@@ -237,4 +237,4 @@ module _ {C : Type 0} where
             (ends_as arguments config history (list_any link_failed it.ran.done) write (list_any has_spent it.ran.done)
             (spent arguments config before now it.ran.done history works)
             (λ none clear. all_given arguments config before now it.ran.done history works is.sinks_are.some refl (wrote none) clear));
-      }
+      }, refl)

@@ -29,7 +29,6 @@ use Rattle.tesla_session.specs.Wanted.{Wanted, links_wanted, opening_for, sinks_
 use Rattle.tesla_session.proofs.Counted.{apart_wanted, counts_outcome, counts_outcome_none, counts_opened, counts_ran, counts_refused, counts_unrun}
 use Rattle.tesla_session.proofs.Fresh.{refused_fault, unheard_links, unwritten_pages}
 use Rattle.tesla_session.proofs.Opened.{closes_after, opening_of, openings_are, opens_files, opens_refused_session, runs_openings}
-use Rattle.tesla_state.specs.State.{State}
 use Rattle.tesla_turn.specs.Held.{Ended}
 use Rattle.tesla_turn.specs.History.{entries}
 use Rattle.tesla_run_receive.specs.Arguments.{ReceiveArguments, IsReceive, files_of_receive, workers_wanted}
@@ -89,15 +88,15 @@ record Unreceived (received : ReceiveArguments) (opened : ℕ) (before now : Tol
   unwritten : (name : List ℕ) → (now.page name ≡ before.page name) ⊎ IsUnwritten (now.page name)
   cause : (IsNoSetup (before.page received.setup) outcome × (opened ≤ 1)) ⊎ (outcome ≡ Failed faults.Open) ⊎ (outcome ≡ Failed faults.NoMemory)
 
--- a history was received, and the output holds what is said of it
-record Received (Holds : List Entry → Page → Type 0) (output : Option (List ℕ)) (received : ReceiveArguments) (before now : Told) (last : Option (Ended Entry)) (outcome : OutcomeView) : Type 0 where
+-- a history was received, and the output holds what is said of it and of the setup
+record Received (Holds : Parts → List Entry → Page → Type 0) (output : Option (List ℕ)) (received : ReceiveArguments) (before now : Told) (last : Option (Ended Entry)) (outcome : OutcomeView) : Type 0 where
   receives : Receives received before.live now.live last (file_told before received.setup) (files_told now (map opening_for (sinks_wanted 0 received.sinks))) outcome
   end : Ended Entry
   last_is : last ≡ Some end
-  holds : BehindHolds Holds output (entries end.history) now outcome
+  holds : BehindHolds (Holds receives.parts) output (entries end.history) now outcome
 
 -- a live run, whatever the files of its command are called
-pub record Lives (Holds : List Entry → Page → Type 0) (output : Option (List ℕ)) (received : ReceiveArguments) (before now : Told) (last : Option (Ended Entry)) (outcome : OutcomeView) : Type 0 where
+pub record Lives (Holds : Parts → List Entry → Page → Type 0) (output : Option (List ℕ)) (received : ReceiveArguments) (before now : Told) (last : Option (Ended Entry)) (outcome : OutcomeView) : Type 0 where
   named : AreFiles (with_behind (files_of_receive received) output)
   opened : ℕ
   opens : Opens (with_behind (files_of_receive received) output) opened before now
@@ -110,8 +109,8 @@ behind_setup received None = refl
 behind_setup received (Some output) = refl
 
 -- there was no setup
-pub lives_none : (Holds : List Entry → Page → Type 0) (output : Option (List ℕ)) (received : ReceiveArguments) (words : List (List ℕ)) (before now : Told) (last : Option (Ended Entry)) (stop : Stop) → IsReceive received words → IsApart output received.sinks
-    → OpensSome (OfSource received.setup ∷ []) before now → ((name : List ℕ) → now.page name ≡ before.page name) → now.live ≡ before.live → IsNoSetup (before.page received.setup) (stop_view stop) → StopCauses {A = State} (Err stop) before.faults now.faults → last ≡ None
+pub lives_none : {A : Type 0} (Holds : Parts → List Entry → Page → Type 0) (output : Option (List ℕ)) (received : ReceiveArguments) (words : List (List ℕ)) (before now : Told) (last : Option (Ended Entry)) (stop : Stop) → IsReceive received words → IsApart output received.sinks
+    → OpensSome (OfSource received.setup ∷ []) before now → ((name : List ℕ) → now.page name ≡ before.page name) → now.live ≡ before.live → IsNoSetup (before.page received.setup) (stop_view stop) → StopCauses {A = A} (Err stop) before.faults now.faults → last ≡ None
     → Lives Holds output received before now last (stop_view stop)
 lives_none Holds output received words before now last stop is apart some pages live why causes none =
     let it = opens_some (OfSource received.setup) (with_behind (map opening_for (workers_wanted received)) output) before now some in
@@ -129,7 +128,7 @@ lives_none Holds output received words before now last stop is apart some pages 
     }
 
 -- the setup was read, and then the workers and the output were opened, or not all were
-module _ (Holds : List Entry → Page → Type 0) (output : Option (List ℕ)) (received : ReceiveArguments) (words : List (List ℕ)) (parts : Parts) {C : Type 0} (cfg : C) (before read now : Told) (last : Option (Ended Entry)) (outcome : OutcomeView)
+module _ (Holds : Parts → List Entry → Page → Type 0) (output : Option (List ℕ)) (received : ReceiveArguments) (words : List (List ℕ)) (parts : Parts) {C : Type 0} (cfg : C) (before read now : Told) (last : Option (Ended Entry)) (outcome : OutcomeView)
     (is : IsReceive received words) (apart : IsApart output received.sinks) (pages : (name : List ℕ) → read.page name ≡ before.page name) (live : read.live ≡ before.live) (found : IsSetupIn (before.page received.setup) parts) where
   abbrev Files : List Opening
   Files = map opening_for (workers_wanted received)
@@ -186,7 +185,7 @@ module _ (Holds : List Entry → Page → Type 0) (output : Option (List ℕ)) (
         },
       )
 
-  outcome_ran : Ran Holds output (config_of received parts) (workers_wanted received) cfg read now last outcome → Comes (length Whole)
+  outcome_ran : Ran (Holds parts) output (config_of received parts) (workers_wanted received) cfg read now last outcome → Comes (length Whole)
   outcome_ran it =
       let wanted = workers_wanted received in
       let t = it.runs in
@@ -200,23 +199,26 @@ module _ (Holds : List Entry → Page → Type 0) (output : Option (List ℕ)) (
       let all = all_opened Files output read it.opened it.running (opens_files wanted cfg read it.opened it.turn it.first it.workers it.opens) it.behind in
       let names : map opening_of t.ran.done ≡ Files = runs_openings it.workers t.ran.done t.ran.runs ∙ openings_are wanted read it.opened _ it.first it.workers (Ok tt) refl it.opens in
       let counts = counts_ran wanted cfg read it.opened it.running t.closed t.end t.stop (apart_wanted 0 0 received.links received.sinks is.sinks_are.distinct) session in
-      let ends = ends_behind Holds output received.links received.sinks history t.closed now t.failed outcome apart t.ends (outcome_failed text reads wrote spent t.failed outcome t.outcome_is) in
+      let ends = ends_behind (Holds parts) output received.links received.sinks history t.closed now t.failed outcome apart t.ends (outcome_failed text reads wrote spent t.failed outcome t.outcome_is) in
       let closed : HasCauses it.running.faults now.faults (reads ≡ true) ((wrote || t.failed) ≡ true) ⊥ =
       causes_both it.running.faults t.closed.faults now.faults counts.closes ends.own (λ e. inl e) (λ e. elim e [ inl is ↦ is | inr never ↦ absurd never ]) (either wrote t.failed) (from_either wrote t.failed) (λ e. absurd e) (λ e. elim e [ inl never ↦ never | inr never ↦ never ]) in
-      let got : Receives received read.live t.closed.live last (file_told before received.setup) (drop (length received.links) (files_told t.closed Files)) outcome =
+      let got : (r : Receives received read.live t.closed.live last (file_told before received.setup) (drop (length received.links) (files_told t.closed Files)) outcome) × (r.parts ≡ parts) =
       receives received words parts (file_told before received.setup) cfg read it.opened it.running t.closed t.end t.stop (wrote || t.failed) last outcome is session t.legal found t.last_is (λ none. (or_parts wrote t.failed none).0) t.outcome_is in
       let outs : drop (length received.links) (files_told t.closed Files) ≡ files_told now (map opening_for (sinks_wanted 0 received.sinks)) = holding.outs_told received t.closed ∙ sym ends.sinks_same in
+      let moved : (r : Receives received read.live now.live last (file_told before received.setup) (files_told now (map opening_for (sinks_wanted 0 received.sinks))) outcome) × (r.parts ≡ parts) =
+      subst (λ (l : Live). (r : Receives received read.live l last (file_told before received.setup) (files_told now (map opening_for (sinks_wanted 0 received.sinks))) outcome) × (r.parts ≡ parts)) (sym ends.live)
+      (subst (λ (fs : List File). (r : Receives received read.live t.closed.live last (file_told before received.setup) fs outcome) × (r.parts ≡ parts)) outs got) in
+      let made : (r : Receives received before.live now.live last (file_told before received.setup) (files_told now (map opening_for (sinks_wanted 0 received.sinks))) outcome) × (r.parts ≡ parts) =
+      subst (λ (l : Live). (r : Receives received l now.live last (file_told before received.setup) (files_told now (map opening_for (sinks_wanted 0 received.sinks))) outcome) × (r.parts ≡ parts)) live moved in
       record {
         opens = ends.opens read (closes_after Whole (length Whole) t.ran.done read it.running t.closed it.first t.ran.later all.0 (λ name among. among_all (OfSink name) Files output (subst (λ (os : List Opening). IsAmong (OfSink name) os) names among)) t.ran.closes);
         does = inr (
           refl,
           record {
-            receives = subst (λ (l : Live). Receives received l now.live last (file_told before received.setup) (files_told now (map opening_for (sinks_wanted 0 received.sinks))) outcome) live
-                (subst (λ (l : Live). Receives received read.live l last (file_told before received.setup) (files_told now (map opening_for (sinks_wanted 0 received.sinks))) outcome) (sym ends.live)
-                (subst (λ (fs : List File). Receives received read.live t.closed.live last (file_told before received.setup) fs outcome) outs got));
+            receives = made.0;
             end = t.end;
             last_is = t.last_is;
-            holds = ends.holds;
+            holds = subst (λ (setup : Parts). BehindHolds (Holds setup) output history now outcome) (sym made.1) ends.holds;
           },
         );
         counts = causes_then read.faults it.opened.faults now.faults opened (causes_then it.opened.faults it.running.faults now.faults all.1
@@ -247,7 +249,7 @@ module _ (Holds : List Entry → Page → Type 0) (output : Option (List ℕ)) (
         },
       )
 
-  result_view : RunsStation Holds output (config_of received parts) (workers_wanted received) cfg read now last outcome → (n : ℕ) × Comes n
+  result_view : RunsStation (Holds parts) output (config_of received parts) (workers_wanted received) cfg read now last outcome → (n : ℕ) × Comes n
   result_view (inl unopened) = (0, outcome_unopened unopened)
   result_view (inr (inl it)) = elim it.refused [
     | inl session ↦ outcome_refused_session it.fault session it.none it.outcome_is
@@ -255,8 +257,8 @@ module _ (Holds : List Entry → Page → Type 0) (output : Option (List ℕ)) (
   ]
   result_view (inr (inr ran)) = (length Whole, outcome_ran ran)
 
-  pub lives_run : (state : State) → Opens (OfSource received.setup ∷ []) 1 before read → StopCauses {A = State} (Ok state) before.faults read.faults → RunsStation Holds output (config_of received parts) (workers_wanted received) cfg read now last outcome → Lives Holds output received before now last outcome
-  lives_run state opened causes runs =
+  pub lives_run : {A : Type 0} (made : A) → Opens (OfSource received.setup ∷ []) 1 before read → StopCauses {A = A} (Ok made) before.faults read.faults → RunsStation (Holds parts) output (config_of received parts) (workers_wanted received) cfg read now last outcome → Lives Holds output received before now last outcome
+  lives_run made opened causes runs =
       let it = result_view runs in
       let whole = sym (behind_setup received output) in
       record {
@@ -279,7 +281,7 @@ runs_as Holds output config own wanted cfg before now last outcome same runs = s
 -- ---- the commands
 
 -- a live run with no output is one of receive
-pub performs_receive : (Holds : List Entry → Page → Type 0) (arguments : ReceiveArguments) (before now : Told) (last : Option (Ended Entry)) (outcome : OutcomeView) → Lives Holds None arguments before now last outcome → Performs (receive before.live now.live last) arguments before now outcome
+pub performs_receive : (Holds : Parts → List Entry → Page → Type 0) (arguments : ReceiveArguments) (before now : Told) (last : Option (Ended Entry)) (outcome : OutcomeView) → Lives Holds None arguments before now last outcome → Performs (receive before.live now.live last) arguments before now outcome
 performs_receive Holds arguments before now last outcome it = record {
   named = it.named;
   opened = it.opened;
@@ -319,12 +321,17 @@ performs_with form arguments before now last outcome it =
           unwritten = unwritten_behind (length received.links) (files ++ behind) before now none.unwritten;
           cause = none.cause;
         })
-        | inr (opened, all) ↦ inr (
+        | inr (opened, all) ↦ (
+          let parts : Parts = all.receives.parts in
+          let made : (r : Receives received before.live now.live last (file_told before received.setup) (take (length received.sinks) (drop (length received.links) (files_told now (files ++ behind)))) outcome) × (r.parts ≡ parts) =
+          subst (λ (fs : List File). (r : Receives received before.live now.live last (file_told before received.setup) fs outcome) × (r.parts ≡ parts)) (sym sinks) (all.receives, refl) in
+          inr (
           opened ∙ ap suc (length-append files behind ∙ omega (arith, length-map (workers_wanted received) opening_for)),
-          subst (λ (fs : List File). Receives received before.live now.live last (file_told before received.setup) fs outcome) (sym sinks) all.receives,
-          subst (λ (fs : List File). OutputHolds (form.Holds arguments) last fs outcome) (sym own)
-              (subst (λ (l : Option (Ended Entry)). OutputHolds (form.Holds arguments) l (file_told now arguments.output ∷ []) outcome) (sym all.last_is) all.holds),
-        )
+          made.0,
+          subst (λ (setup : Parts). OutputHolds (form.Holds arguments setup) last (drop (length received.sinks) (drop (length received.links) (files_told now (files ++ behind)))) outcome) (sym made.1)
+              (subst (λ (fs : List File). OutputHolds (form.Holds arguments parts) last fs outcome) (sym own)
+              (subst (λ (l : Option (Ended Entry)). OutputHolds (form.Holds arguments parts) l (file_told now arguments.output ∷ []) outcome) (sym all.last_is) all.holds)),
+          ))
       ];
       counts = it.counts;
     }

@@ -1,5 +1,6 @@
 -- What a command does that is receive with one output more, opened behind the sinks.
 use Rattle.std.specs.Prelude.{◌≡◌, ◌⊎◌, ℕ, suc, true, List, [], ◌∷◌, ◌++◌, length, take, drop, Option, Some}
+use Rattle.tesla_commit.specs.Parts.{Parts}
 use Rattle.tesla_desk.specs.Live.{Live}
 use Rattle.tesla_desk.specs.Outside.{Opening, OfSink, Page, Holds}
 use Rattle.tesla_front.specs.OutcomeView.{OutcomeView, Failed}
@@ -13,10 +14,10 @@ use Rattle.tesla_run_receive.specs.Arguments.{ReceiveArguments, files_of_receive
 use Rattle.tesla_run_receive.specs.Receive.{Receives, Stops}
 use Rattle.tesla_run_receive.specs.OutputArguments.{OutputArguments}
 
--- a form of receive with one output more: which words ask for what, and what the output's page holds, told the history that was made
+-- a form of receive with one output more: which words ask for what, and what the output's page holds, told the setup and the history that was made under it
 pub record WithOutput : Type 1 where
   pub IsForm : OutputArguments → List (List ℕ) → Type 0
-  pub Holds : OutputArguments → List Entry → Page → Type 0
+  pub Holds : OutputArguments → Parts → List Entry → Page → Type 0
 
 -- where the output failed, a link or an output is told to have failed
 abbrev pub TellsFailed : Page → OutcomeView → Type 0
@@ -32,13 +33,13 @@ abbrev pub OutputHolds : (List Entry → Page → Type 0) → Option (Ended Entr
 OutputHolds Told (Some end) (output ∷ []) outcome = Told (entries end.history) output.page × TellsFailed output.page outcome
 OutputHolds Told _ _ outcome = ⊥
 
--- what the run does: nothing was received, nor written to an output; or all was opened, a history was received, and the output holds what the form says of it
-abbrev pub DoesWith : ReceiveArguments → (List Entry → Page → Type 0) → Live → Live → Option (Ended Entry) → ℕ → List File → List File → OutcomeView → Type 0
+-- what the run does: nothing was received, nor written to an output; or all was opened, a history was received, and the output holds what the form says of it and of the setup
+abbrev pub DoesWith : ReceiveArguments → (Parts → List Entry → Page → Type 0) → Live → Live → Option (Ended Entry) → ℕ → List File → List File → OutcomeView → Type 0
 DoesWith arguments Told before now last opened (setup ∷ files) (setup_now ∷ files_now) outcome =
     Stops arguments opened before now last setup (drop (length arguments.links) files) (drop (length arguments.links) files_now) outcome
     ⊎ ((opened ≡ suc (suc (length (workers_wanted arguments))))
-    × Receives arguments before now last setup (take (length arguments.sinks) (drop (length arguments.links) files_now)) outcome
-    × OutputHolds Told last (drop (length arguments.sinks) (drop (length arguments.links) files_now)) outcome)
+    × (received : Receives arguments before now last setup (take (length arguments.sinks) (drop (length arguments.links) files_now)) outcome)
+    × OutputHolds (Told received.parts) last (drop (length arguments.sinks) (drop (length arguments.links) files_now)) outcome)
 DoesWith arguments Told before now last opened files files_now outcome = ⊥
 
 -- the command of a form, told what the desk has of links and clocks before and afterwards, and the end of the turn where there was one: its words, its files and what it does

@@ -1,6 +1,6 @@
 //! A run of the command `receive`.
 
-ghost use Rattle.std.specs.Prelude.{◌≡◌, [], ◌∷◌, ℕ, List, None, IfErr, IfOk, map, string_bytes};
+ghost use Rattle.std.specs.Prelude.{◌≡◌, ◌≤◌, [], ◌∷◌, ℕ, List, None, IfErr, IfOk, length, map, string_bytes};
 ghost use Rattle.tesla_commit.specs.Parts.{Parts};
 ghost use Rattle.tesla_desk.specs.Outside.{OfSource};
 ghost use Rattle.tesla_front.specs.OutcomeView.{Usage, result_view, outcome_view, stop_view};
@@ -71,7 +71,7 @@ fn perform<R: Threads + Wait + Sync, D: Environment>(
     ensures { Performs (receive (D.told desk.old).live (D.told desk.new).live result.1) (arguments_of arguments.now) (D.told desk.old) (D.told desk.new) (result_view result.0) }
 {
     match receiver_under(alloc, arguments, desk) {
-        Ok(receiver) => run_station(rt, alloc, arguments, receiver, NoExtra, desk),
+        Ok((receiver, _)) => run_station(rt, alloc, arguments, receiver, NoExtra, desk),
         Err(stop) => (Err(stop), None),
     }
 }
@@ -97,16 +97,17 @@ fn new_receiver(
     )
 }
 
-/// A receiver with no history, under the setup and what the words ask for. SETUP is read and judged, and all memory of the
-/// receiver is taken. `Refused`: SETUP is no setup. `Failed`: its opening or a read failed, or there wasn't enough memory.
+/// A receiver with no history, under the setup and what the words ask for, and how many chains the setup has. SETUP is read and
+/// judged, and all memory of the receiver is taken. `Refused`: SETUP is no setup. `Failed`: its opening or a read failed, or there wasn't enough memory.
 pub fn receiver_under<D: Environment>(
     alloc: Global,
     arguments: &Arguments<'_>,
     desk: &mut D,
-) -> Result<Receiver, Stop>
+) -> Result<(Receiver, u8), Stop>
     requires few { AreFew (arguments_of arguments.now) }
-    ensures stands { IfOk result (λ receiver. Stands receiver []) }
-    ensures found { IfOk result (λ receiver. (setup : Parts) × IsSetupIn ((D.told desk.old).page arguments.now.setup.now) setup × (receiver.config ≡ config_of (arguments_of arguments.now) setup)) }
+    ensures stands { IfOk result (λ it. Stands it.0 []) }
+    ensures found { IfOk result (λ it. (setup : Parts) × IsSetupIn ((D.told desk.old).page arguments.now.setup.now) setup × (it.0.config ≡ config_of (arguments_of arguments.now) setup)) }
+    ensures chains { IfOk result (λ it. (it.1 ≡ length it.0.config.setup.rows) × (it.1 ≤ 8)) }
     ensures refused { IfErr result (λ stop. IsNoSetup ((D.told desk.old).page arguments.now.setup.now) (stop_view stop)) }
     ensures opened { IfOk result (λ _. Opens (OfSource arguments.now.setup.now ∷ []) 1 (D.told desk.old) (D.told desk.new)) }
     ensures opens { OpensSome (OfSource arguments.now.setup.now ∷ []) (D.told desk.old) (D.told desk.new) }
@@ -115,10 +116,13 @@ pub fn receiver_under<D: Environment>(
     ensures causes { StopCauses result (D.told desk.old).faults (D.told desk.new).faults }
 {
     match setup_under(alloc, arguments.setup, desk) {
-        Ok(setup) => match new_receiver(alloc, setup, arguments) {
-            Ok(receiver) => Ok(receiver),
-            Err(_) => Err(Stop::Failed(Fault::NoMemory)),
-        },
+        Ok(setup) => {
+            let chains = setup.count();
+            match new_receiver(alloc, setup, arguments) {
+                Ok(receiver) => Ok((receiver, chains)),
+                Err(_) => Err(Stop::Failed(Fault::NoMemory)),
+            }
+        }
         Err(stop) => Err(stop),
     }
 }

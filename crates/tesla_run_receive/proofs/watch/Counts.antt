@@ -1,6 +1,9 @@
--- The report that the counts of a history make.
-use Rattle.std.proofs.Common.{◌≡◌, ◌==◌, ℕ, ◌+◌, List, [], ◌∷◌, cond, length, refl, ap, arith}
+-- What the counts of a history make.
+use Rattle.std.proofs.Common.{◌≡◌, ◌∙◌, ◌==◌, inl, inr, ℕ, zero, suc, ◌+◌, ◌≤◌, List, [], ◌∷◌, cond, get_or, length, map, drop, take, refl, ap, arith, get_or-drop, get_or-take, length-drop, length-take-le}
+use Rattle.std.specs.List.{range_with_len}
+use Rattle.std.proofs.lemmas.Bool.{cases_lt}
 use Rattle.std.proofs.lemmas.List.Sums.{sum_by-append}
+use Rattle.tesla_counters.specs.Counts.{NoneFalls}
 use Rattle.tesla_fitting.specs.declared.verdict.Verdict.{Verdict}
 use Rattle.tesla_fitting.specs.declared.verdict.Verdict.TheVariants.{Malformed, Foreign, Misfit, Future, BadKey, Late, Repeat, Full, Kept, Keys}
 use Rattle.tesla_receiver.specs.History.{arrivals_in, given_in}
@@ -9,8 +12,9 @@ use Rattle.tesla_receiver.specs.declared.history.Arrival.{Arrival}
 use Rattle.tesla_receiver.specs.declared.history.Entry.{Entry}
 use Rattle.tesla_state.specs.Counting.{line_of}
 use Rattle.tesla_state.specs.declared.report.Report.{Report}
-use Rattle.tesla_recorder.specs.watched.Watched.{counts_in}
-use Rattle.tesla_run_receive.specs.watch.Lines.{report_at}
+use Rattle.tesla_recorder.specs.watched.Chains.{released_by_chain, released_on}
+use Rattle.tesla_recorder.specs.watched.Watched.{counts_of}
+use Rattle.tesla_run_receive.specs.watch.Lines.{chains_at, report_at}
 
 -- 1 where the verdict has this line, and else 0
 abbrev hit : ℕ → Verdict → ℕ
@@ -52,7 +56,7 @@ arrivals_add (arrival ∷ arrivals) =
     omega (arith, c1, c2, c3, c4, c5, c6, c7, c8, c9, c10, one, rest)
 
 -- the counts of a history make its report
-pub report_whole : (history : List Entry) → report_at (counts_in (report_of history)) ≡ report_of history
+pub report_whole : (history : List Entry) → report_at (counts_of history) ≡ report_of history
 report_whole history =
     let arrivals = arrivals_in history in
     ap
@@ -70,3 +74,34 @@ report_whole history =
       keys = count_of 10 arrivals;
       given = given_in history;
     } in one) (arrivals_add arrivals)
+
+-- of numbers that are made of a range the first ones are made of a shorter range
+taken_range : (f : ℕ → ℕ) (a n m : ℕ) → n ≤ m → take n (map f (range_with_len a m)) ≡ map f (range_with_len a n)
+taken_range f a zero m few = refl
+taken_range f a (suc n) zero few = absurd (omega arith)
+taken_range f a (suc n) (suc m) few = ap (λ (xs : List ℕ). f a ∷ xs) (taken_range f (a + 1) n m (omega arith))
+
+-- and its packets by chain
+pub chains_whole : (chains : ℕ) (history : List Entry) → chains ≤ 8 → chains_at chains (counts_of history) ≡ released_by_chain chains history
+chains_whole chains history few = taken_range (λ chain. released_on chain history) 0 chains 8 few
+
+-- there are as many of these as chains
+pub chains_counted : (chains : ℕ) (counts : List ℕ) → chains ≤ 8 → length counts ≡ 19 → length (chains_at chains counts) ≡ chains
+chains_counted chains counts few size = length-take-le chains (drop 11 counts) (let rest = length-drop 11 counts in omega (arith, few, size, rest))
+
+past_taken : (n : ℕ) (xs : List ℕ) (k : ℕ) → n ≤ k → get_or (take n xs) k 0 ≡ 0
+past_taken zero xs k past = refl
+past_taken (suc n) [] k past = refl
+past_taken (suc n) (x ∷ xs) zero past = absurd (omega arith)
+past_taken (suc n) (x ∷ xs) (suc k) past = past_taken n xs k (omega arith)
+
+-- and none of them falls where no count does
+pub chains_fall : (chains : ℕ) (before now : List ℕ) → NoneFalls before now → NoneFalls (chains_at chains before) (chains_at chains now)
+chains_fall chains before now falls k = elim (cases_lt k chains) [
+  | inl below ↦ (
+    let first = get_or-take chains (drop 11 before) k 0 below ∙ get_or-drop 11 before k 0 in
+    let second = get_or-take chains (drop 11 now) k 0 below ∙ get_or-drop 11 now k 0 in
+    let rises = falls (11 + k) in
+    omega (arith, first, second, rises))
+  | inr past ↦ (let first = past_taken chains (drop 11 before) k past in omega (arith, first))
+]

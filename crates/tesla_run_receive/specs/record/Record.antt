@@ -30,7 +30,7 @@ IsNewTail keep name kept written faults named = (kept ≡ keep) × IfSome writte
 abbrev pub form_of_record : WithOutput
 form_of_record = record {
   IsForm = IsRecord;
-  Holds = λ arguments. HoldsTail arguments.number;
+  Holds = λ arguments setup. HoldsTail arguments.number;
 }
 
 -- the command, told what the desk has of links and clocks before and afterwards, and the end of the turn where there was one: nothing was received, nor written to an output; or all was opened, a history was received, and TAIL has the last entries of it

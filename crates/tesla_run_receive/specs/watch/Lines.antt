@@ -1,6 +1,11 @@
 -- The lines of STATUS: their text, and how one follows another.
-use Rattle.std.specs.Prelude.{◌≡◌, ℕ, ◌+◌, ◌≤◌, List, [], ◌∷◌, ◌++◌, slice_index_or, codes, decimal}
+use Rattle.std.specs.Prelude.{◌≡◌, ℕ, suc, ◌+◌, ◌≤◌, Bool, true, false, List, [], ◌∷◌, ◌++◌, take, drop, length, slice_index_or, codes}
+use Rattle.tesla_counters.specs.Counts.{NoneFalls}
 use Rattle.tesla_state.specs.declared.report.Report.{Report}
+use Rattle.tesla_status.specs.Lines.{number_text}
+use Rattle.tesla_run_receive.specs.declared.watch.line.LineFacts.{LineFacts}
+
+-- ---- counts
 
 -- one of the counts, by its place
 abbrev pub count_at : List ℕ → ℕ → ℕ
@@ -29,9 +34,62 @@ report_at counts =
       given = count_at counts 10;
     }
 
--- a word, and a number
-unfoldable pub number_text : List ℕ → ℕ → List ℕ
-number_text word number = word ++ decimal number
+-- how many packets were released on each chain of a setup with so many chains: these counts stand behind those of a report
+abbrev pub chains_at : ℕ → List ℕ → List ℕ
+chains_at chains counts = take chains (drop 11 counts)
+
+-- what is counted of a history: the numbers of a report, and how many packets were released on each chain
+pub record Counted : Type 0 where
+  pub report : Report
+  pub chains : List ℕ
+
+-- that of these counts, of a setup with so many chains
+abbrev pub counted_at : ℕ → List ℕ → Counted
+counted_at chains counts = record { report = report_at counts; chains = chains_at chains counts }
+
+-- nothing was counted
+abbrev pub none_counted : Counted
+none_counted = record { report = report_at []; chains = [] }
+
+-- no number falls from what was counted to what was counted later
+pub record NoneFall (before now : Counted) : Type 0 where
+  pub arrivals : before.report.arrivals ≤ now.report.arrivals
+  pub malformed : before.report.malformed ≤ now.report.malformed
+  pub foreign : before.report.foreign ≤ now.report.foreign
+  pub misfit : before.report.misfit ≤ now.report.misfit
+  pub future : before.report.future ≤ now.report.future
+  pub badkey : before.report.badkey ≤ now.report.badkey
+  pub late : before.report.late ≤ now.report.late
+  pub repeat : before.report.repeat ≤ now.report.repeat
+  pub full : before.report.full ≤ now.report.full
+  pub kept : before.report.kept ≤ now.report.kept
+  pub keys : before.report.keys ≤ now.report.keys
+  pub given : before.report.given ≤ now.report.given
+  pub chains : NoneFalls before.chains now.chains
+
+-- the arrivals are the sum of the ten verdicts
+abbrev pub AddsUp : Report → Type 0
+AddsUp report = report.arrivals ≡ report.malformed + report.foreign + report.misfit + report.future + report.badkey + report.late + report.repeat + report.full + report.kept + report.keys
+
+-- ---- lines
+
+-- a line: whether it is the last one, the reading of a clock, what was counted, how often a clock gave another reading than the system's, and how many sinks failed
+pub record StatusLine : Type 0 where
+  pub is_last : Bool
+  pub time : ℕ
+  pub counted : Counted
+  pub held_readings : ℕ
+  pub failed_sinks : ℕ
+
+-- that of these counts, told what it tells beside them
+abbrev pub line_at : LineFacts → ℕ → List ℕ → StatusLine
+line_at facts chains counts =
+    record { is_last = facts.is_last; time = facts.time; counted = counted_at chains counts; held_readings = facts.held_readings; failed_sinks = facts.failed_sinks }
+
+-- the word before the reading, with which the line begins
+abbrev pub first_word : Bool → List ℕ
+first_word false = codes "time="
+first_word true = codes "end="
 
 -- the counts of a report but for its arrivals, each behind its name
 unfoldable pub counts_text : Report → List ℕ
@@ -40,42 +98,19 @@ counts_text report =
     ++ number_text (codes " badkey=") report.badkey ++ number_text (codes " late=") report.late ++ number_text (codes " repeat=") report.repeat ++ number_text (codes " full=") report.full
     ++ number_text (codes " kept=") report.kept ++ number_text (codes " keys=") report.keys ++ number_text (codes " given=") report.given
 
--- the line of a report at a reading of a clock
-unfoldable pub status_line : ℕ → Report → List ℕ
-status_line time report = number_text (codes "time=") time ++ number_text (codes " arrivals=") report.arrivals ++ counts_text report ++ codes "\n"
+-- the counts by chain, each behind the number of its chain, of which that of the first is given
+unfoldable pub chains_text : ℕ → List ℕ → List ℕ
+chains_text chain [] = []
+chains_text chain (count ∷ counts) = number_text (codes " chain") chain ++ number_text (codes "=") count ++ chains_text (chain + 1) counts
 
--- a line: the reading of a clock, and the numbers of a report
-pub record StatusLine : Type 0 where
-  pub time : ℕ
-  pub report : Report
+-- the text of a line, with its LF
+unfoldable pub line_text : StatusLine → List ℕ
+line_text line =
+    number_text (first_word line.is_last) line.time ++ number_text (codes " arrivals=") line.counted.report.arrivals ++ counts_text line.counted.report ++ chains_text 0 line.counted.chains
+    ++ number_text (codes " held=") line.held_readings ++ number_text (codes " failedsinks=") line.failed_sinks ++ codes "\n"
 
-abbrev pub line_text : StatusLine → List ℕ
-line_text line = status_line line.time line.report
-
--- no number of a report falls from one to a later one
-pub record NoneFall (before now : Report) : Type 0 where
-  pub arrivals : before.arrivals ≤ now.arrivals
-  pub malformed : before.malformed ≤ now.malformed
-  pub foreign : before.foreign ≤ now.foreign
-  pub misfit : before.misfit ≤ now.misfit
-  pub future : before.future ≤ now.future
-  pub badkey : before.badkey ≤ now.badkey
-  pub late : before.late ≤ now.late
-  pub repeat : before.repeat ≤ now.repeat
-  pub full : before.full ≤ now.full
-  pub kept : before.kept ≤ now.kept
-  pub keys : before.keys ≤ now.keys
-  pub given : before.given ≤ now.given
-
--- the arrivals are the sum of the ten verdicts
-abbrev pub AddsUp : Report → Type 0
-AddsUp report = report.arrivals ≡ report.malformed + report.foreign + report.misfit + report.future + report.badkey + report.late + report.repeat + report.full + report.kept + report.keys
-
--- these lines follow on a report: the arrivals of each are the sum of its verdicts, and no number falls from line to line
-abbrev pub Follow : Report → List StatusLine → Type 0
-Follow before [] = Unit {0}
-Follow before (line ∷ lines) = AddsUp line.report × NoneFall before line.report × Follow line.report lines
-
--- the report in which nothing was counted
-abbrev pub no_report : Report
-no_report = report_at []
+-- These lines follow on what was counted: the arrivals of each are the sum of its verdicts, it has a count for each of so many chains, no count falls from line to line, and behind a last one there is none
+abbrev pub Follow : ℕ → Counted → List StatusLine → Type 0
+Follow chains before [] = Unit {0}
+Follow chains before (line ∷ lines) =
+    AddsUp line.counted.report × (length line.counted.chains ≡ chains) × NoneFall before line.counted × (line.is_last ≡ true → lines ≡ []) × Follow chains line.counted lines

@@ -72,7 +72,7 @@ fn perform<R: Threads + Wait + Sync, D: Environment>(
     ensures { Performs (recording (D.told desk.old).live (D.told desk.new).live result.1) (arguments_of arguments.now) (D.told desk.old) (D.told desk.new) (result_view result.0) }
 {
     match receiver_under(alloc, &arguments.receive, desk) {
-        Ok(receiver) => run_recorded(rt, alloc, arguments, receiver, desk),
+        Ok((receiver, _)) => run_recorded(rt, alloc, arguments, receiver, desk),
         Err(stop) => (Err(stop), None),
     }
 }

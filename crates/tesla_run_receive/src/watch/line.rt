@@ -1,27 +1,16 @@
 //! The lines of the counts.
 
-ghost use Rattle.std.specs.Prelude.{◌≡◌, ◌+◌, ◌≤◌, ◌++◌, codes, length};
+ghost use Rattle.std.specs.Prelude.{◌≡◌, ◌+◌, ◌≤◌, ◌++◌, length};
 ghost use Rattle.arrayvec.specs.ArrayString.{array_string_len};
-ghost use Rattle.tesla_run_receive.specs.watch.Lines.{arrivals_at, counts_text, number_text, report_at, status_line};
+ghost use Rattle.tesla_status.specs.Lines.{number_text};
+ghost use Rattle.tesla_run_receive.specs.watch.Lines.{arrivals_at, chains_text, counts_text, first_word, line_at, line_text, report_at};
 
-use itoa::Buffer;
 use tesla_front::Lines;
-
-// Adds a word of at most 11 bytes, and a number. These are at most 50 bytes.
-#[tactic(auto, unfolding(crate::specs::watch::Lines::number_text))]
-fn add_number(line: &mut Lines, word: &str, number: u128)
-    requires short { length word.now ≤ 11 }
-    requires room { array_string_len line.old + 50 ≤ 2048 }
-    ensures text { line.new.bytes ≡ line.old.bytes ++ number_text word.now number }
-    ensures few { array_string_len line.new ≤ array_string_len line.old + 50 }
-{
-    let mut digits = Buffer::new();
-    line.push_str(word);
-    line.push_str(digits.format(number));
-}
+use tesla_recorder::watched::{COUNTS, REPORT_COUNTS};
+use tesla_status::add_number;
 
 // How many arrivals have the verdicts with these counts.
-fn arrivals_of(counts: &[u64; 11]) -> u128
+fn arrivals_of(counts: &[u64; COUNTS]) -> u128
     ensures { result ≡ arrivals_at counts.now }
 {
     u128::from(counts[0])
@@ -36,11 +25,11 @@ fn arrivals_of(counts: &[u64; 11]) -> u128
         + u128::from(counts[9])
 }
 
-// Adds the counts, each with its name. These are at most 550 bytes.
-fn add_counts(line: &mut Lines, counts: &[u64; 11])
-    requires room { array_string_len line.old + 550 ≤ 2048 }
+// Adds the counts of a report, each with its name. These are at most 572 bytes.
+fn add_counts(line: &mut Lines, counts: &[u64; COUNTS])
+    requires room { array_string_len line.old + 572 ≤ 2048 }
     ensures text { line.new.bytes ≡ line.old.bytes ++ counts_text (report_at counts.now) }
-    ensures few { array_string_len line.new ≤ array_string_len line.old + 550 }
+    ensures few { array_string_len line.new ≤ array_string_len line.old + 572 }
 {
     add_number(line, " malformed=", u128::from(counts[0]));
     add_number(line, " foreign=", u128::from(counts[1]));
@@ -55,15 +44,61 @@ fn add_counts(line: &mut Lines, counts: &[u64; 11])
     add_number(line, " given=", u128::from(counts[10]));
 }
 
-/// The line of the counts at a reading of a clock, with its LF. It takes no memory.
-#[tactic(auto, unfolding(crate::specs::watch::Lines::status_line))]
-pub(crate) fn line_of(time: u64, counts: &[u64; 11]) -> Lines
-    ensures { result.bytes ≡ status_line time (report_at counts.now) }
+// Adds the counts by chain, each with the number of its chain. These are at most 832 bytes.
+fn add_chains(line: &mut Lines, counts: &[u64])
+    requires few { length counts.now ≤ 8 }
+    requires room { array_string_len line.old + 832 ≤ 2048 }
+    ensures text { line.new.bytes ≡ line.old.bytes ++ chains_text 0 counts.now }
+    ensures few { array_string_len line.new ≤ array_string_len line.old + 832 }
+{
+    for chain in 0..counts.len() {
+        add_number(line, " chain", chain as u128);
+        add_number(line, "=", u128::from(counts[chain]));
+    }
+}
+
+// Adds the word before a reading, and the reading. These are at most 52 bytes.
+fn add_reading(line: &mut Lines, is_last: bool, time: u64)
+    requires room { array_string_len line.old + 52 ≤ 2048 }
+    ensures text { line.new.bytes ≡ line.old.bytes ++ number_text (first_word is_last) time }
+    ensures few { array_string_len line.new ≤ array_string_len line.old + 52 }
+{
+    if is_last {
+        add_number(line, "end=", u128::from(time));
+    } else {
+        add_number(line, "time=", u128::from(time));
+    }
+}
+
+/// What a line tells beside the counts.
+#[derive(Drop)]
+pub(crate) struct LineFacts {
+    /// Whether it is the last one.
+    pub(crate) is_last: bool,
+    /// The reading of a clock.
+    pub(crate) time: u64,
+    /// How often a clock gave another reading than the system's.
+    pub(crate) held_readings: u64,
+    /// How many sinks failed.
+    pub(crate) failed_sinks: u64,
+}
+
+/// The line of the counts, for so many chains, with its LF. It takes no memory.
+#[tactic(auto, unfolding(crate::specs::watch::Lines::line_text))]
+pub(crate) fn line_of(facts: &LineFacts, counts: &[u64; COUNTS], chains: u8) -> Lines
+    requires { chains ≤ 8 }
+    ensures { result.bytes ≡ line_text (line_at facts.now chains counts.now) }
 {
     let mut line = Lines::new();
-    add_number(&mut line, "time=", u128::from(time));
+    add_reading(&mut line, facts.is_last, facts.time);
     add_number(&mut line, " arrivals=", arrivals_of(counts));
     add_counts(&mut line, counts);
+    add_chains(
+        &mut line,
+        &counts[REPORT_COUNTS..REPORT_COUNTS + usize::from(chains)],
+    );
+    add_number(&mut line, " held=", u128::from(facts.held_readings));
+    add_number(&mut line, " failedsinks=", u128::from(facts.failed_sinks));
     line.push_str("\n");
     line
 }

@@ -11,7 +11,7 @@ ghost use Rattle.tesla_session.specs.Allowed.{MayAsk, MayAskLinks, MayReleaseAll
 ghost use Rattle.tesla_run_receive.specs.Allowed.{MayWriteReleased};
 ghost use Rattle.tesla_run_receive.specs.Running.{RunsStation};
 ghost use Rattle.tesla_recorder.specs.declared.watched.watched.WatchedConfig.{WatchedConfig};
-ghost use Rattle.tesla_run_receive.specs.watch.Allowed.{MayWriteLines};
+ghost use Rattle.tesla_run_receive.specs.watch.Allowed.{MayWriteLines, MayWriteLinesOf};
 ghost use Rattle.tesla_run_receive.specs.watch.Arguments.{IsWatch};
 ghost use Rattle.tesla_run_receive.specs.watch.Watch.{HoldsStatus, watching};
 
@@ -21,7 +21,7 @@ use crate::{OutputWords, StationResult, output_words_in, receiver_under, run_sta
 use std::alloc::Global;
 use std::sync::Wait;
 use std::thread::Threads;
-use tesla_desk::Environment;
+use tesla_desk::Observed;
 use tesla_front::{Fault, LiveRun, Outcome, Stop, outcome_of, without_history};
 use tesla_receiver::Receiver;
 use tesla_recorder::watched::Watched;
@@ -34,7 +34,7 @@ use tesla_turn::Last;
 /// appends a line of the counts to STATUS every EVERY seconds, by a clock of its own. It takes no turn. When the workers have
 /// ended, whatever they came to, a last line is written. A STATUS that fails gets no further line, and stops nothing. `Done`
 /// tells the counts. It waits for the links.
-pub fn run_watch<R: Threads + Wait + Sync, D: Environment>(
+pub fn run_watch<R: Threads + Wait + Sync, D: Observed>(
     rt: &R,
     alloc: Global,
     words: &[String],
@@ -43,7 +43,7 @@ pub fn run_watch<R: Threads + Wait + Sync, D: Environment>(
     requires asked { MayAsk D.Wire.brought D.Time.may_ask }
     requires any_link { MayAskLinks D.Wire.may_ask }
     requires released { (arguments : OutputArguments) → IsWatch arguments (map string_bytes words.now) → MayWriteReleased D.Pieces.name D.Pieces.written D.Pieces.may_write D.Time.read_for arguments.receive (D.told desk.old) }
-    requires output { (arguments : OutputArguments) → IsWatch arguments (map string_bytes words.now) → MayWriteLines D.Pieces.name D.Pieces.written D.Pieces.may_write D.Time.gave arguments.output }
+    requires output { (arguments : OutputArguments) → IsWatch arguments (map string_bytes words.now) → MayWriteLines D.Pieces.name D.Pieces.written D.Pieces.may_write D.Time.gave arguments (D.told desk.old) }
     ensures runs { RunsAs (watching (D.told desk.old).live (D.told desk.new).live result.last) (map string_bytes words.now) (D.told desk.old) (D.told desk.new) (outcome_view result.outcome) }
     ensures none { outcome_view result.outcome ≡ Usage → result.last ≡ None }
 {
@@ -60,7 +60,7 @@ pub fn run_watch<R: Threads + Wait + Sync, D: Environment>(
 }
 
 // Does what the words of `watch` ask for.
-fn perform<R: Threads + Wait + Sync, D: Environment>(
+fn perform<R: Threads + Wait + Sync, D: Observed>(
     rt: &R,
     alloc: Global,
     arguments: &OutputWords<'_>,
@@ -70,32 +70,34 @@ fn perform<R: Threads + Wait + Sync, D: Environment>(
     requires asked { MayAsk D.Wire.brought D.Time.may_ask }
     requires any_link { MayAskLinks D.Wire.may_ask }
     requires released { MayWriteReleased D.Pieces.name D.Pieces.written D.Pieces.may_write D.Time.read_for (arguments_of arguments.now).receive (D.told desk.old) }
-    requires output { MayWriteLines D.Pieces.name D.Pieces.written D.Pieces.may_write D.Time.gave (arguments_of arguments.now).output }
+    requires output { MayWriteLines D.Pieces.name D.Pieces.written D.Pieces.may_write D.Time.gave (arguments_of arguments.now) (D.told desk.old) }
     ensures { Performs (watching (D.told desk.old).live (D.told desk.new).live result.1) (arguments_of arguments.now) (D.told desk.old) (D.told desk.new) (result_view result.0) }
 {
     match receiver_under(alloc, &arguments.receive, desk) {
-        Ok(receiver) => run_watched(rt, alloc, arguments, receiver, desk),
+        Ok((receiver, chains)) => run_watched(rt, alloc, arguments, receiver, chains, desk),
         Err(stop) => (Err(stop), None),
     }
 }
 
-// Runs the workers over this receiver, and writes its counts.
-fn run_watched<R: Threads + Wait + Sync, D: Environment>(
+// Runs the workers over this receiver, whose setup has so many chains, and writes its counts.
+fn run_watched<R: Threads + Wait + Sync, D: Observed>(
     rt: &R,
     alloc: Global,
     arguments: &OutputWords<'_>,
     receiver: Receiver,
+    chains: u8,
     desk: &mut D,
 ) -> StationResult<Watched>
     requires few { AreFew (arguments_of arguments.now).receive }
+    requires chains { (chains ≡ length receiver.config.setup.rows) × (chains ≤ 8) }
     requires every { arguments.now.number ≤ 3600 }
     requires stands { Stands receiver [] }
     requires ingests { receiver.config.ingests ≡ length (arguments_of arguments.now).receive.links }
     requires asked { MayAsk D.Wire.brought D.Time.may_ask }
     requires any_link { MayAskLinks D.Wire.may_ask }
     requires released { MayReleaseAll D.Pieces.name D.Pieces.written D.Pieces.may_write D.Time.read_for receiver.config 0 (arguments_of arguments.now).receive.sinks }
-    requires output { MayWriteLines D.Pieces.name D.Pieces.written D.Pieces.may_write D.Time.gave arguments.now.output.now }
-    ensures { (cfg : WatchedConfig Config) × RunsStation HoldsStatus (Some arguments.now.output.now) receiver.config (workers_wanted (arguments_of arguments.now).receive) cfg (D.told desk.old) (D.told desk.new) result.1 (result_view result.0) }
+    requires output { MayWriteLinesOf D.Pieces.name D.Pieces.written D.Pieces.may_write D.Time.gave (length receiver.config.setup.rows) arguments.now.output.now }
+    ensures { (cfg : WatchedConfig Config) × RunsStation (HoldsStatus (length receiver.config.setup.rows)) (Some arguments.now.output.now) receiver.config (workers_wanted (arguments_of arguments.now).receive) cfg (D.told desk.old) (D.told desk.new) result.1 (result_view result.0) }
 {
     let Ok((watched, reader)) = Watched::open(alloc, receiver) else {
         return (Err(Stop::Failed(Fault::NoMemory)), None);
@@ -104,6 +106,7 @@ fn run_watched<R: Threads + Wait + Sync, D: Environment>(
         status: arguments.output,
         every: arguments.number,
         reader,
+        chains,
     };
     run_station(rt, alloc, &arguments.receive, watched, monitoring, desk)
 }

@@ -15,13 +15,13 @@ returns-in-Ok g c =
     let (spelled, is) = c.requires.form in
     let made = c.in-Ok.ensures in
     let (setup, found, config) = made.found in
-    performs_receive _ arguments _ _ _ _
-    (lives_run _ None arguments spelled setup _ _ _ _ _ _ is tt made.pages made.live found c.in-Ok.receiver made.opened made.causes
+    performs_receive (λ _ _ _. Unit {0}) arguments _ _ _ _
+    (lives_run (λ _ _ _. Unit {0}) None arguments spelled setup _ _ _ _ _ _ is tt made.pages made.live found _ made.opened made.causes
     (runs_as _ None _ _ (workers_wanted arguments) _ _ _ _ _ config c.run_station.ensures))
 
 pub returns-in-Err : goal.returns-in-Err
 returns-in-Err g c =
     let (spelled, is) = c.requires.form in
     let made = c.in-Err.ensures in
-    performs_receive (λ _ _. Unit {0}) (arguments_of c.args.arguments.now) _ _ _ _
+    performs_receive (λ _ _ _. Unit {0}) (arguments_of c.args.arguments.now) _ _ _ _
     (lives_none _ None _ spelled _ _ _ c.in-Err.stop is tt made.opens made.pages made.live made.refused made.causes refl)

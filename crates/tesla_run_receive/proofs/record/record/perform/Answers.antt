@@ -5,7 +5,7 @@ use Rattle.tesla_run_receive.proofs.Performed.{lives_none, lives_run, performs_w
 use Rattle.tesla_run_receive.specs.Arguments.{workers_wanted}
 use Rattle.tesla_run_receive.specs.OutputArguments.{arguments_of}
 use Rattle.tesla_run_receive.specs.record.Allowed.{MayWriteTailOf}
-use Rattle.tesla_run_receive.specs.record.Record.{form_of_record}
+use Rattle.tesla_run_receive.specs.record.Record.{HoldsTail, form_of_record}
 use Rattle.tesla_run_receive.proofs.record.record.perform.Goals as goal
 
 pub run_recorded-requires-clause-released : goal.run_recorded-requires-clause-released
@@ -27,7 +27,7 @@ returns-in-Ok g c =
     let (setup, found, config) = made.found in
     let (cfg, runs) = c.run_recorded.ensures in
     performs_with form_of_record arguments _ _ _ _
-    (lives_run _ (Some arguments.output) arguments.receive _ setup cfg _ _ _ _ _ is.received (is.named, is.not_sink) made.pages made.live found c.in-Ok.receiver made.opened made.causes
+    (lives_run (λ _. HoldsTail arguments.number) (Some arguments.output) arguments.receive _ setup cfg _ _ _ _ _ is.received (is.named, is.not_sink) made.pages made.live found _ made.opened made.causes
     (runs_as _ (Some arguments.output) _ _ (workers_wanted arguments.receive) cfg _ _ _ _ config runs))
 
 pub returns-in-Err : goal.returns-in-Err
@@ -36,4 +36,4 @@ returns-in-Err g c =
     let is = c.requires.form.1 in
     let made = c.in-Err.ensures in
     performs_with form_of_record arguments _ _ _ _
-    (lives_none _ (Some arguments.output) arguments.receive _ _ _ _ c.in-Err.stop is.received (is.named, is.not_sink) made.opens made.pages made.live made.refused made.causes refl)
+    (lives_none (λ _. HoldsTail arguments.number) (Some arguments.output) arguments.receive _ _ _ _ c.in-Err.stop is.received (is.named, is.not_sink) made.opens made.pages made.live made.refused made.causes refl)

@@ -1,5 +1,6 @@
 use Rattle.std.proofs.Common.{◌≡◌, ◌∙◌, ℕ, List, ◌++◌, ap}
-use Rattle.tesla_run_receive.specs.watch.Lines.{counts_text, number_text}
+use Rattle.tesla_status.specs.Lines.{number_text}
+use Rattle.tesla_run_receive.specs.watch.Lines.{counts_text}
 use Rattle.tesla_run_receive.proofs.watch.Noted.{text_then}
 use Rattle.tesla_run_receive.proofs.watch.line.add_counts.Goals as goal
 
