@@ -25,8 +25,9 @@ module _ {S : Type 0} (output_name : S → List ℕ) (written : S → Option (Li
     asked = λ number datagram came. asks number datagram;
     captured = λ it piece due. writes it piece;
     fed = λ post datagram due. sends post datagram;
+    counted = λ it piece next. writes it piece;
     watched = λ arguments is it piece due. writes it piece;
-    status = λ arguments is it piece named next. writes it piece;
+    status = λ arguments is setup spelled it piece named next. writes it piece;
   }
 
   pub recorded_allowed : AllowsRecorded output_name written may_write post_name sent may_send brought may_ask_link may_ask gave read_for words told

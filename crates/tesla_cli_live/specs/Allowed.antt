@@ -32,14 +32,15 @@ module _ {S : Type 0} (output_name : S → List ℕ) (written : S → Option (Li
       pub relayed : (post : P) (datagram : List ℕ) → relaying.IsDue brought words (post_name post) (sent post) datagram → may_send post datagram ≡ true
       pub played : (post : P) (datagram : List ℕ) → playing.IsDue gave told words (post_name post) (sent post) datagram → may_send post datagram ≡ true
 
-  -- capture, feed and watch: the same of what is captured, of the frames that are due of a feed, and of what is released; STATUS may have each line that comes next
+  -- capture, feed and watch: the same of what is captured, of the frames that are due of a feed, and of what is released; STATUS of a feed and of watch may have each line that comes next
   pub record AllowsLiveTools (words : List (List ℕ)) (told : Told) : Type 0 where
     pub any_link : MayAskLinks may_ask_link
     pub asked : MayAsk brought may_ask
     pub captured : (it : S) (piece : List ℕ) → capturing.IsCapturedAs read_for words told.live (output_name it) (written it) piece → may_write it piece ≡ true
     pub fed : (post : P) (datagram : List ℕ) → feeding.IsFedFrom gave read_for words told (post_name post) (sent post) datagram → may_send post datagram ≡ true
+    pub counted : (it : S) (piece : List ℕ) → feeding.IsCountedFrom gave read_for words told (output_name it) (written it) piece → may_write it piece ≡ true
     pub watched : (arguments : OutputArguments) → IsWatch arguments words → MayWriteReleased output_name written may_write read_for arguments.receive told
-    pub status : (arguments : OutputArguments) → IsWatch arguments words → MayWriteLines output_name written may_write gave arguments.output
+    pub status : (arguments : OutputArguments) → IsWatch arguments words → MayWriteLines output_name written may_write gave arguments told
 
   -- record: the same of what is released; TAIL may have each piece of the last entries of a history
   pub record AllowsRecorded (words : List (List ℕ)) (told : Told) : Type 0 where

@@ -1,5 +1,5 @@
 -- The live commands, in three tables: the word that names each, how they are told, and one run of them.
-use Rattle.std.specs.Prelude.{◌≡◌, ◌++◌, ℕ, true, List, [], ◌∷◌, Option, codes, flat_map}
+use Rattle.std.specs.Prelude.{◌≡◌, ◌++◌, ℕ, Bool, true, List, [], ◌∷◌, Option, codes, flat_map}
 use Rattle.std.specs.Str.{bytes_eq}
 use Rattle.tesla_desk.specs.Live.{Live}
 use Rattle.tesla_desk.specs.Outside.{Told}
@@ -60,17 +60,17 @@ RunsLive words old new last reported = RunsTable (λ before now left. live_of be
 abbrev pub IsLiveTool : List (List ℕ) → Type 0
 IsLiveTool words = is_named (codes "capture" ∷ codes "feed" ∷ codes "watch" ∷ []) words ≡ true
 
--- the tool that a word names, told the same
-abbrev pub live_tool_named : Live → Live → Option (Ended Entry) → List ℕ → Command
-live_tool_named before now last word =
+-- the tool that a word names, told whether a gate may tell that the run was asked to end, and the same
+abbrev pub live_tool_named : Bool → Live → Live → Option (Ended Entry) → List ℕ → Command
+live_tool_named over before now last word =
     where_named (bytes_eq word (codes "capture")) (capture before now) (
-    where_named (bytes_eq word (codes "feed")) (feed before now) (
+    where_named (bytes_eq word (codes "feed")) (feed over before now) (
     where_named (bytes_eq word (codes "watch")) (watching before now last)
     no_command))
 
 -- the tool of these words: the first of them names it
-abbrev pub live_tool_of : Live → Live → Option (Ended Entry) → List (List ℕ) → Command
-live_tool_of before now last words = command_in (live_tool_named before now last) words
+abbrev pub live_tool_of : Bool → Live → Live → Option (Ended Entry) → List (List ℕ) → Command
+live_tool_of over before now last words = command_in (live_tool_named over before now last) words
 
 -- the first word names the tool that leaves a history
 abbrev pub IsWatching : List (List ℕ) → Type 0
@@ -81,9 +81,9 @@ abbrev pub live_tool_usage : List ℕ
 live_tool_usage = flat_map usage_line (capturing.usages ++ feeding.usages ++ watches.usages)
 
 -- one run of the words over a desk, with the console
-abbrev pub RunsLiveTools : List (List ℕ) → Told → Told → Option (Ended Entry) → OutcomeView → Type 0
-RunsLiveTools words old new last reported =
-    RunsTable (λ before now left. live_tool_of before now left words) (IsWatching words) live_tool_usage words old new last reported
+abbrev pub RunsLiveTools : Bool → List (List ℕ) → Told → Told → Option (Ended Entry) → OutcomeView → Type 0
+RunsLiveTools over words old new last reported =
+    RunsTable (λ before now left. live_tool_of over before now left words) (IsWatching words) live_tool_usage words old new last reported
 
 -- ---- record
 

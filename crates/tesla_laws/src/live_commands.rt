@@ -1,6 +1,6 @@
 //! Laws about the live commands, as contracts of functions that do nothing, or run them.
 
-ghost use Rattle.std.specs.Prelude.{◌≡◌, ℕ, List, Option, map, string_bytes};
+ghost use Rattle.std.specs.Prelude.{◌≡◌, ℕ, Bool, List, Option, false, map, string_bytes};
 ghost use Rattle.tesla_desk.specs.Live.{Live};
 ghost use Rattle.tesla_desk.specs.Outside.{Told};
 ghost use Rattle.tesla_memory_desk.specs.Sure.{sure_told_by};
@@ -42,9 +42,9 @@ pub fn forms_are_named()
     ensures receive_is { (arguments : ReceiveArguments) (words : List (List ℕ)) → IsReceive arguments words → IsLive words }
     ensures relay_is { (arguments : RelayArguments) (words : List (List ℕ)) → IsRelayForm arguments words → IsLive words }
     ensures play_is { (arguments : PlayArguments) (words : List (List ℕ)) → IsPlayForm arguments words → IsLive words }
-    ensures captures { (arguments : CaptureArguments) (words : List (List ℕ)) (before now : Live) (last : Option (Ended Entry)) (old new : Told) (outcome : OutcomeView) → IsCaptureForm arguments words → RunsAs (live_tool_of before now last words) words old new outcome → Performs (capture before now) arguments old new outcome }
-    ensures feeds { (arguments : FeedArguments) (words : List (List ℕ)) (before now : Live) (last : Option (Ended Entry)) (old new : Told) (outcome : OutcomeView) → IsFeedForm arguments words → RunsAs (live_tool_of before now last words) words old new outcome → Performs (feed before now) arguments old new outcome }
-    ensures watches { (arguments : OutputArguments) (words : List (List ℕ)) (before now : Live) (last : Option (Ended Entry)) (old new : Told) (outcome : OutcomeView) → IsWatch arguments words → RunsAs (live_tool_of before now last words) words old new outcome → Performs (watching before now last) arguments old new outcome }
+    ensures captures { (arguments : CaptureArguments) (words : List (List ℕ)) (over : Bool) (before now : Live) (last : Option (Ended Entry)) (old new : Told) (outcome : OutcomeView) → IsCaptureForm arguments words → RunsAs (live_tool_of over before now last words) words old new outcome → Performs (capture before now) arguments old new outcome }
+    ensures feeds { (arguments : FeedArguments) (words : List (List ℕ)) (over : Bool) (before now : Live) (last : Option (Ended Entry)) (old new : Told) (outcome : OutcomeView) → IsFeedForm arguments words → RunsAs (live_tool_of over before now last words) words old new outcome → Performs (feed over before now) arguments old new outcome }
+    ensures watches { (arguments : OutputArguments) (words : List (List ℕ)) (over : Bool) (before now : Live) (last : Option (Ended Entry)) (old new : Told) (outcome : OutcomeView) → IsWatch arguments words → RunsAs (live_tool_of over before now last words) words old new outcome → Performs (watching before now last) arguments old new outcome }
     ensures capture_is { (arguments : CaptureArguments) (words : List (List ℕ)) → IsCaptureForm arguments words → IsLiveTool words }
     ensures feed_is { (arguments : FeedArguments) (words : List (List ℕ)) → IsFeedForm arguments words → IsLiveTool words }
     ensures watch_is { (arguments : OutputArguments) (words : List (List ℕ)) → IsWatch arguments words → IsLiveTool words }
@@ -85,7 +85,7 @@ pub fn run_live_tools_surely<R: Threads + Wait + Sync>(
     words: &[String],
     desk: &mut SureDesk,
 ) -> LiveToolsDone
-    ensures outcome { (told : OutcomeView) × (result.status ≡ status_of told) × RunsLiveTools (map string_bytes words.now) (sure_told_by desk.old) (sure_told_by desk.new) result.last told }
+    ensures outcome { (told : OutcomeView) × (result.status ≡ status_of told) × RunsLiveTools false (map string_bytes words.now) (sure_told_by desk.old) (sure_told_by desk.new) result.last told }
     ensures unfailed { IsUnfailed result.status }
 {
     run_live_tools(rt, alloc, words, desk)

@@ -10,8 +10,8 @@ use std::test::Fail;
 use std::thread::yield_now;
 use tesla_base::Text;
 use tesla_desk::{
-    CONSOLE, Clock, Environment, Gate, Got, Link, OpenRefusal, Post, PostStep, ReadStep, Sink,
-    SinkOutput, Source, WriteStep,
+    CONSOLE, Clock, Environment, Gate, Got, Link, NoIncidents, Observed, OpenRefusal, Post,
+    PostStep, ReadStep, Sink, SinkOutput, Source, WriteStep,
 };
 use tesla_test_desk::{SEEDS, SETUP, bytes_of};
 
@@ -422,5 +422,13 @@ impl<'a> Environment for UntoldDesk<'a> {
 
     fn gate(&mut self) -> YieldingGate {
         YieldingGate
+    }
+}
+
+impl<'a> Observed for UntoldDesk<'a> {
+    type Events = NoIncidents;
+
+    fn incidents(&mut self) -> NoIncidents {
+        NoIncidents
     }
 }

@@ -13,5 +13,5 @@ returns-clause-outcome g c = (_, c.status.ensures, c.run_told-run.ensures)
 pub returns-clause-causes : goal.returns-clause-causes
 returns-clause-causes g c =
     let words = map string_bytes c.args.words.now in
-    let command : Live → Live → Option (Ended Entry) → Command = λ before now last. live_tool_of before now last words in
+    let command : Live → Live → Option (Ended Entry) → Command = λ before now last. live_tool_of g.D.Pause.Gate.over before now last words in
     table_causes command (IsWatching words) live_tool_usage words _ _ _ c.run_told-run.result.outcome _ c.status.ensures c.run_told-run.ensures

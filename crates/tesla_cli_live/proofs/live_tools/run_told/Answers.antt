@@ -15,7 +15,7 @@ run_words-run-requires-after_bounds g c κs within = c.requires.allowed _ _ c.in
 pub returns-in-Ok : goal.returns-in-Ok
 returns-in-Ok g c =
     let words = map string_bytes c.args.words.now in
-    let command : Live → Live → Option (Ended Entry) → Command = λ before now last. live_tool_of before now last words in
+    let command : Live → Live → Option (Ended Entry) → Command = λ before now last. live_tool_of g.D.Pause.Gate.over before now last words in
     let old = g.D.Environment.told c.args.desk.now in
     let new = g.D.Environment.told c.report_run.new.desk in
     subst (λ (last : Option (Ended Entry)). RunsTable command (IsWatching words) live_tool_usage words old new last (outcome_view c.report_run.result.outcome)) (sym c.report_run.ensures.last)

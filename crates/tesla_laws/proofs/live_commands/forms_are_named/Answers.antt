@@ -16,16 +16,16 @@ returns-clause-plays c arguments words before now last old new outcome is runs =
     (as_spelled (live_of before now last) words _ old new outcome (begins_with_name (codes "play") words is.spelled) runs).form arguments is
 
 pub returns-clause-captures : goal.returns-clause-captures
-returns-clause-captures c arguments words before now last old new outcome is runs =
-    (as_spelled (live_tool_of before now last) words _ old new outcome (begins_with_name (codes "capture") words is) runs).form arguments is
+returns-clause-captures c arguments words over before now last old new outcome is runs =
+    (as_spelled (live_tool_of over before now last) words _ old new outcome (begins_with_name (codes "capture") words is) runs).form arguments is
 
 pub returns-clause-feeds : goal.returns-clause-feeds
-returns-clause-feeds c arguments words before now last old new outcome is runs =
-    (as_spelled (live_tool_of before now last) words _ old new outcome (begins_with_name (codes "feed") words is.spelled) runs).form arguments is
+returns-clause-feeds c arguments words over before now last old new outcome is runs =
+    (as_spelled (live_tool_of over before now last) words _ old new outcome (begins_with_name (codes "feed") words is.spelled) runs).form arguments is
 
 pub returns-clause-watches : goal.returns-clause-watches
-returns-clause-watches c arguments words before now last old new outcome is runs =
-    (as_spelled (live_tool_of before now last) words _ old new outcome is.spelled runs).form arguments is
+returns-clause-watches c arguments words over before now last old new outcome is runs =
+    (as_spelled (live_tool_of over before now last) words _ old new outcome is.spelled runs).form arguments is
 
 pub returns-clause-relay_is : goal.returns-clause-relay_is
 returns-clause-relay_is c arguments words is = subst IsLive (sym (begins_with_name (codes "relay") words is.spelled)) refl
