@@ -40,7 +40,7 @@ impl<const N: usize> Writer<N> {
         &self.counts
     }
 
-    /// Sets the counts, of which none falls. A count that stays is not stored.
+    /// Sets the counts, of which none falls, the first one first. A count that stays is not stored.
     pub fn set(&mut self, counts: &[u64; N])
         requires { NoneFalls self.old.counts counts.now }
         ensures counts { self.new.counts ≡ counts.now }

@@ -222,19 +222,22 @@ module _ {C : Type 0} where
   receives arguments words parts setup cfg before opened running now end stop write last outcome is it legal found last_is wrote outcome_is =
       let config : Config = config_of arguments parts in
       let history : List Entry = entries end.history in
-      let works = works_of arguments config cfg before opened running now end stop is.links_are.distinct is.sinks_are.distinct it legal in (record {
-        parts = parts;
-        found = found;
-        end = end;
-        last_is = last_is;
-        calls = it.ran.calls;
-        workers = workers arguments config before now it.ran.done history works;
-        legal = legal;
-        heard = heard arguments config before now it.ran.done history works;
-        held = subst (λ (outs : List File). HeldSinks 0 outs history) (sym (outs_told arguments now)) (held arguments config before now it.ran.done history works);
-        ended = ended arguments config before now it.ran.done history works;
-        outcome_is = subst (EndsAs arguments config history) (sym outcome_is)
-            (ends_as arguments config history (list_any link_failed it.ran.done) write (list_any has_spent it.ran.done)
-            (spent arguments config before now it.ran.done history works)
-            (λ none clear. all_given arguments config before now it.ran.done history works is.sinks_are.some refl (wrote none) clear));
-      }, refl)
+      let works = works_of arguments config cfg before opened running now end stop is.links_are.distinct is.sinks_are.distinct it legal in (
+        record {
+          parts = parts;
+          found = found;
+          end = end;
+          last_is = last_is;
+          calls = it.ran.calls;
+          workers = workers arguments config before now it.ran.done history works;
+          legal = legal;
+          heard = heard arguments config before now it.ran.done history works;
+          held = subst (λ (outs : List File). HeldSinks 0 outs history) (sym (outs_told arguments now)) (held arguments config before now it.ran.done history works);
+          ended = ended arguments config before now it.ran.done history works;
+          outcome_is = subst (EndsAs arguments config history) (sym outcome_is)
+              (ends_as arguments config history (list_any link_failed it.ran.done) write (list_any has_spent it.ran.done)
+              (spent arguments config before now it.ran.done history works)
+              (λ none clear. all_given arguments config before now it.ran.done history works is.sinks_are.some refl (wrote none) clear));
+        },
+        refl,
+      )

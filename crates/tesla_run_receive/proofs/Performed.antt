@@ -322,16 +322,16 @@ performs_with form arguments before now last outcome it =
           cause = none.cause;
         })
         | inr (opened, all) ↦ (
-          let parts : Parts = all.receives.parts in
-          let made : (r : Receives received before.live now.live last (file_told before received.setup) (take (length received.sinks) (drop (length received.links) (files_told now (files ++ behind)))) outcome) × (r.parts ≡ parts) =
-          subst (λ (fs : List File). (r : Receives received before.live now.live last (file_told before received.setup) fs outcome) × (r.parts ≡ parts)) (sym sinks) (all.receives, refl) in
-          inr (
-          opened ∙ ap suc (length-append files behind ∙ omega (arith, length-map (workers_wanted received) opening_for)),
-          made.0,
-          subst (λ (setup : Parts). OutputHolds (form.Holds arguments setup) last (drop (length received.sinks) (drop (length received.links) (files_told now (files ++ behind)))) outcome) (sym made.1)
-              (subst (λ (fs : List File). OutputHolds (form.Holds arguments parts) last fs outcome) (sym own)
-              (subst (λ (l : Option (Ended Entry)). OutputHolds (form.Holds arguments parts) l (file_told now arguments.output ∷ []) outcome) (sym all.last_is) all.holds)),
-          ))
+            let parts : Parts = all.receives.parts in
+            let made : (r : Receives received before.live now.live last (file_told before received.setup) (take (length received.sinks) (drop (length received.links) (files_told now (files ++ behind)))) outcome) × (r.parts ≡ parts) =
+            subst (λ (fs : List File). (r : Receives received before.live now.live last (file_told before received.setup) fs outcome) × (r.parts ≡ parts)) (sym sinks) (all.receives, refl) in
+            inr (
+              opened ∙ ap suc (length-append files behind ∙ omega (arith, length-map (workers_wanted received) opening_for)),
+              made.0,
+              subst (λ (setup : Parts). OutputHolds (form.Holds arguments setup) last (drop (length received.sinks) (drop (length received.links) (files_told now (files ++ behind)))) outcome) (sym made.1)
+                  (subst (λ (fs : List File). OutputHolds (form.Holds arguments parts) last fs outcome) (sym own)
+                  (subst (λ (l : Option (Ended Entry)). OutputHolds (form.Holds arguments parts) l (file_told now arguments.output ∷ []) outcome) (sym all.last_is) all.holds)),
+            ))
       ];
       counts = it.counts;
     }

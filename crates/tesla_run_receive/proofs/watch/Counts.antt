@@ -99,9 +99,9 @@ past_taken (suc n) (x ∷ xs) (suc k) past = past_taken n xs k (omega arith)
 pub chains_fall : (chains : ℕ) (before now : List ℕ) → NoneFalls before now → NoneFalls (chains_at chains before) (chains_at chains now)
 chains_fall chains before now falls k = elim (cases_lt k chains) [
   | inl below ↦ (
-    let first = get_or-take chains (drop 11 before) k 0 below ∙ get_or-drop 11 before k 0 in
-    let second = get_or-take chains (drop 11 now) k 0 below ∙ get_or-drop 11 now k 0 in
-    let rises = falls (11 + k) in
-    omega (arith, first, second, rises))
+      let first = get_or-take chains (drop 11 before) k 0 below ∙ get_or-drop 11 before k 0 in
+      let second = get_or-take chains (drop 11 now) k 0 below ∙ get_or-drop 11 now k 0 in
+      let rises = falls (11 + k) in
+      omega (arith, first, second, rises))
   | inr past ↦ (let first = past_taken chains (drop 11 before) k past in omega (arith, first))
 ]

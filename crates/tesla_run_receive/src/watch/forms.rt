@@ -7,7 +7,8 @@ use tesla_front::FormText;
 pub const WATCH: FormText = FormText {
     words: "watch SETUP LAG CAPACITY LINKS SINKS STATUS EVERY",
     about: "    does as receive does, empties STATUS, and writes a line with its counts to
-    it every EVERY seconds, and one when all links have ended.
+    it every EVERY seconds, and one when all links have ended. Lines also tell the
+    packets released on each chain, held readings of the clock, and failed sinks.
     LAG, CAPACITY, LINKS, SINKS: as of receive
     EVERY: how many seconds, 1 to 3600
     Example, a lag of 0.03 seconds, a link that never ends, and a line each minute:

@@ -25,8 +25,7 @@ set-requires g c =
     let same = sym c.self.view_is in
     let now = subst (λ (s : WatchedState _). g.V.Chronicle.stands s.station (h ++ entry ∷ [])) same stood in
     let was : c.self.inside.counts.counts ≡ counts_of h = ap (λ (s : WatchedState _). s.counts) c.self.view_is ∙ counts_are in
-    let made = c.counts_after-counts.ensures ∙ counted _ _ c.counts.result.now c.args.chain (c.report.ensures _ now) ∙ counts_more h entry c.counts.result.now c.args.chain (c.counts.ensures ∙ was) is in
-    (
+    let made = c.counts_after-counts.ensures ∙ counted _ _ c.counts.result.now c.args.chain (c.report.ensures _ now) ∙ counts_more h entry c.counts.result.now c.args.chain (c.counts.ensures ∙ was) is in (
       omega arith,
       (
         omega arith,
