@@ -1,4 +1,6 @@
 pub mod Others
 pub mod Years
 pub mod Chains
+pub mod Clocks
+pub mod Rates
 pub mod Runs

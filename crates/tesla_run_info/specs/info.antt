@@ -1,5 +1,6 @@
 pub mod Arguments
 pub mod Calendar
+pub mod Left
 pub mod Lines
 pub mod Equal
 pub mod Telling

@@ -4,6 +4,7 @@ mod calendar;
 mod equal;
 mod form;
 pub mod laws;
+mod left;
 mod lines;
 mod run;
 

@@ -1,16 +1,20 @@
--- The delay of the last chain, and the lines of chains one after another.
-use Rattle.std.proofs.Common.{◌≡◌, ◌∙◌, ℕ, zero, suc, ◌+◌, ◌<◌, ◌≤◌, Some, List, [], ◌∷◌, ◌++◌, length, drop, refl, sym, ap, arith, append-nil, append_assoc}
+-- The delay of the last chain, and the lines of chains and of what is left, one after another.
+use Rattle.std.proofs.Common.{◌≡◌, ◌∙◌, ℕ, zero, suc, ◌+◌, ◌<◌, ◌≤◌, Some, List, [], ◌∷◌, ◌++◌, length, drop, codes, false, refl, sym, ap, arith, append-nil, append_assoc}
 use Rattle.std.specs.Prelude.{slice_get}
 use Rattle.std.specs.Int.{w64, to_be_bytes}
 use Rattle.std.proofs.Math.Seq.{drop-cons}
 use Rattle.std.proofs.Math.ListN.{drop_of_length-le}
+use Rattle.std.proofs.lemmas.Bool.Decides.{nat_tests}
 use Rattle.std.proofs.lemmas.Option.{get_or_from_slice_get}
 use Rattle.hex.specs.Hex.{encode_lower}
 use Rattle.sha2.specs.Sha256.{sha256}
 use Rattle.sha2.proofs.Facts256.{length-sha256}
 use Rattle.tesla_commit.specs.declared.chain_row.ChainRow.{ChainRow}
 use Rattle.tesla_commit.proofs.Lengths.{hex_length}
-use Rattle.tesla_run_info.specs.info.Lines.{chain_line, chain_lines, slowest}
+use Rattle.tesla_clock.specs.Schedule.{Times}
+use Rattle.tesla_front.specs.Lines.{count_line}
+use Rattle.tesla_run_info.specs.info.Left.{is_unread, left_at, seconds_left_at}
+use Rattle.tesla_run_info.specs.info.Lines.{chain_line, chain_lines, left_lines, slowest}
 
 -- the last row has the slowest delay
 pub slowest_is : (rows : List ChainRow) (place : ℕ) (row : ChainRow) → place + 1 ≡ length rows → slice_get rows place ≡ Some row → slowest rows ≡ row.delay
@@ -36,9 +40,18 @@ next_chains length_of k rows row before mid now is within one rest =
     ∙ ap (λ (n : ℕ). before ++ (chain_line length_of k row ++ chain_lines length_of n (drop (k + 1) rows))) (let e : k + 1 ≡ suc k = omega arith in e)
     ∙ ap (λ (rs : List ChainRow). before ++ chain_lines length_of k rs) (sym (one_left rows k row is within))
 
--- four parts, one behind another
-pub all_lines : (head chains capacity sum a b c d : List ℕ) → a ≡ head → b ≡ a ++ chains → c ≡ b ++ capacity → d ≡ c ++ sum → d ≡ head ++ chains ++ capacity ++ sum
-all_lines head chains capacity sum a b c d one two three four = four ∙ ap (λ (t : List ℕ). t ++ sum) (three ∙ ap (λ (t : List ℕ). t ++ capacity) (two ∙ ap (λ (t : List ℕ). t ++ chains) one))
+-- the two lines of what is left, where the clock could be read
+pub both_left : (times : Times) (reading : ℕ) (before mid now : List ℕ) (intervals seconds : ℕ) → (reading ≡ 18446744073709551615 → ⊥) → intervals ≡ left_at times reading → seconds ≡ seconds_left_at times reading
+    → mid ≡ before ++ count_line (codes "left") intervals → now ≡ mid ++ count_line (codes "left-seconds") seconds → now ≡ before ++ left_lines times reading
+both_left times reading before mid now intervals seconds read is are one two =
+    let is_read : is_unread reading ≡ false = grind (arith, nat_tests, read) in
+    rw is_read (two ∙ ap (λ (n : ℕ). mid ++ count_line (codes "left-seconds") n) are ∙ ap (λ (t : List ℕ). t ++ count_line (codes "left-seconds") (seconds_left_at times reading)) (one ∙ ap (λ (n : ℕ). before ++ count_line (codes "left") n) is)
+    ∙ append_assoc before (count_line (codes "left") (left_at times reading)) (count_line (codes "left-seconds") (seconds_left_at times reading)))
+
+-- five parts, one behind another
+pub all_lines : (head left chains capacity sum a b c d e : List ℕ) → a ≡ head → b ≡ a ++ left → c ≡ b ++ chains → d ≡ c ++ capacity → e ≡ d ++ sum → e ≡ head ++ left ++ chains ++ capacity ++ sum
+all_lines head left chains capacity sum a b c d e one two three four five =
+    five ∙ ap (λ (t : List ℕ). t ++ sum) (four ∙ ap (λ (t : List ℕ). t ++ capacity) (three ∙ ap (λ (t : List ℕ). t ++ chains) (two ∙ ap (λ (t : List ℕ). t ++ left) one)))
 
 -- the digits of a stream's number are 16
 pub stream_short : (number : ℕ) (digits : List ℕ) → digits ≡ encode_lower (to_be_bytes w64 number) → length digits ≤ 64

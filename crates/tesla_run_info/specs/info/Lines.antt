@@ -1,5 +1,5 @@
 -- The lines that tell a setup.
-use Rattle.std.specs.Prelude.{◌≡◌, ℕ, suc, ◌+◌, ◌-◌, ◌*◌, ◌/◌, List, [], ◌∷◌, ◌++◌, codes, decimal}
+use Rattle.std.specs.Prelude.{◌≡◌, ℕ, suc, ◌+◌, ◌-◌, ◌*◌, ◌/◌, Option, List, [], ◌∷◌, ◌++◌, codes, decimal, if◌then◌else◌, unwrap_or}
 use Rattle.std.specs.Int.{w64, to_be_bytes}
 use Rattle.hex.specs.Hex.{encode_lower}
 use Rattle.sha2.specs.Sha256.{sha256}
@@ -10,15 +10,12 @@ use Rattle.tesla_commit.specs.SetupText.{setup_text}
 use Rattle.tesla_commit.specs.declared.chain_row.ChainRow.{ChainRow}
 use Rattle.tesla_front.specs.Lines.{count_line}
 use Rattle.tesla_run_info.specs.info.Calendar.{IsMoment, moment_text}
+use Rattle.tesla_run_info.specs.info.Left.{end_of, is_unread, left_at, seconds_left_at}
 use Rattle.tesla_run_info.specs.declared.info.calendar.Moment.{Moment}
 
 -- a name, a space, a value and an LF
 abbrev pub word_line : List ℕ → List ℕ → List ℕ
 word_line name value = name ++ codes " " ++ value ++ codes "\n"
-
--- the microsecond at which the last interval has ended
-abbrev pub end_of : Times → ℕ
-end_of times = times.start + times.length * (times.last + 1)
 
 -- from the sending of a packet to the interval in which its key is told, at most, in microseconds: where it is sent when its own begins
 abbrev pub latency : ℕ → ℕ → ℕ
@@ -45,9 +42,9 @@ slowest [] = 0
 slowest (row ∷ []) = row.delay
 slowest (row ∷ next ∷ rows) = slowest (next ∷ rows)
 
--- how many places a receiver needs for each packet a second, so that each packet has one until the slowest chain has passed its interval: the seconds that this takes at most, rounded up
-abbrev pub places : Parts → ℕ
-places setup = ((slowest setup.rows + 1) * setup.times.length + 999999) / 1000000
+-- how many places a receiver needs, told how many packets come in a second, so that each packet has one until the slowest chain has passed its interval: those that come in the microseconds that this takes at most, rounded up
+abbrev pub places : ℕ → Parts → ℕ
+places rate setup = (rate * ((slowest setup.rows + 1) * setup.times.length) + 999999) / 1000000
 
 -- the lines before those of the chains, told the digits of the stream's number and the moments of the begin and the end
 unfoldable pub head_text : Parts → List ℕ → Moment → Moment → List ℕ
@@ -58,18 +55,24 @@ head_text setup stream begins ends =
     ++ count_line (codes "start") setup.times.start ++ word_line (codes "begins") (moment_text begins)
     ++ count_line (codes "end") (end_of setup.times) ++ word_line (codes "ends") (moment_text ends)
 
--- all lines
-abbrev pub info_text : Parts → Moment → Moment → List ℕ
-info_text setup begins ends =
+-- the lines of what is left at a reading of the clock: there are none where it couldn't be read
+abbrev pub left_lines : Times → ℕ → List ℕ
+left_lines times reading =
+    if is_unread reading then [] else count_line (codes "left") (left_at times reading) ++ count_line (codes "left-seconds") (seconds_left_at times reading)
+
+-- all lines, told how many packets come in a second, and a reading of the clock
+abbrev pub info_text : ℕ → ℕ → Parts → Moment → Moment → List ℕ
+info_text rate reading setup begins ends =
     head_text setup (encode_lower (to_be_bytes w64 setup.stream.0)) begins ends
+    ++ left_lines setup.times reading
     ++ chain_lines setup.times.length 0 setup.rows
-    ++ count_line (codes "capacity") (places setup)
+    ++ count_line (codes "capacity") (places rate setup)
     ++ word_line (codes "sha256") (encode_lower (sha256 (setup_text setup)))
 
--- the text is the lines that tell a setup
-pub record IsInfo (setup : Parts) (text : List ℕ) : Type 0 where
+-- the text is the lines that tell a setup at a reading of the clock; the places are those of one packet a second where no rate is told
+pub record IsInfo (rate : Option ℕ) (reading : ℕ) (setup : Parts) (text : List ℕ) : Type 0 where
   pub begins : Moment
   pub ends : Moment
   pub begin : IsMoment (setup.times.start / 1000000) begins
   pub end : IsMoment (end_of setup.times / 1000000) ends
-  pub lines : text ≡ info_text setup begins ends
+  pub lines : text ≡ info_text (unwrap_or rate 1) reading setup begins ends

@@ -1,6 +1,7 @@
 -- What the command info does.
-use Rattle.std.specs.Prelude.{◌≡◌, ◌⊎◌, ℕ, ◌+◌, ◌≤◌, List, [], ◌∷◌, codes}
+use Rattle.std.specs.Prelude.{◌≡◌, ◌⊎◌, ℕ, ◌+◌, ◌≤◌, Option, List, [], ◌∷◌, codes}
 use Rattle.tesla_commit.specs.Parts.{Parts}
+use Rattle.tesla_desk.specs.Live.{Live}
 use Rattle.tesla_desk.specs.Outside.{Page}
 use Rattle.tesla_front.specs.OutcomeView.{OutcomeView, Done, Refused, Failed}
 use Rattle.tesla_front.specs.Command.{Command}
@@ -10,6 +11,7 @@ use Rattle.tesla_front.specs.Setup.{IsNoSetup, IsSetupIn}
 use Rattle.tesla_front.specs.declared.fault.Fault.TheVariants as faults
 use Rattle.tesla_run_info.specs.info.Arguments.{InfoArguments, IsInfoForm, files_of_info}
 use Rattle.tesla_run_info.specs.info.Equal.{AreApart, AreApartBefore, EqualsBefore, first_row}
+use Rattle.tesla_run_info.specs.info.Left.{IsFirstReading, with_clock}
 use Rattle.tesla_run_info.specs.info.Lines.{IsInfo}
 
 -- the first chain whose commitment a chain before has is told, with its line
@@ -19,29 +21,43 @@ pub record RefusesEqual (setup : Parts) (outcome : OutcomeView) : Type 0 where
   pub before : AreApartBefore setup.rows chain
   pub told : outcome ≡ Refused 2 (refused_line (codes "setup") (first_row setup.version + chain) (codes "EqualCommitments"))
 
--- what telling a setup comes to: its lines, where no two commitments are equal, or there was no memory
-abbrev pub TellsInfo : Parts → OutcomeView → Type 0
-TellsInfo setup (Done lines) = AreApart setup.rows × IsInfo setup lines
-TellsInfo setup (Refused status line) = RefusesEqual setup (Refused status line)
-TellsInfo setup (Failed fault) = fault ≡ faults.NoMemory
-TellsInfo setup _ = ⊥
+-- the lines of a setup were told at the first reading of the next clock
+pub record TellsAt (before now : Live) (rate : Option ℕ) (setup : Parts) (lines : List ℕ) : Type 0 where
+  pub reading : ℕ
+  pub clock : IsFirstReading reading before
+  pub clock_made : now ≡ with_clock before
+  pub told : IsInfo rate reading setup lines
 
--- there is no setup
-pub record LacksSetup (opened : ℕ) (page : Page) (outcome : OutcomeView) : Type 0 where
+-- what telling a setup comes to: its lines, where no two commitments are equal; else no clock was made, nor where there was no memory
+abbrev pub TellsInfo : Live → Live → Option ℕ → Parts → OutcomeView → Type 0
+TellsInfo before now rate setup (Done lines) = AreApart setup.rows × TellsAt before now rate setup lines
+TellsInfo before now rate setup (Refused status line) = RefusesEqual setup (Refused status line) × (now ≡ before)
+TellsInfo before now rate setup (Failed fault) = (fault ≡ faults.NoMemory) × (now ≡ before)
+TellsInfo before now rate setup _ = ⊥
+
+-- there is no setup, and no clock was made
+pub record LacksSetup (before now : Live) (opened : ℕ) (page : Page) (outcome : OutcomeView) : Type 0 where
   pub alone : opened ≤ 1
+  pub same : now ≡ before
   pub why : IsNoSetup page outcome
 
 -- the setup was read, and told
-pub record TellsSetup (page : Page) (outcome : OutcomeView) : Type 0 where
+pub record TellsSetup (before now : Live) (rate : Option ℕ) (page : Page) (outcome : OutcomeView) : Type 0 where
   pub setup : Parts
   pub found : IsSetupIn page setup
-  pub told : TellsInfo setup outcome
+  pub told : TellsInfo before now rate setup outcome
 
 -- a run of the command, of which so many files were asked to be opened, with what is told of SETUP before and after it, and what it came to
-abbrev pub DoesInfo : InfoArguments → ℕ → List File → List File → OutcomeView → Type 0
-DoesInfo arguments opened (setup ∷ []) (read ∷ []) outcome = LacksSetup opened setup.page outcome ⊎ TellsSetup setup.page outcome
-DoesInfo arguments opened before after outcome = ⊥
+abbrev pub DoesInfo : Live → Live → InfoArguments → ℕ → List File → List File → OutcomeView → Type 0
+DoesInfo before now arguments opened (setup ∷ []) (read ∷ []) outcome = LacksSetup before now opened setup.page outcome ⊎ TellsSetup before now arguments.rate setup.page outcome
+DoesInfo before now arguments opened files files_now outcome = ⊥
 
--- the command
-abbrev pub info : Command
-info = record { Arguments = InfoArguments; IsForm = IsInfoForm; files = files_of_info; Does = DoesInfo }
+-- the command, told what the desk has of links, posts and clocks before and afterwards: its words, its files and what it does
+abbrev pub info : Live → Live → Command
+info before now = record { Arguments = InfoArguments; IsForm = IsInfoForm; files = files_of_info; Does = DoesInfo before now }
+
+-- ---- what the run leaves
+
+-- what is told of links, posts and clocks is as before, but that one clock more may have been made
+abbrev pub TouchesClock : Live → Live → Type 0
+TouchesClock before now = (now ≡ before) ⊎ (now ≡ with_clock before)

@@ -1,6 +1,6 @@
 //! The lines that tell a setup.
 
-ghost use Rattle.std.specs.Prelude.{◌≡◌, ◌+◌, ◌-◌, ◌*◌, ◌<◌, ◌≤◌, ◌++◌, codes, drop, length, IfOk};
+ghost use Rattle.std.specs.Prelude.{◌≡◌, ◌+◌, ◌-◌, ◌*◌, ◌<◌, ◌≤◌, ◌++◌, codes, drop, length, IfErr, IfOk};
 ghost use Rattle.std.specs.Int.{w64, to_be_bytes};
 ghost use Rattle.arrayvec.specs.ArrayString.{array_string_len};
 ghost use Rattle.hex.specs.Hex.{encode_lower};
@@ -8,19 +8,20 @@ ghost use Rattle.sha2.specs.Sha256.{sha256};
 ghost use Rattle.tesla_commit.specs.SetupText.{setup_text};
 ghost use Rattle.tesla_front.specs.Lines.{count_line};
 ghost use Rattle.tesla_run_info.specs.info.Calendar.{date_text, moment_text, time_text, two};
-ghost use Rattle.tesla_run_info.specs.info.Lines.{IsInfo, chain_line, chain_lines, end_of, head_text, places, word_line};
+ghost use Rattle.tesla_run_info.specs.info.Left.{end_of};
+ghost use Rattle.tesla_run_info.specs.info.Lines.{IsInfo, chain_line, chain_lines, head_text, left_lines, places, word_line};
+ghost use Rattle.tesla_run_info.specs.info.Telling.{TellsAt};
 
 use crate::info::calendar::{Moment, moment_of};
+use crate::info::left::{SECOND, end_of, left_at, seconds_left_at};
 use itoa::Buffer;
 use sha2::{Digest, Sha256};
 use std::alloc::Global;
 use tesla_base::NoMemory;
 use tesla_clock::Schedule;
 use tesla_commit::{ChainRow, Setup, write_setup};
+use tesla_desk::{Clock, Desk};
 use tesla_front::{Lines, add_count};
-
-/// The microseconds of a second.
-const SECOND: u128 = 1_000_000;
 
 // Adds a line of a name of at most 11 bytes and a value of at most 64.
 fn add_word(lines: &mut Lines, name: &str, value: &str)
@@ -96,24 +97,17 @@ fn add_moment(lines: &mut Lines, name: &str, moment: &Moment)
     lines.push_str("\n");
 }
 
-// The microsecond at which the last interval has ended.
-fn end_of(schedule: Schedule) -> u128
-    ensures value { result ≡ end_of schedule }
-    ensures limit { result ≤ 18450520717885440001 }
-{
-    let length = u128::from(schedule.length());
-    u128::from(schedule.start()) + length * (u128::from(schedule.last()) + 1)
-}
-
-// Adds the line of the end.
-fn add_end(lines: &mut Lines, end: u128)
-    requires room { array_string_len lines.old + 45 ≤ 2048 }
-    ensures text { lines.new.bytes ≡ lines.old.bytes ++ count_line (codes "end") end }
-    ensures few { array_string_len lines.new ≤ array_string_len lines.old + 45 }
+// Adds a line of a name of at most 12 bytes and a number that may have more than 64 bits.
+fn add_wide(lines: &mut Lines, name: &str, number: u128)
+    requires short { length name.now ≤ 12 }
+    requires room { array_string_len lines.old + 53 ≤ 2048 }
+    ensures text { lines.new.bytes ≡ lines.old.bytes ++ count_line name.now number }
+    ensures few { array_string_len lines.new ≤ array_string_len lines.old + 53 }
 {
     let mut digits = Buffer::new();
-    lines.push_str("end ");
-    lines.push_str(digits.format(end));
+    lines.push_str(name);
+    lines.push_str(" ");
+    lines.push_str(digits.format(number));
     lines.push_str("\n");
 }
 
@@ -122,9 +116,9 @@ fn add_end(lines: &mut Lines, end: u128)
 #[tactic(auto, unfolding(crate::specs::info::Lines::head_text))]
 fn add_head(lines: &mut Lines, setup: &Setup, stream: &str, begins: &Moment, ends: &Moment)
     requires stream { length stream.now ≤ 64 }
-    requires room { array_string_len lines.old + 385 ≤ 2048 }
+    requires room { array_string_len lines.old + 393 ≤ 2048 }
     ensures text { lines.new.bytes ≡ lines.old.bytes ++ head_text setup.now stream.now begins.now ends.now }
-    ensures few { array_string_len lines.new ≤ array_string_len lines.old + 385 }
+    ensures few { array_string_len lines.new ≤ array_string_len lines.old + 393 }
 {
     let schedule = setup.schedule();
     add_word(lines, "stream", stream);
@@ -134,8 +128,21 @@ fn add_head(lines: &mut Lines, setup: &Setup, stream: &str, begins: &Moment, end
     add_count(lines, "last", u64::from(schedule.last()));
     add_count(lines, "start", schedule.start());
     add_moment(lines, "begins", begins);
-    add_end(lines, end_of(schedule));
+    add_wide(lines, "end", end_of(schedule));
     add_moment(lines, "ends", ends);
+}
+
+// Adds the lines of what is left at a reading of the clock, where it could be read.
+fn add_left(lines: &mut Lines, schedule: Schedule, reading: u64)
+    requires room { array_string_len lines.old + 86 ≤ 2048 }
+    ensures text { lines.new.bytes ≡ lines.old.bytes ++ left_lines schedule reading }
+    ensures few { array_string_len lines.new ≤ array_string_len lines.old + 86 }
+{
+    if reading == u64::MAX {
+        return;
+    }
+    add_count(lines, "left", left_at(schedule, reading));
+    add_wide(lines, "left-seconds", seconds_left_at(schedule, reading));
 }
 
 // Adds the line of a chain, which has at most 98 bytes.
@@ -175,39 +182,50 @@ fn add_chains(lines: &mut Lines, setup: &Setup, chain: u8, count: u8)
     add_chains(lines, setup, chain + 1, count);
 }
 
-// How many places a receiver needs for each packet a second.
-fn places_of(setup: &Setup) -> u64
-    ensures { result ≡ places setup.now }
+// How many places a receiver needs for so many packets a second.
+fn places_of(setup: &Setup, rate: u32) -> u128
+    ensures { result ≡ places rate setup.now }
 {
-    let slowest = setup.row(setup.count() - 1).delay;
-    let length = u64::from(setup.schedule().length());
-    ((u64::from(slowest) + 1) * length + 999_999) / 1_000_000
+    let rate = u128::from(rate);
+    let delay = u128::from(setup.row(setup.count() - 1).delay);
+    let length = u128::from(setup.schedule().length());
+    (rate * ((delay + 1) * length) + 999_999) / SECOND
 }
 
-// All lines, told the digits of the stream's number and of the sum.
-fn lines_of(setup: &Setup, stream: &str, sum: &str) -> Lines
+// All lines, told the digits of the stream's number and of the sum, and a reading of the clock.
+fn lines_of(setup: &Setup, stream: &str, sum: &str, rate: Option<u32>, reading: u64) -> Lines
     requires stream { stream.now ≡ encode_lower (to_be_bytes w64 setup.now.stream.0) }
     requires sum { sum.now ≡ encode_lower (sha256 (setup_text setup.now)) }
-    ensures { IsInfo setup.now result.bytes }
+    ensures { IsInfo rate reading setup.now result.bytes }
 {
     let schedule = setup.schedule();
     let begins = moment_of(schedule.start() / 1_000_000);
     let ends = moment_of((end_of(schedule) / SECOND) as u64);
     let mut lines = Lines::new();
     add_head(&mut lines, setup, stream, &begins, &ends);
+    add_left(&mut lines, schedule, reading);
     add_chains(&mut lines, setup, 0, setup.count());
-    add_count(&mut lines, "capacity", places_of(setup));
+    add_wide(&mut lines, "capacity", places_of(setup, rate.unwrap_or(1)));
     add_word(&mut lines, "sha256", sum);
     lines
 }
 
-/// The lines that tell a setup: what it says, when it begins and ends, and the sum of its text, which is that of its
-/// file. They have at most 2,048 bytes.
-pub fn info_of(alloc: Global, setup: &Setup) -> Result<Lines, NoMemory>
-    ensures { IfOk result (λ lines. IsInfo setup.now lines.bytes) }
+/// The lines that tell a setup at the next clock's reading: what it says, when it begins and ends and how much is left,
+/// how many places a receiver needs for so many packets a second, 1 where no rate is given, and the sum of its text,
+/// which is that of its file. They have at most 2,048 bytes. Where there is no memory no clock is made.
+pub fn info_of<D: Desk>(
+    alloc: Global,
+    setup: &Setup,
+    rate: Option<u32>,
+    desk: &mut D,
+) -> Result<Lines, NoMemory>
+    ensures told { IfOk result (λ lines. TellsAt (D.told desk.old).live (D.told desk.new).live rate setup.now lines.bytes) }
+    ensures same { IfErr result (λ _. (D.told desk.new).live ≡ (D.told desk.old).live) }
+    ensures desk { D.told desk.new ≡ record (D.told desk.old) { live = (D.told desk.new).live } }
 {
     let text = write_setup(alloc, setup)?;
     let sum = hex::encode(alloc, Sha256::digest(text.as_slice()))?;
     let stream = hex::encode(alloc, setup.stream().0.to_be_bytes())?;
-    Ok(lines_of(setup, stream.as_str(), sum.as_str()))
+    let reading = desk.clock().now();
+    Ok(lines_of(setup, stream.as_str(), sum.as_str(), rate, reading))
 }

@@ -10,7 +10,7 @@ perform-requires-clause-files g c = λ _ _. are_files (arguments_of c.in-Some.ar
 
 pub returns-in-Some-clause-runs : goal.returns-in-Some-clause-runs
 returns-in-Some-clause-runs g c =
-    rw c.outcome_of.ensures (runs_form info arguments_of (map string_bytes c.args.words.now) c.arguments_in.result c.in-Some.arguments _ _ _ c.in-Some.is c.arguments_in.ensures.only c.in-Some.ensures.found c.perform.ensures.performs)
+    rw c.outcome_of.ensures (runs_form (info _ _) arguments_of (map string_bytes c.args.words.now) c.arguments_in.result c.in-Some.arguments _ _ _ c.in-Some.is c.arguments_in.ensures.only c.in-Some.ensures.found c.perform.ensures.performs)
 
 pub returns-in-None-clause-runs : goal.returns-in-None-clause-runs
-returns-in-None-clause-runs g c = runs_usage info arguments_of (map string_bytes c.args.words.now) c.arguments_in.result _ c.in-None.is c.arguments_in.ensures.only
+returns-in-None-clause-runs g c = runs_usage (info _ _) arguments_of (map string_bytes c.args.words.now) c.arguments_in.result _ c.in-None.is c.arguments_in.ensures.only
