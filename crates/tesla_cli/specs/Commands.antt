@@ -1,12 +1,13 @@
 -- The commands over files, and the tools beside them: the word that names each, how they are told, and one run of a tool.
 use Rattle.std.specs.Prelude.{◌≡◌, ℕ, Bool, true, false, List, [], ◌∷◌, ◌++◌, codes, flat_map}
 use Rattle.std.specs.Str.{bytes_eq}
+use Rattle.tesla_desk.specs.Live.{Live}
 use Rattle.tesla_desk.specs.Outside.{Told}
 use Rattle.tesla_front.specs.OutcomeView.{OutcomeView}
 use Rattle.tesla_front.specs.Command.{Command, Performs, RunsAs, no_command}
 use Rattle.tesla_front.specs.Printing.{RunsPrinting}
 use Rattle.tesla_front.specs.Run.{Runs}
-use Rattle.tesla_front.specs.Table.{command_in, is_named, where_named}
+use Rattle.tesla_front.specs.Table.{IsFirst, command_in, is_named, where_named}
 use Rattle.tesla_front.specs.Usage.{usage_line}
 use Rattle.tesla_run_ask.specs.Asking.{ask}
 use Rattle.tesla_run_ask.specs.Replying.{reply}
@@ -19,7 +20,7 @@ use Rattle.tesla_run_early.specs.Early.{early}
 use Rattle.tesla_run_early.specs.Usage as earlies
 use Rattle.tesla_run_ask.specs.lag.Lag.{lag}
 use Rattle.tesla_run_ask.specs.lag.Arguments as lags
-use Rattle.tesla_run_info.specs.info.Telling.{info}
+use Rattle.tesla_run_info.specs.info.Telling.{TouchesClock, info}
 use Rattle.tesla_run_info.specs.info.Arguments as infos
 use Rattle.tesla_run_info.specs.seeds.Drawing.{seeds}
 use Rattle.tesla_run_info.specs.seeds.Arguments as drawings
@@ -79,18 +80,18 @@ usage = flat_map usage_line forms
 abbrev pub IsTool : List (List ℕ) → Type 0
 IsTool words = is_named (codes "ask" ∷ codes "reply" ∷ codes "show" ∷ codes "seeds" ∷ codes "info" ∷ []) words ≡ true
 
--- the tool that a word names, of those that print nothing before their end
-abbrev pub tool_named : List ℕ → Command
-tool_named word =
+-- the tool that a word names, of those that print nothing before their end, told what the desk has of links, posts and clocks before and afterwards
+abbrev pub tool_named : Live → Live → List ℕ → Command
+tool_named before now word =
     where_named (bytes_eq word (codes "ask")) ask (
     where_named (bytes_eq word (codes "reply")) reply (
     where_named (bytes_eq word (codes "seeds")) seeds (
-    where_named (bytes_eq word (codes "info")) info
+    where_named (bytes_eq word (codes "info")) (info before now)
     no_command)))
 
 -- the tool of these words: the first of them names it
-abbrev pub tool_of : List (List ℕ) → Command
-tool_of words = command_in tool_named words
+abbrev pub tool_of : Live → Live → List (List ℕ) → Command
+tool_of before now words = command_in (tool_named before now) words
 
 -- the words of each form, in the order in which they are told
 abbrev pub tool_forms : List (List ℕ)
@@ -108,8 +109,13 @@ names_show (word ∷ words) = bytes_eq word (codes "show")
 -- a run of words, told whether they are for show
 abbrev pub runs_where : Bool → List (List ℕ) → Told → Told → OutcomeView → Type 0
 runs_where true words old new reported = RunsPrinting show tool_usage words old new reported
-runs_where false words old new reported = Runs (tool_of words) tool_usage words old new reported
+runs_where false words old new reported = Runs (tool_of old.live new.live words) tool_usage words old new reported
 
 -- one run of the words over a desk: what it tells before and after, and what the run came to, as it was told
 abbrev pub RunsTool : List (List ℕ) → Told → Told → OutcomeView → Type 0
 RunsTool words old new reported = runs_where (names_show words) words old new reported
+
+-- what is told of links, posts and clocks is as before, but that one clock more may have been made where the first word names info
+pub record KeepsLive (words : List (List ℕ)) (before now : Live) : Type 0 where
+  pub clock : TouchesClock before now
+  pub others : (IsFirst (codes "info") words → ⊥) → now ≡ before

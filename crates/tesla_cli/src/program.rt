@@ -4,6 +4,7 @@ ghost use Rattle.std.specs.Prelude.{◌≡◌, [], ◌∷◌, IfErr, IfOk, map, 
 ghost use Rattle.std.specs.Process.{exit_status};
 ghost use Rattle.tesla_front.specs.OutcomeView.{outcome_view};
 ghost use Rattle.tesla_front.specs.Command.{RunsAs};
+ghost use Rattle.tesla_cli.specs.Commands.{KeepsLive};
 ghost use Rattle.tesla_cli.specs.program.About.{Prints};
 ghost use Rattle.tesla_cli.specs.program.Words.{LacksMemory, RunsProgram, forgotten};
 
@@ -106,7 +107,7 @@ fn print_about<D: Desk>(desk: &mut D, about: About, further: &[&[FormText]]) -> 
 // Runs the words: as those that ask for a text, and else by the table that they choose.
 fn run_words<D: Desk>(alloc: Global, words: &[String], further: &[&[FormText]], desk: &mut D) -> u8
     ensures runs { RunsProgram (map string_bytes words.now) (D.told desk.old) (D.told desk.new) result }
-    ensures live { (D.told desk.new).live ≡ (D.told desk.old).live }
+    ensures live { KeepsLive (map string_bytes words.now) (D.told desk.old).live (D.told desk.new).live }
 {
     match about_in(words) {
         Some(about) => print_about(desk, about, further),
@@ -126,8 +127,9 @@ pub fn run_program<D: Desk>(
     desk: &mut D,
 ) -> ExitCode
     ensures runs { IfOk words (λ them. RunsProgram (map string_bytes them.items) (D.told desk.old) (D.told desk.new) (exit_status result)) }
-    ensures live { (D.told desk.new).live ≡ (D.told desk.old).live }
+    ensures live { IfOk words (λ them. KeepsLive (map string_bytes them.items) (D.told desk.old).live (D.told desk.new).live) }
     ensures memory { IfErr words (λ _. LacksMemory (D.told desk.old) (D.told desk.new) (exit_status result)) }
+    ensures still { IfErr words (λ _. (D.told desk.new).live ≡ (D.told desk.old).live) }
 {
     match words {
         Ok(words) => ExitCode::from(run_words(alloc, words.as_slice(), further, desk)),

@@ -8,7 +8,7 @@ ghost use Rattle.tesla_front.specs.Printing.{RunsPrinting};
 ghost use Rattle.tesla_front.specs.Run.{HasStatusCauses, Runs};
 ghost use Rattle.tesla_front.specs.Usage.{usage_of};
 ghost use Rattle.tesla_run_audit.specs.show.Show.{show};
-ghost use Rattle.tesla_cli.specs.Commands.{IsTool, RunsTool, names_show, tool_of, tool_usage};
+ghost use Rattle.tesla_cli.specs.Commands.{IsTool, KeepsLive, RunsTool, names_show, tool_of, tool_usage};
 
 use std::alloc::Global;
 use tesla_desk::Desk;
@@ -42,8 +42,8 @@ fn is_show(words: &[String]) -> bool
 // Runs the words as those of the tool that the first of them names, other than `show`. `Usage` where it names none, or
 // there is no word, and then nothing was opened.
 fn run_words<D: Desk>(alloc: Global, words: &[String], desk: &mut D) -> Outcome
-    ensures runs { RunsAs (tool_of (map string_bytes words.now)) (map string_bytes words.now) (D.told desk.old) (D.told desk.new) (outcome_view result) }
-    ensures live { (D.told desk.new).live ≡ (D.told desk.old).live }
+    ensures runs { RunsAs (tool_of (D.told desk.old).live (D.told desk.new).live (map string_bytes words.now)) (map string_bytes words.now) (D.told desk.old) (D.told desk.new) (outcome_view result) }
+    ensures live { KeepsLive (map string_bytes words.now) (D.told desk.old).live (D.told desk.new).live }
 {
     match words {
         [word, ..] if word.as_str() == "ask" => run_ask(words, desk),
@@ -65,11 +65,11 @@ fn run_words<D: Desk>(alloc: Global, words: &[String], desk: &mut D) -> Outcome
 /// a seed that is all zeros or stands twice, and no output was opened; or TRACE is refused, behind the lines of the
 /// entries before. 4: a read failed. 5: a write failed. 6: there was no memory. 7: something wasn't opened.
 ///
-/// At 0 to 3, 6 and 7 no read and no write of a file failed, at 5 no read, and at 4 no write. No link, post or clock is
-/// made.
+/// At 0 to 3, 6 and 7 no read and no write of a file failed, at 5 no read, and at 4 no write. No link or post is made, and a
+/// clock by `info` alone, once its setup was judged.
 pub fn run_tools<D: Desk>(alloc: Global, words: &[String], desk: &mut D) -> u8
     ensures outcome { (reported : OutcomeView) × (result ≡ status_of reported) × RunsTool (map string_bytes words.now) (D.told desk.old) (D.told desk.new) reported }
-    ensures live { (D.told desk.new).live ≡ (D.told desk.old).live }
+    ensures live { KeepsLive (map string_bytes words.now) (D.told desk.old).live (D.told desk.new).live }
     ensures causes { HasStatusCauses result (D.told desk.old).faults (D.told desk.new).faults }
 {
     run_reported(alloc, words, desk).status()
@@ -78,7 +78,7 @@ pub fn run_tools<D: Desk>(alloc: Global, words: &[String], desk: &mut D) -> u8
 // The same, with what it came to as it was told.
 fn run_reported<D: Desk>(alloc: Global, words: &[String], desk: &mut D) -> Outcome
     ensures runs { RunsTool (map string_bytes words.now) (D.told desk.old) (D.told desk.new) (outcome_view result) }
-    ensures live { (D.told desk.new).live ≡ (D.told desk.old).live }
+    ensures live { KeepsLive (map string_bytes words.now) (D.told desk.old).live (D.told desk.new).live }
 {
     if is_show(words) {
         run_printing(words, desk)
@@ -89,16 +89,16 @@ fn run_reported<D: Desk>(alloc: Global, words: &[String], desk: &mut D) -> Outco
 
 // Runs the words as those of a tool that prints nothing before its end.
 fn run_silently<D: Desk>(alloc: Global, words: &[String], desk: &mut D) -> Outcome
-    ensures runs { Runs (tool_of (map string_bytes words.now)) tool_usage (map string_bytes words.now) (D.told desk.old) (D.told desk.new) (outcome_view result) }
-    ensures live { (D.told desk.new).live ≡ (D.told desk.old).live }
+    ensures runs { Runs (tool_of (D.told desk.old).live (D.told desk.new).live (map string_bytes words.now)) tool_usage (map string_bytes words.now) (D.told desk.old) (D.told desk.new) (outcome_view result) }
+    ensures live { KeepsLive (map string_bytes words.now) (D.told desk.old).live (D.told desk.new).live }
 {
     let run = run_table(
         words,
         desk,
         forms(),
         move |words: &[String], desk: &mut D|
-            ensures runs { RunsAs (tool_of (map string_bytes words.now)) (map string_bytes words.now) (D.told desk.old) (D.told desk.new) (outcome_view result.outcome) }
-            ensures live { (D.told desk.new).live ≡ (D.told desk.old).live }
+            ensures runs { RunsAs (tool_of (D.told desk.old).live (D.told desk.new).live (map string_bytes words.now)) (map string_bytes words.now) (D.told desk.old) (D.told desk.new) (outcome_view result.outcome) }
+            ensures live { KeepsLive (map string_bytes words.now) (D.told desk.old).live (D.told desk.new).live }
         {
             LiveRun {
                 outcome: run_words(alloc, words, desk),

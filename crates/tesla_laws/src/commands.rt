@@ -1,6 +1,7 @@
 //! Laws about the commands, as contracts of functions that do nothing, or run them.
 
 ghost use Rattle.std.specs.Prelude.{◌≡◌, ◌⊎◌, ℕ, List, map, string_bytes};
+ghost use Rattle.tesla_desk.specs.Live.{Live};
 ghost use Rattle.tesla_desk.specs.Outside.{Told};
 ghost use Rattle.tesla_memory_desk.specs.Sure.{sure_told_by};
 ghost use Rattle.tesla_front.specs.OutcomeView.{OutcomeView, status_of};
@@ -36,7 +37,7 @@ use tesla_memory_desk::SureDesk;
 /// table: the first word of each form names it.
 pub fn forms_are_named()
     ensures commands { NamesForms command_of replay × NamesForms command_of chain × NamesForms command_of send × NamesForms command_of lag × NamesForms command_of stress × NamesForms command_of roll × NamesForms command_of weave × NamesForms command_of early × NamesForms command_of trace × NamesForms command_of audit }
-    ensures tools { NamesForms tool_of ask × NamesForms tool_of reply × NamesForms tool_of seeds × NamesForms tool_of info }
+    ensures tools { (before now : Live) → NamesForms (tool_of before now) ask × NamesForms (tool_of before now) reply × NamesForms (tool_of before now) seeds × NamesForms (tool_of before now) (info before now) }
     ensures shows { (arguments : ShowArguments) (words : List (List ℕ)) (old new : Told) (outcome : OutcomeView) → IsShowForm arguments words → RunsTool words old new outcome → HasNoConsole old new outcome ⊎ IsPrintedAs show arguments tool_usage old new outcome }
     ensures ask_is { (arguments : AskArguments) (words : List (List ℕ)) → IsAskForm arguments words → IsTool words }
     ensures reply_is { (arguments : ReplyArguments) (words : List (List ℕ)) → IsReplyForm arguments words → IsTool words }

@@ -30,7 +30,7 @@ fn fault_in_number(asked: &str, word: &str) -> Option<Option<&'static str>> {
         "COUNT" => (1, 100_000, "is no number from 1 to 100000"),
         "DRIFT" => (0, 4_294_967_295, "is no number from 0 to 4294967295"),
         "READING" | "START" => (0, u64::MAX, "is no number from 0 to 2^64 - 1"),
-        "GAP" => (1, 1_000_000, "is no number from 1 to 1000000"),
+        "GAP" | "[RATE]" => (1, 1_000_000, "is no number from 1 to 1000000"),
         "KEEP" | "DELAY" | "[DELAY]" => (1, 4_096, "is no number from 1 to 4096"),
         "EVERY" => (1, 3_600, "is no number from 1 to 3600"),
         "INTERVAL" => (1_000, 3_600_000_000, "is no number from 1000 to 3600000000"),

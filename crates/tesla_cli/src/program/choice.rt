@@ -2,6 +2,7 @@
 
 ghost use Rattle.std.specs.Prelude.{◌≡◌, map, string_bytes};
 ghost use Rattle.tesla_front.specs.OutcomeView.{OutcomeView, status_of};
+ghost use Rattle.tesla_cli.specs.Commands.{KeepsLive};
 ghost use Rattle.tesla_cli.specs.program.Choice.{RunsChosen};
 
 use crate::{is_tool, run_here, run_tools};
@@ -12,7 +13,7 @@ use tesla_desk::Desk;
 /// gives the status.
 pub fn run_chosen<D: Desk>(alloc: Global, words: &[String], desk: &mut D) -> u8
     ensures chosen { (reported : OutcomeView) × (result ≡ status_of reported) × RunsChosen (map string_bytes words.now) (D.told desk.old) (D.told desk.new) reported }
-    ensures live { (D.told desk.new).live ≡ (D.told desk.old).live }
+    ensures live { KeepsLive (map string_bytes words.now) (D.told desk.old).live (D.told desk.new).live }
 {
     if is_tool(words) {
         return run_tools(alloc, words, desk);

@@ -1,8 +1,10 @@
 use Rattle.std.proofs.Common.{List, ℕ, map, string_bytes, subst}
+use Rattle.tesla_desk.specs.Live.{Live}
+use Rattle.tesla_front.specs.Command.{Command}
 use Rattle.tesla_front.specs.OutcomeView.{outcome_view}
 use Rattle.tesla_front.specs.Run.{Runs}
-use Rattle.tesla_front.proofs.Tables.{plain_live, plain_run}
 use Rattle.tesla_cli.specs.Commands.{tool_of}
+use Rattle.tesla_cli.proofs.Clocks.{kept_run, live_run}
 use Rattle.tesla_cli.proofs.tools.run_silently.Goals as goal
 
 pub returns-clause-runs : goal.returns-clause-runs
@@ -10,8 +12,9 @@ returns-clause-runs g c =
     let words = map string_bytes c.args.words.now in
     let old = g.D.Environment.told c.args.desk.now in
     let new = g.D.Environment.told c.run_table-run.new.desk in
-    subst (λ (lines : List ℕ). Runs (tool_of words) lines words old new (outcome_view c.run_table-run.result.outcome)) c.forms.ensures
-    (plain_run g.D.Environment.told _ (tool_of words) _ words _ _ _ (λ opened done run ran. ran.0) c.run_table-run.ensures)
+    let command : Live → Live → Command = λ before now. tool_of before now words in
+    subst (λ (lines : List ℕ). Runs (tool_of old.live new.live words) lines words old new (outcome_view c.run_table-run.result.outcome)) c.forms.ensures
+    (live_run g.D.Environment.told _ command _ words _ _ _ (λ opened done run ran. ran.0) c.run_table-run.ensures)
 
 pub returns-clause-live : goal.returns-clause-live
-returns-clause-live g c = plain_live g.D.Environment.told _ _ _ _ _ (λ opened done run ran. ran.1) c.run_table-run.ensures
+returns-clause-live g c = kept_run g.D.Environment.told _ _ (map string_bytes c.args.words.now) _ _ _ (λ opened done run ran. ran.1) c.run_table-run.ensures

@@ -11,7 +11,7 @@ use Rattle.tesla_cli.proofs.tools.run_tools.Goals as goal
 causes_where : (shows : Bool) (words : List (List ℕ)) (old new : Told) (reported : OutcomeView) → HasOwnStatus reported → runs_where shows words old new reported
     → HasStatusCauses (status_of reported) old.faults new.faults
 causes_where true words old new reported own runs = printing_status_causes show tool_usage words old new reported own runs
-causes_where false words old new reported own runs = status_causes (tool_of words) tool_usage words old new reported own runs
+causes_where false words old new reported own runs = status_causes (tool_of old.live new.live words) tool_usage words old new reported own runs
 
 pub returns-clause-causes : goal.returns-clause-causes
 returns-clause-causes g c =

@@ -35,11 +35,11 @@ returns-clause-commands c = (
 )
 
 pub returns-clause-tools : goal.returns-clause-tools
-returns-clause-tools c = (
-  λ arguments words old new outcome is runs. (as_spelled tool_of words _ old new outcome (begins_with_name (codes "ask") words is) runs).form arguments is,
-  λ arguments words old new outcome is runs. (as_spelled tool_of words _ old new outcome (begins_with_name (codes "reply") words is.spelled) runs).form arguments is,
-  λ arguments words old new outcome is runs. (as_spelled tool_of words _ old new outcome (begins_with_name (codes "seeds") words is.spelled) runs).form arguments is,
-  λ arguments words old new outcome is runs. (as_spelled tool_of words _ old new outcome (begins_with_name (codes "info") words is) runs).form arguments is,
+returns-clause-tools c before now = (
+  λ arguments words old new outcome is runs. (as_spelled (tool_of before now) words _ old new outcome (begins_with_name (codes "ask") words is) runs).form arguments is,
+  λ arguments words old new outcome is runs. (as_spelled (tool_of before now) words _ old new outcome (begins_with_name (codes "reply") words is.spelled) runs).form arguments is,
+  λ arguments words old new outcome is runs. (as_spelled (tool_of before now) words _ old new outcome (begins_with_name (codes "seeds") words is.spelled) runs).form arguments is,
+  λ arguments words old new outcome is runs. (as_spelled (tool_of before now) words _ old new outcome (begins_with_name (codes "info") words is) runs).form arguments is,
 )
 
 shown : (arguments : ShowArguments) (words : List (List ℕ)) (old new : Told) (outcome : OutcomeView) → IsShowForm arguments words
