@@ -53,7 +53,7 @@ usage: ask READING ASK-OUT
 usage: reply ASK KEY READING REPLY-OUT
 usage: show TRACE
 usage: seeds COUNT SECRET-OUT
-usage: info SETUP
+usage: info SETUP [RATE]
 """
 LIVE = b"usage: receive SETUP LAG CAPACITY LINKS SINKS\nusage: relay CAPACITY LINK POSTS\nusage: play CAPTURE POSTS\n"
 LIVE_TOOLS = b"""\

@@ -15,7 +15,7 @@ KINDS = {
     "files": {"SINKS"},
     "address": {"LINK", "LINKS", "POSTS"},
     "number": {"LAG", "CAPACITY", "STREAM", "START", "INTERVAL", "LAST", "TAG", "DELAY", "DRIFT", "READING", "SEED", "COUNT",
-               "GAP", "KEEP", "EVERY"},
+               "GAP", "KEEP", "EVERY", "RATE"},
 }
 
 

@@ -33,7 +33,7 @@ _tesla()
         reply) kinds=(file file number file) ;;
         show) kinds=(file) ;;
         seeds) kinds=(number file) ;;
-        info) kinds=(file) ;;
+        info) kinds=(file number) ;;
     esac
     case ${kinds[place - 2]} in
         file) ;;

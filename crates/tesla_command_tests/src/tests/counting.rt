@@ -37,8 +37,8 @@ ask 5000000 out: open 2, write out 2, print - 2
 reply ask key 5020000 out: open 4, read ask 3, read key 8, write out 6, print - 2
 # 64 random bytes, and 154 of SECRET-OUT.
 seeds 2 out: open 3, read /dev/urandom 7, write out 16, print - 1
-# 337 bytes of lines.
-info setup: open 2, read setup 23, print - 34
+# 359 bytes of lines.
+info setup: open 2, read setup 23, print - 36
 # 105 bytes of the report.
 stress 1 10: open 1, print - 11
 ";

@@ -46,7 +46,7 @@ set room 100 out
 told 5 write fault\n
 front out 100 secret
 * seeds to the random bytes $ seeds 2 /dev/urandom
-told 1 usage: ask READING ASK-OUT\nusage: reply ASK KEY READING REPLY-OUT\nusage: show TRACE\nusage: seeds COUNT SECRET-OUT\nusage: info SETUP\n
+told 1 usage: ask READING ASK-OUT\nusage: reply ASK KEY READING REPLY-OUT\nusage: show TRACE\nusage: seeds COUNT SECRET-OUT\nusage: info SETUP [RATE]\n
 * nine seeds $ seeds 9 out
-told 1 usage: ask READING ASK-OUT\nusage: reply ASK KEY READING REPLY-OUT\nusage: show TRACE\nusage: seeds COUNT SECRET-OUT\nusage: info SETUP\n
+told 1 usage: ask READING ASK-OUT\nusage: reply ASK KEY READING REPLY-OUT\nusage: show TRACE\nusage: seeds COUNT SECRET-OUT\nusage: info SETUP [RATE]\n
 ";

@@ -11,11 +11,11 @@ const MOST: u32 = 1_000_000;
 /// The form of `info`.
 pub const INFO: FormText = FormText {
     words: "info SETUP [RATE]",
-    about: "    prints what SETUP says, the dates of its begin and its end, how many intervals
-    and seconds are left until that, the greatest LAG and the latency of each
-    chain, how many packets a receiver holds, and the sum of the file.
-    RATE: how many packets come in a second, 1 to 1000000, for which the least
-    CAPACITY is told; without it, for each one a second
+    about: "    prints what SETUP says, the dates of its begin and its end, how much is left
+    until that by the clock, the greatest LAG and the latency of each chain, how
+    many packets a receiver holds for RATE packets a second, and the sum of the
+    file.
+    RATE: how many packets come in a second, 1 to 1000000; without it, 1
     Example, 1000 packets a second:
     tesla info live.setup 1000
 ",
