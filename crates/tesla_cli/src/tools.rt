@@ -65,8 +65,8 @@ fn run_words<D: Desk>(alloc: Global, words: &[String], desk: &mut D) -> Outcome
 /// a seed that is all zeros or stands twice, and no output was opened; or TRACE is refused, behind the lines of the
 /// entries before. 4: a read failed. 5: a write failed. 6: there was no memory. 7: something wasn't opened.
 ///
-/// At 0 to 3, 6 and 7 no read and no write of a file failed, at 5 no read, and at 4 no write. No link or post is made, and a
-/// clock by `info` alone, once its setup was judged.
+/// At 0 to 3, 6 and 7 no read and no write of a file failed, at 5 no read, and at 4 no write. No link or post is made,
+/// and a clock by `info` alone, once its setup was judged.
 pub fn run_tools<D: Desk>(alloc: Global, words: &[String], desk: &mut D) -> u8
     ensures outcome { (reported : OutcomeView) × (result ≡ status_of reported) × RunsTool (map string_bytes words.now) (D.told desk.old) (D.told desk.new) reported }
     ensures live { KeepsLive (map string_bytes words.now) (D.told desk.old).live (D.told desk.new).live }

@@ -17,8 +17,8 @@ use tesla_commit::Setup;
 use tesla_desk::Desk;
 use tesla_front::{Fault, Lines, Outcome, Stop, outcome_of, refused, setup_under};
 
-/// Runs the words as those of `info`: reads SETUP, and tells what it says and, at the first reading of the next clock, how
-/// much of its stream is left.
+/// Runs the words as those of `info`: reads SETUP, and tells what it says and, at the first reading of the next clock,
+/// how much of its stream is left.
 ///
 /// `Done` with the lines of the setup. `Usage` exactly where the words are no form, and then nothing was opened.
 /// `Refused` with status 2 and the first refused line of SETUP, where its text is no setup, or with the line of the
