@@ -3,7 +3,7 @@
 ghost use Rattle.std.specs.Prelude.{◌≡◌, ◌≤◌, ◌*◌, ◌++◌, ◌∷◌, [], codes, false, length, true, IfSome, List};
 ghost use Rattle.tesla_feed.specs.Fed.{is_unread};
 ghost use Rattle.tesla_feed.specs.Notes.{Note};
-ghost use Rattle.tesla_run_feed.specs.Status.{HasAllLines, HasLines, end_line, last_reading, left_at, status_line, time_line};
+ghost use Rattle.tesla_run_feed.specs.Status.{HasAllLines, HasLines, end_line, has_line, last_reading, left_at, status_line, time_line};
 ghost use Rattle.tesla_run_feed.specs.declared.line.SystemCounts.{SystemCounts};
 ghost use Rattle.tesla_status.specs.Written.{Puts};
 
@@ -11,7 +11,7 @@ use crate::line::{SystemCounts, left_at, line_of};
 use std::collections::LinkedList;
 use tesla_clock::Schedule;
 use tesla_desk::{Incidents, Output};
-use tesla_feed::{FeedCounts, Notes};
+use tesla_feed::FeedCounts;
 use tesla_status::{Due, Status};
 
 /// How many microseconds a feed waits at most until its counts are told again, where the clock couldn't be read.
@@ -70,7 +70,7 @@ impl<S: Output, I: Incidents + Drop> StatusNotes<S, I> {
     // Puts a line of these counts, behind a word.
     fn put(&mut self, word: &str, reading: u64, counts: &FeedCounts)
         requires short { length word.now ≤ 5 }
-        requires permitted { (system : SystemCounts) → S.may_write self.old.status.sink (status_line word.now reading counts.now system (left_at self.old.schedule reading)) ≡ true }
+        requires permitted { self.old.status.failed ≡ false → (system : SystemCounts) → S.may_write self.old.status.sink (status_line word.now reading counts.now system (left_at self.old.schedule reading)) ≡ true }
         ensures puts { (system : SystemCounts) × Puts (status_line word.now reading counts.now system (left_at self.old.schedule reading)) (S.written self.old.status.sink) (S.written self.new.status.sink) (S.faults self.old.status.sink) (S.faults self.new.status.sink) self.old.status.failed self.new.status.failed }
         ensures name { S.name self.new.status.sink ≡ S.name self.old.status.sink }
         ensures fixed { (self.new.schedule ≡ self.old.schedule) × (self.new.opening ≡ self.old.opening) × (self.new.due ≡ self.old.due) × (self.new.last ≡ self.old.last) }
@@ -81,9 +81,10 @@ impl<S: Output, I: Incidents + Drop> StatusNotes<S, I> {
             .put(&line_of(word, reading, counts, system, left));
     }
 
-    // Takes a note, and writes its line where one is due.
-    fn tell(&mut self, reading: u64, counts: &FeedCounts) -> u64
-        requires permitted { (system : SystemCounts) → S.may_write self.old.status.sink (time_line self.old.schedule system (record { reading = reading; counts = counts.now })) ≡ true }
+    /// Takes a note, and writes its line where one is due, as long as the output hasn't failed. It gives how many
+    /// microseconds later the counts are to be told again at the latest.
+    pub(crate) fn tell(&mut self, reading: u64, counts: &FeedCounts) -> u64
+        requires permitted { self.old.status.failed ≡ false → has_line self.old.due.every self.old.due.since reading ≡ true → (system : SystemCounts) → S.may_write self.old.status.sink (time_line self.old.schedule system (record { reading = reading; counts = counts.now })) ≡ true }
         ensures lines { (notes : List Note) → HasLines self.old.schedule self.old.due.every self.old.opening self.old.due.since self.old.last notes (S.written self.old.status.sink) (S.faults self.old.status.sink) self.old.status.failed
             → HasLines self.new.schedule self.new.due.every self.new.opening self.new.due.since self.new.last (notes ++ record { reading = reading; counts = counts.now } ∷ []) (S.written self.new.status.sink) (S.faults self.new.status.sink) self.new.status.failed }
         ensures name { S.name self.new.status.sink ≡ S.name self.old.status.sink }
@@ -102,7 +103,7 @@ impl<S: Output, I: Incidents + Drop> StatusNotes<S, I> {
 
     /// Writes the last line, of these counts at the last reading that could be had.
     pub(crate) fn end(&mut self, counts: &FeedCounts)
-        requires permitted { (system : SystemCounts) → S.may_write self.old.status.sink (end_line self.old.schedule system (record { reading = self.old.last; counts = counts.now })) ≡ true }
+        requires permitted { self.old.status.failed ≡ false → (system : SystemCounts) → S.may_write self.old.status.sink (end_line self.old.schedule system (record { reading = self.old.last; counts = counts.now })) ≡ true }
         ensures lines { (notes : List Note) → HasLines self.old.schedule self.old.due.every self.old.opening self.old.due.since self.old.last notes (S.written self.old.status.sink) (S.faults self.old.status.sink) self.old.status.failed
             → HasAllLines self.old.schedule self.old.due.every self.old.opening notes counts.now (S.written self.new.status.sink) (S.faults self.new.status.sink) self.new.status.failed }
         ensures name { S.name self.new.status.sink ≡ S.name self.old.status.sink }
@@ -131,22 +132,4 @@ fn is_unread(reading: u64) -> bool
     ensures { result ≡ is_unread reading }
 {
     reading == u64::MAX
-}
-
-impl<S: Output, I: Incidents + Drop> Notes for StatusNotes<S, I> {
-    ghost use Rattle.std.specs.Prelude.{◌≡◌, true};
-    ghost use Rattle.tesla_run_feed.specs.Status.{HasLines, time_line};
-    ghost use Rattle.tesla_run_feed.specs.declared.line.SystemCounts.{SystemCounts};
-
-    type Fixed = Telling;
-
-    ghost fixed = { λ it. record { schedule = it.schedule; opening = it.opening; every = it.due.every; name = S.name it.status.sink } };
-
-    ghost was_told = { λ it notes. HasLines it.schedule it.due.every it.opening it.due.since it.last notes (S.written it.status.sink) (S.faults it.status.sink) it.status.failed };
-
-    ghost may_note = { λ it note. (system : SystemCounts) → S.may_write it.status.sink (time_line it.schedule system note) ≡ true };
-
-    fn note(&mut self, reading: u64, counts: &FeedCounts) -> u64 {
-        self.tell(reading, counts)
-    }
 }
