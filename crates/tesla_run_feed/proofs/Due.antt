@@ -1,5 +1,5 @@
--- What may be sent, once all was opened.
-use Rattle.std.proofs.Common.{◌≡◌, ◌≢◌, codes, ℕ, Bool, Ok, List, [], ◌∷◌, map, Option, refl, sym, subst}
+-- What may be sent and written, once all was opened.
+use Rattle.std.proofs.Common.{◌≡◌, ◌≢◌, codes, ℕ, Bool, true, Ok, List, [], ◌∷◌, map, Option, Some, None, refl, sym, subst}
 use Rattle.tesla_desk.specs.Clocks.{Ticking}
 use Rattle.tesla_desk.specs.Outside.{Page, Told}
 use Rattle.tesla_feed.specs.Due.{AreUnsent, MaySendDue}
@@ -7,9 +7,12 @@ use Rattle.tesla_feed.specs.declared.opening.OpenFeed.{OpenFeed}
 use Rattle.tesla_relay.specs.Opened.{AreFresh, post_name}
 use Rattle.tesla_relay.specs.Posts.{PostSeen}
 use Rattle.tesla_relay.proofs.Openings.{opens_new}
-use Rattle.tesla_run_feed.specs.Due.{IsFedFrom}
+use Rattle.tesla_front.specs.Openings.{file_told}
+use Rattle.tesla_run_feed.specs.Arguments.{FeedArguments, StatusArguments}
+use Rattle.tesla_run_feed.specs.Due.{IsCountedFor, IsFedFrom, IsStatusLine, MayWriteCounts}
 use Rattle.tesla_run_feed.specs.Steps.{OpensFeeding}
-use Rattle.tesla_run_send.specs.Sender.{IsFoundIn}
+use Rattle.tesla_run_send.specs.Sender.{IsFoundIn, IsStreamIn}
+use Rattle.tesla_seeds.specs.Weak.{AreSound}
 use Rattle.tesla_sender.specs.Made.{Stream}
 
 -- new posts sent nothing
@@ -64,3 +67,17 @@ due_before gave read_for words before now name sent datagram same due =
         due = fed.due;
       };
     }
+
+-- ---- what may be written to STATUS
+
+-- what may be written for the words may be of this stream
+may_write_by : {S : Type 0} (name : S → List ℕ) (written : S → Option (List ℕ)) (may_write : S → List ℕ → Bool) (gave : ℕ → Bool) (read_for : ℕ → List ℕ → ℕ → Bool) (status : Option StatusArguments) (stream : Stream)
+    → ((it : S) (piece : List ℕ) → IsStatusLine gave read_for status stream (name it) (written it) piece → may_write it piece ≡ true) → MayWriteCounts name written may_write gave read_for status stream
+may_write_by name written may_write gave read_for None stream may = tt
+may_write_by name written may_write gave read_for (Some status) stream may = λ it piece named counted. may it piece (named, counted)
+
+pub may_write_counts : {S : Type 0} (name : S → List ℕ) (written : S → Option (List ℕ)) (may_write : S → List ℕ → Bool) (gave : ℕ → Bool) (read_for : ℕ → List ℕ → ℕ → Bool) (arguments : FeedArguments) (told : Told) (stream : Stream)
+    → IsStreamIn (file_told told arguments.setup) (file_told told arguments.secret) stream → AreSound stream.seeds
+    → ((it : S) (piece : List ℕ) → IsCountedFor gave read_for arguments told (name it) (written it) piece → may_write it piece ≡ true) → MayWriteCounts name written may_write gave read_for arguments.status stream
+may_write_counts name written may_write gave read_for arguments told stream is sound may =
+    may_write_by name written may_write gave read_for arguments.status stream (λ it piece line. may it piece (record { stream = stream; is = is; sound = sound; line = line }))

@@ -1,5 +1,6 @@
 -- How a feed ends, from what it answers.
-use Rattle.std.proofs.Common.{◌≡◌, ◌⊎◌, inl, inr, ℕ, ◌≤◌, nat_lt, Bool, true, false, Option, Some, None, IfSome, List, [], ◌∷◌, length, refl, sym, ap, arith}
+use Rattle.std.proofs.Common.{◌≡◌, ◌⊎◌, inl, inr, ℕ, ◌≤◌, nat_lt, ◌||◌, Bool, true, false, Option, Some, None, IfSome, List, [], ◌∷◌, length, refl, sym, ap, arith}
+use Rattle.std.proofs.lemmas.Bool.{or_parts}
 use Rattle.std.specs.List.{list_all, list_any}
 use Rattle.tesla_desk.specs.Faults.{HasCause}
 use Rattle.tesla_desk.specs.Live.{remainder_of}
@@ -16,27 +17,27 @@ use Rattle.tesla_sender.specs.Made.{Stream}
 
 -- ---- what it comes to
 
-pub read_end : (link_failed post_failed : Bool) (counts : FeedCounts) → outcome_by link_failed post_failed counts ≡ Failed faults.Read → link_failed ≡ true
-read_end true post_failed counts e = refl
+pub read_end : (link_failed write_failed : Bool) (counts : FeedCounts) → outcome_by link_failed write_failed counts ≡ Failed faults.Read → link_failed ≡ true
+read_end true write_failed counts e = refl
 read_end false true counts e = absurd cc
 read_end false false counts e = absurd cc
 
-pub end_read : (link_failed post_failed : Bool) (counts : FeedCounts) → link_failed ≡ true → outcome_by link_failed post_failed counts ≡ Failed faults.Read
-end_read true post_failed counts e = refl
-end_read false post_failed counts e = absurd cc
+pub end_read : (link_failed write_failed : Bool) (counts : FeedCounts) → link_failed ≡ true → outcome_by link_failed write_failed counts ≡ Failed faults.Read
+end_read true write_failed counts e = refl
+end_read false write_failed counts e = absurd cc
 
-pub write_failed : (link_failed post_failed : Bool) (counts : FeedCounts) → outcome_by link_failed post_failed counts ≡ Failed faults.Write → post_failed ≡ true
-write_failed true post_failed counts e = absurd cc
-write_failed false true counts e = refl
-write_failed false false counts e = absurd cc
+pub write_end : (link_failed write_failed : Bool) (counts : FeedCounts) → outcome_by link_failed write_failed counts ≡ Failed faults.Write → write_failed ≡ true
+write_end true write_failed counts e = absurd cc
+write_end false true counts e = refl
+write_end false false counts e = absurd cc
 
-pub failed_either : (link_failed post_failed : Bool) (counts : FeedCounts) → post_failed ≡ true → (outcome_by link_failed post_failed counts ≡ Failed faults.Read) ⊎ (outcome_by link_failed post_failed counts ≡ Failed faults.Write)
-failed_either true post_failed counts e = inl refl
+pub failed_either : (link_failed write_failed : Bool) (counts : FeedCounts) → write_failed ≡ true → (outcome_by link_failed write_failed counts ≡ Failed faults.Read) ⊎ (outcome_by link_failed write_failed counts ≡ Failed faults.Write)
+failed_either true write_failed counts e = inl refl
 failed_either false true counts e = inr refl
 failed_either false false counts e = absurd cc
 
-pub no_open : (link_failed post_failed : Bool) (counts : FeedCounts) → outcome_by link_failed post_failed counts ≡ Failed faults.Open → ⊥
-no_open true post_failed counts e = absurd cc
+pub no_open : (link_failed write_failed : Bool) (counts : FeedCounts) → outcome_by link_failed write_failed counts ≡ Failed faults.Open → ⊥
+no_open true write_failed counts e = absurd cc
 no_open false true counts e = absurd cc
 no_open false false counts e = absurd cc
 
@@ -58,14 +59,14 @@ disclosed_unless : {Told : Type 0} (failed : List Bool) (all : Bool) → list_al
 disclosed_unless failed true is told = inl is
 disclosed_unless failed false is told = inr (told is)
 
--- how it ends, told which failed
-pub ends_by : (stream : Stream) (link_failed post_failed : Bool) (counts : FeedCounts) (made : Feeding) (failed : List Bool) (later : Option (List Letter)) (missed : ℕ) → HasCause 0 missed (link_failed ≡ true) → 1 ≤ length failed → (list_all has_failed failed ≡ false → is_all_disclosed stream made.log ≡ true) → (list_all has_failed failed ≡ false → link_failed ≡ false → IfSome later (λ rest. rest ≡ [])) → counts ≡ counts_of made → post_failed ≡ list_any has_failed failed
-    → EndsAs stream (remainder_of later missed) made failed (outcome_by link_failed post_failed counts)
-ends_by stream true post_failed counts made failed later missed cause some told ended counts_are any =
+-- how it ends, told which posts failed and whether STATUS did
+pub ends_by : (stream : Stream) (link_failed write_failed : Bool) (counts : FeedCounts) (made : Feeding) (failed : List Bool) (status_failed : Bool) (later : Option (List Letter)) (missed : ℕ) → HasCause 0 missed (link_failed ≡ true) → 1 ≤ length failed → (list_all has_failed failed ≡ false → is_all_disclosed stream made.log ≡ true) → (list_all has_failed failed ≡ false → link_failed ≡ false → IfSome later (λ rest. rest ≡ [])) → counts ≡ counts_of made → write_failed ≡ (list_any has_failed failed || status_failed)
+    → EndsAs stream (remainder_of later missed) made failed status_failed (outcome_by link_failed write_failed counts)
+ends_by stream true write_failed counts made failed status_failed later missed cause some told ended counts_are any =
     (broken_left later missed (cause.rose refl), disclosed_unless failed (list_all has_failed failed) refl told)
-ends_by stream false true counts made failed later missed cause some told ended counts_are any =
+ends_by stream false true counts made failed status_failed later missed cause some told ended counts_are any =
     let sound : missed ≡ 0 = cause.still (λ e. absurd cc) in
     (sym any, unbroken_left later missed sound, disclosed_unless failed (list_all has_failed failed) refl (λ not. (told not, ended_left later missed (ended not refl) sound)))
-ends_by stream false false counts made failed later missed cause some told ended counts_are any =
-    let not = not_all failed some (sym any) in
+ends_by stream false false counts made failed status_failed later missed cause some told ended counts_are any =
+    let not = not_all failed some (or_parts (list_any has_failed failed) status_failed (sym any)).0 in
     (ap lines_of counts_are, sym any, told not, ended_left later missed (ended not refl) (cause.still (λ e. absurd cc)))

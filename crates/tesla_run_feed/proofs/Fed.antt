@@ -1,22 +1,26 @@
 -- What was done with a sender, from the openings and closings of the link and the posts.
-use Rattle.std.proofs.Common.{◌≡◌, ◌∙◌, ◌⊎◌, inl, inr, ℕ, suc, ◌≤◌, true, false, Ok, Err, List, [], ◌∷◌, ◌++◌, map, length, Option, None, refl, sym, ap, subst, arith, append_assoc}
+use Rattle.std.proofs.Common.{◌≡◌, ◌∙◌, ◌⊎◌, inl, inr, ℕ, suc, ◌≤◌, nat_lt, ◌||◌, Bool, true, false, Ok, Err, List, [], ◌∷◌, ◌++◌, map, length, Option, Some, None, IfSome, refl, sym, ap, subst, arith, append_assoc}
+use Rattle.std.proofs.lemmas.Bool.{or_cases, or_left, or_right}
+use Rattle.std.specs.List.{AllByRecursion}
 use Rattle.std.proofs.lemmas.List.{length-map}
 use Rattle.std.specs.Option.{option_map}
 use Rattle.tesla_desk.specs.Clocks.{Gives, Ticking}
 use Rattle.tesla_desk.specs.Faults.{Faults, HasCause, HasCausesBeside, after_source, raised}
-use Rattle.tesla_desk.specs.Live.{LeavesAll, Live, OpenedLink, Remainder, Wire, clock_told, remainder_of}
-use Rattle.tesla_desk.specs.Outside.{ClosesLink, MakesClock, OfLink, OfPost, Opening, OpensLink, Told}
+use Rattle.tesla_desk.specs.Live.{LeavesAll, Live, OpenedLink, Remainder, Wire, clock_told, mail_of, remainder_of}
+use Rattle.tesla_desk.specs.Outside.{ClosesLink, MakesClock, OfLink, OfPost, OfSink, OfSource, Opening, OpensLink, Told}
 use Rattle.tesla_desk.specs.declared.desk.OpenRefusal.{OpenRefusal}
 use Rattle.tesla_desk.specs.declared.desk.OpenRefusal.TheVariants as refusals
 use Rattle.tesla_desk.specs.declared.link.Letter.{Letter}
 use Rattle.tesla_desk.proofs.Told.{leaves_all}
-use Rattle.tesla_desk.proofs.Counts.{cause_none, causes_plain, causes_source, causes_then, counts_stay}
+use Rattle.tesla_desk.proofs.Counts.{cause_both, cause_none, causes_plain, causes_source, causes_then, counts_stay}
 use Rattle.tesla_feed.specs.Fed.{datagrams_of, has_ended, reading_of}
-use Rattle.tesla_feed.specs.Feed.{OpensAt, events_of, letter_of}
+use Rattle.tesla_feed.specs.Feed.{ComesTo, Feeds, OpensAt, StopsEarly, events_of, letter_of, rested_at}
+use Rattle.tesla_feed.specs.Notes.{Note, notes_of}
+use Rattle.tesla_feed.specs.declared.counts.FeedCounts.{FeedCounts}
 use Rattle.tesla_feed.specs.declared.feeding.FeedEnd.{FeedEnd}
 use Rattle.tesla_front.specs.OutcomeView.{OutcomeView, Failed}
 use Rattle.tesla_front.specs.Fault.{unopened}
-use Rattle.tesla_front.specs.Openings.{AnyFailed, Opens}
+use Rattle.tesla_front.specs.Openings.{AnyFailed, IsAmong, Opens}
 use Rattle.tesla_front.specs.declared.fault.Fault.{Fault}
 use Rattle.tesla_front.specs.declared.fault.Fault.TheVariants as faults
 use Rattle.tesla_front.proofs.Openings.{opens_first, opens_none, opens_then}
@@ -27,21 +31,39 @@ use Rattle.tesla_relay.specs.Links.{LeftWhere}
 use Rattle.tesla_relay.specs.Opened.{AreFresh, OpensTo, post_name}
 use Rattle.tesla_relay.specs.Opening.{ClosesPosts, OpensPosts}
 use Rattle.tesla_relay.specs.Posts.{PostSeen}
-use Rattle.tesla_relay.proofs.Closings.{closes_to, fresh_counts, fresh_mails, mails_same}
+use Rattle.tesla_relay.proofs.Closings.{closes_to, fresh_counts, fresh_mails, fresh_sound, mails_same}
 use Rattle.tesla_relay.proofs.Clocks.{clock_alone, clock_made, clock_opens, read_where}
 use Rattle.tesla_relay.proofs.Links.{left_where}
 use Rattle.tesla_relay.proofs.Mails.{faulty_told, unsent_on}
 use Rattle.tesla_relay.proofs.Openings.{none_of_opened, opens_new, opens_still, refused_not_all}
 use Rattle.tesla_relay.proofs.Stopped.{outcome_cause, memory_counts, not_all_counts}
-use Rattle.tesla_run_feed.specs.Arguments.{FeedArguments, IsFeedForm, live_files}
-use Rattle.tesla_run_feed.specs.Feeding.{EndsAs, FeedsLink, FindsOver, SendPosts, TouchesLive}
+use Rattle.tesla_run_feed.specs.Arguments.{FeedArguments, IsFeedForm, files_of_feed, live_files, status_files}
+use Rattle.tesla_run_feed.specs.Feeding.{EndsAs, FeedsLink, FeedsOrEnds, FindsEnd, FindsOver, HoldsStatus, SendPosts, TouchesLive, status_page}
 use Rattle.tesla_run_feed.specs.Lines.{outcome_with, stream_over}
-use Rattle.tesla_run_feed.specs.Steps.{FeedsFiles, FeedsPosts, LacksSender, RunsLinked, TriesToFeed}
-use Rattle.tesla_run_feed.proofs.Ended.{end_read, ends_by, failed_either, no_open, read_end, write_failed}
+use Rattle.tesla_run_feed.specs.Steps.{FeedsFiles, FeedsReady, LacksSender, RefusesStatus, RunsLinked, TriesToFeed, WritesStatus}
+use Rattle.tesla_run_feed.proofs.Behind.{Behind, RefusedBehind, failed_back, failed_prefix, last_same, opens_prefix, refused_behind, status_behind}
+use Rattle.tesla_run_feed.proofs.Ended.{end_read, ends_by, failed_either, no_open, read_end, write_end}
 use Rattle.tesla_run_feed.proofs.Mailed.{each_reported, faulty_marked, marked_faulty, names_kept, sends_posts}
 use Rattle.tesla_run_send.specs.Sender.{IsNoSender, wrong_line}
 use Rattle.tesla_run_send.proofs.Sender.{no_sender_fault}
 use Rattle.tesla_sender.specs.Made.{Stream}
+
+-- what is opened behind the link
+abbrev files_behind : FeedArguments → List Opening
+files_behind arguments = map OfPost arguments.posts ++ status_files arguments.status
+
+swap : {A B : Type 0} → A ⊎ B → B ⊎ A
+swap (inl a) = inr a
+swap (inr b) = inl b
+
+-- posts that are new sent nothing, where that is told
+unsent_mail : (sent : Option (List (List ℕ))) (faults : ℕ) → IfSome sent (λ datagrams. datagrams ≡ []) → faults ≡ 0 → IsUnsent (mail_of sent faults)
+unsent_mail None faults empty none = tt
+unsent_mail (Some datagrams) faults empty none = (empty, ap (λ (n : ℕ). nat_lt 0 n) none)
+
+all_unsent : (posts : List PostSeen) (now : Told) → AreFresh posts → HasMails posts now → AllByRecursion (λ name. IsUnsent (now.live.mail name)) (map post_name posts)
+all_unsent [] now fresh mails = tt
+all_unsent (post ∷ posts) now fresh mails = (subst IsUnsent (sym mails.0) (unsent_mail post.sent post.faults fresh.0.0 fresh.0.1), all_unsent posts now fresh.1 mails.1)
 
 -- ---- nothing was opened
 
@@ -54,8 +76,8 @@ touches_nothing link posts before now same = record {
 }
 
 -- there was no room for the posts
-pub fed_roomless : (stream : Stream) (arguments : FeedArguments) (told : Told) → FeedsFiles stream arguments told told (Failed faults.NoMemory)
-fed_roomless stream arguments told = record {
+pub fed_roomless : (over : Bool) (stream : Stream) (arguments : FeedArguments) (told : Told) → FeedsFiles over stream arguments told told (Failed faults.NoMemory)
+fed_roomless over stream arguments told = record {
   opened = 0;
   opens = opens_none (live_files arguments) told told refl (λ name. refl) (λ name. refl);
   touches = touches_nothing arguments.link arguments.posts told.live told.live refl;
@@ -70,11 +92,11 @@ link_asked : {A : Type 0} (link : List ℕ) (files : List Opening) (refusal : Op
 link_asked link files refusals.Failed before now tried = (1, omega arith, opens_first (OfLink link) files before now tried.asked (λ name none. tried.pages name) (λ name none. tried.lefts name))
 link_asked link files refusals.NoMemory before now tried = (0, omega arith, opens_none (OfLink link ∷ files) before now tried.asked tried.pages tried.lefts)
 
-pub fed_unlinked : {A : Type 0} (stream : Stream) (arguments : FeedArguments) (refusal : OpenRefusal) (fault : Fault) (before now : Told) → fault ≡ unopened refusal → OpensLink {A = A} arguments.link (Err refusal) before now → FeedsFiles stream arguments before now (Failed fault)
-fed_unlinked {A} stream arguments refusal fault before now is tried =
-    let it = link_asked {A = A} arguments.link (map OfPost arguments.posts) refusal before now tried in
+pub fed_unlinked : {A : Type 0} (over : Bool) (stream : Stream) (arguments : FeedArguments) (refusal : OpenRefusal) (fault : Fault) (before now : Told) → fault ≡ unopened refusal → OpensLink {A = A} arguments.link (Err refusal) before now → FeedsFiles over stream arguments before now (Failed fault)
+fed_unlinked {A} over stream arguments refusal fault before now is tried =
+    let it = link_asked {A = A} arguments.link (files_behind arguments) refusal before now tried in
     let not_all = refused_not_all {A = A} refusal before now tried.counts in
-    subst (λ (f : Fault). FeedsFiles stream arguments before now (Failed f)) (sym is) (record {
+    subst (λ (f : Fault). FeedsFiles over stream arguments before now (Failed f)) (sym is) (record {
       opened = it.0;
       opens = it.2;
       touches = touches_nothing arguments.link arguments.posts before.live now.live tried.live;
@@ -121,7 +143,7 @@ lacks_counts {hidden} stream outcome before now why same = causes_plain {hidden 
   openings = cause_none before.openings now.openings (ap (λ (f : Faults). f.openings) same) (no_sender_fault stream outcome faults.Open why (λ e. cc));
 })
 
-module _ (stream : Stream) (arguments : FeedArguments) (left : Option (List Letter)) (before linked tried closed now : Told) (outcome : OutcomeView) (link_opened : OpenedLink (before.live.wire arguments.link) left) (link_live : linked.live ≡ before.live) (link_counts : linked.faults ≡ before.faults) (link_opens : Opens (OfLink arguments.link ∷ []) 1 before linked) (posts : List PostSeen) (later : Option (List Letter)) (missed : ℕ)
+module _ (over : Bool) (stream : Stream) (arguments : FeedArguments) (left : Option (List Letter)) (before linked tried closed now : Told) (outcome : OutcomeView) (link_opened : OpenedLink (before.live.wire arguments.link) left) (link_live : linked.live ≡ before.live) (link_counts : linked.faults ≡ before.faults) (link_opens : Opens (OfLink arguments.link ∷ []) 1 before linked) (posts : List PostSeen) (later : Option (List Letter)) (missed : ℕ)
     (posts_closed : ClosesPosts posts tried closed) (link_closed : ClosesLink arguments.link later missed closed now) (lacks : LacksSender stream posts linked tried outcome) (left_is : later ≡ left) (missed_is : missed ≡ 0) where
   senderless_closes : ClosesTo posts tried closed
   senderless_closes = closes_to posts tried closed posts_closed
@@ -138,9 +160,9 @@ module _ (stream : Stream) (arguments : FeedArguments) (left : Option (List Lett
   senderless_opens : Opens (live_files arguments) 1 before now
   senderless_opens =
       let closes = senderless_closes in
-      let none = opens_none (map OfPost arguments.posts) linked tried (ap (λ (t : Told). t.openings) lacks.same) (λ name. ap (λ (t : Told). t.page name) lacks.same) (λ name. ap (λ (t : Told). t.left name) lacks.same) in
-      opens_then (OfLink arguments.link) (map OfPost arguments.posts) 0 before linked now link_opens
-      (opens_still (map OfPost arguments.posts) 0 linked tried now none (link_closed.asked ∙ closes.asked) (λ name. link_closed.pages name ∙ closes.pages name) (λ name. link_closed.lefts name ∙ closes.lefts name))
+      let none = opens_none (files_behind arguments) linked tried (ap (λ (t : Told). t.openings) lacks.same) (λ name. ap (λ (t : Told). t.page name) lacks.same) (λ name. ap (λ (t : Told). t.left name) lacks.same) in
+      opens_then (OfLink arguments.link) (files_behind arguments) 0 before linked now link_opens
+      (opens_still (files_behind arguments) 0 linked tried now none (link_closed.asked ∙ closes.asked) (λ name. link_closed.pages name ∙ closes.pages name) (λ name. link_closed.lefts name ∙ closes.lefts name))
 
   senderless_faults : now.faults ≡ before.faults
   senderless_faults =
@@ -148,7 +170,7 @@ module _ (stream : Stream) (arguments : FeedArguments) (left : Option (List Lett
       link_closed.counts ∙ ap (λ (n : ℕ). after_source closed.faults n) missed_is ∙ fresh_counts posts tried closed fresh senderless_closes
       ∙ ap (λ (t : Told). t.faults) lacks.same ∙ link_counts
 
-  fed_senderless : FeedsFiles stream arguments before now outcome
+  fed_senderless : FeedsFiles over stream arguments before now outcome
   fed_senderless =
       let closes = senderless_closes in
       record {
@@ -174,7 +196,7 @@ module _ (stream : Stream) (arguments : FeedArguments) (left : Option (List Lett
 
 -- ---- a link that was opened, and closed behind the clock and the posts
 
-module _ (stream : Stream) (arguments : FeedArguments) (left : Option (List Letter)) (before linked clocked now : Told) (link_opened : OpenedLink (before.live.wire arguments.link) left) (link_live : linked.live ≡ before.live) (link_counts : linked.faults ≡ before.faults) (link_opens : Opens (OfLink arguments.link ∷ []) 1 before linked) (ticking : Option Ticking) (makes : MakesClock linked clocked)
+module _ (over : Bool) (stream : Stream) (arguments : FeedArguments) (left : Option (List Letter)) (before linked clocked now : Told) (link_opened : OpenedLink (before.live.wire arguments.link) left) (link_live : linked.live ≡ before.live) (link_counts : linked.faults ≡ before.faults) (link_opens : Opens (OfLink arguments.link ∷ []) 1 before linked) (ticking : Option Ticking) (makes : MakesClock linked clocked)
     (posts : List PostSeen) (tried closed : Told) (later : Option (List Letter)) (missed : ℕ) (posts_closed : ClosesPosts posts tried closed) (link_closed : ClosesLink arguments.link later missed closed now) where
   closes : ClosesTo posts tried closed
   closes = closes_to posts tried closed posts_closed
@@ -185,11 +207,22 @@ module _ (stream : Stream) (arguments : FeedArguments) (left : Option (List Lett
   opens_at_first : (opening : ℕ) → OpensAt opening (clock_told linked.live.readings linked.live.made) ticking → OpensAt opening (clock_told before.live.readings before.live.made) ticking
   opens_at_first opening opens = subst (λ (l : Live). OpensAt opening (clock_told l.readings l.made) ticking) link_live opens
 
-  -- the link and so many posts were asked to be opened, and nothing else was
-  all_opens : (n : ℕ) → Opens (map OfPost arguments.posts) n clocked tried → Opens (live_files arguments) (suc n) before now
+  -- the link and so many of the posts and STATUS were asked to be opened, and nothing else was
+  all_opens : (n : ℕ) → Opens (files_behind arguments) n clocked tried → Opens (live_files arguments) (suc n) before now
   all_opens n opens =
-      opens_then (OfLink arguments.link) (map OfPost arguments.posts) n before clocked now (clock_opens before linked clocked makes (OfLink arguments.link ∷ []) 1 link_opens)
-      (opens_still (map OfPost arguments.posts) n clocked tried now opens (link_closed.asked ∙ closes.asked) (λ name. link_closed.pages name ∙ closes.pages name) (λ name. link_closed.lefts name ∙ closes.lefts name))
+      opens_then (OfLink arguments.link) (files_behind arguments) n before clocked now (clock_opens before linked clocked makes (OfLink arguments.link ∷ []) 1 link_opens)
+      (opens_still (files_behind arguments) n clocked tried now opens (link_closed.asked ∙ closes.asked) (λ name. link_closed.pages name ∙ closes.pages name) (λ name. link_closed.lefts name ∙ closes.lefts name))
+
+  -- each page is as the closings found it
+  all_pages : (name : List ℕ) → now.page name ≡ tried.page name
+  all_pages name = link_closed.pages name ∙ closes.pages name
+
+  -- where nothing was opened but the link and posts, that of STATUS is as at first
+  status_stays : ((name : List ℕ) → tried.page name ≡ clocked.page name) → status_page arguments now ≡ status_page arguments before
+  status_stays same = last_same (files_of_feed arguments) before now (λ name. all_pages name ∙ same name ∙ (clock_opens before linked clocked makes (OfLink arguments.link ∷ []) 1 link_opens).pages name no_sink) where
+    no_sink : {name : List ℕ} → IsAmong (OfSink name) (OfLink arguments.link ∷ []) → ⊥
+    no_sink (inl same) = absurd cc
+    no_sink (inr never) = never
 
   -- what is told of links, posts and clocks is as before the posts were opened, and but for the clock as at first
   module _ (same : tried.live ≡ clocked.live) where
@@ -218,15 +251,15 @@ module _ (stream : Stream) (arguments : FeedArguments) (left : Option (List Lett
 
   -- ---- the stream was over
 
-  module _ (opening : ℕ) (opens_at : OpensAt opening (clock_told before.live.readings before.live.made) ticking) (right : wrong_line stream ≡ None) (over : has_ended stream opening ≡ true) (none : posts ≡ []) (same : tried ≡ clocked) (unheard : (later ≡ left) × (missed ≡ 0)) where
+  module _ (opening : ℕ) (opens_at : OpensAt opening (clock_told before.live.readings before.live.made) ticking) (right : wrong_line stream ≡ None) (ended : has_ended stream opening ≡ true) (none : posts ≡ []) (same : tried ≡ clocked) (unheard : (later ≡ left) × (missed ≡ 0)) where
     over_fresh : AreFresh posts
     over_fresh = subst AreFresh (sym none) tt
 
     over_live : tried.live ≡ clocked.live
     over_live = ap (λ (t : Told). t.live) same
 
-    over_opens : Opens (map OfPost arguments.posts) 0 clocked tried
-    over_opens = opens_none (map OfPost arguments.posts) clocked tried (ap (λ (t : Told). t.openings) same) (λ name. ap (λ (t : Told). t.page name) same) (λ name. ap (λ (t : Told). t.left name) same)
+    over_opens : Opens (files_behind arguments) 0 clocked tried
+    over_opens = opens_none (files_behind arguments) clocked tried (ap (λ (t : Told). t.openings) same) (λ name. ap (λ (t : Told). t.page name) same) (λ name. ap (λ (t : Told). t.left name) same)
 
     over_none : (name : List ℕ) → IsNoneOf name (map post_name posts)
     over_none name = subst (λ (ps : List PostSeen). IsNoneOf name (map post_name ps)) (sym none) tt
@@ -239,13 +272,13 @@ module _ (stream : Stream) (arguments : FeedArguments) (left : Option (List Lett
       clock_made = all_made over_live;
       missed = opens_at.missed;
       read = opens_at.read;
-      over = over;
+      over = ended;
       unheard = all_unheard unheard;
       unsent = λ name. link_closed.mails name ∙ closes.others name (over_none name) ∙ ap (λ (l : Live). l.mail name) (at_first over_live);
       outcome_is = refl;
     }
 
-    fed_over : FeedsFiles stream arguments before now stream_over
+    fed_over : FeedsFiles over stream arguments before now stream_over
     fed_over = record {
       opened = 1;
       opens = all_opens 0 over_opens;
@@ -260,25 +293,29 @@ module _ (stream : Stream) (arguments : FeedArguments) (left : Option (List Lett
     refused_to : OpensTo arguments.posts posts clocked tried (Err fault)
     refused_to = opens_new arguments.posts clocked tried posts (Err fault) posts_open
 
+    refused_few : refused_to.opened ≤ length (map OfPost arguments.posts)
+    refused_few = subst (λ (n : ℕ). refused_to.opened ≤ n) (sym (length-map arguments.posts OfPost)) refused_to.few
+
     refused_unsent : (name : List ℕ) → (now.live.mail name ≡ before.live.mail name) ⊎ IsUnsent (now.live.mail name)
     refused_unsent name =
         unsent_on before.live now.live closed.live name (link_closed.mails name)
         (subst (λ (l : Live). (closed.live.mail name ≡ l.mail name) ⊎ IsUnsent (closed.live.mail name)) (at_first refused_to.live) (fresh_mails posts tried closed refused_to.fresh posts_closed name))
 
-    fed_refused : FeedsFiles stream arguments before now (Failed fault)
+    fed_refused : FeedsFiles over stream arguments before now (Failed fault)
     fed_refused =
         let not_all = refused_to.refused fault refl in
         let hidden = (Failed fault ≡ Failed faults.Read) × AnyFailed (live_files arguments) now in
         let counts = causes_then before.faults clocked.faults tried.faults clock_counts (not_all_counts {hidden = hidden} fault clocked tried not_all) in
         record {
           opened = suc refused_to.opened;
-          opens = all_opens refused_to.opened refused_to.opens;
+          opens = all_opens refused_to.opened (opens_prefix (map OfPost arguments.posts) (status_files arguments.status) refused_to.opened clocked tried refused_few refused_to.opens);
           touches = all_touches refused_to.live (λ name none. none_of_opened name arguments.posts posts clocked tried (Err fault) refused_to none);
           does = inr (inr (
             right,
             inl (record {
               unheard = all_unheard unheard;
               unsent = refused_unsent;
+              unwritten = status_stays refused_to.pages;
               made = all_made refused_to.live;
               cause = outcome_cause fault not_all.cause;
             }),
@@ -286,153 +323,290 @@ module _ (stream : Stream) (arguments : FeedArguments) (left : Option (List Lett
           counts = subst (λ (f : Faults). HasCausesBeside hidden before.faults f (Failed fault ≡ Failed faults.Read) (Failed fault ≡ Failed faults.Write) (Failed fault ≡ Failed faults.Open)) (sym (all_faults unheard refused_to.fresh)) counts;
         }
 
-  -- ---- all were opened
+  -- ---- all posts were opened
 
-  module _ (right : wrong_line stream ≡ None) (some : 1 ≤ length arguments.posts) (distinct : AreDistinct arguments.posts) (opening : ℕ) (opens_at : OpensAt opening (clock_told before.live.readings before.live.made) ticking) (lasts : has_ended stream opening ≡ false) (fresh : List PostSeen) (posts_open : OpensPosts arguments.posts clocked tried [] fresh (Ok tt)) (end : FeedEnd) (fed : FeedsPosts stream opening end left later ticking fresh posts) (link_read : HasCause 0 missed (end.link_failed ≡ true)) where
-    fed_to : OpensTo arguments.posts fresh clocked tried (Ok tt)
-    fed_to = opens_new arguments.posts clocked tried fresh (Ok tt) posts_open
+  module _ (right : wrong_line stream ≡ None) (some : 1 ≤ length arguments.posts) (distinct : AreDistinct arguments.posts) (opening : ℕ) (opens_at : OpensAt opening (clock_told before.live.readings before.live.made) ticking) (lasts : has_ended stream opening ≡ false) (fresh : List PostSeen) (opened : Told) (posts_open : OpensPosts arguments.posts clocked opened [] fresh (Ok tt)) where
+    fed_to : OpensTo arguments.posts fresh clocked opened (Ok tt)
+    fed_to = opens_new arguments.posts clocked opened fresh (Ok tt) posts_open
 
-    fed_names : map post_name posts ≡ arguments.posts
-    fed_names =
-        let feeds = fed.feeds in
-        names_kept (datagrams_of stream feeds.made.log) fresh posts feeds.failed feeds.posts_are ∙ (fed_to.whole refl).names_are
+    fed_first : Opens (map OfPost arguments.posts) (length (map OfPost arguments.posts)) clocked opened
+    fed_first = subst (λ (n : ℕ). Opens (map OfPost arguments.posts) n clocked opened) ((fed_to.whole refl).all ∙ sym (length-map arguments.posts OfPost)) fed_to.opens
 
-    fed_mails : HasMails posts now
-    fed_mails = mails_same posts closed now link_closed.mails (closes.mails (subst AreDistinct (sym fed_names) distinct))
+    fed_counts : opened.faults ≡ before.faults
+    fed_counts = (fed_to.whole refl).counts ∙ clock_counts
 
-    fed_posts : SendPosts (datagrams_of stream fed.feeds.made.log) arguments.posts now.live fed.feeds.failed
-    fed_posts =
-        let feeds = fed.feeds in
-        subst (λ (ns : List (List ℕ)). SendPosts (datagrams_of stream feeds.made.log) ns now.live feeds.failed) fed_names
-        (sends_posts (datagrams_of stream feeds.made.log) fresh posts feeds.failed now fed_to.fresh fed_mails feeds.posts_are)
+    -- ---- the opening of STATUS was refused
 
-    fed_clock : let feeds = fed.feeds in ReadWhere (opens_at.unread ++ opening ∷ feeds.early ++ feeds.begun ∷ map reading_of (events_of feeds.heard feeds.rests)) before.live.readings before.live.made
-    fed_clock =
-        let feeds = fed.feeds in
-        let later : List ℕ = feeds.begun ∷ map reading_of (events_of feeds.heard feeds.rests) in
-        read_where (opens_at.unread ++ opening ∷ feeds.early ++ later) before.live.readings before.live.made fed.after
-        (gives_all opens_at.unread opening feeds.early later (clock_told before.live.readings before.live.made) ticking fed.after opens_at.gives feeds.gives)
+    module _ (fault : Fault) (refuses : RefusesStatus arguments.status opened tried fault) (unheard : (later ≡ left) × (missed ≡ 0)) (unsent : posts ≡ fresh) where
+      lacks_behind : RefusedBehind (map OfPost arguments.posts) arguments.status opened tried fault
+      lacks_behind = refused_behind (map OfPost arguments.posts) arguments.status opened tried fault refuses
 
-    fed_link : LeftWhere (map letter_of fed.feeds.heard) (before.live.wire arguments.link) (now.live.left arguments.link)
-    fed_link =
-        let taken = map letter_of fed.feeds.heard in
-        subst (λ (r : Option Remainder). LeftWhere taken (before.live.wire arguments.link) r) (sym link_closed.own)
-        (left_where taken (before.live.wire arguments.link) left later missed link_opened fed.feeds.left_is)
+      lacks_fresh : AreFresh posts
+      lacks_fresh = subst AreFresh (sym unsent) fed_to.fresh
 
-    fed_some : 1 ≤ length fed.feeds.failed
-    fed_some =
-        let feeds = fed.feeds in
-        let size : length feeds.failed ≡ length arguments.posts =
-        each_reported (datagrams_of stream feeds.made.log) fresh posts feeds.failed feeds.posts_are
-        ∙ sym (length-map posts post_name) ∙ ap (λ (ns : List (List ℕ)). length ns) fed_names in
-        subst (λ (n : ℕ). 1 ≤ n) (sym size) some
+      lacks_live : tried.live ≡ clocked.live
+      lacks_live = lacks_behind.live ∙ fed_to.live
 
-    fed_ends : EndsAs stream (now.live.left arguments.link) fed.feeds.made fed.feeds.failed (outcome_with end)
-    fed_ends =
-        let feeds = fed.feeds in
-        subst (λ (r : Option Remainder). EndsAs stream r feeds.made feeds.failed (outcome_with end)) (sym link_closed.own)
-        (ends_by stream end.link_failed end.post_failed end.counts feeds.made feeds.failed later missed link_read fed_some feeds.keys_disclosed feeds.ended feeds.counts feeds.some_failed)
+      lacks_unsent : (name : List ℕ) → (now.live.mail name ≡ before.live.mail name) ⊎ IsUnsent (now.live.mail name)
+      lacks_unsent name =
+          unsent_on before.live now.live closed.live name (link_closed.mails name)
+          (subst (λ (l : Live). (closed.live.mail name ≡ l.mail name) ⊎ IsUnsent (closed.live.mail name)) (at_first lacks_live) (fresh_mails posts tried closed lacks_fresh posts_closed name))
 
-    fed_feeds : FeedsLink arguments stream before.live now.live (outcome_with end)
-    fed_feeds =
-        let feeds = fed.feeds in
-        record {
+      fed_unstatused : FeedsFiles over stream arguments before now (Failed fault)
+      fed_unstatused =
+          let asked = lacks_behind.opens clocked fed_first in
+          let hidden = (Failed fault ≡ Failed faults.Read) × AnyFailed (live_files arguments) now in
+          let counts = causes_then before.faults opened.faults tried.faults fed_counts (not_all_counts {hidden = hidden} fault opened tried lacks_behind.not_all) in
+          record {
+            opened = suc asked.0;
+            opens = all_opens asked.0 asked.1;
+            touches = all_touches lacks_live (λ name none. subst (λ (ps : List PostSeen). IsNoneOf name (map post_name ps)) (sym unsent) (subst (λ (ns : List (List ℕ)). IsNoneOf name ns) (sym (fed_to.whole refl).names_are) none));
+            does = inr (inr (
+              right,
+              inl (record {
+                unheard = all_unheard unheard;
+                unsent = lacks_unsent;
+                unwritten = status_stays (λ name. lacks_behind.pages name ∙ fed_to.pages name);
+                made = all_made lacks_live;
+                cause = outcome_cause fault lacks_behind.not_all.cause;
+              }),
+            ));
+            counts = subst (λ (f : Faults). HasCausesBeside hidden before.faults f (Failed fault ≡ Failed faults.Read) (Failed fault ≡ Failed faults.Write) (Failed fault ≡ Failed faults.Open)) (sym (all_faults unheard lacks_fresh)) counts;
+          }
+
+    -- ---- all were opened
+
+    module _ (end : FeedEnd) (status_failed : Bool) (link_read : HasCause 0 missed (end.link_failed ≡ true)) (notes : List Note) (writes : WritesStatus arguments.status stream.setup.times opening end.counts opened tried status_failed notes) (names_are : map post_name posts ≡ arguments.posts) (marked : AnyFaulty posts → end.post_failed ≡ true) (faulty : end.post_failed ≡ true → AnyFaulty posts) where
+      fed_behind : Behind (map OfPost arguments.posts) arguments.status stream.setup.times opening end.counts opened tried status_failed notes
+      fed_behind = status_behind (map OfPost arguments.posts) arguments.status stream.setup.times opening end.counts opened tried status_failed notes writes
+
+      fed_live : tried.live ≡ clocked.live
+      fed_live = fed_behind.live ∙ fed_to.live
+
+      fed_mails : HasMails posts now
+      fed_mails = mails_same posts closed now link_closed.mails (closes.mails (subst AreDistinct (sym names_are) distinct))
+
+      fed_status : HoldsStatus arguments.status stream.setup.times opening notes end.counts status_failed (status_page arguments now)
+      fed_status = fed_behind.holds now (OfSource arguments.setup ∷ OfSource arguments.secret ∷ OfLink arguments.link ∷ map OfPost arguments.posts) all_pages
+
+      -- a post or STATUS failed, where that is told
+      fed_either : (end.post_failed || status_failed) ≡ true → AnyFaulty posts ⊎ (status_failed ≡ true)
+      fed_either e = elim (or_cases end.post_failed status_failed e) [ inl post ↦ inl (faulty post) | inr status ↦ inr status ]
+
+      fed_failed : AnyFaulty posts ⊎ (status_failed ≡ true) → (end.post_failed || status_failed) ≡ true
+      fed_failed (inl post) = or_left end.post_failed status_failed (marked post)
+      fed_failed (inr status) = or_right end.post_failed status_failed status
+
+      fed_any : AnyFaulty posts ⊎ (status_failed ≡ true) → AnyFailed (live_files arguments) now
+      fed_any (inl post) = failed_prefix (map OfPost arguments.posts) (status_files arguments.status) now (subst (λ (ns : List (List ℕ)). AnyFailed (map OfPost ns) now) names_are (faulty_told posts now fed_mails post))
+      fed_any (inr status) = failed_back (map OfPost arguments.posts) (status_files arguments.status) now (fed_behind.any now all_pages status)
+
+      -- the count of reads rose where the link failed, and that of writes where a post or STATUS did
+      fed_causes : HasCausesBeside ((outcome_with end status_failed ≡ Failed faults.Read) × AnyFailed (live_files arguments) now) opened.faults now.faults (outcome_with end status_failed ≡ Failed faults.Read) (outcome_with end status_failed ≡ Failed faults.Write) (outcome_with end status_failed ≡ Failed faults.Open)
+      fed_causes =
+          let write = end.post_failed || status_failed in
+          let own = fed_behind.own in
+          let outcome = outcome_with end status_failed in
+          let source = causes_source {read = outcome ≡ Failed faults.Read} {write = ⊥} {opening = ⊥} closed.faults now.faults missed link_closed.counts link_read
+          (λ e. read_end end.link_failed write end.counts e) (λ e. end_read end.link_failed write end.counts e) (λ never. never) (λ never. never) in
+          let reads : closed.faults.reads ≡ opened.faults.reads = closes.reads ∙ own.reads.still (λ never. never) in
+          let writes_are : now.faults.writes ≡ closed.faults.writes = ap (λ (f : Faults). f.writes) link_closed.counts in
+          let openings : now.faults.openings ≡ opened.faults.openings = ap (λ (f : Faults). f.openings) link_closed.counts ∙ closes.openings ∙ own.openings.still (λ never. never) in
+          let both : HasCause opened.faults.writes closed.faults.writes (AnyFaulty posts ⊎ (status_failed ≡ true)) =
+          cause_both opened.faults.writes tried.faults.writes closed.faults.writes own.writes closes.writes (λ either. swap either) (λ either. swap either) in
+          let cause : HasCause opened.faults.writes now.faults.writes (AnyFaulty posts ⊎ (status_failed ≡ true)) = subst (λ (n : ℕ). HasCause opened.faults.writes n (AnyFaulty posts ⊎ (status_failed ≡ true))) (sym writes_are) both in
+          record {
+            reads = subst (λ (n : ℕ). HasCause n now.faults.reads (outcome ≡ Failed faults.Read)) reads source.reads;
+            writes = record {
+              stays = cause.stays;
+              rose = λ e. cause.rose (fed_either (write_end end.link_failed write end.counts e));
+              still = λ none clear. cause.still (λ either.
+                  elim (failed_either end.link_failed write end.counts (fed_failed either)) [
+                    | inl read ↦ clear (read, fed_any either)
+                    | inr failed ↦ none failed
+                  ]);
+            };
+            openings = cause_none opened.faults.openings now.faults.openings openings (λ e. no_open end.link_failed write end.counts e);
+          }
+
+      -- what was done with the link and the posts
+      fed_by : FeedsOrEnds over arguments stream before.live now.live (status_page arguments now) (outcome_with end status_failed) → FeedsFiles over stream arguments before now (outcome_with end status_failed)
+      fed_by does =
+          record {
+            opened = suc (length (files_behind arguments));
+            opens = all_opens (length (files_behind arguments)) (fed_behind.opens clocked fed_first);
+            touches = all_touches fed_live (λ name none. subst (λ (ns : List (List ℕ)). IsNoneOf name ns) (sym names_are) none);
+            does = inr (inr (right, inr (inr (refl, does))));
+            counts = causes_then before.faults opened.faults now.faults fed_counts fed_causes;
+          }
+
+    module _ (end : FeedEnd) (status_failed : Bool) (link_read : HasCause 0 missed (end.link_failed ≡ true)) (after : Option Ticking) where
+      -- ---- the link was fed
+
+      module _ (feeds : Feeds stream opening end left later ticking after fresh posts (WritesStatus arguments.status stream.setup.times opening end.counts opened tried status_failed)) where
+        abbrev ran_notes : List Note
+        ran_notes = notes_of stream opening (map rested_at feeds.early ++ events_of feeds.heard feeds.rests)
+
+        ran_names : map post_name posts ≡ arguments.posts
+        ran_names = names_kept (datagrams_of stream feeds.made.log) fresh posts feeds.failed feeds.posts_are ∙ (fed_to.whole refl).names_are
+
+        ran_marked : AnyFaulty posts → end.post_failed ≡ true
+        ran_marked any = feeds.some_failed ∙ faulty_marked (datagrams_of stream feeds.made.log) fresh posts feeds.failed fed_to.fresh feeds.posts_are any
+
+        ran_faulty : end.post_failed ≡ true → AnyFaulty posts
+        ran_faulty e = marked_faulty (datagrams_of stream feeds.made.log) fresh posts feeds.failed fed_to.fresh feeds.posts_are (sym feeds.some_failed ∙ e)
+
+        ran_posts : SendPosts (datagrams_of stream feeds.made.log) arguments.posts now.live feeds.failed
+        ran_posts =
+            subst (λ (ns : List (List ℕ)). SendPosts (datagrams_of stream feeds.made.log) ns now.live feeds.failed) ran_names
+            (sends_posts (datagrams_of stream feeds.made.log) fresh posts feeds.failed now fed_to.fresh (fed_mails end status_failed link_read ran_notes feeds.noted ran_names ran_marked ran_faulty) feeds.posts_are)
+
+        ran_clock : ReadWhere (opens_at.unread ++ opening ∷ feeds.early ++ feeds.begun ∷ map reading_of (events_of feeds.heard feeds.rests)) before.live.readings before.live.made
+        ran_clock =
+            let later : List ℕ = feeds.begun ∷ map reading_of (events_of feeds.heard feeds.rests) in
+            read_where (opens_at.unread ++ opening ∷ feeds.early ++ later) before.live.readings before.live.made after
+            (gives_all opens_at.unread opening feeds.early later (clock_told before.live.readings before.live.made) ticking after opens_at.gives feeds.gives)
+
+        ran_link : LeftWhere (map letter_of feeds.heard) (before.live.wire arguments.link) (now.live.left arguments.link)
+        ran_link =
+            let taken = map letter_of feeds.heard in
+            subst (λ (r : Option Remainder). LeftWhere taken (before.live.wire arguments.link) r) (sym link_closed.own)
+            (left_where taken (before.live.wire arguments.link) left later missed link_opened feeds.left_is)
+
+        ran_some : 1 ≤ length feeds.failed
+        ran_some =
+            let size : length feeds.failed ≡ length arguments.posts =
+            each_reported (datagrams_of stream feeds.made.log) fresh posts feeds.failed feeds.posts_are
+            ∙ sym (length-map posts post_name) ∙ ap (λ (ns : List (List ℕ)). length ns) ran_names in
+            subst (λ (n : ℕ). 1 ≤ n) (sym size) some
+
+        ran_ends : EndsAs stream (now.live.left arguments.link) feeds.made feeds.failed status_failed (outcome_with end status_failed)
+        ran_ends =
+            subst (λ (r : Option Remainder). EndsAs stream r feeds.made feeds.failed status_failed (outcome_with end status_failed)) (sym link_closed.own)
+            (ends_by stream end.link_failed (end.post_failed || status_failed) end.counts feeds.made feeds.failed status_failed later missed link_read ran_some feeds.keys_disclosed feeds.ended feeds.counts (ap (λ (b : Bool). b || status_failed) feeds.some_failed))
+
+        ran_feeds : FeedsLink arguments stream before.live now.live (status_page arguments now) (outcome_with end status_failed)
+        ran_feeds = record {
           unread = opens_at.unread;
           opening = opening;
           early = feeds.early;
           begun = feeds.begun;
           heard = feeds.heard;
           rests = feeds.rests;
-          clock = fed_clock;
-          clock_made = all_made fed_to.live;
+          clock = ran_clock;
+          clock_made = all_made (fed_live end status_failed link_read ran_notes feeds.noted ran_names ran_marked ran_faulty);
           missed = opens_at.missed;
           read = opens_at.read;
           lasts = lasts;
           waits = feeds.waits;
           begins = feeds.begins;
-          link = fed_link;
+          link = ran_link;
           made = feeds.made;
           made_is = feeds.made_is;
           failed = feeds.failed;
-          posts = fed_posts;
+          posts = ran_posts;
+          status_failed = status_failed;
+          status = subst (λ (counts : FeedCounts). HoldsStatus arguments.status stream.setup.times opening ran_notes counts status_failed (status_page arguments now)) feeds.counts
+              (fed_status end status_failed link_read ran_notes feeds.noted ran_names ran_marked ran_faulty);
           needed = feeds.needed;
-          ends = fed_ends;
+          ends = ran_ends;
         }
 
-    fed_faults : tried.faults ≡ before.faults
-    fed_faults = (fed_to.whole refl).counts ∙ clock_counts
+        fed_all : FeedsFiles over stream arguments before now (outcome_with end status_failed)
+        fed_all = fed_by end status_failed link_read ran_notes feeds.noted ran_names ran_marked ran_faulty (inr ran_feeds)
 
-    fed_faulty : AnyFaulty posts → (outcome_with end ≡ Failed faults.Read) ⊎ (outcome_with end ≡ Failed faults.Write)
-    fed_faulty faulty =
-        let feeds = fed.feeds in
-        failed_either end.link_failed end.post_failed end.counts
-        (feeds.some_failed ∙ faulty_marked (datagrams_of stream feeds.made.log) fresh posts feeds.failed fed_to.fresh feeds.posts_are faulty)
+      -- ---- the run was asked to end
 
-    fed_failed : outcome_with end ≡ Failed faults.Write → AnyFaulty posts
-    fed_failed e =
-        let feeds = fed.feeds in
-        marked_faulty (datagrams_of stream feeds.made.log) fresh posts feeds.failed fed_to.fresh feeds.posts_are (sym feeds.some_failed ∙ write_failed end.link_failed end.post_failed end.counts e)
+      module _ (stops : StopsEarly over stream opening end left later ticking after fresh posts (WritesStatus arguments.status stream.setup.times opening end.counts opened tried status_failed)) where
+        abbrev stopped_notes : List Note
+        stopped_notes = notes_of stream opening (map rested_at stops.early)
 
-    -- the count of reads rose where the link failed, and that of writes where a post did
-    fed_causes : HasCausesBeside ((outcome_with end ≡ Failed faults.Read) × AnyFailed (live_files arguments) now) tried.faults now.faults (outcome_with end ≡ Failed faults.Read) (outcome_with end ≡ Failed faults.Write) (outcome_with end ≡ Failed faults.Open)
-    fed_causes =
-        let source = causes_source {read = outcome_with end ≡ Failed faults.Read} {write = ⊥} {opening = ⊥} closed.faults now.faults missed link_closed.counts link_read
-        (λ e. read_end end.link_failed end.post_failed end.counts e) (λ e. end_read end.link_failed end.post_failed end.counts e) (λ never. never) (λ never. never) in
-        let writes : now.faults.writes ≡ closed.faults.writes = ap (λ (f : Faults). f.writes) link_closed.counts in
-        let openings : now.faults.openings ≡ tried.faults.openings = ap (λ (f : Faults). f.openings) link_closed.counts ∙ closes.openings in
-        let cause : HasCause tried.faults.writes now.faults.writes (AnyFaulty posts) = subst (λ (n : ℕ). HasCause tried.faults.writes n (AnyFaulty posts)) (sym writes) closes.writes in
-        record {
-          reads = subst (λ (n : ℕ). HasCause n now.faults.reads (outcome_with end ≡ Failed faults.Read)) closes.reads source.reads;
-          writes = record {
-            stays = cause.stays;
-            rose = λ e. cause.rose (fed_failed e);
-            still = λ none clear. cause.still (λ faulty.
-                elim (fed_faulty faulty) [
-                  | inl read ↦ clear (read, subst (λ (ns : List (List ℕ)). AnyFailed (map OfPost ns) now) fed_names (faulty_told posts now fed_mails faulty))
-                  | inr write ↦ none write
-                ]);
-          };
-          openings = cause_none tried.faults.openings now.faults.openings openings (λ e. no_open end.link_failed end.post_failed end.counts e);
+        stopped_names : map post_name posts ≡ arguments.posts
+        stopped_names = ap (λ (ps : List PostSeen). map post_name ps) stops.posts_are ∙ (fed_to.whole refl).names_are
+
+        stopped_fresh : AreFresh posts
+        stopped_fresh = subst AreFresh (sym stops.posts_are) fed_to.fresh
+
+        stopped_marked : AnyFaulty posts → end.post_failed ≡ true
+        stopped_marked any = absurd (fresh_sound posts stopped_fresh any)
+
+        stopped_faulty : end.post_failed ≡ true → AnyFaulty posts
+        stopped_faulty e = absurd (let clash : true ≡ false = sym e ∙ ap (λ (it : FeedEnd). it.post_failed) stops.result_is in cc)
+
+        stopped_missed : missed ≡ 0
+        stopped_missed = link_read.still (λ e. absurd (let clash : true ≡ false = sym e ∙ ap (λ (it : FeedEnd). it.link_failed) stops.result_is in cc))
+
+        stopped_clock : ReadWhere (opens_at.unread ++ opening ∷ stops.early) before.live.readings before.live.made
+        stopped_clock =
+            let told = clock_told before.live.readings before.live.made in
+            let same : (opens_at.unread ++ opening ∷ []) ++ stops.early ≡ opens_at.unread ++ opening ∷ stops.early = append_assoc opens_at.unread (opening ∷ []) stops.early in
+            read_where (opens_at.unread ++ opening ∷ stops.early) before.live.readings before.live.made after
+            (subst (λ (rs : List ℕ). Gives rs told after) same (gives_both (opens_at.unread ++ opening ∷ []) stops.early told ticking after opens_at.gives stops.gives))
+
+        stopped_end : FindsEnd over arguments stream before.live now.live (status_page arguments now) (outcome_with end status_failed)
+        stopped_end = record {
+          asked = stops.asked;
+          unread = opens_at.unread;
+          opening = opening;
+          early = stops.early;
+          clock = stopped_clock;
+          clock_made = all_made (fed_live end status_failed link_read stopped_notes stops.noted stopped_names stopped_marked stopped_faulty);
+          missed = opens_at.missed;
+          read = opens_at.read;
+          lasts = lasts;
+          waits = stops.waits;
+          unheard = all_unheard (stops.left_is, stopped_missed);
+          unsent = subst (λ (ns : List (List ℕ)). AllByRecursion (λ name. IsUnsent (now.live.mail name)) ns) stopped_names
+              (all_unsent posts now stopped_fresh (fed_mails end status_failed link_read stopped_notes stops.noted stopped_names stopped_marked stopped_faulty));
+          status_failed = status_failed;
+          status = subst (λ (counts : FeedCounts). HoldsStatus arguments.status stream.setup.times opening stopped_notes counts status_failed (status_page arguments now)) (ap (λ (it : FeedEnd). it.counts) stops.result_is)
+              (fed_status end status_failed link_read stopped_notes stops.noted stopped_names stopped_marked stopped_faulty);
+          outcome_is = ap (λ (it : FeedEnd). outcome_with it status_failed) stops.result_is;
         }
 
-    fed_all : FeedsFiles stream arguments before now (outcome_with end)
-    fed_all =
-        record {
-          opened = suc fed_to.opened;
-          opens = all_opens fed_to.opened fed_to.opens;
-          touches = all_touches fed_to.live (λ name none. subst (λ (ns : List (List ℕ)). IsNoneOf name ns) (sym fed_names) none);
-          does = inr (inr (right, inr (inr (let all = (fed_to.whole refl).all in omega (arith, all), fed_feeds))));
-          counts = causes_then before.faults tried.faults now.faults fed_faults fed_causes;
-        }
+        fed_stopped : FeedsFiles over stream arguments before now (outcome_with end status_failed)
+        fed_stopped = fed_by end status_failed link_read stopped_notes stops.noted stopped_names stopped_marked stopped_faulty (inl stopped_end)
+
+    -- ---- whatever was done with the link and the posts
+
+    fed_ready : (outcome : OutcomeView) → FeedsReady over stream opening arguments.status left later 0 missed ticking opened tried fresh posts outcome → FeedsFiles over stream arguments before now outcome
+    fed_ready outcome (inl lacks) =
+        subst (λ (c : OutcomeView). FeedsFiles over stream arguments before now c) (sym lacks.outcome_is) (fed_unstatused lacks.fault lacks.refuses lacks.unheard lacks.unsent)
+    fed_ready outcome (inr fed) =
+        subst (λ (c : OutcomeView). FeedsFiles over stream arguments before now c) (sym fed.outcome_is) (fed_comes fed.end fed.status_failed fed.read fed.fed.after fed.fed.comes) where
+          fed_comes : (end : FeedEnd) (status_failed : Bool) (read : HasCause 0 missed (end.link_failed ≡ true)) (after : Option Ticking)
+              → ComesTo over stream opening end left later ticking after fresh posts (WritesStatus arguments.status stream.setup.times opening end.counts opened tried status_failed) → FeedsFiles over stream arguments before now (outcome_with end status_failed)
+          fed_comes end status_failed read after (inl feeds) = fed_all end status_failed read after feeds
+          fed_comes end status_failed read after (inr stops) = fed_stopped end status_failed read after stops
 
 -- ---- what was tried, and closed
 
-fed_tried : (stream : Stream) (arguments : FeedArguments) (left : Option (List Letter)) (before linked now : Told) (link_opened : OpenedLink (before.live.wire arguments.link) left) (link_live : linked.live ≡ before.live) (link_counts : linked.faults ≡ before.faults) (link_opens : Opens (OfLink arguments.link ∷ []) 1 before linked) (posts : List PostSeen) (tried closed : Told) (later : Option (List Letter)) (missed : ℕ)
-    (posts_closed : ClosesPosts posts tried closed) (link_closed : ClosesLink arguments.link later missed closed now) (some : 1 ≤ length arguments.posts) (distinct : AreDistinct arguments.posts) (outcome : OutcomeView) → TriesToFeed stream arguments.posts left later 0 missed linked tried posts outcome → FeedsFiles stream arguments before now outcome
-fed_tried stream arguments left before linked now link_opened link_live link_counts link_opens posts tried closed later missed posts_closed link_closed some distinct outcome (inl (inl lacks, left_is, missed_is)) =
-    fed_senderless stream arguments left before linked tried closed now outcome link_opened link_live link_counts link_opens posts later missed posts_closed link_closed lacks left_is missed_is
-fed_tried stream arguments left before linked now link_opened link_live link_counts link_opens posts tried closed later missed posts_closed link_closed some distinct outcome (inl (inr (right, inl ends), left_is, missed_is)) =
+fed_tried : (over : Bool) (stream : Stream) (arguments : FeedArguments) (left : Option (List Letter)) (before linked now : Told) (link_opened : OpenedLink (before.live.wire arguments.link) left) (link_live : linked.live ≡ before.live) (link_counts : linked.faults ≡ before.faults) (link_opens : Opens (OfLink arguments.link ∷ []) 1 before linked) (posts : List PostSeen) (tried closed : Told) (later : Option (List Letter)) (missed : ℕ)
+    (posts_closed : ClosesPosts posts tried closed) (link_closed : ClosesLink arguments.link later missed closed now) (some : 1 ≤ length arguments.posts) (distinct : AreDistinct arguments.posts) (outcome : OutcomeView) → TriesToFeed over stream arguments.posts arguments.status left later 0 missed linked tried posts outcome → FeedsFiles over stream arguments before now outcome
+fed_tried over stream arguments left before linked now link_opened link_live link_counts link_opens posts tried closed later missed posts_closed link_closed some distinct outcome (inl (inl lacks, left_is, missed_is)) =
+    fed_senderless over stream arguments left before linked tried closed now outcome link_opened link_live link_counts link_opens posts later missed posts_closed link_closed lacks left_is missed_is
+fed_tried over stream arguments left before linked now link_opened link_live link_counts link_opens posts tried closed later missed posts_closed link_closed some distinct outcome (inl (inr (right, inl ends), left_is, missed_is)) =
     let opens = ends.opens.opens in
     let makes = ends.opens.makes in
-    let at = opens_at_first stream arguments left before linked tried now link_opened link_live link_counts link_opens ends.ticking makes posts tried closed later missed posts_closed link_closed opens.0 opens.1 in
-    subst (λ (c : OutcomeView). FeedsFiles stream arguments before now c) (sym ends.outcome_is)
-    (fed_over stream arguments left before linked tried now link_opened link_live link_counts link_opens ends.ticking makes posts tried closed later missed posts_closed link_closed opens.0 at right opens.2 ends.none refl (left_is, missed_is))
-fed_tried stream arguments left before linked now link_opened link_live link_counts link_opens posts tried closed later missed posts_closed link_closed some distinct outcome (inl (inr (right, inr refuses), left_is, missed_is)) =
-    subst (λ (c : OutcomeView). FeedsFiles stream arguments before now c) (sym refuses.outcome_is)
-    (fed_refused stream arguments left before linked refuses.opens.clocked now link_opened link_live link_counts link_opens refuses.ticking refuses.opens.opens.makes posts tried closed later missed posts_closed link_closed right refuses.fault refuses.opens.posts_open (left_is, missed_is))
-fed_tried stream arguments left before linked now link_opened link_live link_counts link_opens posts tried closed later missed posts_closed link_closed some distinct outcome (inr (right, feeds)) =
+    let at = opens_at_first over stream arguments left before linked tried now link_opened link_live link_counts link_opens ends.ticking makes posts tried closed later missed posts_closed link_closed opens.0 opens.1 in
+    subst (λ (c : OutcomeView). FeedsFiles over stream arguments before now c) (sym ends.outcome_is)
+    (fed_over over stream arguments left before linked tried now link_opened link_live link_counts link_opens ends.ticking makes posts tried closed later missed posts_closed link_closed opens.0 at right opens.2 ends.none refl (left_is, missed_is))
+fed_tried over stream arguments left before linked now link_opened link_live link_counts link_opens posts tried closed later missed posts_closed link_closed some distinct outcome (inl (inr (right, inr refuses), left_is, missed_is)) =
+    subst (λ (c : OutcomeView). FeedsFiles over stream arguments before now c) (sym refuses.outcome_is)
+    (fed_refused over stream arguments left before linked refuses.opens.clocked now link_opened link_live link_counts link_opens refuses.ticking refuses.opens.opens.makes posts tried closed later missed posts_closed link_closed right refuses.fault refuses.opens.posts_open (left_is, missed_is))
+fed_tried over stream arguments left before linked now link_opened link_live link_counts link_opens posts tried closed later missed posts_closed link_closed some distinct outcome (inr (right, feeds)) =
     let opens = feeds.opens.opens.opens in
     let makes = feeds.opens.opens.makes in
     let opening = feeds.feed.opening in
-    let at = opens_at_first stream arguments left before linked feeds.opens.clocked now link_opened link_live link_counts link_opens feeds.ticking makes posts tried closed later missed posts_closed link_closed opening opens.0 in
-    subst (λ (c : OutcomeView). FeedsFiles stream arguments before now c) (sym feeds.outcome_is)
-    (fed_all stream arguments left before linked feeds.opens.clocked now link_opened link_live link_counts link_opens feeds.ticking makes posts tried closed later missed posts_closed link_closed right some distinct opening at opens.1 feeds.fresh feeds.opens.posts_open feeds.end
-    (subst (λ (s : Stream). FeedsPosts s opening feeds.end left later feeds.ticking feeds.fresh posts) opens.2 feeds.fed) feeds.read)
+    let at = opens_at_first over stream arguments left before linked feeds.opens.clocked now link_opened link_live link_counts link_opens feeds.ticking makes posts tried closed later missed posts_closed link_closed opening opens.0 in
+    fed_ready over stream arguments left before linked feeds.opens.clocked now link_opened link_live link_counts link_opens feeds.ticking makes posts tried closed later missed posts_closed link_closed right some distinct opening at opens.1 feeds.fresh feeds.opened feeds.opens.posts_open outcome
+    (subst (λ (s : Stream). FeedsReady over s opening arguments.status left later 0 missed feeds.ticking feeds.opened tried feeds.fresh posts outcome) opens.2 feeds.feeds)
 
 -- the link was opened, what follows was tried, and all was closed
-pub fed_linked : {A : Type 0} (stream : Stream) (arguments : FeedArguments) (words : List (List ℕ)) (it : A) (name : List ℕ) (names : List (List ℕ)) (left : Option (List Letter)) (before linked now : Told) (outcome : OutcomeView) → IsFeedForm arguments words → name ≡ arguments.link → names ≡ arguments.posts → OpenedLink (before.live.wire arguments.link) left → OpensLink {A = A} arguments.link (Ok it) before linked → RunsLinked stream names name left linked now outcome → FeedsFiles stream arguments before now outcome
-fed_linked {A} stream arguments words it name names left before linked now outcome is own posts_are opened opens runs =
-    let tries = subst (λ (ns : List (List ℕ)). TriesToFeed stream ns left runs.later 0 runs.missed linked runs.tried runs.posts outcome) posts_are runs.tries in
+pub fed_linked : {A : Type 0} (over : Bool) (stream : Stream) (arguments : FeedArguments) (words : List (List ℕ)) (it : A) (name : List ℕ) (names : List (List ℕ)) (left : Option (List Letter)) (before linked now : Told) (outcome : OutcomeView) → IsFeedForm arguments words → name ≡ arguments.link → names ≡ arguments.posts → OpenedLink (before.live.wire arguments.link) left → OpensLink {A = A} arguments.link (Ok it) before linked → RunsLinked over stream names arguments.status name left linked now outcome → FeedsFiles over stream arguments before now outcome
+fed_linked {A} over stream arguments words it name names left before linked now outcome is own posts_are opened opens runs =
+    let tries = subst (λ (ns : List (List ℕ)). TriesToFeed over stream ns arguments.status left runs.later 0 runs.missed linked runs.tried runs.posts outcome) posts_are runs.tries in
     let link_closed = subst (λ (n : List ℕ). ClosesLink n runs.later runs.missed runs.closed now) own runs.link_closed in
     let first = opens_first (OfLink arguments.link) [] before linked opens.asked (λ n none. opens.pages n) (λ n none. opens.lefts n) in
-    fed_tried stream arguments left before linked now opened opens.live (counts_stay before.faults linked.faults opens.counts (λ e. absurd cc)) first runs.posts runs.tried runs.closed runs.later runs.missed runs.posts_closed link_closed is.spelled.rest.rest.rest.rest.first.some is.spelled.rest.rest.rest.rest.first.distinct outcome tries
+    let posts = is.spelled.rest.rest.rest.rest.first in
+    fed_tried over stream arguments left before linked now opened opens.live (counts_stay before.faults linked.faults opens.counts (λ e. absurd cc)) first runs.posts runs.tried runs.closed runs.later runs.missed runs.posts_closed link_closed posts.some posts.distinct outcome tries

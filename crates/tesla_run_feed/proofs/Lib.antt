@@ -1,8 +1,11 @@
+mod Spelled
 mod Steps
 mod Ended
 mod Mailed
+mod Behind
 mod Fed
 mod Performed
 pub mod Due
 mod Told
+mod Noted
 mod Numbers

@@ -1,5 +1,5 @@
 -- The lines that tell what a feed came to.
-use Rattle.std.specs.Prelude.{ℕ, Bool, true, false, List, ◌++◌, codes}
+use Rattle.std.specs.Prelude.{ℕ, Bool, true, false, ◌||◌, List, ◌++◌, codes}
 use Rattle.tesla_feed.specs.declared.counts.FeedCounts.{FeedCounts}
 use Rattle.tesla_feed.specs.declared.feeding.FeedEnd.{FeedEnd}
 use Rattle.tesla_front.specs.OutcomeView.{OutcomeView, Done, Failed, Refused}
@@ -25,15 +25,15 @@ unread_line counts = count_line (codes "unread") counts.unread
 abbrev pub lines_of : FeedCounts → List ℕ
 lines_of counts = sent_lines counts ++ refused_lines counts ++ unread_line counts
 
--- what a feed came to, told whether the link failed and whether a post did
+-- what a feed came to, told whether the link failed and whether a post or STATUS did
 abbrev pub outcome_by : Bool → Bool → FeedCounts → OutcomeView
-outcome_by true post_failed counts = Failed faults.Read
+outcome_by true write_failed counts = Failed faults.Read
 outcome_by false true counts = Failed faults.Write
 outcome_by false false counts = Done (lines_of counts)
 
--- what a feed came to: a failed link, else a failed post, else the lines
-abbrev pub outcome_with : FeedEnd → OutcomeView
-outcome_with end = outcome_by end.link_failed end.post_failed end.counts
+-- what a feed came to, told whether STATUS failed: a failed link, else a failed post or STATUS, else the lines
+abbrev pub outcome_with : FeedEnd → Bool → OutcomeView
+outcome_with end status_failed = outcome_by end.link_failed (end.post_failed || status_failed) end.counts
 
 -- what a stream that is over when its feed is opened comes to: its setup is refused
 abbrev pub stream_over : OutcomeView

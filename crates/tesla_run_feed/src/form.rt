@@ -1,11 +1,12 @@
-//! The form of the command `feed`: how it is told, and what its words ask for.
+//! The forms of the command `feed`: how they are told, and what their words ask for.
 
-ghost use Rattle.std.specs.Prelude.{◌≡◌, Some, IfSome, map, string_bytes, option_map};
-ghost use Rattle.tesla_run_feed.specs.Arguments.{FeedArguments, IsFeedForm, arguments_of};
+ghost use Rattle.std.specs.Prelude.{◌≡◌, ◌≢◌, Some, IfSome, false, map, string_bytes, true, option_map};
+ghost use Rattle.tesla_run_feed.specs.Arguments.{AreFeedWords, FeedArguments, IsFeedForm, arguments_of, pair_of, status_of};
 
-use tesla_front::{FormText, Name, Names, words_in};
+use crate::arguments::{Arguments, StatusWords};
+use tesla_front::{Count, FormText, Name, Names, Words, words_in};
 
-/// The form of `feed`.
+/// The form of `feed` without a file of its counts.
 pub const FEED: FormText = FormText {
     words: "feed SETUP SECRET LINK POSTS",
     about: "    sends each live datagram of LINK as a message, as the sender of SETUP with
@@ -25,39 +26,117 @@ pub const FEED: FormText = FormText {
 ",
 };
 
-/// What the words `feed SETUP SECRET LINK POSTS` ask for.
+/// The form of `feed` with a file of its counts.
+pub const FEED_STATUS: FormText = FormText {
+    words: "feed SETUP SECRET LINK POSTS STATUS EVERY",
+    about: "    does what feed SETUP SECRET LINK POSTS does, empties STATUS once POSTS are open,
+    and writes a line with its counts to STATUS every EVERY seconds by the clock,
+    and one at the end. A line has time=, the clock's reading in microseconds, or
+    end= in the last one, the counts by then, each behind its name, how often the
+    clock gave another reading than the system's and how many datagrams the
+    system refused to send, and how many intervals are left. A STATUS that fails
+    gets no further line, and stops nothing.
+    STATUS: the name of a file, neither SETUP nor SECRET
+    EVERY: how many seconds pass from a line to the next, 1 to 3600
+    Example, with a line each minute:
+    tesla feed live.setup live.secret 127.0.0.1:5000/0 127.0.0.1:5001 feed.status 60
+",
+};
+
+// The last words as they are read: STATUS and EVERY, or none.
 #[derive(Drop)]
-pub struct Arguments<'a> {
-    /// The name of the setup.
-    pub setup: &'a str,
-    /// The name of the seeds.
-    pub secret: &'a str,
-    /// The name of the link.
-    pub link: &'a str,
-    /// The names of the posts, 1 to 32.
-    pub posts: Names<'a>,
+struct LastWords<'a> {
+    pair: Option<(Name<'a>, (Count<3_600>, ()))>,
+}
+
+impl<'a> Words<'a> for LastWords<'a> {
+    ghost use Rattle.std.specs.Prelude.{option_map};
+    ghost use Rattle.tesla_run_feed.specs.Arguments.{pair_of, status_parts};
+
+    ghost spell = { λ it. status_parts (option_map pair_of it.pair) };
+
+    fn read(words: &'a [String]) -> Option<LastWords<'a>> {
+        if words.is_empty() {
+            return Some(LastWords { pair: None });
+        }
+        match <(Name<'a>, (Count<3_600>, ()))>::read(words) {
+            Some(pair) => Some(LastWords { pair: Some(pair) }),
+            None => None,
+        }
+    }
+}
+
+// The file of the counts that the last words ask for.
+fn status_from<'a>(words: LastWords<'a>) -> Option<StatusWords<'a>>
+    ensures { option_map status_of result ≡ option_map pair_of words.entry.pair }
+{
+    match words.pair {
+        Some(pair) => {
+            let (output, (every, ())) = pair;
+            Some(StatusWords {
+                output: output.as_str(),
+                every: every.get(),
+            })
+        }
+        None => None,
+    }
 }
 
 // The words as what they ask for.
-fn arguments_from<'a>(words: (Name<'a>, (Name<'a>, (Name<'a>, (Names<'a>, ()))))) -> Arguments<'a>
-    ensures { arguments_of result ≡ record { setup = words.entry.0; secret = words.entry.1.0; link = words.entry.1.1.0; posts = words.entry.1.1.1.0 } }
+fn arguments_from<'a>(
+    words: (Name<'a>, (Name<'a>, (Name<'a>, (Names<'a>, LastWords<'a>)))),
+) -> Arguments<'a>
+    ensures { arguments_of result ≡ record { setup = words.entry.0; secret = words.entry.1.0; link = words.entry.1.1.0; posts = words.entry.1.1.1.0; status = option_map pair_of words.entry.1.1.1.1.pair } }
 {
-    let (setup, (secret, (link, (posts, ())))) = words;
+    let (setup, (secret, (link, (posts, last)))) = words;
     Arguments {
         setup: setup.as_str(),
         secret: secret.as_str(),
         link: link.as_str(),
         posts,
+        status: status_from(last),
     }
 }
 
-/// What the words ask for. `None` exactly where they are not of the form `feed SETUP SECRET LINK POSTS`: each word is
-/// there, POSTS are 1 to 32 different names with a comma between two, and no name is empty or the console's.
+// Whether STATUS, where there is one, is neither SETUP nor SECRET.
+fn is_apart(arguments: &Arguments<'_>) -> bool
+    ensures yes { result ≡ true → IfSome (arguments_of arguments.now).status (λ status. (status.output ≢ arguments.now.setup.now) × (status.output ≢ arguments.now.secret.now)) }
+    ensures no { result ≡ false → IfSome (arguments_of arguments.now).status (λ status. (status.output ≢ arguments.now.setup.now) × (status.output ≢ arguments.now.secret.now)) → ⊥ }
+{
+    match &arguments.status {
+        Some(status) => {
+            if status.output == arguments.setup {
+                return false;
+            }
+            status.output != arguments.secret
+        }
+        None => true,
+    }
+}
+
+/// What the words ask for. `None` exactly where they are of neither of the forms `feed SETUP SECRET LINK POSTS` and
+/// `feed SETUP SECRET LINK POSTS STATUS EVERY`: each word is there, POSTS are 1 to 32 different names with a comma
+/// between two, EVERY is a decimal from 1 to 3600, no name is empty or the console's, and STATUS is neither SETUP nor
+/// SECRET.
 pub fn arguments_in(words: &[String]) -> Option<Arguments<'_>>
     // What is found is spelled so.
     ensures found { IfSome result (λ arguments. IsFeedForm (arguments_of arguments) (map string_bytes words.now)) }
     // What is spelled so is found.
     ensures only { (arguments : FeedArguments) → IsFeedForm arguments (map string_bytes words.now) → option_map arguments_of result ≡ Some arguments }
+{
+    let Some(arguments) = read_words(words) else {
+        return None;
+    };
+    if !is_apart(&arguments) {
+        return None;
+    }
+    Some(arguments)
+}
+
+// What the words ask for, whichever file STATUS is.
+fn read_words(words: &[String]) -> Option<Arguments<'_>>
+    ensures found { IfSome result (λ arguments. AreFeedWords (arguments_of arguments) (map string_bytes words.now)) }
+    ensures only { (arguments : FeedArguments) → AreFeedWords arguments (map string_bytes words.now) → option_map arguments_of result ≡ Some arguments }
 {
     match words_in("feed", words) {
         Some(words) => Some(arguments_from(words)),

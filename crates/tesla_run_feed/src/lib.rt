@@ -1,7 +1,9 @@
 //! The command `feed`: the live datagrams of a link are sent as the messages of a stream, with keys on time.
 #![tactic(auto)]
 
+mod arguments;
 mod chains;
+mod counted;
 mod form;
 mod line;
 mod lines;
@@ -10,5 +12,5 @@ mod run;
 mod seeds;
 mod telling;
 
-pub use form::FEED;
+pub use form::{FEED, FEED_STATUS};
 pub use run::run_feed;

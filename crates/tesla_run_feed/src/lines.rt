@@ -23,15 +23,15 @@ fn lines_of(counts: FeedCounts) -> Lines
     lines
 }
 
-/// What a feed came to: `Failed` with `Read` where the link failed, else with `Write` where a post did, and else the lines
-/// of the counts. It takes no memory.
-pub fn lines_after(end: FeedEnd) -> Result<Lines, Stop>
-    ensures { result_view result ≡ outcome_with end }
+/// What a feed came to, told whether STATUS failed: `Failed` with `Read` where the link failed, else with `Write` where
+/// a post or STATUS did, and else the lines of the counts. It takes no memory.
+pub fn lines_after(end: FeedEnd, status_failed: bool) -> Result<Lines, Stop>
+    ensures { result_view result ≡ outcome_with end status_failed }
 {
     if end.link_failed {
         return Err(Stop::Failed(Fault::Read));
     }
-    if end.post_failed {
+    if end.post_failed || status_failed {
         return Err(Stop::Failed(Fault::Write));
     }
     Ok(lines_of(end.counts))

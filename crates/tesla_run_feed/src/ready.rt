@@ -8,7 +8,7 @@ ghost use Rattle.tesla_relay.specs.Opening.{name_of};
 ghost use Rattle.tesla_relay.specs.Posts.{PostSeen};
 ghost use Rattle.tesla_run_send.specs.Sender.{IsNoSender, stream_in, wrong_line};
 ghost use Rattle.tesla_sender.specs.Stands.{Stands};
-ghost use Rattle.tesla_feed.specs.Due.{AreUnsent, MaySendDue};
+ghost use Rattle.tesla_feed.specs.Due.{AreUnsent, IsWholeGiven, MayNoteAll, MaySendDue};
 ghost use Rattle.tesla_feed.specs.Fed.{has_ended};
 ghost use Rattle.tesla_run_feed.specs.Steps.{FeedsPosts, IsUnready, OpensFeeding, OpensNoFeeding};
 
@@ -20,7 +20,7 @@ use std::sync::ledger::{Blank, Ledger};
 use std::thread::Threads;
 use tesla_base::Steps;
 use tesla_desk::{Clock, Environment, Gate, Link, Post};
-use tesla_feed::{FeedEnd, Instruments, NoNotes, OpenFeed, feed, open_feed};
+use tesla_feed::{FeedEnd, Instruments, Notes, OpenFeed, feed, open_feed};
 use tesla_front::Stop;
 use tesla_relay::open_posts;
 use tesla_run_send::{SeededSetup, no_sender};
@@ -109,15 +109,16 @@ fn open_feeding<R: Wait, D: Environment>(
     })
 }
 
-/// Feeds an open link to open posts, with the clock and the gate of the feed, and with a ledger for the evaluations of
-/// HMAC. Each post is sent only what is due.
-pub fn feed_ready<L: Ledger, R: Wait, K: Link, C: Clock + Drop, P: Post, G: Gate + Drop>(
+/// Feeds an open link to open posts, with the clock and the gate of the feed, with a ledger for the evaluations of
+/// HMAC, and with whoever is told of its counts. Each post is sent only what is due.
+pub fn feed_ready<L: Ledger, R: Wait, K: Link, C: Clock + Drop, P: Post, G: Gate + Drop, N: Notes>(
     rt: &R,
     ready: ReadyFeed<C, G>,
     blank: Blank,
+    notes: N,
     link: &mut K,
     posts: &mut Vec<P>,
-) -> FeedEnd
+) -> (FeedEnd, N)
     requires name { blank.name ≡ L.name }
     requires parts { blank.parts ≡ L.parts }
     requires some { 0 < L.parts }
@@ -132,9 +133,13 @@ pub fn feed_ready<L: Ledger, R: Wait, K: Link, C: Clock + Drop, P: Post, G: Gate
     requires any_link { (link : K) → K.may_ask link ≡ true }
     requires due { let seen : P → PostSeen = λ post. record { name = P.name post; sent = P.sent post; faults = P.faults post } in
         MaySendDue seen P.may_send C.gave C.read_for (map post_name (map seen posts.old.items)) ready.opened.sender.stream }
+    requires untold { N.was_told notes [] }
+    requires noting { MayNoteAll N.was_told N.may_note C.gave C.read_for ready.opened.sender.stream }
     ensures feeds { let seen : List P → List PostSeen = λ posts. map (λ post. record { name = P.name post; sent = P.sent post; faults = P.faults post }) posts in
-        FeedsPosts ready.opened.sender.stream ready.opened.opening result (K.left link.old) (K.left link.new) (C.told ready.clock) (seen posts.old.items) (seen posts.new.items) }
-    ensures cause { HasCause (K.faults link.old) (K.faults link.new) (result.link_failed ≡ true) }
+        FeedsPosts G.over ready.opened.sender.stream ready.opened.opening result.0 (K.left link.old) (K.left link.new) (C.told ready.clock) (seen posts.old.items) (seen posts.new.items) (N.was_told result.1) }
+    ensures given { IsWholeGiven C.gave C.read_for ready.opened.sender.stream result.0.counts (N.was_told result.1) }
+    ensures fixed { N.fixed result.1 ≡ N.fixed notes }
+    ensures cause { HasCause (K.faults link.old) (K.faults link.new) (result.0.link_failed ≡ true) }
     ensures link { K.name link.new ≡ K.name link.old }
 {
     let ReadyFeed {
@@ -142,14 +147,21 @@ pub fn feed_ready<L: Ledger, R: Wait, K: Link, C: Clock + Drop, P: Post, G: Gate
         clock,
         gate,
     } = ready;
-    let mut instruments = Instruments::new(clock, gate, NoNotes);
+    let mut instruments = Instruments::new(clock, gate, notes);
     let mut steps = Steps::<L>::new(blank);
-    feed(
+    let end = feed(
         rt,
         opened,
         link,
         &mut instruments,
         posts.as_mut_slice(),
         &mut steps,
-    )
+    );
+    let Instruments {
+        clock: _,
+        gate: _,
+        notes,
+        rest: _,
+    } = instruments;
+    (end, notes)
 }

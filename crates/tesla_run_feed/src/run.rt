@@ -1,53 +1,56 @@
 //! A run of the command `feed`.
 
-ghost use Rattle.std.specs.Prelude.{◌≡◌, ◌≤◌, ℕ, [], List, None, length, map, string_bytes, true, vec_capacity};
+ghost use Rattle.std.specs.Prelude.{◌≡◌, ◌≤◌, ℕ, [], List, None, length, map, option_map, string_bytes, true, vec_capacity};
 ghost use Rattle.tesla_front.specs.OutcomeView.{result_view, outcome_view};
 ghost use Rattle.tesla_front.specs.Command.{Performs, RunsAs};
 ghost use Rattle.tesla_relay.specs.Opening.{name_of};
 ghost use Rattle.tesla_relay.specs.Posts.{PostSeen};
 ghost use Rattle.tesla_run_send.specs.Sender.{stream_in, wrong_line};
 ghost use Rattle.tesla_feed.specs.Due.{MaySendDue};
-ghost use Rattle.tesla_run_feed.specs.Arguments.{IsFeedForm, arguments_of};
-ghost use Rattle.tesla_run_feed.specs.Due.{IsFedFor, IsFedFrom};
+ghost use Rattle.tesla_run_feed.specs.Arguments.{IsFeedForm, arguments_of, status_of};
+ghost use Rattle.tesla_run_feed.specs.Due.{IsCountedFor, IsCountedFrom, IsFedFor, IsFedFrom, MayWriteCounts};
 ghost use Rattle.tesla_run_feed.specs.Feeding.{feed};
 ghost use Rattle.tesla_run_feed.specs.Steps.{FeedsFiles, RunsLinked, TriesToFeed};
 
-use crate::form::{Arguments, arguments_in};
-use crate::lines::lines_after;
-use crate::ready::{feed_ready, open_ready};
+use crate::arguments::{Arguments, StatusWords};
+use crate::counted::feed_open;
+use crate::form::arguments_in;
+use crate::ready::open_ready;
 use crate::seeds::read_sound;
 use std::alloc::Global;
-use std::marker::Brand;
 use std::sync::Wait;
-use std::sync::ledger::Blank;
 use std::thread::Threads;
-use tesla_desk::Environment;
+use tesla_desk::Observed;
 use tesla_front::{Fault, Lines, Outcome, Stop, outcome_of};
 use tesla_relay::close_posts;
 use tesla_run_send::SeededSetup;
 
-/// Runs the words as those of `feed`: each datagram that leaves LINK is a message of the sender of SETUP with the seeds in
-/// SECRET, at the reading of the clock when it came, and its frame is sent by each of POSTS in their order. Keys are
+/// Runs the words as those of `feed`: each datagram that leaves LINK is a message of the sender of SETUP with the seeds
+/// in SECRET, at the reading of the clock when it came, and its frame is sent by each of POSTS in their order. Keys are
 /// sent when they are due, also while nothing comes, and after the end of LINK until the key of the last message was
-/// sent. SECRET is opened after SETUP was judged, and LINK after SECRET was read and room for the posts was taken; so what
-/// comes while the key chains are opened waits in LINK. The sender is opened with the seeds once LINK is open, and then
-/// the next clock is made, and read until it can be. Unless the stream is over at that reading, the posts are opened in
-/// order, until an opening is refused.
+/// sent. SECRET is opened after SETUP was judged, and LINK after SECRET was read and room for the posts was taken; so
+/// what comes while the key chains are opened waits in LINK. The sender is opened with the seeds once LINK is open, and
+/// then the next clock is made, and read until it can be. Unless the stream is over at that reading, the posts are
+/// opened in order, until an opening is refused, and behind them STATUS, where there is one: it gets a line of the
+/// counts every EVERY seconds by that clock, and one at the end. A STATUS that fails gets no further line, and stops
+/// nothing. Where the gate tells before the first interval that the run was asked to end, nothing is sent.
 ///
 /// `Done` with the lines of how many messages and disclosures were sent, how many messages were refused by each cause,
-/// and how many came while the clock couldn't be read: LINK has ended, and no post failed. `Usage` exactly where the words
-/// are no form, and then nothing was opened. `Refused` with the first refused line of SETUP or of SECRET, or with the line
-/// of the first seed that is all zeros or that a chain before has too, where no file behind it was opened; or with the line of the first seed that doesn't give the key of SETUP; or with `setup 0 Over`,
-/// where the stream is over: that reading lies behind the end of the last interval by more than the greatest delay and 64
-/// intervals, as where the start was written in seconds. In both of these LINK was opened, nothing left it, and no post
-/// was opened. `Failed` with `Read`: SETUP or SECRET was not read, or LINK failed; with `Write`: a post
-/// failed, and LINK didn't; with `Open` or `NoMemory`: nothing was fed. `Read`, `Write` and `Open` come only where the
-/// desk's count of that rose. It waits for the clock and for LINK.
+/// and how many came while the clock couldn't be read: LINK has ended, and no post failed, nor STATUS; or the run was
+/// asked to end before the first interval. `Usage` exactly where the words are no form, and then nothing was opened.
+/// `Refused` with the first refused line of SETUP or of SECRET, or with the line of the first seed that is all zeros or
+/// that a chain before has too, where no file behind it was opened; or with the line of the first seed that doesn't
+/// give the key of SETUP; or with `setup 0 Over`, where the stream is over: that reading lies behind the end of the
+/// last interval by more than the greatest delay and 64 intervals, as where the start was written in seconds. In both
+/// of these LINK was opened, nothing left it, and no post was opened. `Failed` with `Read`: SETUP or SECRET was not
+/// read, or LINK failed; with `Write`: a post or STATUS failed, and LINK didn't; with `Open` or `NoMemory`: nothing was
+/// fed. `Read`, `Write` and `Open` come only where the desk's count of that rose. It waits for the clock and for LINK.
 ///
 /// Also in a run that never returns, POSTS alone are sent anything, and each only what is due: the frames of one log of
-/// that sender, in order and each once, made of all datagrams that LINK brought, at readings that the clock gave when it
-/// was asked for them, and of keys that are due at readings that it gave.
-pub fn run_feed<R: Threads + Wait + Sync, D: Environment>(
+/// that sender, in order and each once, made of all datagrams that LINK brought, at readings that the clock gave when
+/// it was asked for them, and of keys that are due at readings that it gave. And STATUS alone is written: the lines of
+/// the counts of such datagrams at such readings.
+pub fn run_feed<R: Threads + Wait + Sync, D: Observed>(
     rt: &R,
     alloc: Global,
     words: &[String],
@@ -58,7 +61,10 @@ pub fn run_feed<R: Threads + Wait + Sync, D: Environment>(
     requires due { (post : D.Port) (datagram : List ℕ)
         → IsFedFrom D.Time.gave D.Time.read_for (map string_bytes words.now) (D.told desk.old) (D.Port.name post) (D.Port.sent post) datagram
         → D.Port.may_send post datagram ≡ true }
-    ensures { RunsAs (feed (D.told desk.old).live (D.told desk.new).live) (map string_bytes words.now) (D.told desk.old) (D.told desk.new) (outcome_view result) }
+    requires counted { (it : D.Pieces) (piece : List ℕ)
+        → IsCountedFrom D.Time.gave D.Time.read_for (map string_bytes words.now) (D.told desk.old) (D.Pieces.name it) (D.Pieces.written it) piece
+        → D.Pieces.may_write it piece ≡ true }
+    ensures { RunsAs (feed D.Pause.over (D.told desk.old).live (D.told desk.new).live) (map string_bytes words.now) (D.told desk.old) (D.told desk.new) (outcome_view result) }
 {
     match arguments_in(words) {
         Some(arguments) => outcome_of(perform(rt, alloc, &arguments, desk)),
@@ -67,7 +73,7 @@ pub fn run_feed<R: Threads + Wait + Sync, D: Environment>(
 }
 
 // Does what the words ask for.
-fn perform<R: Threads + Wait + Sync, D: Environment>(
+fn perform<R: Threads + Wait + Sync, D: Observed>(
     rt: &R,
     alloc: Global,
     arguments: &Arguments<'_>,
@@ -79,14 +85,17 @@ fn perform<R: Threads + Wait + Sync, D: Environment>(
     requires due { (post : D.Port) (datagram : List ℕ)
         → IsFedFor D.Time.gave D.Time.read_for (arguments_of arguments.now) (D.told desk.old) (D.Port.name post) (D.Port.sent post) datagram
         → D.Port.may_send post datagram ≡ true }
-    ensures { Performs (feed (D.told desk.old).live (D.told desk.new).live) (arguments_of arguments.now) (D.told desk.old) (D.told desk.new) (result_view result) }
+    requires counted { (it : D.Pieces) (piece : List ℕ)
+        → IsCountedFor D.Time.gave D.Time.read_for (arguments_of arguments.now) (D.told desk.old) (D.Pieces.name it) (D.Pieces.written it) piece
+        → D.Pieces.may_write it piece ≡ true }
+    ensures { Performs (feed D.Pause.over (D.told desk.old).live (D.told desk.new).live) (arguments_of arguments.now) (D.told desk.old) (D.told desk.new) (result_view result) }
 {
     let seeded = read_sound(alloc, arguments, desk)?;
     feed_files(rt, alloc, seeded, arguments, desk)
 }
 
 // Takes room for the posts, opens the link, and feeds it to the posts.
-fn feed_files<R: Threads + Wait + Sync, D: Environment>(
+fn feed_files<R: Threads + Wait + Sync, D: Observed>(
     rt: &R,
     alloc: Global,
     seeded: SeededSetup,
@@ -99,7 +108,8 @@ fn feed_files<R: Threads + Wait + Sync, D: Environment>(
     requires any_link { (link : D.Wire) → D.Wire.may_ask link ≡ true }
     requires due { let seen : D.Port → PostSeen = λ post. record { name = D.Port.name post; sent = D.Port.sent post; faults = D.Port.faults post } in
         wrong_line (stream_in seeded) ≡ None → MaySendDue seen D.Port.may_send D.Time.gave D.Time.read_for (arguments_of arguments.now).posts (stream_in seeded) }
-    ensures { FeedsFiles (stream_in seeded) (arguments_of arguments.now) (D.told desk.old) (D.told desk.new) (result_view result) }
+    requires counted { wrong_line (stream_in seeded) ≡ None → MayWriteCounts D.Pieces.name D.Pieces.written D.Pieces.may_write D.Time.gave D.Time.read_for (arguments_of arguments.now).status (stream_in seeded) }
+    ensures { FeedsFiles D.Pause.over (stream_in seeded) (arguments_of arguments.now) (D.told desk.old) (D.told desk.new) (result_view result) }
 {
     let Ok(posts) = Vec::with_capacity(alloc, arguments.posts.len()) else {
         return Err(Stop::Failed(Fault::NoMemory));
@@ -107,7 +117,11 @@ fn feed_files<R: Threads + Wait + Sync, D: Environment>(
     match desk.open_link(arguments.link) {
         Ok(link) => {
             let parts = SenderParts { alloc, seeded };
-            run_linked(rt, parts, arguments.posts.as_slice(), link, desk, posts)
+            let outputs = Outputs {
+                names: arguments.posts.as_slice(),
+                status: &arguments.status,
+            };
+            run_linked(rt, parts, outputs, link, desk, posts)
         }
         Err(refusal) => {
             posts.destroy_empty();
@@ -122,62 +136,65 @@ struct SenderParts {
     seeded: SeededSetup,
 }
 
-// Feeds an open link to the posts under these names, and closes all.
-fn run_linked<R: Threads + Wait + Sync, D: Environment>(
+// What a feed goes to: the posts under these names, and the file of its counts, where there is one.
+#[derive(Clone, Copy)]
+struct Outputs<'a> {
+    names: &'a [&'a str],
+    status: &'a Option<StatusWords<'a>>,
+}
+
+// Feeds an open link to the posts under these names, writes the counts to STATUS meanwhile, and closes all.
+fn run_linked<R: Threads + Wait + Sync, D: Observed>(
     rt: &R,
     parts: SenderParts,
-    names: &[&str],
+    outputs: Outputs<'_>,
     mut link: D::Wire,
     desk: &mut D,
     mut posts: Vec<D::Port>,
 ) -> Result<Lines, Stop>
     requires count { length parts.seeded.seeds ≡ length parts.seeded.setup.rows }
-    requires few { length names.now ≤ 32 }
+    requires few { length outputs.names.now ≤ 32 }
     requires fresh { D.Wire.faults link ≡ 0 }
     requires none { D.Wire.has_brought link 0 ≡ true }
     requires empty { posts.items ≡ [] }
-    requires room { length names.now ≤ vec_capacity posts }
+    requires room { length outputs.names.now ≤ vec_capacity posts }
     requires asks { (number : ℕ) (bytes : List ℕ) → D.Wire.brought number bytes ≡ true → D.Time.may_ask number bytes ≡ true }
     requires any_link { (link : D.Wire) → D.Wire.may_ask link ≡ true }
     requires due { let seen : D.Port → PostSeen = λ post. record { name = D.Port.name post; sent = D.Port.sent post; faults = D.Port.faults post } in
-        wrong_line (stream_in parts.seeded) ≡ None → MaySendDue seen D.Port.may_send D.Time.gave D.Time.read_for (map name_of names.now) (stream_in parts.seeded) }
-    ensures { RunsLinked (stream_in parts.seeded) (map name_of names.now) (D.Wire.name link) (D.Wire.left link) (D.told desk.old) (D.told desk.new) (result_view result) }
+        wrong_line (stream_in parts.seeded) ≡ None → MaySendDue seen D.Port.may_send D.Time.gave D.Time.read_for (map name_of outputs.names.now) (stream_in parts.seeded) }
+    requires counted { wrong_line (stream_in parts.seeded) ≡ None → MayWriteCounts D.Pieces.name D.Pieces.written D.Pieces.may_write D.Time.gave D.Time.read_for (option_map status_of outputs.status.now) (stream_in parts.seeded) }
+    ensures { RunsLinked D.Pause.over (stream_in parts.seeded) (map name_of outputs.entry.names.now) (option_map status_of outputs.entry.status.now) (D.Wire.name link) (D.Wire.left link) (D.told desk.old) (D.told desk.new) (result_view result) }
 {
-    let outcome = try_to_feed(rt, parts, names, &mut link, desk, &mut posts);
+    let outcome = try_to_feed(rt, parts, outputs, &mut link, desk, &mut posts);
     close_posts(desk, &mut posts);
     posts.destroy_empty();
     desk.close_link(link);
     outcome
 }
 
-// Opens the sender, a feed of it and the posts, and feeds an open link to them.
-fn try_to_feed<R: Threads + Wait + Sync, D: Environment>(
+// Opens the sender, a feed of it and the posts, and feeds an open link to them, with STATUS, where there is one.
+fn try_to_feed<R: Threads + Wait + Sync, D: Observed>(
     rt: &R,
     parts: SenderParts,
-    names: &[&str],
+    outputs: Outputs<'_>,
     link: &mut D::Wire,
     desk: &mut D,
     posts: &mut Vec<D::Port>,
 ) -> Result<Lines, Stop>
     requires count { length parts.seeded.seeds ≡ length parts.seeded.setup.rows }
-    requires few { length names.now ≤ 32 }
+    requires few { length outputs.names.now ≤ 32 }
     requires empty { posts.old.items ≡ [] }
-    requires room { length names.now ≤ vec_capacity posts.old }
+    requires room { length outputs.names.now ≤ vec_capacity posts.old }
     requires none { D.Wire.has_brought link.old 0 ≡ true }
     requires asks { (number : ℕ) (bytes : List ℕ) → D.Wire.brought number bytes ≡ true → D.Time.may_ask number bytes ≡ true }
     requires any_link { (link : D.Wire) → D.Wire.may_ask link ≡ true }
     requires due { let seen : D.Port → PostSeen = λ post. record { name = D.Port.name post; sent = D.Port.sent post; faults = D.Port.faults post } in
-        wrong_line (stream_in parts.seeded) ≡ None → MaySendDue seen D.Port.may_send D.Time.gave D.Time.read_for (map name_of names.now) (stream_in parts.seeded) }
-    ensures tries { TriesToFeed (stream_in parts.seeded) (map name_of names.now) (D.Wire.left link.old) (D.Wire.left link.new) (D.Wire.faults link.old) (D.Wire.faults link.new) (D.told desk.old) (D.told desk.new) (map (λ post. record { name = D.Port.name post; sent = D.Port.sent post; faults = D.Port.faults post }) posts.new.items) (result_view result) }
+        wrong_line (stream_in parts.seeded) ≡ None → MaySendDue seen D.Port.may_send D.Time.gave D.Time.read_for (map name_of outputs.names.now) (stream_in parts.seeded) }
+    requires counted { wrong_line (stream_in parts.seeded) ≡ None → MayWriteCounts D.Pieces.name D.Pieces.written D.Pieces.may_write D.Time.gave D.Time.read_for (option_map status_of outputs.status.now) (stream_in parts.seeded) }
+    ensures tries { TriesToFeed D.Pause.over (stream_in parts.seeded) (map name_of outputs.entry.names.now) (option_map status_of outputs.entry.status.now) (D.Wire.left link.old) (D.Wire.left link.new) (D.Wire.faults link.old) (D.Wire.faults link.new) (D.told desk.old) (D.told desk.new) (map (λ post. record { name = D.Port.name post; sent = D.Port.sent post; faults = D.Port.faults post }) posts.new.items) (result_view result) }
     ensures name { D.Wire.name link.new ≡ D.Wire.name link.old }
 {
     let SenderParts { alloc, seeded } = parts;
-    let ready = open_ready(rt, alloc, seeded, names, desk, posts)?;
-    lines_after(feed_ready::<Brand, R, D::Wire, D::Time, D::Port, D::Pause>(
-        rt,
-        ready,
-        Blank::new(1),
-        link,
-        posts,
-    ))
+    let ready = open_ready(rt, alloc, seeded, outputs.names, desk, posts)?;
+    feed_open(rt, ready, outputs.status, link, desk, posts)
 }

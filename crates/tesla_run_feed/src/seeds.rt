@@ -6,7 +6,7 @@ ghost use Rattle.tesla_run_send.specs.Sender.{stream_in};
 ghost use Rattle.tesla_seeds.specs.Weak.{AreSound};
 ghost use Rattle.tesla_run_feed.specs.Steps.{IsWeak, ReadsNoSound, ReadsSound};
 
-use crate::form::Arguments;
+use crate::arguments::Arguments;
 use std::alloc::Global;
 use tesla_base::Kind;
 use tesla_desk::Environment;

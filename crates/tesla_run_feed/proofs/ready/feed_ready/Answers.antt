@@ -4,14 +4,14 @@ use Rattle.tesla_relay.specs.Opened.{post_name}
 use Rattle.tesla_relay.specs.Posts.{PostSeen}
 use Rattle.tesla_run_feed.proofs.ready.feed_ready.Goals as goal
 
-pub feed-requires-clause-asks : goal.feed-requires-clause-asks
-feed-requires-clause-asks g c = c.requires.asks
+pub feed-end-requires-clause-asks : goal.feed-end-requires-clause-asks
+feed-end-requires-clause-asks g c = c.requires.asks
 
-pub feed-requires-clause-any_link : goal.feed-requires-clause-any_link
-feed-requires-clause-any_link g c = c.requires.any_link
+pub feed-end-requires-clause-any_link : goal.feed-end-requires-clause-any_link
+feed-end-requires-clause-any_link g c = c.requires.any_link
 
-pub feed-requires-clause-due : goal.feed-requires-clause-due
-feed-requires-clause-due g c =
+pub feed-end-requires-clause-due : goal.feed-end-requires-clause-due
+feed-end-requires-clause-due g c =
     let post = g.P.Post in let clock = g.C.Clock in
     let seen : g.row.P.Denot → PostSeen = λ it. record { name = post.name it; sent = post.sent it; faults = post.faults it } in
     let stream = c.args.ready.opened.sender.stream in

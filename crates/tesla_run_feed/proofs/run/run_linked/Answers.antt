@@ -8,3 +8,6 @@ try_to_feed-outcome-requires-clause-any_link g c = λ lifetimes within. c.requir
 
 pub try_to_feed-outcome-requires-clause-due : goal.try_to_feed-outcome-requires-clause-due
 try_to_feed-outcome-requires-clause-due g c = λ lifetimes within. c.requires.due
+
+pub try_to_feed-outcome-requires-clause-counted : goal.try_to_feed-outcome-requires-clause-counted
+try_to_feed-outcome-requires-clause-counted g c = λ lifetimes within. c.requires.counted
