@@ -13,6 +13,7 @@ use crate::basis::Based;
 use crate::buffers::{Buffer, FreeBuffers, give_buffer, take_buffer};
 use crate::line::{Item, Line, LinePass, datagram_in, put_in};
 use crate::post_queues::PostQueues;
+use crate::tally::PostTally;
 use std::sync::{Arc, Wait};
 use std::thread;
 use tesla_base::MOST_DATAGRAM;
@@ -69,11 +70,19 @@ pub struct Feed<X: Based> {
     pub came: u64,
     /// How many were dropped. The count stands still at 2^64 - 1.
     pub dropped: u64,
+    // Where others read how many were.
+    pub tally: Arc<PostTally>,
 }
 
 impl<X: Based> Feed<X> {
     /// A feed to which nothing came.
-    pub fn new(line: Arc<Line<X>>, pass: LinePass, free: FreeBuffers, capacity: usize) -> Feed<X>
+    pub fn new(
+        line: Arc<Line<X>>,
+        pass: LinePass,
+        free: FreeBuffers,
+        capacity: usize,
+        tally: Arc<PostTally>,
+    ) -> Feed<X>
         ensures line { result.line ≡ line }
         ensures pass { result.pass ≡ pass }
         ensures counts { (result.capacity ≡ capacity) × (result.came ≡ 0) × (result.dropped ≡ 0) }
@@ -86,6 +95,7 @@ impl<X: Based> Feed<X> {
             capacity,
             came: 0,
             dropped: 0,
+            tally,
         }
     }
 
@@ -171,6 +181,7 @@ impl<X: Based> Feed<X> {
             return;
         }
         self.dropped = self.dropped.saturating_add(1);
+        self.tally.raise_dropped();
     }
 
     /// Puts the end in, for which there is a place of its own.

@@ -14,9 +14,11 @@ mod relayed;
 mod relaying;
 mod server;
 mod serving;
+mod tally;
 
 pub use playing::{PlayEnd, play};
 pub use post_queues::PostQueues;
 pub use posts::{close_posts, open_posts};
 pub use relayed::{PostCount, RelayEnd, Relayed};
 pub use relaying::relay;
+pub use tally::{PostSide, PostTally, SoFar};

@@ -16,6 +16,7 @@ use crate::queues::{Queue, give_back, new_queues, take_in};
 use crate::relayed::Relayed;
 use crate::server::Server;
 use crate::serving::run_all;
+use crate::tally::PostSide;
 use arrayvec::ArrayVec;
 use std::alloc::Global;
 use std::marker::Brand;
@@ -34,16 +35,17 @@ struct Rooms<X: Based, P: Post, G: Gate> {
 // Takes all memory that a run needs.
 fn make_rooms<X: Based, P: Post, G: Gate>(
     alloc: Global,
-    count: usize,
+    sides: &[PostSide<G>],
     capacity: usize,
 ) -> Result<Rooms<X, P, G>, NoMemory>
     requires { (1 ≤ capacity) × (capacity ≤ 4096) }
-    ensures queues { IfOk result (λ it. AreNew capacity it.queues.items × (length it.queues.items ≡ count)) }
+    ensures queues { IfOk result (λ it. AreNew capacity it.queues.items × (length it.queues.items ≡ length sides.now)) }
     ensures none { IfOk result (λ it. (it.feeds.items ≡ []) × (it.servers.items ≡ [])) }
-    ensures space { IfOk result (λ it. (count ≤ vec_capacity it.feeds) × (count ≤ vec_capacity it.servers)) }
+    ensures space { IfOk result (λ it. (length sides.now ≤ vec_capacity it.feeds) × (length sides.now ≤ vec_capacity it.servers)) }
 {
+    let count = sides.len();
     let mut queues = Vec::with_capacity(alloc, count)?;
-    new_queues(alloc, count, capacity, &mut queues)?;
+    new_queues(alloc, sides, capacity, &mut queues)?;
     let feeds = Vec::with_capacity(alloc, count)?;
     let servers = Vec::with_capacity(alloc, count)?;
     Ok(Rooms {
@@ -66,10 +68,10 @@ fn relay_in<
     link: &mut K,
     gate: &mut G,
     posts: &mut Vec<P>,
-    gates: &mut Vec<G>,
+    sides: &mut Vec<PostSide<G>>,
     rooms: Rooms<X, P, G>,
 ) -> Relayed
-    requires some { (1 ≤ length posts.old.items) × (length posts.old.items ≤ 32) × (length gates.old.items ≡ length posts.old.items) }
+    requires some { (1 ≤ length posts.old.items) × (length posts.old.items ≤ 32) × (length sides.old.items ≡ length posts.old.items) }
     requires rooms { (rooms.feeds.items ≡ []) × (rooms.servers.items ≡ []) × (length rooms.queues.items ≡ length posts.old.items) × (length posts.old.items ≤ vec_capacity rooms.feeds) × (length posts.old.items ≤ vec_capacity rooms.servers) }
     requires new { (capacity : ℕ) × AreNew capacity rooms.queues.items × MayAskNext (Q.was_put K.brought) (Q.was_full K.brought) K.has_brought K.may_ask capacity (length posts.old.items) }
     requires link { (K.has_brought link.old 0 ≡ true) × (X.basis.brought ≡ K.brought) }
@@ -84,7 +86,7 @@ fn relay_in<
         mut feeds,
         mut servers,
     } = rooms;
-    take_in(&mut queues, posts, gates, &mut feeds, &mut servers);
+    take_in(&mut queues, posts, sides, &mut feeds, &mut servers);
     let end = run_all::<R, X, Q, K, G, Server<X, P, G>>(
         rt,
         link,
@@ -93,7 +95,7 @@ fn relay_in<
         servers.as_mut_slice(),
     );
     let mut counts = ArrayVec::new();
-    give_back(&mut feeds, &mut servers, posts, gates, &mut counts);
+    give_back(&mut feeds, &mut servers, posts, sides, &mut counts);
     servers.destroy_empty();
     Relayed::new(end, counts)
 }
@@ -112,11 +114,11 @@ fn relay_based<
     link: &mut K,
     gate: &mut G,
     posts: &mut Vec<P>,
-    gates: &mut Vec<G>,
+    sides: &mut Vec<PostSide<G>>,
     capacity: u32,
 ) -> Result<Relayed, NoMemory>
     requires some { (1 ≤ length posts.old.items) × (length posts.old.items ≤ 32) }
-    requires gates { length gates.old.items ≡ length posts.old.items }
+    requires sides { length sides.old.items ≡ length posts.old.items }
     requires capacity { (1 ≤ capacity) × (capacity ≤ 4096) }
     requires link { (K.has_brought link.old 0 ≡ true) × (X.basis.brought ≡ K.brought) }
     requires next { MayAskNext (Q.was_put K.brought) (Q.was_full K.brought) K.has_brought K.may_ask capacity (length posts.old.items) }
@@ -128,8 +130,8 @@ fn relay_based<
     ensures cause { HasCause (K.faults link.old) (K.faults link.new) (MatchResult result (λ it. it.end ≡ Failed) (λ _. ⊥)) }
     ensures name { K.name link.new ≡ K.name link.old }
 {
-    match make_rooms::<X, P, G>(alloc, posts.len(), capacity as usize) {
-        Ok(rooms) => Ok(relay_in::<R, X, Q, K, P, G>(rt, link, gate, posts, gates, rooms)),
+    match make_rooms::<X, P, G>(alloc, sides.as_slice(), capacity as usize) {
+        Ok(rooms) => Ok(relay_in::<R, X, Q, K, P, G>(rt, link, gate, posts, sides, rooms)),
         Err(refusal) => Err(refusal),
     }
 }
@@ -143,9 +145,10 @@ fn relay_based<
 /// into the queue of each post, or found `capacity` items there, or lies behind the first 2^62 - 2 (`MayAskNext`).
 ///
 /// The caller reads the link, with `gate` around each datagram that it puts into the queues, and around the end. Each post
-/// sends in a thread of its own, with its own gate around each datagram; where so many threads can't be made, the caller
-/// sends what is in the queues behind each datagram. A post that failed sends no more, and the others go on. The posts and
-/// their gates are given back in their order.
+/// sends in a thread of its own, with the gate of its side around each datagram; where so many threads can't be made, the
+/// caller sends what is in the queues behind each datagram. A post that failed sends no more, and the others go on. The posts
+/// and their sides are given back in their order. The tally of a side is raised where a count of its post rises, so that
+/// others may read it while the relay runs; nothing is claimed of what they read.
 ///
 /// `Err`: there was no memory, and nothing was read. It waits for the link, and nothing is promised of when it ends.
 pub fn relay<R: Threads + Wait + Sync, Q: PostQueues, K: Link, P: Post + Send, G: Gate + Send>(
@@ -154,11 +157,11 @@ pub fn relay<R: Threads + Wait + Sync, Q: PostQueues, K: Link, P: Post + Send, G
     link: &mut K,
     gate: &mut G,
     posts: &mut Vec<P>,
-    gates: &mut Vec<G>,
+    sides: &mut Vec<PostSide<G>>,
     capacity: u32,
 ) -> Result<Relayed, NoMemory>
     requires some { (1 ≤ length posts.old.items) × (length posts.old.items ≤ 32) }
-    requires gates { length gates.old.items ≡ length posts.old.items }
+    requires sides { length sides.old.items ≡ length posts.old.items }
     requires capacity { (1 ≤ capacity) × (capacity ≤ 4096) }
     requires new { K.has_brought link.old 0 ≡ true }
     requires next { MayAskNext (Q.was_put K.brought) (Q.was_full K.brought) K.has_brought K.may_ask capacity (length posts.old.items) }
@@ -170,5 +173,5 @@ pub fn relay<R: Threads + Wait + Sync, Q: PostQueues, K: Link, P: Post + Send, G
     ensures cause { HasCause (K.faults link.old) (K.faults link.new) (MatchResult result (λ it. it.end ≡ Failed) (λ _. ⊥)) }
     ensures name { K.name link.new ≡ K.name link.old }
 {
-    relay_based::<R, Brand, Q, K, P, G>(rt, alloc, link, gate, posts, gates, capacity)
+    relay_based::<R, Brand, Q, K, P, G>(rt, alloc, link, gate, posts, sides, capacity)
 }

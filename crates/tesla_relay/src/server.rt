@@ -14,6 +14,7 @@ ghost use Rattle.tesla_relay.specs.Line.{popped_log};
 use crate::basis::Based;
 use crate::buffers::{FreeBuffers, give_buffer};
 use crate::line::{Item, Line, LinePass, datagram_in, take_out};
+use crate::tally::PostSide;
 use std::marker::{Model, PhantomData};
 use std::sync::{Arc, Wait};
 use tesla_desk::{Gate, Post, PostStep};
@@ -63,7 +64,7 @@ fn send_next<X: Based, P: Post>(_permit: &Permit<X, P>, post: &mut P, datagram: 
 /// What sends the datagrams of the queue before one post.
 pub struct Server<X: Based, P: Post, G: Gate> {
     pub post: P,
-    pub gate: G,
+    pub side: PostSide<G>,
     pub line: Arc<Line<X>>,
     pub pass: LinePass,
     // Where a buffer goes once its datagram is sent.
@@ -89,7 +90,7 @@ impl<X: Based, P: Post, G: Gate> Server<X, P, G> {
     /// A server that has sent nothing.
     pub fn new(
         post: P,
-        gate: G,
+        side: PostSide<G>,
         line: Arc<Line<X>>,
         pass: LinePass,
         free: FreeBuffers,
@@ -101,7 +102,7 @@ impl<X: Based, P: Post, G: Gate> Server<X, P, G> {
     {
         Server {
             post,
-            gate,
+            side,
             line,
             pass,
             free,
@@ -121,7 +122,10 @@ impl<X: Based, P: Post, G: Gate> Server<X, P, G> {
             return;
         }
         match send_next(&self.permit, &mut self.post, datagram) {
-            PostStep::Sent => self.sent = self.sent.saturating_add(1),
+            PostStep::Sent => {
+                self.sent = self.sent.saturating_add(1);
+                self.side.tally.raise_sent();
+            }
             PostStep::Failed => self.failed = true,
         }
     }
@@ -156,12 +160,12 @@ impl<X: Based, P: Post, G: Gate> Server<X, P, G> {
         ensures done { IsDone self.new }
     {
         for _ in rt.forever() {
-            self.gate.before();
+            self.side.gate.before();
             let served = self.step(rt);
-            self.gate.after();
+            self.side.gate.after();
             match served {
                 Served::Datagram => {}
-                Served::Nothing => self.gate.rest(),
+                Served::Nothing => self.side.gate.rest(),
                 Served::End => return,
             }
         }
@@ -174,9 +178,9 @@ impl<X: Based, P: Post, G: Gate> Server<X, P, G> {
         ensures { ServesOn self.old self.new }
     {
         for _ in rt.forever() {
-            self.gate.before();
+            self.side.gate.before();
             let served = self.step(rt);
-            self.gate.after();
+            self.side.gate.after();
             match served {
                 Served::Datagram => {}
                 Served::Nothing | Served::End => return,

@@ -25,9 +25,6 @@ module _ {P : Type 0} (seen : P → PostSeen) (names wanted : List (List ℕ)) (
   pub opened_some : names ≡ wanted → OpensPosts names before mid old (map seen posts) (Ok tt) → old ≡ [] → (1 ≤ length wanted) × (length wanted ≤ 32) → (1 ≤ length posts) × (length posts ≤ 32)
   opened_some is opens none few = let size = opened_wanted is opens none in (subst (λ (n : ℕ). 1 ≤ n) (sym size) few.0, subst (λ (n : ℕ). n ≤ 32) (sym size) few.1)
 
-  pub opened_fits : {X : Type 0} (items : List X) (room : ℕ) → names ≡ wanted → OpensPosts names before mid old (map seen posts) (Ok tt) → old ≡ [] → (items ≡ []) × (length wanted ≤ room) → (items ≡ []) × (length posts ≤ room)
-  opened_fits items room is opens none within = (within.0, subst (λ (n : ℕ). n ≤ room) (sym (opened_wanted is opens none)) within.1)
-
   module _ (capacity : ℕ) (left later : Option (List Letter)) (news : List P) (end : RelayEnd) (counts : List PostCount) (relays : Relays capacity left later (map seen posts) (map seen news) end counts) where
     -- and as many counts
     pub counted_size : (number : ℕ) → number ≡ length wanted → names ≡ wanted → OpensPosts names before mid old (map seen posts) (Ok tt) → old ≡ [] → number ≡ length counts

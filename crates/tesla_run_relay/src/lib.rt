@@ -3,9 +3,9 @@
 
 mod arguments;
 mod form;
-mod gates;
 mod lines;
 pub mod play;
+mod room;
 mod run;
 
 pub use form::RELAY;

@@ -16,8 +16,8 @@ ghost use Rattle.tesla_run_relay.specs.Steps.{RunsLinked, RunsPosts};
 
 use crate::arguments::Arguments;
 use crate::form::arguments_in;
-use crate::gates::make_gates;
 use crate::lines::outcome_of;
+use crate::room::{Room, give_back, room_for};
 use std::alloc::Global;
 use std::sync::Wait;
 use std::thread::Threads;
@@ -67,7 +67,7 @@ fn perform<R: Threads + Wait + Sync, D: Environment + PostQueues>(
     requires due { (post : D.Port) (datagram : List ℕ) → IsNextUnder D.Wire.brought arguments.now.posts (D.Port.name post) (D.Port.sent post) datagram → D.Port.may_send post datagram ≡ true }
     ensures { Performs (relay (D.told desk.old).live (D.told desk.new).live) (arguments_of arguments.now) (D.told desk.old) (D.told desk.new) (outcome_view result) }
 {
-    let Ok(room) = room_for(alloc, arguments.posts.len()) else {
+    let Ok(room) = room_for(alloc, arguments.posts.len(), desk) else {
         return Outcome::Failed(Fault::NoMemory);
     };
     match desk.open_link(arguments.link) {
@@ -77,31 +77,6 @@ fn perform<R: Threads + Wait + Sync, D: Environment + PostQueues>(
             Outcome::Failed(Fault::from(refusal))
         }
     }
-}
-
-// Room for posts and for their gates.
-struct Room<D: Environment> {
-    posts: Vec<D::Port>,
-    gates: Vec<D::Pause>,
-}
-
-// Room for so many posts.
-fn room_for<D: Environment>(alloc: Global, posts: usize) -> Result<Room<D>, NoMemory>
-    requires { posts ≤ 32 }
-    ensures posts { IfOk result (λ it. (it.posts.items ≡ []) × (posts ≤ vec_capacity it.posts)) }
-    ensures gates { IfOk result (λ it. (it.gates.items ≡ []) × (posts ≤ vec_capacity it.gates)) }
-{
-    let gates = Vec::with_capacity(alloc, posts)?;
-    let posts = Vec::with_capacity(alloc, posts)?;
-    Ok(Room { posts, gates })
-}
-
-// Gives the room back.
-fn give_back<D: Environment>(room: Room<D>)
-    requires { room.posts.items ≡ [] }
-{
-    let Room { posts, gates: _ } = room;
-    posts.destroy_empty();
 }
 
 // Opens the posts, relays an open link to them, and closes them and the link.
@@ -115,7 +90,7 @@ fn run_linked<R: Threads + Wait + Sync, D: Environment + PostQueues>(
 ) -> Outcome
     requires some { (1 ≤ length arguments.now.posts) × (length arguments.now.posts ≤ 32) }
     requires posts { (room.posts.items ≡ []) × (length arguments.now.posts ≤ vec_capacity room.posts) }
-    requires gates { (room.gates.items ≡ []) × (length arguments.now.posts ≤ vec_capacity room.gates) }
+    requires sides { length room.sides.items ≡ length arguments.now.posts }
     requires fresh { (D.Wire.faults link ≡ 0) × (D.Wire.has_brought link 0 ≡ true) }
     requires asks { MayAskNext (D.was_put D.Wire.brought) (D.was_full D.Wire.brought) D.Wire.has_brought D.Wire.may_ask arguments.now.capacity (length arguments.now.posts) }
     requires due { (post : D.Port) (datagram : List ℕ) → IsNextUnder D.Wire.brought arguments.now.posts (D.Port.name post) (D.Port.sent post) datagram → D.Port.may_send post datagram ≡ true }
@@ -139,7 +114,7 @@ fn run_posts<R: Threads + Wait + Sync, D: Environment + PostQueues>(
 ) -> Outcome
     requires some { (1 ≤ length arguments.now.posts) × (length arguments.now.posts ≤ 32) }
     requires posts { (room.old.posts.items ≡ []) × (length arguments.now.posts ≤ vec_capacity room.old.posts) }
-    requires gates { (room.old.gates.items ≡ []) × (length arguments.now.posts ≤ vec_capacity room.old.gates) }
+    requires sides { length room.old.sides.items ≡ length arguments.now.posts }
     requires new { D.Wire.has_brought link.old 0 ≡ true }
     requires asks { MayAskNext (D.was_put D.Wire.brought) (D.was_full D.Wire.brought) D.Wire.has_brought D.Wire.may_ask arguments.now.capacity (length arguments.now.posts) }
     requires due { (post : D.Port) (datagram : List ℕ) → IsNextUnder D.Wire.brought arguments.now.posts (D.Port.name post) (D.Port.sent post) datagram → D.Port.may_send post datagram ≡ true }
@@ -147,7 +122,7 @@ fn run_posts<R: Threads + Wait + Sync, D: Environment + PostQueues>(
     ensures name { D.Wire.name link.new ≡ D.Wire.name link.old }
 {
     match open_posts(desk, arguments.posts.as_slice(), &mut room.posts) {
-        Ok(()) => match relay_opened(rt, alloc, arguments.capacity, link, room, desk) {
+        Ok(()) => match relay_opened(rt, alloc, arguments.capacity, link, room) {
             Ok(relayed) => outcome_of(&relayed, arguments.posts.len() as u8),
             Err(_) => Outcome::Failed(Fault::NoMemory),
         },
@@ -162,10 +137,9 @@ fn relay_opened<R: Threads + Wait + Sync, D: Environment + PostQueues>(
     capacity: u32,
     link: &mut D::Wire,
     room: &mut Room<D>,
-    desk: &mut D,
 ) -> Result<Relayed, NoMemory>
     requires some { (1 ≤ length room.old.posts.items) × (length room.old.posts.items ≤ 32) }
-    requires gates { (room.old.gates.items ≡ []) × (length room.old.posts.items ≤ vec_capacity room.old.gates) }
+    requires sides { length room.old.sides.items ≡ length room.old.posts.items }
     requires capacity { (1 ≤ capacity) × (capacity ≤ 4096) }
     requires new { D.Wire.has_brought link.old 0 ≡ true }
     requires asks { MayAskNext (D.was_put D.Wire.brought) (D.was_full D.Wire.brought) D.Wire.has_brought D.Wire.may_ask capacity (length room.old.posts.items) }
@@ -176,10 +150,7 @@ fn relay_opened<R: Threads + Wait + Sync, D: Environment + PostQueues>(
     ensures untouched { OnErr result (room.new.posts.items ≡ room.old.posts.items) }
     ensures cause { HasCause (D.Wire.faults link.old) (D.Wire.faults link.new) (MatchResult result (λ it. it.end ≡ ends.Failed) (λ _. ⊥)) }
     ensures name { D.Wire.name link.new ≡ D.Wire.name link.old }
-    ensures desk { D.told desk.new ≡ D.told desk.old }
 {
-    let mut gate = desk.gate();
-    let Room { posts, gates } = room;
-    make_gates(desk, posts.len(), gates);
-    relay::<R, D, D::Wire, D::Port, D::Pause>(rt, alloc, link, &mut gate, posts, gates, capacity)
+    let Room { posts, sides, gate } = room;
+    relay::<R, D, D::Wire, D::Port, D::Pause>(rt, alloc, link, gate, posts, sides, capacity)
 }

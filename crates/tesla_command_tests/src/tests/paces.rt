@@ -4,14 +4,14 @@
 ghost use Rattle.std.specs.Prelude.{◌≡◌, ◌≤◌, [], None};
 
 use std::alloc::Global;
-use std::sync::Wait;
 use std::sync::atomic::AtomicU64;
 use std::sync::atomic::Ordering::SeqCst;
+use std::sync::{Arc, Wait};
 use std::test::*;
 use std::thread::{Threads, yield_now};
 use tesla_desk::{Gate, Got, Link, Post, PostStep};
 use tesla_memory_desk::MemoryDesk;
-use tesla_relay::{PostCount, relay};
+use tesla_relay::{PostCount, PostSide, PostTally, SoFar, relay};
 
 /// How often a gate looks whether it may go on, at most.
 const LOOKS: u64 = 1_000_000;
@@ -127,8 +127,8 @@ impl Post for PacedPost<'_> {
     }
 }
 
-// What a relay of so many datagrams to one post comes to, where the link and the post are held so: what became of them, and
-// how many were sent out of order and how many gates looked in vain.
+// What a relay of so many datagrams to one post comes to, where the link and the post are held so: what became of them, what
+// the post's tally tells then, and how many were sent out of order and how many gates looked in vain.
 fn relayed<R: Threads + Wait + Sync>(
     rt: &R,
     alloc: Global,
@@ -136,7 +136,7 @@ fn relayed<R: Threads + Wait + Sync>(
     capacity: u32,
     link_hold: Hold,
     post_hold: Hold,
-) -> Result<(PostCount, u64, u64), Fail>
+) -> Result<(PostCount, SoFar, u64, u64), Fail>
     requires { (1 ≤ capacity) × (capacity ≤ 4096) }
 {
     let pace = &Pace {
@@ -148,11 +148,15 @@ fn relayed<R: Threads + Wait + Sync>(
     };
     let mut posts = Vec::new(alloc);
     posts.push(PacedPost { pace })?;
-    let mut gates = Vec::new(alloc);
-    gates.push(PaceGate {
-        pace,
-        hold: post_hold,
-        is_of_link: false,
+    let tally = Arc::new(alloc, PostTally::new())?;
+    let mut sides = Vec::new(alloc);
+    sides.push(PostSide {
+        gate: PaceGate {
+            pace,
+            hold: post_hold,
+            is_of_link: false,
+        },
+        tally: Arc::try_clone(&tally)?,
     })?;
     let mut link = Numbers { last: 0, datagrams };
     let mut gate = PaceGate {
@@ -161,16 +165,16 @@ fn relayed<R: Threads + Wait + Sync>(
         is_of_link: true,
     };
     let relayed = relay::<_, MemoryDesk, _, _, _>(
-        rt, alloc, &mut link, &mut gate, &mut posts, &mut gates, capacity,
+        rt, alloc, &mut link, &mut gate, &mut posts, &mut sides, capacity,
     )?;
     let (disordered, missed) = (pace.disordered.load(SeqCst), pace.missed.load(SeqCst));
-    Ok((relayed.post(0), disordered, missed))
+    Ok((relayed.post(0), tally.so_far(), disordered, missed))
 }
 
 // A slow post drops what its queue has no room for, and a fast one nothing.
 #[test]
 fn posts_of_two_paces(rt: HostRuntime) -> Result<(), Fail> {
-    let (count, disordered, missed) = relayed(
+    let (count, told, disordered, missed) = relayed(
         &rt,
         rt.alloc(),
         5,
@@ -182,8 +186,9 @@ fn posts_of_two_paces(rt: HostRuntime) -> Result<(), Fail> {
         (count.sent, count.dropped, disordered, missed),
         (2, 3, 0, 0)
     );
+    assert_eq!(rt; (told.sent, told.dropped), (2, 3));
     for datagrams in [5, 100_000] {
-        let (count, disordered, missed) = relayed(
+        let (count, told, disordered, missed) = relayed(
             &rt,
             rt.alloc(),
             datagrams,
@@ -195,6 +200,7 @@ fn posts_of_two_paces(rt: HostRuntime) -> Result<(), Fail> {
             (count.sent, count.dropped, disordered, missed),
             (datagrams, 0, 0, 0)
         );
+        assert_eq!(rt; (told.sent, told.dropped), (datagrams, 0));
     }
     Ok(())
 }

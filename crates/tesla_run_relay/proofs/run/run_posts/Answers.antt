@@ -1,11 +1,11 @@
-use Rattle.std.proofs.Common.{ap, map, subst, sym, ℕ, List}
+use Rattle.std.proofs.Common.{◌∙◌, ap, map, refl, subst, sym, ℕ, List}
 use Rattle.tesla_front.specs.OutcomeView.{outcome_view}
 use Rattle.tesla_relay.specs.Opening.{name_of}
 use Rattle.tesla_relay.specs.Offers.{MayAskNext}
 use Rattle.tesla_relay.specs.Posts.{PostSeen}
 use Rattle.tesla_run_relay.specs.Due.{IsNextUnder}
 use Rattle.tesla_run_relay.proofs.Permitted.{next_of_posts}
-use Rattle.tesla_run_relay.proofs.Steps.{counted_size, opened_fits, opened_wanted, opened_some, runs_relay}
+use Rattle.tesla_run_relay.proofs.Steps.{counted_size, opened_wanted, opened_some, runs_relay}
 use Rattle.tesla_run_relay.proofs.run.run_posts.Goals as goal
 
 pub relay_opened-requires-clause-some : goal.relay_opened-requires-clause-some
@@ -14,11 +14,11 @@ relay_opened-requires-clause-some g c κs within =
     let seen : g.row.D-Port.Denot → PostSeen = λ post. record { name = port.name post; sent = port.sent post; faults = port.faults post } in
     opened_some seen (map name_of c.as_slice.result.now) c.args.arguments.now.posts (told c.args.desk.now) (told c.open_posts.new.desk) (map seen c.args.room.now.posts.items) c.open_posts.new.posts.items c.as_slice.ensures c.in-Ok.ensures (ap (map seen) c.requires.posts.0) c.requires.some
 
-pub relay_opened-requires-clause-gates : goal.relay_opened-requires-clause-gates
-relay_opened-requires-clause-gates g c κs within =
+pub relay_opened-requires-clause-sides : goal.relay_opened-requires-clause-sides
+relay_opened-requires-clause-sides g c κs within =
     let told = g.D.Environment.told in let port = g.D.Port.Post in
     let seen : g.row.D-Port.Denot → PostSeen = λ post. record { name = port.name post; sent = port.sent post; faults = port.faults post } in
-    opened_fits seen (map name_of c.as_slice.result.now) c.args.arguments.now.posts (told c.args.desk.now) (told c.open_posts.new.desk) (map seen c.args.room.now.posts.items) c.open_posts.new.posts.items _ _ c.as_slice.ensures c.in-Ok.ensures (ap (map seen) c.requires.posts.0) c.requires.gates
+    c.requires.sides ∙ sym (opened_wanted seen (map name_of c.as_slice.result.now) c.args.arguments.now.posts (told c.args.desk.now) (told c.open_posts.new.desk) (map seen c.args.room.now.posts.items) c.open_posts.new.posts.items c.as_slice.ensures c.in-Ok.ensures (ap (map seen) c.requires.posts.0))
 
 pub outcome_of-requires-clause-posts : goal.outcome_of-requires-clause-posts
 outcome_of-requires-clause-posts g c =
@@ -36,7 +36,7 @@ returns-in-Ok-relay_opened-clause-runs g c =
     let it = c.in-Ok-relay_opened.relayed in
     runs_relay seen (map name_of c.as_slice.result.now) c.args.arguments.now.posts (told c.args.desk.now) (told c.open_posts.new.desk) (map seen c.args.room.now.posts.items) c.open_posts.new.posts.items
     c.args.arguments.now.capacity (wire.left c.args.link.now) (wire.left c.relay_opened.new.link) c.relay_opened.new.room.posts.items it.end it.counts.items c.in-Ok-relay_opened.ensures.relays
-    (wire.faults c.args.link.now) (wire.faults c.relay_opened.new.link) (told c.relay_opened.new.desk) (outcome_view c.outcome_of.result) c.as_slice.ensures c.in-Ok.ensures (ap (map seen) c.requires.posts.0) c.relay_opened.ensures.desk c.in-Ok-relay_opened.ensures.cause c.outcome_of.ensures
+    (wire.faults c.args.link.now) (wire.faults c.relay_opened.new.link) (told c.open_posts.new.desk) (outcome_view c.outcome_of.result) c.as_slice.ensures c.in-Ok.ensures (ap (map seen) c.requires.posts.0) refl c.in-Ok-relay_opened.ensures.cause c.outcome_of.ensures
 
 pub relay_opened-requires-clause-due : goal.relay_opened-requires-clause-due
 relay_opened-requires-clause-due g c κs within =
