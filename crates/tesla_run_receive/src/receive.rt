@@ -97,8 +97,9 @@ fn new_receiver(
     )
 }
 
-/// A receiver with no history, under the setup and what the words ask for, and how many chains the setup has. SETUP is read and
-/// judged, and all memory of the receiver is taken. `Refused`: SETUP is no setup. `Failed`: its opening or a read failed, or there wasn't enough memory.
+/// A receiver with no history, under the setup and what the words ask for, and how many chains the setup has. SETUP is
+/// read and judged, and all memory of the receiver is taken. `Refused`: SETUP is no setup. `Failed`: its opening or a
+/// read failed, or there wasn't enough memory.
 pub fn receiver_under<D: Environment>(
     alloc: Global,
     arguments: &Arguments<'_>,

@@ -23,7 +23,8 @@ pub const REPORT_COUNTS: usize = 11;
 /// How many chains a setup has at most.
 pub const CHAINS: usize = 8;
 
-/// How many counts there are: those of a report but for its arrivals, in the order of its lines, and then one for each chain.
+/// How many counts there are: those of a report but for its arrivals, in the order of its lines, and then one for each
+/// chain.
 pub const COUNTS: usize = 19;
 
 /// A station, and the counts of its history, which another thread may read at any time.
@@ -125,8 +126,8 @@ fn counts_after(report: &Report, before: &[u64; COUNTS], chain: Option<u8>) -> [
 }
 
 impl<V: Station> Watched<V> {
-    /// Counts from now on what this station answers, which has had no event. The reader has the counts as they stand at any
-    /// time. `NoMemory`: there wasn't enough.
+    /// Counts from now on what this station answers, which has had no event. The reader has the counts as they stand at
+    /// any time. `NoMemory`: there wasn't enough.
     pub fn open(alloc: Global, station: V) -> Result<(Watched<V>, Reader<COUNTS>), NoMemory>
         requires { V.stands station [] }
         ensures stands { IfOk result (λ it. WatchedStands V.stands it.0 []) }
@@ -138,8 +139,8 @@ impl<V: Station> Watched<V> {
         Ok((Watched { station, counts }, reader))
     }
 
-    /// The counts of the whole history: those of its report but for its arrivals, in the order of its lines, and then how many
-    /// packets were released on each chain.
+    /// The counts of the whole history: those of its report but for its arrivals, in the order of its lines, and then how
+    /// many packets were released on each chain.
     pub fn counts(&self) -> [u64; COUNTS]
         ensures { (h : List Entry) → WatchedStands V.stands self.now h → result ≡ counts_of h }
     {
@@ -155,8 +156,8 @@ impl<V: Station> Watched<V> {
         self.counts.compare(reader);
     }
 
-    // Sets the counts behind an event, to those of the history that the station stands for now, told the chain on which the
-    // packet was released that was given.
+    // Sets the counts behind an event, to those of the history that the station stands for now, told the chain on which
+    // the packet was released that was given.
     fn count(&mut self, chain: Option<u8>)
         requires { (h : List Entry) × (entry : Entry) × (length h < 2 ^ 63) × V.stands self.old.station (h ++ entry ∷ []) × (self.old.counts ≡ counts_of h) × (chain_in entry ≡ chain) }
         ensures stands { (h : List Entry) (entry : Entry) → V.stands self.old.station (h ++ entry ∷ []) → self.old.counts ≡ counts_of h → chain_in entry ≡ chain → WatchedStands V.stands self.new (h ++ entry ∷ []) }

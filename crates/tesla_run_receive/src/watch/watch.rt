@@ -30,11 +30,11 @@ use tesla_turn::Last;
 /// Runs the words as those of `watch`.
 ///
 /// SETUP is read and judged, and all memory is taken; then the links are opened in order, each with the next clock, the
-/// sinks, and STATUS. Then a worker runs for each link and each sink, as those of `receive` do, and beside them a monitor, which
-/// appends a line of the counts to STATUS every EVERY seconds, by a clock of its own, with the packets of each chain of the setup,
-/// and with what the environment tells of held readings and failed sinks. It takes no turn. When the workers have ended, whatever
-/// they came to, a last line is written, which begins with `end=`. A STATUS that fails gets no further line, and stops nothing. `Done`
-/// tells the counts. It waits for the links.
+/// sinks, and STATUS. Then a worker runs for each link and each sink, as those of `receive` do, and beside them a
+/// monitor, which appends a line of the counts to STATUS every EVERY seconds, by a clock of its own. A line also has the
+/// packets of each chain of the setup, and what the environment tells of held readings and failed sinks. The monitor
+/// takes no turn. When the workers have ended, whatever they came to, a last line is written, which begins with `end=`.
+/// A STATUS that fails gets no further line, and stops nothing. `Done` tells the counts. It waits for the links.
 pub fn run_watch<R: Threads + Wait + Sync, D: Observed>(
     rt: &R,
     alloc: Global,
