@@ -4,4 +4,4 @@ mod laws;
 mod watched;
 
 pub use laws::chains_add_up;
-pub use watched::{CHAINS, COUNTS, REPORT_COUNTS, Watched, WatchedConfig};
+pub use watched::{COUNTS, REPORT_COUNTS, Watched, WatchedConfig};

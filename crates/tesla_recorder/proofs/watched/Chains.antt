@@ -1,7 +1,7 @@
 -- The packets of a legal history add up by its chains.
-use Rattle.std.proofs.Common.{◌≡◌, ◌∙◌, ◌==◌, inl, inr, ℕ, zero, suc, ◌+◌, ◌<◌, ◌≤◌, Bool, true, false, cond, List, [], ◌∷◌, ◌++◌, length, map, flat_map, Option, Some, None, refl, sym, ap, subst, arith}
-use Rattle.std.specs.Prelude.{count_by, find, nat_lt, slice_get}
-use Rattle.std.specs.List.{enumerate_from, list_all, range_with_len, sum}
+use Rattle.std.proofs.Common.{◌≡◌, inl, inr, ℕ, zero, suc, ◌+◌, ◌<◌, ◌≤◌, Bool, true, false, cond, List, [], ◌∷◌, ◌++◌, length, map, Option, Some, None, refl, ap, arith}
+use Rattle.std.specs.Prelude.{find, nat_lt, slice_get}
+use Rattle.std.specs.List.{list_all, range_with_len, sum}
 use Rattle.std.proofs.lemmas.Bool.{and_from, cases_eq, eq-eqb, lt-ltb, ltb-true, ne_eqb}
 use Rattle.std.proofs.lemmas.List.Sums.{sum_by-cons, sum_by_push}
 use Rattle.tesla_base.proofs.Below.{found_below}
@@ -11,7 +11,7 @@ use Rattle.tesla_base.proofs.Passing.{passes_at}
 use Rattle.tesla_frame.specs.declared.row.KeyRow.{KeyRow}
 use Rattle.tesla_fitting.specs.Config.{chains}
 use Rattle.tesla_fitting.specs.declared.config.Config.{Config}
-use Rattle.tesla_receiver.specs.History.{Arrives, Ends, Event, IsLegal, Takes, arrivals_in, entry_of, gives, given_in, has_end, reply_to, reply_with}
+use Rattle.tesla_receiver.specs.History.{Arrives, Ends, Event, Takes, arrivals_in, entry_of, gives, given_in, has_end, reply_to, reply_with}
 use Rattle.tesla_receiver.specs.Keys.{new_keys}
 use Rattle.tesla_receiver.specs.Packets.{batch, candidates, packet_of, proves, release_of, release_on, released}
 use Rattle.tesla_receiver.specs.declared.history.Arrival.{Arrival}

@@ -12,7 +12,7 @@ use Rattle.tesla_receiver.specs.declared.history.Arrival.{Arrival}
 use Rattle.tesla_receiver.specs.declared.history.Entry.{Entry}
 use Rattle.tesla_state.specs.Counting.{line_of}
 use Rattle.tesla_state.specs.declared.report.Report.{Report}
-use Rattle.tesla_recorder.specs.watched.Chains.{chain_in, is_chain, released_by_chain, released_on}
+use Rattle.tesla_recorder.specs.watched.Chains.{chain_in, is_chain, released_on}
 use Rattle.tesla_recorder.specs.watched.Watched.{WatchedState, WatchedStands, counts_in, counts_of}
 use Rattle.tesla_recorder.proofs.watched.Chains.{released_more}
 

@@ -20,8 +20,8 @@ use tesla_shared::Station;
 /// How many counts of a report there are, but for its arrivals.
 pub const REPORT_COUNTS: usize = 11;
 
-/// How many chains a setup has at most.
-pub const CHAINS: usize = 8;
+// How many chains a setup has at most.
+const CHAINS: usize = 8;
 
 /// How many counts there are: those of a report but for its arrivals, in the order of its lines, and then one for each
 /// chain.

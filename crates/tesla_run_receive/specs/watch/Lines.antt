@@ -1,5 +1,5 @@
 -- The lines of STATUS: their text, and how one follows another.
-use Rattle.std.specs.Prelude.{◌≡◌, ℕ, suc, ◌+◌, ◌≤◌, Bool, true, false, List, [], ◌∷◌, ◌++◌, take, drop, length, slice_index_or, codes}
+use Rattle.std.specs.Prelude.{◌≡◌, ℕ, ◌+◌, ◌≤◌, Bool, true, false, List, [], ◌∷◌, ◌++◌, take, drop, length, slice_index_or, codes}
 use Rattle.tesla_counters.specs.Counts.{NoneFalls}
 use Rattle.tesla_state.specs.declared.report.Report.{Report}
 use Rattle.tesla_status.specs.Lines.{number_text}

@@ -1,6 +1,6 @@
-use Rattle.std.proofs.Common.{inl, refl, subst}
+use Rattle.std.proofs.Common.{inl, refl}
 use Rattle.tesla_counters.specs.Counts.{no_counters}
-use Rattle.tesla_run_receive.proofs.watch.Held.{runs_chains, runs_status}
+use Rattle.tesla_run_receive.proofs.watch.Held.{runs_chains}
 use Rattle.tesla_run_receive.specs.Arguments.{workers_wanted}
 use Rattle.tesla_run_receive.specs.OutputArguments.{arguments_of}
 use Rattle.tesla_run_receive.proofs.watch.watch.run_watched.Goals as goal

@@ -1,8 +1,6 @@
 use Rattle.std.proofs.Common.{◌≡◌, ◌+◌, ◌<◌, ◌^◌, [], ◌∷◌, ◌++◌, ◌∙◌, ℕ, List, Option, cond, get_or, map, sym, ap, subst, arith}
 use Rattle.std.specs.List.{range_with_len}
 use Rattle.tesla_counters.specs.Counts.{NoneFalls}
-use Rattle.tesla_receiver.specs.Report.{report_of}
-use Rattle.tesla_receiver.specs.declared.history.Entry.{Entry}
 use Rattle.tesla_state.specs.declared.report.Report.{Report}
 use Rattle.tesla_recorder.proofs.watched.Counted.{counts_few, counts_more, counts_rise}
 use Rattle.tesla_recorder.specs.watched.Chains.{is_chain}
