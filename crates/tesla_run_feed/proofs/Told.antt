@@ -1,42 +1,18 @@
 -- What is written to STATUS, as notes come one after another.
-use Rattle.std.proofs.Common.{◌≡◌, ◌∙◌, inl, inr, ℕ, Bool, true, false, List, [], ◌∷◌, ◌++◌, flat_map, map, Option, IfSome, append-nil, append_assoc, refl, sym, ap, subst}
+use Rattle.std.proofs.Common.{◌≡◌, ◌∙◌, ℕ, Bool, true, false, List, [], ◌∷◌, ◌++◌, flat_map, map, Option, IfSome, append-nil, append_assoc, refl, sym, ap, subst}
 use Rattle.std.specs.Prelude.{◌&&◌, if◌then◌else◌, not}
 use Rattle.std.proofs.lemmas.List.Concat.{flat_map-append}
 use mathlib.Core.List.{map-append}
 use Rattle.std.proofs.lemmas.List.Sums.{fold-append}
 use Rattle.tesla_clock.specs.Schedule.{Times}
-use Rattle.tesla_desk.specs.Faults.{HasCause}
-use Rattle.tesla_desk.specs.Outside.{AppendsPrefix}
-use Rattle.tesla_desk.proofs.Counts.{cause_as, cause_both, cause_none}
-use Rattle.tesla_desk.proofs.Told.{appends_none, prefix_after, prefix_longer, prefix_none, with_more}
 use Rattle.tesla_feed.specs.Fed.{is_unread}
 use Rattle.tesla_feed.specs.Notes.{Note}
 use Rattle.tesla_feed.specs.declared.counts.FeedCounts.{FeedCounts}
-use Rattle.tesla_run_feed.specs.Status.{AreLinesOf, HasAllLines, HasLines, Line, PutsAll, due_notes, end_line, has_line, last_reading, line_text, note_of, note_where, since_at, since_behind, time_line}
+use Rattle.tesla_run_feed.specs.Status.{AreLinesOf, HasAllLines, HasLines, Line, due_notes, end_line, has_line, last_reading, line_text, note_of, note_where, since_at, since_behind, time_line}
 use Rattle.tesla_run_feed.specs.declared.line.SystemCounts.{SystemCounts}
 use Rattle.tesla_status.specs.Due.{is_due_at, since_after}
-use Rattle.tesla_status.specs.Written.{Puts}
-
--- ---- text
-
--- nothing was put yet
-pub puts_none : (before : Option (List ℕ)) (faults : ℕ) → faults ≡ 0 → PutsAll [] before before faults false
-puts_none before faults none = record { all = λ no. appends_none before; prefix = prefix_none before []; cause = cause_none 0 faults none (λ e. absurd cc) }
-
--- a text more was
-pub puts_more : (text more : List ℕ) (before old new : Option (List ℕ)) (faults count : ℕ) (was is : Bool) → PutsAll text before old faults was → Puts more old new faults count was is → PutsAll (text ++ more) before new count is
-puts_more text more before old new faults count true is all puts =
-    let still = puts.still refl in
-    record {
-      all = λ no. absurd (let clash : true ≡ false = sym still.0 ∙ no in cc);
-      prefix = subst (λ (w : Option (List ℕ)). AppendsPrefix before w (text ++ more)) (sym still.1) (prefix_longer before old text more all.prefix);
-      cause = subst (λ (n : ℕ). HasCause 0 n (is ≡ true)) (sym still.2) (cause_as 0 faults all.cause (λ e. refl) (λ e. still.0));
-    }
-puts_more text more before old new faults count false is all puts = record {
-  all = λ no. with_more before old new text more (all.all refl) (puts.all no).1;
-  prefix = prefix_after before old new text more (all.all refl) (puts.prefix refl);
-  cause = cause_both 0 faults count all.cause (puts.cause refl) (λ now. inr now) (λ either. elim either [ inl never ↦ absurd cc | inr now ↦ now ]);
-}
+use Rattle.tesla_status.specs.Written.{Puts, PutsAll}
+use Rattle.tesla_status.proofs.Written.{puts_more, puts_none}
 
 -- ---- notes
 

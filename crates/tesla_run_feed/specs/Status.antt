@@ -2,8 +2,6 @@
 use Rattle.std.specs.Prelude.{◌≡◌, ℕ, ◌+◌, ◌-◌, Bool, true, false, not, ◌&&◌, List, [], ◌∷◌, ◌++◌, flat_map, map, Option, IfSome, codes, if◌then◌else◌}
 use Rattle.std.specs.List.{fold}
 use Rattle.tesla_clock.specs.Schedule.{Times}
-use Rattle.tesla_desk.specs.Faults.{HasCause}
-use Rattle.tesla_desk.specs.Outside.{AppendsPrefix, with_bytes}
 use Rattle.tesla_feed.specs.Fed.{is_unread}
 use Rattle.tesla_feed.specs.Notes.{Note}
 use Rattle.tesla_feed.specs.declared.counts.FeedCounts.{FeedCounts}
@@ -11,6 +9,7 @@ use Rattle.tesla_run_feed.specs.declared.line.SystemCounts.{SystemCounts}
 use Rattle.tesla_sender.specs.Made.{interval_at}
 use Rattle.tesla_status.specs.Due.{is_due_at, since_after}
 use Rattle.tesla_status.specs.Lines.{number_text}
+use Rattle.tesla_status.specs.Written.{PutsAll}
 
 -- ---- a line
 
@@ -78,12 +77,6 @@ abbrev pub last_reading : ℕ → List Note → ℕ
 last_reading opening notes = fold (λ last note. if is_unread note.reading then last else note.reading) opening notes
 
 -- ---- what was written
-
--- a text was put behind what an output held, which had no fault; where it failed, a prefix of it
-pub record PutsAll (text : List ℕ) (before written : Option (List ℕ)) (faults : ℕ) (failed : Bool) : Type 0 where
-  pub all : failed ≡ false → written ≡ with_bytes before text
-  pub prefix : AppendsPrefix before written text
-  pub cause : HasCause 0 faults (failed ≡ true)
 
 -- these are the lines of the notes that have one, each with what the system told beside it
 abbrev pub AreLinesOf : ℕ → ℕ → List Note → List Line → Type 0

@@ -8,7 +8,8 @@ mod session;
 mod stop;
 mod worker;
 
-pub use beside::{Beside, Ended};
+pub use beside::Beside;
 pub use engine::{Ran, Session, close_all, open_session, prepared, run_opened};
 pub use session::{Links, Sinks};
+pub use tesla_status::Ended;
 pub use worker::{LinkWorker, SinkWorker};

@@ -5,12 +5,13 @@ ghost use Rattle.std.specs.Thread.{IsSync, IsSend};
 ghost use Rattle.tesla_turn.specs.Held.{TurnId};
 ghost use Rattle.tesla_session.specs.Session.{Seen, SeenLink, SeenSink, IsReady, RunsWorker, RunWorkers, AreOf, AreReady};
 
-use crate::beside::{Beside, Ended};
+use crate::beside::Beside;
 use crate::worker::{LinkWorker, SinkWorker};
 use std::sync::Wait;
 use std::thread::{Threads, for_each_mut, join_mut};
 use tesla_desk::{Clock, Gate, Link, Output};
 use tesla_shared::{Station, Witnessed};
+use tesla_status::Ended;
 use tesla_turn::{Permitting, Turn};
 
 /// What works over a turn of a station.
