@@ -19,15 +19,19 @@ module _ {S : Type 0} (output_name : S → List ℕ) (written : S → Option (Li
     played = λ post datagram due. sends post datagram;
   }
 
-  pub tools_allowed : AllowsLiveTools output_name written may_write post_name sent may_send brought may_ask_link may_ask gave read_for words told
-  tools_allowed = record {
-    any_link = links;
+  pub tools_allowed : (has_brought : K → ℕ → Bool) (was_put : (ℕ → List ℕ → Bool) → ℕ → ℕ → Bool) (was_full : (ℕ → List ℕ → Bool) → ℕ → ℕ → ℕ → Bool)
+      → AllowsLiveTools output_name written may_write post_name sent may_send brought may_ask_link may_ask gave read_for has_brought was_put was_full words told
+  tools_allowed has_brought was_put was_full = record {
+    any_link = λ first. links;
+    relay_link = λ arguments is link number has offered. links link;
     asked = λ number datagram came. asks number datagram;
     captured = λ it piece due. writes it piece;
     fed = λ post datagram due. sends post datagram;
     counted = λ it piece next. writes it piece;
     watched = λ arguments is it piece due. writes it piece;
     status = λ arguments is setup spelled it piece named next. writes it piece;
+    relayed = λ post datagram due. sends post datagram;
+    tallies = λ arguments is it piece named next. writes it piece;
   }
 
   pub recorded_allowed : AllowsRecorded output_name written may_write post_name sent may_send brought may_ask_link may_ask gave read_for words told

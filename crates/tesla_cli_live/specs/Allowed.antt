@@ -1,11 +1,13 @@
 -- What live commands may ask, write and send while they run, whether or not they end, told their words and what their environment tells.
-use Rattle.std.specs.Prelude.{◌≡◌, ℕ, Bool, true, List, Option, codes}
+use Rattle.std.specs.Prelude.{◌≡◌, ◌⊎◌, ℕ, Bool, true, List, Option, codes}
 use Rattle.tesla_desk.specs.Outside.{Told}
 use Rattle.tesla_front.specs.Table.{IsFirst}
 use Rattle.tesla_run_capture.specs.Pieces as capturing
 use Rattle.tesla_run_feed.specs.Due as feeding
 use Rattle.tesla_run_relay.specs.Due as relaying
 use Rattle.tesla_run_relay.specs.play.Due as playing
+use Rattle.tesla_run_relay.specs.watch.Allowed.{MayTellForWords}
+use Rattle.tesla_run_relay.specs.watch.Due as tallying
 use Rattle.tesla_run_receive.specs.Allowed.{MayWriteReleased}
 use Rattle.tesla_run_receive.specs.Arguments.{IsReceive, ReceiveArguments}
 use Rattle.tesla_run_receive.specs.OutputArguments.{OutputArguments}
@@ -32,15 +34,18 @@ module _ {S : Type 0} (output_name : S → List ℕ) (written : S → Option (Li
       pub relayed : (post : P) (datagram : List ℕ) → relaying.IsDue brought words (post_name post) (sent post) datagram → may_send post datagram ≡ true
       pub played : (post : P) (datagram : List ℕ) → playing.IsDue gave told words (post_name post) (sent post) datagram → may_send post datagram ≡ true
 
-  -- capture, feed and watch: the same of what is captured, of the frames that are due of a feed, and of what is released; STATUS of a feed and of watch may have each line that comes next
-  pub record AllowsLiveTools (words : List (List ℕ)) (told : Told) : Type 0 where
-    pub any_link : MayAskLinks may_ask_link
-    pub asked : MayAsk brought may_ask
-    pub captured : (it : S) (piece : List ℕ) → capturing.IsCapturedAs read_for words told.live (output_name it) (written it) piece → may_write it piece ≡ true
-    pub fed : (post : P) (datagram : List ℕ) → feeding.IsFedFrom gave read_for words told (post_name post) (sent post) datagram → may_send post datagram ≡ true
-    pub counted : (it : S) (piece : List ℕ) → feeding.IsCountedFrom gave read_for words told (output_name it) (written it) piece → may_write it piece ≡ true
-    pub watched : (arguments : OutputArguments) → IsWatch arguments words → MayWriteReleased output_name written may_write read_for arguments.receive told
-    pub status : (arguments : OutputArguments) → IsWatch arguments words → MayWriteLines output_name written may_write gave arguments told
+    -- capture, feed, watch and watch-relay: the same of what is captured, of the frames that are due of a feed, of what is released, and of what a relay is to send next, whose link may be asked as that of relay; STATUS may have each line that comes next
+    pub record AllowsLiveTools (words : List (List ℕ)) (told : Told) : Type 0 where
+      pub any_link : IsFirst (codes "capture") words ⊎ IsFirst (codes "feed") words ⊎ IsFirst (codes "watch") words → MayAskLinks may_ask_link
+      pub relay_link : tallying.MayAskForWords (was_put brought) (was_full brought) has_brought may_ask_link words
+      pub asked : MayAsk brought may_ask
+      pub captured : (it : S) (piece : List ℕ) → capturing.IsCapturedAs read_for words told.live (output_name it) (written it) piece → may_write it piece ≡ true
+      pub fed : (post : P) (datagram : List ℕ) → feeding.IsFedFrom gave read_for words told (post_name post) (sent post) datagram → may_send post datagram ≡ true
+      pub counted : (it : S) (piece : List ℕ) → feeding.IsCountedFrom gave read_for words told (output_name it) (written it) piece → may_write it piece ≡ true
+      pub watched : (arguments : OutputArguments) → IsWatch arguments words → MayWriteReleased output_name written may_write read_for arguments.receive told
+      pub status : (arguments : OutputArguments) → IsWatch arguments words → MayWriteLines output_name written may_write gave arguments told
+      pub relayed : (post : P) (datagram : List ℕ) → tallying.IsDue brought words (post_name post) (sent post) datagram → may_send post datagram ≡ true
+      pub tallies : MayTellForWords output_name written may_write gave words
 
   -- record: the same of what is released; TAIL may have each piece of the last entries of a history
   pub record AllowsRecorded (words : List (List ℕ)) (told : Told) : Type 0 where

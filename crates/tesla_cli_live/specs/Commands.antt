@@ -20,6 +20,8 @@ use Rattle.tesla_run_receive.specs.record.Record.{recording}
 use Rattle.tesla_run_receive.specs.record.Usage as records
 use Rattle.tesla_run_relay.specs.Relay.{relay}
 use Rattle.tesla_run_relay.specs.Arguments as relaying
+use Rattle.tesla_run_relay.specs.watch.Arguments as tallying
+use Rattle.tesla_run_relay.specs.watch.Watch.{watch_relay}
 use Rattle.tesla_run_receive.specs.watch.Usage as watches
 use Rattle.tesla_run_receive.specs.watch.Watch.{watching}
 use Rattle.tesla_turn.specs.Held.{Ended}
@@ -54,19 +56,20 @@ live_usage = flat_map usage_line (receiving.usages ++ relaying.usages ++ playing
 abbrev pub RunsLive : List (List ℕ) → Told → Told → Option (Ended Entry) → OutcomeView → Type 0
 RunsLive words old new last reported = RunsTable (λ before now left. live_of before now left words) (IsReceive words) live_usage words old new last reported
 
--- ---- capture, feed and watch
+-- ---- capture, feed, watch and watch-relay
 
 -- the first word names one
 abbrev pub IsLiveTool : List (List ℕ) → Type 0
-IsLiveTool words = is_named (codes "capture" ∷ codes "feed" ∷ codes "watch" ∷ []) words ≡ true
+IsLiveTool words = is_named (codes "capture" ∷ codes "feed" ∷ codes "watch" ∷ codes "watch-relay" ∷ []) words ≡ true
 
 -- the tool that a word names, told whether a gate may tell that the run was asked to end, and the same
 abbrev pub live_tool_named : Bool → Live → Live → Option (Ended Entry) → List ℕ → Command
 live_tool_named over before now last word =
     where_named (bytes_eq word (codes "capture")) (capture before now) (
     where_named (bytes_eq word (codes "feed")) (feed over before now) (
-    where_named (bytes_eq word (codes "watch")) (watching before now last)
-    no_command))
+    where_named (bytes_eq word (codes "watch")) (watching before now last) (
+    where_named (bytes_eq word (codes "watch-relay")) (watch_relay before now)
+    no_command)))
 
 -- the tool of these words: the first of them names it
 abbrev pub live_tool_of : Bool → Live → Live → Option (Ended Entry) → List (List ℕ) → Command
@@ -78,7 +81,7 @@ IsWatching words = IsFirst (codes "watch") words
 
 -- the usage lines of all, in the order in which they are told
 abbrev pub live_tool_usage : List ℕ
-live_tool_usage = flat_map usage_line (capturing.usages ++ feeding.usages ++ watches.usages)
+live_tool_usage = flat_map usage_line (capturing.usages ++ feeding.usages ++ watches.usages ++ tallying.usages)
 
 -- one run of the words over a desk, with the console
 abbrev pub RunsLiveTools : Bool → List (List ℕ) → Told → Told → Option (Ended Entry) → OutcomeView → Type 0

@@ -17,31 +17,33 @@ use tesla_front::{
     FormText, LiveRun, Outcome, is_named, open_console, report_run, without_history,
 };
 use tesla_recorder::watched::Watched;
+use tesla_relay::PostQueues;
 use tesla_run_capture::{CAPTURE, run_capture};
 use tesla_run_feed::{FEED, FEED_STATUS, run_feed};
 use tesla_run_receive::watch::{WATCH, run_watch};
+use tesla_run_relay::watch::{WATCH_RELAY, run_watch_relay};
 use tesla_turn::Last;
 
 /// The forms of the tools, in the order in which they are told.
-pub const FORMS: [FormText; 4] = [CAPTURE, FEED, FEED_STATUS, WATCH];
+pub const FORMS: [FormText; 5] = [CAPTURE, FEED, FEED_STATUS, WATCH, WATCH_RELAY];
 
 /// Whether the words are for this table: the first of them names one of its tools.
 pub fn is_live_tool(words: &[String]) -> bool
     ensures yes { result ≡ true → IsLiveTool (map string_bytes words.now) }
     ensures no { result ≡ false → IsLiveTool (map string_bytes words.now) → ⊥ }
 {
-    is_named(words, &["capture", "feed", "watch"])
+    is_named(words, &["capture", "feed", "watch", "watch-relay"])
 }
 
 // Runs the words as those of the tool that the first of them names. `Usage` where it names none, or there is no word,
 // and then nothing was opened. There is a history behind `watch` alone.
-fn run_words<R: Threads + Wait + Sync, D: Observed>(
+fn run_words<R: Threads + Wait + Sync, D: Observed + PostQueues>(
     rt: &R,
     alloc: Global,
     words: &[String],
     desk: &mut D,
 ) -> LiveRun<Last<Watched>>
-    requires { AllowsLiveTools D.Pieces.name D.Pieces.written D.Pieces.may_write D.Port.name D.Port.sent D.Port.may_send D.Wire.brought D.Wire.may_ask D.Time.may_ask D.Time.gave D.Time.read_for (map string_bytes words.now) (D.told desk.old) }
+    requires { AllowsLiveTools D.Pieces.name D.Pieces.written D.Pieces.may_write D.Port.name D.Port.sent D.Port.may_send D.Wire.brought D.Wire.may_ask D.Time.may_ask D.Time.gave D.Time.read_for D.Wire.has_brought D.was_put D.was_full (map string_bytes words.now) (D.told desk.old) }
     ensures runs { RunsAs (live_tool_of D.Pause.over (D.told desk.old).live (D.told desk.new).live result.last (map string_bytes words.now)) (map string_bytes words.now) (D.told desk.old) (D.told desk.new) (outcome_view result.outcome) }
     ensures none { outcome_view result.outcome ≡ Usage → result.last ≡ None }
     ensures others { (IsWatching (map string_bytes words.now) → ⊥) → result.last ≡ None }
@@ -52,18 +54,21 @@ fn run_words<R: Threads + Wait + Sync, D: Observed>(
         }
         [word, ..] if word.as_str() == "feed" => without_history(run_feed(rt, alloc, words, desk)),
         [word, ..] if word.as_str() == "watch" => run_watch(rt, alloc, words, desk),
+        [word, ..] if word.as_str() == "watch-relay" => {
+            without_history(run_watch_relay(rt, alloc, words, desk))
+        }
         _ => without_history(Outcome::Usage),
     }
 }
 
 // Opens the console, runs the words, tells the console what they came to, and closes it.
-fn run_told<R: Threads + Wait + Sync, D: Observed>(
+fn run_told<R: Threads + Wait + Sync, D: Observed + PostQueues>(
     rt: &R,
     alloc: Global,
     words: &[String],
     desk: &mut D,
 ) -> LiveRun<Last<Watched>>
-    requires allowed { (told : Told) (before : Option (List ℕ)) → OpensConsole (D.told desk.old) told before → AllowsLiveTools D.Pieces.name D.Pieces.written D.Pieces.may_write D.Port.name D.Port.sent D.Port.may_send D.Wire.brought D.Wire.may_ask D.Time.may_ask D.Time.gave D.Time.read_for (map string_bytes words.now) told }
+    requires allowed { (told : Told) (before : Option (List ℕ)) → OpensConsole (D.told desk.old) told before → AllowsLiveTools D.Pieces.name D.Pieces.written D.Pieces.may_write D.Port.name D.Port.sent D.Port.may_send D.Wire.brought D.Wire.may_ask D.Time.may_ask D.Time.gave D.Time.read_for D.Wire.has_brought D.was_put D.was_full (map string_bytes words.now) told }
     ensures { RunsLiveTools D.Pause.over (map string_bytes words.now) (D.told desk.old) (D.told desk.new) result.last (outcome_view result.outcome) }
 {
     match open_console(desk) {
@@ -94,13 +99,13 @@ pub struct LiveToolsDone {
 /// 0: it came to its end, and its lines were told. 1: the words are no form of a tool. 2: SETUP isn't a setup. 3:
 /// SECRET isn't seeds of it. 4: a link, or a read of SETUP or SECRET, failed. 5: a write or a post failed. 6: there was
 /// no memory, and nothing was received. 7: something wasn't opened. 11: the calls of a worker were spent.
-pub fn run_live_tools<R: Threads + Wait + Sync, D: Observed>(
+pub fn run_live_tools<R: Threads + Wait + Sync, D: Observed + PostQueues>(
     rt: &R,
     alloc: Global,
     words: &[String],
     desk: &mut D,
 ) -> LiveToolsDone
-    requires allowed { (told : Told) (before : Option (List ℕ)) → OpensConsole (D.told desk.old) told before → AllowsLiveTools D.Pieces.name D.Pieces.written D.Pieces.may_write D.Port.name D.Port.sent D.Port.may_send D.Wire.brought D.Wire.may_ask D.Time.may_ask D.Time.gave D.Time.read_for (map string_bytes words.now) told }
+    requires allowed { (told : Told) (before : Option (List ℕ)) → OpensConsole (D.told desk.old) told before → AllowsLiveTools D.Pieces.name D.Pieces.written D.Pieces.may_write D.Port.name D.Port.sent D.Port.may_send D.Wire.brought D.Wire.may_ask D.Time.may_ask D.Time.gave D.Time.read_for D.Wire.has_brought D.was_put D.was_full (map string_bytes words.now) told }
     ensures outcome { (reported : OutcomeView) × (result.status ≡ status_of reported) × RunsLiveTools D.Pause.over (map string_bytes words.now) (D.told desk.old) (D.told desk.new) result.last reported }
     ensures causes { HasStatusCauses result.status (D.told desk.old).faults (D.told desk.new).faults }
 {

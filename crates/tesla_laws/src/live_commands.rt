@@ -22,6 +22,8 @@ ghost use Rattle.tesla_run_receive.specs.record.Arguments.{IsRecord};
 ghost use Rattle.tesla_run_receive.specs.record.Record.{form_of_record};
 ghost use Rattle.tesla_run_relay.specs.Arguments.{IsRelayForm, RelayArguments};
 ghost use Rattle.tesla_run_relay.specs.Relay.{relay};
+ghost use Rattle.tesla_run_relay.specs.watch.Arguments.{IsWatchForm, WatchArguments};
+ghost use Rattle.tesla_run_relay.specs.watch.Watch.{watch_relay};
 ghost use Rattle.tesla_run_receive.specs.watch.Arguments.{IsWatch};
 ghost use Rattle.tesla_run_receive.specs.watch.Watch.{watched, watching};
 ghost use Rattle.tesla_run_receive.specs.OutputArguments.{OutputArguments};
@@ -45,9 +47,11 @@ pub fn forms_are_named()
     ensures captures { (arguments : CaptureArguments) (words : List (List ℕ)) (over : Bool) (before now : Live) (last : Option (Ended Entry)) (old new : Told) (outcome : OutcomeView) → IsCaptureForm arguments words → RunsAs (live_tool_of over before now last words) words old new outcome → Performs (capture before now) arguments old new outcome }
     ensures feeds { (arguments : FeedArguments) (words : List (List ℕ)) (over : Bool) (before now : Live) (last : Option (Ended Entry)) (old new : Told) (outcome : OutcomeView) → IsFeedForm arguments words → RunsAs (live_tool_of over before now last words) words old new outcome → Performs (feed over before now) arguments old new outcome }
     ensures watches { (arguments : OutputArguments) (words : List (List ℕ)) (over : Bool) (before now : Live) (last : Option (Ended Entry)) (old new : Told) (outcome : OutcomeView) → IsWatch arguments words → RunsAs (live_tool_of over before now last words) words old new outcome → Performs (watching before now last) arguments old new outcome }
+    ensures watch_relays { (arguments : WatchArguments) (words : List (List ℕ)) (over : Bool) (before now : Live) (last : Option (Ended Entry)) (old new : Told) (outcome : OutcomeView) → IsWatchForm arguments words → RunsAs (live_tool_of over before now last words) words old new outcome → Performs (watch_relay before now) arguments old new outcome }
     ensures capture_is { (arguments : CaptureArguments) (words : List (List ℕ)) → IsCaptureForm arguments words → IsLiveTool words }
     ensures feed_is { (arguments : FeedArguments) (words : List (List ℕ)) → IsFeedForm arguments words → IsLiveTool words }
     ensures watch_is { (arguments : OutputArguments) (words : List (List ℕ)) → IsWatch arguments words → IsLiveTool words }
+    ensures watch_relay_is { (arguments : WatchArguments) (words : List (List ℕ)) → IsWatchForm arguments words → IsLiveTool words }
     ensures record_is { (arguments : OutputArguments) (words : List (List ℕ)) → IsRecord arguments words → IsRecorded words }
 {}
 

@@ -27,6 +27,10 @@ pub returns-clause-watches : goal.returns-clause-watches
 returns-clause-watches c arguments words over before now last old new outcome is runs =
     (as_spelled (live_tool_of over before now last) words _ old new outcome is.spelled runs).form arguments is
 
+pub returns-clause-watch_relays : goal.returns-clause-watch_relays
+returns-clause-watch_relays c arguments words over before now last old new outcome is runs =
+    (as_spelled (live_tool_of over before now last) words _ old new outcome (begins_with_name (codes "watch-relay") words is.spelled) runs).form arguments is
+
 pub returns-clause-relay_is : goal.returns-clause-relay_is
 returns-clause-relay_is c arguments words is = subst IsLive (sym (begins_with_name (codes "relay") words is.spelled)) refl
 
@@ -38,3 +42,6 @@ returns-clause-capture_is c arguments words is = subst IsLiveTool (sym (begins_w
 
 pub returns-clause-feed_is : goal.returns-clause-feed_is
 returns-clause-feed_is c arguments words is = subst IsLiveTool (sym (begins_with_name (codes "feed") words is.spelled)) refl
+
+pub returns-clause-watch_relay_is : goal.returns-clause-watch_relay_is
+returns-clause-watch_relay_is c arguments words is = subst IsLiveTool (sym (begins_with_name (codes "watch-relay") words is.spelled)) refl
