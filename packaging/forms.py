@@ -85,6 +85,18 @@ class Help:
         """The forms of commands, without those of `--help` and `--version`."""
         return [form for form in self.forms if not form.command.startswith("-")]
 
+    def longest(self):
+        """A form of each command, with what is told of all its forms: the one with the most words, whose first ones are those of the
+        others."""
+        found = {}
+        for form in self.commands():
+            one = found.setdefault(form.command, Form(form.line))
+            if len(one.words) < len(form.words):
+                one.line, one.words = form.line, form.words
+            one.does = one.does or form.does
+            one.told += form.told
+        return list(found.values())
+
     def lines(self):
         """The lines of all forms."""
         return [form.line for form in self.forms]

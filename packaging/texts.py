@@ -111,8 +111,8 @@ def bash_case(form):
 
 def bash(told):
     """The completions for bash."""
-    cases = "\n".join(bash_case(form) for form in told.commands())
-    names = " ".join(form.command for form in told.forms)
+    cases = "\n".join(map(bash_case, told.longest()))
+    names = " ".join(dict.fromkeys(form.command for form in told.forms))
     return SCRIPT + f"""\
 _tesla()
 {{
@@ -162,8 +162,8 @@ def zsh_case(form):
 
 def zsh(told):
     """The completions for zsh."""
-    names = "\n".join(f"        '{form.command}:{zsh_quoted(form.short())}'" for form in told.commands())
-    cases = "\n".join(zsh_case(form) for form in told.commands())
+    names = "\n".join(f"        '{form.command}:{zsh_quoted(form.short())}'" for form in told.longest())
+    cases = "\n".join(map(zsh_case, told.longest()))
     return "#compdef tesla\n" + SCRIPT + f"""\
 _tesla()
 {{
