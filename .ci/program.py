@@ -29,7 +29,7 @@ from running import (  # noqa: E402
 LINE = re.compile(r"tesla: (?:[a-z0-9]+|--help|--version)?.*")
 FAILED = (1, 4, 5, 7, 8)
 # What lines on standard error say that belong to a run of any status.
-ADVICE = ("may be read by others", "are equal", "is all zeros")
+ADVICE = ("may be read by others", "are equal", "is all zeros", " ends in ")
 # Seconds that a machine stands still for where it is told, and how often a trial is made at most.
 STILL, TRIES = 0.1, 3
 # The seconds that were waited for a calm machine.

@@ -11,8 +11,8 @@ use tesla_cli_live::{
     run_recorded,
 };
 use tesla_files_live::read_front;
-use tesla_live::{Command, Events, Gates, LiveDesk, label_of};
-use tesla_reasons::{key_file, reason_of, weak_keys};
+use tesla_live::{Command, Events, Gates, LiveDesk, StreamEnd, label_of};
+use tesla_reasons::{key_file, live_setup, reason_of, stream_in, weak_keys};
 
 /// The variable of the environment that has the path at which something is put to end a live command.
 const STOP: &str = "TESLA_STOP";
@@ -32,7 +32,11 @@ fn main(rt: HostRuntime) -> ExitCode {
         }
     }
     let stop = env::var(&rt, STOP).ok();
-    let gates = Gates::of(Events::new(stop, sinks, command == Command::Watch));
+    let stream = match &words {
+        Ok(words) => stream_of(&rt, words.as_slice()),
+        Err(_) => None,
+    };
+    let gates = Gates::of(Events::new(stop, sinks, command == Command::Watch), stream);
     let mut desk = LiveDesk::labelled(&rt, &gates, command, label);
     if let Ok(words) = &words {
         if is_live(words.as_slice()) {
@@ -108,6 +112,16 @@ fn tell_weak_keys<R: Files + Eprint + AllocGlobal>(rt: &R, words: &[String], lab
     for weak in weak_keys(rt.alloc(), file, &text[..length]).iter() {
         let _ = eprintln!(rt; "tesla: {label}: {weak}");
     }
+}
+
+// The stream of the setup that the words of a live command name, where that is a regular file. What the command does hangs on none of
+// this.
+fn stream_of<R: Files + AllocGlobal>(rt: &R, words: &[String]) -> Option<StreamEnd> {
+    let name = live_setup(words, form_in(words))?;
+    let mut text = [0; MOST_TEXT];
+    let length = read_front(rt, name, &mut text)?;
+    let (stream, begin, end) = stream_in(rt.alloc(), &text[..length])?;
+    Some(StreamEnd { stream, begin, end })
 }
 
 // The form of the command that the first word names; of several the one that has as many words as these, and else the first.

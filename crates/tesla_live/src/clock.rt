@@ -2,7 +2,7 @@
 
 ghost use Rattle.std.specs.Prelude.{None};
 
-use crate::notices::{DIFFERENCE, Notices};
+use crate::notices::DIFFERENCE;
 use crate::rule::{Anchor, Times};
 use crate::times::times_now;
 use crate::{Command, Gates};
@@ -10,7 +10,6 @@ use std::sync::Wait;
 use std::time;
 use std::time::Duration;
 use tesla_desk::Clock;
-use tesla_reports::Tally;
 
 /// How many seconds a run waits before it asks again for a clock that can't be read.
 const PAUSE: u64 = 1;
@@ -36,14 +35,13 @@ pub(crate) fn anchor_of<R: time::Clock + Eprint + Wait>(rt: &R, command: Command
 
 /// The clock of a run, in microseconds since 1970: by [`Command::reading`] of the command, from the system's clock and one
 /// that can't be set. Where the two differ by more than a second it says so on standard error, and once a minute while
-/// they do. What it gives isn't told.
+/// they do. That the end of the stream is near it says once. What it gives isn't told.
 #[derive(Drop)]
 pub struct MachineClock<'a, R> {
     rt: &'a R,
     command: Command,
     anchor: Anchor,
-    notices: &'a Notices,
-    held: &'a Tally,
+    gates: &'a Gates,
 }
 
 impl<'a, R> MachineClock<'a, R> {
@@ -58,8 +56,7 @@ impl<'a, R> MachineClock<'a, R> {
             rt,
             command,
             anchor,
-            notices: &gates.notices,
-            held: &gates.events.tallies.held,
+            gates,
         }
     }
 }
@@ -72,7 +69,11 @@ impl<'a, R: Eprint> MachineClock<'a, R> {
         };
         let steady = self.anchor.steady(since_boot);
         let difference = since_1970.abs_diff(steady);
-        if !self.notices.is_due(difference > DIFFERENCE, since_boot) {
+        if !self
+            .gates
+            .notices
+            .is_due(difference > DIFFERENCE, since_boot)
+        {
             return;
         }
         let way = if steady < since_1970 {
@@ -86,6 +87,16 @@ impl<'a, R: Eprint> MachineClock<'a, R> {
             difference / 1_000_000
         );
     }
+
+    // Tells that the end of the stream is near at this reading, where that is to be told.
+    fn tell_end(&self, reading: u64) {
+        if let Some((stream, left)) = self.gates.end.due_at(reading) {
+            let _ = eprintln!(self.rt;
+                "tesla: {}: stream {stream:016x} ends in {left} s",
+                self.command.name()
+            );
+        }
+    }
 }
 
 impl<'a, R: time::Clock + Eprint> Clock for MachineClock<'a, R> {
@@ -96,8 +107,9 @@ impl<'a, R: time::Clock + Eprint> Clock for MachineClock<'a, R> {
         self.tell_difference(now);
         let reading = self.command.reading(&self.anchor, now);
         if is_held(now, reading) {
-            self.held.raise();
+            self.gates.events.tallies.held.raise();
         }
+        self.tell_end(reading);
         reading
     }
 

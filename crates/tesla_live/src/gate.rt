@@ -1,5 +1,7 @@
 //! Gates at which workers of the running system wait for one another.
 
+use crate::StreamEnd;
+use crate::ending::EndNotice;
 use crate::notices::Notices;
 use std::rt::Files;
 use std::sync::Wait;
@@ -17,6 +19,7 @@ const REST: u64 = 100_000;
 pub struct Gates {
     // What the clocks told.
     pub(crate) notices: Notices,
+    pub(crate) end: EndNotice,
     // What all parts of the run share.
     pub(crate) events: Events,
     // How often something was released.
@@ -28,13 +31,14 @@ pub struct Gates {
 impl Gates {
     /// Nothing was released yet, and no gate rests. Nothing ends the links of the run from without.
     pub fn new() -> Gates {
-        Gates::of(Events::new(None, 0, false))
+        Gates::of(Events::new(None, 0, false), None)
     }
 
-    /// The same of a run of which this is told.
-    pub fn of(events: Events) -> Gates {
+    /// The same of a run of which this is told, and over this stream, where that is known.
+    pub fn of(events: Events, stream: Option<StreamEnd>) -> Gates {
         Gates {
             notices: Notices::new(),
+            end: EndNotice::of(stream),
             events,
             generation: AtomicU64::new(0),
             resting: AtomicU64::new(0),

@@ -4,6 +4,7 @@
 mod clock;
 mod command;
 mod desk;
+mod ending;
 mod feeding;
 mod gate;
 mod label;
@@ -14,6 +15,7 @@ mod times;
 pub use clock::MachineClock;
 pub use command::Command;
 pub use desk::LiveDesk;
+pub use ending::StreamEnd;
 pub use gate::{Gates, LiveGate};
 pub use label::label_of;
 pub use rule::{Anchor, Times, receiver_reading, sender_reading};

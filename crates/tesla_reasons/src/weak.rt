@@ -52,7 +52,7 @@ impl Display for WeakKey<'_> {
 /// The file whose keys are looked at for the command that the first of these words names, told the command's form: the seeds
 /// of a sender and the setup of a receiver. `None` of all other commands, as of `feed`, which refuses such seeds itself.
 pub fn key_file<'a>(words: &'a [String], form: Option<&'static str>) -> Option<KeyFile<'a>> {
-    let ([command, ..], Some(form)) = (words, form) else {
+    let [command, ..] = words else {
         return None;
     };
     let (asked, keys) = match command.as_str() {
@@ -60,12 +60,19 @@ pub fn key_file<'a>(words: &'a [String], form: Option<&'static str>) -> Option<K
         "receive" | "record" | "watch" | "replay" => ("SETUP", Keys::Commitments),
         _ => return None,
     };
-    for (word, name) in form.split(' ').zip(words.iter()) {
+    let name = word_of(asked, words, form)?;
+    Some(KeyFile { name, keys })
+}
+
+/// The word that stands for this one of a form.
+pub(crate) fn word_of<'a>(
+    asked: &str,
+    words: &'a [String],
+    form: Option<&'static str>,
+) -> Option<&'a str> {
+    for (word, name) in form?.split(' ').zip(words.iter()) {
         if word == asked {
-            return Some(KeyFile {
-                name: name.as_str(),
-                keys,
-            });
+            return Some(name.as_str());
         }
     }
     None
