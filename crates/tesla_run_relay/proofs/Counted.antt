@@ -11,7 +11,7 @@ none_left : (counts : List PostCount) (k : ℕ) → k ≡ length counts → drop
 none_left counts k end = drop_of_length-le counts (omega (arith, end))
 
 -- and else one, and those behind it
-one_left : (counts : List PostCount) (k : ℕ) (count : PostCount) → ((d : PostCount) → count ≡ get_or counts k d) → k < length counts → drop k counts ≡ count ∷ drop (k + 1) counts
+pub one_left : (counts : List PostCount) (k : ℕ) (count : PostCount) → ((d : PostCount) → count ≡ get_or counts k d) → k < length counts → drop k counts ≡ count ∷ drop (k + 1) counts
 one_left counts k count is within =
     drop-cons counts k count within ∙ ap (λ c. c ∷ drop (suc k) counts) (sym (is count)) ∙ ap (λ n. count ∷ drop n counts) (let e : suc k ≡ k + 1 = omega arith in e)
 

@@ -1,5 +1,6 @@
 mod Counted
 mod Mailed
+mod Outcomes
 mod Performed
 mod Permitted
 mod Steps

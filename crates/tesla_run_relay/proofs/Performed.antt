@@ -30,10 +30,11 @@ use Rattle.tesla_relay.specs.declared.relayed.PostCount.{PostCount}
 use Rattle.tesla_relay.specs.declared.relayed.RelayEnd.{RelayEnd}
 use Rattle.tesla_relay.specs.declared.relayed.RelayEnd.TheVariants as ends
 use Rattle.tesla_run_relay.specs.Arguments.{IsRelayForm, RelayArguments, files_of_relay}
-use Rattle.tesla_run_relay.specs.Lines.{outcome_of_posts, outcome_with, has_failed}
+use Rattle.tesla_run_relay.specs.Lines.{outcome_with, has_failed}
 use Rattle.tesla_run_relay.specs.Relay.{EndsAs, RelaysLink, SendPosts, Stops, TouchesPosts, relay}
 use Rattle.tesla_run_relay.specs.Steps.{RunsLinked, RunsNothing, RunsRelay}
 use Rattle.tesla_run_relay.proofs.Mailed.{counted_faulty, faulty_counted, names_kept, sends_posts}
+use Rattle.tesla_run_relay.proofs.Outcomes.{end_read, ends_as, failed_either, no_open, read_end, write_failed}
 
 -- ---- the files
 
@@ -84,46 +85,6 @@ performs_unlinked {A} arguments words refusal fault before now form is tried =
       does = (touches_nothing arguments.link arguments.posts before.live now.live tried.live, inl (stops_nothing arguments before.live now.live (Failed (unopened refusal)) tried.live (outcome_cause (unopened refusal) not_all.cause)));
       counts = not_all_counts (unopened refusal) before now not_all;
     })
-
--- ---- what a relay comes to
-
-no_such : (failed : Bool) (counts : List PostCount) (fault : Fault) → (fault ≡ faults.Write → ⊥) → outcome_of_posts failed counts ≡ Failed fault → ⊥
-no_such true counts fault other e = other (let same : faults.Write ≡ fault = cc in sym same)
-no_such false counts fault other e = absurd cc
-
-write_by : (failed : Bool) (counts : List PostCount) → outcome_of_posts failed counts ≡ Failed faults.Write → failed ≡ true
-write_by true counts e = refl
-write_by false counts e = absurd cc
-
-read_end : (end : RelayEnd) (counts : List PostCount) → outcome_with end counts ≡ Failed faults.Read → end ≡ ends.Failed
-read_end ends.Failed counts e = refl
-read_end ends.Ended counts e = absurd (no_such (list_any has_failed counts) counts faults.Read (λ f. absurd cc) e)
-
-end_read : (end : RelayEnd) (counts : List PostCount) → end ≡ ends.Failed → outcome_with end counts ≡ Failed faults.Read
-end_read ends.Failed counts e = refl
-end_read ends.Ended counts e = absurd cc
-
-write_failed : (end : RelayEnd) (counts : List PostCount) → outcome_with end counts ≡ Failed faults.Write → list_any has_failed counts ≡ true
-write_failed ends.Failed counts e = absurd cc
-write_failed ends.Ended counts e = write_by (list_any has_failed counts) counts e
-
-failed_either : (end : RelayEnd) (counts : List PostCount) → list_any has_failed counts ≡ true → (outcome_with end counts ≡ Failed faults.Read) ⊎ (outcome_with end counts ≡ Failed faults.Write)
-failed_either ends.Failed counts any = inl refl
-failed_either ends.Ended counts any = inr (ap (λ (b : Bool). outcome_of_posts b counts) any)
-
-no_open : (end : RelayEnd) (counts : List PostCount) → outcome_with end counts ≡ Failed faults.Open → ⊥
-no_open ends.Failed counts e = absurd cc
-no_open ends.Ended counts e = no_such (list_any has_failed counts) counts faults.Open (λ f. absurd cc) e
-
--- ---- how it ends
-
-ends_posts : (failed : Bool) (counts : List PostCount) (remainder : Option Remainder) → list_any has_failed counts ≡ failed → HasEnded remainder → EndsAs remainder counts (outcome_of_posts failed counts)
-ends_posts true counts remainder is ended = (is, ended)
-ends_posts false counts remainder is ended = (refl, is, ended)
-
-ends_as : (end : RelayEnd) (counts : List PostCount) (later : Option (List Letter)) (missed : ℕ) → HasCause 0 missed (end ≡ ends.Failed) → (end ≡ ends.Ended → IfSome later (λ rest. rest ≡ [])) → EndsAs (remainder_of later missed) counts (outcome_with end counts)
-ends_as ends.Failed counts later missed cause over = broken_left later missed (cause.rose refl)
-ends_as ends.Ended counts later missed cause over = ends_posts (list_any has_failed counts) counts (remainder_of later missed) refl (ended_left later missed (over refl) (cause.still (λ e. absurd cc)))
 
 -- ---- a link that was opened, and closed behind the posts
 
@@ -186,10 +147,10 @@ relayed_counts : (capacity : ℕ) (names : List (List ℕ)) (link : List ℕ) (l
     → HasCausesBeside ((outcome ≡ Failed faults.Read) × AnyFailed (OfLink link ∷ map OfPost names) now) linked.faults now.faults (outcome ≡ Failed faults.Read) (outcome ≡ Failed faults.Write) (outcome ≡ Failed faults.Open)
 relayed_counts capacity names link left later missed linked mid closed now posts outcome runs to mails named closes close =
     let before : mid.faults ≡ linked.faults = (to.whole refl).counts in
-    let from : (fault : Fault) → outcome ≡ Failed fault → outcome_with runs.end runs.counts ≡ Failed fault = λ fault e. sym runs.outcome_is ∙ e in
-    let back : (fault : Fault) → outcome_with runs.end runs.counts ≡ Failed fault → outcome ≡ Failed fault = λ fault e. runs.outcome_is ∙ e in
+    let from : (fault : Fault) → outcome ≡ Failed fault → outcome_with runs.end (list_any has_failed runs.counts) runs.counts ≡ Failed fault = λ fault e. sym runs.outcome_is ∙ e in
+    let back : (fault : Fault) → outcome_with runs.end (list_any has_failed runs.counts) runs.counts ≡ Failed fault → outcome ≡ Failed fault = λ fault e. runs.outcome_is ∙ e in
     let source = causes_source {read = outcome ≡ Failed faults.Read} {write = ⊥} {opening = ⊥} closed.faults now.faults missed close.counts runs.read
-    (λ e. read_end runs.end runs.counts (from faults.Read e)) (λ e. back faults.Read (end_read runs.end runs.counts e)) (λ never. never) (λ never. never) in
+    (λ e. read_end runs.end (list_any has_failed runs.counts) runs.counts (from faults.Read e)) (λ e. back faults.Read (end_read runs.end (list_any has_failed runs.counts) runs.counts e)) (λ never. never) (λ never. never) in
     let reads : closed.faults.reads ≡ linked.faults.reads = closes.reads ∙ ap (λ (f : Faults). f.reads) before in
     let writes : now.faults.writes ≡ closed.faults.writes = ap (λ (f : Faults). f.writes) close.counts in
     let writes_before : mid.faults.writes ≡ linked.faults.writes = ap (λ (f : Faults). f.writes) before in
@@ -200,14 +161,14 @@ relayed_counts capacity names link left later missed linked mid closed now posts
       reads = subst (λ (n : ℕ). HasCause n now.faults.reads (outcome ≡ Failed faults.Read)) reads source.reads;
       writes = record {
         stays = cause.stays;
-        rose = λ e. cause.rose (counted_faulty capacity (datagrams runs.relays.taken) runs.opened posts runs.counts to.fresh runs.relays.posts (write_failed runs.end runs.counts (from faults.Write e)));
+        rose = λ e. cause.rose (counted_faulty capacity (datagrams runs.relays.taken) runs.opened posts runs.counts to.fresh runs.relays.posts (write_failed runs.end (list_any has_failed runs.counts) runs.counts (from faults.Write e)));
         still = λ none clear. cause.still (λ faulty.
-            elim (failed_either runs.end runs.counts (faulty_counted capacity (datagrams runs.relays.taken) runs.opened posts runs.counts to.fresh runs.relays.posts faulty)) [
+            elim (failed_either runs.end (list_any has_failed runs.counts) runs.counts (faulty_counted capacity (datagrams runs.relays.taken) runs.opened posts runs.counts to.fresh runs.relays.posts faulty)) [
               | inl read ↦ clear (back faults.Read read, subst (λ (ns : List (List ℕ)). AnyFailed (map OfPost ns) now) named (faulty_told posts now mails faulty))
               | inr write ↦ none (back faults.Write write)
             ]);
       };
-      openings = cause_none linked.faults.openings now.faults.openings openings (λ e. no_open runs.end runs.counts (from faults.Open e));
+      openings = cause_none linked.faults.openings now.faults.openings openings (λ e. no_open runs.end (list_any has_failed runs.counts) runs.counts (from faults.Open e));
     }
 
 relayed_link : (arguments : RelayArguments) (left later : Option (List Letter)) (missed : ℕ) (before now : Live) (linked mid told : Told) (posts : List PostSeen) (outcome : OutcomeView) (runs : RunsRelay arguments.capacity arguments.posts left later 0 missed linked mid posts outcome) → OpenedLink (before.wire arguments.link) left → SendPosts arguments.capacity (datagrams runs.relays.taken) arguments.posts now runs.counts → now.left arguments.link ≡ remainder_of later missed → RelaysLink arguments before now outcome
@@ -216,8 +177,8 @@ relayed_link arguments left later missed before now linked mid told posts outcom
   link = subst (λ (r : Option Remainder). LeftWhere runs.relays.taken (before.wire arguments.link) r) (sym rest) (left_where runs.relays.taken (before.wire arguments.link) left later missed letters runs.relays.left_is);
   counts = runs.counts;
   posts = sent;
-  ends = subst (λ (r : Option Remainder). EndsAs r runs.counts outcome) (sym rest)
-      (subst (λ (c : OutcomeView). EndsAs (remainder_of later missed) runs.counts c) (sym runs.outcome_is) (ends_as runs.end runs.counts later missed runs.read runs.relays.ended));
+  ends = subst (λ (r : Option Remainder). EndsAs r (list_any has_failed runs.counts) runs.counts outcome) (sym rest)
+      (subst (λ (c : OutcomeView). EndsAs (remainder_of later missed) (list_any has_failed runs.counts) runs.counts c) (sym runs.outcome_is) (ends_as runs.end (list_any has_failed runs.counts) runs.counts later missed runs.read runs.relays.ended));
 }
 
 performs_relayed : {A : Type 0} (arguments : RelayArguments) (words : List (List ℕ)) (it : A) (left later : Option (List Letter)) (missed : ℕ) (before linked mid closed now : Told) (posts : List PostSeen) (outcome : OutcomeView) → IsRelayForm arguments words → OpenedLink (before.live.wire arguments.link) left → OpensLink {A = A} arguments.link (Ok it) before linked → RunsRelay arguments.capacity arguments.posts left later 0 missed linked mid posts outcome → ClosesTo posts mid closed → ClosesLink arguments.link later missed closed now → Performs (relay before.live now.live) arguments before now outcome

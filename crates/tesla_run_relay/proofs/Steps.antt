@@ -1,6 +1,7 @@
 -- The steps of a run, from what their calls ensure.
 use Rattle.std.proofs.Common.{◌≡◌, ◌∙◌, inr, ℕ, ◌≤◌, Option, Ok, List, [], length, map, sym, ap, subst}
 use Rattle.std.proofs.lemmas.List.{length-map}
+use Rattle.std.specs.List.{list_any}
 use Rattle.tesla_desk.specs.Faults.{HasCause}
 use Rattle.tesla_desk.specs.Links.{datagrams}
 use Rattle.tesla_desk.specs.Outside.{Told}
@@ -14,7 +15,7 @@ use Rattle.tesla_relay.specs.Relay.{Relays}
 use Rattle.tesla_relay.specs.declared.relayed.PostCount.{PostCount}
 use Rattle.tesla_relay.specs.declared.relayed.RelayEnd.{RelayEnd}
 use Rattle.tesla_relay.specs.declared.relayed.RelayEnd.TheVariants as ends
-use Rattle.tesla_run_relay.specs.Lines.{outcome_with}
+use Rattle.tesla_run_relay.specs.Lines.{has_failed, outcome_with}
 use Rattle.tesla_run_relay.specs.Steps.{RunsPosts}
 
 module _ {P : Type 0} (seen : P → PostSeen) (names wanted : List (List ℕ)) (before mid : Told) (old : List PostSeen) (posts : List P) where
@@ -32,7 +33,7 @@ module _ {P : Type 0} (seen : P → PostSeen) (names wanted : List (List ℕ)) (
         number_is ∙ sym (opened_wanted is opens none) ∙ sym (length-map posts seen)
         ∙ sym (each_counted capacity (datagrams relays.taken) (map seen posts) (map seen news) counts relays.posts)
 
-    pub runs_relay : (fresh missed : ℕ) (now : Told) (outcome : OutcomeView) → names ≡ wanted → OpensPosts names before mid old (map seen posts) (Ok tt) → old ≡ [] → now ≡ mid → HasCause fresh missed (end ≡ ends.Failed) → outcome ≡ outcome_with end counts → RunsPosts capacity wanted left later fresh missed before now (map seen news) outcome
+    pub runs_relay : (fresh missed : ℕ) (now : Told) (outcome : OutcomeView) → names ≡ wanted → OpensPosts names before mid old (map seen posts) (Ok tt) → old ≡ [] → now ≡ mid → HasCause fresh missed (end ≡ ends.Failed) → outcome ≡ outcome_with end (list_any has_failed counts) counts → RunsPosts capacity wanted left later fresh missed before now (map seen news) outcome
     runs_relay fresh missed now outcome is opens none same cause outcome_is = inr (record {
       opened = map seen posts;
       opens = subst (λ (t : Told). OpensEach wanted before t (map seen posts) (Ok tt)) (sym same)

@@ -4,3 +4,4 @@ pub mod Lines
 pub mod Relay
 pub mod Steps
 pub mod play
+pub mod watch

@@ -1,6 +1,5 @@
 -- The lines that tell what a relay came to.
 use Rattle.std.specs.Prelude.{ℕ, suc, Bool, true, false, List, [], ◌∷◌, ◌++◌, codes, decimal}
-use Rattle.std.specs.List.{list_any}
 use Rattle.tesla_front.specs.OutcomeView.{OutcomeView, Done, Failed}
 use Rattle.tesla_front.specs.declared.fault.Fault.TheVariants as faults
 use Rattle.tesla_relay.specs.declared.relayed.PostCount.{PostCount}
@@ -21,12 +20,12 @@ lines_from number (count ∷ counts) = post_line number count ++ lines_from (suc
 abbrev pub has_failed : PostCount → Bool
 has_failed count = count.failed
 
--- where the link came to its end: the lines, or a failed post
+-- where the link came to its end, told whether a write failed: the lines, or the failure
 abbrev pub outcome_of_posts : Bool → List PostCount → OutcomeView
 outcome_of_posts true counts = Failed faults.Write
 outcome_of_posts false counts = Done (lines_from 0 counts)
 
--- what a relay came to: a failed link, else a failed post, else the lines
-abbrev pub outcome_with : RelayEnd → List PostCount → OutcomeView
-outcome_with ends.Failed counts = Failed faults.Read
-outcome_with ends.Ended counts = outcome_of_posts (list_any has_failed counts) counts
+-- what a relay came to, told whether a write failed: a failed link, else a failed write, else the lines
+abbrev pub outcome_with : RelayEnd → Bool → List PostCount → OutcomeView
+outcome_with ends.Failed failed counts = Failed faults.Read
+outcome_with ends.Ended failed counts = outcome_of_posts failed counts

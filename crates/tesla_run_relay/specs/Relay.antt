@@ -1,5 +1,5 @@
 -- What the command relay does.
-use Rattle.std.specs.Prelude.{◌≡◌, ◌≢◌, ◌⊎◌, ℕ, suc, true, false, List, [], ◌∷◌, length, Option}
+use Rattle.std.specs.Prelude.{◌≡◌, ◌≢◌, ◌⊎◌, ℕ, suc, Bool, true, false, List, [], ◌∷◌, length, Option}
 use Rattle.std.specs.List.{list_any}
 use Rattle.tesla_desk.specs.Links.{datagrams}
 use Rattle.tesla_desk.specs.Live.{Live, Remainder, LeavesAll, Mail}
@@ -40,12 +40,12 @@ SendPosts capacity arrived names now counts = ⊥
 
 -- ---- a run
 
--- how it ends: all letters left the link and no post failed, which the lines of the counts tell; the link failed; or a post failed and all letters left the link
-abbrev pub EndsAs : Option Remainder → List PostCount → OutcomeView → Type 0
-EndsAs remainder counts (Done text) = (text ≡ lines_from 0 counts) × (list_any has_failed counts ≡ false) × HasEnded remainder
-EndsAs remainder counts (Failed faults.Read) = HasBroken remainder
-EndsAs remainder counts (Failed faults.Write) = (list_any has_failed counts ≡ true) × HasEnded remainder
-EndsAs remainder counts _ = ⊥
+-- how it ends, told whether a write failed: all letters left the link and none failed, which the lines of the counts tell; the link failed; or a write failed and all letters left the link
+abbrev pub EndsAs : Option Remainder → Bool → List PostCount → OutcomeView → Type 0
+EndsAs remainder failed counts (Done text) = (text ≡ lines_from 0 counts) × (failed ≡ false) × HasEnded remainder
+EndsAs remainder failed counts (Failed faults.Read) = HasBroken remainder
+EndsAs remainder failed counts (Failed faults.Write) = (failed ≡ true) × HasEnded remainder
+EndsAs remainder failed counts _ = ⊥
 
 -- the datagrams of the link were relayed to all posts
 pub record RelaysLink (arguments : RelayArguments) (before now : Live) (outcome : OutcomeView) : Type 0 where
@@ -53,7 +53,7 @@ pub record RelaysLink (arguments : RelayArguments) (before now : Live) (outcome 
   pub link : LeftWhere taken (before.wire arguments.link) (now.left arguments.link)
   pub counts : List PostCount
   pub posts : SendPosts arguments.capacity (datagrams taken) arguments.posts now counts
-  pub ends : EndsAs (now.left arguments.link) counts outcome
+  pub ends : EndsAs (now.left arguments.link) (list_any has_failed counts) counts outcome
 
 -- ---- the command
 

@@ -7,6 +7,7 @@ mod lines;
 pub mod play;
 mod room;
 mod run;
+pub mod watch;
 
 pub use form::RELAY;
 pub use run::run_relay;

@@ -1,6 +1,6 @@
 //! The lines that tell what a relay came to.
 
-ghost use Rattle.std.specs.Prelude.{◌≡◌, ◌+◌, ◌-◌, ◌*◌, ◌<◌, ◌≤◌, ◌++◌, drop, length};
+ghost use Rattle.std.specs.Prelude.{◌≡◌, ◌+◌, ◌-◌, ◌*◌, ◌<◌, ◌≤◌, ◌++◌, ◌||◌, drop, length};
 ghost use Rattle.std.specs.List.{list_any};
 ghost use Rattle.arrayvec.specs.ArrayString.{array_string_len};
 ghost use Rattle.tesla_front.specs.OutcomeView.{outcome_view};
@@ -62,7 +62,7 @@ fn any_failed(k: u8, posts: u8, relayed: &Relayed) -> bool
 pub fn outcome_of(relayed: &Relayed, posts: u8) -> Outcome
     requires posts { posts ≡ length relayed.now.counts.items }
     requires few { posts ≤ 32 }
-    ensures { outcome_view result ≡ outcome_with relayed.now.end relayed.now.counts.items }
+    ensures { outcome_view result ≡ outcome_with relayed.now.end (list_any has_failed relayed.now.counts.items) relayed.now.counts.items }
 {
     match relayed.end {
         RelayEnd::Failed => Outcome::Failed(Fault::Read),
@@ -74,5 +74,20 @@ pub fn outcome_of(relayed: &Relayed, posts: u8) -> Outcome
             add_posts(&mut lines, 0, posts, relayed);
             Outcome::Done(lines)
         }
+    }
+}
+
+/// The same where what the counts were written to may have failed too, which is a failed write.
+pub fn outcome_beside(relayed: &Relayed, posts: u8, failed: bool) -> Outcome
+    requires posts { posts ≡ length relayed.now.counts.items }
+    requires few { posts ≤ 32 }
+    ensures { outcome_view result ≡ outcome_with relayed.now.end (failed || list_any has_failed relayed.now.counts.items) relayed.now.counts.items }
+{
+    if !failed {
+        return outcome_of(relayed, posts);
+    }
+    match relayed.end {
+        RelayEnd::Failed => Outcome::Failed(Fault::Read),
+        RelayEnd::Ended => Outcome::Failed(Fault::Write),
     }
 }

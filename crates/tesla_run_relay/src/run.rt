@@ -130,8 +130,8 @@ fn run_posts<R: Threads + Wait + Sync, D: Environment + PostQueues>(
     }
 }
 
-// Relays an open link to open posts.
-fn relay_opened<R: Threads + Wait + Sync, D: Environment + PostQueues>(
+/// Relays an open link to open posts.
+pub(crate) fn relay_opened<R: Threads + Wait + Sync, D: Environment + PostQueues>(
     rt: &R,
     alloc: Global,
     capacity: u32,
