@@ -49,6 +49,7 @@ fn run_words<R: Threads + Wait + Sync, D: Observed + PostQueues>(
     ensures others { (IsWatching (map string_bytes words.now) → ⊥) → result.last ≡ None }
 {
     match words {
+        [] => without_history(Outcome::Usage),
         [word, ..] if word.as_str() == "capture" => {
             without_history(run_capture(rt, words, desk))
         }

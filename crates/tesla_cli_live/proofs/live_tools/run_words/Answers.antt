@@ -1,5 +1,10 @@
-use Rattle.std.proofs.Common.{codes, inl, inr, string_bytes}
+use Rattle.std.proofs.Common.{◌∙◌, codes, inl, inr, map, string_bytes, subst, sym}
+use Rattle.tesla_front.specs.Command.{Command, RunsAs}
+use Rattle.tesla_front.specs.OutcomeView.{outcome_view}
+use Rattle.tesla_front.specs.Table.{command_in}
 use Rattle.tesla_front.proofs.Tables.{first_is}
+use Rattle.tesla_cli_live.specs.Commands.{live_tool_named}
+use Rattle.tesla_cli_live.proofs.Named.{command_first, command_some, first_isnt, runs_none, where_isnt}
 use Rattle.tesla_cli_live.proofs.live_tools.run_words.Goals as goal
 
 pub returns-in-len1-up-3-clause-others : goal.returns-in-len1-up-3-clause-others
@@ -25,3 +30,30 @@ run_watch-requires-clause-any_link g c κs within =
     let some = c.in-len1-up.len_at_least in
     c.requires.any_link (inr (inr (first_is string_bytes (codes "watch") c.args.words.now c.word-item-3.result c.as_str-3.result.now c.eq-3.result
     some c.word-item-3.is c.as_str-3.ensures.value c.eq-3.ensures c.if-eq-3.true)))
+
+pub returns-in-len1-up-4-clause-runs : goal.returns-in-len1-up-4-clause-runs
+returns-in-len1-up-4-clause-runs g c =
+    let words = map string_bytes c.args.words.now in
+    let old = g.D.Environment.told c.args.desk.now in
+    let new = g.D.Environment.told c.run_watch_relay.new.desk in
+    let last = c.without_history-in-len1-up-4.result.last in
+    let first = first_is string_bytes (codes "watch-relay") c.args.words.now c.word-item-4.result c.as_str-4.result.now c.eq-4.result
+    c.in-len1-up.len_at_least c.word-item-4.is c.as_str-4.ensures.value c.eq-4.ensures c.if-eq-4.true in
+    rw c.without_history-in-len1-up-4.ensures.outcome
+    (subst (λ (command : Command). RunsAs command words old new (outcome_view c.run_watch_relay.result))
+    (sym (command_first (live_tool_named g.D.Pause.Gate.over old.live new.live last) (codes "watch-relay") words first)) c.run_watch_relay.ensures)
+
+pub returns-in_default-clause-runs : goal.returns-in_default-clause-runs
+returns-in_default-clause-runs g c =
+    let all = c.args.words.now in
+    let words = map string_bytes all in
+    let old = g.D.Environment.told c.args.desk.now in
+    let last = c.without_history-in_default.result.last in
+    let named = live_tool_named g.D.Pause.Gate.over old.live old.live last in
+    let some = c.in-len1-up.len_at_least in
+    let capture = first_isnt string_bytes (codes "capture") all c.word-item.result c.as_str.result.now c.eq.result some c.word-item.is c.as_str.ensures.value c.eq.ensures c.if-eq.false in
+    let feed = first_isnt string_bytes (codes "feed") all c.word-item-2.result c.as_str-2.result.now c.eq-2.result some c.word-item-2.is c.as_str-2.ensures.value c.eq-2.ensures c.if-eq-2.false in
+    let watch = first_isnt string_bytes (codes "watch") all c.word-item-3.result c.as_str-3.result.now c.eq-3.result some c.word-item-3.is c.as_str-3.ensures.value c.eq-3.ensures c.if-eq-3.false in
+    let relay = first_isnt string_bytes (codes "watch-relay") all c.word-item-4.result c.as_str-4.result.now c.eq-4.result some c.word-item-4.is c.as_str-4.ensures.value c.eq-4.ensures c.if-eq-4.false in
+    rw c.without_history-in_default.ensures.outcome
+    (runs_none (command_in named words) words old (command_some string_bytes named all some ∙ where_isnt _ _ _ capture ∙ where_isnt _ _ _ feed ∙ where_isnt _ _ _ watch ∙ where_isnt _ _ _ relay))
