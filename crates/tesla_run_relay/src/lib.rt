@@ -1,4 +1,5 @@
-//! The commands `relay` and `play`: the live datagrams of a link, or the arrivals of a capture, are sent on to posts.
+//! The commands `relay`, `watch-relay` and `play`: the live datagrams of a link, or the arrivals of a capture, are sent on to
+//! posts.
 #![tactic(auto)]
 
 mod arguments;

@@ -96,6 +96,9 @@ module _ (names : List (List ℕ)) (status : List ℕ) (linked mid tried : Told)
   told_live clocked is = subst (λ (t : Told). t.live ≡ record linked.live { made = t.live.made }) (sym is)
       (ap (λ (t : Told). t.live) tells.opens.makes.same ∙ ap (λ (l : Live). record l { made = tells.mid.live.made }) (tells.opens.opens.live ∙ to.live))
 
+  told_made : tried.live.made ≡ option_map raised linked.live.made
+  told_made = ap (λ (l : Live). l.made) tells.ends.closes.live ∙ tells.opens.makes.counted ∙ ap (λ (l : Live). option_map raised l.made) (tells.opens.opens.live ∙ to.live)
+
   tried_told : Tried names status linked tried
   tried_told = record {
     opened = length (map OfPost names) + 1;
@@ -104,7 +107,7 @@ module _ (names : List (List ℕ)) (status : List ℕ) (linked mid tried : Told)
         (tells.ends.closes.asked ∙ ap (λ (t : Told). t.openings) tells.opens.makes.same ∙ tells.opens.opens.asked)
         (λ name none. tells.ends.closes.pages name (λ same. none (inl (ap OfSink (sym same)))) ∙ ap (λ (t : Told). t.page name) tells.opens.makes.same ∙ tells.opens.opens.pages name (λ same. none (inl (ap OfSink (sym same)))))
         (λ name none. tells.ends.closes.lefts name ∙ ap (λ (t : Told). t.left name) tells.opens.makes.same ∙ tells.opens.opens.lefts name));
-    made = inr (ap (λ (l : Live). l.made) tells.ends.closes.live ∙ tells.opens.makes.counted ∙ ap (λ (l : Live). option_map raised l.made) (tells.opens.opens.live ∙ to.live));
+    made = inr told_made;
     same = subst (λ (l : Live). l ≡ record linked.live { made = l.made }) (sym tells.ends.closes.live) (told_live tells.mid refl);
   }
 
@@ -415,6 +418,7 @@ performs_relayed {A} arguments words it left later missed before linked mid trie
                 link = subst (λ (r : Option Remainder). LeftWhere runs.relays.taken (before.live.wire arguments.relay.link) r) (sym close.own) (left_where runs.relays.taken (before.live.wire arguments.relay.link) left later missed letters runs.relays.left_is);
                 counts = runs.counts;
                 posts = sent;
+                made = close.clocks.1 ∙ closes.clocks.1 ∙ told_made names arguments.status linked mid tried opened (length opened) (Some runs.counts) runs.failed to runs.tells ∙ ap (λ (l : Live). option_map raised l.made) opens.live;
                 failed = runs.failed;
                 status = subst (λ (p : Page). HoldsStatus (length names) (Some runs.counts) runs.failed p) (sym page)
                     (subst (λ (n : ℕ). HoldsStatus n (Some runs.counts) runs.failed (tried.page arguments.status)) (posts_size names linked mid opened to) (told_holds names arguments.status linked mid tried opened (length opened) (Some runs.counts) runs.failed to runs.tells));

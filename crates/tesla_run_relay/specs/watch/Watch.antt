@@ -35,12 +35,13 @@ pub record StopsWatched (arguments : WatchArguments) (before now : Live) (page p
 
 -- ---- a run
 
--- the datagrams of the link were relayed to all posts, and STATUS has the counts; it ends as relay does, but that a failed STATUS is a failed write too
+-- the datagrams of the link were relayed to all posts, one clock more was made, and STATUS has the counts; it ends as relay does, but that a failed STATUS is a failed write too
 pub record RelaysWatched (arguments : WatchArguments) (before now : Live) (page_now : Page) (outcome : OutcomeView) : Type 0 where
   pub taken : List Letter
   pub link : LeftWhere taken (before.wire arguments.relay.link) (now.left arguments.relay.link)
   pub counts : List PostCount
   pub posts : SendPosts arguments.relay.capacity (datagrams taken) arguments.relay.posts now counts
+  pub made : now.made ≡ option_map raised before.made
   pub failed : Bool
   pub status : HoldsStatus (length arguments.relay.posts) (Some counts) failed page_now
   pub ends : EndsAs (now.left arguments.relay.link) (failed || list_any has_failed counts) counts outcome
