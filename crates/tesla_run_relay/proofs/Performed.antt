@@ -1,5 +1,5 @@
 -- What the command did, from its openings and closings.
-use Rattle.std.proofs.Common.{◌≡◌, ◌∙◌, ◌⊎◌, inl, inr, ℕ, suc, Bool, true, false, Result, Ok, Err, List, [], ◌∷◌, map, Option, IfSome, refl, sym, ap, subst}
+use Rattle.std.proofs.Common.{◌≡◌, ◌∙◌, ◌⊎◌, inl, inr, ℕ, suc, Result, Ok, Err, List, [], ◌∷◌, map, Option, refl, sym, ap, subst}
 use Rattle.std.specs.List.{list_any}
 use Rattle.tesla_desk.specs.Faults.{Faults, HasCause, HasCausesBeside, after_source}
 use Rattle.tesla_desk.specs.Links.{datagrams}
@@ -18,17 +18,14 @@ use Rattle.tesla_front.specs.declared.fault.Fault.TheVariants as faults
 use Rattle.tesla_front.proofs.Openings.{opens_first, opens_none, opens_then}
 use Rattle.tesla_front.specs.Names.{AreDistinct, IsNoneOf}
 use Rattle.tesla_relay.specs.Closed.{AnyFaulty, ClosesTo, HasMails, IsUnsent}
-use Rattle.tesla_relay.specs.Links.{HasEnded, LeftWhere}
+use Rattle.tesla_relay.specs.Links.{LeftWhere}
 use Rattle.tesla_relay.specs.Opened.{OpensTo, post_name}
 use Rattle.tesla_relay.specs.Posts.{PostSeen}
 use Rattle.tesla_relay.proofs.Closings.{closes_to, fresh_counts, fresh_mails, mails_same}
-use Rattle.tesla_relay.proofs.Links.{broken_left, ended_left, left_where, link_tried}
+use Rattle.tesla_relay.proofs.Links.{left_where, link_tried}
 use Rattle.tesla_relay.proofs.Mails.{faulty_told, unsent_on}
 use Rattle.tesla_relay.proofs.Openings.{none_of_opened, opens_still, opens_to, post_files, refused_not_all}
 use Rattle.tesla_relay.proofs.Stopped.{outcome_cause, memory_counts, not_all_counts}
-use Rattle.tesla_relay.specs.declared.relayed.PostCount.{PostCount}
-use Rattle.tesla_relay.specs.declared.relayed.RelayEnd.{RelayEnd}
-use Rattle.tesla_relay.specs.declared.relayed.RelayEnd.TheVariants as ends
 use Rattle.tesla_run_relay.specs.Arguments.{IsRelayForm, RelayArguments, files_of_relay}
 use Rattle.tesla_run_relay.specs.Lines.{outcome_with, has_failed}
 use Rattle.tesla_run_relay.specs.Relay.{EndsAs, RelaysLink, SendPosts, Stops, TouchesPosts, relay}

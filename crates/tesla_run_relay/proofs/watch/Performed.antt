@@ -1,17 +1,17 @@
 -- What the command did, from its openings and closings.
-use Rattle.std.proofs.Common.{◌≡◌, ◌∙◌, ◌⊎◌, inl, inr, ℕ, suc, ◌+◌, ◌<◌, ◌≤◌, Bool, true, false, Result, Ok, Err, List, [], ◌∷◌, ◌++◌, length, map, Option, Some, None, IfSome, refl, sym, ap, subst, arith}
+use Rattle.std.proofs.Common.{◌≡◌, ◌∙◌, ◌⊎◌, inl, inr, ℕ, suc, ◌+◌, Bool, true, false, Result, Ok, Err, List, [], ◌∷◌, ◌++◌, length, map, Option, Some, None, refl, sym, ap, subst, arith}
 use Rattle.std.specs.Prelude.{◌||◌}
 use Rattle.std.specs.List.{list_any}
 use Rattle.std.specs.Option.{option_map}
 use Rattle.std.proofs.lemmas.List.{length-map}
-use Rattle.tesla_desk.specs.Faults.{Faults, HasCause, HasCauseBeside, HasCauses, HasCausesBeside, after_source, raised}
+use Rattle.tesla_desk.specs.Faults.{Faults, HasCause, HasCauses, HasCausesBeside, after_source, raised}
 use Rattle.tesla_desk.specs.Links.{datagrams}
 use Rattle.tesla_desk.specs.Live.{LeavesAll, Live, OpenedLink, Remainder, remainder_of}
-use Rattle.tesla_desk.specs.Outside.{ClosesLink, OfLink, OfPost, OfSink, Opening, OpensLink, OpensSink, Page, Told, page_of}
+use Rattle.tesla_desk.specs.Outside.{ClosesLink, OfLink, OfPost, OfSink, OpensLink, OpensSink, Page, Told, page_of}
 use Rattle.tesla_desk.specs.declared.desk.OpenRefusal.{OpenRefusal}
 use Rattle.tesla_desk.specs.declared.link.Letter.{Letter}
 use Rattle.tesla_desk.proofs.Told.{leaves_all}
-use Rattle.tesla_desk.proofs.Counts.{cause_both, cause_none, causes_none, causes_plain, causes_sink, causes_source, causes_then, counts_stay}
+use Rattle.tesla_desk.proofs.Counts.{cause_both, cause_none, causes_plain, causes_sink, causes_source, causes_then, counts_stay}
 use Rattle.tesla_front.specs.OutcomeView.{OutcomeView, Failed}
 use Rattle.tesla_front.specs.Command.{Performs}
 use Rattle.tesla_front.specs.Fault.{unopened}
@@ -33,14 +33,12 @@ use Rattle.tesla_relay.proofs.Mails.{faulty_told, some_rose, unsent_on}
 use Rattle.tesla_relay.proofs.Openings.{none_of_opened, opens_still, opens_to, post_files, refused_not_all}
 use Rattle.tesla_relay.proofs.Stopped.{memory_counts, not_all_counts, outcome_cause}
 use Rattle.tesla_relay.specs.declared.relayed.PostCount.{PostCount}
-use Rattle.tesla_relay.specs.declared.relayed.RelayEnd.{RelayEnd}
-use Rattle.tesla_relay.specs.declared.relayed.RelayEnd.TheVariants as ends
 use Rattle.tesla_run_relay.specs.Lines.{has_failed, outcome_with}
-use Rattle.tesla_run_relay.specs.Relay.{EndsAs, SendPosts, Stops, TouchesPosts}
+use Rattle.tesla_run_relay.specs.Relay.{EndsAs, SendPosts}
 use Rattle.tesla_run_relay.proofs.Mailed.{counted_faulty, faulty_counted, names_kept, sends_posts}
 use Rattle.tesla_run_relay.proofs.Outcomes.{end_read, ends_as, failed_either, no_open, read_end, write_failed}
 use Rattle.tesla_run_relay.specs.watch.Arguments.{IsWatchForm, WatchArguments, files_of_watch}
-use Rattle.tesla_run_relay.specs.watch.Steps.{IsUnread, LacksStatus, RunsLinked, RunsOpened, RunsPosts, TellsStatus, WatchesRelay}
+use Rattle.tesla_run_relay.specs.watch.Steps.{IsUnread, LacksStatus, RunsLinked, RunsPosts, TellsStatus, WatchesRelay}
 use Rattle.tesla_run_relay.specs.watch.Watch.{RelaysWatched, StopsWatched, TouchesWatched, unless_failed, watch_relay}
 use Rattle.tesla_run_relay.specs.watch.Written.{HoldsStatus}
 use Rattle.tesla_run_relay.proofs.watch.Files.{are_files_more, failed_back, failed_page, failed_prefix, opens_more, opens_prefix, status_is}

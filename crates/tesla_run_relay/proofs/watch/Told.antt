@@ -1,9 +1,8 @@
 -- What is written to STATUS, line by line, and what its page holds once it is closed.
-use Rattle.std.proofs.Common.{◌≡◌, ◌∙◌, inl, inr, codes, ℕ, zero, suc, ◌+◌, ◌<◌, ◌≤◌, nat_lt, Bool, true, false, List, [], ◌∷◌, ◌++◌, drop, flat_map, get_or, length, map, take, Option, Some, None, IfSome, append-nil, append_assoc, refl, sym, ap, subst, arith}
+use Rattle.std.proofs.Common.{◌≡◌, ◌∙◌, inl, inr, ℕ, suc, ◌+◌, ◌<◌, Bool, true, false, List, [], ◌∷◌, ◌++◌, drop, flat_map, get_or, length, map, take, Option, Some, None, IfSome, append-nil, append_assoc, refl, sym, ap, subst, arith}
 use Rattle.std.proofs.lemmas.List.{length-map}
 use Rattle.std.proofs.lemmas.List.Concat.{flat_map-append}
-use Rattle.tesla_desk.specs.Faults.{HasCause}
-use Rattle.tesla_desk.specs.Outside.{Holds, page_of, with_bytes}
+use Rattle.tesla_desk.specs.Outside.{page_of, with_bytes}
 use Rattle.tesla_desk.proofs.Told.{first_written}
 use Rattle.tesla_relay.proofs.Mails.{failed_is}
 use Rattle.tesla_relay.specs.declared.relayed.PostCount.{PostCount}
@@ -12,7 +11,7 @@ use Rattle.tesla_status.specs.Written.{Puts, PutsAll}
 use Rattle.tesla_status.proofs.Written.{puts_more, puts_none}
 use Rattle.tesla_run_relay.proofs.Counted.{one_left}
 use Rattle.tesla_run_relay.specs.watch.Allowed.{IsNextTally}
-use Rattle.tesla_run_relay.specs.watch.Lines.{Follow, NoneFalls, TallyLine, counts_behind, end_text, last_text, no_counts, numbers_of, status_line, time_text}
+use Rattle.tesla_run_relay.specs.watch.Lines.{Follow, NoneFalls, TallyLine, counts_behind, end_text, last_text, no_counts, numbers_of, time_text}
 use Rattle.tesla_run_relay.specs.watch.Written.{HasAllTold, HasTold, HoldsLines, HoldsStatus}
 
 -- ---- numbers that don't fall

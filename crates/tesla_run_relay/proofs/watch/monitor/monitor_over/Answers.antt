@@ -1,4 +1,4 @@
-use Rattle.std.proofs.Common.{◌∙◌, vec_len, ◌≡◌, ◌++◌, List, ap}
+use Rattle.std.proofs.Common.{◌∙◌, vec_len, ◌++◌, List, ap}
 use Rattle.tesla_relay.specs.declared.tally.SoFar.{SoFar}
 use Rattle.tesla_run_relay.specs.watch.Lines.{no_counts}
 use Rattle.tesla_run_relay.proofs.watch.Told.{told_none}

@@ -1,4 +1,4 @@
-use Rattle.std.proofs.Common.{◌∙◌, ℕ, map, length, subst, sym}
+use Rattle.std.proofs.Common.{◌∙◌, ℕ, map, subst, sym}
 use Rattle.std.proofs.lemmas.List.{length-map}
 use Rattle.tesla_front.specs.OutcomeView.{outcome_view}
 use Rattle.tesla_relay.specs.Posts.{PostSeen}

@@ -1,4 +1,4 @@
-use Rattle.std.proofs.Common.{◌≡◌, ◌∙◌, ◌++◌, codes, ℕ, List, length, map, ap, refl, subst, sym}
+use Rattle.std.proofs.Common.{◌≡◌, ◌∙◌, ◌++◌, codes, ℕ, List, map, ap, refl, subst, sym}
 use Rattle.tesla_relay.specs.declared.tally.SoFar.{SoFar}
 use Rattle.tesla_status.specs.Written.{Puts}
 use Rattle.tesla_run_relay.specs.watch.Allowed.{IsNextTally}
