@@ -126,19 +126,19 @@ output_complete form arguments before now last old new outcome text failed setup
 
 -- ---- the relays
 
-relayed_ends : (remainder : Option Remainder) (counts : List PostCount) (outcome : OutcomeView)
-    → relays.EndsAs remainder counts outcome → Ends outcome
-relayed_ends remainder counts (Done text) end = inl tt
-relayed_ends remainder counts (Failed fault) end = inr (fault, refl)
-relayed_ends remainder counts (Refused status line) end = absurd end
-relayed_ends remainder counts Usage end = absurd end
+relayed_ends : (remainder : Option Remainder) (failed : Bool) (counts : List PostCount) (outcome : OutcomeView)
+    → relays.EndsAs remainder failed counts outcome → Ends outcome
+relayed_ends remainder failed counts (Done text) end = inl tt
+relayed_ends remainder failed counts (Failed fault) end = inr (fault, refl)
+relayed_ends remainder failed counts (Refused status line) end = absurd end
+relayed_ends remainder failed counts Usage end = absurd end
 
 pub relay_complete : RelayIsComplete
 relay_complete arguments before now old new outcome performs none =
     to_end old.faults new.faults outcome performs.counts none
     (⊎_elim
     (λ stops. unopened_ends outcome stops.cause)
-    (λ ran. relayed_ends (now.left arguments.link) ran.1.counts outcome ran.1.ends)
+    (λ ran. relayed_ends (now.left arguments.link) _ ran.1.counts outcome ran.1.ends)
     performs.does.1)
 
 -- a capture that is told isn't refused
