@@ -9,4 +9,4 @@ pub run_recorded-done-requires-clause-allowed : goal.run_recorded-done-requires-
 run_recorded-done-requires-clause-allowed g c κs within = λ told before opens. recorded_allowed _ _ _ _ _ _ _ _ _ _ _ (λ it piece. refl) (λ post datagram. refl) (λ link. refl) (λ number datagram. refl) _ told
 
 pub run_live_tools-done-requires-clause-allowed : goal.run_live_tools-done-requires-clause-allowed
-run_live_tools-done-requires-clause-allowed g c κs within = λ told before opens. tools_allowed _ _ _ _ _ _ _ _ _ _ _ (λ it piece. refl) (λ post datagram. refl) (λ link. refl) (λ number datagram. refl) _ told
+run_live_tools-done-requires-clause-allowed g c κs within = λ told before opens. tools_allowed _ _ _ _ _ _ _ _ _ _ _ (λ it piece. refl) (λ post datagram. refl) (λ link. refl) (λ number datagram. refl) _ told _ _ _
